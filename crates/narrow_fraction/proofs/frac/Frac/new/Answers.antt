@@ -1,0 +1,19 @@
+use Rattle.std.proofs.Common.{arith, ◌<◌, unsigned_abs, SFits}
+use Rattle.std.specs.Int.{w128}
+use Rattle.std.proofs.lemmas.Int.{ints, to_z-of_z}
+use Rattle.ratio.specs.Fractions.{part_pos, parts_reduced}
+use Rattle.narrow_fraction.proofs.Parts.{over-parts}
+use Rattle.narrow_fraction.proofs.frac.Frac.new.Goals as goal
+
+pub build-requires-clause-above : goal.build-requires-clause-above
+build-requires-clause-above c = rw c.common_divisor-shared.ensures.value (part_pos _ _ (omega (arith, ints)))
+
+pub build-requires-clause-reduced : goal.build-requires-clause-reduced
+build-requires-clause-reduced c = rw c.common_divisor-shared.ensures.value (parts_reduced _ _ (omega (arith, ints)))
+
+pub returns : goal.returns
+returns c =
+    let n : SFits w128 c.args.num = c.ranges.num in
+    let d : SFits w128 c.args.den = c.ranges.den in
+    let h : 0 < unsigned_abs c.args.den = omega (arith, ints) in
+    simp (to_z-of_z, c.common_divisor-shared.ensures.value, c.unsigned_abs-top.ensures.value, c.unsigned_abs-bottom.ensures.value, over-parts c.args.num (unsigned_abs c.args.den) h) at c.build.ensures

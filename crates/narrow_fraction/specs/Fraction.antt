@@ -1,0 +1,33 @@
+-- A fraction of two 128-bit numbers, and the rational number that it is.
+use Rattle.std.specs.Prelude.{◌≡◌, ◌+ℤ◌, ◌*ℤ◌, ◌*◌, ◌/◌, FitsSigned, ℕ, ℤ, pos, ◌<◌, ◌<ℤ◌, ◌^◌, unsigned_abs, Bool, true, false, neg_ℤ}
+use Rattle.std.specs.Int.{w128}
+use Rattle.std.specs.Coded.{Coded, coded×, coded_ℤ, coded_ℕ, code_by}
+use Rattle.ratio.specs.Gcd.{gcd}
+use Rattle.ratio.specs.Rational.{ℚ, over}
+use Rattle.ratio.specs.Lowest.{over-own}
+
+abbrev pub ℚ_code : Coded ℚ
+ℚ_code = code_by (ℤ × ℕ) (coded× coded_ℤ coded_ℕ) (λ x. (x.num, x.den)) (λ p. over p.0 p.1) over-own
+
+-- both numbers fit 128 bits with a sign, on both sides of 0
+pub record FitsFrac (x : ℚ) : Type 0 where
+  pub num_fits : unsigned_abs x.num < 2 ^ 127
+  pub den_fits : x.den < 2 ^ 127
+
+-- the fields are in lowest terms
+pub record IsLowest (num den : ℤ) : Type 0 where
+  pub positive : pos 0 <ℤ den
+  pub reduced : gcd (unsigned_abs num) (unsigned_abs den) ≡ 1
+  pub num_fits : unsigned_abs num < 2 ^ 127
+
+-- n, or -n
+abbrev pub signed : Bool → ℕ → ℤ
+signed true n = neg_ℤ (pos n)
+signed false n = pos n
+
+-- the steps of a sum fit: each numerator over the least common denominator, their sum, and that denominator
+pub record SumSteps (x y : ℚ) : Type 0 where
+  pub left : FitsSigned w128 (x.num *ℤ pos (y.den / gcd x.den y.den))
+  pub right : FitsSigned w128 (y.num *ℤ pos (x.den / gcd x.den y.den))
+  pub top : FitsSigned w128 (x.num *ℤ pos (y.den / gcd x.den y.den) +ℤ y.num *ℤ pos (x.den / gcd x.den y.den))
+  pub bottom : x.den / gcd x.den y.den * y.den < 2 ^ 127

@@ -1,0 +1,63 @@
+-- What makes a fraction reduced.
+use Rattle.std.proofs.Common.{◌≡◌, ℕ, zero, suc, ℤ, pos, negsuc, ◌*ℤ◌, neg_ℤ, ◌*◌, ◌/◌, ◌%◌, ◌<◌, refl, ◌∙◌, ap, subst, arith, unsigned_abs, mul_comm}
+use Rattle.std.specs.Int.{IsGcd}
+use Rattle.std.specs.Prelude.{int_div}
+use Rattle.std.proofs.lemmas.Int.{ints}
+use Rattle.std.proofs.lemmas.Nat.Gcd.{same_from_IsGcd, IsGcd-from_mod, IsGcd-from_zero}
+use Prim.Native.Nat.{◌∣◌}
+use native.Mathlib.Nat.{mul-div_cancel', dvd-mul_left, dvd_of_mul-dvd-mul_left, mul-dvd-mul_left, eq-one_of_dvd-one, pos_of_dvd_of_pos}
+use Rattle.ratio.specs.Gcd.{gcd}
+use Rattle.ratio.specs.Coprime.{gcd-IsGcd}
+use Rattle.ratio.specs.Integers.{neg_ℤ-*ℤ}
+use Rattle.std.proofs.Math.IntN.{*ℤ_comm}
+
+pub gcd_pos : (a b : ℕ) → 0 < b → 0 < gcd a b
+gcd_pos a b h = pos_of_dvd_of_pos (gcd-IsGcd a b).1 h
+
+pub gcd-is : (a b g : ℕ) → IsGcd a b g → gcd a b ≡ g
+gcd-is a b g h = same_from_IsGcd a b (gcd a b) g (gcd-IsGcd a b) h
+
+pub IsGcd-one : (a b : ℕ) → gcd a b ≡ 1 → IsGcd a b 1
+IsGcd-one a b e = subst (λ g. IsGcd a b g) e (gcd-IsGcd a b)
+
+pub times_part : (a b : ℕ) → 0 < b → (gcd a b * (a / gcd a b) ≡ a) × (gcd a b * (b / gcd a b) ≡ b)
+times_part a b h = (mul-div_cancel' (gcd a b) (gcd-IsGcd a b).0, mul-div_cancel' (gcd a b) (gcd-IsGcd a b).1)
+
+pub part_pos : (a b : ℕ) → 0 < b → 0 < b / gcd a b
+part_pos a b h = pos_of_dvd_of_pos (subst (λ n. b / gcd a b ∣ n) (times_part a b h).1 (dvd-mul_left (b / gcd a b) (gcd a b))) h
+
+pub parts_reduced : (a b : ℕ) → 0 < b → gcd (a / gcd a b) (b / gcd a b) ≡ 1
+parts_reduced a b h =
+    let g = gcd a b in
+    let k = gcd (a / g) (b / g) in
+    let p : g * k ∣ a = subst (λ n. g * k ∣ n) (times_part a b h).0 (mul-dvd-mul_left k g (gcd-IsGcd (a / g) (b / g)).0) in
+    let q : g * k ∣ b = subst (λ n. g * k ∣ n) (times_part a b h).1 (mul-dvd-mul_left k g (gcd-IsGcd (a / g) (b / g)).1) in
+    let r : g * k ∣ g * 1 = subst (λ n. g * k ∣ n) (omega arith) ((gcd-IsGcd a b).2 (g * k) p q) in
+    eq-one_of_dvd-one (dvd_of_mul-dvd-mul_left k (gcd_pos a b h) r)
+
+pub abs-int_div : (z : ℤ) (g : ℕ) → unsigned_abs (int_div z (pos g)) ≡ unsigned_abs z / g
+abs-int_div (pos a) g = refl
+abs-int_div (negsuc a) g = abs_neg (suc a / g)
+  where
+    abs_neg : (n : ℕ) → unsigned_abs (neg_ℤ (pos n)) ≡ n
+    abs_neg zero = refl
+    abs_neg (suc n) = refl
+
+pub times-int_div : (z : ℤ) (g : ℕ) → g * (unsigned_abs z / g) ≡ unsigned_abs z → pos g *ℤ int_div z (pos g) ≡ z
+times-int_div (pos a) g e = ap pos e
+times-int_div (negsuc a) g e = *ℤ_comm (pos g) (neg_ℤ (pos (suc a / g))) ∙ neg_ℤ-*ℤ (pos (suc a / g)) (pos g) ∙ ap (λ n. neg_ℤ (pos n)) (mul_comm (suc a / g) g ∙ e)
+
+pub over_reduced : (z : ℤ) (d : ℕ) → 0 < d → gcd (unsigned_abs (int_div z (pos (gcd (unsigned_abs z) d)))) (d / gcd (unsigned_abs z) d) ≡ 1
+over_reduced z d h = ap (λ n. gcd n (d / gcd (unsigned_abs z) d)) (abs-int_div z (gcd (unsigned_abs z) d)) ∙ parts_reduced (unsigned_abs z) d h
+
+pub abs-neg_ℤ : (z : ℤ) → unsigned_abs (neg_ℤ z) ≡ unsigned_abs z
+abs-neg_ℤ z = omega (arith, ints)
+
+pub gcd-step : (a b : ℕ) → gcd a b ≡ gcd b (a % b)
+gcd-step a b = gcd-is a b (gcd b (a % b)) (IsGcd-from_mod a b (gcd b (a % b)) (gcd-IsGcd b (a % b)))
+
+pub gcd-zero : (a b : ℕ) → b ≡ 0 → gcd a b ≡ a
+gcd-zero a b e = gcd-is a b a (IsGcd-from_zero a b e)
+
+pub first_part_pos : (a b : ℕ) → 0 < a → 0 < b → 0 < a / gcd a b
+first_part_pos a b h k = pos_of_dvd_of_pos (subst (λ n. a / gcd a b ∣ n) (times_part a b k).0 (dvd-mul_left (a / gcd a b) (gcd a b))) h

@@ -1,0 +1,14 @@
+pub mod Gcd
+pub mod Coprime
+pub mod Integers
+pub mod Fractions
+pub mod Rational
+pub mod Laws
+pub mod Order
+pub mod Lowest
+pub mod Ring
+pub mod Linear
+pub mod Floor
+pub mod Compare
+pub mod Rows
+pub mod Pivot

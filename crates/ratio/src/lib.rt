@@ -1,0 +1,2 @@
+//! Rational numbers, for contracts and proofs alone.
+#![tactic(auto)]
