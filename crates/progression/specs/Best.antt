@@ -1,0 +1,21 @@
+-- The weighted band of a timing, and what it means that a timing is best: no good timing on any grid has a greater one.
+use Rattle.ratio.specs.Rational.{ℚ, ◌+ℚ◌, ◌*ℚ◌, ◌/ℚ◌, ◌≤ℚ◌}
+use Rattle.progression.specs.Street.{Street}
+use Rattle.progression.specs.Speeds.{number}
+use Rattle.progression.specs.Plan.{Plan, cycle}
+use Rattle.progression.specs.Good.{Good}
+
+-- as a fraction of the cycle
+abbrev pub weighted_band : Street → Plan → ℚ
+weighted_band a t = (number t.band_out +ℚ a.head.ratio *ℚ number t.band_in) /ℚ number (cycle a t)
+
+-- no good timing, on any grid, has a weighted band above this
+abbrev pub Bounded : Street → ℚ → Type 0
+Bounded a bound = (s : Plan) → Good a s → weighted_band a s ≤ℚ bound
+
+pub record Best (a : Street) (t : Plan) : Type 0 where
+  pub good : Good a t
+  pub greatest : Bounded a (weighted_band a t)
+
+abbrev pub NoTiming : Street → Type 0
+NoTiming a = (s : Plan) → ¬ Good a s

@@ -1,0 +1,35 @@
+-- The rules of a good timing (Little 1966; Little, Kelson and Gartner 1981), read off the time-space diagram.
+use Rattle.std.specs.Prelude.{◌≡◌, ℕ, ◌+◌, length, IsTrue, IfSome}
+use Rattle.ratio.specs.Rational.{ℚ, ◌*ℚ◌, ◌-ℚ◌, ◌/ℚ◌, ◌≤ℚ◌}
+use Rattle.progression.specs.Street.{Street, count, allows, HasSignal, HasLink, distance}
+use Rattle.progression.specs.Speeds.{number, run_low, run_high, change}
+use Rattle.progression.specs.Plan.{Plan, IsPlan, cycle, pattern_of, run}
+use Rattle.progression.specs.Lines.{IsGreenWay}
+use Rattle.progression.specs.declared.parts.Pair.{Pair}
+use Rattle.progression.specs.declared.parts.Dir.{Dir}
+use Rattle.progression.specs.declared.parts.Dir.TheVariants.{Outbound, Inbound}
+
+-- the pace on a link, in ticks per metre or per foot, and how much it changes to the link with the next number
+abbrev pub pace : Street → Plan → Dir → ℕ → ℚ
+pace a t d i = number (run t d i) /ℚ number (distance a d i)
+
+abbrev pub pace_change : Street → Plan → Dir → ℕ → ℚ
+pace_change a t d i = pace a t d (i + 1) -ℚ pace a t d i
+
+-- The inbound band is at least k times the outbound one where k is below 1, and at most that where it is above.
+abbrev pub RatioHolds : ℚ → ℕ → ℕ → Type 0
+RatioHolds k out in_band = let rest = number 1 -ℚ k in (rest *ℚ (k *ℚ number out)) ≤ℚ (rest *ℚ number in_band)
+
+pub record Good (a : Street) (t : Plan) : Type 0 where
+  pub plan : IsPlan t
+  pub shape : length t.patterns ≡ count a
+  pub patterns : (i : ℕ) → HasSignal a i → IsTrue (allows a i (pattern_of t i))
+  pub cycle_least : (a.head.cycle.least *ℚ number t.grid) ≤ℚ number (cycle a t)
+  pub cycle_most : number (cycle a t) ≤ℚ (a.head.cycle.most *ℚ number t.grid)
+  pub fast : (d : Dir) (i : ℕ) → HasLink a i → (run_low a d i *ℚ number t.grid) ≤ℚ number (run t d i)
+  pub slow : (d : Dir) (i : ℕ) → HasLink a i → number (run t d i) ≤ℚ (run_high a d i *ℚ number t.grid)
+  pub rise : (d : Dir) (i : ℕ) → HasLink a i → HasLink a (i + 1) → IfSome (change a d i) (λ (c : Pair). pace_change a t d i ≤ℚ (c.most *ℚ number t.grid))
+  pub drop : (d : Dir) (i : ℕ) → HasLink a i → HasLink a (i + 1) → IfSome (change a d i) (λ (c : Pair). (c.least *ℚ number t.grid) ≤ℚ pace_change a t d i)
+  pub ratio : RatioHolds a.head.ratio t.band_out t.band_in
+  pub outbound : IsGreenWay a t Outbound
+  pub inbound : IsGreenWay a t Inbound
