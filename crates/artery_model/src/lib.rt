@@ -1,0 +1,9 @@
+//! A valid artery: its type keeps that every number lies within its limits, that names differ, and
+//! that each signal has a pattern and some green. Contracts see an `Artery` as a `Street`: its head,
+//! signals and links. Start with `Artery::new`, which names the first rule that is broken.
+#![tactic(auto)]
+
+mod kind;
+
+pub use kind::{Flaw, Kind, Refusal};
+pub use progression::{Dir, Head, Link, Pair, Signal, Text, Units};
