@@ -1,0 +1,29 @@
+# make             builds the program
+# make example     builds it and runs a shipped example
+# make test        proves everything and runs every test
+# make install     puts the program under PREFIX (/usr/local)
+PREFIX ?= /usr/local
+PROGRAM = crates/maxband/out/maxband
+SOURCES = crates.txt $(wildcard crates/*/src/*.rt crates/*/specs/*.antt crates/*/proofs/*.antt)
+
+all: $(PROGRAM)
+
+# With no words the program answers that it doesn't understand them; building it is all that is wanted here.
+$(PROGRAM): $(SOURCES)
+	rm -f $@
+	cd crates/maxband && { rt run -- >/dev/null || true; }
+	test -x $@
+
+example: $(PROGRAM)
+	$(PROGRAM) hold examples/downtown.toml examples/downtown-good.txt
+
+test:
+	rt ci
+
+bench: $(PROGRAM)
+	scripts/bench
+
+install: $(PROGRAM)
+	install -D -m 755 $(PROGRAM) $(DESTDIR)$(PREFIX)/bin/maxband
+
+.PHONY: all example test bench install
