@@ -1,1 +1,4 @@
 pub mod Timing
+pub mod Sizes
+pub mod FirstRed
+pub mod Limits

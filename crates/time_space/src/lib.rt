@@ -5,6 +5,8 @@
 //! `Timing::new`, then `holds`.
 #![tactic(auto)]
 
+mod green;
+mod limits;
 mod timing;
 
 pub use timing::Timing;
