@@ -3,7 +3,9 @@
 //! signals and links. Start with `Artery::new`, which names the first rule that is broken.
 #![tactic(auto)]
 
+mod artery;
 mod kind;
 
+pub use artery::Artery;
 pub use kind::{Flaw, Kind, Refusal};
 pub use progression::{Dir, Head, Link, Pair, Signal, Text, Units};

@@ -1,0 +1,206 @@
+ghost use Rattle.std.specs.Prelude.{◌≡◌, ◌+◌, ◌<◌, ◌≤◌, pos, ◌≤ℤ◌, unsigned_abs, IfSome};
+ghost use Rattle.ratio.specs.Rational.{◌≤ℚ◌};
+ghost use Rattle.progression.specs.Street.{Street, count, signal_of, link_of, left_against, red_parts, clearance, allows, distance, speed, change_given};
+ghost use Rattle.progression.specs.Columns.{pattern_shift};
+ghost use Rattle.artery_model.specs.Valid.{IsValid, IsSignal, IsLink, IsSpeeds, IsChange, IsPair, IsQuantity};
+
+use progression::{Dir, Head, Link, Pair, Signal};
+use std::marker::Model;
+
+/// A valid artery, seen as a `Street`: its head, signals and links.
+#[derive(Debug, Drop)]
+pub struct Artery {
+    head: Head,
+    signals: Vec<Signal>,
+    links: Vec<Link>,
+}
+
+impl Model for Artery {
+    ghost use Rattle.progression.specs.Street.{Street};
+
+    ghost Value = { Street };
+
+    ghost use Rattle.artery_model.specs.Inside.{street_of};
+    ghost use Rattle.artery_model.specs.Valid.{IsValid};
+
+    ghost view = { street_of };
+
+    ghost invariant = { λ a. IsValid (street_of a) };
+}
+
+impl Artery {
+    /// What holds of the whole artery.
+    pub fn head(&self) -> &Head
+        ensures value { result.now ≡ self.now.head }
+        ensures valid { IsValid self.now }
+    {
+        &self.head
+    }
+
+    /// The signals, the first at signal 1.
+    pub fn signals(&self) -> &[Signal]
+        ensures { result.now ≡ self.now.signals }
+    {
+        self.signals.as_slice()
+    }
+
+    /// The links, the first joining signals 1 and 2.
+    pub fn links(&self) -> &[Link]
+        ensures { result.now ≡ self.now.links }
+    {
+        self.links.as_slice()
+    }
+
+    /// The number of signals, from 2 to 16.
+    pub fn count(&self) -> u32
+        ensures value { result ≡ count self.now }
+        ensures few { 2 ≤ result }
+        ensures many { result ≤ 16 }
+    {
+        self.signals.len() as u32
+    }
+
+    /// The number of parts of the cycle, from 2 to 3600.
+    pub fn parts(&self) -> u32
+        ensures value { result ≡ self.now.head.parts }
+        ensures least { 2 ≤ result }
+        ensures most { result ≤ 3600 }
+    {
+        self.head.parts
+    }
+
+    fn signal(&self, signal: u32) -> &Signal
+        requires first { 1 ≤ signal }
+        requires last { signal ≤ count self.now }
+        ensures value { result.now ≡ signal_of self.now signal }
+        ensures valid { IsSignal self.now.head.parts result.now }
+        ensures parts { self.now.head.parts ≤ 3600 }
+    {
+        &self.signals[signal as usize - 1]
+    }
+
+    fn link(&self, link: u32) -> &Link
+        requires first { 1 ≤ link }
+        requires last { link < count self.now }
+        ensures value { result.now ≡ link_of self.now link }
+        ensures valid { IsLink result.now }
+    {
+        &self.links[link as usize - 1]
+    }
+
+    /// The left turn against a direction, in parts: it goes while the direction's through traffic
+    /// waits.
+    pub fn left_against(&self, dir: Dir, signal: u32) -> u32
+        requires first { 1 ≤ signal }
+        requires last { signal ≤ count self.now }
+        ensures value { result ≡ left_against self.now dir signal }
+        ensures small { result < 3600 }
+    {
+        let found = self.signal(signal);
+        match dir {
+            Dir::Outbound => found.left_in,
+            Dir::Inbound => found.left_out,
+        }
+    }
+
+    /// A direction's red, in parts: the common red and the left turn against the direction. It is
+    /// at least 1, and some green is left.
+    pub fn red(&self, dir: Dir, signal: u32) -> u32
+        requires first { 1 ≤ signal }
+        requires last { signal ≤ count self.now }
+        ensures value { result ≡ red_parts self.now dir signal }
+        ensures least { 1 ≤ result }
+        ensures green { result < self.now.head.parts }
+        ensures small { result < 3600 }
+    {
+        let found = self.signal(signal);
+        match dir {
+            Dir::Outbound => found.red + found.left_in,
+            Dir::Inbound => found.red + found.left_out,
+        }
+    }
+
+    /// How many parts earlier a direction's line leaves a signal, so that the queue there clears.
+    pub fn clearance(&self, dir: Dir, signal: u32) -> u32
+        requires first { 1 ≤ signal }
+        requires last { signal ≤ count self.now }
+        ensures value { result ≡ clearance self.now dir signal }
+        ensures small { result < 3600 }
+    {
+        let found = self.signal(signal);
+        match dir {
+            Dir::Outbound => found.clear_out,
+            Dir::Inbound => found.clear_in,
+        }
+    }
+
+    /// Whether a signal allows a left turn pattern. The patterns are 1 to 4, and no other number is
+    /// allowed.
+    pub fn allows(&self, signal: u32, pattern: u32) -> bool
+        requires first { 1 ≤ signal }
+        requires last { signal ≤ count self.now }
+        ensures { result ≡ allows self.now signal pattern }
+    {
+        1 <= pattern && pattern <= 4 && self.signal(signal).patterns[pattern as usize - 1]
+    }
+
+    /// From the start of the inbound red to the end of the outbound red, less the common red, in
+    /// parts.
+    pub fn shift(&self, signal: u32, pattern: u32) -> u32
+        requires first { 1 ≤ signal }
+        requires last { signal ≤ count self.now }
+        requires least { 1 ≤ pattern }
+        requires most { pattern ≤ 4 }
+        ensures value { result ≡ pattern_shift self.now signal pattern }
+        ensures small { result < 7200 }
+    {
+        let found = self.signal(signal);
+        match pattern {
+            1 => 0,
+            2 => found.left_out + found.left_in,
+            3 => found.left_in,
+            _ => found.left_out,
+        }
+    }
+
+    /// The length of a link, in metres or feet, from 1 to 30000.
+    pub fn distance(&self, dir: Dir, link: u32) -> u32
+        requires first { 1 ≤ link }
+        requires last { link < count self.now }
+        ensures value { result ≡ distance self.now dir link }
+        ensures least { 1 ≤ result }
+        ensures most { result ≤ 30000 }
+    {
+        let found = self.link(link);
+        match dir {
+            Dir::Outbound => found.distance_out,
+            Dir::Inbound => found.distance_in,
+        }
+    }
+
+    fn speed(&self, dir: Dir, link: u32) -> Pair
+        requires first { 1 ≤ link }
+        requires last { link < count self.now }
+        ensures value { result ≡ speed self.now dir link }
+        ensures valid { IsSpeeds result }
+    {
+        let found = self.link(link);
+        match dir {
+            Dir::Outbound => found.speed_out,
+            Dir::Inbound => found.speed_in,
+        }
+    }
+
+    fn change_given(&self, dir: Dir, link: u32) -> Option<Pair>
+        requires first { 1 ≤ link }
+        requires last { link < count self.now }
+        ensures value { result ≡ change_given self.now dir link }
+        ensures valid { IsChange result }
+    {
+        let found = self.link(link);
+        match dir {
+            Dir::Outbound => found.change_out,
+            Dir::Inbound => found.change_in,
+        }
+    }
+}
