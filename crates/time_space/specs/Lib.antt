@@ -1,0 +1,4 @@
+pub mod Timing
+pub mod Sizes
+pub mod FirstRed
+pub mod Limits

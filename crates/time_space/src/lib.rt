@@ -1,0 +1,12 @@
+//! The time-space diagram of one artery: timings in whole ticks, the test whether a timing is good,
+//! its weighted band, and what is green or within a band at a tick.
+//!
+//! Contracts see a `Timing` as the `Plan` of the model and an `Artery` as its `Street`. Start with
+//! `Timing::new`, then `holds`.
+#![tactic(auto)]
+
+mod green;
+mod limits;
+mod timing;
+
+pub use timing::Timing;

@@ -1,0 +1,171 @@
+//! Comparisons of ticks with limits that are fractions, exactly and within 128 bits.
+
+ghost use Rattle.std.specs.Prelude.{◌≡◌, ◌↔◌, IsTrue, ◌+◌, ◌*◌, ◌<◌, ◌≤◌, ◌^◌, pos, ◌*ℤ◌, ◌-ℤ◌, unsigned_abs};
+ghost use Rattle.ratio.specs.Rational.{◌*ℚ◌, ◌≤ℚ◌};
+ghost use Rattle.progression.specs.Speeds.{number};
+ghost use Rattle.progression.specs.Good.{RatioHolds};
+ghost use Rattle.time_space.specs.Limits.{paces_apart};
+
+use narrow_fraction::Frac;
+
+/// A number of a limit times a number of ticks.
+fn product(number: i128, count: u128) -> i128
+    requires number { unsigned_abs number < 2 ^ 34 }
+    requires count { count < 2 ^ 92 }
+    ensures value { result ≡ number *ℤ pos count }
+    ensures small { unsigned_abs result < 2 ^ 126 }
+{
+    number * count as i128
+}
+
+/// Whether so many ticks are at least `limit` seconds.
+#[tactic(auto, using(crate::proofs::Fractions::least_is))]
+pub fn is_at_least(ticks: u128, limit: Frac, grid: u128) -> bool
+    requires ticks { ticks < 2 ^ 92 }
+    requires num { unsigned_abs limit.num < 2 ^ 30 }
+    requires den { limit.den < 2 ^ 30 }
+    requires grid { grid < 2 ^ 80 }
+    ensures { IsTrue result ↔ ((limit *ℚ number grid) ≤ℚ number ticks) }
+{
+    product(limit.num(), grid) <= product(limit.den(), ticks)
+}
+
+/// Whether so many ticks are at most `limit` seconds.
+#[tactic(auto, using(crate::proofs::Fractions::most_is))]
+pub fn is_at_most(ticks: u128, limit: Frac, grid: u128) -> bool
+    requires ticks { ticks < 2 ^ 92 }
+    requires num { unsigned_abs limit.num < 2 ^ 30 }
+    requires den { limit.den < 2 ^ 30 }
+    requires grid { grid < 2 ^ 80 }
+    ensures { IsTrue result ↔ (number ticks ≤ℚ (limit *ℚ number grid)) }
+{
+    product(limit.den(), ticks) <= product(limit.num(), grid)
+}
+
+/// The greatest size of the numerator of a limit on changes of pace, times both distances and the grid, fits.
+fn weighed(number: i128, area: u128) -> i128
+    requires number { unsigned_abs number ≤ 100000 }
+    requires area { area < 2 ^ 110 }
+    ensures { result ≡ number *ℤ pos area }
+{
+    number * area as i128
+}
+
+fn area(grid: u128, distance: u32, next_distance: u32) -> u128
+    requires grid { grid < 2 ^ 80 }
+    requires distance { distance ≤ 30000 }
+    requires next_distance { next_distance ≤ 30000 }
+    ensures value { result ≡ grid * (distance * next_distance) }
+    ensures most { result < 2 ^ 110 }
+{
+    grid * (u128::from(distance) * u128::from(next_distance))
+}
+
+/// Two runs and the distances that they take.
+#[derive(Clone, Copy)]
+pub struct Paces {
+    pub run: u128,
+    pub distance: u32,
+    pub next_run: u128,
+    pub next_distance: u32,
+}
+
+/// The change of pace times both distances.
+fn change_of(paces: Paces) -> i128
+    requires run { paces.run < 2 ^ 80 }
+    requires next_run { paces.next_run < 2 ^ 80 }
+    requires distance { paces.distance ≤ 30000 }
+    requires next_distance { paces.next_distance ≤ 30000 }
+    ensures value { result ≡ pos (paces.next_run * paces.distance) -ℤ pos (paces.run * paces.next_distance) }
+    ensures small { unsigned_abs result < 2 ^ 95 }
+{
+    (paces.next_run * u128::from(paces.distance)) as i128
+        - (paces.run * u128::from(paces.next_distance)) as i128
+}
+
+fn scaled(den: i128, change: i128) -> i128
+    requires den { unsigned_abs den < 2 ^ 23 }
+    requires change { unsigned_abs change < 2 ^ 95 }
+    ensures { result ≡ den *ℤ change }
+{
+    den * change
+}
+
+/// Whether the pace changes by at least `limit`.
+#[tactic(auto, using(crate::proofs::Fractions::drop_is))]
+pub fn is_change_at_least(paces: Paces, limit: Frac, grid: u128) -> bool
+    requires run { paces.run < 2 ^ 80 }
+    requires next_run { paces.next_run < 2 ^ 80 }
+    requires distance { 1 ≤ paces.distance }
+    requires distance_most { paces.distance ≤ 30000 }
+    requires next_distance { 1 ≤ paces.next_distance }
+    requires next_distance_most { paces.next_distance ≤ 30000 }
+    requires num { unsigned_abs limit.num ≤ 100000 }
+    requires den { limit.den ≤ 5280000 }
+    requires grid { grid < 2 ^ 80 }
+    ensures { IsTrue result ↔ ((limit *ℚ number grid) ≤ℚ paces_apart paces.run paces.distance paces.next_run paces.next_distance) }
+{
+    let bound = weighed(limit.num(), area(grid, paces.distance, paces.next_distance));
+    bound <= scaled(limit.den(), change_of(paces))
+}
+
+/// Whether the pace changes by at most `limit`.
+#[tactic(auto, using(crate::proofs::Fractions::rise_is))]
+pub fn is_change_at_most(paces: Paces, limit: Frac, grid: u128) -> bool
+    requires run { paces.run < 2 ^ 80 }
+    requires next_run { paces.next_run < 2 ^ 80 }
+    requires distance { 1 ≤ paces.distance }
+    requires distance_most { paces.distance ≤ 30000 }
+    requires next_distance { 1 ≤ paces.next_distance }
+    requires next_distance_most { paces.next_distance ≤ 30000 }
+    requires num { unsigned_abs limit.num ≤ 100000 }
+    requires den { limit.den ≤ 5280000 }
+    requires grid { grid < 2 ^ 80 }
+    ensures { IsTrue result ↔ (paces_apart paces.run paces.distance paces.next_run paces.next_distance ≤ℚ (limit *ℚ number grid)) }
+{
+    let bound = weighed(limit.num(), area(grid, paces.distance, paces.next_distance));
+    scaled(limit.den(), change_of(paces)) <= bound
+}
+
+/// A product of two numbers of a ratio.
+fn weight(rest: i128, number: i128) -> i128
+    requires rest { unsigned_abs rest < 2 ^ 17 }
+    requires number { unsigned_abs number < 2 ^ 17 }
+    ensures value { result ≡ rest *ℤ number }
+    ensures small { unsigned_abs result < 2 ^ 34 }
+{
+    rest * number
+}
+
+/// One less the ratio, times the ratio's denominator.
+fn rest(ratio: Frac) -> i128
+    requires num { unsigned_abs ratio.num ≤ 100000 }
+    requires den { ratio.den ≤ 1000 }
+    ensures value { result ≡ pos ratio.den -ℤ ratio.num }
+    ensures small { unsigned_abs result < 2 ^ 17 }
+{
+    ratio.den() - ratio.num()
+}
+
+/// One less the ratio, times a number of the ratio and a band.
+fn weighted(ratio: Frac, number: i128, band: u128) -> i128
+    requires num { unsigned_abs ratio.num ≤ 100000 }
+    requires den { ratio.den ≤ 1000 }
+    requires number { unsigned_abs number < 2 ^ 17 }
+    requires band { band < 2 ^ 80 }
+    ensures { result ≡ ((pos ratio.den -ℤ ratio.num) *ℤ number) *ℤ pos band }
+{
+    product(weight(rest(ratio), number), band)
+}
+
+/// Whether two bands keep the ratio.
+#[tactic(auto, using(crate::proofs::Fractions::ratio_is))]
+pub fn is_in_ratio(ratio: Frac, band_out: u128, band_in: u128) -> bool
+    requires num { unsigned_abs ratio.num ≤ 100000 }
+    requires den { ratio.den ≤ 1000 }
+    requires band_out { band_out < 2 ^ 80 }
+    requires band_in { band_in < 2 ^ 80 }
+    ensures { IsTrue result ↔ RatioHolds ratio band_out band_in }
+{
+    weighted(ratio, ratio.num(), band_out) <= weighted(ratio, ratio.den(), band_in)
+}

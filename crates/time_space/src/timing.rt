@@ -1,0 +1,247 @@
+//! A timing, seen as a plan.
+
+ghost use Rattle.std.specs.Prelude.{◌≡◌, ◌↔◌, All, IsTrue, IfNone, IfSome, ◌+◌, ◌-◌, ◌<◌, ◌≤◌, ◌^◌, ℕ, length, map, pos, ◌≤ℤ◌, ◌<ℤ◌};
+ghost use Rattle.progression.specs.Plan.{Plan, pattern_of, common_red, run, first, band};
+ghost use Rattle.time_space.specs.Timing.{IsTiming, plan_of};
+
+use progression::Dir;
+use std::marker::Model;
+
+/// A timing of an artery's signals, in ticks of a grid of its own.
+///
+/// Every number is below `2^80`. There are 2 to 16 signals.
+#[derive(Debug, Drop)]
+pub struct Timing {
+    grid: u128,
+    unit: u128,
+    patterns: Vec<u32>,
+    reds: Vec<u128>,
+    run_out: Vec<u128>,
+    run_in: Vec<u128>,
+    first_out: u128,
+    first_in: u128,
+    band_out: u128,
+    band_in: u128,
+}
+
+impl Model for Timing {
+    ghost use Rattle.std.specs.Prelude.{map, pos};
+    ghost use Rattle.progression.specs.Plan.{Plan};
+    ghost use Rattle.time_space.specs.Timing.{IsTiming};
+
+    ghost Value = { Plan };
+
+    ghost view = { λ t. record {
+      grid = t.grid;
+      unit = t.unit;
+      patterns = t.patterns.items;
+      reds = map pos t.reds.items;
+      run_out = t.run_out.items;
+      run_in = t.run_in.items;
+      first_out = pos t.first_out;
+      first_in = pos t.first_in;
+      band_out = t.band_out;
+      band_in = t.band_in;
+    } };
+
+    ghost invariant = { λ t. IsTiming t.grid t.unit t.patterns.items t.reds.items t.run_out.items t.run_in.items t.first_out t.first_in t.band_out t.band_in };
+}
+
+const LIMIT: u128 = 1 << 80;
+
+fn all_below_limit(numbers: &[u128]) -> bool
+    ensures { IsTrue result ↔ All (λ n. n < 2 ^ 80) numbers.now }
+{
+    numbers.iter().all(|number| *number < LIMIT)
+}
+
+fn all_patterns(patterns: &[u32]) -> bool
+    ensures { IsTrue result ↔ All (λ p. (1 ≤ p) × (p ≤ 4)) patterns.now }
+{
+    patterns
+        .iter()
+        .all(|pattern| 1 <= *pattern && *pattern <= 4)
+}
+
+impl Timing {
+    /// The timing of these numbers, or None where one of them is outside its limits.
+    ///
+    /// `grid` is in ticks a second and at least 1, and `unit` in ticks a part and at least 2. All others are in
+    /// ticks but for the patterns, which are 1 to 4. The reds are the starts of the common reds. There are as many
+    /// reds as patterns, and one fewer of each run.
+    pub fn new(
+        grid: u128,
+        unit: u128,
+        patterns: Vec<u32>,
+        reds: Vec<u128>,
+        run_out: Vec<u128>,
+        run_in: Vec<u128>,
+        first_out: u128,
+        first_in: u128,
+        band_out: u128,
+        band_in: u128,
+    ) -> Option<Timing>
+        ensures none { IfNone result (¬ IsTiming grid unit patterns.items reds.items run_out.items run_in.items first_out first_in band_out band_in) }
+        ensures some { IfSome result (λ t. IsTiming grid unit patterns.items reds.items run_out.items run_in.items first_out first_in band_out band_in) }
+        ensures value { IfSome result (λ t. t ≡ plan_of grid unit patterns.items reds.items run_out.items run_in.items first_out first_in band_out band_in) }
+    {
+        if grid < 1 || grid >= LIMIT || unit < 2 || unit >= LIMIT {
+            return None;
+        }
+        let count = patterns.len();
+        if count < 2
+            || count > 16
+            || reds.len() != count
+            || run_out.len() + 1 != count
+            || run_in.len() + 1 != count
+        {
+            return None;
+        }
+        if first_out >= LIMIT || first_in >= LIMIT || band_out >= LIMIT || band_in >= LIMIT {
+            return None;
+        }
+        if !all_patterns(patterns.as_slice()) {
+            return None;
+        }
+        if !all_below_limit(reds.as_slice())
+            || !all_below_limit(run_out.as_slice())
+            || !all_below_limit(run_in.as_slice())
+        {
+            return None;
+        }
+        Some(Timing {
+            grid,
+            unit,
+            patterns,
+            reds,
+            run_out,
+            run_in,
+            first_out,
+            first_in,
+            band_out,
+            band_in,
+        })
+    }
+
+    /// How many signals it has, from 2 to 16.
+    pub fn count(&self) -> u32
+        ensures value { result ≡ length self.now.patterns }
+        ensures few { 2 ≤ result }
+        ensures many { result ≤ 16 }
+    {
+        self.patterns.len() as u32
+    }
+
+    /// The ticks in a second.
+    pub fn grid(&self) -> u128
+        ensures value { result ≡ self.now.grid }
+        ensures least { 1 ≤ result }
+        ensures most { result < 2 ^ 80 }
+    {
+        self.grid
+    }
+
+    /// The ticks in a part.
+    pub fn unit(&self) -> u128
+        ensures value { result ≡ self.now.unit }
+        ensures least { 2 ≤ result }
+        ensures most { result < 2 ^ 80 }
+    {
+        self.unit
+    }
+
+    /// The left turn pattern of a signal.
+    pub fn pattern(&self, signal: u32) -> u32
+        requires first { 1 ≤ signal }
+        requires last { signal ≤ length self.now.patterns }
+        ensures value { result ≡ pattern_of self.now signal }
+        ensures least { 1 ≤ result }
+        ensures most { result ≤ 4 }
+    {
+        self.patterns[signal as usize - 1]
+    }
+
+    /// The tick at which the common red of a signal starts.
+    pub fn common_red(&self, signal: u32) -> i128
+        requires first { 1 ≤ signal }
+        requires last { signal ≤ length self.now.patterns }
+        ensures value { result ≡ common_red self.now signal }
+        ensures least { pos 0 ≤ℤ result }
+        ensures most { result <ℤ pos (2 ^ 80) }
+    {
+        self.reds[signal as usize - 1] as i128
+    }
+
+    /// The ticks that a direction's band takes on a link.
+    pub fn run(&self, dir: Dir, link: u32) -> u128
+        requires first { 1 ≤ link }
+        requires last { link < length self.now.patterns }
+        ensures value { result ≡ run self.now dir link }
+        ensures most { result < 2 ^ 80 }
+    {
+        match dir {
+            Dir::Outbound => self.run_out[link as usize - 1],
+            Dir::Inbound => self.run_in[link as usize - 1],
+        }
+    }
+
+    /// The tick at which the first line of a direction's band crosses the first signal of its way.
+    pub fn first(&self, dir: Dir) -> i128
+        ensures value { result ≡ first self.now dir }
+        ensures least { pos 0 ≤ℤ result }
+        ensures most { result <ℤ pos (2 ^ 80) }
+    {
+        match dir {
+            Dir::Outbound => self.first_out as i128,
+            Dir::Inbound => self.first_in as i128,
+        }
+    }
+
+    /// The width of a direction's band, in ticks.
+    pub fn band(&self, dir: Dir) -> u128
+        ensures value { result ≡ band self.now dir }
+        ensures most { result < 2 ^ 80 }
+    {
+        match dir {
+            Dir::Outbound => self.band_out,
+            Dir::Inbound => self.band_in,
+        }
+    }
+
+    /// Each signal's left turn pattern.
+    pub fn patterns(&self) -> &[u32]
+        ensures value { result.now ≡ self.now.patterns }
+        ensures each { All (λ p. (1 ≤ p) × (p ≤ 4)) result.now }
+        ensures few { 2 ≤ length result.now }
+        ensures many { length result.now ≤ 16 }
+    {
+        self.patterns.as_slice()
+    }
+
+    /// The tick at which each signal's common red starts.
+    pub fn reds(&self) -> &[u128]
+        ensures value { map pos result.now ≡ self.now.reds }
+        ensures most { All (λ n. n < 2 ^ 80) result.now }
+        ensures count { length result.now ≡ length self.now.patterns }
+    {
+        self.reds.as_slice()
+    }
+
+    /// The ticks of the outbound band from each signal to the next.
+    pub fn run_out(&self) -> &[u128]
+        ensures value { result.now ≡ self.now.run_out }
+        ensures most { All (λ n. n < 2 ^ 80) result.now }
+        ensures count { length result.now + 1 ≡ length self.now.patterns }
+    {
+        self.run_out.as_slice()
+    }
+
+    /// The ticks of the inbound band on the same links.
+    pub fn run_in(&self) -> &[u128]
+        ensures value { result.now ≡ self.now.run_in }
+        ensures most { All (λ n. n < 2 ^ 80) result.now }
+        ensures count { length result.now + 1 ≡ length self.now.patterns }
+    {
+        self.run_in.as_slice()
+    }
+}
