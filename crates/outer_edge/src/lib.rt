@@ -5,6 +5,7 @@
 mod files;
 mod mem_files;
 mod mem_sink;
+mod numbered;
 mod reading;
 mod real_files;
 mod real_out;

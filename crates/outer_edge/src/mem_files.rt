@@ -1,10 +1,11 @@
-ghost use Rattle.std.specs.Prelude.{◌≡◌, ◌<◌, ◌≤◌, ◌↔◌, [], Some, None, MatchOption, IfOk, IfSome, IsErrOf, IsTrue, OnOk, OnErr, length, is_err};
+ghost use Rattle.std.specs.Prelude.{false, ◌≡◌, ◌<◌, ◌≤◌, ◌↔◌, [], Some, None, MatchOption, IfOk, IfSome, IsErrOf, IsTrue, OnOk, OnErr, length, is_err};
 ghost use Rattle.outer_edge.specs.Counts.{next_count};
 ghost use Rattle.outer_edge.specs.Device.{after_read, after_put, next_fails, read_fails};
 ghost use Rattle.outer_edge.specs.Held.{ReadsFrom};
 ghost use Rattle.outer_edge.specs.Store.{found, held, OthersKept};
 
 use crate::files::{FileEnd, Files};
+use crate::numbered::stands_in;
 use crate::stored::{Named, copy_from, find, put_copy};
 use narrow_fraction::Memory;
 use std::alloc::Global;
@@ -77,14 +78,14 @@ impl MemFiles {
         ensures ledger { self.new ≡ record self.old { ledger = after_read self.old.ledger false } }
     {
         self.calls = self.calls.saturating_add(1);
-        let number = self.calls;
-        self.fail.iter().any(|fail| *fail == number)
+        stands_in(self.fail.as_slice(), self.calls)
     }
 
     /// Counts a failed read.
     fn failed_read(&mut self) -> FileEnd
         ensures end { result ≡ FileEnd.Failed }
         ensures counted { self.new ≡ record self.old { ledger = record self.old.ledger { read_faults = next_count self.old.ledger.read_faults } } }
+        ensures rises { self.old.ledger.read_faults ≤ self.new.ledger.read_faults }
     {
         self.read_faults = self.read_faults.saturating_add(1);
         FileEnd::Failed
@@ -106,6 +107,7 @@ impl Files for MemFiles {
         ensures bytes { IfOk result (λ k. IfSome (found self.old.files name.now) (λ file. ReadsFrom file at k into.new)) }
         ensures files { self.new.files ≡ self.old.files }
         ensures ledger { self.new.ledger ≡ after_read self.old.ledger (read_fails self.old name.now) }
+        ensures counted { self.old.ledger.read_faults ≤ self.new.ledger.read_faults }
     {
         if self.next_call() {
             return Err(self.failed_read());
@@ -122,6 +124,7 @@ impl Files for MemFiles {
         ensures err { OnErr result (self.new.files ≡ self.old.files) }
         ensures fails { IsErrOf result FileEnd.Failed ↔ IsTrue (next_fails self.old.ledger.fail self.old.ledger.calls) }
         ensures ledger { self.new.ledger ≡ after_put self.old.ledger (next_fails self.old.ledger.fail self.old.ledger.calls) }
+        ensures counted { self.old.ledger.put_faults ≤ self.new.ledger.put_faults }
     {
         if self.next_call() {
             self.put_faults = self.put_faults.saturating_add(1);

@@ -2,6 +2,7 @@ ghost use Rattle.std.specs.Prelude.{◌≡◌, ◌+◌, ◌<◌, ◌≤◌, ◌+
 ghost use Rattle.outer_edge.specs.Counts.{next_count};
 ghost use Rattle.outer_edge.specs.Device.{next_fails, count_if};
 
+use crate::numbered::stands_in;
 use crate::sink::{Failed, Sink};
 use narrow_fraction::Memory;
 use std::alloc::Global;
@@ -78,19 +79,20 @@ impl Sink for MemSink {
         requires some { 0 < length bytes.now }
         requires room { length bytes.now ≤ self.old.room }
         ensures fails { is_err result ≡ next_fails self.old.fail self.old.calls }
-        ensures count { IfOk result (λ k. k ≡ min self.old.piece (length bytes.now)) }
+        ensures count { IfOk result (λ k. (0 < k) × (k ≤ length bytes.now)) }
+        ensures piecewise { IfOk result (λ k. k ≡ min self.old.piece (length bytes.now)) }
         ensures appended { IfOk result (λ k. self.new.taken ≡ self.old.taken ++ take k bytes.now) }
         ensures room { IfOk result (λ k. self.old.room ≤ self.new.room + k) }
         ensures nothing { OnErr result (self.new.taken ≡ self.old.taken) }
         ensures same_room { OnErr result (self.new.room ≡ self.old.room) }
         ensures calls { self.new.calls ≡ next_count self.old.calls }
         ensures faults { self.new.faults ≡ count_if (next_fails self.old.fail self.old.calls) self.old.faults }
+        ensures counted { self.old.faults ≤ self.new.faults }
         ensures fail { self.new.fail ≡ self.old.fail }
         ensures piece { self.new.piece ≡ self.old.piece }
     {
         self.calls = self.calls.saturating_add(1);
-        let number = self.calls;
-        if self.fail.iter().any(|fail| *fail == number) {
+        if stands_in(self.fail.as_slice(), self.calls) {
             self.faults = self.faults.saturating_add(1);
             return Err(Failed);
         }

@@ -1,4 +1,4 @@
-ghost use Rattle.std.specs.Prelude.{◌≡◌, ◌^◌, None, IfOk};
+ghost use Rattle.std.specs.Prelude.{◌≡◌, ◌≤◌, ◌^◌, None, IfOk};
 ghost use Rattle.outer_edge.specs.Counts.{next_count};
 
 use crate::sink::{Failed, Sink};
@@ -36,7 +36,8 @@ impl<R: Print + Clone + Drop> RealOut<R> {
 
     /// Counts a failed write.
     fn failed(&mut self) -> Failed
-        ensures { self.new ≡ next_count self.old }
+        ensures counted { self.new ≡ next_count self.old }
+        ensures rises { self.old ≤ self.new }
     {
         self.faults = self.faults.saturating_add(1);
         Failed
