@@ -1,7 +1,7 @@
 pub mod Counts
 pub mod Device
 pub mod Held
-pub mod Mounted
+pub mod Faults
 pub mod Named
 pub mod Outlet
 pub mod Store

@@ -34,8 +34,8 @@ impl Model for MemFiles {
     ghost use Rattle.outer_edge.specs.Named.{stored};
 
     ghost view = { λ m. record {
-        files = stored m.files.items;
-        ledger = record { fail = m.fail.items; calls = m.calls; read_faults = m.read_faults; put_faults = m.put_faults };
+      files = stored m.files.items;
+      ledger = record { fail = m.fail.items; calls = m.calls; read_faults = m.read_faults; put_faults = m.put_faults };
     } };
 }
 

@@ -27,8 +27,12 @@ impl Model for MemSink {
     ghost Value = { PieceOutlet };
 
     ghost view = { λ s. record {
-        taken = s.bytes.items; room = vec_capacity s.bytes - vec_len s.bytes;
-        piece = s.piece; fail = s.fail.items; calls = s.calls; faults = s.faults;
+      taken = s.bytes.items;
+      room = vec_capacity s.bytes - vec_len s.bytes;
+      piece = s.piece;
+      fail = s.fail.items;
+      calls = s.calls;
+      faults = s.faults;
     } };
 
     ghost invariant = { λ s. 0 < s.piece };

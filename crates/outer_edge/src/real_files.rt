@@ -1,4 +1,4 @@
-ghost use Rattle.std.specs.Prelude.{◌≡◌, ◌<◌, ◌≤◌, length, None, IfOk, IsErrOf, OnOk, OnErr, is_err};
+ghost use Rattle.std.specs.Prelude.{◌≡◌, ◌<◌, ◌≤◌, length, None, IfOk, IsErrOf, is_err};
 ghost use Rattle.outer_edge.specs.Device.{count_if};
 
 use crate::files::{FileEnd, Files};
@@ -18,17 +18,17 @@ pub struct RealFiles<R: rt::Files + Clone + Drop> {
 }
 
 impl<R: rt::Files + Clone + Drop> Model for RealFiles<R> {
-    ghost use Rattle.outer_edge.specs.Mounted.{Mounted};
+    ghost use Rattle.outer_edge.specs.Faults.{Faults};
 
-    ghost Value = { Mounted };
+    ghost Value = { Faults };
 
-    ghost view = { λ f. record { read_faults = f.read_faults; put_faults = f.put_faults } };
+    ghost view = { λ f. record { reads = f.read_faults; puts = f.put_faults } };
 }
 
 impl<R: rt::Files + Clone + Drop> RealFiles<R> {
     /// The files that this runtime reaches, with no fault counted.
     pub fn new(rt: &R, alloc: Global) -> Result<RealFiles<R>, Memory>
-        ensures { IfOk result (λ files. files ≡ record { read_faults = 0; put_faults = 0 }) }
+        ensures { IfOk result (λ files. files ≡ record { reads = 0; puts = 0 }) }
     {
         let _ = alloc;
         match rt.clone() {
@@ -53,11 +53,17 @@ fn read_at<R: rt::Files>(rt: &R, name: &str, into: &mut [u8], at: u64) -> io::Re
 impl<R: rt::Files + Clone + Drop> Files for RealFiles<R> {
     ghost holds = { λ f name. None };
 
-    ghost read_faults = { λ f name. f.read_faults };
+    ghost read_faults = { λ f name. f.reads };
 
-    ghost put_faults = { λ f name. f.put_faults };
+    ghost put_faults = { λ f name. f.puts };
 
-    fn read(&mut self, name: &str, into: &mut [u8], at: u64) -> Result<usize, FileEnd> {
+    fn read(&mut self, name: &str, into: &mut [u8], at: u64) -> Result<usize, FileEnd>
+        requires { 0 < length into.old }
+        ensures within { IfOk result (λ k. k ≤ length into.new) }
+        ensures counts { self.new ≡ record self.old { reads = count_if (is_err result) self.old.reads } }
+        ensures reads { self.old.reads ≤ self.new.reads }
+        ensures not_memory { IsErrOf result FileEnd.Memory → ⊥ }
+    {
         match read_at(&self.rt, name, into, at) {
             Ok(count) => Ok(count),
             Err(_) => {
@@ -67,7 +73,11 @@ impl<R: rt::Files + Clone + Drop> Files for RealFiles<R> {
         }
     }
 
-    fn put(&mut self, name: &str, bytes: &[u8]) -> Result<(), FileEnd> {
+    fn put(&mut self, name: &str, bytes: &[u8]) -> Result<(), FileEnd>
+        ensures counts { self.new ≡ record self.old { puts = count_if (is_err result) self.old.puts } }
+        ensures puts { self.old.puts ≤ self.new.puts }
+        ensures not_memory { IsErrOf result FileEnd.Memory → ⊥ }
+    {
         match fs::write(&self.rt, name, bytes) {
             Ok(()) => Ok(()),
             Err(_) => {

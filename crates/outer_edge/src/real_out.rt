@@ -1,5 +1,6 @@
-ghost use Rattle.std.specs.Prelude.{◌≡◌, ◌≤◌, ◌^◌, None, IfOk};
+ghost use Rattle.std.specs.Prelude.{◌≡◌, ◌<◌, ◌≤◌, ◌^◌, None, IfOk, length, is_err};
 ghost use Rattle.outer_edge.specs.Counts.{next_count};
+ghost use Rattle.outer_edge.specs.Device.{count_if};
 
 use crate::sink::{Failed, Sink};
 use narrow_fraction::Memory;
@@ -56,7 +57,13 @@ impl<R: Print + Clone + Drop> Sink for RealOut<R> {
         Ok(())
     }
 
-    fn write(&mut self, bytes: &[u8]) -> Result<usize, Failed> {
+    fn write(&mut self, bytes: &[u8]) -> Result<usize, Failed>
+        requires some { 0 < length bytes.now }
+        requires room { length bytes.now ≤ 2 ^ 64 }
+        ensures count { IfOk result (λ k. (0 < k) × (k ≤ length bytes.now)) }
+        ensures counts { self.new ≡ count_if (is_err result) self.old }
+        ensures faults { self.old ≤ self.new }
+    {
         match io::writer(&self.rt).write(bytes) {
             Ok(0) => Err(self.failed()),
             Ok(count) => Ok(count),

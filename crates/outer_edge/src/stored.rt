@@ -41,7 +41,12 @@ pub(crate) fn copy_from(file: &[u8], into: &mut [u8], at: u64) -> usize
 }
 
 /// Puts a file in front of all others, where it hides an older one of its name.
-pub(crate) fn put_copy(alloc: Global, files: &mut Vec<Named>, name: &str, bytes: &[u8]) -> Result<(), Memory>
+pub(crate) fn put_copy(
+    alloc: Global,
+    files: &mut Vec<Named>,
+    name: &str,
+    bytes: &[u8],
+) -> Result<(), Memory>
     ensures put { OnOk result (found (stored files.new.items) name.now ≡ Some bytes.now) }
     ensures others { OthersKept (stored files.old.items) (stored files.new.items) name.now }
     ensures err { OnErr result (files.new.items ≡ files.old.items) }

@@ -1,4 +1,4 @@
-ghost use Rattle.std.specs.Prelude.{◌≡◌, [], Some};
+ghost use Rattle.std.specs.Prelude.{◌≡◌, ◌<◌, ◌≤◌, ◌+◌, ◌++◌, [], Some, Ok, length};
 
 use crate::sink::{Failed, Sink};
 use narrow_fraction::Memory;
@@ -52,7 +52,13 @@ impl Sink for SureSink {
         }
     }
 
-    fn write(&mut self, bytes: &[u8]) -> Result<usize, Failed> {
+    fn write(&mut self, bytes: &[u8]) -> Result<usize, Failed>
+        requires some { 0 < length bytes.now }
+        requires room { length bytes.now ≤ self.old.room }
+        ensures whole { result ≡ Ok (length bytes.now) }
+        ensures appended { self.new.taken ≡ self.old.taken ++ bytes.now }
+        ensures room { self.old.room ≤ self.new.room + length bytes.now }
+    {
         match self.bytes.extend_from_slice(bytes) {
             Ok(()) => Ok(bytes.len()),
             Err(_) => unreachable!(),
