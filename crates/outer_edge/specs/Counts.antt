@@ -1,0 +1,18 @@
+-- Counts of failed calls. They stand in 64 bits and stop at the greatest number there.
+use Rattle.std.specs.Prelude.{◌≡◌, ℕ, ◌+◌, ◌-◌, ◌^◌, ◌≤◌, min, List}
+
+-- the number after this one, or the last of 64 bits
+abbrev pub next_count : ℕ → ℕ
+next_count n = min (n + 1) (2 ^ 64 - 1)
+
+-- a count has risen, or stands at its end
+abbrev pub Rose : ℕ → ℕ → Type 0
+Rose before now = next_count before ≤ now
+
+-- no name's count has fallen
+abbrev pub NoneFell : (List ℕ → ℕ) → (List ℕ → ℕ) → Type 0
+NoneFell before now = (name : List ℕ) → before name ≤ now name
+
+-- every name's count is as before
+abbrev pub SameCounts : (List ℕ → ℕ) → (List ℕ → ℕ) → Type 0
+SameCounts before now = (name : List ℕ) → now name ≡ before name

@@ -1,0 +1,30 @@
+//! The outside: files by their names and an output, each as a trait with counts of failed calls, so
+//! that a caller can show that it reports a fault only where one was counted.
+#![tactic(auto)]
+
+mod files;
+mod mem_files;
+mod mem_sink;
+mod numbered;
+mod reading;
+mod real_files;
+mod real_out;
+mod sink;
+mod stored;
+mod sure_files;
+mod sure_sink;
+mod writing;
+
+pub use files::{FileEnd, Files};
+pub use mem_files::MemFiles;
+pub use mem_sink::MemSink;
+pub use reading::{ReadEnd, read_whole};
+pub use real_files::RealFiles;
+pub use real_out::RealOut;
+pub use sink::{Failed, Sink};
+pub use sure_files::SureFiles;
+pub use sure_sink::SureSink;
+pub use writing::write_whole;
+
+#[cfg(test)]
+mod tests;

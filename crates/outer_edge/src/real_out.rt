@@ -1,0 +1,73 @@
+ghost use Rattle.std.specs.Prelude.{◌≡◌, ◌<◌, ◌≤◌, ◌^◌, None, IfOk, length, is_err};
+ghost use Rattle.outer_edge.specs.Counts.{next_count};
+ghost use Rattle.outer_edge.specs.Device.{count_if};
+
+use crate::sink::{Failed, Sink};
+use narrow_fraction::Memory;
+use std::alloc::Global;
+use std::io::{self, Write};
+use std::marker::Model;
+
+/// Standard output. It doesn't tell what it took, and takes no memory: its room is always `2^64`.
+#[derive(Drop)]
+pub struct RealOut<R: Print + Clone + Drop> {
+    rt: R,
+    faults: u64,
+}
+
+impl<R: Print + Clone + Drop> Model for RealOut<R> {
+    ghost use Rattle.std.specs.Prelude.{ℕ};
+
+    ghost Value = { ℕ };
+
+    ghost view = { λ o. o.faults };
+}
+
+impl<R: Print + Clone + Drop> RealOut<R> {
+    /// The standard output of this runtime, with no fault counted.
+    pub fn new(rt: &R, alloc: Global) -> Result<RealOut<R>, Memory>
+        ensures { IfOk result (λ out. out ≡ 0) }
+    {
+        let _ = alloc;
+        match rt.clone() {
+            Ok(rt) => Ok(RealOut { rt, faults: 0 }),
+            Err(_) => Err(Memory),
+        }
+    }
+
+    /// Counts a failed write.
+    fn failed(&mut self) -> Failed
+        ensures counted { self.new ≡ next_count self.old }
+        ensures rises { self.old ≤ self.new }
+    {
+        self.faults = self.faults.saturating_add(1);
+        Failed
+    }
+}
+
+impl<R: Print + Clone + Drop> Sink for RealOut<R> {
+    ghost taken = { λ o. None };
+
+    ghost faults = { λ o. o };
+
+    ghost room = { λ o. 2 ^ 64 };
+
+    fn reserve(&mut self, bytes: u64) -> Result<(), Memory> {
+        let _ = bytes;
+        Ok(())
+    }
+
+    fn write(&mut self, bytes: &[u8]) -> Result<usize, Failed>
+        requires some { 0 < length bytes.now }
+        requires room { length bytes.now ≤ 2 ^ 64 }
+        ensures count { IfOk result (λ k. (0 < k) × (k ≤ length bytes.now)) }
+        ensures counts { self.new ≡ count_if (is_err result) self.old }
+        ensures faults { self.old ≤ self.new }
+    {
+        match io::writer(&self.rt).write(bytes) {
+            Ok(0) => Err(self.failed()),
+            Ok(count) => Ok(count),
+            Err(_) => Err(self.failed()),
+        }
+    }
+}

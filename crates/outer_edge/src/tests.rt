@@ -1,0 +1,99 @@
+use crate::{
+    Failed, FileEnd, Files, MemFiles, MemSink, ReadEnd, RealFiles, RealOut, Sink, SureFiles,
+    SureSink, read_whole, write_whole,
+};
+use std::fs;
+use std::test::Fail;
+
+#[test]
+fn sure_files_hold_what_was_put(rt: HostRuntime) -> Result<(), Fail> {
+    let mut files = SureFiles::new(rt.alloc());
+    files.add("notes", b"first")?;
+    files.put("notes", b"second")?;
+    let all = read_whole(rt.alloc(), &mut files, "notes", 100)?;
+    assert_eq!(rt; all.as_slice(), b"second".as_slice());
+    let mut into = [0u8; 4];
+    assert_eq!(rt; files.read("notes", &mut into, 2)?, 4);
+    assert_eq!(rt; into.as_slice(), b"cond".as_slice());
+    assert_eq!(rt; files.read("absent", &mut into, 0)?, 0);
+    assert!(rt; files.bytes("absent").is_none());
+    Ok(())
+}
+
+#[test]
+fn the_third_call_is_a_put_that_fails(rt: HostRuntime) -> Result<(), Fail> {
+    let mut files = MemFiles::new(rt.alloc(), vec![in rt.alloc(); 3]?);
+    let mut into = [0u8; 8];
+    files.add("notes", b"old")?;
+    assert_eq!(rt; files.read("notes", &mut into, 1)?, 2);
+    files.put("other", b"kept")?;
+    assert_eq!(rt; files.put("notes", b"new"), Err(FileEnd::Failed));
+    assert_eq!(rt; files.bytes("notes").ok_or("gone")?, b"old".as_slice());
+    assert_eq!(rt; files.read("absent", &mut into, 0), Err(FileEnd::Failed));
+    files.put("notes", b"new")?;
+    assert_eq!(rt; files.bytes("notes").ok_or("gone")?, b"new".as_slice());
+    Ok(())
+}
+
+#[test]
+fn the_second_piece_of_sixteen_fails(rt: HostRuntime) -> Result<(), Fail> {
+    let text = b"the first sixteen, and then some more";
+    let mut out = MemSink::new(rt.alloc(), 16, vec![in rt.alloc(); 2]?);
+    out.reserve(100)?;
+    assert_eq!(rt; write_whole(&mut out, text), Err(Failed));
+    assert_eq!(rt; out.bytes(), b"the first sixtee".as_slice());
+    let mut out = MemSink::new(rt.alloc(), 16, Vec::new(rt.alloc()));
+    out.reserve(100)?;
+    assert!(rt; write_whole(&mut out, text).is_ok());
+    assert_eq!(rt; out.bytes(), text.as_slice());
+    Ok(())
+}
+
+#[test]
+fn a_sure_output_takes_all_at_once(rt: HostRuntime) -> Result<(), Fail> {
+    let mut out = SureSink::new(rt.alloc());
+    out.reserve(5)?;
+    assert_eq!(rt; out.write(b"hello"), Ok(5));
+    assert_eq!(rt; out.bytes(), b"hello".as_slice());
+    Ok(())
+}
+
+#[test]
+fn ten_bytes_are_too_long_for_a_limit_of_nine(rt: HostRuntime) -> Result<(), Fail> {
+    let mut files = MemFiles::new(rt.alloc(), vec![in rt.alloc(); 6]?);
+    files.add("ten", b"0123456789")?;
+    let all = read_whole(rt.alloc(), &mut files, "ten", 10)?;
+    assert_eq!(rt; all.as_slice(), b"0123456789".as_slice());
+    let long = read_whole(rt.alloc(), &mut files, "ten", 9);
+    assert!(rt; matches!(long, Err(ReadEnd::TooLong)));
+    let absent = read_whole(rt.alloc(), &mut files, "absent", 9);
+    assert!(rt; matches!(absent, Err(ReadEnd::ReadFault)));
+    // Calls 1 and 2 read the file, 3 found it too long, 4 found no file, 5 read: the sixth fails.
+    let fault = read_whole(rt.alloc(), &mut files, "ten", 10);
+    assert!(rt; matches!(fault, Err(ReadEnd::ReadFault)));
+    Ok(())
+}
+
+#[test]
+fn a_file_of_the_system_is_read_back(rt: HostRuntime) -> Result<(), Fail> {
+    let mut files = RealFiles::new(&rt, rt.alloc())?;
+    files.put("outer_edge.trial", b"put and read")?;
+    let all = read_whole(rt.alloc(), &mut files, "outer_edge.trial", 100)?;
+    assert_eq!(rt; all.as_slice(), b"put and read".as_slice());
+    fs::remove_file(&rt, "outer_edge.trial")?;
+    let mut into = [0u8; 8];
+    assert_eq!(rt;
+        files.read("outer_edge.trial", &mut into, 0),
+        Err(FileEnd::Failed)
+    );
+    assert_eq!(rt; files.put("no/such/folder", b"x"), Err(FileEnd::Failed));
+    Ok(())
+}
+
+#[test]
+fn standard_output_takes_bytes(rt: HostRuntime) -> Result<(), Fail> {
+    let mut out = RealOut::new(&rt, rt.alloc())?;
+    out.reserve(100)?;
+    assert_eq!(rt; out.write(b"three\n"), Ok(6));
+    Ok(())
+}
