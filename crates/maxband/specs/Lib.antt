@@ -1,0 +1,5 @@
+pub mod Command
+pub mod Status
+pub mod Lines
+pub mod Hold
+pub mod Run

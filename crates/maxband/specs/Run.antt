@@ -1,0 +1,33 @@
+-- What a run comes to: the cause of its status, what stands behind it, and by which lines the output grew.
+use Rattle.std.specs.Prelude.{◌≡◌, ℕ, List, Option, Some, None}
+use Rattle.ratio.specs.Rational.{ℚ}
+use Rattle.outer_edge.specs.Taken.{Appends, AppendsFront}
+use Rattle.maxband.specs.Command.{Form, Hold}
+use Rattle.maxband.specs.Lines.{words_line, holds_lines, end_lines}
+use Rattle.maxband.specs.Hold.{Holds, HoldEnds}
+use Rattle.maxband.specs.declared.cause.Cause.{Cause}
+use Rattle.maxband.specs.declared.cause.Cause.TheVariants as cause
+
+-- the answer of `hold`, and its lines
+abbrev pub HoldAnswers : (List ℕ → Option (List ℕ)) → (List ℕ → ℕ) → (List ℕ → ℕ) → List ℕ → List ℕ → Cause → List ℕ → Type 0
+HoldAnswers held before after artery timing cause.Done lines = (value : ℚ) × Holds (held artery) (held timing) value × (lines ≡ holds_lines value)
+HoldAnswers held before after artery timing cause.Memory lines = ⊥
+HoldAnswers held before after artery timing c lines = HoldEnds held before after artery timing c × (lines ≡ end_lines artery timing c)
+
+-- The answer to the words, and its lines. `held` is what the files held at entry, `before` and `after` count the failed reads of each name.
+abbrev pub Answers : (List ℕ → Option (List ℕ)) → (List ℕ → ℕ) → (List ℕ → ℕ) → Option Form → Cause → List ℕ → Type 0
+Answers held before after None c lines = (c ≡ cause.Words) × (lines ≡ words_line)
+Answers held before after (Some (Hold artery timing)) c lines = HoldAnswers held before after artery timing c lines
+
+-- After a write that failed: the answer that was reached, of whose lines a front went out.
+pub record Broke (held : List ℕ → Option (List ℕ)) (before after : List ℕ → ℕ) (form : Option Form) (taken now : Option (List ℕ)) : Type 0 where
+  pub reached : Cause
+  pub lines : List ℕ
+  pub answer : Answers held before after form reached lines
+  pub front : AppendsFront taken now lines
+
+-- how the run ended, and what the output took
+abbrev pub Ends : (List ℕ → Option (List ℕ)) → (List ℕ → ℕ) → (List ℕ → ℕ) → Option Form → Option (List ℕ) → Option (List ℕ) → Cause → Type 0
+Ends held before after form taken now cause.WriteFault = Broke held before after form taken now
+Ends held before after form taken now cause.Memory = now ≡ taken
+Ends held before after form taken now c = (lines : List ℕ) × Answers held before after form c lines × Appends taken now lines

@@ -1,0 +1,57 @@
+//! How a run ends.
+
+ghost use Rattle.std.specs.Prelude.{◌≡◌};
+ghost use Rattle.maxband.specs.Status.{number_of};
+
+use artery_model::Refusal;
+use plan_text::BadText;
+use time_space::Failing;
+
+/// Why a run ends with its status. `file` is 1 or 2: the first or the second file that the command
+/// reads.
+#[derive(Debug, Drop)]
+pub enum Cause {
+    /// The work was done.
+    Done,
+    /// The first file doesn't describe an artery: what is wrong first, and where.
+    Refused(Refusal),
+    /// The second file isn't the text of a timing: its first bad line.
+    BadText(BadText),
+    /// The timing breaks a rule: the first that it breaks.
+    Fails(Failing),
+    /// The words are none of the forms.
+    Words,
+    /// A read of this file failed, and was counted.
+    ReadFault { file: u8 },
+    /// A write failed, and was counted.
+    WriteFault,
+    /// Memory was wanting.
+    Memory,
+    /// This file has more bytes than its limit.
+    TooLong { file: u8 },
+}
+
+/// How a run ends: a number for the system, and the cause.
+#[derive(Debug, Drop)]
+pub struct Status {
+    pub number: u8,
+    pub cause: Cause,
+}
+
+impl Cause {
+    /// The number of the status with this cause.
+    pub fn number(&self) -> u8
+        ensures { result ≡ number_of self.now }
+    {
+        match self {
+            Cause::Done => 0,
+            Cause::Refused(_) | Cause::BadText(_) => 3,
+            Cause::Fails(_) => 4,
+            Cause::Words => 5,
+            Cause::ReadFault { .. } => 6,
+            Cause::WriteFault => 7,
+            Cause::Memory => 8,
+            Cause::TooLong { .. } => 9,
+        }
+    }
+}

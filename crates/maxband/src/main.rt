@@ -1,0 +1,59 @@
+//! `maxband`: tests timings of the signals of one artery against its time-space diagram.
+//!
+//! `run` is the program over any files and any output; `main` hands it the system's. Its contract is
+//! the program's theorem: each status has its cause, and the output grows by exactly that answer's
+//! lines.
+#![tactic(auto)]
+
+mod cause;
+mod command;
+mod finish;
+mod hold;
+mod lines;
+mod top;
+
+#[cfg(test)]
+mod tests;
+
+pub use cause::{Cause, Status};
+pub use top::run;
+
+use outer_edge::{RealFiles, RealOut};
+use std::env;
+use std::io::ErrorKind;
+use std::process::ExitCode;
+
+/// The status for words that the system doesn't give as text. `run` never answers it.
+const NO_WORDS: u8 = 12;
+
+/// The status for want of memory.
+const NO_MEMORY: u8 = 8;
+
+/// The words after the program's name, or the status to end with.
+fn words<R: env::Env + AllocGlobal>(rt: &R) -> Result<Vec<String>, u8> {
+    let args = match env::args(rt) {
+        Ok(args) => args,
+        Err(error) if error.kind() == ErrorKind::OutOfMemory => return Err(NO_MEMORY),
+        Err(_) => return Err(NO_WORDS),
+    };
+    let mut words = Vec::new(rt.alloc());
+    for word in args.skip(1) {
+        if words.push(word).is_err() {
+            return Err(NO_MEMORY);
+        }
+    }
+    Ok(words)
+}
+
+fn main(rt: HostRuntime) -> ExitCode {
+    let words = match words(&rt) {
+        Ok(words) => words,
+        Err(number) => return ExitCode::from(number),
+    };
+    let alloc = rt.alloc();
+    let (Ok(mut files), Ok(mut out)) = (RealFiles::new(&rt, alloc), RealOut::new(&rt, alloc))
+    else {
+        return ExitCode::from(NO_MEMORY);
+    };
+    ExitCode::from(run(alloc, words.as_slice(), &mut files, &mut out).number)
+}
