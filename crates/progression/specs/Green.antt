@@ -1,5 +1,5 @@
 -- Reds are open intervals that come again each cycle, greens are closed: the first tick of a red is green, and so is the tick at which it ends.
-use Rattle.std.specs.Prelude.{ℕ, ◌+◌, ◌-◌, ◌*◌, ◌%◌, ◌≤◌, ◌==◌, nat_le, ◌||◌, Bool, IsTrue, ℤ, pos, negsuc, ◌+ℤ◌, ◌-ℤ◌, if◌then◌else◌}
+use Rattle.std.specs.Prelude.{ℕ, ◌-◌, ◌*◌, ◌%◌, ◌≤◌, ◌==◌, nat_le, ◌||◌, Bool, IsTrue, ℤ, pos, negsuc, ◌+ℤ◌, ◌-ℤ◌, if◌then◌else◌}
 use Rattle.progression.specs.Street.{Street, red_parts, left_against}
 use Rattle.progression.specs.Plan.{Plan, pattern_of, common_red}
 use Rattle.progression.specs.declared.parts.Dir.{Dir}

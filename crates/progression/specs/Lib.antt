@@ -6,3 +6,4 @@ pub mod Lines
 pub mod Good
 pub mod Best
 pub mod Columns
+pub mod Worked

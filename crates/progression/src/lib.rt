@@ -11,6 +11,8 @@
 
 mod parts;
 mod text;
+mod worked;
 
 pub use parts::{Dir, Head, Link, Pair, Signal, Units};
 pub use text::Text;
+pub use worked::law_worked_timings;

@@ -1,0 +1,162 @@
+-- The worked timings, computed.
+use Rattle.std.proofs.Common.{◌≡◌, ℕ, zero, suc, ◌<◌, ◌≤◌, Bool, true, false, refl, arith, ◌⊎◌, inl, inr, subst, sym}
+use Rattle.std.specs.Prelude.{IsTrue, ◌&&◌, ℤ, pos, ◌+ℤ◌}
+use Rattle.ratio.specs.Rational.{whole, over, inverse_ℚ, neg_ℚ, ◌+ℚ◌, ◌*ℚ◌, ◌/ℚ◌, ◌≤ℚ◌}
+use Rattle.ratio.specs.Gcd.{gcd}
+use Rattle.ratio.specs.Laws.{same_cross}
+use Rattle.std.proofs.Common.{true≢false}
+use Rattle.std.proofs.lemmas.Int.{ints}
+use Rattle.progression.specs.Street.{Street, count, HasSignal, HasLink, allows}
+use Rattle.progression.specs.Speeds.{number, run_low, run_high}
+use Rattle.progression.specs.Plan.{Plan, IsPlan, cycle, pattern_of, run, band}
+use Rattle.progression.specs.Good.{Good, RatioHolds}
+use Rattle.progression.specs.Best.{weighted_band}
+use Rattle.progression.specs.Green.{is_green, red_start, red_ticks}
+use Rattle.progression.specs.Lines.{stop, crossing, IsGreenAt, IsGreenWay}
+use Rattle.progression.specs.Worked.{two_signals, timing, with_clearance, with_lefts, one_way}
+use Rattle.progression.specs.declared.parts.Dir.{Dir}
+use Rattle.progression.specs.declared.parts.Dir.TheVariants.{Outbound, Inbound}
+
+-- the test passes from 0 to n - 1
+abbrev all_below : (ℕ → Bool) → ℕ → Bool
+all_below test zero = true
+all_below test (suc n) = test n && all_below test n
+
+and_parts : (a b : Bool) → a && b ≡ true → (a ≡ true) × (b ≡ true)
+and_parts true true e = (refl, refl)
+and_parts true false e = absurd cc
+and_parts false b e = absurd cc
+
+last_or_before : (t n : ℕ) → t < suc n → (t < n) ⊎ (t ≡ n)
+last_or_before t n l = grind arith
+
+each_below : (test : ℕ → Bool) (n t : ℕ) → all_below test n ≡ true → t < n → IsTrue (test t)
+each_below test zero t e l = absurd (omega arith)
+each_below test (suc n) t e l =
+    let parts = and_parts (test n) (all_below test n) e in
+    elim (last_or_before t n l) [ inl h ↦ each_below test n t parts.1 h | inr h ↦ subst (λ k. IsTrue (test k)) (sym h) parts.0 ]
+
+each_to : (test : ℕ → Bool) (n t : ℕ) → all_below test (suc n) ≡ true → t ≤ n → IsTrue (test t)
+each_to test n t e l = each_below test (suc n) t e (omega arith)
+
+-- what holds at both signals holds at each
+at_two : (P : ℕ → Type 0) → P 1 → P 2 → (i : ℕ) → HasSignal two_signals i → P i
+at_two P p q zero h = absurd (omega (arith, h.0))
+at_two P p q (suc zero) h = p
+at_two P p q (suc (suc zero)) h = q
+at_two P p q (suc (suc (suc i))) h = absurd (omega (arith, h.1))
+
+at_one : (P : ℕ → Type 0) → P 1 → (i : ℕ) → HasLink two_signals i → P i
+at_one P p zero h = absurd (omega (arith, h.0))
+at_one P p (suc zero) h = p
+at_one P p (suc (suc i)) h = absurd (omega (arith, h.1))
+
+-- a place of a way with two signals
+at_two_places : (P : ℕ → Type 0) → P 0 → P 1 → (j : ℕ) → j < 2 → P j
+at_two_places P p q zero h = p
+at_two_places P p q (suc zero) h = q
+at_two_places P p q (suc (suc j)) h = absurd (omega arith)
+
+both : (P : Dir → Type 0) → P Outbound → P Inbound → (d : Dir) → P d
+both P p q Outbound = p
+both P p q Inbound = q
+
+plan : (run : ℕ) (first_out : ℤ) (band_out band_in : ℕ) → IsPlan (timing 2 run first_out band_out band_in)
+plan run first_out band_out band_in = record { grid = omega arith; unit = omega arith; reds = refl; run_out = refl; run_in = refl }
+
+-- a timing of two ticks a second whose bands are green
+good : (first_out : ℤ) (band_out band_in : ℕ)
+    → RatioHolds (number 1) band_out band_in
+    → IsGreenWay two_signals (timing 2 100 first_out band_out band_in) Outbound
+    → IsGreenWay two_signals (timing 2 100 first_out band_out band_in) Inbound
+    → Good two_signals (timing 2 100 first_out band_out band_in)
+unfolding whole over inverse_ℚ ◌*ℚ◌ gcd
+good first_out band_out band_in r out back = record {
+  plan = plan 100 first_out band_out band_in;
+  shape = refl;
+  patterns = at_two (λ i. IsTrue (allows two_signals i (pattern_of (timing 2 100 first_out band_out band_in) i))) refl refl;
+  cycle_least = record { cross = omega (arith, ints) };
+  cycle_most = record { cross = omega (arith, ints) };
+  fast = both (λ d. (i : ℕ) → HasLink two_signals i → (run_low two_signals d i *ℚ number 2) ≤ℚ number (run (timing 2 100 first_out band_out band_in) d i))
+      (at_one (λ i. (run_low two_signals Outbound i *ℚ number 2) ≤ℚ number (run (timing 2 100 first_out band_out band_in) Outbound i)) (record { cross = omega (arith, ints) }))
+      (at_one (λ i. (run_low two_signals Inbound i *ℚ number 2) ≤ℚ number (run (timing 2 100 first_out band_out band_in) Inbound i)) (record { cross = omega (arith, ints) }));
+  slow = both (λ d. (i : ℕ) → HasLink two_signals i → number (run (timing 2 100 first_out band_out band_in) d i) ≤ℚ (run_high two_signals d i *ℚ number 2))
+      (at_one (λ i. number (run (timing 2 100 first_out band_out band_in) Outbound i) ≤ℚ (run_high two_signals Outbound i *ℚ number 2)) (record { cross = omega (arith, ints) }))
+      (at_one (λ i. number (run (timing 2 100 first_out band_out band_in) Inbound i) ≤ℚ (run_high two_signals Inbound i *ℚ number 2)) (record { cross = omega (arith, ints) }));
+  rise = λ d i h k. absurd (omega (arith, h.0, k.1));
+  drop = λ d i h k. absurd (omega (arith, h.0, k.1));
+  ratio = r;
+  outbound = out;
+  inbound = back;
+}
+
+-- whether the line of the band that comes t ticks after its first crosses the j-th signal in green
+abbrev tick_test : Street → Plan → Dir → ℕ → ℕ → Bool
+tick_test a p d j t = let i = stop d (count a) j in
+    is_green (cycle a p) (red_start a p d i) (red_ticks a p d i) (crossing a p d j +ℤ pos t)
+
+by_test : (a : Street) (p : Plan) (d : Dir) (j : ℕ) → all_below (tick_test a p d j) (suc (band p d)) ≡ true → IsGreenAt a p d j
+by_test a p d j e = λ t l. each_to (tick_test a p d j) (band p d) t e l
+
+way_by_test : (a : Street) (p : Plan) (d : Dir) → count a ≡ 2 → all_below (tick_test a p d 0) (suc (band p d)) ≡ true → all_below (tick_test a p d 1) (suc (band p d)) ≡ true → IsGreenWay a p d
+way_by_test a p d n e f = λ j l. at_two_places (IsGreenAt a p d) (by_test a p d 0 e) (by_test a p d 1 f) j (omega (arith, n))
+
+pub whole_greens : Good two_signals (timing 2 100 (pos 100) 100 100)
+unfolding whole over ◌+ℚ◌ neg_ℚ ◌*ℚ◌ gcd
+whole_greens = let p = timing 2 100 (pos 100) 100 100 in
+    good (pos 100) 100 100 (record { cross = omega (arith, ints) }) (way_by_test two_signals p Outbound refl refl refl) (way_by_test two_signals p Inbound refl refl refl)
+
+pub line_at_red : Good two_signals (timing 2 100 (pos 200) 0 0)
+unfolding whole over ◌+ℚ◌ neg_ℚ ◌*ℚ◌ gcd
+line_at_red = let p = timing 2 100 (pos 200) 0 0 in
+    good (pos 200) 0 0 (record { cross = omega (arith, ints) }) (way_by_test two_signals p Outbound refl refl refl) (way_by_test two_signals p Inbound refl refl refl)
+
+pub their_band : weighted_band two_signals (timing 2 100 (pos 100) 100 100) ≡ number 1
+unfolding whole over inverse_ℚ ◌+ℚ◌ ◌*ℚ◌ gcd
+their_band = same_cross _ _ refl
+
+pub too_wide : Good two_signals (timing 2 100 (pos 100) 101 100) → ⊥
+too_wide g = true≢false (sym (g.outbound 0 (omega arith) 101 (omega arith)))
+
+pub in_the_red : Good two_signals (timing 2 100 (pos 50) 0 0) → ⊥
+in_the_red g = true≢false (sym (g.outbound 0 (omega arith) 0 (omega arith)))
+
+pub too_long : Good two_signals (timing 1 100 (pos 100) 100 100) → ⊥
+unfolding whole over ◌*ℚ◌ gcd
+too_long g = let c = g.cycle_most.cross in absurd (omega (arith, ints, c))
+
+pub too_fast : Good two_signals (timing 2 99 (pos 100) 100 100) → ⊥
+unfolding whole over inverse_ℚ ◌*ℚ◌ gcd
+too_fast g = let c = (g.fast Outbound 1 (omega arith, omega arith)).cross in absurd (omega (arith, ints, c))
+
+pub late_for_clearance : Good with_clearance (timing 2 100 (pos 100) 100 100) → ⊥
+late_for_clearance g = true≢false (sym (g.outbound 1 (omega arith) 0 (omega arith)))
+
+-- the band's tick 231 lies in the red that the lagging left turn moved
+pub lagging_left : Good with_lefts (one_way 1) → ⊥
+lagging_left g = true≢false (sym (g.outbound 1 (omega arith) 81 (omega arith)))
+
+pub leading_lefts : Good with_lefts (one_way 3)
+unfolding whole over inverse_ℚ ◌+ℚ◌ neg_ℚ ◌*ℚ◌ gcd
+leading_lefts = let p = one_way 3 in record {
+  plan = record { grid = omega arith; unit = omega arith; reds = refl; run_out = refl; run_in = refl };
+  shape = refl;
+  patterns = at_two (λ i. IsTrue (allows with_lefts i (pattern_of p i))) refl refl;
+  cycle_least = record { cross = omega (arith, ints) };
+  cycle_most = record { cross = omega (arith, ints) };
+  fast = both (λ d. (i : ℕ) → HasLink with_lefts i → (run_low with_lefts d i *ℚ number 2) ≤ℚ number (run p d i))
+      (at_one (λ i. (run_low with_lefts Outbound i *ℚ number 2) ≤ℚ number (run p Outbound i)) (record { cross = omega (arith, ints) }))
+      (at_one (λ i. (run_low with_lefts Inbound i *ℚ number 2) ≤ℚ number (run p Inbound i)) (record { cross = omega (arith, ints) }));
+  slow = both (λ d. (i : ℕ) → HasLink with_lefts i → number (run p d i) ≤ℚ (run_high with_lefts d i *ℚ number 2))
+      (at_one (λ i. number (run p Outbound i) ≤ℚ (run_high with_lefts Outbound i *ℚ number 2)) (record { cross = omega (arith, ints) }))
+      (at_one (λ i. number (run p Inbound i) ≤ℚ (run_high with_lefts Inbound i *ℚ number 2)) (record { cross = omega (arith, ints) }));
+  rise = λ d i h k. absurd (omega (arith, h.0, k.1));
+  drop = λ d i h k. absurd (omega (arith, h.0, k.1));
+  ratio = record { cross = omega (arith, ints) };
+  outbound = way_by_test with_lefts p Outbound refl refl refl;
+  inbound = way_by_test with_lefts p Inbound refl refl refl;
+}
+
+pub half_a_cycle : weighted_band with_lefts (one_way 3) ≡ number 1 /ℚ number 2
+unfolding whole over inverse_ℚ ◌+ℚ◌ ◌*ℚ◌ gcd
+half_a_cycle = same_cross _ _ refl
