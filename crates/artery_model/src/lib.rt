@@ -5,6 +5,7 @@
 
 mod artery;
 mod kind;
+mod runs;
 
 pub use artery::Artery;
 pub use kind::{Flaw, Kind, Refusal};
