@@ -45,14 +45,14 @@ apart_ratio r1 d1 r2 d2 h k =
     (mul-pos h k) (omega arith)
 
 -- a product with a difference, in naturals
-difference_times : (n a b : ℕ) → (up (pos n *ℤ (pos a -ℤ pos b)) + n * b) ≡ (down (pos n *ℤ (pos a -ℤ pos b)) + n * a)
+difference_times : (n a b : ℕ) → (up ((pos a -ℤ pos b) *ℤ pos n) + b * n) ≡ (down ((pos a -ℤ pos b) *ℤ pos n) + a * n)
 difference_times n a b =
     let e : up (pos a -ℤ pos b) + b ≡ down (pos a -ℤ pos b) + a = omega (arith, ints) in
-    omega (arith, ints, ap (λ k. n * k) e)
+    omega (arith, ints, ap (λ k. k * n) e)
 
 -- the change of pace is at least a limit
 pub drop_is : (x : ℚ) (g r1 d1 r2 d2 : ℕ) → 0 < d1 → 0 < d2
-    → ((x.num *ℤ pos (g * (d1 * d2))) ≤ℤ (pos x.den *ℤ (pos (r2 * d1) -ℤ pos (r1 * d2)))) ↔ ((x *ℚ number g) ≤ℚ paces_apart r1 d1 r2 d2)
+    → ((x.num *ℤ pos (g * (d1 * d2))) ≤ℤ ((pos (r2 * d1) -ℤ pos (r1 * d2)) *ℤ pos x.den)) ↔ ((x *ℚ number g) ≤ℚ paces_apart r1 d1 r2 d2)
 drop_is x g r1 d1 r2 d2 p q = (
   (λ h. ≤ℚ_in _ _ _ _ _ _ _ _ (grid_ratio x g) (apart_ratio r1 d1 r2 d2 p q) (omega (arith, ints, h, difference_times x.den (r2 * d1) (r1 * d2)))),
   (λ h. let e = ≤ℚ_out _ _ _ _ _ _ _ _ (grid_ratio x g) (apart_ratio r1 d1 r2 d2 p q) h in omega (arith, ints, e, difference_times x.den (r2 * d1) (r1 * d2))),
@@ -60,7 +60,7 @@ drop_is x g r1 d1 r2 d2 p q = (
 
 -- the change of pace is at most a limit
 pub rise_is : (x : ℚ) (g r1 d1 r2 d2 : ℕ) → 0 < d1 → 0 < d2
-    → ((pos x.den *ℤ (pos (r2 * d1) -ℤ pos (r1 * d2))) ≤ℤ (x.num *ℤ pos (g * (d1 * d2)))) ↔ (paces_apart r1 d1 r2 d2 ≤ℚ (x *ℚ number g))
+    → (((pos (r2 * d1) -ℤ pos (r1 * d2)) *ℤ pos x.den) ≤ℤ (x.num *ℤ pos (g * (d1 * d2)))) ↔ (paces_apart r1 d1 r2 d2 ≤ℚ (x *ℚ number g))
 rise_is x g r1 d1 r2 d2 p q = (
   (λ h. ≤ℚ_in _ _ _ _ _ _ _ _ (apart_ratio r1 d1 r2 d2 p q) (grid_ratio x g) (omega (arith, ints, h, difference_times x.den (r2 * d1) (r1 * d2)))),
   (λ h. let e = ≤ℚ_out _ _ _ _ _ _ _ _ (apart_ratio r1 d1 r2 d2 p q) (grid_ratio x g) h in omega (arith, ints, e, difference_times x.den (r2 * d1) (r1 * d2))),

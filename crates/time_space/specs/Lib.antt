@@ -2,3 +2,4 @@ pub mod Timing
 pub mod Sizes
 pub mod FirstRed
 pub mod Limits
+pub mod Blocked

@@ -5,6 +5,7 @@
 //! `Timing::new`, then `holds`.
 #![tactic(auto)]
 
+mod diagram;
 mod green;
 mod limits;
 mod timing;

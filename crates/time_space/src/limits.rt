@@ -83,12 +83,12 @@ fn change_of(paces: Paces) -> i128
         - (paces.run * u128::from(paces.next_distance)) as i128
 }
 
-fn scaled(den: i128, change: i128) -> i128
-    requires den { unsigned_abs den < 2 ^ 23 }
+fn scaled(change: i128, den: u128) -> i128
     requires change { unsigned_abs change < 2 ^ 95 }
-    ensures { result ≡ den *ℤ change }
+    requires den { den ≤ 5280000 }
+    ensures { result ≡ change *ℤ pos den }
 {
-    den * change
+    change * den as i128
 }
 
 /// Whether the pace changes by at least `limit`.
@@ -106,7 +106,7 @@ pub fn is_change_at_least(paces: Paces, limit: Frac, grid: u128) -> bool
     ensures { IsTrue result ↔ ((limit *ℚ number grid) ≤ℚ paces_apart paces.run paces.distance paces.next_run paces.next_distance) }
 {
     let bound = weighed(limit.num(), area(grid, paces.distance, paces.next_distance));
-    bound <= scaled(limit.den(), change_of(paces))
+    bound <= scaled(change_of(paces), limit.den() as u128)
 }
 
 /// Whether the pace changes by at most `limit`.
@@ -124,7 +124,7 @@ pub fn is_change_at_most(paces: Paces, limit: Frac, grid: u128) -> bool
     ensures { IsTrue result ↔ (paces_apart paces.run paces.distance paces.next_run paces.next_distance ≤ℚ (limit *ℚ number grid)) }
 {
     let bound = weighed(limit.num(), area(grid, paces.distance, paces.next_distance));
-    scaled(limit.den(), change_of(paces)) <= bound
+    scaled(change_of(paces), limit.den() as u128) <= bound
 }
 
 /// A product of two numbers of a ratio.
