@@ -10,10 +10,10 @@ use native.Mathlib.Nat.{one-dvd, dvd-mul_left}
 use Rattle.ratio.specs.Gcd.{gcd}
 use Rattle.ratio.specs.Coprime.{Coprime-cancel}
 use Rattle.ratio.specs.Fractions.{IsGcd-one, gcd-is, gcd_pos, times_part, part_pos, parts_reduced}
-use Rattle.ratio.specs.Rational.{ℚ, over, ◌*ℚ◌}
+use Rattle.ratio.specs.Rational.{ℚ, over, neg_ℚ, quotient, ◌*ℚ◌}
 use Rattle.ratio.specs.Integers.{up-neg, down-neg}
 use Rattle.ratio.specs.Laws.{same_ratio, over_ratio}
-use Rattle.ratio.specs.Lowest.{over-own, over-lowest}
+use Rattle.ratio.specs.Lowest.{over-own, over-lowest, over-neg_ℤ, quotient-pos, quotient-negsuc}
 use Rattle.narrow_fraction.specs.Fraction.{FitsFrac, signed}
 
 pub abs-signed : (b : Bool) (n : ℕ) → unsigned_abs (signed b n) ≡ n
@@ -129,3 +129,33 @@ signed-times (negsuc a) (negsuc b) = refl
 pub product-over : (x y : ℚ) → over (x.num *ℤ y.num) (x.den * y.den) ≡ x *ℚ y
 unfolding ◌*ℚ◌
 product-over x y = refl
+
+-- ---- quotients of two signs
+not-beq_false : (b : Bool) → not (beq b false) ≡ b
+not-beq_false true = refl
+not-beq_false false = refl
+
+not-beq_true : (b : Bool) → not (beq b true) ≡ not b
+not-beq_true true = refl
+not-beq_true false = refl
+
+signed-not : (b : Bool) (n : ℕ) → signed (not b) n ≡ neg_ℤ (signed b n)
+signed-not true zero = refl
+signed-not true (suc n) = refl
+signed-not false n = refl
+
+-- the reduced sizes with the sign of the quotient
+pub quotient-parts : (n d : ℤ) → 0 < unsigned_abs d
+    → over (signed (not (beq (int_lt n (pos 0)) (int_lt d (pos 0)))) (unsigned_abs n / gcd (unsigned_abs n) (unsigned_abs d))) (unsigned_abs d / gcd (unsigned_abs n) (unsigned_abs d)) ≡ quotient n d
+quotient-parts n (pos d) h =
+    ap (λ b. over (signed b (unsigned_abs n / gcd (unsigned_abs n) d)) (d / gcd (unsigned_abs n) d)) (ap (λ b. not (beq (int_lt n (pos 0)) b)) (not_negative d) ∙ not-beq_false (int_lt n (pos 0)))
+    ∙ over-parts n d h ∙ sym (quotient-pos n d)
+quotient-parts n (negsuc d) h =
+    let m = unsigned_abs n / gcd (unsigned_abs n) (suc d) in
+    let e = suc d / gcd (unsigned_abs n) (suc d) in
+    let b = int_lt n (pos 0) in
+    ap (λ z. over z e) (ap (λ t. signed t m) (not-beq_true b) ∙ signed-not b m)
+    ∙ over-neg_ℤ (signed b m) e (part_pos (unsigned_abs n) (suc d) h)
+    ∙ ap neg_ℚ (over-parts n (suc d) h)
+    ∙ sym (over-neg_ℤ n (suc d) h)
+    ∙ sym (quotient-negsuc n d)

@@ -1,6 +1,5 @@
 -- A fraction of two 128-bit numbers, and the rational number that it is.
-use Rattle.std.specs.Prelude.{◌≡◌, ◌+ℤ◌, ◌*ℤ◌, ◌*◌, ◌/◌, FitsSigned, ℕ, ℤ, pos, ◌<◌, ◌<ℤ◌, ◌^◌, unsigned_abs, Bool, true, false, neg_ℤ}
-use Rattle.std.specs.Int.{w128}
+use Rattle.std.specs.Prelude.{◌≡◌, ℕ, ℤ, pos, ◌<◌, ◌<ℤ◌, ◌^◌, unsigned_abs, Bool, true, false, neg_ℤ}
 use Rattle.std.specs.Coded.{Coded, coded×, coded_ℤ, coded_ℕ, code_by}
 use Rattle.ratio.specs.Gcd.{gcd}
 use Rattle.ratio.specs.Rational.{ℚ, over}
@@ -24,10 +23,3 @@ pub record IsLowest (num den : ℤ) : Type 0 where
 abbrev pub signed : Bool → ℕ → ℤ
 signed true n = neg_ℤ (pos n)
 signed false n = pos n
-
--- the steps of a sum fit: each numerator over the least common denominator, their sum, and that denominator
-pub record SumSteps (x y : ℚ) : Type 0 where
-  pub left : FitsSigned w128 (x.num *ℤ pos (y.den / gcd x.den y.den))
-  pub right : FitsSigned w128 (y.num *ℤ pos (x.den / gcd x.den y.den))
-  pub top : FitsSigned w128 (x.num *ℤ pos (y.den / gcd x.den y.den) +ℤ y.num *ℤ pos (x.den / gcd x.den y.den))
-  pub bottom : x.den / gcd x.den y.den * y.den < 2 ^ 127

@@ -1,2 +1,3 @@
 pub mod Fraction
 pub mod Views
+pub mod Made

@@ -1,19 +1,17 @@
-ghost use Rattle.std.specs.Prelude.{◌≡◌, ◌↔◌, IsTrue, ◌^◌, ◌*◌, nat_eq, int_lt, ◌<◌, ◌<ℤ◌, ◌≤ℤ◌, pos, unsigned_abs, OkIff};
-ghost use Rattle.ratio.specs.Rational.{whole, abs_ℚ, inverse_ℚ, over, neg_ℚ, ◌+ℚ◌, ◌*ℚ◌, ◌<ℚ◌, ◌≤ℚ◌};
+ghost use Rattle.std.specs.Prelude.{◌≡◌, ◌^◌, nat_eq, int_lt, ◌<◌, ◌≤ℤ◌, pos, unsigned_abs, SomeIff};
+ghost use Rattle.ratio.specs.Rational.{whole, abs_ℚ, over, neg_ℚ, ◌<ℚ◌};
 ghost use Rattle.ratio.specs.Compare.{cmp_ℚ};
 ghost use Rattle.ratio.specs.Floor.{floor_ℚ};
-ghost use Rattle.narrow_fraction.specs.Fraction.{FitsFrac, SumSteps, signed};
+ghost use Rattle.narrow_fraction.specs.Fraction.{FitsFrac, signed};
+ghost use Rattle.narrow_fraction.specs.Made.{IsMade};
 ghost use Rattle.std.specs.Ordering.{MatchOrdering};
 ghost use Rattle.ratio.specs.Gcd.{gcd};
 
 use crate::compare::compare_sizes;
 use crate::divisor::common_divisor;
+use crate::unfit::Unfit;
 use std::cmp::Ordering;
 use std::marker::Model;
-
-/// A step did not fit 128 bits.
-#[derive(Debug, Clone, Copy, PartialEq, Eq)]
-pub struct Wide;
 
 /// A rational number in lowest terms.
 #[derive(Debug, Clone, Copy)]
@@ -42,40 +40,21 @@ impl Model for Frac {
 }
 
 /// The fraction of these two numbers, which have no common divisor, with this sign.
-fn build(negative: bool, top: u128, bottom: u128) -> Result<Frac, Wide>
+fn build(negative: bool, top: u128, bottom: u128) -> Option<Frac>
     requires above { 0 < bottom }
     requires reduced { gcd top bottom ≡ 1 }
-    ensures { OkIff result (FitsFrac (over (signed negative top) bottom)) (over (signed negative top) bottom) }
+    ensures { SomeIff result (FitsFrac (over (signed negative top) bottom)) (over (signed negative top) bottom) }
 {
     let most = i128::MAX as u128;
     if top > most || bottom > most {
-        return Err(Wide);
+        return None;
     }
     let size = top as i128;
     let num = if negative { -size } else { size };
-    Ok(Frac {
+    Some(Frac {
         num,
         den: bottom as i128,
     })
-}
-
-/// The product of `a / b` and `c / d`, with this sign.
-fn product(negative: bool, a: u128, b: u128, c: u128, d: u128) -> Result<Frac, Wide>
-    requires b { 0 < b }
-    requires d { 0 < d }
-    requires left { gcd a b ≡ 1 }
-    requires right { gcd c d ≡ 1 }
-    ensures { OkIff result (FitsFrac (over (signed negative (a * c)) (b * d))) (over (signed negative (a * c)) (b * d)) }
-{
-    let left = common_divisor(a, d);
-    let right = common_divisor(c, b);
-    let Some(top) = (a / left).checked_mul(c / right) else {
-        return Err(Wide);
-    };
-    let Some(bottom) = (b / right).checked_mul(d / left) else {
-        return Err(Wide);
-    };
-    build(negative, top, bottom)
 }
 
 /// A sign and two sizes.
@@ -101,30 +80,41 @@ impl Frac {
         }
     }
 
-    /// `num / den` in lowest terms.
-    pub fn new(num: i128, den: i128) -> Result<Frac, Wide>
-        requires { pos 0 <ℤ den }
-        ensures { OkIff result (FitsFrac (over num (unsigned_abs den))) (over num (unsigned_abs den)) }
+    /// `num / den` in lowest terms, for any two numbers.
+    ///
+    /// `ZeroDen` comes exactly where `den` is 0, and `Width` exactly where a number of the reduced fraction is more
+    /// than `2^127 - 1` in size.
+    pub fn new(num: i128, den: i128) -> Result<Frac, Unfit>
+        ensures { IsMade num den result }
     {
+        if den == 0 {
+            return Err(Unfit::ZeroDen);
+        }
         let top = num.unsigned_abs();
         let bottom = den.unsigned_abs();
         let shared = common_divisor(top, bottom);
-        build(num < 0, top / shared, bottom / shared)
+        let negative = (num < 0) != (den < 0);
+        match build(negative, top / shared, bottom / shared) {
+            Some(fraction) => Ok(fraction),
+            None => Err(Unfit::Width),
+        }
     }
 
-    /// The product, or `Wide` exactly where it does not fit in lowest terms.
-    pub fn times(self, other: Frac) -> Result<Frac, Wide>
-        ensures { OkIff result (FitsFrac (self *ℚ other)) (self *ℚ other) }
+    /// The numerator, at most `2^127 - 1` in size.
+    pub fn num(&self) -> i128
+        ensures value { result ≡ self.now.num }
+        ensures size { unsigned_abs result < 2 ^ 127 }
     {
-        let left = self.parts();
-        let right = other.parts();
-        product(
-            left.negative != right.negative,
-            left.top,
-            left.bottom,
-            right.top,
-            right.bottom,
-        )
+        self.num
+    }
+
+    /// The denominator, from 1 to `2^127 - 1`.
+    pub fn den(&self) -> i128
+        ensures value { result ≡ pos self.now.den }
+        ensures least { pos 1 ≤ℤ result }
+        ensures size { unsigned_abs result < 2 ^ 127 }
+    {
+        self.den
     }
 
     /// The greatest whole number that is not above this one.
@@ -134,76 +124,14 @@ impl Frac {
         self.num.div_euclid(self.den)
     }
 
-    fn numerator(self) -> i128
-        ensures value { result ≡ self.num }
-        ensures fits { unsigned_abs result < 2 ^ 127 }
-    {
-        self.num
-    }
-
-    /// The sum, or `Wide` exactly where a step or the sum does not fit.
-    pub fn plus(self, other: Frac) -> Result<Frac, Wide>
-        ensures { OkIff result (SumSteps self other × FitsFrac (self +ℚ other)) (self +ℚ other) }
-    {
-        let b = self.parts().bottom;
-        let d = other.parts().bottom;
-        let shared = common_divisor(b, d);
-        let Some(left) = self.numerator().checked_mul((d / shared) as i128) else {
-            return Err(Wide);
-        };
-        let Some(right) = other.numerator().checked_mul((b / shared) as i128) else {
-            return Err(Wide);
-        };
-        let Some(top) = left.checked_add(right) else {
-            return Err(Wide);
-        };
-        let Some(bottom) = ((b / shared) as i128).checked_mul(d as i128) else {
-            return Err(Wide);
-        };
-        Frac::new(top, bottom)
-    }
-
     pub fn abs(self) -> Frac
         ensures { result ≡ abs_ℚ self }
     {
         if self.num < 0 { self.neg() } else { self }
     }
 
-    /// The difference, or `Wide` exactly where a step or the difference does not fit.
-    pub fn minus(self, other: Frac) -> Result<Frac, Wide>
-        ensures { OkIff result (SumSteps self (neg_ℚ other) × FitsFrac (self +ℚ neg_ℚ other)) (self +ℚ neg_ℚ other) }
-    {
-        self.plus(other.neg())
-    }
-
-    /// One over this number.
-    pub fn reciprocal(self) -> Frac
-        requires { self ≡ whole (pos 0) → ⊥ }
-        ensures { result ≡ inverse_ℚ self }
-    {
-        if self.num < 0 {
-            Frac {
-                num: -self.den,
-                den: -self.num,
-            }
-        } else {
-            Frac {
-                num: self.den,
-                den: self.num,
-            }
-        }
-    }
-
-    /// The quotient, or `Wide` exactly where it does not fit in lowest terms.
-    pub fn over(self, other: Frac) -> Result<Frac, Wide>
-        requires { other ≡ whole (pos 0) → ⊥ }
-        ensures { OkIff result (FitsFrac (self *ℚ inverse_ℚ other)) (self *ℚ inverse_ℚ other) }
-    {
-        self.times(other.reciprocal())
-    }
-
     /// The order, exact at any two values.
-    pub fn order(self, other: Frac) -> Ordering
+    fn order(self, other: Frac) -> Ordering
         ensures value { result ≡ cmp_ℚ self other }
         ensures says { MatchOrdering result (self <ℚ other) (self ≡ other) (other <ℚ self) }
     {
@@ -290,11 +218,4 @@ impl Ord for Frac {
     fn cmp(&self, other: &Frac) -> Ordering {
         self.order(*other)
     }
-}
-
-pub fn smaller(a: Frac, b: Frac) -> Frac
-    ensures left { result ≤ℚ a }
-    ensures right { result ≤ℚ b }
-{
-    if a < b { a } else { b }
 }

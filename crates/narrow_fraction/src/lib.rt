@@ -1,40 +1,24 @@
-//! Exact rational numbers over 128-bit integers.
+//! Exact fractions of two numbers of 128 bits with a sign.
+//!
+//! A `Frac` is seen as the rational number that it is (`ratio`'s `ℚ`), always in lowest terms, with its denominator
+//! from 1 to `2^127 - 1` and its numerator at most `2^127 - 1` in size. Begin with `Frac::new` or `Frac::whole`.
+//!
+//! A crate that compares two `Frac`s writes at the head of its `lib.rt`
+//!
+//! `#![tactic(auto, using(ratio::specs::Compare::ne_false, ratio::specs::Compare::eq_true, ratio::specs::Compare::lt_true, ratio::specs::Compare::lt_false, ratio::specs::Compare::le_true, ratio::specs::Compare::le_false))]`
+//!
+//! and then `a < b`, `a <= b` and `a == b` are `<ℚ`, `≤ℚ` and `≡` to the goals after the test. From the clause of
+//! `Frac::new`, `specs/Made.antt` has `made`: a quotient that fits is answered.
 #![tactic(auto)]
 
 mod compare;
 mod divisor;
 mod frac;
 mod memory;
+mod unfit;
+mod wide;
 
-pub use compare::compare_sizes;
-pub use divisor::common_divisor;
-pub use frac::{Frac, Wide};
+pub use frac::Frac;
 pub use memory::Memory;
-
-#[cfg(test)]
-mod tests {
-    use crate::Frac;
-    use std::cmp::Ordering;
-    use std::rt::HostRuntime;
-
-    #[test]
-    fn near_the_limit(rt: HostRuntime) {
-        let big = i128::MAX;
-        let near = big - 1;
-        if let Ok(a) = Frac::new(near, big) {
-            if let Ok(b) = Frac::new(near - 1, near) {
-                assert_eq!(rt; a.order(b), Ordering::Greater);
-                assert!(rt; a.times(b).is_ok());
-                assert!(rt; a.plus(b).is_err());
-            }
-        }
-        assert!(rt; Frac::new(i128::MIN, 1).is_err());
-        if let Ok(half) = Frac::new(-3, 6) {
-            assert_eq!(rt; half.floor(), -1);
-            if let Ok(sum) = half.plus(half) {
-                assert!(rt; sum.is_whole());
-                assert!(rt; sum == Frac::whole(-1));
-            }
-        }
-    }
-}
+pub use unfit::Unfit;
+pub use wide::{Op, Wide};

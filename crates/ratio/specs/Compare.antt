@@ -1,7 +1,7 @@
 -- The order of the rational numbers, as `cmp` answers it.
 use Rattle.std.proofs.Common.{◌≡◌, pos, ◌*ℤ◌, ◌<ℤ◌, Ordering, Less, Equal, Greater, Bool, not, true, false, true≢false, refl, sym, ◌∙◌, ap}
 use Rattle.std.specs.Cmp.{IsTotalOrder, IsEquivalence, IsPartialEquivalence, IsPartialOrder, int_cmp_is, partial_equiv_from_equiv, partial_order_from_total}
-use Rattle.std.specs.Ordering.{is_lt, is_eq, int_cmp, MatchOrdering, eq_by_cmp, as_partial_cmp}
+use Rattle.std.specs.Ordering.{is_lt, is_le, is_eq, int_cmp, MatchOrdering, eq_by_cmp, as_partial_cmp}
 use Rattle.std.proofs.lemmas.Cmp.{int_ranked, int_cmp_total, eq_by_cmp_equiv}
 use Rattle.ratio.specs.Rational.{ℚ, ◌<ℚ◌, ◌≤ℚ◌}
 use Rattle.ratio.specs.Laws.{same_cross}
@@ -67,6 +67,23 @@ lt_true x y e = lt_by x y (cmp_ℚ x y) (ranked_ℚ x y (cmp_ℚ x y) refl) e
 
 pub lt_false : (x y : ℚ) → false ≡ is_lt (cmp_ℚ x y) → y ≤ℚ x
 lt_false x y e = ge_by x y (cmp_ℚ x y) (ranked_ℚ x y (cmp_ℚ x y) refl) e
+
+le_by : (x y : ℚ) (o : Ordering) → MatchOrdering o (x <ℚ y) (x ≡ y) (y <ℚ x) → true ≡ is_le o → x ≤ℚ y
+le_by x y Less h e = <ℚ-≤ℚ x y h
+le_by x y Equal h e = rw h (≤ℚ_refl y)
+le_by x y Greater h e = absurd (true≢false e)
+
+gt_by : (x y : ℚ) (o : Ordering) → MatchOrdering o (x <ℚ y) (x ≡ y) (y <ℚ x) → false ≡ is_le o → y <ℚ x
+gt_by x y Less h e = absurd (true≢false (sym e))
+gt_by x y Equal h e = absurd (true≢false (sym e))
+gt_by x y Greater h e = h
+
+-- `x <= y`, which is also `y >= x`
+pub le_true : (x y : ℚ) → true ≡ is_le (cmp_ℚ x y) → x ≤ℚ y
+le_true x y e = le_by x y (cmp_ℚ x y) (ranked_ℚ x y (cmp_ℚ x y) refl) e
+
+pub le_false : (x y : ℚ) → false ≡ is_le (cmp_ℚ x y) → y <ℚ x
+le_false x y e = gt_by x y (cmp_ℚ x y) (ranked_ℚ x y (cmp_ℚ x y) refl) e
 
 eq_by : (x y : ℚ) (o : Ordering) → MatchOrdering o (x <ℚ y) (x ≡ y) (y <ℚ x) → true ≡ is_eq o → x ≡ y
 eq_by x y Less h e = absurd (true≢false e)

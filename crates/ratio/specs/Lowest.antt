@@ -1,8 +1,9 @@
 -- A rational number is the quotient of its own numerator and denominator.
-use Rattle.std.proofs.Common.{◌≡◌, ℕ, ℤ, ◌<◌, ap, arith, unsigned_abs}
+use Rattle.std.proofs.Common.{◌≡◌, ℕ, ℤ, pos, negsuc, neg_ℤ, suc, ◌<◌, refl, ap, arith, unsigned_abs}
+use Rattle.ratio.specs.Integers.{up-neg, down-neg}
 use Rattle.ratio.specs.Gcd.{gcd}
-use Rattle.ratio.specs.Rational.{ℚ, over}
-use Rattle.ratio.specs.Laws.{same_ratio, over_ratio, own_ratio}
+use Rattle.ratio.specs.Rational.{ℚ, over, neg_ℚ, quotient}
+use Rattle.ratio.specs.Laws.{same_ratio, over_ratio, own_ratio, neg_ratio}
 
 pub over-own : (x : ℚ) → over x.num x.den ≡ x
 over-own x = same_ratio _ _ _ _ _ _ _ _ (over_ratio x.num x.den x.positive) (own_ratio x) (omega arith)
@@ -13,3 +14,15 @@ over-lowest z d h r =
     let x : ℚ = record { num = z; den = d; positive = h; reduced = r } in
     let e : over z d ≡ x = over-own x in
     (ap (λ (t : ℚ). t.num) e, ap (λ (t : ℚ). t.den) e)
+
+-- a negated numerator
+pub over-neg_ℤ : (z : ℤ) (d : ℕ) → 0 < d → over (neg_ℤ z) d ≡ neg_ℚ (over z d)
+over-neg_ℤ z d h = same_ratio _ _ _ _ _ _ _ _ (over_ratio (neg_ℤ z) d h) (neg_ratio _ _ _ _ (over_ratio z d h)) (simp (up-neg, down-neg) (omega arith))
+
+pub quotient-pos : (n : ℤ) (d : ℕ) → quotient n (pos d) ≡ over n d
+unfolding quotient
+quotient-pos n d = refl
+
+pub quotient-negsuc : (n : ℤ) (d : ℕ) → quotient n (negsuc d) ≡ over (neg_ℤ n) (suc d)
+unfolding quotient
+quotient-negsuc n d = refl

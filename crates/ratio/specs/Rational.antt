@@ -25,6 +25,11 @@ over z (suc d) = record {
   reduced = over_reduced z (suc d) (zero-lt-suc d);
 }
 
+-- n over d, for any two signs; 0 where d is 0
+unfoldable pub quotient : ℤ → ℤ → ℚ
+quotient n (pos d) = over n d
+quotient n (negsuc d) = over (neg_ℤ n) (suc d)
+
 infixl 65 ◌+ℚ◌
 unfoldable pub ◌+ℚ◌ : ℚ → ℚ → ℚ
 x +ℚ y = over (x.num *ℤ pos y.den +ℤ y.num *ℤ pos x.den) (x.den * y.den)

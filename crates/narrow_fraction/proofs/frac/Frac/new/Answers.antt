@@ -1,8 +1,8 @@
-use Rattle.std.proofs.Common.{arith, ◌<◌, unsigned_abs, SFits}
+use Rattle.std.proofs.Common.{arith, ◌<◌, unsigned_abs, SFits, ap, of_z}
 use Rattle.std.specs.Int.{w128}
 use Rattle.std.proofs.lemmas.Int.{ints, to_z-of_z}
 use Rattle.ratio.specs.Fractions.{part_pos, parts_reduced}
-use Rattle.narrow_fraction.proofs.Parts.{over-parts}
+use Rattle.narrow_fraction.proofs.Parts.{quotient-parts}
 use Rattle.narrow_fraction.proofs.frac.Frac.new.Goals as goal
 
 pub build-requires-clause-above : goal.build-requires-clause-above
@@ -11,9 +11,20 @@ build-requires-clause-above c = rw c.common_divisor-shared.ensures.value (part_p
 pub build-requires-clause-reduced : goal.build-requires-clause-reduced
 build-requires-clause-reduced c = rw c.common_divisor-shared.ensures.value (parts_reduced _ _ (omega (arith, ints)))
 
-pub returns : goal.returns
-returns c =
+pub returns-in-Some : goal.returns-in-Some
+returns-in-Some c =
     let n : SFits w128 c.args.num = c.ranges.num in
     let d : SFits w128 c.args.den = c.ranges.den in
     let h : 0 < unsigned_abs c.args.den = omega (arith, ints) in
-    simp (to_z-of_z, c.common_divisor-shared.ensures.value, c.unsigned_abs-top.ensures.value, c.unsigned_abs-bottom.ensures.value, over-parts c.args.num (unsigned_abs c.args.den) h) at c.build.ensures
+    let b = rw c.in-Some.is at c.build.ensures in
+    let k = simp (to_z-of_z, c.common_divisor-shared.ensures.value, c.unsigned_abs-top.ensures.value, c.unsigned_abs-bottom.ensures.value, quotient-parts c.args.num c.args.den h) at b in
+    (λ e. c.if-den-eq0.false (ap (of_z w128) e), k.0, k.1)
+
+pub returns-in-None : goal.returns-in-None
+returns-in-None c =
+    let n : SFits w128 c.args.num = c.ranges.num in
+    let d : SFits w128 c.args.den = c.ranges.den in
+    let h : 0 < unsigned_abs c.args.den = omega (arith, ints) in
+    let b = rw c.in-None.is at c.build.ensures in
+    let k = simp (to_z-of_z, c.common_divisor-shared.ensures.value, c.unsigned_abs-top.ensures.value, c.unsigned_abs-bottom.ensures.value, quotient-parts c.args.num c.args.den h) at b in
+    (λ e. c.if-den-eq0.false (ap (of_z w128) e), k)

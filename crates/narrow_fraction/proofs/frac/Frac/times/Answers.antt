@@ -1,8 +1,0 @@
-use Rattle.narrow_fraction.proofs.Parts.{signed-times, product-over}
-use Rattle.narrow_fraction.proofs.frac.Frac.times.Goals as goal
-
-pub returns : goal.returns
-returns c =
-    let x = c.parts-left.ensures in
-    let y = c.parts-right.ensures in
-    simp (x.sign, x.top, x.bottom, y.sign, y.top, y.bottom, signed-times, product-over) at c.product.ensures

@@ -1,0 +1,18 @@
+use crate::frac::Frac;
+
+/// An operation on two fractions.
+#[derive(Debug, Clone, Copy, PartialEq, Eq)]
+pub enum Op {
+    Add,
+    Sub,
+    Mul,
+    Div,
+}
+
+/// An operation that would leave 128 bits, with its two operands as they were passed.
+#[derive(Debug, Clone, Copy, PartialEq, Eq)]
+pub struct Wide {
+    pub op: Op,
+    pub left: Frac,
+    pub right: Frac,
+}
