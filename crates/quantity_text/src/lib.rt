@@ -1,0 +1,9 @@
+//! Fractions as text: the quantities of descriptions, the exact spelling of certificates and reports, and decimals.
+#![tactic(auto)]
+
+mod digits;
+mod exact;
+mod quantity;
+
+pub use exact::exact_text;
+pub use quantity::{BadNumber, parse_quantity};
