@@ -11,7 +11,7 @@ pub enum Command<'a> {
 }
 
 /// The command of these words, where they are one of the forms.
-pub fn command(words: &[String]) -> Option<Command<'_>>
+pub fn command_in(words: &[String]) -> Option<Command<'_>>
     ensures { option_map view result ≡ command_of (map string_bytes words.now) }
 {
     match words {

@@ -1,6 +1,6 @@
 //! The end of every run: its lines go out.
 
-ghost use Rattle.std.specs.Prelude.{◌≡◌, ◌≢◌, ◌≤◌, IsErrOf, OnOk, OnErr};
+ghost use Rattle.std.specs.Prelude.{◌≡◌, ◌≤◌, ◌⊎◌, IsErrOf, OnOk, OnErr};
 ghost use Rattle.outer_edge.specs.Counts.{Rose};
 ghost use Rattle.outer_edge.specs.Taken.{Appends, AppendsFront};
 ghost use Rattle.maxband.specs.declared.cause.Cause.{Cause};

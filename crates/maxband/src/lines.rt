@@ -1,7 +1,7 @@
 //! The lines of each answer.
 
 ghost use Rattle.std.specs.Prelude.{◌≡◌, IfOk, string_bytes};
-ghost use Rattle.maxband.specs.Lines.{kind_name, fault_name, dir_name, failing_text, fails_line, refused_line, bad_text_line, words_line, cannot_read_line, too_long_line, holds_lines};
+ghost use Rattle.maxband.specs.Lines.{kind_name, fault_name, dir_name, link_text, failing_text, fails_line, refused_line, bad_text_line, words_line, cannot_read_line, too_long_line, holds_lines};
 
 use artery_model::{Dir, Kind, Refusal};
 use narrow_fraction::Frac;
@@ -127,9 +127,14 @@ pub fn too_long_line(alloc: Global, name: &str) -> Result<String, AllocError>
 }
 
 /// The lines of a timing that holds, with its weighted band.
-pub fn holds_lines(alloc: Global, value: Frac) -> Result<String, AllocError>
-    ensures { IfOk result (λ text. string_bytes text ≡ holds_lines value) }
+pub fn holds_lines(alloc: Global, value: Frac) -> Result<Vec<u8>, AllocError>
+    ensures { IfOk result (λ lines. lines.items ≡ holds_lines value) }
 {
-    let exact = exact_text(alloc, value)?;
-    format!(in alloc; "holds\nweighted {exact}\n")
+    let Ok(exact) = exact_text(alloc, value) else {
+        return Err(AllocError);
+    };
+    let mut lines = Vec::from_slice(alloc, b"holds\nweighted ")?;
+    lines.extend_from_slice(exact.as_slice())?;
+    lines.push(b'\n')?;
+    Ok(lines)
 }

@@ -9,7 +9,7 @@ ghost use Rattle.maxband.specs.Lines.{named, end_lines};
 ghost use Rattle.maxband.specs.Run.{HoldAnswers, Answers, Ends};
 
 use crate::cause::{Cause, Status};
-use crate::command::{Command, command};
+use crate::command::{Command, command_in};
 use crate::finish::write_lines;
 use crate::hold::hold;
 use crate::lines::{bad_text_line, cannot_read_line, fails_line, holds_lines, refused_line, too_long_line, words_line};
@@ -20,7 +20,7 @@ use std::alloc::{AllocError, Global};
 #[derive(Drop)]
 struct Answer {
     cause: Cause,
-    lines: String,
+    lines: Vec<u8>,
 }
 
 /// The lines of `hold` where the timing breaks a rule or a file's turn ends the run.
@@ -56,7 +56,7 @@ fn hold_answer<F: Files>(
     artery: &str,
     timing: &str,
 ) -> Result<Answer, AllocError>
-    ensures told { IfOk result (λ a. HoldAnswers (F.holds files.old) (F.read_faults files.old) (F.read_faults files.new) artery.now timing.now a.cause (string_bytes a.lines)) }
+    ensures told { IfOk result (λ a. HoldAnswers (F.holds files.old) (F.read_faults files.old) (F.read_faults files.new) artery.now timing.now a.cause a.lines.items) }
     ensures files { SameFiles (F.holds files.old) (F.holds files.new) }
     ensures reads { NoneFell (F.read_faults files.old) (F.read_faults files.new) }
     ensures puts { SameCounts (F.put_faults files.old) (F.put_faults files.new) }
@@ -71,28 +71,28 @@ fn hold_answer<F: Files>(
         }
         Err(Cause::Memory) => Err(AllocError),
         Err(cause) => {
-            let lines = end_lines(alloc, artery, timing, &cause)?;
+            let lines = end_lines(alloc, artery, timing, &cause)?.into_bytes();
             Ok(Answer { cause, lines })
         }
     }
 }
 
 /// The answer of the words.
-fn answer<F: Files>(
+fn answer_to<F: Files>(
     alloc: Global,
     words: &[String],
     files: &mut F,
 ) -> Result<Answer, AllocError>
-    ensures told { IfOk result (λ a. Answers (F.holds files.old) (F.read_faults files.old) (F.read_faults files.new) (command_of (map string_bytes words.now)) a.cause (string_bytes a.lines)) }
+    ensures told { IfOk result (λ a. Answers (F.holds files.old) (F.read_faults files.old) (F.read_faults files.new) (command_of (map string_bytes words.now)) a.cause a.lines.items) }
     ensures files { SameFiles (F.holds files.old) (F.holds files.new) }
     ensures reads { NoneFell (F.read_faults files.old) (F.read_faults files.new) }
     ensures puts { SameCounts (F.put_faults files.old) (F.put_faults files.new) }
 {
-    match command(words) {
+    match command_in(words) {
         Some(Command::Hold { artery, timing }) => hold_answer(alloc, files, artery, timing),
         None => Ok(Answer {
             cause: Cause::Words,
-            lines: words_line(alloc)?,
+            lines: words_line(alloc)?.into_bytes(),
         }),
     }
 }
@@ -128,11 +128,11 @@ pub fn run<F: Files, K: Sink>(
     ensures puts { SameCounts (F.put_faults files.old) (F.put_faults files.new) }
     ensures writes { K.faults out.old ≤ K.faults out.new }
 {
-    let answer = match answer(alloc, words, files) {
+    let answer = match answer_to(alloc, words, files) {
         Ok(answer) => answer,
         Err(_) => return status(Cause::Memory),
     };
-    match write_lines(out, answer.lines.as_bytes()) {
+    match write_lines(out, answer.lines.as_slice()) {
         Ok(()) => status(answer.cause),
         Err(cause) => status(cause),
     }
