@@ -5,8 +5,8 @@ ghost use Rattle.std.specs.List.{list_any};
 ghost use Rattle.artery_model.specs.Faults.{Judges};
 ghost use Rattle.artery_model.specs.Limits.{is_text, first_repeated};
 
-use crate::kind::{Flaw, Kind};
-use crate::refusals::check_signal;
+use crate::kind::Flaw;
+use crate::refusals::repeated;
 use indexmap::IndexSet;
 use progression::Signal;
 use std::alloc::Global;
@@ -30,8 +30,9 @@ pub(crate) fn check_names(alloc: Global, signals: &[Signal]) -> Result<(), Flaw>
 {
     let mut seen: IndexSet<&str> = IndexSet::new(alloc);
     for (index, signal) in signals.iter().enumerate() {
-        let new = note_name(&mut seen, signal.name.as_str())?;
-        check_signal(alloc, new, Kind::RepeatedName, index + 1, "name")?;
+        if !note_name(&mut seen, signal.name.as_str())? {
+            return Err(repeated(alloc, index + 1));
+        }
     }
     Ok(())
 }

@@ -1,14 +1,14 @@
 //! Values outside their limits.
 
-ghost use Rattle.std.specs.Prelude.{◌≡◌, ◌≤◌, ◌==◌, nat_le, not, ◌&&◌, length};
+ghost use Rattle.std.specs.Prelude.{◌≡◌, ◌==◌, nat_le, not, ◌&&◌, length};
 ghost use Rattle.std.specs.List.{list_all};
 ghost use Rattle.ratio.specs.Rational.{whole};
 ghost use Rattle.progression.specs.Speeds.{number};
-ghost use Rattle.artery_model.specs.Faults.{first_fault, each_numbered, link_place, Judges};
+ghost use Rattle.artery_model.specs.Faults.{first_fault, unless, each_numbered, link_place, Judges};
 ghost use Rattle.artery_model.specs.Limits.{within, in_range, is_name, is_name_if_there, pair_ranges, head_ranges, signal_ranges, change_ranges, link_ranges, range_tests};
 
 use crate::kind::{Flaw, Kind};
-use crate::refusals::{check, check_item, check_link, check_signal, link_place};
+use crate::refusals::{check, check_item, check_signal, link_place};
 use narrow_fraction::Frac;
 use progression::{Head, Link, Pair, Signal, Text};
 use std::alloc::Global;
@@ -81,11 +81,10 @@ fn check_signal_ranges(
     number: usize,
     signal: &Signal,
 ) -> Result<(), Flaw>
-    requires { 1 ≤ parts }
     ensures { Judges result (signal_ranges parts number signal.now) }
 {
     let kind = Kind::OutOfRange;
-    let red = 1 <= signal.red && signal.red <= parts - 1;
+    let red = 1 <= signal.red && signal.red <= parts.saturating_sub(1);
     check_signal(alloc, is_name(&signal.name), kind, number, "name")?;
     check_signal(alloc, red, kind, number, "red")?;
     check_signal(alloc, signal.left_out < parts, kind, number, "left_out")?;
@@ -95,7 +94,6 @@ fn check_signal_ranges(
 }
 
 fn check_each_signal(alloc: Global, parts: u32, signals: &[Signal]) -> Result<(), Flaw>
-    requires { 1 ≤ parts }
     ensures { Judges result (first_fault (each_numbered (signal_ranges parts) 1 signals.now)) }
 {
     for (index, signal) in signals.iter().enumerate() {
@@ -104,10 +102,12 @@ fn check_each_signal(alloc: Global, parts: u32, signals: &[Signal]) -> Result<()
     Ok(())
 }
 
-fn is_distance(distance: u32) -> bool
-    ensures { result ≡ in_range 1 30000 distance }
+fn check_distance(alloc: Global, distance: u32, link: usize, key: &str) -> Result<(), Flaw>
+    ensures { Judges result (unless (in_range 1 30000 distance) Kind.OutOfRange (link_place link key.now)) }
 {
-    1 <= distance && distance <= 30_000
+    let place = link_place(alloc, link, key)?;
+    let passes = 1 <= distance && distance <= 30_000;
+    check(alloc, passes, Kind::OutOfRange, place.as_str())
 }
 
 fn check_speeds(alloc: Global, speeds: Pair, link: usize, key: &str) -> Result<(), Flaw>
@@ -138,9 +138,8 @@ fn check_change(
 fn check_link_ranges(alloc: Global, last: usize, number: usize, link: &Link) -> Result<(), Flaw>
     ensures { Judges result (link_ranges last number link.now) }
 {
-    let kind = Kind::OutOfRange;
-    check_link(alloc, is_distance(link.distance_out), kind, number, "distance_out")?;
-    check_link(alloc, is_distance(link.distance_in), kind, number, "distance_in")?;
+    check_distance(alloc, link.distance_out, number, "distance_out")?;
+    check_distance(alloc, link.distance_in, number, "distance_in")?;
     check_speeds(alloc, link.speed_out, number, "speed_out")?;
     check_speeds(alloc, link.speed_in, number, "speed_in")?;
     let is_last = number == last;

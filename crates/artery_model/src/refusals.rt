@@ -1,6 +1,6 @@
 //! Refusals at places.
 
-ghost use Rattle.std.specs.Prelude.{◌≡◌, false, ◌++◌, string_bytes, IfOk, IfErr};
+ghost use Rattle.std.specs.Prelude.{◌≡◌, false, ◌++◌, string_bytes, codes, IfOk, IfErr};
 ghost use Rattle.artery_model.specs.Faults.{unless, signal_place, link_place, Names, Judges};
 
 use crate::kind::{Flaw, Kind, Refusal};
@@ -80,19 +80,12 @@ pub(crate) fn check_signal(
     Err(refused(alloc, kind, place.as_str()))
 }
 
-/// Refuses at a link's key where the test fails.
-pub(crate) fn check_link(
-    alloc: Global,
-    passes: bool,
-    kind: Kind,
-    link: usize,
-    key: &str,
-) -> Result<(), Flaw>
-    ensures { Judges result (unless passes kind (link_place link key.now)) }
+/// The refusal of a name that stood earlier, or want of memory.
+pub(crate) fn repeated(alloc: Global, signal: usize) -> Flaw
+    ensures { Names result (Some (record { kind = Kind.RepeatedName; place = signal_place signal (codes "name") })) }
 {
-    if passes {
-        return Ok(());
+    match signal_place(alloc, signal, "name") {
+        Ok(place) => refused(alloc, Kind::RepeatedName, place.as_str()),
+        Err(flaw) => flaw,
     }
-    let place = link_place(alloc, link, key)?;
-    Err(refused(alloc, kind, place.as_str()))
 }
