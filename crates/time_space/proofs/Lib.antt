@@ -1,3 +1,4 @@
 pub mod Fractions
 pub mod Remainders
 pub mod Crossings
+pub mod Firsts

@@ -6,8 +6,13 @@
 #![tactic(auto)]
 
 mod diagram;
+mod failing;
 mod green;
 mod limits;
+mod links;
+mod rules;
 mod timing;
 
+pub use failing::Failing;
+pub use rules::{holds, law_fails_rules_out};
 pub use timing::Timing;
