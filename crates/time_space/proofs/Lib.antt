@@ -2,3 +2,4 @@ pub mod Fractions
 pub mod Remainders
 pub mod Crossings
 pub mod Firsts
+pub mod Quotients

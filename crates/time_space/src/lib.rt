@@ -12,7 +12,9 @@ mod limits;
 mod links;
 mod rules;
 mod timing;
+mod weight;
 
 pub use failing::Failing;
 pub use rules::{holds, law_fails_rules_out};
 pub use timing::Timing;
+pub use weight::value;
