@@ -7,14 +7,16 @@
 
 mod diagram;
 mod failing;
-mod green;
 mod limits;
 mod links;
 mod rules;
+mod seen;
+mod ticks;
 mod timing;
 mod weight;
 
 pub use failing::Failing;
 pub use rules::{holds, law_fails_rules_out};
+pub use seen::{green, in_band};
 pub use timing::Timing;
 pub use weight::value;
