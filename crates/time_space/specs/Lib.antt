@@ -6,3 +6,4 @@ pub mod Blocked
 pub mod LinkRules
 pub mod Failing
 pub mod FirstFailing
+pub mod Finer

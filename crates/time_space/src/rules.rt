@@ -10,6 +10,7 @@ ghost use Rattle.progression.specs.Good.{Good, RatioHolds};
 ghost use Rattle.progression.specs.declared.parts.Dir.{Dir};
 ghost use Rattle.time_space.specs.LinkRules.{AllLinks};
 ghost use Rattle.time_space.specs.Failing.{FailsRulesOut};
+ghost use Rattle.time_space.specs.Finer.{FinerGrids};
 ghost use Rattle.time_space.specs.FirstFailing.{IsFirstFailing, NoneBefore, link_order, link_failing};
 
 use crate::diagram::{cycle, first_blocked};
@@ -178,4 +179,9 @@ pub fn holds(artery: &Artery, timing: &Timing) -> Result<(), Failing>
 /// A rule that fails rules out that the timing is good.
 pub fn law_fails_rules_out()
     ensures { FailsRulesOut }
+{}
+
+/// A timing is good exactly where it is good on every finer grid.
+pub fn law_finer_grids()
+    ensures { FinerGrids }
 {}
