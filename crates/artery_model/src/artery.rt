@@ -1,13 +1,19 @@
-ghost use Rattle.std.specs.Prelude.{◌≡◌, ◌+◌, ◌<◌, ◌≤◌, pos, ◌≤ℤ◌, unsigned_abs, IfSome};
+ghost use Rattle.std.specs.Prelude.{◌≡◌, ◌+◌, ◌<◌, ◌≤◌, pos, ◌≤ℤ◌, unsigned_abs, IfSome, IfOk};
 ghost use Rattle.ratio.specs.Rational.{◌≤ℚ◌};
 ghost use Rattle.progression.specs.Street.{Street, count, signal_of, link_of, left_against, red_parts, clearance, allows, distance, speed, change_given};
 ghost use Rattle.progression.specs.Speeds.{run_low, run_high, change};
 ghost use Rattle.progression.specs.Columns.{pattern_shift};
+ghost use Rattle.artery_model.specs.Faults.{Judges};
+ghost use Rattle.artery_model.specs.Limits.{artery_fault};
 ghost use Rattle.artery_model.specs.Valid.{IsValid, IsSignal, IsLink, IsSpeeds, IsChange, IsPair, IsPaces, IsQuantity};
 
+use crate::kind::Flaw;
+use crate::ranges::check_ranges;
+use crate::rules::check_rules;
 use crate::runs::{paces, seconds};
 use narrow_fraction::Frac;
 use progression::{Dir, Head, Link, Pair, Signal};
+use std::alloc::Global;
 use std::marker::Model;
 
 /// A valid artery, seen as a `Street`: its head, signals and links.
@@ -31,7 +37,37 @@ impl Model for Artery {
     ghost invariant = { λ a. IsValid (street_of a) };
 }
 
+/// Refuses the first value outside its limits, and then the first broken rule.
+fn check_artery(alloc: Global, head: &Head, signals: &[Signal], links: &[Link]) -> Result<(), Flaw>
+    ensures { Judges result (artery_fault (record { head = head.now; signals = signals.now; links = links.now })) }
+{
+    check_ranges(alloc, head, signals, links)?;
+    check_rules(alloc, head, signals, links)
+}
+
 impl Artery {
+    /// The artery of these parts. `Refused` comes exactly where they break a rule, and names the
+    /// kind and the place of the first in the order of `Kind`: values outside their limits, the
+    /// count of the links, names that stand twice, signals with no pattern or no green, and limits
+    /// that cross. Of one kind the artery's own keys come first, then those of the signals and of
+    /// the links in order.
+    pub fn new(
+        alloc: Global,
+        head: Head,
+        signals: Vec<Signal>,
+        links: Vec<Link>,
+    ) -> Result<Artery, Flaw>
+        ensures made { IfOk result (λ a. a ≡ record { head = head; signals = signals.items; links = links.items }) }
+        ensures judged { Judges result (artery_fault (record { head = head; signals = signals.items; links = links.items })) }
+    {
+        check_artery(alloc, &head, signals.as_slice(), links.as_slice())?;
+        Ok(Artery {
+            head,
+            signals,
+            links,
+        })
+    }
+
     /// What holds of the whole artery.
     pub fn head(&self) -> &Head
         ensures value { result.now ≡ self.now.head }

@@ -5,6 +5,10 @@
 
 mod artery;
 mod kind;
+mod names;
+mod ranges;
+mod refusals;
+mod rules;
 mod runs;
 
 pub use artery::Artery;
