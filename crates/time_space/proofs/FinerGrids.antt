@@ -3,20 +3,20 @@ use Rattle.std.proofs.Common.{◌≡◌, ℕ, suc, zero, ◌+◌, ◌-◌, ◌*�
 use Rattle.std.proofs.lemmas.List.{length-map}
 use Rattle.std.specs.Prelude.{ℤ, pos, ◌+ℤ◌, ◌*ℤ◌, ◌↔◌, if◌then◌else◌, IfSome}
 use Rattle.std.proofs.lemmas.Int.{ints}
-use Rattle.std.proofs.Math.Nat.{mul-le-mul_right, le_of_mul-le-mul_right}
+use Rattle.std.proofs.Math.Nat.{mul-le-mul_right}
 use borrow.Author.Differences.{up, down}
 use Rattle.progression.specs.Green.{BandIsGreen, is_early, ahead, red_start, red_ticks}
-use Rattle.progression.specs.Street.{Street, no_signal, count, red_parts, left_against, clearance, distance, HasLink}
+use Rattle.progression.specs.Street.{Street, no_signal, count, red_parts, left_against, clearance, distance}
 use Rattle.progression.specs.Speeds.{number, run_low, run_high, change}
 use Rattle.progression.specs.Good.{Good, pace_change}
-use Rattle.artery_model.specs.Valid.{IsValid, IsSignal}
+use Rattle.artery_model.specs.Valid.{IsValid}
 use Rattle.progression.specs.Plan.{Plan, IsPlan, cycle, pattern_of, common_red, run, band}
 use Rattle.progression.specs.Lines.{stop, leg, advance, crossing, IsGreenAt, IsGreenWay}
 use Rattle.progression.specs.declared.parts.Pair.{Pair}
 use Rattle.time_space.specs.Finer.{finer}
 use Rattle.time_space.proofs.Scale.{finer_grids, minus_scale}
 use Rattle.time_space.proofs.Multiples.{times_le, limit_times, least_finer, most_finer, apart_times, ratio_finer, if_some_both}
-use Rattle.ratio.specs.Rational.{ℚ, ◌*ℚ◌, ◌-ℚ◌, ◌≤ℚ◌, inverse_ℚ}
+use Rattle.ratio.specs.Rational.{ℚ, ◌*ℚ◌, ◌≤ℚ◌, inverse_ℚ}
 use Rattle.progression.specs.declared.parts.Dir.{Dir}
 use Rattle.progression.specs.declared.parts.Dir.TheVariants.{Outbound, Inbound}
 

@@ -1,13 +1,13 @@
 -- Which failing of a timing is the first: rule after rule.
-use Rattle.std.proofs.Common.{◌≡◌, ℕ, ◌+◌, ◌-◌, ◌*◌, ◌<◌, ◌≤◌, length, arith, refl, inl, inr}
+use Rattle.std.proofs.Common.{◌≡◌, ℕ, ◌+◌, ◌<◌, ◌≤◌, length, arith, inl, inr}
 use Rattle.std.specs.Prelude.{IsTrue, ℤ, false}
 use Rattle.std.proofs.lemmas.Bool.{cases_lt}
-use Rattle.ratio.specs.Rational.{ℚ, ◌*ℚ◌, ◌≤ℚ◌}
+use Rattle.ratio.specs.Rational.{◌*ℚ◌, ◌≤ℚ◌}
 use Rattle.progression.specs.Street.{Street, count, allows, HasSignal, HasLink}
 use Rattle.progression.specs.Speeds.{number}
 use Rattle.progression.specs.Plan.{Plan, cycle, pattern_of}
 use Rattle.progression.specs.Lines.{IsGreenWay, IsGreenAt}
-use Rattle.progression.specs.Good.{RatioHolds, Good}
+use Rattle.progression.specs.Good.{RatioHolds}
 use Rattle.progression.specs.declared.parts.Dir.{Dir}
 use Rattle.progression.specs.declared.parts.Dir.TheVariants.{Outbound, Inbound}
 use Rattle.time_space.specs.Blocked.{IsBlockedAt, IsFirstBlocked}

@@ -1,8 +1,8 @@
 -- Comparisons of rational numbers, both sides m times as large.
-use Rattle.std.proofs.Common.{◌≡◌, ℕ, pos, List, [], ◌∷◌, ◌+◌, ◌*◌, ◌<◌, ◌≤◌, ◌↔◌, arith, refl, ap, sym, ◌∙◌, Option, None, Some}
+use Rattle.std.proofs.Common.{◌≡◌, ℕ, pos, [], ◌∷◌, ◌*◌, ◌<◌, ◌↔◌, arith, refl, ap, sym, ◌∙◌, Option, None, Some}
 use Rattle.std.specs.Prelude.{IfSome}
 use native.Mathlib.Nat.{le_of_mul-le-mul_right}
-use Rattle.ratio.specs.Rational.{ℚ, whole, ◌+ℚ◌, ◌*ℚ◌, ◌-ℚ◌, ◌/ℚ◌, neg_ℚ, inverse_ℚ, ◌≤ℚ◌}
+use Rattle.ratio.specs.Rational.{ℚ, whole, ◌*ℚ◌, ◌-ℚ◌, ◌≤ℚ◌}
 use Rattle.ratio.specs.Laws.{own_ratio, whole_ratio, product_ratio, ≤ℚ_in, ≤ℚ_out, *ℚ_assoc}
 use Rattle.ratio.specs.Order.{≤ℚ-*ℚ, whole-*ℤ}
 use Rattle.ratio.specs.Ring.{ring, at, minus, ◌⊕◌, ◌⊗◌}

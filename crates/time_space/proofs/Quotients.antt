@@ -2,11 +2,10 @@
 use Rattle.std.proofs.Common.{◌≡◌, ◌∙◌, ℕ, zero, suc, ℤ, pos, ◌+◌, ◌*◌, ◌/◌, ◌<◌, ◌≤◌, ◌^◌, Ok, Err, arith, unsigned_abs, mul-pos}
 use Rattle.std.proofs.lemmas.Int.{ints}
 use native.Mathlib.Nat.{mul-le-mul_right}
-use borrow.Author.Differences.{up, down}
 use Rattle.ratio.specs.Gcd.{gcd}
 use Rattle.ratio.specs.Fractions.{gcd_pos, times_part, abs-int_div}
 use Rattle.ratio.specs.Rational.{ℚ, whole, over, ◌+ℚ◌, ◌*ℚ◌, ◌/ℚ◌, inverse_ℚ, quotient}
-use Rattle.ratio.specs.Laws.{IsRatio, own_ratio, same_ratio, over_ratio, sum_ratio, product_ratio, whole_ratio}
+use Rattle.ratio.specs.Laws.{IsRatio, same_ratio, over_ratio, sum_ratio, product_ratio, whole_ratio}
 use Rattle.ratio.specs.Lowest.{quotient-pos}
 use Rattle.narrow_fraction.specs.Fraction.{FitsFrac}
 use Rattle.narrow_fraction.specs.Made.{IsMade}

@@ -1,11 +1,10 @@
 -- What it means that a failing fails, and which failing of a timing is the first.
-use Rattle.std.specs.Prelude.{◌≡◌, ◌≢◌, ℕ, ◌+◌, ◌-◌, ◌≤◌, length, false}
-use Rattle.ratio.specs.Rational.{ℚ, ◌*ℚ◌, ◌≤ℚ◌}
+use Rattle.std.specs.Prelude.{◌≡◌, ◌≢◌, length, false}
+use Rattle.ratio.specs.Rational.{◌*ℚ◌, ◌≤ℚ◌}
 use Rattle.progression.specs.Street.{Street, count, HasSignal, HasLink, allows}
 use Rattle.progression.specs.Speeds.{number}
 use Rattle.progression.specs.Plan.{Plan, cycle, pattern_of}
 use Rattle.progression.specs.Good.{Good, RatioHolds}
-use Rattle.progression.specs.declared.parts.Dir.{Dir}
 use Rattle.progression.specs.declared.parts.Dir.TheVariants.{Outbound, Inbound}
 use Rattle.time_space.specs.Blocked.{IsBlockedSomewhere}
 use Rattle.time_space.specs.LinkRules.{LinkBreaks}
