@@ -2,7 +2,7 @@
 use Rattle.std.proofs.Common.{◌≡◌, ℕ, ℤ, pos, ◌*ℤ◌, ◌-ℤ◌, ◌≤ℤ◌, ◌+◌, ◌*◌, ◌<◌, ◌≤◌, ◌↔◌, arith, mul-pos, refl, ap}
 use Rattle.std.proofs.lemmas.Int.{ints}
 use borrow.Author.Differences.{up, down}
-use Rattle.ratio.specs.Rational.{ℚ, whole, over, ◌+ℚ◌, ◌*ℚ◌, ◌-ℚ◌, neg_ℚ, inverse_ℚ, ◌≤ℚ◌}
+use Rattle.ratio.specs.Rational.{ℚ, whole, ◌*ℚ◌, ◌-ℚ◌, inverse_ℚ, ◌≤ℚ◌}
 use Rattle.ratio.specs.Laws.{IsRatio, own_ratio, whole_ratio, over_ratio, product_ratio, sum_ratio, neg_ratio, ≤ℚ_in, ≤ℚ_out}
 use Rattle.ratio.specs.Laws.{rebase}
 use Rattle.ratio.specs.Integers.{up-mul, down-mul}

@@ -3,3 +3,7 @@ pub mod Sizes
 pub mod FirstRed
 pub mod Limits
 pub mod Blocked
+pub mod LinkRules
+pub mod Failing
+pub mod FirstFailing
+pub mod Finer

@@ -8,7 +8,7 @@ ghost use Rattle.progression.specs.Lines.{stop, leg, advance, crossing, IsGreenA
 ghost use Rattle.time_space.specs.Sizes.{IsWithin};
 ghost use Rattle.time_space.specs.Blocked.{IsBlockedAt, IsBlocked, IsFirstBlocked};
 
-use crate::green::first_red;
+use crate::ticks::first_red;
 use crate::timing::Timing;
 use artery_model::Artery;
 use progression::Dir;
@@ -128,7 +128,7 @@ fn advance(artery: &Artery, timing: &Timing, dir: Dir, place: u32) -> i128
 
 /// The tick at which the line crosses the next signal.
 #[tactic(auto, using(crate::proofs::Crossings::crossing_next))]
-fn next_line(artery: &Artery, timing: &Timing, dir: Dir, place: u32, line: i128) -> i128
+pub fn next_line(artery: &Artery, timing: &Timing, dir: Dir, place: u32, line: i128) -> i128
     requires on_way { place + 1 < count artery.now }
     requires shape { length timing.now.patterns ≡ count artery.now }
     requires here { line ≡ crossing artery.now timing.now dir place }

@@ -6,8 +6,17 @@
 #![tactic(auto)]
 
 mod diagram;
-mod green;
+mod failing;
 mod limits;
+mod links;
+mod rules;
+mod seen;
+mod ticks;
 mod timing;
+mod weight;
 
+pub use failing::Failing;
+pub use rules::{holds, law_fails_rules_out, law_finer_grids};
+pub use seen::{green, in_band};
 pub use timing::Timing;
+pub use weight::value;

@@ -1,7 +1,7 @@
 //! A timing, seen as a plan.
 
 ghost use Rattle.std.specs.Prelude.{◌≡◌, ◌↔◌, All, IsTrue, IfNone, IfSome, ◌+◌, ◌-◌, ◌<◌, ◌≤◌, ◌^◌, ℕ, length, map, pos, ◌≤ℤ◌, ◌<ℤ◌};
-ghost use Rattle.progression.specs.Plan.{Plan, pattern_of, common_red, run, first, band};
+ghost use Rattle.progression.specs.Plan.{Plan, IsPlan, pattern_of, common_red, run, first, band};
 ghost use Rattle.time_space.specs.Timing.{IsTiming, plan_of};
 
 use progression::Dir;
@@ -126,6 +126,7 @@ impl Timing {
     /// How many signals it has, from 2 to 16.
     pub fn count(&self) -> u32
         ensures value { result ≡ length self.now.patterns }
+        ensures plan { IsPlan self.now }
         ensures few { 2 ≤ result }
         ensures many { result ≤ 16 }
     {

@@ -1,7 +1,7 @@
 use Rattle.std.proofs.Common.{arith}
 use Rattle.std.proofs.lemmas.Int.{to_z-of_z}
 use Rattle.time_space.proofs.Remainders.{band_result}
-use Rattle.time_space.proofs.green.first_red.Goals as goal
+use Rattle.time_space.proofs.ticks.first_red.Goals as goal
 
 pub returns : goal.returns
 returns c =

@@ -1,0 +1,193 @@
+-- A timing on a finer grid is good exactly where it is good here.
+use Rattle.std.proofs.Common.{◌≡◌, ℕ, suc, zero, ◌+◌, ◌-◌, ◌*◌, ◌<◌, ◌≤◌, List, [], ◌∷◌, get_or, map, arith, refl, ap, sym, ◌∙◌, true, false, zero-mul}
+use Rattle.std.proofs.lemmas.List.{length-map}
+use Rattle.std.specs.Prelude.{ℤ, pos, ◌+ℤ◌, ◌*ℤ◌, ◌↔◌, if◌then◌else◌, IfSome}
+use Rattle.std.proofs.lemmas.Int.{ints}
+use Rattle.std.proofs.Math.Nat.{mul-le-mul_right}
+use borrow.Author.Differences.{up, down}
+use Rattle.progression.specs.Green.{BandIsGreen, is_early, ahead, red_start, red_ticks}
+use Rattle.progression.specs.Street.{Street, no_signal, count, red_parts, left_against, clearance, distance}
+use Rattle.progression.specs.Speeds.{number, run_low, run_high, change}
+use Rattle.progression.specs.Good.{Good, pace_change}
+use Rattle.artery_model.specs.Valid.{IsValid}
+use Rattle.progression.specs.Plan.{Plan, IsPlan, cycle, pattern_of, common_red, run, band}
+use Rattle.progression.specs.Lines.{stop, leg, advance, crossing, IsGreenAt, IsGreenWay}
+use Rattle.progression.specs.declared.parts.Pair.{Pair}
+use Rattle.time_space.specs.Finer.{finer}
+use Rattle.time_space.proofs.Scale.{finer_grids, minus_scale}
+use Rattle.time_space.proofs.Multiples.{times_le, limit_times, least_finer, most_finer, apart_times, ratio_finer, if_some_both}
+use Rattle.ratio.specs.Rational.{ℚ, ◌*ℚ◌, ◌≤ℚ◌, inverse_ℚ}
+use Rattle.progression.specs.declared.parts.Dir.{Dir}
+use Rattle.progression.specs.declared.parts.Dir.TheVariants.{Outbound, Inbound}
+
+plus_scale : (x a : ℤ) (m : ℕ) → x *ℤ pos m +ℤ a *ℤ pos m ≡ (x +ℤ a) *ℤ pos m
+plus_scale x a m =
+    let sum : up (x +ℤ a) + down x + down a ≡ up x + up a + down (x +ℤ a) = omega (arith, ints) in
+    let scaled = ap (λ y. y * m) sum in
+    omega (arith, ints, scaled)
+
+get_or-scale : (xs : List ℕ) (i m : ℕ) → get_or (map (λ n. n * m) xs) i 0 ≡ get_or xs i 0 * m
+get_or-scale [] i m = omega arith
+get_or-scale (x ∷ xs) zero m = refl
+get_or-scale (x ∷ xs) (suc i) m = get_or-scale xs i m
+
+get_or-scale_ℤ : (xs : List ℤ) (i m : ℕ) → get_or (map (λ z. z *ℤ pos m) xs) i (pos 0) ≡ get_or xs i (pos 0) *ℤ pos m
+get_or-scale_ℤ [] i m = omega (arith, ints)
+get_or-scale_ℤ (x ∷ xs) zero m = refl
+get_or-scale_ℤ (x ∷ xs) (suc i) m = get_or-scale_ℤ xs i m
+
+module _ (a : Street) (t : Plan) (m : ℕ) where
+  cycle_finer : cycle a (finer m t) ≡ cycle a t * m
+  cycle_finer = omega arith
+
+  run_finer : (d : Dir) (i : ℕ) → run (finer m t) d i ≡ run t d i * m
+  run_finer Outbound i = get_or-scale t.run_out (i - 1) m
+  run_finer Inbound i = get_or-scale t.run_in (i - 1) m
+
+  ahead_finer : (d : Dir) (i : ℕ) → ahead a (finer m t) d i ≡ ahead a t d i * m
+  ahead_finer d i = elim (is_early d (pattern_of t i)) as (λ b. (if b then left_against a d i * (t.unit * m) else 0) ≡ (if b then left_against a d i * t.unit else 0) * m) [ true ↦ omega arith | false ↦ omega arith ]
+
+  red_start_finer : (d : Dir) (i : ℕ) → red_start a (finer m t) d i ≡ red_start a t d i *ℤ pos m
+  red_start_finer d i = rw (get_or-scale_ℤ t.reds (i - 1) m, ahead_finer d i) (minus_scale (common_red t i) (pos (ahead a t d i)) m)
+
+  red_ticks_finer : (d : Dir) (i : ℕ) → red_ticks a (finer m t) d i ≡ red_ticks a t d i * m
+  red_ticks_finer d i = omega arith
+
+  advance_finer : (d : Dir) (j : ℕ) → advance a (finer m t) d j ≡ advance a t d j *ℤ pos m
+  advance_finer d j =
+      let c = clearance a d (stop d (count a) (j + 1)) in
+      let assoc : c * (t.unit * m) ≡ c * t.unit * m = omega arith in
+      rw (run_finer d (leg d (count a) j), assoc) (minus_scale (pos (run t d (leg d (count a) j))) (pos (c * t.unit)) m)
+
+  crossing_finer : (d : Dir) (j : ℕ) → crossing a (finer m t) d j ≡ crossing a t d j *ℤ pos m
+  crossing_finer Outbound zero = refl
+  crossing_finer Inbound zero = refl
+  crossing_finer d (suc j) = rw (crossing_finer d j, advance_finer d j) (plus_scale (crossing a t d j) (advance a t d j) m)
+
+  band_finer : (d : Dir) → band (finer m t) d ≡ band t d * m
+  band_finer Outbound = refl
+  band_finer Inbound = refl
+
+  -- the four numbers of a band, m times as large
+  band_at_finer : (P : ℕ → ℤ → ℕ → ℤ → ℕ → Type 0) (d : Dir) (i j : ℕ)
+      → P (cycle a t * m) (red_start a t d i *ℤ pos m) (red_ticks a t d i * m) (crossing a t d j *ℤ pos m) (band t d * m)
+      → P (cycle a (finer m t)) (red_start a (finer m t) d i) (red_ticks a (finer m t) d i) (crossing a (finer m t) d j) (band (finer m t) d)
+  band_at_finer P d i j p = rw (cycle_finer, red_start_finer d i, red_ticks_finer d i, crossing_finer d j, band_finer d) p
+
+  band_from_finer : (P : ℕ → ℤ → ℕ → ℤ → ℕ → Type 0) (d : Dir) (i j : ℕ)
+      → P (cycle a (finer m t)) (red_start a (finer m t) d i) (red_ticks a (finer m t) d i) (crossing a (finer m t) d j) (band (finer m t) d)
+      → P (cycle a t * m) (red_start a t d i *ℤ pos m) (red_ticks a t d i * m) (crossing a t d j *ℤ pos m) (band t d * m)
+  band_from_finer P d i j p = rw (cycle_finer, red_start_finer d i, red_ticks_finer d i, crossing_finer d j, band_finer d) at p
+
+mul-le : {a b c d : ℕ} → a ≤ b → c ≤ d → a * c ≤ b * d
+mul-le {a} {b} {c} {d} h k = grind arith
+
+below : {a b c : ℕ} → a < b → 0 < c → a * c < b * c
+below {a} {b} {c} h k = grind arith
+
+-- a red has at least one part, and leaves some green
+red_bounds : (a : Street) → IsValid a → (d : Dir) (i : ℕ) → i - 1 < count a → (1 ≤ red_parts a d i) × (red_parts a d i < a.head.parts)
+red_bounds a h Outbound i l = let s = h.each_signal (i - 1) no_signal l in (omega (arith, s.red), s.green_out)
+red_bounds a h Inbound i l = let s = h.each_signal (i - 1) no_signal l in (omega (arith, s.red), s.green_in)
+
+stop_below : (d : Dir) (n j : ℕ) → j < n → stop d n j - 1 < n
+stop_below Outbound n j l = omega arith
+stop_below Inbound n j l = omega arith
+
+module _ (a : Street) (t : Plan) (m : ℕ) (h : IsValid a) (u : 2 ≤ t.unit) (q : 1 ≤ m) where
+  green_finer : (d : Dir) (j : ℕ) → j < count a → IsGreenAt a t d j ↔ IsGreenAt a (finer m t) d j
+  green_finer d j l =
+      let i = stop d (count a) j in
+      let r = red_bounds a h d i (stop_below d (count a) j l) in
+      let some : 1 * 2 ≤ red_parts a d i * t.unit = mul-le r.0 u in
+      let less : red_parts a d i * t.unit < a.head.parts * t.unit = below r.1 (omega arith) in
+      let law = finer_grids (cycle a t) (red_ticks a t d i) (band t d) m (red_start a t d i) (crossing a t d j) (omega arith) less q in (
+        (λ g. band_at_finer a t m (λ c r s x b. BandIsGreen c r s x b) d i j (law.0 g)),
+        (λ g. law.1 (band_from_finer a t m (λ c r s x b. BandIsGreen c r s x b) d i j g)),
+      )
+
+  way_finer : (d : Dir) → IsGreenWay a t d ↔ IsGreenWay a (finer m t) d
+  way_finer d = ((λ g k l. (green_finer d k l).0 (g k l)), (λ g k l. (green_finer d k l).1 (g k l)))
+
+  pace_change_finer : (d : Dir) (i : ℕ) → pace_change a (finer m t) d i ≡ pace_change a t d i *ℚ number m
+  pace_change_finer d i =
+      rw (run_finer a t m d (i + 1), run_finer a t m d i)
+      (apart_times (run t d (i + 1)) (run t d i) (inverse_ℚ (number (distance a d (i + 1)))) (inverse_ℚ (number (distance a d i))) m)
+
+  rise_finer : (d : Dir) (i : ℕ) (x : ℚ) → (pace_change a t d i ≤ℚ (x *ℚ number t.grid)) ↔ (pace_change a (finer m t) d i ≤ℚ (x *ℚ number (t.grid * m)))
+  rise_finer d i x = rw (pace_change_finer d i, limit_times x t.grid m) (times_le (pace_change a t d i) (x *ℚ number t.grid) m q)
+
+  drop_finer : (d : Dir) (i : ℕ) (x : ℚ) → ((x *ℚ number t.grid) ≤ℚ pace_change a t d i) ↔ ((x *ℚ number (t.grid * m)) ≤ℚ pace_change a (finer m t) d i)
+  drop_finer d i x = rw (pace_change_finer d i, limit_times x t.grid m) (times_le (x *ℚ number t.grid) (pace_change a t d i) m q)
+
+  cycle_least_finer : ((a.head.cycle.least *ℚ number t.grid) ≤ℚ number (cycle a t)) ↔ ((a.head.cycle.least *ℚ number (t.grid * m)) ≤ℚ number (cycle a (finer m t)))
+  cycle_least_finer = rw (cycle_finer a t m) (least_finer a.head.cycle.least t.grid (cycle a t) m q)
+
+  cycle_most_finer : (number (cycle a t) ≤ℚ (a.head.cycle.most *ℚ number t.grid)) ↔ (number (cycle a (finer m t)) ≤ℚ (a.head.cycle.most *ℚ number (t.grid * m)))
+  cycle_most_finer = rw (cycle_finer a t m) (most_finer a.head.cycle.most t.grid (cycle a t) m q)
+
+  fast_finer : (d : Dir) (i : ℕ) → ((run_low a d i *ℚ number t.grid) ≤ℚ number (run t d i)) ↔ ((run_low a d i *ℚ number (t.grid * m)) ≤ℚ number (run (finer m t) d i))
+  fast_finer d i = rw (run_finer a t m d i) (least_finer (run_low a d i) t.grid (run t d i) m q)
+
+  slow_finer : (d : Dir) (i : ℕ) → (number (run t d i) ≤ℚ (run_high a d i *ℚ number t.grid)) ↔ (number (run (finer m t) d i) ≤ℚ (run_high a d i *ℚ number (t.grid * m)))
+  slow_finer d i = rw (run_finer a t m d i) (most_finer (run_high a d i) t.grid (run t d i) m q)
+
+  rises_finer : (d : Dir) (i : ℕ) → IfSome (change a d i) (λ (c : Pair). pace_change a t d i ≤ℚ (c.most *ℚ number t.grid)) ↔ IfSome (change a d i) (λ (c : Pair). pace_change a (finer m t) d i ≤ℚ (c.most *ℚ number (t.grid * m)))
+  rises_finer d i = if_some_both (change a d i) _ _ (λ (c : Pair). rise_finer d i c.most)
+
+  drops_finer : (d : Dir) (i : ℕ) → IfSome (change a d i) (λ (c : Pair). (c.least *ℚ number t.grid) ≤ℚ pace_change a t d i) ↔ IfSome (change a d i) (λ (c : Pair). (c.least *ℚ number (t.grid * m)) ≤ℚ pace_change a (finer m t) d i)
+  drops_finer d i = if_some_both (change a d i) _ _ (λ (c : Pair). drop_finer d i c.least)
+
+  plan_finer : IsPlan t → IsPlan (finer m t)
+  plan_finer p = record {
+    grid = let e = mul-le-mul_right m p.grid in omega (arith, e);
+    unit = let e = mul-le-mul_right m p.unit in omega (arith, e);
+    reds = length-map t.reds (λ z. z *ℤ pos m) ∙ p.reds;
+    run_out = ap (λ n. n + 1) (length-map t.run_out (λ n. n * m)) ∙ p.run_out;
+    run_in = ap (λ n. n + 1) (length-map t.run_in (λ n. n * m)) ∙ p.run_in;
+  }
+
+  grid_above : (g : ℕ) → 1 ≤ g * m → 1 ≤ g
+  grid_above zero e = absurd (let z = zero-mul m in omega (arith, e, z))
+  grid_above (suc g) e = omega arith
+
+  plan_coarser : IsPlan (finer m t) → IsPlan t
+  plan_coarser p = record {
+    grid = grid_above t.grid p.grid;
+    unit = u;
+    reds = sym (length-map t.reds (λ z. z *ℤ pos m)) ∙ p.reds;
+    run_out = ap (λ n. n + 1) (sym (length-map t.run_out (λ n. n * m))) ∙ p.run_out;
+    run_in = ap (λ n. n + 1) (sym (length-map t.run_in (λ n. n * m))) ∙ p.run_in;
+  }
+
+  pub finer_law : Good a t ↔ Good a (finer m t)
+  finer_law = (
+    (λ g. record {
+      plan = plan_finer g.plan;
+      shape = g.shape;
+      patterns = g.patterns;
+      cycle_least = cycle_least_finer.0 g.cycle_least;
+      cycle_most = cycle_most_finer.0 g.cycle_most;
+      fast = λ d i l. (fast_finer d i).0 (g.fast d i l);
+      slow = λ d i l. (slow_finer d i).0 (g.slow d i l);
+      rise = λ d i l k. (rises_finer d i).0 (g.rise d i l k);
+      drop = λ d i l k. (drops_finer d i).0 (g.drop d i l k);
+      ratio = (ratio_finer a.head.ratio t.band_out t.band_in m q).0 g.ratio;
+      outbound = (way_finer Outbound).0 g.outbound;
+      inbound = (way_finer Inbound).0 g.inbound;
+    }),
+    (λ g. record {
+      plan = plan_coarser g.plan;
+      shape = g.shape;
+      patterns = g.patterns;
+      cycle_least = cycle_least_finer.1 g.cycle_least;
+      cycle_most = cycle_most_finer.1 g.cycle_most;
+      fast = λ d i l. (fast_finer d i).1 (g.fast d i l);
+      slow = λ d i l. (slow_finer d i).1 (g.slow d i l);
+      rise = λ d i l k. (rises_finer d i).1 (g.rise d i l k);
+      drop = λ d i l k. (drops_finer d i).1 (g.drop d i l k);
+      ratio = (ratio_finer a.head.ratio t.band_out t.band_in m q).1 g.ratio;
+      outbound = (way_finer Outbound).1 g.outbound;
+      inbound = (way_finer Inbound).1 g.inbound;
+    }),
+  )

@@ -1,0 +1,30 @@
+//! The rules of a good timing, by name.
+
+use progression::Dir;
+
+/// A rule of a good timing that a timing breaks, and where.
+#[derive(Clone, Copy, Debug)]
+pub enum Failing {
+    /// The timing has another number of signals than the artery.
+    Shape,
+    /// The signal doesn't allow its left turn pattern.
+    Pattern { signal: u32 },
+    /// The cycle is below its least length.
+    CycleShort,
+    /// The cycle is above its greatest length.
+    CycleLong,
+    /// The run on the link is faster than the greatest speed.
+    Fast { dir: Dir, link: u32 },
+    /// The run on the link is slower than the least speed.
+    Slow { dir: Dir, link: u32 },
+    /// The pace rises from the link to the link with the next number by more than the link allows.
+    Rise { dir: Dir, link: u32 },
+    /// The pace drops from the link to the link with the next number by more than the link allows.
+    Drop { dir: Dir, link: u32 },
+    /// The bands don't keep the ratio.
+    Ratio,
+    /// The outbound band isn't green at the signal. The tick is its first there that isn't.
+    Outbound { signal: u32, tick: i128 },
+    /// The inbound band isn't green at the signal. The tick is its first there that isn't.
+    Inbound { signal: u32, tick: i128 },
+}

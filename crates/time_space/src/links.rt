@@ -1,0 +1,143 @@
+//! The limits of the runs on an artery's links.
+
+ghost use Rattle.std.specs.Prelude.{◌≡◌, ◌↔◌, ◌+◌, ◌<◌, ◌≤◌, ◌^◌, ℕ, length, false, IsTrue, MatchOption};
+ghost use Rattle.ratio.specs.Rational.{◌*ℚ◌, ◌≤ℚ◌};
+ghost use Rattle.progression.specs.Street.{count, distance, HasLink};
+ghost use Rattle.progression.specs.Speeds.{number, run_low, run_high};
+ghost use Rattle.progression.specs.Plan.{run};
+ghost use Rattle.time_space.specs.LinkRules.{RiseKept, DropKept, LinkHolds, LinkBreaks, AllLinks, IsFirstBroken};
+
+use crate::limits::{Paces, is_at_least, is_at_most, is_change_at_least, is_change_at_most};
+use crate::timing::Timing;
+use artery_model::Artery;
+use progression::Dir;
+
+/// A limit that a link sets.
+#[derive(Clone, Copy)]
+pub enum LinkRule {
+    /// The run takes at least the time that the greatest speed takes.
+    Fast,
+    /// The run takes at most the time that the least speed takes.
+    Slow,
+    /// The pace rises to the next link by at most the greatest change.
+    Rise,
+    /// The pace changes to the next link by at least the least change.
+    Drop,
+}
+
+/// The runs on a link and on the link with the next number.
+fn paces(artery: &Artery, timing: &Timing, dir: Dir, link: u32) -> Paces
+    requires first { 1 ≤ link }
+    requires last { link + 1 < count artery.now }
+    requires small { link < 16 }
+    requires shape { length timing.now.patterns ≡ count artery.now }
+    ensures run { result.run ≡ run timing.now dir link }
+    ensures distance { result.distance ≡ distance artery.now dir link }
+    ensures next_run { result.next_run ≡ run timing.now dir (link + 1) }
+    ensures next_distance { result.next_distance ≡ distance artery.now dir (link + 1) }
+    ensures run_most { result.run < 2 ^ 80 }
+    ensures next_run_most { result.next_run < 2 ^ 80 }
+    ensures least { 1 ≤ result.distance }
+    ensures most { result.distance ≤ 30000 }
+    ensures next_least { 1 ≤ result.next_distance }
+    ensures next_most { result.next_distance ≤ 30000 }
+{
+    Paces {
+        run: timing.run(dir, link),
+        distance: artery.distance(dir, link),
+        next_run: timing.run(dir, link + 1),
+        next_distance: artery.distance(dir, link + 1),
+    }
+}
+
+fn is_rise_kept(artery: &Artery, timing: &Timing, dir: Dir, link: u32) -> bool
+    requires first { 1 ≤ link }
+    requires last { link + 1 < count artery.now }
+    requires small { link < 16 }
+    requires shape { length timing.now.patterns ≡ count artery.now }
+    ensures { IsTrue result ↔ RiseKept artery.now timing.now dir link }
+{
+    match artery.change(dir, link) {
+        Some(limits) => is_change_at_most(
+            paces(artery, timing, dir, link),
+            limits.most,
+            timing.grid(),
+        ),
+        None => true,
+    }
+}
+
+fn is_drop_kept(artery: &Artery, timing: &Timing, dir: Dir, link: u32) -> bool
+    requires first { 1 ≤ link }
+    requires last { link + 1 < count artery.now }
+    requires small { link < 16 }
+    requires shape { length timing.now.patterns ≡ count artery.now }
+    ensures { IsTrue result ↔ DropKept artery.now timing.now dir link }
+{
+    match artery.change(dir, link) {
+        Some(limits) => is_change_at_least(
+            paces(artery, timing, dir, link),
+            limits.least,
+            timing.grid(),
+        ),
+        None => true,
+    }
+}
+
+fn is_not_fast(artery: &Artery, timing: &Timing, dir: Dir, link: u32) -> bool
+    requires first { 1 ≤ link }
+    requires last { link < count artery.now }
+    requires shape { length timing.now.patterns ≡ count artery.now }
+    ensures { IsTrue result ↔ ((run_low artery.now dir link *ℚ number timing.now.grid) ≤ℚ number (run timing.now dir link)) }
+{
+    is_at_least(
+        timing.run(dir, link),
+        artery.run_low(dir, link),
+        timing.grid(),
+    )
+}
+
+fn is_not_slow(artery: &Artery, timing: &Timing, dir: Dir, link: u32) -> bool
+    requires first { 1 ≤ link }
+    requires last { link < count artery.now }
+    requires shape { length timing.now.patterns ≡ count artery.now }
+    ensures { IsTrue result ↔ (number (run timing.now dir link) ≤ℚ (run_high artery.now dir link *ℚ number timing.now.grid)) }
+{
+    is_at_most(
+        timing.run(dir, link),
+        artery.run_high(dir, link),
+        timing.grid(),
+    )
+}
+
+/// Whether a link keeps a limit.
+fn is_kept(artery: &Artery, timing: &Timing, rule: LinkRule, dir: Dir, link: u32) -> bool
+    requires first { 1 ≤ link }
+    requires last { link < count artery.now }
+    requires shape { length timing.now.patterns ≡ count artery.now }
+    ensures kept { IsTrue result → LinkHolds artery.now timing.now rule dir link }
+    ensures broken { result ≡ false → LinkBreaks artery.now timing.now rule dir link }
+{
+    let count = artery.count();
+    let has_next = link + 1 < count;
+    match rule {
+        LinkRule::Fast => is_not_fast(artery, timing, dir, link),
+        LinkRule::Slow => is_not_slow(artery, timing, dir, link),
+        LinkRule::Rise => !has_next || is_rise_kept(artery, timing, dir, link),
+        LinkRule::Drop => !has_next || is_drop_kept(artery, timing, dir, link),
+    }
+}
+
+/// The first link that doesn't keep a limit in a direction.
+pub fn first_broken(artery: &Artery, timing: &Timing, rule: LinkRule, dir: Dir) -> Option<u32>
+    requires shape { length timing.now.patterns ≡ count artery.now }
+    ensures { MatchOption result (AllLinks artery.now timing.now rule dir)
+        (λ i. IsFirstBroken artery.now timing.now rule dir i) }
+{
+    for link in 1..artery.count() {
+        if !is_kept(artery, timing, rule, dir, link) {
+            return Some(link);
+        }
+    }
+    None
+}

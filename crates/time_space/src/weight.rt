@@ -1,0 +1,55 @@
+//! The weighted band of a timing.
+
+ghost use Rattle.std.specs.Prelude.{◌≡◌, ◌+◌, ◌*◌, ◌<◌, ◌≤◌, ◌^◌, pos, ◌≤ℤ◌, unsigned_abs};
+ghost use Rattle.ratio.specs.Rational.{over};
+ghost use Rattle.progression.specs.Best.{weighted_band};
+
+use crate::diagram::cycle;
+use crate::timing::Timing;
+use artery_model::Artery;
+use narrow_fraction::Frac;
+use progression::Dir;
+
+/// The fraction of two numbers that fit with a sign.
+fn fraction(top: u128, bottom: u128) -> Frac
+    requires top { top < 2 ^ 126 }
+    requires some { 1 ≤ bottom }
+    requires bottom { bottom < 2 ^ 126 }
+    ensures { result ≡ over (pos top) bottom }
+{
+    match Frac::new(top as i128, bottom as i128) {
+        Ok(fraction) => fraction,
+        Err(_) => unreachable!(),
+    }
+}
+
+/// The numerator of a small fraction that isn't negative.
+fn numerator(given: Frac) -> u128
+    requires least { pos 0 ≤ℤ given.num }
+    requires most { unsigned_abs given.num ≤ 100000 }
+    ensures value { pos result ≡ given.num }
+    ensures most { result ≤ 100000 }
+{
+    given.num() as u128
+}
+
+/// The denominator of a small fraction.
+fn denominator(given: Frac) -> u128
+    requires { given.den ≤ 1000 }
+    ensures value { result ≡ given.den }
+    ensures least { 1 ≤ result }
+    ensures most { result ≤ 1000 }
+{
+    given.den() as u128
+}
+
+/// The weighted band: the outbound band and the ratio times the inbound one, as a fraction of the cycle.
+#[tactic(auto, using(crate::proofs::Quotients::weighted))]
+pub fn value(artery: &Artery, timing: &Timing) -> Frac
+    ensures { result ≡ weighted_band artery.now timing.now }
+{
+    let ratio = artery.ratio();
+    let (num, den) = (numerator(ratio), denominator(ratio));
+    let bands = den * timing.band(Dir::Outbound) + num * timing.band(Dir::Inbound);
+    fraction(bands, den * cycle(artery, timing))
+}
