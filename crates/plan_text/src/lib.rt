@@ -1,0 +1,10 @@
+//! Texts of plans: what is written is the one spelling, and what is read is exactly that. A reader
+//! names the first bad line. Start with `read_timing`.
+#![tactic(auto)]
+
+mod cut;
+mod fault;
+mod lines;
+mod number;
+
+pub use fault::{BadText, TextEnd, TextFault};
