@@ -39,7 +39,7 @@ pub words_one : (xs : List ℕ) → cut 32 xs ≡ None → words xs ≡ xs ∷ [
 words_one [] e = refl
 words_one (x ∷ xs) e = words_by x xs (cut 32 xs) (x == 32) (words_one xs) e
 
-some_is : (p q : List ℕ × List ℕ) → ◌≡◌ {A = Option (List ℕ × List ℕ)} (Some p) (Some q) → p ≡ q
+pub some_is : (p q : List ℕ × List ℕ) → ◌≡◌ {A = Option (List ℕ × List ℕ)} (Some p) (Some q) → p ≡ q
 some_is p q e = cc
 
 -- a line with a space is its first word and the words of the rest

@@ -1,3 +1,6 @@
 pub mod Cuts
 pub mod Spellings
 pub mod Loop
+pub mod Pieces
+pub mod Fields
+pub mod Timings

@@ -30,7 +30,7 @@ unfolding numbers_in
 goes_on front place i words d n total lt h so_far =
     let next : drop i words ≡ get_or words i d ∷ drop (i + 1) words = drop_more words i d lt in
     let one : with_front front (numbers_in place (bytes_of (drop i words))) ≡ with_front (front ++ n ∷ []) (numbers_in place (bytes_of (drop (i + 1) words)))
-        = rw (next, h) (regroup front n (numbers_in place (bytes_of (drop (i + 1) words)))) in
+    = rw (next, h) (regroup front n (numbers_in place (bytes_of (drop (i + 1) words)))) in
     sym one ∙ so_far
 
 pub stops : (e : TextEnd) (front : List ℕ) (place : Place) (i : ℕ) (words : List (Bor (List ℕ))) (d : Bor (List ℕ)) (total : Result (List ℕ) BadText) → i < length words → Fails e (ranged place (number (get_or words i d).now))

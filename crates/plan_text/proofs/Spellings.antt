@@ -48,7 +48,7 @@ decimal_value_digits (c ∷ e ∷ cs) d plain small =
     decimal_value_after (0 * 10 + digit_value c) (e ∷ cs) (omega arith) d.1 small
     ∙ ap (λ x. x ++ (e ∷ cs)) (decimal_digit (0 * 10 + digit_value c) (omega (arith, d.0)) ∙ ap (λ x. x ∷ []) is)
 
-both_true : (a b : Bool) → (a && b) ≡ true → (a ≡ true) × (b ≡ true)
+pub both_true : (a b : Bool) → (a && b) ≡ true → (a ≡ true) × (b ≡ true)
 both_true true b h = (refl, h)
 both_true false b h = absurd cc
 
@@ -131,6 +131,6 @@ unfolding number
 none_huge w text e same p =
     let b = both_true (is_plain w) (all_ascii_digits w) e in
     let no = parse_digits own {E = Unit {0}} 128 w (Err tt) (subst Unparsed same p) b.1 in
-    let large : 2 ^ 80 ≤ digits_value 10 w = elim (cases_lt (digits_value 10 w) (2 ^ 80)) [ | inl lt ↦ absurd (no (some w b.0, omega arith)) | inr le ↦ le ] in
+    let large : 2 ^ 80 ≤ digits_value 10 w = elim (cases_lt (digits_value 10 w) (2 ^ 80)) [ inl lt ↦ absurd (no (some w b.0, omega arith)) | inr le ↦ le ] in
     let lt : ltb (digits_value 10 w) (2 ^ 80) ≡ false = le-ltb _ _ large in
     rw (e, lt) refl

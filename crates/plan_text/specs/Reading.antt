@@ -4,6 +4,7 @@ use Rattle.progression.specs.Plan.{Plan}
 use Rattle.time_space.specs.Timing.{plan_of}
 use Rattle.plan_text.specs.declared.fault.BadText.{BadText}
 use Rattle.plan_text.specs.declared.lines.Place.{Place}
+use Rattle.plan_text.specs.declared.reading.Bands.{Bands}
 use Rattle.plan_text.specs.Spelling.{head_line, grid_key, unit_key, pattern_key, red_key, run_out_key, run_in_key, first_key, band_key, end_line}
 use Rattle.plan_text.specs.Lines.{◌>>=◌, fixed_at, nothing_at, numbers_at}
 
@@ -37,14 +38,19 @@ runs_at links bytes = do
   run_in ← numbers_at run_in_key (place_of 7 links 0) run_out.1
   Ok (run_out.0, run_in.0, run_in.1)
 
--- lines 8 to 10, the last: firsts and bands, outbound and inbound
-unfoldable pub bands_at : List ℕ → Result (List ℕ × List ℕ) BadText
+-- lines 8 to 10, the last: firsts and bands
+unfoldable pub bands_at : List ℕ → Result Bands BadText
 bands_at bytes = do
   first ← numbers_at first_key (place_of 8 2 0) bytes
   band ← numbers_at band_key (place_of 9 2 0) first.1
   rest ← fixed_at 10 end_line band.1
   nothing ← nothing_at 11 rest
-  Ok (first.0, band.0)
+  Ok (record {
+    first_out = slice_index first.0 0;
+    first_in = slice_index first.0 1;
+    band_out = slice_index band.0 0;
+    band_in = slice_index band.0 1;
+  })
 
 unfoldable pub timing_of : List ℕ → Result Plan BadText
 timing_of bytes = do
@@ -52,5 +58,4 @@ timing_of bytes = do
   signals ← signals_at scale.2
   runs ← runs_at (length signals.0 - 1) signals.2
   bands ← bands_at runs.2
-  Ok (plan_of scale.0 scale.1 signals.0 signals.1 runs.0 runs.1
-      (slice_index bands.0 0) (slice_index bands.0 1) (slice_index bands.1 0) (slice_index bands.1 1))
+  Ok (plan_of scale.0 scale.1 signals.0 signals.1 runs.0 runs.1 bands.first_out bands.first_in bands.band_out bands.band_in)

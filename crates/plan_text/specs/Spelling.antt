@@ -66,6 +66,6 @@ timing_text t = ended (timing_lines t)
 -- a plan that a timing of the program can be: its numbers are in their ranges, and its ticks from 0 on
 pub record IsHeld (t : Plan) : Type 0 where
   pub ranges : IsTiming t.grid t.unit t.patterns (map unsigned_abs t.reds) t.run_out t.run_in (unsigned_abs t.first_out) (unsigned_abs t.first_in) t.band_out t.band_in
-  pub reds : t.reds ≡ map (λ r. pos (unsigned_abs r)) t.reds
+  pub reds : t.reds ≡ map pos (map unsigned_abs t.reds)
   pub first_out : t.first_out ≡ pos (unsigned_abs t.first_out)
   pub first_in : t.first_in ≡ pos (unsigned_abs t.first_in)

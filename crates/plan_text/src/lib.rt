@@ -6,5 +6,7 @@ mod cut;
 mod fault;
 mod lines;
 mod number;
+mod reading;
 
 pub use fault::{BadText, TextEnd, TextFault};
+pub use reading::read_timing;

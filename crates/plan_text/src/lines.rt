@@ -99,7 +99,12 @@ fn has_shape(key: &[u8], place: Place, words: &[&[u8]]) -> bool
 }
 
 #[tactic(auto, unfolding(crate::specs::Lines::numbers_of))]
-fn numbers_of(alloc: Global, key: &[u8], place: Place, words: &[&[u8]]) -> Result<Vec<u128>, TextEnd>
+fn numbers_of(
+    alloc: Global,
+    key: &[u8],
+    place: Place,
+    words: &[&[u8]],
+) -> Result<Vec<u128>, TextEnd>
     ensures { Gives (λ v. v.items) result (numbers_of key.now place (map (λ w. w.now) words.now)) }
 {
     match words {
@@ -108,13 +113,32 @@ fn numbers_of(alloc: Global, key: &[u8], place: Place, words: &[&[u8]]) -> Resul
     }
 }
 
-/// The numbers of the next line, and what follows it.
 #[tactic(auto, unfolding(crate::specs::Lines::numbers_at))]
-pub fn numbers_at<'a>(alloc: Global, key: &[u8], place: Place, bytes: &'a [u8]) -> Result<(Vec<u128>, &'a [u8]), TextEnd>
+fn some_at<'a>(
+    alloc: Global,
+    key: &[u8],
+    place: Place,
+    bytes: &'a [u8],
+) -> Result<(Vec<u128>, &'a [u8]), TextEnd>
     ensures { Gives (λ x. (x.0.items, x.1.now)) result (numbers_at key.now place bytes.now) }
 {
     let (line, rest) = line_at(place.line, bytes)?;
     let words = words(alloc, line)?;
     let numbers = numbers_of(alloc, key, place, words.as_slice())?;
     Ok((numbers, rest))
+}
+
+/// The numbers of the next line, and what follows it.
+pub fn numbers_at<'a>(
+    alloc: Global,
+    key: &[u8],
+    place: Place,
+    bytes: &'a [u8],
+) -> Result<(Vec<u128>, &'a [u8]), TextEnd>
+    ensures exact { Gives (λ x. (x.0.items, x.1.now)) result (numbers_at key.now place bytes.now) }
+    ensures fewest { IfOk result (λ x. place.fewest ≤ length x.0.items) }
+    ensures most { IfOk result (λ x. length x.0.items ≤ place.most) }
+    ensures each { IfOk result (λ x. All (λ n. (place.least ≤ n) × (n ≤ place.greatest)) x.0.items) }
+{
+    some_at(alloc, key, place, bytes)
 }

@@ -8,7 +8,7 @@ cuts-smaller c = cut_shorter 32 c.cuts.rest.now c.in-Some.word.now c.in-Some.aft
 pub cuts-preserved : goal.cuts-preserved
 cuts-preserved c =
     rw c.in_ok-push.ensures.items (pushed c.cuts.found.items c.in-Some.word c.args.line.now c.cuts.rest.now c.in-Some.after.now c.cuts.invariant
-        (cut_is c.cut.result (c.in-Some.word, c.in-Some.after) _ c.cut.ensures c.in-Some.is))
+    (cut_is c.cut.result (c.in-Some.word, c.in-Some.after) _ c.cut.ensures c.in-Some.is))
 
 pub returns : goal.returns
 returns c =
