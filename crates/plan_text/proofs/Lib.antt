@@ -4,3 +4,4 @@ pub mod Loop
 pub mod Pieces
 pub mod Fields
 pub mod Timings
+pub mod Written

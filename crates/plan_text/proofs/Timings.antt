@@ -192,7 +192,7 @@ fits b0 b1 b2 b3 s g r b es eg er eb =
       band_in_most = bands.band_in;
     }
 
-abs_pos : (ns : List ℕ) → map unsigned_abs (map pos ns) ≡ ns
+pub abs_pos : (ns : List ℕ) → map unsigned_abs (map pos ns) ≡ ns
 abs_pos [] = refl
 abs_pos (n ∷ ns) = ap (λ (x : List ℕ). n ∷ x) (abs_pos ns)
 

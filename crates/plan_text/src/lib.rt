@@ -7,6 +7,8 @@ mod fault;
 mod lines;
 mod number;
 mod reading;
+mod writing;
 
 pub use fault::{BadText, TextEnd, TextFault};
 pub use reading::read_timing;
+pub use writing::write_timing;
