@@ -1,0 +1,149 @@
+//! The text of a timing, read.
+
+ghost use Rattle.std.specs.Prelude.{◌≡◌, ◌+◌, ◌-◌, ◌<◌, ◌≤◌, ◌^◌, All, length, IfOk, Ok};
+ghost use Rattle.progression.specs.Plan.{Plan};
+ghost use Rattle.plan_text.specs.Lines.{Gives};
+ghost use Rattle.plan_text.specs.Spelling.{timing_text, IsHeld};
+ghost use Rattle.plan_text.specs.Reading.{place_of, pattern_place, scale_at, signals_at, runs_at, bands_at, timing_of};
+
+use crate::fault::TextEnd;
+use crate::lines::{Place, fixed_at, nothing_at, numbers_at};
+use crate::number::LIMIT;
+use std::alloc::{AllocError, Global};
+use time_space::Timing;
+
+/// What the lines `first` and `band` have, in ticks.
+#[derive(Clone, Copy)]
+struct Bands {
+    first_out: u128,
+    first_in: u128,
+    band_out: u128,
+    band_in: u128,
+}
+
+/// 2 to 16 patterns.
+const PATTERNS: Place = Place {
+    line: 4,
+    fewest: 2,
+    most: 16,
+    least: 1,
+    greatest: 4,
+};
+
+/// The place of a line with so many numbers, of which none is less than `least`.
+fn place(line: u64, count: usize, least: u128) -> Place
+    ensures { result ≡ place_of line count least }
+{
+    Place {
+        line,
+        fewest: count,
+        most: count,
+        least,
+        greatest: LIMIT - 1,
+    }
+}
+
+/// Grid and unit, and what follows their lines.
+#[tactic(auto, unfolding(crate::specs::Reading::scale_at))]
+fn scale_at(alloc: Global, bytes: &[u8]) -> Result<(u128, u128, &[u8]), TextEnd>
+    ensures exact { Gives (λ x. (x.0, x.1, x.2.now)) result (scale_at bytes.now) }
+{
+    let rest = fixed_at(1, b"maxband-timing 1", bytes)?;
+    let (grid, rest) = numbers_at(alloc, b"grid", place(2, 1, 1), rest)?;
+    let (unit, rest) = numbers_at(alloc, b"unit", place(3, 1, 2), rest)?;
+    Ok((grid[0], unit[0], rest))
+}
+
+/// Patterns and reds, and what follows their lines.
+#[tactic(auto, unfolding(crate::specs::Reading::signals_at))]
+fn signals_at(alloc: Global, bytes: &[u8]) -> Result<(Vec<u128>, Vec<u128>, &[u8]), TextEnd>
+    ensures exact { Gives (λ x. (x.0.items, x.1.items, x.2.now)) result (signals_at bytes.now) }
+    ensures fewest { IfOk result (λ x. 2 ≤ length x.0.items) }
+    ensures each { IfOk result (λ x. All (λ p. (1 ≤ p) × (p ≤ 4)) x.0.items) }
+{
+    let (patterns, rest) = numbers_at(alloc, b"pattern", PATTERNS, bytes)?;
+    let (reds, rest) = numbers_at(alloc, b"red", place(5, patterns.len(), 0), rest)?;
+    Ok((patterns, reds, rest))
+}
+
+/// The runs of so many links, and what follows their lines.
+#[tactic(auto, unfolding(crate::specs::Reading::runs_at))]
+fn runs_at(
+    alloc: Global,
+    links: usize,
+    bytes: &[u8],
+) -> Result<(Vec<u128>, Vec<u128>, &[u8]), TextEnd>
+    ensures exact { Gives (λ x. (x.0.items, x.1.items, x.2.now)) result (runs_at links bytes.now) }
+{
+    let (run_out, rest) = numbers_at(alloc, b"run_out", place(6, links, 0), bytes)?;
+    let (run_in, rest) = numbers_at(alloc, b"run_in", place(7, links, 0), rest)?;
+    Ok((run_out, run_in, rest))
+}
+
+/// Where the first lines cross, and the bands, as the last lines have them.
+#[tactic(auto, unfolding(crate::specs::Reading::bands_at))]
+fn bands_at(alloc: Global, bytes: &[u8]) -> Result<Bands, TextEnd>
+    ensures exact { Gives (λ x. x) result (bands_at bytes.now) }
+{
+    let (first, rest) = numbers_at(alloc, b"first", place(8, 2, 0), bytes)?;
+    let (band, rest) = numbers_at(alloc, b"band", place(9, 2, 0), rest)?;
+    let rest = fixed_at(10, b"end", rest)?;
+    nothing_at(11, rest)?;
+    Ok(Bands {
+        first_out: first[0],
+        first_in: first[1],
+        band_out: band[0],
+        band_in: band[1],
+    })
+}
+
+fn patterns_of(alloc: Global, numbers: &[u128]) -> Result<Vec<u32>, AllocError>
+    requires { All (λ p. (1 ≤ p) × (p ≤ 4)) numbers.now }
+    ensures { IfOk result (λ v. v.items ≡ numbers.now) }
+{
+    let mut patterns = Vec::new(alloc);
+    for number in numbers {
+        patterns.push(*number as u32)?;
+    }
+    Ok(patterns)
+}
+
+#[tactic(auto, unfolding(crate::specs::Reading::timing_of))]
+fn timing_of(alloc: Global, bytes: &[u8]) -> Result<Timing, TextEnd>
+    ensures { Gives (λ t. t) result (timing_of bytes.now) }
+{
+    let (grid, unit, rest) = scale_at(alloc, bytes)?;
+    let (patterns, reds, rest) = signals_at(alloc, rest)?;
+    let (run_out, run_in, rest) = runs_at(alloc, patterns.len() - 1, rest)?;
+    let bands = bands_at(alloc, rest)?;
+    let patterns = patterns_of(alloc, patterns.as_slice())?;
+    match Timing::new(
+        grid,
+        unit,
+        patterns,
+        reds,
+        run_out,
+        run_in,
+        bands.first_out,
+        bands.first_in,
+        bands.band_out,
+        bands.band_in,
+    ) {
+        Some(timing) => Ok(timing),
+        None => unreachable!(),
+    }
+}
+
+/// The timing that a text spells, all of its bytes.
+///
+/// Of a text that spells none the first bad line is named, with the first fault that applies to it.
+pub fn read_timing(alloc: Global, bytes: &[u8]) -> Result<Timing, TextEnd>
+    // What is read is spelled so.
+    ensures found { IfOk result (λ t. bytes.now ≡ timing_text t) }
+    // What spells a timing is read, unless memory runs out.
+    ensures only { (plan : Plan) → IsHeld plan → bytes.now ≡ timing_text plan → Gives (λ t. t) result (Ok plan) }
+    // Which fault it is, and at which line.
+    ensures exact { Gives (λ t. t) result (timing_of bytes.now) }
+{
+    timing_of(alloc, bytes)
+}

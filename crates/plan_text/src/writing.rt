@@ -1,0 +1,70 @@
+//! The text of a timing, written.
+
+ghost use Rattle.std.specs.Prelude.{◌≡◌, ◌++◌, ◌∷◌, [], IfOk, OnOk, unsigned_abs};
+ghost use Rattle.progression.specs.Plan.{first};
+ghost use Rattle.plan_text.specs.Spelling.{spelled, timing_text};
+
+use narrow_fraction::Memory;
+use progression::Dir;
+use std::alloc::{AllocError, Global};
+use time_space::Timing;
+
+/// Writes a line of a key and numbers at the end.
+fn push_numbers(
+    alloc: Global,
+    out: &mut Vec<u8>,
+    key: &[u8],
+    numbers: &[u128],
+) -> Result<(), AllocError>
+    ensures { OnOk result (out.new.items ≡ out.old.items ++ (spelled key.now numbers.now ++ 10 ∷ [])) }
+{
+    out.extend_from_slice(key)?;
+    for number in numbers {
+        let word = format!(in alloc; " {number}")?;
+        out.extend_from_slice(word.as_bytes())?;
+    }
+    out.push(b'\n')?;
+    Ok(())
+}
+
+fn widened(alloc: Global, patterns: &[u32]) -> Result<Vec<u128>, AllocError>
+    ensures { IfOk result (λ v. v.items ≡ patterns.now) }
+{
+    let mut wide = Vec::new(alloc);
+    for pattern in patterns {
+        wide.push(u128::from(*pattern))?;
+    }
+    Ok(wide)
+}
+
+/// Where the first line of a direction crosses, in ticks.
+fn first_of(timing: &Timing, dir: Dir) -> u128
+    ensures { result ≡ unsigned_abs (first timing.now dir) }
+{
+    timing.first(dir).unsigned_abs()
+}
+
+fn text_of(alloc: Global, timing: &Timing) -> Result<Vec<u8>, AllocError>
+    ensures { IfOk result (λ v. v.items ≡ timing_text timing.now) }
+{
+    let patterns = widened(alloc, timing.patterns())?;
+    let mut out = Vec::new(alloc);
+    push_numbers(alloc, &mut out, b"maxband-timing 1", &[])?;
+    push_numbers(alloc, &mut out, b"grid", &[timing.grid()])?;
+    push_numbers(alloc, &mut out, b"unit", &[timing.unit()])?;
+    push_numbers(alloc, &mut out, b"pattern", patterns.as_slice())?;
+    push_numbers(alloc, &mut out, b"red", timing.reds())?;
+    push_numbers(alloc, &mut out, b"run_out", timing.run_out())?;
+    push_numbers(alloc, &mut out, b"run_in", timing.run_in())?;
+    push_numbers(alloc, &mut out, b"first", &[first_of(timing, Dir::Outbound), first_of(timing, Dir::Inbound)])?;
+    push_numbers(alloc, &mut out, b"band", &[timing.band(Dir::Outbound), timing.band(Dir::Inbound)])?;
+    push_numbers(alloc, &mut out, b"end", &[])?;
+    Ok(out)
+}
+
+/// The one text of a timing, which `read_timing` reads again.
+pub fn write_timing(alloc: Global, timing: &Timing) -> Result<Vec<u8>, Memory>
+    ensures { IfOk result (λ v. v.items ≡ timing_text timing.now) }
+{
+    text_of(alloc, timing).map_err(|_| Memory)
+}
