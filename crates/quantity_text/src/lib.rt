@@ -7,3 +7,6 @@ mod quantity;
 
 pub use exact::exact_text;
 pub use quantity::{BadNumber, parse_quantity};
+
+#[cfg(test)]
+mod tests;
