@@ -76,7 +76,7 @@ fn after_mark(whole: u64, mark: u8, places: u32, back: u64) -> Option<Frac>
 }
 
 /// The fraction of two natural numbers.
-fn natural(top: u128, bottom: u128) -> Frac
+pub(crate) fn natural(top: u128, bottom: u128) -> Frac
     requires top { top < 2 ^ 127 }
     requires above { 0 < bottom }
     requires bottom { bottom < 2 ^ 127 }
