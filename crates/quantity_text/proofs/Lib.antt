@@ -1,3 +1,4 @@
+pub mod ExactTexts
 pub mod Numerals
 pub mod Quotients
 pub mod Runs

@@ -1,6 +1,6 @@
 -- The one exact spelling of a rational number: an optional minus, the numerator's digits, and then `/` and the
 -- denominator's digits unless that is 1. No number has a leading zero, and 0 has no minus.
-use Rattle.std.specs.Prelude.{◌≡◌, ℕ, ℤ, pos, neg_ℤ, Bool, true, false, ◌<◌, ◌^◌, List, [], ◌∷◌, ◌++◌, ◌==◌, if◌then◌else◌}
+use Rattle.std.specs.Prelude.{◌≡◌, ℕ, Bool, true, unsigned_abs, ◌<◌, ◌^◌, List, [], ◌∷◌, ◌++◌, ◌==◌, if◌then◌else◌}
 use Rattle.std.specs.Fmt.{decimal, signed_decimal}
 use Rattle.ratio.specs.Rational.{ℚ}
 use Rattle.narrow_fraction.specs.Fraction.{FitsFrac, signed}
@@ -29,3 +29,9 @@ pub record HasParts (x : ℚ) (negative : Bool) (top bottom : ℕ) : Type 0 wher
   pub num_is : x.num ≡ signed negative top
   pub den_is : x.den ≡ bottom
   pub no_minus_zero : negative ≡ true → 0 < top
+
+-- the text after the sign, or without one, is the spelling of x
+pub record SpellsSigned (negative : Bool) (size : List ℕ) (x : ℚ) : Type 0 where
+  pub fits : FitsFrac x
+  pub parts : HasParts x negative (unsigned_abs x.num) x.den
+  pub spelled : size ≡ decimal (unsigned_abs x.num) ++ denominator_text x.den

@@ -1,7 +1,7 @@
-ghost use Rattle.std.specs.Prelude.{◌≡◌, ◌<◌, ◌^◌, ℕ, Bool, IfSome, IfNone, MatchResult};
+ghost use Rattle.std.specs.Prelude.{◌≡◌, ◌↔◌, ◌<◌, ◌^◌, ℕ, pos, unsigned_abs, IsTrue, IfSome, IfNone, MatchResult, length, slice_index};
 ghost use Rattle.ratio.specs.Rational.{ℚ};
 ghost use Rattle.narrow_fraction.specs.Fraction.{FitsFrac};
-ghost use Rattle.quantity_text.specs.Exact.{SpellsExactly, SpellsSize, HasParts, denominator_text};
+ghost use Rattle.quantity_text.specs.Exact.{SpellsExactly, SpellsSigned, SpellsSize, HasParts, denominator_text};
 
 use crate::digits::mark_place;
 use crate::numeral::numeral;
@@ -15,15 +15,38 @@ use narrow_fraction::Frac;
 pub fn parse_exact(text: &[u8]) -> Result<Frac, BadNumber>
     ensures { MatchResult result (λ value. SpellsExactly text.now value) (λ _. (value : ℚ) → SpellsExactly text.now value → ⊥) }
 {
-    match text {
-        [b'-', size @ ..] => match size_of(size) {
-            Some(size) => signed(true, size).ok_or(BadNumber),
-            None => Err(BadNumber),
-        },
-        _ => match size_of(text) {
-            Some(size) => signed(false, size).ok_or(BadNumber),
-            None => Err(BadNumber),
-        },
+    match exact(text) {
+        Some(value) => Ok(value),
+        None => Err(BadNumber),
+    }
+}
+
+fn exact(text: &[u8]) -> Option<Frac>
+    ensures none { IfNone result ((value : ℚ) → SpellsExactly text.now value → ⊥) }
+    ensures some { IfSome result (λ value. SpellsExactly text.now value) }
+{
+    if has_minus(text) {
+        with_sign(true, &text[1..])
+    } else {
+        with_sign(false, text)
+    }
+}
+
+fn has_minus(text: &[u8]) -> bool
+    ensures first { IsTrue result ↔ (slice_index text.now 0 ≡ 45) }
+    ensures some { IsTrue result → 0 < length text.now }
+{
+    !text.is_empty() && text[0] == b'-'
+}
+
+/// The fraction with this sign whose numbers the text spells.
+fn with_sign(negative: bool, text: &[u8]) -> Option<Frac>
+    ensures none { IfNone result ((value : ℚ) → SpellsSigned negative text.now value → ⊥) }
+    ensures some { IfSome result (λ value. SpellsSigned negative text.now value) }
+{
+    match size_of(text) {
+        Some(size) => signed(negative, size),
+        None => None,
     }
 }
 
@@ -40,9 +63,13 @@ fn size_of(text: &[u8]) -> Option<Size>
     ensures some { IfSome result (λ size. SpellsSize text.now size.top size.bottom) }
 {
     let place = mark_place(text);
-    let top = numeral(&text[..place])?;
-    let bottom = denominator(&text[place..])?;
-    Some(Size { top, bottom })
+    let Some(top) = numeral(&text[..place]) else {
+        return None;
+    };
+    match denominator(&text[place..]) {
+        Some(bottom) => Some(Size { top, bottom }),
+        None => None,
+    }
 }
 
 /// The denominator of what stands after the numerator.
@@ -71,12 +98,32 @@ fn signed(negative: bool, size: Size) -> Option<Frac>
     ensures fits { IfSome result (λ value. FitsFrac value) }
     ensures some { IfSome result (λ value. HasParts value negative size.top size.bottom) }
 {
-    if negative && size.top == 0 {
+    let Some(value) = lowest(size) else {
         return None;
+    };
+    if !negative {
+        Some(value)
+    } else if size.top == 0 {
+        None
+    } else {
+        Some(value.neg())
     }
+}
+
+/// The fraction of two numbers, where they are in lowest terms.
+fn lowest(size: Size) -> Option<Frac>
+    requires top { size.top < 2 ^ 127 }
+    requires above { 0 < size.bottom }
+    requires bottom { size.bottom < 2 ^ 127 }
+    ensures none { IfNone result ((value : ℚ) → unsigned_abs value.num ≡ size.top → value.den ≡ size.bottom → ⊥) }
+    ensures fits { IfSome result (λ value. FitsFrac value) }
+    ensures num { IfSome result (λ value. value.num ≡ pos size.top) }
+    ensures den { IfSome result (λ value. value.den ≡ size.bottom) }
+{
     let value = natural(size.top, size.bottom);
-    if value.den().unsigned_abs() != size.bottom {
-        return None;
+    if value.den().unsigned_abs() == size.bottom {
+        Some(value)
+    } else {
+        None
     }
-    Some(if negative { value.neg() } else { value })
 }
