@@ -1,2 +1,5 @@
+pub mod ExactTexts
+pub mod Numerals
 pub mod Quotients
+pub mod Runs
 pub mod Spellings

@@ -1,5 +1,5 @@
 ghost use Rattle.std.specs.Prelude.{◌≡◌, ◌<◌, ◌≤◌, ◌^◌, IfSome, length};
-ghost use Rattle.std.specs.List.{position_or_len};
+ghost use Rattle.std.specs.List.{position, position_or_len};
 ghost use Rattle.quantity_text.specs.Quantity.{run_of, is_mark};
 
 /// The number that 1 to 18 digits write.
@@ -21,11 +21,18 @@ pub(crate) fn run(digits: &[u8]) -> Option<u64>
     Some(number)
 }
 
+/// The place of the first point or slash.
+fn mark(text: &[u8]) -> Option<usize>
+    ensures { result ≡ position is_mark text.now }
+{
+    text.iter().position(|byte| *byte == b'.' || *byte == b'/')
+}
+
 /// The place of the first point or slash, or the length where there is none.
+#[tactic(auto, using(crate::proofs::Runs::place_or_len))]
 pub(crate) fn mark_place(text: &[u8]) -> usize
     ensures place { result ≡ position_or_len is_mark text.now }
     ensures within { result ≤ length text.now }
 {
-    let place = text.iter().position(|byte| *byte == b'.' || *byte == b'/');
-    place.unwrap_or(text.len())
+    mark(text).unwrap_or(text.len())
 }

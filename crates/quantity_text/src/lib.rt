@@ -3,7 +3,13 @@
 
 mod digits;
 mod exact;
+mod exact_read;
+mod numeral;
 mod quantity;
 
 pub use exact::exact_text;
+pub use exact_read::parse_exact;
 pub use quantity::{BadNumber, parse_quantity};
+
+#[cfg(test)]
+mod tests;

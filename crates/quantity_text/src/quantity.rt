@@ -1,6 +1,7 @@
 ghost use Rattle.std.specs.Prelude.{◌≡◌, ◌<◌, ◌≤◌, ◌^◌, pos};
 ghost use Rattle.std.specs.Result.{result_ok};
 ghost use Rattle.ratio.specs.Rational.{over};
+ghost use Rattle.narrow_fraction.specs.Fraction.{FitsFrac};
 ghost use Rattle.quantity_text.specs.Quantity.{marked, with_tail, size_of, quantity_of};
 
 use crate::digits::{mark_place, run};
@@ -76,11 +77,12 @@ fn after_mark(whole: u64, mark: u8, places: u32, back: u64) -> Option<Frac>
 }
 
 /// The fraction of two natural numbers.
-fn natural(top: u128, bottom: u128) -> Frac
+pub(crate) fn natural(top: u128, bottom: u128) -> Frac
     requires top { top < 2 ^ 127 }
     requires above { 0 < bottom }
     requires bottom { bottom < 2 ^ 127 }
-    ensures { result ≡ over (pos top) bottom }
+    ensures value { result ≡ over (pos top) bottom }
+    ensures fits { FitsFrac result }
 {
     match Frac::new(top as i128, bottom as i128) {
         Ok(fraction) => fraction,
