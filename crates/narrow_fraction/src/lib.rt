@@ -15,6 +15,10 @@ mod compare;
 mod divisor;
 mod frac;
 mod memory;
+mod operations;
+mod order;
+mod products;
+mod sums;
 mod unfit;
 mod wide;
 

@@ -3,9 +3,9 @@ use Rattle.std.proofs.Common.{◌≡◌, ℕ, zero, suc, ℤ, pos, negsuc, ◌*�
 use Rattle.std.specs.Int.{IsGcd}
 use Rattle.std.specs.Prelude.{int_div}
 use Rattle.std.proofs.lemmas.Int.{ints}
-use Rattle.std.proofs.lemmas.Nat.Gcd.{same_from_IsGcd, IsGcd-from_mod, IsGcd-from_zero}
+use Rattle.std.proofs.lemmas.Nat.Gcd.{same_from_IsGcd, IsGcd-from_mod, IsGcd-from_zero, IsGcd-swap}
 use Prim.Native.Nat.{◌∣◌}
-use native.Mathlib.Nat.{mul-div_cancel', dvd-mul_left, dvd_of_mul-dvd-mul_left, mul-dvd-mul_left, eq-one_of_dvd-one, pos_of_dvd_of_pos}
+use native.Mathlib.Nat.{mul-div_cancel', dvd-mul_left, dvd_of_mul-dvd-mul_left, mul-dvd-mul_left, eq-one_of_dvd-one, pos_of_dvd_of_pos, one-dvd, dvd_refl}
 use Rattle.ratio.specs.Gcd.{gcd}
 use Rattle.ratio.specs.Coprime.{gcd-IsGcd}
 use Rattle.ratio.specs.Integers.{neg_ℤ-*ℤ}
@@ -61,3 +61,15 @@ gcd-zero a b e = gcd-is a b a (IsGcd-from_zero a b e)
 
 pub first_part_pos : (a b : ℕ) → 0 < a → 0 < b → 0 < a / gcd a b
 first_part_pos a b h k = pos_of_dvd_of_pos (subst (λ n. a / gcd a b ∣ n) (times_part a b k).0 (dvd-mul_left (a / gcd a b) (gcd a b))) h
+
+pub gcd_comm : (a b : ℕ) → gcd a b ≡ gcd b a
+gcd_comm a b = gcd-is a b (gcd b a) (IsGcd-swap b a (gcd b a) (gcd-IsGcd b a))
+
+pub gcd-one : (a : ℕ) → gcd a 1 ≡ 1
+gcd-one a = gcd-is a 1 1 (one-dvd a, dvd_refl 1, λ e p q. q)
+
+pub one-gcd : (b : ℕ) → gcd 1 b ≡ 1
+one-gcd b = gcd_comm 1 b ∙ gcd-one b
+
+pub gcd-self : (a : ℕ) → gcd a a ≡ a
+gcd-self a = gcd-is a a a (dvd_refl a, dvd_refl a, λ e p q. p)
