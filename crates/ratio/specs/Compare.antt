@@ -117,6 +117,13 @@ eq_true x y e = eq_by x y (cmp_ℚ x y) (ranked_ℚ x y (cmp_ℚ x y) refl) e
 pub ne_false : (x y : ℚ) → false ≡ not (eq_by_cmp cmp_ℚ x y) → x ≡ y
 ne_false x y e = eq_true x y (not_out (eq_by_cmp cmp_ℚ x y) e)
 
+-- `x == y` that failed, and `x != y`
+pub eq_false : (x y : ℚ) → false ≡ eq_by_cmp cmp_ℚ x y → x ≡ y → ⊥
+eq_false x y e h = true≢false (sym (eq_of x y (cmp_ℚ x y) (ranked_ℚ x y (cmp_ℚ x y) refl) h) ∙ sym e)
+
+pub ne_true : (x y : ℚ) → true ≡ not (eq_by_cmp cmp_ℚ x y) → x ≡ y → ⊥
+ne_true x y e h = true≢false (e ∙ ap not (eq_of x y (cmp_ℚ x y) (ranked_ℚ x y (cmp_ℚ x y) refl) h))
+
 -- the same, both ways, for a test's answer b
 pub lt_says : (x y : ℚ) (b : Bool) → b ≡ is_lt (cmp_ℚ x y) → IsTrue b ↔ (x <ℚ y)
 lt_says x y b e = (λ t. lt_true x y (sym t ∙ e), λ h. e ∙ lt_of x y (cmp_ℚ x y) (ranked_ℚ x y (cmp_ℚ x y) refl) h)

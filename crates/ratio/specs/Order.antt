@@ -128,3 +128,15 @@ over_≤ℚ a b d e h k = (
 -- a denominator of 1
 pub whole_num : (x : ℚ) → x.den ≡ 1 → x ≡ whole x.num
 whole_num x e = same_ratio x _ _ _ _ _ _ _ (own_ratio x) (whole_ratio x.num) (rw e (omega arith))
+
+-- what is not 0
+pub num_not_zero : (x : ℚ) → (x.num ≡ pos 0 → ⊥) → x ≡ whole (pos 0) → ⊥
+unfolding whole
+num_not_zero x n e = n (ap (λ (t : ℚ). t.num) e)
+
+pub whole_not_zero : (z : ℤ) → (z ≡ pos 0 → ⊥) → whole z ≡ whole (pos 0) → ⊥
+unfolding whole
+whole_not_zero z n e = n (ap (λ (t : ℚ). t.num) e)
+
+pub above_not_zero : (x : ℚ) → whole (pos 0) <ℚ x → x ≡ whole (pos 0) → ⊥
+above_not_zero x h e = <ℚ_not-≤ℚ _ _ h (rw e (≤ℚ_refl (whole (pos 0))))
