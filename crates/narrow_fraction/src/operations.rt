@@ -5,7 +5,7 @@ ghost use Rattle.narrow_fraction.specs.Past128.{Fits128, Past128};
 use crate::frac::Frac;
 use crate::products::product;
 use crate::sums::sum;
-use crate::wide::{Op, Wide};
+use crate::wide::{Op, Wide, refusal};
 
 impl Frac {
     /// The exact sum.
@@ -18,11 +18,7 @@ impl Frac {
     {
         match sum(self, other) {
             Some(exact) => Ok(exact),
-            None => Err(Wide {
-                op: Op::Add,
-                left: self,
-                right: other,
-            }),
+            None => Err(refusal(Op::Add, self, other)),
         }
     }
 
@@ -36,11 +32,7 @@ impl Frac {
     {
         match sum(self, other.neg()) {
             Some(exact) => Ok(exact),
-            None => Err(Wide {
-                op: Op::Sub,
-                left: self,
-                right: other,
-            }),
+            None => Err(refusal(Op::Sub, self, other)),
         }
     }
 
@@ -51,11 +43,7 @@ impl Frac {
     {
         match product(self, other) {
             Some(exact) => Ok(exact),
-            None => Err(Wide {
-                op: Op::Mul,
-                left: self,
-                right: other,
-            }),
+            None => Err(refusal(Op::Mul, self, other)),
         }
     }
 
@@ -67,11 +55,7 @@ impl Frac {
     {
         match product(self, other.reciprocal()) {
             Some(exact) => Ok(exact),
-            None => Err(Wide {
-                op: Op::Div,
-                left: self,
-                right: other,
-            }),
+            None => Err(refusal(Op::Div, self, other)),
         }
     }
 }

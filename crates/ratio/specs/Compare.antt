@@ -10,6 +10,7 @@ use Rattle.ratio.specs.Order.{<ℚ_not-≤ℚ, <ℚ_trans, <ℚ-≤ℚ, ≤ℚ_r
 unfoldable pub cmp_ℚ : ℚ → ℚ → Ordering
 cmp_ℚ x y = int_cmp (x.num *ℤ pos y.den) (y.num *ℤ pos x.den)
 
+-- an order of cross products is one of numbers, and back
 at_order : (x y : ℚ) (o : Ordering) → MatchOrdering o ((x.num *ℤ pos y.den) <ℤ (y.num *ℤ pos x.den)) (x.num *ℤ pos y.den ≡ y.num *ℤ pos x.den) ((y.num *ℤ pos x.den) <ℤ (x.num *ℤ pos y.den)) → MatchOrdering o (x <ℚ y) (x ≡ y) (y <ℚ x)
 at_order x y Less h = record { cross = h }
 at_order x y Equal h = same_cross x y h
@@ -20,6 +21,7 @@ order_at x y Less h = h.cross
 order_at x y Equal h = ap (λ (t : ℚ). t.num *ℤ pos y.den) h ∙ ap (λ (t : ℚ). y.num *ℤ pos t.den) (sym h)
 order_at x y Greater h = h.cross
 
+-- what the answer says, and the answer from what it says
 pub ranked_ℚ : (x y : ℚ) (o : Ordering) → o ≡ cmp_ℚ x y → MatchOrdering o (x <ℚ y) (x ≡ y) (y <ℚ x)
 unfolding cmp_ℚ
 ranked_ℚ x y o e = at_order x y o (int_ranked _ _ o e)
@@ -34,6 +36,7 @@ less_out x y e = ranked_ℚ x y Less (sym e)
 equal_out : (x y : ℚ) → cmp_ℚ x y ≡ Equal → x ≡ y
 equal_out x y e = ranked_ℚ x y Equal (sym e)
 
+-- a total order, and the laws of the tests that rest on it
 pub cmp_ℚ_total : IsTotalOrder cmp_ℚ
 unfolding cmp_ℚ
 cmp_ℚ_total = record {
