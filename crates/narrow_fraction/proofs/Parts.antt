@@ -42,10 +42,10 @@ signed-abs (pos n) = grind (arith, ints)
 signed-abs (negsuc n) = refl
 
 -- ---- coprime numbers
-coprime_part : (a b z : ℕ) → IsGcd a b 1 → z ∣ b → IsGcd a z 1
+pub coprime_part : (a b z : ℕ) → IsGcd a b 1 → z ∣ b → IsGcd a z 1
 coprime_part a b z h p = (one-dvd a, one-dvd z, λ e q r. h.2 e q (dvd_trans e r p))
 
-coprime_turn : (a b : ℕ) → IsGcd a b 1 → IsGcd b a 1
+pub coprime_turn : (a b : ℕ) → IsGcd a b 1 → IsGcd b a 1
 coprime_turn a b h = (h.1, h.0, λ e p q. h.2 e q p)
 
 pub coprime_times : (x y z : ℕ) → IsGcd x z 1 → IsGcd y z 1 → IsGcd (x * y) z 1

@@ -1,3 +1,4 @@
 pub mod Fraction
 pub mod Views
 pub mod Made
+pub mod Past128

@@ -1,19 +1,15 @@
-ghost use Rattle.std.specs.Prelude.{◌≡◌, ◌^◌, nat_eq, int_lt, ◌<◌, ◌≤ℤ◌, pos, unsigned_abs, SomeIff};
-ghost use Rattle.ratio.specs.Rational.{whole, abs_ℚ, over, neg_ℚ, ◌<ℚ◌};
-ghost use Rattle.ratio.specs.Compare.{cmp_ℚ};
+ghost use Rattle.std.specs.Prelude.{◌≡◌, ◌^◌, ◌↔◌, ◌<◌, ◌≤◌, ◌≤ℤ◌, ◌*ℤ◌, IsTrue, int_lt, pos, unsigned_abs, SomeIff};
+ghost use Rattle.ratio.specs.Rational.{whole, abs_ℚ, inverse_ℚ, over, neg_ℚ};
 ghost use Rattle.ratio.specs.Floor.{floor_ℚ};
+ghost use Rattle.ratio.specs.Gcd.{gcd};
 ghost use Rattle.narrow_fraction.specs.Fraction.{FitsFrac, signed};
 ghost use Rattle.narrow_fraction.specs.Made.{IsMade};
-ghost use Rattle.std.specs.Ordering.{MatchOrdering};
-ghost use Rattle.ratio.specs.Gcd.{gcd};
 
-use crate::compare::compare_sizes;
-use crate::divisor::common_divisor;
+use crate::divisor::{common_divisor, divided};
 use crate::unfit::Unfit;
-use std::cmp::Ordering;
 use std::marker::Model;
 
-/// A rational number in lowest terms.
+/// A rational number in lowest terms, of two numbers of 128 bits with a sign.
 #[derive(Debug, Clone, Copy)]
 pub struct Frac {
     num: i128,
@@ -39,35 +35,94 @@ impl Model for Frac {
     ghost inverse_ok = { λ f h. fields_back f h };
 }
 
-/// The fraction of these two numbers, which have no common divisor, with this sign.
-fn build(negative: bool, top: u128, bottom: u128) -> Option<Frac>
+/// The greatest size of a numerator or denominator.
+pub const MOST: u128 = 170_141_183_460_469_231_731_687_303_715_884_105_727;
+
+/// The number of this size and sign.
+pub fn with_sign(negative: bool, size: u128) -> i128
+    requires { size < 2 ^ 127 }
+    ensures { result ≡ signed negative size }
+{
+    if negative {
+        -(size as i128)
+    } else {
+        size as i128
+    }
+}
+
+/// The fraction of these two sizes, which have no common divisor, with this sign.
+fn lowest(negative: bool, top: u128, bottom: u128) -> Frac
+    requires above { 0 < bottom }
+    requires reduced { gcd top bottom ≡ 1 }
+    requires top { top < 2 ^ 127 }
+    requires bottom { bottom < 2 ^ 127 }
+    ensures { result ≡ over (signed negative top) bottom }
+{
+    Frac {
+        num: with_sign(negative, top),
+        den: bottom as i128,
+    }
+}
+
+/// The fraction of these two sizes, which have no common divisor, with this sign, where both fit.
+pub fn build(negative: bool, top: u128, bottom: u128) -> Option<Frac>
     requires above { 0 < bottom }
     requires reduced { gcd top bottom ≡ 1 }
     ensures { SomeIff result (FitsFrac (over (signed negative top) bottom)) (over (signed negative top) bottom) }
 {
-    let most = i128::MAX as u128;
-    if top > most || bottom > most {
+    if top > MOST || bottom > MOST {
         return None;
     }
-    let size = top as i128;
-    let num = if negative { -size } else { size };
-    Some(Frac {
-        num,
-        den: bottom as i128,
-    })
+    Some(lowest(negative, top, bottom))
+}
+
+/// `top / bottom` in lowest terms.
+pub fn reduced(top: i128, bottom: u128) -> Frac
+    requires above { 0 < bottom }
+    requires top { unsigned_abs top < 2 ^ 127 }
+    requires bottom { bottom < 2 ^ 127 }
+    ensures { result ≡ over top bottom }
+{
+    reduced_by(top, bottom, common_divisor(top.unsigned_abs(), bottom))
+}
+
+/// `top / bottom` in lowest terms, by the greatest common divisor of the two.
+pub fn reduced_by(top: i128, bottom: u128, divisor: u128) -> Frac
+    requires above { 0 < bottom }
+    requires top { unsigned_abs top < 2 ^ 127 }
+    requires bottom { bottom < 2 ^ 127 }
+    requires divisor { divisor ≡ gcd (unsigned_abs top) bottom }
+    ensures { result ≡ over top bottom }
+{
+    lowest(
+        top < 0,
+        divided(top.unsigned_abs(), divisor),
+        divided(bottom, divisor),
+    )
+}
+
+/// `top / bottom`, which is in lowest terms.
+pub fn already_reduced(top: i128, bottom: u128) -> Frac
+    requires above { 0 < bottom }
+    requires top { unsigned_abs top < 2 ^ 127 }
+    requires bottom { bottom < 2 ^ 127 }
+    requires reduced { gcd (unsigned_abs top) bottom ≡ 1 }
+    ensures { result ≡ over top bottom }
+{
+    lowest(top < 0, top.unsigned_abs(), bottom)
 }
 
 /// A sign and two sizes.
 #[derive(Clone, Copy)]
-struct Parts {
-    negative: bool,
-    top: u128,
-    bottom: u128,
+pub struct Parts {
+    pub negative: bool,
+    pub top: u128,
+    pub bottom: u128,
 }
 
 impl Frac {
     /// The sign and the sizes of the two numbers.
-    fn parts(self) -> Parts
+    pub(crate) fn parts(self) -> Parts
         ensures sign { result.negative ≡ int_lt self.num (pos 0) }
         ensures top { result.top ≡ unsigned_abs self.num }
         ensures bottom { result.bottom ≡ self.den }
@@ -80,10 +135,19 @@ impl Frac {
         }
     }
 
+    /// The denominator, as a size.
+    pub(crate) fn bottom(self) -> u128
+        ensures value { result ≡ self.den }
+        ensures above { 0 < result }
+        ensures size { result < 2 ^ 127 }
+    {
+        self.den.unsigned_abs()
+    }
+
     /// `num / den` in lowest terms, for any two numbers.
     ///
-    /// `ZeroDen` comes exactly where `den` is 0, and `Width` exactly where a number of the reduced fraction is more
-    /// than `2^127 - 1` in size.
+    /// `ZeroDen` comes exactly where `den` is 0, and `Width` exactly where a number of the reduced fraction, whose
+    /// denominator is made positive, is more than `2^127 - 1` in size.
     pub fn new(num: i128, den: i128) -> Result<Frac, Unfit>
         ensures { IsMade num den result }
     {
@@ -94,9 +158,19 @@ impl Frac {
         let bottom = den.unsigned_abs();
         let shared = common_divisor(top, bottom);
         let negative = (num < 0) != (den < 0);
-        match build(negative, top / shared, bottom / shared) {
+        match build(negative, divided(top, shared), divided(bottom, shared)) {
             Some(fraction) => Ok(fraction),
             None => Err(Unfit::Width),
+        }
+    }
+
+    /// A whole number. Never refused.
+    pub fn whole(n: i64) -> Frac
+        ensures { result ≡ whole n }
+    {
+        Frac {
+            num: n as i128,
+            den: 1,
         }
     }
 
@@ -117,50 +191,7 @@ impl Frac {
         self.den
     }
 
-    /// The greatest whole number that is not above this one.
-    pub fn floor(self) -> i128
-        ensures { result ≡ floor_ℚ self }
-    {
-        self.num.div_euclid(self.den)
-    }
-
-    pub fn abs(self) -> Frac
-        ensures { result ≡ abs_ℚ self }
-    {
-        if self.num < 0 { self.neg() } else { self }
-    }
-
-    /// The order, exact at any two values.
-    fn order(self, other: Frac) -> Ordering
-        ensures value { result ≡ cmp_ℚ self other }
-        ensures says { MatchOrdering result (self <ℚ other) (self ≡ other) (other <ℚ self) }
-    {
-        let left = self.parts();
-        let right = other.parts();
-        match (left.negative, right.negative) {
-            (true, false) => Ordering::Less,
-            (false, true) => Ordering::Greater,
-            (false, false) => compare_sizes(left.top, left.bottom, right.top, right.bottom),
-            (true, true) => compare_sizes(right.top, right.bottom, left.top, left.bottom),
-        }
-    }
-
-    /// A whole number.
-    pub fn whole(n: i64) -> Frac
-        ensures { result ≡ whole n }
-    {
-        Frac {
-            num: n as i128,
-            den: 1,
-        }
-    }
-
-    pub fn is_whole(self) -> bool
-        ensures { result ≡ nat_eq self.den 1 }
-    {
-        self.den == 1
-    }
-
+    /// The same number on the other side of 0. Never refused.
     pub fn neg(self) -> Frac
         ensures { result ≡ neg_ℚ self }
     {
@@ -169,53 +200,43 @@ impl Frac {
             den: self.den,
         }
     }
-}
 
-impl PartialEq for Frac {
-    ghost use Rattle.ratio.specs.Compare.{cmp_ℚ, partial_eq_laws};
-    ghost use Rattle.std.specs.Ordering.{eq_by_cmp};
-
-    ghost eq = { eq_by_cmp cmp_ℚ };
-
-    ghost laws = { partial_eq_laws };
-
-    fn eq(&self, other: &Frac) -> bool {
-        self.order(*other) == Ordering::Equal
+    /// The number without its sign. Never refused.
+    pub fn abs(self) -> Frac
+        ensures { result ≡ abs_ℚ self }
+    {
+        if self.num < 0 { self.neg() } else { self }
     }
-}
 
-impl Eq for Frac {
-    ghost use Rattle.ratio.specs.Compare.{eq_laws};
-
-    ghost laws = { eq_laws };
-}
-
-impl PartialOrd for Frac {
-    ghost use Rattle.ratio.specs.Compare.{cmp_ℚ, partial_laws};
-    ghost use Rattle.std.specs.Ordering.{as_partial_cmp};
-
-    ghost partial_cmp = { as_partial_cmp cmp_ℚ };
-
-    ghost laws = { partial_laws };
-
-    fn partial_cmp(&self, other: &Frac) -> Option<Ordering> {
-        Some(self.order(*other))
+    /// One over this number. Never refused.
+    pub(crate) fn reciprocal(self) -> Frac
+        requires { self ≡ whole (pos 0) → ⊥ }
+        ensures { result ≡ inverse_ℚ self }
+    {
+        if self.num < 0 {
+            Frac {
+                num: -self.den,
+                den: -self.num,
+            }
+        } else {
+            Frac {
+                num: self.den,
+                den: self.num,
+            }
+        }
     }
-}
 
-impl Ord for Frac {
-    ghost use Rattle.ratio.specs.Compare.{cmp_ℚ, cmp_ℚ_total};
-    ghost use Rattle.std.proofs.Common.{refl};
+    /// The greatest whole number that is not above this one.
+    pub fn floor(&self) -> i128
+        ensures { result ≡ floor_ℚ self.now }
+    {
+        self.num.div_euclid(self.den)
+    }
 
-    ghost cmp = { cmp_ℚ };
-
-    ghost total = { cmp_ℚ_total };
-
-    ghost matches_partial_cmp = { λ x y. refl };
-
-    ghost matches_eq = { λ x y. refl };
-
-    fn cmp(&self, other: &Frac) -> Ordering {
-        self.order(*other)
+    /// Whether this is a whole number.
+    pub fn is_whole(&self) -> bool
+        ensures { IsTrue result ↔ (self.now.den ≡ 1) }
+    {
+        self.bottom() == 1
     }
 }

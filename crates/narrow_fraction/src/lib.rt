@@ -9,12 +9,18 @@
 //!
 //! and then `a < b`, `a <= b` and `a == b` are `<ℚ`, `≤ℚ` and `≡` to the goals after the test. From the clause of
 //! `Frac::new`, `specs/Made.antt` has `made`: a quotient that fits is answered.
-#![tactic(auto)]
+#![tactic(auto, using(ratio::specs::Compare::eq_false))]
 
 mod compare;
 mod divisor;
 mod frac;
 mod memory;
+mod operations;
+mod order;
+mod products;
+mod sums;
+#[cfg(test)]
+mod tests;
 mod unfit;
 mod wide;
 

@@ -1,3 +1,5 @@
+ghost use Rattle.std.specs.Prelude.{◌≡◌};
+
 use crate::frac::Frac;
 
 /// An operation on two fractions.
@@ -15,4 +17,11 @@ pub struct Wide {
     pub op: Op,
     pub left: Frac,
     pub right: Frac,
+}
+
+/// The refusal of an operation on these operands.
+pub fn refusal(op: Op, left: Frac, right: Frac) -> Wide
+    ensures { result ≡ record { op = op; left = left; right = right } }
+{
+    Wide { op, left, right }
 }

@@ -6,6 +6,7 @@ use Prim.Native.Nat.{◌∣◌}
 use native.Mathlib.Nat.{dvd-add_iff_right, dvd-mul_right, dvd-mul_left_of_dvd}
 use Rattle.ratio.specs.Gcd.{gcd, gcd_steps}
 
+-- Euclid's steps find the greatest common divisor
 pub gcd_steps-IsGcd : (k a b : ℕ) → b ≤ k → IsGcd a b (gcd_steps k a b)
 gcd_steps-IsGcd zero a b h = IsGcd-from_zero a b (omega arith)
 gcd_steps-IsGcd (suc k) a zero h = IsGcd-from_zero a 0 refl
@@ -13,6 +14,7 @@ gcd_steps-IsGcd (suc k) a (suc b) h =
     IsGcd-from_mod a (suc b) (gcd_steps k (suc b) (a % suc b))
     (gcd_steps-IsGcd k (suc b) (a % suc b) (omega (arith, mod-lt a (zero-lt-suc b))))
 
+-- and so does gcd
 pub gcd-IsGcd : (a b : ℕ) → IsGcd a b (gcd a b)
 unfolding gcd
 gcd-IsGcd a b = gcd_steps-IsGcd b a b (omega arith)
@@ -28,6 +30,7 @@ scaled (suc k) a (suc b) c e h p q =
     let rest : e ∣ a % suc b * c = (dvd-add_iff_right e first).1 (subst (λ n. e ∣ n) (sym split) p) in
     scaled k (suc b) (a % suc b) c e (omega (arith, mod-lt a (zero-lt-suc b))) q rest
 
+-- Euclid's lemma: what divides a product and shares nothing with one factor divides the other
 pub Coprime-cancel : (a b c : ℕ) → IsGcd a b 1 → a ∣ b * c → a ∣ c
 unfolding gcd
 Coprime-cancel a b c h p =

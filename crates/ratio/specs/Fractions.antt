@@ -3,29 +3,35 @@ use Rattle.std.proofs.Common.{◌≡◌, ℕ, zero, suc, ℤ, pos, negsuc, ◌*�
 use Rattle.std.specs.Int.{IsGcd}
 use Rattle.std.specs.Prelude.{int_div}
 use Rattle.std.proofs.lemmas.Int.{ints}
-use Rattle.std.proofs.lemmas.Nat.Gcd.{same_from_IsGcd, IsGcd-from_mod, IsGcd-from_zero}
+use Rattle.std.proofs.lemmas.Nat.Gcd.{same_from_IsGcd, IsGcd-from_mod, IsGcd-from_zero, IsGcd-swap}
 use Prim.Native.Nat.{◌∣◌}
-use native.Mathlib.Nat.{mul-div_cancel', dvd-mul_left, dvd_of_mul-dvd-mul_left, mul-dvd-mul_left, eq-one_of_dvd-one, pos_of_dvd_of_pos}
+use native.Mathlib.Nat.{mul-div_cancel', dvd-mul_left, dvd_of_mul-dvd-mul_left, mul-dvd-mul_left, eq-one_of_dvd-one, pos_of_dvd_of_pos, one-dvd, dvd_refl}
 use Rattle.ratio.specs.Gcd.{gcd}
 use Rattle.ratio.specs.Coprime.{gcd-IsGcd}
 use Rattle.ratio.specs.Integers.{neg_ℤ-*ℤ}
 use Rattle.std.proofs.Math.IntN.{*ℤ_comm}
 
+-- the common divisor is above 0
 pub gcd_pos : (a b : ℕ) → 0 < b → 0 < gcd a b
 gcd_pos a b h = pos_of_dvd_of_pos (gcd-IsGcd a b).1 h
 
+-- there is only one greatest common divisor
 pub gcd-is : (a b g : ℕ) → IsGcd a b g → gcd a b ≡ g
 gcd-is a b g h = same_from_IsGcd a b (gcd a b) g (gcd-IsGcd a b) h
 
+-- coprime numbers, as a relation
 pub IsGcd-one : (a b : ℕ) → gcd a b ≡ 1 → IsGcd a b 1
 IsGcd-one a b e = subst (λ g. IsGcd a b g) e (gcd-IsGcd a b)
 
+-- the divisor times the parts gives the numbers again
 pub times_part : (a b : ℕ) → 0 < b → (gcd a b * (a / gcd a b) ≡ a) × (gcd a b * (b / gcd a b) ≡ b)
 times_part a b h = (mul-div_cancel' (gcd a b) (gcd-IsGcd a b).0, mul-div_cancel' (gcd a b) (gcd-IsGcd a b).1)
 
+-- a part is above 0
 pub part_pos : (a b : ℕ) → 0 < b → 0 < b / gcd a b
 part_pos a b h = pos_of_dvd_of_pos (subst (λ n. b / gcd a b ∣ n) (times_part a b h).1 (dvd-mul_left (b / gcd a b) (gcd a b))) h
 
+-- the parts share nothing
 pub parts_reduced : (a b : ℕ) → 0 < b → gcd (a / gcd a b) (b / gcd a b) ≡ 1
 parts_reduced a b h =
     let g = gcd a b in
@@ -35,6 +41,7 @@ parts_reduced a b h =
     let r : g * k ∣ g * 1 = subst (λ n. g * k ∣ n) (omega arith) ((gcd-IsGcd a b).2 (g * k) p q) in
     eq-one_of_dvd-one (dvd_of_mul-dvd-mul_left k (gcd_pos a b h) r)
 
+-- sizes of quotients
 pub abs-int_div : (z : ℤ) (g : ℕ) → unsigned_abs (int_div z (pos g)) ≡ unsigned_abs z / g
 abs-int_div (pos a) g = refl
 abs-int_div (negsuc a) g = abs_neg (suc a / g)
@@ -43,21 +50,42 @@ abs-int_div (negsuc a) g = abs_neg (suc a / g)
     abs_neg zero = refl
     abs_neg (suc n) = refl
 
+-- an exact quotient times its divisor
 pub times-int_div : (z : ℤ) (g : ℕ) → g * (unsigned_abs z / g) ≡ unsigned_abs z → pos g *ℤ int_div z (pos g) ≡ z
 times-int_div (pos a) g e = ap pos e
 times-int_div (negsuc a) g e = *ℤ_comm (pos g) (neg_ℤ (pos (suc a / g))) ∙ neg_ℤ-*ℤ (pos (suc a / g)) (pos g) ∙ ap (λ n. neg_ℤ (pos n)) (mul_comm (suc a / g) g ∙ e)
 
+-- a quotient by the common divisor is in lowest terms
 pub over_reduced : (z : ℤ) (d : ℕ) → 0 < d → gcd (unsigned_abs (int_div z (pos (gcd (unsigned_abs z) d)))) (d / gcd (unsigned_abs z) d) ≡ 1
 over_reduced z d h = ap (λ n. gcd n (d / gcd (unsigned_abs z) d)) (abs-int_div z (gcd (unsigned_abs z) d)) ∙ parts_reduced (unsigned_abs z) d h
 
+-- a negation keeps the size
 pub abs-neg_ℤ : (z : ℤ) → unsigned_abs (neg_ℤ z) ≡ unsigned_abs z
 abs-neg_ℤ z = omega (arith, ints)
 
+-- one of Euclid's steps
 pub gcd-step : (a b : ℕ) → gcd a b ≡ gcd b (a % b)
 gcd-step a b = gcd-is a b (gcd b (a % b)) (IsGcd-from_mod a b (gcd b (a % b)) (gcd-IsGcd b (a % b)))
 
+-- the last step
 pub gcd-zero : (a b : ℕ) → b ≡ 0 → gcd a b ≡ a
 gcd-zero a b e = gcd-is a b a (IsGcd-from_zero a b e)
 
+-- the first part is above 0, where the first number is
 pub first_part_pos : (a b : ℕ) → 0 < a → 0 < b → 0 < a / gcd a b
 first_part_pos a b h k = pos_of_dvd_of_pos (subst (λ n. a / gcd a b ∣ n) (times_part a b k).0 (dvd-mul_left (a / gcd a b) (gcd a b))) h
+
+-- the order of the numbers does not matter
+pub gcd_comm : (a b : ℕ) → gcd a b ≡ gcd b a
+gcd_comm a b = gcd-is a b (gcd b a) (IsGcd-swap b a (gcd b a) (gcd-IsGcd b a))
+
+-- nothing above 1 divides 1
+pub gcd-one : (a : ℕ) → gcd a 1 ≡ 1
+gcd-one a = gcd-is a 1 1 (one-dvd a, dvd_refl 1, λ e p q. q)
+
+pub one-gcd : (b : ℕ) → gcd 1 b ≡ 1
+one-gcd b = gcd_comm 1 b ∙ gcd-one b
+
+-- a number and itself
+pub gcd-self : (a : ℕ) → gcd a a ≡ a
+gcd-self a = gcd-is a a a (dvd_refl a, dvd_refl a, λ e p q. p)

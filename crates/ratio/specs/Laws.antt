@@ -15,6 +15,7 @@ use Rattle.ratio.specs.Integers.{cancel_ℤ, up-neg, down-neg}
 use Rattle.ratio.specs.Rational.{ℚ, whole, over, ◌+ℚ◌, ◌*ℚ◌, neg_ℚ, ◌≤ℚ◌}
 
 -- ---- equality
+-- equal numerators and denominators make equal numbers
 same_parts : (x y : ℚ) → x.num ≡ y.num → x.den ≡ y.den → x ≡ y
 same_parts x y e f = λ i. record {
   num = e i;
@@ -23,6 +24,7 @@ same_parts x y e f = λ i. record {
   reduced = prop→path_p (λ i. gcd (unsigned_abs (e i)) (f i) ≡ 1) (ℕ_set _ _) x.reduced y.reduced i;
 }
 
+-- of equal cross products follows that one denominator divides the other
 den_divides : (x y : ℚ) → x.num *ℤ pos y.den ≡ y.num *ℤ pos x.den → x.den ∣ y.den
 den_divides x y e =
     let f : unsigned_abs x.num * y.den ≡ unsigned_abs y.num * x.den = sym (unsigned_abs-mul x.num (pos y.den)) ∙ ap unsigned_abs e ∙ unsigned_abs-mul y.num (pos x.den) in
@@ -30,6 +32,7 @@ den_divides x y e =
     (IsGcd-swap (unsigned_abs x.num) x.den 1 (IsGcd-one (unsigned_abs x.num) x.den x.reduced))
     (subst (λ n. x.den ∣ n) (sym f) (dvd-mul_left x.den (unsigned_abs y.num)))
 
+-- equal cross products make equal numbers
 pub same_cross : (x y : ℚ) → x.num *ℤ pos y.den ≡ y.num *ℤ pos x.den → x ≡ y
 same_cross x y e =
     let d : x.den ≡ y.den = dvd_antisymm (den_divides x y e) (den_divides y x (sym e)) in
@@ -41,9 +44,11 @@ pub record IsRatio (x : ℚ) (p n d : ℕ) : Type 0 where
   pub above : 0 < d
   pub ratio : up x.num * d + n * x.den ≡ down x.num * d + p * x.den
 
+-- a number in its own terms
 pub own_ratio : (x : ℚ) → IsRatio x (up x.num) (down x.num) x.den
 own_ratio x = record { above = x.positive; ratio = omega arith }
 
+-- equal cross products in any terms make equal numbers
 pub same_ratio : (x y : ℚ) (p n d q m e : ℕ) → IsRatio x p n d → IsRatio y q m e → p * e + m * d ≡ n * e + q * d → x ≡ y
 same_ratio x y p n d q m e h k f =
     let de : 0 < d * e = mul-pos h.above k.above in
@@ -51,12 +56,14 @@ same_ratio x y p n d q m e h k f =
     omega (arith, ap (λ t. t * (y.den * e)) h.ratio, ap (λ t. t * (x.den * d)) k.ratio, ap (λ t. t * (x.den * y.den)) f) in
     same_cross x y (omega (arith, ints, eq_of_mul-eq-mul_right (d * e) de _ _ g))
 
+-- a numerator and a denominator divided by a common divisor
 reduced_by : (q z : ℤ) (g r d : ℕ) → pos g *ℤ q ≡ z → g * r ≡ d → up q * d + down z * r ≡ down q * d + up z * r
 reduced_by q z g r d e f =
     let a : g * up q ≡ up z = omega (arith, ints) in
     let b : g * down q ≡ down z = omega (arith, ints) in
     rw (← a, ← b, ← f) (omega arith)
 
+-- z / d in those terms
 pub over_ratio : (z : ℤ) (d : ℕ) → 0 < d → IsRatio (over z d) (up z) (down z) d
 unfolding over
 over_ratio z zero h = absurd (omega arith)
@@ -76,17 +83,20 @@ over_terms z p n d h e =
     shift : (u v w a b p n d : ℕ) → u * d + b * w ≡ v * d + a * w → a + n ≡ b + p → u * d + n * w ≡ v * d + p * w
     shift u v w a b p n d e f = omega (arith, ap (λ t. t * w) f)
 
+-- other terms of the same value
 pub rebase : (x : ℚ) (p n d q m e : ℕ) → IsRatio x p n d → 0 < e → p * e + m * d ≡ n * e + q * d → IsRatio x q m e
 rebase x p n d q m e h k f =
     let g : (up x.num * e + m * x.den) * d ≡ (down x.num * e + q * x.den) * d = omega (arith, ap (λ t. t * e) h.ratio, ap (λ t. t * x.den) f) in
     record { above = k; ratio = eq_of_mul-eq-mul_right d h.above _ _ g }
 
+-- a sum in the terms of its parts
 pub sum_ratio : (x y : ℚ) (p n d q m e : ℕ) → IsRatio x p n d → IsRatio y q m e → IsRatio (x +ℚ y) (p * e + q * d) (n * e + m * d) (d * e)
 unfolding ◌+ℚ◌
 sum_ratio x y p n d q m e h k =
     let a = over_terms (x.num *ℤ pos y.den +ℤ y.num *ℤ pos x.den) (up x.num * y.den + up y.num * x.den) (down x.num * y.den + down y.num * x.den) (x.den * y.den) (mul-pos x.positive y.positive) (omega (arith, ints)) in
     rebase _ _ _ _ _ _ _ a (mul-pos h.above k.above) (omega (arith, ap (λ t. t * (y.den * e)) h.ratio, ap (λ t. t * (x.den * d)) k.ratio))
 
+-- a product in the terms of its parts
 pub product_ratio : (x y : ℚ) (p n d q m e : ℕ) → IsRatio x p n d → IsRatio y q m e → IsRatio (x *ℚ y) (p * q + n * m) (p * m + n * q) (d * e)
 unfolding ◌*ℚ◌
 product_ratio x y p n d q m e h k =
@@ -94,14 +104,17 @@ product_ratio x y p n d q m e h k =
     rebase _ _ _ _ _ _ _ a (mul-pos h.above k.above)
     (omega (arith, ap (λ t. t * (up y.num * e)) h.ratio, ap (λ t. t * (down y.num * e)) h.ratio, ap (λ t. t * (p * x.den)) k.ratio, ap (λ t. t * (n * x.den)) k.ratio))
 
+-- a negation changes the two parts of the numerator
 pub neg_ratio : (x : ℚ) (p n d : ℕ) → IsRatio x p n d → IsRatio (neg_ℚ x) n p d
 unfolding neg_ℚ
 neg_ratio x p n d h = record { above = h.above; ratio = simp (up-neg, down-neg) (omega (arith, h.ratio)) }
 
+-- a whole number is over 1
 pub whole_ratio : (z : ℤ) → IsRatio (whole z) (up z) (down z) 1
 unfolding whole
 whole_ratio z = record { above = zero-lt-suc 0; ratio = omega arith }
 
+-- the ring laws
 pub +ℚ_comm : (x y : ℚ) → x +ℚ y ≡ y +ℚ x
 +ℚ_comm x y = same_ratio _ _ _ _ _ _ _ _ (sum_ratio x y _ _ _ _ _ _ (own_ratio x) (own_ratio y)) (sum_ratio y x _ _ _ _ _ _ (own_ratio y) (own_ratio x)) (omega arith)
 
@@ -151,6 +164,7 @@ pub neg-+ℚ : (x y : ℚ) → neg_ℚ (x +ℚ y) ≡ neg_ℚ x +ℚ neg_ℚ y
 neg-+ℚ x y = same_ratio _ _ _ _ _ _ _ _ (neg_ratio _ _ _ _ (sum_ratio x y _ _ _ _ _ _ (own_ratio x) (own_ratio y))) (sum_ratio _ _ _ _ _ _ _ _ (neg_ratio x _ _ _ (own_ratio x)) (neg_ratio y _ _ _ (own_ratio y))) (omega arith)
 
 -- ---- order
+-- the order in any terms, out and in
 pub ≤ℚ_out : (x y : ℚ) (p n d q m e : ℕ) → IsRatio x p n d → IsRatio y q m e → x ≤ℚ y → p * e + m * d ≤ n * e + q * d
 ≤ℚ_out x y p n d q m e h k l =
     let c = le_out (x.num *ℤ pos y.den) (y.num *ℤ pos x.den) l.cross in

@@ -12,3 +12,4 @@ pub mod Floor
 pub mod Compare
 pub mod Rows
 pub mod Pivot
+pub mod Shares

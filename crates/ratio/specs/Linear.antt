@@ -1,11 +1,11 @@
 -- Linear arithmetic on rational numbers: a goal that is a sum of multiples of what is known.
-use Rattle.std.proofs.Common.{◌≡◌, ℕ, pos, List, [], ◌∷◌, refl, subst, arith}
+use Rattle.std.proofs.Common.{◌≡◌, ℕ, pos, List, [], ◌∷◌, subst, arith}
 use Rattle.std.proofs.lemmas.Int.{ints}
 use Rattle.ratio.specs.Rational.{ℚ, whole, ◌+ℚ◌, ◌*ℚ◌, neg_ℚ, ◌≤ℚ◌}
 use Rattle.ratio.specs.Laws.{+ℚ-zero, *ℚ-zero, +ℚ-neg}
 use Rattle.ratio.specs.Order.{≤ℚ_refl, ≤ℚ-+ℚ, whole-≤ℤ}
 use Rattle.ratio.specs.Rows.{≤ℚ-sum, ≤ℚ-left}
-use Rattle.ratio.specs.Ring.{ring, at, lit, minus, Term, value, normal, clean, ◌⊕◌, ◌⊗◌}
+use Rattle.ratio.specs.Ring.{ring, lit, minus, Term, value, normal, clean, ◌⊕◌, ◌⊗◌}
 
 -- `low ≤ high`, taken `times` times
 pub record Fact : Type 0 where
@@ -42,9 +42,3 @@ linear hs slack s t ρ p e =
     let g = sum_not_negative _ _ (gains_not_negative hs ρ p) (whole-≤ℤ (pos 0) (pos slack) (omega (arith, ints))) in
     let h = ≤ℚ-sum (value s ρ) (value s ρ) _ _ (≤ℚ_refl (value s ρ)) g in
     subst (λ u. value s ρ ≤ℚ u) (ring (s ⊕ (gains hs ⊕ lit (pos slack))) t ρ e) (subst (λ u. u ≤ℚ value (s ⊕ (gains hs ⊕ lit (pos slack))) ρ) (+ℚ-zero (value s ρ)) h)
-
--- ---- a trial: from x ≤ y and 2 y ≤ z + 3 follows 2 x ≤ z + 4
-pub trial : (x y z : ℚ) → x ≤ℚ y → (whole (pos 2) *ℚ y) ≤ℚ (z +ℚ whole (pos 3)) → (whole (pos 2) *ℚ x) ≤ℚ (z +ℚ whole (pos 4))
-trial x y z h k =
-    linear (record { count = 2; low = at 0; high = at 1 } ∷ record { count = 1; low = lit (pos 2) ⊗ at 1; high = at 2 ⊕ lit (pos 3) } ∷ []) 1
-    (lit (pos 2) ⊗ at 0) (at 2 ⊕ lit (pos 4)) (x ∷ y ∷ z ∷ []) (h, (k, tt)) refl

@@ -1,7 +1,8 @@
 -- A rational number is the quotient of its own numerator and denominator.
-use Rattle.std.proofs.Common.{◌≡◌, ℕ, ℤ, pos, negsuc, neg_ℤ, suc, ◌<◌, refl, ap, arith, unsigned_abs}
+use Rattle.std.proofs.Common.{◌≡◌, ℕ, ℤ, pos, negsuc, neg_ℤ, zero, suc, ◌<◌, ◌≤◌, div-le_self, refl, ap, arith, unsigned_abs}
 use Rattle.ratio.specs.Integers.{up-neg, down-neg}
 use Rattle.ratio.specs.Gcd.{gcd}
+use Rattle.ratio.specs.Fractions.{abs-int_div}
 use Rattle.ratio.specs.Rational.{ℚ, over, neg_ℚ, quotient}
 use Rattle.ratio.specs.Laws.{same_ratio, over_ratio, own_ratio, neg_ratio}
 
@@ -26,3 +27,14 @@ quotient-pos n d = refl
 pub quotient-negsuc : (n : ℤ) (d : ℕ) → quotient n (negsuc d) ≡ over (neg_ℤ n) (suc d)
 unfolding quotient
 quotient-negsuc n d = refl
+
+-- lowest terms are no greater
+pub num_size : (z : ℤ) (d : ℕ) → 0 < d → unsigned_abs (over z d).num ≤ unsigned_abs z
+unfolding over
+num_size z zero h = absurd (omega arith)
+num_size z (suc d) h = omega (arith, abs-int_div z (gcd (unsigned_abs z) (suc d)), div-le_self (unsigned_abs z) (gcd (unsigned_abs z) (suc d)))
+
+pub den_size : (z : ℤ) (d : ℕ) → 0 < d → (over z d).den ≤ d
+unfolding over
+den_size z zero h = absurd (omega arith)
+den_size z (suc d) h = div-le_self (suc d) (gcd (unsigned_abs z) (suc d))

@@ -50,6 +50,15 @@ turned (negsuc a) d = over (neg_ℤ (pos d)) (suc a)
 unfoldable pub inverse_ℚ : ℚ → ℚ
 inverse_ℚ x = turned x.num x.den
 
+-- a difference, and a quotient (0 where y is 0): mere names, so that the laws of sums and products serve for them
+infixl 65 ◌-ℚ◌
+abbrev pub ◌-ℚ◌ : ℚ → ℚ → ℚ
+x -ℚ y = x +ℚ neg_ℚ y
+
+infixl 70 ◌/ℚ◌
+abbrev pub ◌/ℚ◌ : ℚ → ℚ → ℚ
+x /ℚ y = x *ℚ inverse_ℚ y
+
 infix 50 ◌≤ℚ◌ ◌<ℚ◌
 pub record ◌≤ℚ◌ (x y : ℚ) : Type 0 where
   pub cross : (x.num *ℤ pos y.den) ≤ℤ (y.num *ℤ pos x.den)

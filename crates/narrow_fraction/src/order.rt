@@ -1,0 +1,74 @@
+ghost use Rattle.std.specs.Prelude.{◌≡◌};
+ghost use Rattle.ratio.specs.Rational.{◌<ℚ◌};
+ghost use Rattle.ratio.specs.Compare.{cmp_ℚ};
+ghost use Rattle.std.specs.Ordering.{MatchOrdering};
+
+use crate::compare::compare_sizes;
+use crate::frac::Frac;
+use std::cmp::Ordering;
+
+impl Frac {
+    /// The order, exact at any two values.
+    fn order(self, other: Frac) -> Ordering
+        ensures value { result ≡ cmp_ℚ self other }
+        ensures says { MatchOrdering result (self <ℚ other) (self ≡ other) (other <ℚ self) }
+    {
+        let left = self.parts();
+        let right = other.parts();
+        match (left.negative, right.negative) {
+            (true, false) => Ordering::Less,
+            (false, true) => Ordering::Greater,
+            (false, false) => compare_sizes(left.top, left.bottom, right.top, right.bottom),
+            (true, true) => compare_sizes(right.top, right.bottom, left.top, left.bottom),
+        }
+    }
+}
+
+impl PartialEq for Frac {
+    ghost use Rattle.ratio.specs.Compare.{cmp_ℚ, partial_eq_laws};
+    ghost use Rattle.std.specs.Ordering.{eq_by_cmp};
+
+    ghost eq = { eq_by_cmp cmp_ℚ };
+
+    ghost laws = { partial_eq_laws };
+
+    fn eq(&self, other: &Frac) -> bool {
+        self.order(*other) == Ordering::Equal
+    }
+}
+
+impl Eq for Frac {
+    ghost use Rattle.ratio.specs.Compare.{eq_laws};
+
+    ghost laws = { eq_laws };
+}
+
+impl PartialOrd for Frac {
+    ghost use Rattle.ratio.specs.Compare.{cmp_ℚ, partial_laws};
+    ghost use Rattle.std.specs.Ordering.{as_partial_cmp};
+
+    ghost partial_cmp = { as_partial_cmp cmp_ℚ };
+
+    ghost laws = { partial_laws };
+
+    fn partial_cmp(&self, other: &Frac) -> Option<Ordering> {
+        Some(self.order(*other))
+    }
+}
+
+impl Ord for Frac {
+    ghost use Rattle.ratio.specs.Compare.{cmp_ℚ, cmp_ℚ_total};
+    ghost use Rattle.std.proofs.Common.{refl};
+
+    ghost cmp = { cmp_ℚ };
+
+    ghost total = { cmp_ℚ_total };
+
+    ghost matches_partial_cmp = { λ x y. refl };
+
+    ghost matches_eq = { λ x y. refl };
+
+    fn cmp(&self, other: &Frac) -> Ordering {
+        self.order(*other)
+    }
+}

@@ -1,0 +1,102 @@
+use crate::{Frac, Op, Unfit, Wide};
+use std::rt::HostRuntime;
+
+const TWO_126: i128 = 85_070_591_730_234_615_865_843_651_857_942_052_864;
+
+const TWO_100: i128 = 1_267_650_600_228_229_401_496_703_205_376;
+
+const THREE_70: i128 = 2_503_155_504_993_241_601_315_571_986_085_849;
+
+/// The fraction, or 0 where there is none.
+fn fraction(num: i128, den: i128) -> Frac {
+    Frac::new(num, den).unwrap_or(Frac::whole(0))
+}
+
+/// The operation's answer; a quotient by 0 is not asked for.
+fn answer(op: Op, left: Frac, right: Frac) -> Result<Frac, Wide> {
+    match op {
+        Op::Add => left.plus(right),
+        Op::Sub => left.minus(right),
+        Op::Mul => left.times(right),
+        Op::Div => {
+            if right == Frac::whole(0) {
+                return Ok(right);
+            }
+            left.over(right)
+        }
+    }
+}
+
+#[test]
+fn any_two_numbers(rt: HostRuntime) {
+    let table = [
+        (6, -4, Ok((-3, 2))),
+        (-6, -4, Ok((3, 2))),
+        (0, -7, Ok((0, 1))),
+        (1, 0, Err(Unfit::ZeroDen)),
+        (0, 0, Err(Unfit::ZeroDen)),
+        (i128::MIN, 1, Err(Unfit::Width)),
+        (1, i128::MIN, Err(Unfit::Width)),
+        (i128::MIN, 2, Ok((-TWO_126, 1))),
+        (2, i128::MIN, Ok((-1, TWO_126))),
+        (i128::MIN, i128::MIN, Ok((1, 1))),
+        (i128::MAX, -1, Ok((-i128::MAX, 1))),
+    ];
+    for (num, den, want) in table {
+        let made = match Frac::new(num, den) {
+            Ok(fraction) => Ok((fraction.num(), fraction.den())),
+            Err(unfit) => Err(unfit),
+        };
+        assert_eq!(rt; made, want);
+    }
+}
+
+#[test]
+fn operations_within_128_bits(rt: HostRuntime) {
+    let table = [
+        (Op::Add, (1, 6), (1, 10), (4, 15)),
+        (Op::Add, (1, 2), (-1, 2), (0, 1)),
+        (Op::Add, (-7, 3), (2, 1), (-1, 3)),
+        (Op::Add, (1, TWO_126), (1, TWO_126), (1, TWO_126 / 2)),
+        (Op::Add, (-TWO_126, 1), (-TWO_126 + 1, 1), (-i128::MAX, 1)),
+        (Op::Sub, (1, 2), (2, 3), (-1, 6)),
+        (Op::Sub, (5, 1), (0, 1), (5, 1)),
+        (Op::Mul, (2, 3), (-9, 4), (-3, 2)),
+        (Op::Mul, (i128::MAX, 2), (2, i128::MAX), (1, 1)),
+        (Op::Div, (2, 3), (-4, 9), (-3, 2)),
+        (Op::Div, (1, 1), (-i128::MAX, 5), (-5, i128::MAX)),
+    ];
+    for (op, left, right, want) in table {
+        let exact = answer(op, fraction(left.0, left.1), fraction(right.0, right.1));
+        assert_eq!(rt; exact, Ok(fraction(want.0, want.1)));
+    }
+}
+
+#[test]
+fn operations_past_128_bits(rt: HostRuntime) {
+    let table = [
+        (Op::Add, (1, TWO_100), (1, THREE_70)),
+        (Op::Add, (-TWO_126, 1), (1, 2)),
+        (Op::Add, (-TWO_126, 1), (-TWO_126, 1)),
+        (Op::Sub, (TWO_126, 1), (-TWO_126, 1)),
+        (Op::Mul, (TWO_126, 1), (2, 1)),
+        (Op::Div, (TWO_126, 1), (1, 2)),
+    ];
+    for (op, first, second) in table {
+        let left = fraction(first.0, first.1);
+        let right = fraction(second.0, second.1);
+        assert_eq!(rt; answer(op, left, right), Err(Wide { op, left, right }));
+    }
+}
+
+#[test]
+fn order_and_whole_parts(rt: HostRuntime) {
+    let below = fraction(i128::MAX - 2, i128::MAX - 1);
+    let above = fraction(i128::MAX - 1, i128::MAX);
+    assert!(rt; below < above && above > below && below != above);
+    assert!(rt; fraction(-1, 2) <= fraction(-1, 3) && fraction(-1, 3) < Frac::whole(0));
+    assert_eq!(rt; fraction(-7, 2).abs().neg(), fraction(7, -2));
+    assert_eq!(rt; fraction(-7, 2).floor(), -4);
+    assert_eq!(rt; fraction(7, 2).floor(), 3);
+    assert!(rt; Frac::whole(-3).is_whole() && !fraction(1, 3).is_whole());
+}
