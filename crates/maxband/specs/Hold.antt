@@ -8,7 +8,7 @@ use Rattle.progression.specs.Good.{Good}
 use Rattle.progression.specs.Best.{weighted_band}
 use Rattle.artery_model.specs.Faults.{fault_of}
 use Rattle.description_reader.specs.Described.{Described, RefusedAs}
-use Rattle.plan_text.specs.Timing.{timing_of}
+use Rattle.plan_text.specs.Reading.{timing_of}
 use Rattle.time_space.specs.FirstFailing.{IsFirstFailing}
 use Rattle.maxband.specs.declared.cause.Cause.{Cause}
 use Rattle.maxband.specs.declared.cause.Cause.TheVariants as cause

@@ -69,11 +69,3 @@ pub record ◌<ℚ◌ (x y : ℚ) : Type 0 where
 -- x, or its negation where it is below 0
 unfoldable pub abs_ℚ : ℚ → ℚ
 abs_ℚ x = if int_lt x.num (pos 0) then neg_ℚ x else x
-
-infixl 65 ◌-ℚ◌
-abbrev pub ◌-ℚ◌ : ℚ → ℚ → ℚ
-x -ℚ y = x +ℚ neg_ℚ y
-
-infixl 70 ◌/ℚ◌
-abbrev pub ◌/ℚ◌ : ℚ → ℚ → ℚ
-x /ℚ y = x *ℚ inverse_ℚ y
