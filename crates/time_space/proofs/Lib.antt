@@ -6,3 +6,4 @@ pub mod Quotients
 pub mod Scale
 pub mod Multiples
 pub mod FinerGrids
+pub mod OnlyFirst

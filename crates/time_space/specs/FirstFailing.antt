@@ -73,3 +73,7 @@ link_failing rule.Fast d i = failing.Fast d i
 link_failing rule.Slow d i = failing.Slow d i
 link_failing rule.Rise d i = failing.Rise d i
 link_failing rule.Drop d i = failing.Drop d i
+
+-- of a timing at most one failing is the first
+abbrev pub OneFirst : Type 0
+OneFirst = (a : Street) (t : Plan) (f g : Failing) → IsFirstFailing a t f → IsFirstFailing a t g → f ≡ g

@@ -16,7 +16,7 @@ mod timing;
 mod weight;
 
 pub use failing::Failing;
-pub use rules::{holds, law_fails_rules_out, law_finer_grids};
+pub use rules::{holds, law_fails_rules_out, law_finer_grids, law_one_first};
 pub use seen::{green, in_band};
 pub use timing::Timing;
 pub use weight::value;

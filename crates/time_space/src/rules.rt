@@ -11,7 +11,7 @@ ghost use Rattle.progression.specs.declared.parts.Dir.{Dir};
 ghost use Rattle.time_space.specs.LinkRules.{AllLinks};
 ghost use Rattle.time_space.specs.Failing.{FailsRulesOut};
 ghost use Rattle.time_space.specs.Finer.{FinerGrids};
-ghost use Rattle.time_space.specs.FirstFailing.{IsFirstFailing, NoneBefore, link_order, link_failing};
+ghost use Rattle.time_space.specs.FirstFailing.{OneFirst, IsFirstFailing, NoneBefore, link_order, link_failing};
 
 use crate::diagram::{cycle, first_blocked};
 use crate::failing::Failing;
@@ -184,4 +184,9 @@ pub fn law_fails_rules_out()
 /// A timing is good exactly where it is good on every finer grid.
 pub fn law_finer_grids()
     ensures { FinerGrids }
+{}
+
+/// Of a timing at most one failing is the first.
+pub fn law_one_first()
+    ensures { OneFirst }
 {}
