@@ -1,5 +1,5 @@
 -- What a run comes to: the cause of its status, what stands behind it, and by which lines the output grew.
-use Rattle.std.specs.Prelude.{◌≡◌, ℕ, List, Option, Some, None}
+use Rattle.std.specs.Prelude.{◌≡◌, ℕ, List, Option, Some, None, IsSome}
 use Rattle.ratio.specs.Rational.{ℚ}
 use Rattle.outer_edge.specs.Taken.{Appends, AppendsFront}
 use Rattle.maxband.specs.Command.{Form, Hold}
@@ -31,3 +31,21 @@ abbrev pub Ends : (List ℕ → Option (List ℕ)) → (List ℕ → ℕ) → (L
 Ends held before after form taken now cause.WriteFault = Broke held before after form taken now
 Ends held before after form taken now cause.Memory = now ≡ taken
 Ends held before after form taken now c = (lines : List ℕ) × Answers held before after form c lines × Appends taken now lines
+
+-- an answer that neither a fault nor want of memory gave
+abbrev pub IsReached : Cause → Type 0
+IsReached (cause.ReadFault file) = ⊥
+IsReached cause.WriteFault = ⊥
+IsReached cause.Memory = ⊥
+IsReached _ = Unit {0}
+
+-- the files that the words name tell their bytes
+abbrev pub AreTold : (List ℕ → Option (List ℕ)) → Option Form → Type 0
+AreTold held None = Unit {0}
+AreTold held (Some (Hold artery timing)) = IsSome (held artery) × IsSome (held timing)
+
+-- What files that tell their bytes hold, and the words, leave one answer: so each status but that of a fault or of want of memory comes exactly by its cause.
+abbrev pub OneAnswer : Type 0
+OneAnswer = (held : List ℕ → Option (List ℕ)) (before after : List ℕ → ℕ) (form : Option Form) (c d : Cause) (x y : List ℕ)
+    → AreTold held form → IsReached c → IsReached d
+    → Answers held before after form c x → Answers held before after form d y → (c ≡ d) × (x ≡ y)

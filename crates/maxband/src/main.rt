@@ -16,7 +16,7 @@ mod top;
 mod tests;
 
 pub use cause::{Cause, Status};
-pub use top::run;
+pub use top::{law_one_answer, run};
 
 use outer_edge::{RealFiles, RealOut};
 use std::env;

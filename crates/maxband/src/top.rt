@@ -6,7 +6,7 @@ ghost use Rattle.outer_edge.specs.Held.{SameFiles};
 ghost use Rattle.maxband.specs.Status.{number_of};
 ghost use Rattle.maxband.specs.Command.{command_of};
 ghost use Rattle.maxband.specs.Lines.{named, end_lines};
-ghost use Rattle.maxband.specs.Run.{HoldAnswers, Answers, Ends};
+ghost use Rattle.maxband.specs.Run.{HoldAnswers, Answers, Ends, OneAnswer};
 
 use crate::cause::{Cause, Status};
 use crate::command::{Command, command_in};
@@ -136,4 +136,14 @@ pub fn run<F: Files, K: Sink>(
         Ok(()) => status(answer.cause),
         Err(cause) => status(cause),
     }
+}
+
+/// A law over the definitions: what the files hold, and the words, leave one answer, so that each
+/// status but those of a fault and of want of memory comes exactly by its cause.
+pub fn law_one_answer()
+    ensures { OneAnswer }
+{
+    description_reader::law_one_answer();
+    time_space::law_one_first();
+    time_space::law_fails_rules_out();
 }
