@@ -1,0 +1,5 @@
+pub mod Checks
+pub mod Keys
+pub mod Places
+pub mod Quantity
+pub mod Values

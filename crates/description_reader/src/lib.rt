@@ -1,0 +1,9 @@
+//! Reads the description of an artery, a TOML document.
+#![tactic(auto)]
+
+mod check;
+mod demand;
+mod keys;
+mod place;
+mod quantity;
+mod values;
