@@ -43,16 +43,33 @@ meets (demand.Between least most) d = int_le least (quantity d) && int_le (quant
 meets (demand.OneToBelow limit) d = int_le (pos 1) (quantity d) && int_lt (quantity d) limit
 
 -- a needed key is absent
-abbrev pub missing : Section → List ℕ → Data → Option Fault
+unfoldable pub missing : Section → List ℕ → Data → Option Fault
 missing section key d = unless (has d key) kind.Missing (key_place section key)
 
 -- the value at a key, where there is one, isn't what it must be
-abbrev pub value_fault : Kind → Demand → Section → List ℕ → Data → Option Fault
+unfoldable pub value_fault : Kind → Demand → Section → List ℕ → Data → Option Fault
 value_fault kind demand section key d = unless (if_there (meets demand) (get key d)) kind (key_place section key)
 
 abbrev pub item_fault : Kind → Demand → Section → List ℕ → ℕ → Data → Option Fault
 item_fault kind demand section key i d = unless (meets demand d) kind (item_place section key i)
 
 -- the first item of the array at a key that isn't what it must be
-abbrev pub items_fault : Kind → Demand → Section → List ℕ → Data → Option Fault
+unfoldable pub items_fault : Kind → Demand → Section → List ℕ → Data → Option Fault
 items_fault kind demand section key d = first_fault (each_numbered (item_fault kind demand section key) 1 (items_at d key))
+
+-- the same for the keys of both directions
+unfoldable pub both_missing : Section → List ℕ → List ℕ → Data → Option Fault
+both_missing section out back d = first_fault (missing section out d ∷ missing section back d ∷ [])
+
+unfoldable pub both_values : Kind → Demand → Section → List ℕ → List ℕ → Data → Option Fault
+both_values kind demand section out back d = first_fault (value_fault kind demand section out d ∷ value_fault kind demand section back d ∷ [])
+
+unfoldable pub both_items : Kind → Demand → Section → List ℕ → List ℕ → Data → Option Fault
+both_items kind demand section out back d = first_fault (items_fault kind demand section out d ∷ items_fault kind demand section back d ∷ [])
+
+-- the array at a key, and then its items
+unfoldable pub array_fault : Kind → Demand → Demand → Section → List ℕ → Data → Option Fault
+array_fault kind whole each section key d = first_fault (value_fault kind whole section key d ∷ items_fault kind each section key d ∷ [])
+
+unfoldable pub both_arrays : Kind → Demand → Demand → Section → List ℕ → List ℕ → Data → Option Fault
+both_arrays kind whole each section out back d = first_fault (array_fault kind whole each section out d ∷ array_fault kind whole each section back d ∷ [])

@@ -1,4 +1,5 @@
 pub mod Checks
+pub mod Judgement
 pub mod Keys
 pub mod Places
 pub mod Quantity

@@ -1,13 +1,12 @@
 //! One check of a value of a description.
 
 ghost use Rattle.std.specs.Prelude.{◌≡◌, Some, string_bytes};
-
 ghost use Rattle.toml.specs.Data.{get};
 ghost use Rattle.toml.specs.View.{view};
 ghost use Rattle.artery_model.specs.Faults.{Judges, Names, unless};
 ghost use Rattle.description_reader.specs.Values.{if_there};
 ghost use Rattle.description_reader.specs.Places.{key_place, item_place};
-ghost use Rattle.description_reader.specs.Checks.{meets, missing, value_fault, items_fault};
+ghost use Rattle.description_reader.specs.Checks.{meets, missing, value_fault, items_fault, both_missing, both_values, both_items, array_fault, both_arrays};
 
 use crate::demand::{Demand, meets};
 use crate::place::{Section, item_place, key_place};
@@ -65,12 +64,8 @@ fn check_item(
 }
 
 /// Refuses a table without a needed key.
-pub fn check_needed(
-    alloc: Global,
-    section: Section,
-    key: &str,
-    table: &Value,
-) -> Result<(), Flaw>
+#[tactic(auto, unfolding(crate::specs::Checks::missing))]
+pub fn check_needed(alloc: Global, section: Section, key: &str, table: &Value) -> Result<(), Flaw>
     ensures { Judges result (missing section key.now (view table.now)) }
 {
     check(alloc, has(table, key), Kind::Missing, section, key)
@@ -87,6 +82,7 @@ fn meets_at(demand: Demand, key: &str, table: &Value) -> bool
 }
 
 /// Refuses the value at a key, where there is one, that is not what it must be.
+#[tactic(auto, unfolding(crate::specs::Checks::value_fault))]
 pub fn check_value(
     alloc: Global,
     kind: Kind,
@@ -101,6 +97,7 @@ pub fn check_value(
 }
 
 /// Refuses the first item of the array at a key that is not what it must be.
+#[tactic(auto, unfolding(crate::specs::Checks::items_fault))]
 pub fn check_items(
     alloc: Global,
     kind: Kind,
@@ -116,4 +113,88 @@ pub fn check_items(
         check_item(alloc, meets(demand, item), kind, section, key, index + 1)?;
     }
     Ok(())
+}
+
+/// Refuses a table without the needed key of each direction.
+#[tactic(auto, unfolding(crate::specs::Checks::both_missing))]
+pub fn check_both_needed(
+    alloc: Global,
+    section: Section,
+    out: &str,
+    back: &str,
+    table: &Value,
+) -> Result<(), Flaw>
+    ensures { Judges result (both_missing section out.now back.now (view table.now)) }
+{
+    check_needed(alloc, section, out, table)?;
+    check_needed(alloc, section, back, table)
+}
+
+/// Refuses the value of each direction that is not what it must be.
+#[tactic(auto, unfolding(crate::specs::Checks::both_values))]
+pub fn check_both_values(
+    alloc: Global,
+    kind: Kind,
+    demand: Demand,
+    section: Section,
+    out: &str,
+    back: &str,
+    table: &Value,
+) -> Result<(), Flaw>
+    ensures { Judges result (both_values kind demand section out.now back.now (view table.now)) }
+{
+    check_value(alloc, kind, demand, section, out, table)?;
+    check_value(alloc, kind, demand, section, back, table)
+}
+
+/// Refuses the first item of the arrays of both directions that is not what it must be.
+#[tactic(auto, unfolding(crate::specs::Checks::both_items))]
+pub fn check_both_items(
+    alloc: Global,
+    kind: Kind,
+    demand: Demand,
+    section: Section,
+    out: &str,
+    back: &str,
+    table: &Value,
+) -> Result<(), Flaw>
+    ensures { Judges result (both_items kind demand section out.now back.now (view table.now)) }
+{
+    check_items(alloc, kind, demand, section, out, table)?;
+    check_items(alloc, kind, demand, section, back, table)
+}
+
+/// Refuses the array at a key, or its first item, that is not what it must be.
+#[tactic(auto, unfolding(crate::specs::Checks::array_fault))]
+pub fn check_array(
+    alloc: Global,
+    kind: Kind,
+    whole: Demand,
+    each: Demand,
+    section: Section,
+    key: &str,
+    table: &Value,
+) -> Result<(), Flaw>
+    ensures { Judges result (array_fault kind whole each section key.now (view table.now)) }
+{
+    check_value(alloc, kind, whole, section, key, table)?;
+    check_items(alloc, kind, each, section, key, table)
+}
+
+/// Refuses the array of each direction, or its first item, that is not what it must be.
+#[tactic(auto, unfolding(crate::specs::Checks::both_arrays))]
+pub fn check_both_arrays(
+    alloc: Global,
+    kind: Kind,
+    whole: Demand,
+    each: Demand,
+    section: Section,
+    out: &str,
+    back: &str,
+    table: &Value,
+) -> Result<(), Flaw>
+    ensures { Judges result (both_arrays kind whole each section out.now back.now (view table.now)) }
+{
+    check_array(alloc, kind, whole, each, section, out, table)?;
+    check_array(alloc, kind, whole, each, section, back, table)
 }

@@ -65,9 +65,7 @@ fn is_known(links: usize, section: Section, key: &str) -> bool
 fn has_key_characters(bytes: &[u8]) -> bool
     ensures { result ≡ list_all is_key_character bytes.now }
 {
-    bytes
-        .iter()
-        .all(|byte| byte.is_ascii_alphanumeric() || *byte == b'_' || *byte == b'-')
+    bytes.iter().all(|byte| byte.is_ascii_alphanumeric() || *byte == b'_' || *byte == b'-')
 }
 
 /// A key as it is printed: `?` where it has characters other than letters, digits, `_` and `-`, is
@@ -84,12 +82,7 @@ fn printed(key: &str) -> &str
 }
 
 /// Refuses the first key of a table that no description has.
-fn check_table(
-    alloc: Global,
-    links: usize,
-    section: Section,
-    table: &Table,
-) -> Result<(), Flaw>
+fn check_table(alloc: Global, links: usize, section: Section, table: &Table) -> Result<(), Flaw>
     ensures { Judges result (first_unknown links section (keys_of_members (table_view table.now))) }
 {
     for key in table.keys() {
@@ -102,12 +95,7 @@ fn check_table(
 }
 
 /// Refuses the first key of a table that no description has.
-pub fn check_keys(
-    alloc: Global,
-    links: usize,
-    section: Section,
-    value: &Value,
-) -> Result<(), Flaw>
+pub fn check_keys(alloc: Global, links: usize, section: Section, value: &Value) -> Result<(), Flaw>
     ensures { Judges result (unknown_key links section (view value.now)) }
 {
     match value.as_table() {

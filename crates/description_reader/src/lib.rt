@@ -3,7 +3,12 @@
 
 mod check;
 mod demand;
+mod judge;
 mod keys;
+mod needed;
 mod place;
 mod quantity;
+mod ranges;
+mod support;
+mod types;
 mod values;
