@@ -1,6 +1,7 @@
 //! Reads the description of an artery, a TOML document.
 #![tactic(auto)]
 
+mod build;
 mod check;
 mod demand;
 mod judge;
@@ -12,3 +13,10 @@ mod ranges;
 mod support;
 mod types;
 mod values;
+
+ghost use Rattle.description_reader.specs.Described.{OneAnswer};
+
+/// For any bytes there is at most one answer: one artery, or one fault.
+pub fn law_one_answer()
+    ensures { OneAnswer }
+{}
