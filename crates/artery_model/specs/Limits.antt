@@ -47,15 +47,18 @@ head_ranges h =
     ∷ unless (within (number 0) (number 100) h.ratio) kind.OutOfRange (artery_place (codes "ratio"))
     ∷ []
 
-abbrev pub signal_ranges : ℕ → ℕ → Signal → Option Fault
-signal_ranges parts i s = first_fault (
+abbrev pub signal_tests : ℕ → ℕ → Signal → List (Option Fault)
+signal_tests parts i s =
     unless (is_name s.name) kind.OutOfRange (signal_place i (codes "name"))
     ∷ unless (in_range 1 (parts - 1) s.red) kind.OutOfRange (signal_place i (codes "red"))
     ∷ unless (nat_lt s.left_out parts) kind.OutOfRange (signal_place i (codes "left_out"))
     ∷ unless (nat_lt s.left_in parts) kind.OutOfRange (signal_place i (codes "left_in"))
     ∷ unless (nat_lt s.clear_out parts) kind.OutOfRange (signal_place i (codes "clear_out"))
     ∷ unless (nat_lt s.clear_in parts) kind.OutOfRange (signal_place i (codes "clear_in"))
-    ∷ [])
+    ∷ []
+
+abbrev pub signal_ranges : ℕ → ℕ → Signal → Option Fault
+signal_ranges parts i s = first_fault (signal_tests parts i s)
 
 -- limits on the change of pace from a link to the next: none on the last of n links
 abbrev pub change_ranges : Bool → Option Pair → List ℕ → List (Option Fault)
@@ -65,15 +68,18 @@ change_ranges is_last (Some p) place =
     ∷ first_fault (pair_ranges (whole (negsuc 999)) (number 1000) p place)
     ∷ []
 
-abbrev pub link_ranges : ℕ → ℕ → Link → Option Fault
-link_ranges n i l = first_fault (
+abbrev pub link_tests : ℕ → ℕ → Link → List (Option Fault)
+link_tests n i l =
     unless (in_range 1 30000 l.distance_out) kind.OutOfRange (link_place i (codes "distance_out"))
     ∷ unless (in_range 1 30000 l.distance_in) kind.OutOfRange (link_place i (codes "distance_in"))
     ∷ first_fault (pair_ranges (number 1) (number 300) l.speed_out (link_place i (codes "speed_out")))
     ∷ first_fault (pair_ranges (number 1) (number 300) l.speed_in (link_place i (codes "speed_in")))
     ∷ first_fault (change_ranges (i == n) l.change_out (link_place i (codes "change_out")))
     ∷ first_fault (change_ranges (i == n) l.change_in (link_place i (codes "change_in")))
-    ∷ [])
+    ∷ []
+
+abbrev pub link_ranges : ℕ → ℕ → Link → Option Fault
+link_ranges n i l = first_fault (link_tests n i l)
 
 -- ---- rules between values
 abbrev pub is_text : List ℕ → List ℕ → Bool
@@ -89,11 +95,14 @@ first_repeated i seen (s ∷ signals) =
 abbrev pub has_pattern : ℕ → Signal → Option Fault
 has_pattern i s = unless (list_any (λ b. b) s.patterns) kind.NoPattern (signal_place i (codes "patterns"))
 
-abbrev pub has_green : ℕ → ℕ → Signal → Option Fault
-has_green parts i s = first_fault (
+abbrev pub green_tests : ℕ → ℕ → Signal → List (Option Fault)
+green_tests parts i s =
     unless (nat_lt (s.red + s.left_out) parts) kind.NoGreen (signal_place i (codes "left_out"))
     ∷ unless (nat_lt (s.red + s.left_in) parts) kind.NoGreen (signal_place i (codes "left_in"))
-    ∷ [])
+    ∷ []
+
+abbrev pub has_green : ℕ → ℕ → Signal → Option Fault
+has_green parts i s = first_fault (green_tests parts i s)
 
 abbrev pub in_order : Pair → List ℕ → Option Fault
 in_order p place = unless (at_most p.least p.most) kind.LimitsCrossed place
@@ -102,13 +111,16 @@ abbrev pub in_order_if_there : Option Pair → List ℕ → Option Fault
 in_order_if_there None place = None
 in_order_if_there (Some p) place = in_order p place
 
-abbrev pub link_limits : ℕ → Link → Option Fault
-link_limits i l = first_fault (
+abbrev pub limit_tests : ℕ → Link → List (Option Fault)
+limit_tests i l =
     in_order l.speed_out (link_place i (codes "speed_out"))
     ∷ in_order l.speed_in (link_place i (codes "speed_in"))
     ∷ in_order_if_there l.change_out (link_place i (codes "change_out"))
     ∷ in_order_if_there l.change_in (link_place i (codes "change_in"))
-    ∷ [])
+    ∷ []
+
+abbrev pub link_limits : ℕ → Link → Option Fault
+link_limits i l = first_fault (limit_tests i l)
 
 -- ---- every test of an artery
 abbrev pub range_tests : Street → List (Option Fault)

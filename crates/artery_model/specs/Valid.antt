@@ -27,6 +27,13 @@ abbrev pub IsChange : Option Pair → Type 0
 IsChange None = Unit {0}
 IsChange (Some p) = IsPair (negsuc 999) (pos 1000) p
 
+-- limits of a change of pace in seconds per metre or foot
+pub record IsPaces (p : Pair) : Type 0 where
+  pub least_num : unsigned_abs p.least.num ≤ 100000
+  pub least_den : p.least.den ≤ 5280000
+  pub most_num : unsigned_abs p.most.num ≤ 100000
+  pub most_den : p.most.den ≤ 5280000
+
 -- each direction of the signal has some red and some green
 pub record IsSignal (parts : ℕ) (s : Signal) : Type 0 where
   pub red : 1 ≤ s.red

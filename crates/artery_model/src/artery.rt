@@ -1,10 +1,19 @@
-ghost use Rattle.std.specs.Prelude.{◌≡◌, ◌+◌, ◌<◌, ◌≤◌, pos, ◌≤ℤ◌, unsigned_abs, IfSome};
+ghost use Rattle.std.specs.Prelude.{◌≡◌, ◌+◌, ◌<◌, ◌≤◌, pos, ◌≤ℤ◌, unsigned_abs, IfSome, IfOk};
 ghost use Rattle.ratio.specs.Rational.{◌≤ℚ◌};
 ghost use Rattle.progression.specs.Street.{Street, count, signal_of, link_of, left_against, red_parts, clearance, allows, distance, speed, change_given};
+ghost use Rattle.progression.specs.Speeds.{run_low, run_high, change};
 ghost use Rattle.progression.specs.Columns.{pattern_shift};
-ghost use Rattle.artery_model.specs.Valid.{IsValid, IsSignal, IsLink, IsSpeeds, IsChange, IsPair, IsQuantity};
+ghost use Rattle.artery_model.specs.Faults.{Judges};
+ghost use Rattle.artery_model.specs.Limits.{artery_fault};
+ghost use Rattle.artery_model.specs.Valid.{IsValid, IsSignal, IsLink, IsSpeeds, IsChange, IsPair, IsPaces, IsQuantity};
 
+use crate::kind::Flaw;
+use crate::ranges::check_ranges;
+use crate::rules::check_rules;
+use crate::runs::{paces, seconds};
+use narrow_fraction::Frac;
 use progression::{Dir, Head, Link, Pair, Signal};
+use std::alloc::Global;
 use std::marker::Model;
 
 /// A valid artery, seen as a `Street`: its head, signals and links.
@@ -28,7 +37,37 @@ impl Model for Artery {
     ghost invariant = { λ a. IsValid (street_of a) };
 }
 
+/// Refuses the first value outside its limits, and then the first broken rule.
+fn check_artery(alloc: Global, head: &Head, signals: &[Signal], links: &[Link]) -> Result<(), Flaw>
+    ensures { Judges result (artery_fault (record { head = head.now; signals = signals.now; links = links.now })) }
+{
+    check_ranges(alloc, head, signals, links)?;
+    check_rules(alloc, head, signals, links)
+}
+
 impl Artery {
+    /// The artery of these parts. `Refused` comes exactly where they break a rule, and names the
+    /// kind and the place of the first in the order of `Kind`: values outside their limits, the
+    /// count of the links, names that stand twice, signals with no pattern or no green, and limits
+    /// that cross. Of one kind the artery's own keys come first, then those of the signals and of
+    /// the links in order.
+    pub fn new(
+        alloc: Global,
+        head: Head,
+        signals: Vec<Signal>,
+        links: Vec<Link>,
+    ) -> Result<Artery, Flaw>
+        ensures made { IfOk result (λ a. a ≡ record { head = head; signals = signals.items; links = links.items }) }
+        ensures judged { Judges result (artery_fault (record { head = head; signals = signals.items; links = links.items })) }
+    {
+        check_artery(alloc, &head, signals.as_slice(), links.as_slice())?;
+        Ok(Artery {
+            head,
+            signals,
+            links,
+        })
+    }
+
     /// What holds of the whole artery.
     pub fn head(&self) -> &Head
         ensures value { result.now ≡ self.now.head }
@@ -120,6 +159,30 @@ impl Artery {
         }
     }
 
+    /// The outbound red, in parts: the common red and the inbound left turn.
+    pub fn red_out(&self, signal: u32) -> u32
+        requires first { 1 ≤ signal }
+        requires last { signal ≤ count self.now }
+        ensures value { result ≡ red_parts self.now Dir.Outbound signal }
+        ensures least { 1 ≤ result }
+        ensures green { result < self.now.head.parts }
+        ensures small { result < 3600 }
+    {
+        self.red(Dir::Outbound, signal)
+    }
+
+    /// The inbound red, in parts: the common red and the outbound left turn.
+    pub fn red_in(&self, signal: u32) -> u32
+        requires first { 1 ≤ signal }
+        requires last { signal ≤ count self.now }
+        ensures value { result ≡ red_parts self.now Dir.Inbound signal }
+        ensures least { 1 ≤ result }
+        ensures green { result < self.now.head.parts }
+        ensures small { result < 3600 }
+    {
+        self.red(Dir::Inbound, signal)
+    }
+
     /// How many parts earlier a direction's line leaves a signal, so that the queue there clears.
     pub fn clearance(&self, dir: Dir, signal: u32) -> u32
         requires first { 1 ≤ signal }
@@ -202,5 +265,66 @@ impl Artery {
             Dir::Outbound => found.change_out,
             Dir::Inbound => found.change_in,
         }
+    }
+
+    /// The run on a link at the greatest speed, in seconds.
+    pub fn run_low(&self, dir: Dir, link: u32) -> Frac
+        requires first { 1 ≤ link }
+        requires last { link < count self.now }
+        ensures value { result ≡ run_low self.now dir link }
+        ensures positive { pos 1 ≤ℤ result.num }
+        ensures num { unsigned_abs result.num ≤ 540000000 }
+        ensures den { result.den ≤ 2200000 }
+    {
+        let speed = self.speed(dir, link);
+        seconds(self.head.units, self.distance(dir, link), speed.most)
+    }
+
+    /// The run on a link at the least speed, in seconds.
+    pub fn run_high(&self, dir: Dir, link: u32) -> Frac
+        requires first { 1 ≤ link }
+        requires last { link < count self.now }
+        ensures value { result ≡ run_high self.now dir link }
+        ensures positive { pos 1 ≤ℤ result.num }
+        ensures num { unsigned_abs result.num ≤ 540000000 }
+        ensures den { result.den ≤ 2200000 }
+    {
+        let speed = self.speed(dir, link);
+        seconds(self.head.units, self.distance(dir, link), speed.least)
+    }
+
+    /// The limits of the change of pace from a link to the link with the next number, in seconds
+    /// per metre or foot. There is none exactly where the description gives none.
+    pub fn change(&self, dir: Dir, link: u32) -> Option<Pair>
+        requires first { 1 ≤ link }
+        requires last { link < count self.now }
+        ensures value { result ≡ change self.now dir link }
+        ensures sizes { IfSome result (λ p. IsPaces p) }
+    {
+        let units = self.head.units;
+        match self.change_given(dir, link) {
+            None => None,
+            Some(given) => Some(paces(units, given)),
+        }
+    }
+
+    /// The limits of the cycle in seconds, from 1 to 3600.
+    pub fn cycle(&self) -> Pair
+        ensures value { result ≡ self.now.head.cycle }
+        ensures valid { IsPair (pos 1) (pos 3600) result }
+        ensures least_num { pos 1 ≤ℤ result.least.num }
+        ensures most_num { pos 1 ≤ℤ result.most.num }
+    {
+        self.head.cycle
+    }
+
+    /// How much a second of the inbound band counts against one of the outbound band, from 0 to
+    /// 100.
+    pub fn ratio(&self) -> Frac
+        ensures value { result ≡ self.now.head.ratio }
+        ensures valid { IsQuantity (pos 0) (pos 100) result }
+        ensures num { pos 0 ≤ℤ result.num }
+    {
+        self.head.ratio
     }
 }

@@ -5,6 +5,11 @@
 
 mod artery;
 mod kind;
+mod names;
+mod ranges;
+mod refusals;
+mod rules;
+mod runs;
 
 pub use artery::Artery;
 pub use kind::{Flaw, Kind, Refusal};

@@ -1,0 +1,4 @@
+pub mod Quotients
+pub mod Repeats
+pub mod Chains
+pub mod Validity

@@ -1,0 +1,173 @@
+//! Values outside their limits.
+
+ghost use Rattle.std.specs.Prelude.{◌≡◌, ◌==◌, nat_le, not, ◌&&◌, length};
+ghost use Rattle.std.specs.List.{list_all};
+ghost use Rattle.ratio.specs.Rational.{whole};
+ghost use Rattle.progression.specs.Speeds.{number};
+ghost use Rattle.artery_model.specs.Faults.{first_fault, unless, each_numbered, link_place, Judges};
+ghost use Rattle.artery_model.specs.Limits.{within, in_range, is_name, is_name_if_there, pair_ranges, head_ranges, signal_ranges, change_ranges, link_ranges, range_tests};
+
+use crate::kind::{Flaw, Kind};
+use crate::refusals::{check, check_item, check_signal, link_place};
+use narrow_fraction::Frac;
+use progression::{Head, Link, Pair, Signal, Text};
+use std::alloc::Global;
+
+/// Whether a quantity lies between two whole numbers, its numerator and denominator being of a
+/// bounded size.
+fn is_within(low: i64, high: i64, value: Frac) -> bool
+    ensures { result ≡ within (whole low) (whole high) value }
+{
+    value.num().unsigned_abs() <= 100_000
+        && value.den().unsigned_abs() <= 1000
+        && Frac::whole(low) <= value
+        && value <= Frac::whole(high)
+}
+
+fn is_plain(byte: u8) -> bool
+    ensures { result ≡ (nat_le 32 byte && not (byte == 127)) }
+{
+    32 <= byte && byte != 127
+}
+
+/// Whether no byte is a control character.
+fn all_plain(bytes: &[u8]) -> bool
+    ensures { result ≡ list_all (λ b. nat_le 32 b && not (b == 127)) bytes.now }
+{
+    bytes.iter().all(|byte| is_plain(*byte))
+}
+
+/// Whether a name has 1 to 60 bytes and no control character.
+fn is_name(name: &Text) -> bool
+    ensures { result ≡ is_name name.now }
+{
+    let bytes = name.as_str().as_bytes();
+    1 <= bytes.len() && bytes.len() <= 60 && all_plain(bytes)
+}
+
+fn is_name_if_there(name: &Option<Text>) -> bool
+    ensures { result ≡ is_name_if_there name.now }
+{
+    match name {
+        Some(name) => is_name(name),
+        None => true,
+    }
+}
+
+fn check_pair(alloc: Global, low: i64, high: i64, pair: Pair, place: &str) -> Result<(), Flaw>
+    ensures { Judges result (first_fault (pair_ranges (whole low) (whole high) pair place.now)) }
+{
+    let first = is_within(low, high, pair.least);
+    check_item(alloc, first, Kind::OutOfRange, place, "[1]")?;
+    let second = is_within(low, high, pair.most);
+    check_item(alloc, second, Kind::OutOfRange, place, "[2]")
+}
+
+fn check_head(alloc: Global, head: &Head) -> Result<(), Flaw>
+    ensures { Judges result (first_fault (head_ranges head.now)) }
+{
+    let named = is_name_if_there(&head.name);
+    check(alloc, named, Kind::OutOfRange, "artery.name")?;
+    let parts = 2 <= head.parts && head.parts <= 3600;
+    check(alloc, parts, Kind::OutOfRange, "artery.parts")?;
+    check_pair(alloc, 1, 3600, head.cycle, "artery.cycle")?;
+    let ratio = is_within(0, 100, head.ratio);
+    check(alloc, ratio, Kind::OutOfRange, "artery.ratio")
+}
+
+fn check_signal_ranges(
+    alloc: Global,
+    parts: u32,
+    number: usize,
+    signal: &Signal,
+) -> Result<(), Flaw>
+    ensures { Judges result (signal_ranges parts number signal.now) }
+{
+    let kind = Kind::OutOfRange;
+    let red = 1 <= signal.red && signal.red <= parts.saturating_sub(1);
+    check_signal(alloc, is_name(&signal.name), kind, number, "name")?;
+    check_signal(alloc, red, kind, number, "red")?;
+    check_signal(alloc, signal.left_out < parts, kind, number, "left_out")?;
+    check_signal(alloc, signal.left_in < parts, kind, number, "left_in")?;
+    check_signal(alloc, signal.clear_out < parts, kind, number, "clear_out")?;
+    check_signal(alloc, signal.clear_in < parts, kind, number, "clear_in")
+}
+
+fn check_each_signal(alloc: Global, parts: u32, signals: &[Signal]) -> Result<(), Flaw>
+    ensures { Judges result (first_fault (each_numbered (signal_ranges parts) 1 signals.now)) }
+{
+    for (index, signal) in signals.iter().enumerate() {
+        check_signal_ranges(alloc, parts, index + 1, signal)?;
+    }
+    Ok(())
+}
+
+fn check_distance(alloc: Global, distance: u32, link: usize, key: &str) -> Result<(), Flaw>
+    ensures { Judges result (unless (in_range 1 30000 distance) Kind.OutOfRange (link_place link key.now)) }
+{
+    let place = link_place(alloc, link, key)?;
+    let passes = 1 <= distance && distance <= 30_000;
+    check(alloc, passes, Kind::OutOfRange, place.as_str())
+}
+
+fn check_speeds(alloc: Global, speeds: Pair, link: usize, key: &str) -> Result<(), Flaw>
+    ensures { Judges result (first_fault (pair_ranges (number 1) (number 300) speeds (link_place link key.now))) }
+{
+    let place = link_place(alloc, link, key)?;
+    check_pair(alloc, 1, 300, speeds, place.as_str())
+}
+
+fn check_change(
+    alloc: Global,
+    is_last: bool,
+    change: Option<Pair>,
+    link: usize,
+    key: &str,
+) -> Result<(), Flaw>
+    ensures { Judges result (first_fault (change_ranges is_last change (link_place link key.now))) }
+{
+    let Some(limits) = change else {
+        return Ok(());
+    };
+    let place = link_place(alloc, link, key)?;
+    check(alloc, !is_last, Kind::OutOfRange, place.as_str())?;
+    check_pair(alloc, -1000, 1000, limits, place.as_str())
+}
+
+/// The limits of the numbers of a link, the last of which is that with the number `last`.
+fn check_link_ranges(alloc: Global, last: usize, number: usize, link: &Link) -> Result<(), Flaw>
+    ensures { Judges result (link_ranges last number link.now) }
+{
+    check_distance(alloc, link.distance_out, number, "distance_out")?;
+    check_distance(alloc, link.distance_in, number, "distance_in")?;
+    check_speeds(alloc, link.speed_out, number, "speed_out")?;
+    check_speeds(alloc, link.speed_in, number, "speed_in")?;
+    let is_last = number == last;
+    check_change(alloc, is_last, link.change_out, number, "change_out")?;
+    check_change(alloc, is_last, link.change_in, number, "change_in")
+}
+
+fn check_each_link(alloc: Global, links: &[Link]) -> Result<(), Flaw>
+    ensures { Judges result (first_fault (each_numbered (link_ranges (length links.now)) 1 links.now)) }
+{
+    for (index, link) in links.iter().enumerate() {
+        check_link_ranges(alloc, links.len(), index + 1, link)?;
+    }
+    Ok(())
+}
+
+/// Refuses the first value outside its limits.
+pub(crate) fn check_ranges(
+    alloc: Global,
+    head: &Head,
+    signals: &[Signal],
+    links: &[Link],
+) -> Result<(), Flaw>
+    ensures { Judges result (first_fault (range_tests (record { head = head.now; signals = signals.now; links = links.now }))) }
+{
+    let count = 2 <= signals.len() && signals.len() <= 16;
+    check(alloc, count, Kind::OutOfRange, "signal")?;
+    check_head(alloc, head)?;
+    check_each_signal(alloc, head.parts, signals)?;
+    check_each_link(alloc, links)
+}
