@@ -9,6 +9,13 @@ use Rattle.artery_model.specs.declared.kind.Flaw.{Flaw}
 use Rattle.artery_model.specs.declared.kind.Flaw.TheVariants.{Refused, Memory}
 use Rattle.description_reader.specs.Streets.{street_in, description_fault}
 
+-- the bytes are a document with this root
+pub record ReadsAs (x : List ℕ) (d : Data) : Type 0 where
+  pub text : IsUtf8 x
+  pub root : Members
+  pub document : parse_document x ≡ Some root
+  pub is : d ≡ table root
+
 -- the bytes are a TOML document without a fault, and this is the artery that its values make
 pub record Described (x : List ℕ) (a : Street) : Type 0 where
   pub text : IsUtf8 x

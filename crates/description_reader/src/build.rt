@@ -93,14 +93,14 @@ pub fn signals_in(alloc: Global, tables: &[Value]) -> Result<Vec<Signal>, AllocE
     Ok(signals)
 }
 
-fn link_in(table: &Value) -> Link
-    ensures { result ≡ link_in (view table.now) }
+fn link_of(table: &Value, speed_out: Pair, speed_in: Pair) -> Link
+    ensures { result ≡ record (link_in (view table.now)) { speed_out = speed_out; speed_in = speed_in } }
 {
     Link {
         distance_out: small(number_at(table, "distance_out")),
         distance_in: small(number_at(table, "distance_in")),
-        speed_out: pair_at(table, "speed_out"),
-        speed_in: pair_at(table, "speed_in"),
+        speed_out,
+        speed_in,
         change_out: None,
         change_in: None,
     }
@@ -112,7 +112,9 @@ pub fn links_in(alloc: Global, tables: &[Value]) -> Result<Vec<Link>, AllocError
 {
     let mut links = Vec::new(alloc);
     for table in tables {
-        links.push(link_in(table))?;
+        let speed_out = pair_at(table, "speed_out");
+        let speed_in = pair_at(table, "speed_in");
+        links.push(link_of(table, speed_out, speed_in))?;
     }
     Ok(links)
 }

@@ -1,6 +1,6 @@
 //! One check of a value of a description.
 
-ghost use Rattle.std.specs.Prelude.{◌≡◌, Some, string_bytes};
+ghost use Rattle.std.specs.Prelude.{◌≡◌, Some, string_bytes, codes};
 ghost use Rattle.toml.specs.Data.{get};
 ghost use Rattle.toml.specs.View.{view};
 ghost use Rattle.artery_model.specs.Faults.{Judges, Names, unless};
@@ -22,6 +22,16 @@ fn refused(kind: Kind, place: String) -> Flaw
         kind,
         place: Text::from(place),
     })
+}
+
+/// Refuses the file as a whole.
+pub fn refused_file(alloc: Global, kind: Kind) -> Flaw
+    ensures { Names result (Some (record { kind = kind; place = codes "file" })) }
+{
+    match String::from_str(alloc, "file") {
+        Ok(place) => refused(kind, place),
+        Err(_) => Flaw::Memory,
+    }
 }
 
 /// Refuses a key where the test fails.
