@@ -1,0 +1,4 @@
+pub mod Answers
+pub mod Plain
+pub mod Views
+pub mod Digits

@@ -1,0 +1,23 @@
+-- TOML values beside what is read from them.
+use Rattle.std.proofs.Common.{◌≡◌, List, [], ◌∷◌, refl, ap, map, String, Global, string_bytes}
+use Rattle.std.specs.Map.{keys_of}
+use Rattle.std.proofs.Common.{BTreeMap}
+use Rattle.toml.proofs.Views.{view-Table}
+use Rattle.toml.specs.Data.{Data, table}
+use Rattle.toml.specs.View.{view, table_view, members_view, items_of}
+use Rattle.toml.specs.declared.value.Value.{Value, Table}
+use Rattle.description_reader.specs.Values.{keys_of_members, list_of}
+
+-- the keys that a map's iterator gives are those of the table
+pub keys_of_view : (es : List (String Global × Value)) → keys_of_members (members_view es) ≡ map string_bytes (keys_of es)
+keys_of_view [] = refl
+keys_of_view (e ∷ es) = ap (λ ks. string_bytes e.0 ∷ ks) (keys_of_view es)
+
+-- an array's items are those of the list that it was made of
+pub list_of_items : (ds : List Data) → list_of (items_of ds) ≡ ds
+list_of_items [] = refl
+list_of_items (d ∷ ds) = ap (λ xs. d ∷ xs) (list_of_items ds)
+
+-- the data of a table as a value
+pub view_of_table : (m : BTreeMap (String Global) Value) → view (Table m) ≡ table (table_view m)
+view_of_table m = view-Table m

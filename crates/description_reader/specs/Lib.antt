@@ -1,0 +1,9 @@
+pub mod Checks
+pub mod Described
+pub mod Judgement
+pub mod Keys
+pub mod Places
+pub mod Plain
+pub mod Quantity
+pub mod Streets
+pub mod Values

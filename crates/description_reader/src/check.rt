@@ -1,0 +1,210 @@
+//! One check of a value of a description.
+
+ghost use Rattle.std.specs.Prelude.{◌≡◌, Some, string_bytes, codes};
+ghost use Rattle.toml.specs.Data.{get};
+ghost use Rattle.toml.specs.View.{view};
+ghost use Rattle.artery_model.specs.Faults.{Judges, Names, unless};
+ghost use Rattle.description_reader.specs.Values.{if_there};
+ghost use Rattle.description_reader.specs.Places.{key_place, item_place};
+ghost use Rattle.description_reader.specs.Checks.{meets, missing, value_fault, items_fault, both_missing, both_values, both_items, array_fault, both_arrays};
+
+use crate::demand::{Demand, meets};
+use crate::place::{Section, item_place, key_place};
+use crate::values::{has, items_at, value_at};
+use artery_model::{Flaw, Kind, Refusal, Text};
+use std::alloc::Global;
+use toml::Value;
+
+fn refused(kind: Kind, place: String) -> Flaw
+    ensures { Names result (Some (record { kind = kind; place = string_bytes place })) }
+{
+    Flaw::Refused(Refusal {
+        kind,
+        place: Text::from(place),
+    })
+}
+
+/// Refuses the file as a whole.
+pub fn refused_file(alloc: Global, kind: Kind) -> Flaw
+    ensures { Names result (Some (record { kind = kind; place = codes "file" })) }
+{
+    match String::from_str(alloc, "file") {
+        Ok(place) => refused(kind, place),
+        Err(_) => Flaw::Memory,
+    }
+}
+
+/// Refuses a key where the test fails.
+pub fn check(
+    alloc: Global,
+    passes: bool,
+    kind: Kind,
+    section: Section,
+    key: &str,
+) -> Result<(), Flaw>
+    ensures { Judges result (unless passes kind (key_place section key.now)) }
+{
+    if passes {
+        return Ok(());
+    }
+    match key_place(alloc, section, key) {
+        Ok(place) => Err(refused(kind, place)),
+        Err(_) => Err(Flaw::Memory),
+    }
+}
+
+/// Refuses an item of an array, counted from 1, where the test fails.
+fn check_item(
+    alloc: Global,
+    passes: bool,
+    kind: Kind,
+    section: Section,
+    key: &str,
+    number: usize,
+) -> Result<(), Flaw>
+    ensures { Judges result (unless passes kind (item_place section key.now number)) }
+{
+    if passes {
+        return Ok(());
+    }
+    match item_place(alloc, section, key, number) {
+        Ok(place) => Err(refused(kind, place)),
+        Err(_) => Err(Flaw::Memory),
+    }
+}
+
+/// Refuses a table without a needed key.
+#[tactic(auto, unfolding(crate::specs::Checks::missing))]
+pub fn check_needed(alloc: Global, section: Section, key: &str, table: &Value) -> Result<(), Flaw>
+    ensures { Judges result (missing section key.now (view table.now)) }
+{
+    check(alloc, has(table, key), Kind::Missing, section, key)
+}
+
+/// Whether the value at a key, where there is one, is what it must be.
+fn meets_at(demand: Demand, key: &str, table: &Value) -> bool
+    ensures { result ≡ if_there (meets demand) (get key.now (view table.now)) }
+{
+    match value_at(table, key) {
+        Some(found) => meets(demand, found),
+        None => true,
+    }
+}
+
+/// Refuses the value at a key, where there is one, that is not what it must be.
+#[tactic(auto, unfolding(crate::specs::Checks::value_fault))]
+pub fn check_value(
+    alloc: Global,
+    kind: Kind,
+    demand: Demand,
+    section: Section,
+    key: &str,
+    table: &Value,
+) -> Result<(), Flaw>
+    ensures { Judges result (value_fault kind demand section key.now (view table.now)) }
+{
+    check(alloc, meets_at(demand, key, table), kind, section, key)
+}
+
+/// Refuses the first item of the array at a key that is not what it must be.
+#[tactic(auto, unfolding(crate::specs::Checks::items_fault))]
+pub fn check_items(
+    alloc: Global,
+    kind: Kind,
+    demand: Demand,
+    section: Section,
+    key: &str,
+    table: &Value,
+) -> Result<(), Flaw>
+    ensures { Judges result (items_fault kind demand section key.now (view table.now)) }
+{
+    let items = items_at(table, key);
+    for (index, item) in items.iter().enumerate() {
+        check_item(alloc, meets(demand, item), kind, section, key, index + 1)?;
+    }
+    Ok(())
+}
+
+/// Refuses a table without the needed key of each direction.
+#[tactic(auto, unfolding(crate::specs::Checks::both_missing))]
+pub fn check_both_needed(
+    alloc: Global,
+    section: Section,
+    out: &str,
+    back: &str,
+    table: &Value,
+) -> Result<(), Flaw>
+    ensures { Judges result (both_missing section out.now back.now (view table.now)) }
+{
+    check_needed(alloc, section, out, table)?;
+    check_needed(alloc, section, back, table)
+}
+
+/// Refuses the value of each direction that is not what it must be.
+#[tactic(auto, unfolding(crate::specs::Checks::both_values))]
+pub fn check_both_values(
+    alloc: Global,
+    kind: Kind,
+    demand: Demand,
+    section: Section,
+    out: &str,
+    back: &str,
+    table: &Value,
+) -> Result<(), Flaw>
+    ensures { Judges result (both_values kind demand section out.now back.now (view table.now)) }
+{
+    check_value(alloc, kind, demand, section, out, table)?;
+    check_value(alloc, kind, demand, section, back, table)
+}
+
+/// Refuses the first item of the arrays of both directions that is not what it must be.
+#[tactic(auto, unfolding(crate::specs::Checks::both_items))]
+pub fn check_both_items(
+    alloc: Global,
+    kind: Kind,
+    demand: Demand,
+    section: Section,
+    out: &str,
+    back: &str,
+    table: &Value,
+) -> Result<(), Flaw>
+    ensures { Judges result (both_items kind demand section out.now back.now (view table.now)) }
+{
+    check_items(alloc, kind, demand, section, out, table)?;
+    check_items(alloc, kind, demand, section, back, table)
+}
+
+/// Refuses the array at a key, or its first item, that is not what it must be.
+#[tactic(auto, unfolding(crate::specs::Checks::array_fault))]
+pub fn check_array(
+    alloc: Global,
+    kind: Kind,
+    whole: Demand,
+    each: Demand,
+    section: Section,
+    key: &str,
+    table: &Value,
+) -> Result<(), Flaw>
+    ensures { Judges result (array_fault kind whole each section key.now (view table.now)) }
+{
+    check_value(alloc, kind, whole, section, key, table)?;
+    check_items(alloc, kind, each, section, key, table)
+}
+
+/// Refuses the array of each direction, or its first item, that is not what it must be.
+#[tactic(auto, unfolding(crate::specs::Checks::both_arrays))]
+pub fn check_both_arrays(
+    alloc: Global,
+    kind: Kind,
+    whole: Demand,
+    each: Demand,
+    section: Section,
+    out: &str,
+    back: &str,
+    table: &Value,
+) -> Result<(), Flaw>
+    ensures { Judges result (both_arrays kind whole each section out.now back.now (view table.now)) }
+{
+    check_array(alloc, kind, whole, each, section, out, table)?;
+    check_array(alloc, kind, whole, each, section, back, table)
+}

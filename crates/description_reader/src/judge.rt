@@ -1,0 +1,149 @@
+//! The values of a description, judged by one kind of fault after the other.
+
+ghost use Rattle.std.specs.Prelude.{◌≡◌, option_map, map, codes};
+ghost use Rattle.toml.specs.Data.{get};
+ghost use Rattle.toml.specs.View.{view};
+ghost use Rattle.artery_model.specs.Faults.{Judges, first_fault, each_numbered};
+ghost use Rattle.description_reader.specs.Judgement.{table_fault, in_table, artery_fault_in, signal_fault, link_fault, stage_tests, parts_in, facts_of, value_tests};
+
+use crate::keys::check_keys;
+use crate::needed::check_table_needed;
+use crate::place::Section;
+use crate::ranges::check_ranges;
+use crate::support::check_support;
+use crate::types::check_types;
+use crate::values::{items_at, number_at, value_at};
+use artery_model::Flaw;
+use std::alloc::Global;
+use toml::Value;
+
+/// A kind of fault of a value. The kinds stand in the order in which they are looked for.
+#[derive(Clone, Copy, Debug)]
+pub enum Stage {
+    /// Keys that no description has.
+    Keys,
+    /// Needed keys that are absent.
+    Needed,
+    /// Values of another type.
+    Types,
+    /// Keys and values that are not supported yet.
+    Support,
+    /// Values outside their limits.
+    Ranges,
+}
+
+/// What the tests of one table need of the others.
+#[derive(Clone, Copy, Debug)]
+pub struct Facts {
+    /// How many links are given.
+    pub links: usize,
+    /// How many parts the cycle has.
+    pub parts: i64,
+}
+
+fn check_table(
+    alloc: Global,
+    stage: Stage,
+    facts: Facts,
+    section: Section,
+    table: &Value,
+) -> Result<(), Flaw>
+    ensures { Judges result (table_fault stage facts section (view table.now)) }
+{
+    match stage {
+        Stage::Keys => check_keys(alloc, facts.links, section, table),
+        Stage::Needed => check_table_needed(alloc, section, table),
+        Stage::Types => check_types(alloc, section, table),
+        Stage::Support => check_support(alloc, section, table),
+        Stage::Ranges => check_ranges(alloc, facts.parts, section, table),
+    }
+}
+
+/// Looks into a value that is a table.
+fn look_into(
+    alloc: Global,
+    stage: Stage,
+    facts: Facts,
+    section: Section,
+    value: &Value,
+) -> Result<(), Flaw>
+    ensures { Judges result (in_table stage facts section (view value.now)) }
+{
+    if value.is_table() {
+        check_table(alloc, stage, facts, section, value)
+    } else {
+        Ok(())
+    }
+}
+
+fn look_into_artery(alloc: Global, stage: Stage, facts: Facts, root: &Value) -> Result<(), Flaw>
+    ensures { Judges result (artery_fault_in stage facts (get (codes "artery") (view root.now))) }
+{
+    match value_at(root, "artery") {
+        Some(artery) => look_into(alloc, stage, facts, Section::Artery, artery),
+        None => Ok(()),
+    }
+}
+
+fn look_into_signals(
+    alloc: Global,
+    stage: Stage,
+    facts: Facts,
+    signals: &[Value],
+) -> Result<(), Flaw>
+    ensures { Judges result (first_fault (each_numbered (signal_fault stage facts) 1 (map view signals.now))) }
+{
+    for (index, signal) in signals.iter().enumerate() {
+        look_into(alloc, stage, facts, Section::Signal(index + 1), signal)?;
+    }
+    Ok(())
+}
+
+fn look_into_links(alloc: Global, stage: Stage, facts: Facts, links: &[Value]) -> Result<(), Flaw>
+    ensures { Judges result (first_fault (each_numbered (link_fault stage facts) 1 (map view links.now))) }
+{
+    for (index, link) in links.iter().enumerate() {
+        look_into(alloc, stage, facts, Section::Link(index + 1), link)?;
+    }
+    Ok(())
+}
+
+/// Refuses a description with a fault of one kind, at its first place.
+fn check_stage(alloc: Global, stage: Stage, facts: Facts, root: &Value) -> Result<(), Flaw>
+    ensures { Judges result (first_fault (stage_tests stage facts (view root.now))) }
+{
+    look_into(alloc, stage, facts, Section::Root, root)?;
+    look_into_artery(alloc, stage, facts, root)?;
+    look_into_signals(alloc, stage, facts, items_at(root, "signal"))?;
+    look_into_links(alloc, stage, facts, items_at(root, "link"))
+}
+
+fn parts_of(root: &Value) -> i64
+    ensures { result ≡ parts_in (get (codes "artery") (view root.now)) }
+{
+    match value_at(root, "artery") {
+        Some(artery) => number_at(artery, "parts"),
+        None => 0,
+    }
+}
+
+fn facts_of(root: &Value) -> Facts
+    ensures { result ≡ facts_of (view root.now) }
+{
+    Facts {
+        links: items_at(root, "link").len(),
+        parts: parts_of(root),
+    }
+}
+
+/// Refuses the first fault of the values of a description.
+pub fn check_values(alloc: Global, root: &Value) -> Result<(), Flaw>
+    ensures { Judges result (first_fault (value_tests (view root.now))) }
+{
+    let facts = facts_of(root);
+    check_stage(alloc, Stage::Keys, facts, root)?;
+    check_stage(alloc, Stage::Needed, facts, root)?;
+    check_stage(alloc, Stage::Types, facts, root)?;
+    check_stage(alloc, Stage::Support, facts, root)?;
+    check_stage(alloc, Stage::Ranges, facts, root)
+}

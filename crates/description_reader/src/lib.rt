@@ -1,0 +1,33 @@
+//! Reads the description of an artery, a TOML document, and names what is wrong with a document that
+//! describes none. The specification is a list of tests of the document's values, kind by kind and
+//! of each kind place by place: `specs/Judgement.antt` has the tests, `specs/Streets.antt` the artery
+//! that the values make, and `specs/Described.antt` joins them. Plain arteries are read: no left
+//! turns, no clearances, all four patterns, one speed on each link and direction, and equal weights.
+//! Start with `read_artery`.
+#![tactic(auto)]
+
+ghost use Rattle.description_reader.specs.Described.{OneAnswer};
+
+mod build;
+mod check;
+mod demand;
+mod judge;
+mod keys;
+mod needed;
+mod place;
+mod quantity;
+mod ranges;
+mod read;
+mod support;
+#[cfg(test)]
+mod tests;
+mod types;
+mod values;
+
+pub use artery_model::{Artery, Flaw, Kind, Refusal};
+pub use read::read_artery;
+
+/// For any bytes there is at most one answer: one artery, or one fault.
+pub fn law_one_answer()
+    ensures { OneAnswer }
+{}

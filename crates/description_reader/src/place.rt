@@ -1,0 +1,41 @@
+//! The tables of a description, and the paths of places in them.
+
+ghost use Rattle.std.specs.Prelude.{◌≡◌, IfOk, string_bytes};
+ghost use Rattle.description_reader.specs.Places.{key_place, item_place};
+
+use std::alloc::{AllocError, Global};
+
+/// A table of a description. Signals and links are counted from 1.
+#[derive(Clone, Copy, Debug, PartialEq, Eq)]
+pub enum Section {
+    Root,
+    Artery,
+    Signal(usize),
+    Link(usize),
+}
+
+/// The path of a key, as `artery.parts` or `signal[3].red`.
+pub fn key_place(alloc: Global, section: Section, key: &str) -> Result<String, AllocError>
+    ensures { IfOk result (λ s. string_bytes s ≡ key_place section key.now) }
+{
+    match section {
+        Section::Root => String::from_str(alloc, key),
+        Section::Artery => format!(in alloc; "artery.{key}"),
+        Section::Signal(number) => format!(in alloc; "signal[{number}].{key}"),
+        Section::Link(number) => format!(in alloc; "link[{number}].{key}"),
+    }
+}
+
+/// The path of an item of an array, counted from 1, as `artery.cycle[2]`.
+pub fn item_place(
+    alloc: Global,
+    section: Section,
+    key: &str,
+    number: usize,
+) -> Result<String, AllocError>
+    ensures { IfOk result (λ s. string_bytes s ≡ item_place section key.now number) }
+{
+    let array = key_place(alloc, section, key)?;
+    let path = array.as_str();
+    format!(in alloc; "{path}[{number}]")
+}

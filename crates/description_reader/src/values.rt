@@ -1,0 +1,95 @@
+//! Looking into a TOML value.
+
+ghost use Rattle.std.specs.Prelude.{◌≡◌, option_map, map, codes};
+ghost use Rattle.toml.specs.Data.{get};
+ghost use Rattle.toml.specs.View.{view};
+ghost use Rattle.description_reader.specs.Checks.{bounds_in};
+ghost use Rattle.description_reader.specs.Values.{has, items_in, items_at, text_in, text_at, number_at};
+
+use crate::quantity::quantity;
+use toml::Value;
+
+/// The value at a key.
+pub fn value_at<'a>(value: &'a Value, key: &str) -> Option<&'a Value>
+    ensures { option_map (λ v. view v.now) result ≡ get key.now (view value.now) }
+{
+    value.get(key)
+}
+
+/// Whether a table has a key.
+pub fn has(value: &Value, key: &str) -> bool
+    ensures { result ≡ has (view value.now) key.now }
+{
+    value_at(value, key).is_some()
+}
+
+/// The items of an array, none of any other value.
+#[tactic(auto, using(crate::proofs::Views::list_of_items))]
+pub fn items_in(value: &Value) -> &[Value]
+    ensures { map view result.now ≡ items_in (view value.now) }
+{
+    match value.as_array() {
+        Some(items) => items.as_slice(),
+        None => &[],
+    }
+}
+
+/// The items of an array at a key, none where there is no array.
+pub fn items_at<'a>(value: &'a Value, key: &str) -> &'a [Value]
+    ensures { map view result.now ≡ items_at (view value.now) key.now }
+{
+    match value_at(value, key) {
+        Some(found) => items_in(found),
+        None => &[],
+    }
+}
+
+/// The text of a value, empty for any other value.
+pub fn text_in(value: &Value) -> &str
+    ensures { result.now ≡ text_in (view value.now) }
+{
+    match value.as_str() {
+        Some(text) => text,
+        None => "",
+    }
+}
+
+/// The text at a key, empty where there is none.
+pub fn text_at<'a>(value: &'a Value, key: &str) -> &'a str
+    ensures { result.now ≡ text_at (view value.now) key.now }
+{
+    match value_at(value, key) {
+        Some(found) => text_in(found),
+        None => "",
+    }
+}
+
+/// The number at a key, 0 where there is none.
+pub fn number_at(value: &Value, key: &str) -> i64
+    ensures { result ≡ number_at (view value.now) key.now }
+{
+    match value_at(value, key) {
+        Some(found) => quantity(found),
+        None => 0,
+    }
+}
+
+/// The numbers of an array of two.
+#[derive(Clone, Copy, Debug)]
+pub struct Bounds {
+    pub least: i64,
+    pub most: i64,
+}
+
+/// The numbers of an array of two, nothing where there are fewer or more.
+pub fn bounds_in(items: &[Value]) -> Option<Bounds>
+    ensures { result ≡ bounds_in (map view items.now) }
+{
+    match items {
+        [least, most] => Some(Bounds {
+            least: quantity(least),
+            most: quantity(most),
+        }),
+        _ => None,
+    }
+}
