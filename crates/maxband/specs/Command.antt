@@ -5,7 +5,7 @@ use Rattle.maxband.specs.declared.command.Command.{Command}
 use Rattle.maxband.specs.declared.command.Command.TheVariants as command
 
 pub data Form : Type 0 where
-  Hold : List ℕ → List ℕ → Form     -- the names of a description and of a timing
+  Hold : List ℕ → List ℕ → Form  -- the names of a description and of a timing
 
 abbrev pub view : Command → Form
 view (command.Hold artery timing) = Hold artery.now timing.now

@@ -18,12 +18,7 @@ use time_space::{Timing, holds, value};
 const LIMIT: u64 = 1_048_576;
 
 /// The bytes of a file, or why its turn ends.
-fn bytes_of<F: Files>(
-    alloc: Global,
-    files: &mut F,
-    name: &str,
-    file: u8,
-) -> Result<Vec<u8>, Cause>
+fn bytes_of<F: Files>(alloc: Global, files: &mut F, name: &str, file: u8) -> Result<Vec<u8>, Cause>
     ensures ok { IfOk result (λ bytes. IsWithinLimit (F.holds files.old name.now) bytes.items) }
     ensures err { IfErr result (λ c. NotRead (F.holds files.old name.now) (F.read_faults files.old name.now) (F.read_faults files.new name.now) file c) }
     ensures files { SameFiles (F.holds files.old) (F.holds files.new) }

@@ -66,8 +66,12 @@ fn failing_text(alloc: Global, failing: Failing) -> Result<String, AllocError>
         Failing::Rise { dir, link } => link_text(alloc, "rise", dir, link),
         Failing::Drop { dir, link } => link_text(alloc, "drop", dir, link),
         Failing::Ratio => String::from_str(alloc, "ratio"),
-        Failing::Outbound { signal, tick } => format!(in alloc; "outbound signal {signal} tick {tick}"),
-        Failing::Inbound { signal, tick } => format!(in alloc; "inbound signal {signal} tick {tick}"),
+        Failing::Outbound { signal, tick } => format!(in alloc;
+            "outbound signal {signal} tick {tick}"
+        ),
+        Failing::Inbound { signal, tick } => format!(in alloc;
+            "inbound signal {signal} tick {tick}"
+        ),
     }
 }
 

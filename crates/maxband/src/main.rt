@@ -10,18 +10,16 @@ mod command;
 mod finish;
 mod hold;
 mod lines;
-mod top;
-
 #[cfg(test)]
 mod tests;
+mod top;
 
 pub use cause::{Cause, Status};
-pub use top::{law_one_answer, run};
-
 use outer_edge::{RealFiles, RealOut};
 use std::env;
 use std::io::ErrorKind;
 use std::process::ExitCode;
+pub use top::{law_one_answer, run};
 
 /// The status for words that the system doesn't give as text. `run` never answers it.
 const NO_WORDS: u8 = 12;
@@ -51,8 +49,7 @@ fn main(rt: HostRuntime) -> ExitCode {
         Err(number) => return ExitCode::from(number),
     };
     let alloc = rt.alloc();
-    let (Ok(mut files), Ok(mut out)) = (RealFiles::new(&rt, alloc), RealOut::new(&rt, alloc))
-    else {
+    let (Ok(mut files), Ok(mut out)) = (RealFiles::new(&rt, alloc), RealOut::new(&rt, alloc)) else {
         return ExitCode::from(NO_MEMORY);
     };
     ExitCode::from(run(alloc, words.as_slice(), &mut files, &mut out).number)

@@ -67,12 +67,7 @@ fn owned(alloc: Global, words: &[&str]) -> Result<Vec<String>, AllocError> {
 }
 
 /// Files and an output that never fail: no fault is answered.
-fn run_surely(
-    alloc: Global,
-    words: &[String],
-    files: &mut SureFiles,
-    out: &mut SureSink,
-) -> Status
+fn run_surely(alloc: Global, words: &[String], files: &mut SureFiles, out: &mut SureSink) -> Status
     ensures read { result.number ≢ 6 }
     ensures written { result.number ≢ 7 }
 {
@@ -94,14 +89,31 @@ type Row<'a> = (&'a [(usize, &'a [u8])], u8, &'a [u8]);
 
 #[test]
 fn timings_of_two_signals(rt: HostRuntime) -> Result<(), Fail> {
-    let long = b"grid 1111111111222222222233333333334444444444555555555566666666667777777777888888888899999999990000000000";
+    let long =
+        b"grid 1111111111222222222233333333334444444444555555555566666666667777777777888888888899999999990000000000";
     let rows: &[Row] = &[
         (&[], 0, HOLDS),
         (&[(4, b"pattern 4 2")], 0, HOLDS),
-        (&[(9, b"band 101 100")], 4, b"fails outbound signal 1 tick 201\n"),
-        (&[(8, b"first 50 200"), (9, b"band 0 0")], 4, b"fails outbound signal 1 tick 50\n"),
-        (&[(8, b"first 200 200"), (9, b"band 0 100")], 0, b"holds\nweighted 1/2\n"),
-        (&[(8, b"first 100 150")], 4, b"fails inbound signal 2 tick 150\n"),
+        (
+            &[(9, b"band 101 100")],
+            4,
+            b"fails outbound signal 1 tick 201\n",
+        ),
+        (
+            &[(8, b"first 50 200"), (9, b"band 0 0")],
+            4,
+            b"fails outbound signal 1 tick 50\n",
+        ),
+        (
+            &[(8, b"first 200 200"), (9, b"band 0 100")],
+            0,
+            b"holds\nweighted 1/2\n",
+        ),
+        (
+            &[(8, b"first 100 150")],
+            4,
+            b"fails inbound signal 2 tick 150\n",
+        ),
         (&[(2, b"grid 1")], 4, b"fails cycle long\n"),
         (&[(2, b"grid 3")], 4, b"fails cycle short\n"),
         (&[(6, b"run_out 99")], 4, b"fails fast out link 1\n"),
@@ -117,7 +129,11 @@ fn timings_of_two_signals(rt: HostRuntime) -> Result<(), Fail> {
             b"fails shape\n",
         ),
         (&[(3, b"unit 1")], 3, b"refused BadText line 3 Number\n"),
-        (&[(4, b"pattern 1 1 1")], 3, b"refused BadText line 5 Shape\n"),
+        (
+            &[(4, b"pattern 1 1 1")],
+            3,
+            b"refused BadText line 5 Shape\n",
+        ),
         (&[(2, long)], 3, b"refused BadText line 2 Number\n"),
         (&[(10, b"end\nend")], 3, b"refused BadText line 11 Shape\n"),
     ];
@@ -128,7 +144,10 @@ fn timings_of_two_signals(rt: HostRuntime) -> Result<(), Fail> {
         assert_eq!(rt; answer.1.as_slice(), *written);
     }
     let answer = held(rt.alloc(), ARTERY.as_bytes(), b"")?;
-    assert_eq!(rt; answer.1.as_slice(), b"refused BadText line 1 Ended\n".as_slice());
+    assert_eq!(rt;
+        answer.1.as_slice(),
+        b"refused BadText line 1 Ended\n".as_slice()
+    );
     Ok(())
 }
 
@@ -137,16 +156,52 @@ fn descriptions_that_are_refused(rt: HostRuntime) -> Result<(), Fail> {
     let rows: &[Row] = &[
         (&[(2, b"units = \"\xff\"")], 3, b"refused NotUtf8 file\n"),
         (&[(1, b"[artery")], 3, b"refused NotToml file\n"),
-        (&[(3, b"parts = 99999999999999999999")], 3, b"refused NotToml file\n"),
-        (&[(9, b"rde = 50")], 3, b"refused UnknownKey signal[1].rde\n"),
+        (
+            &[(3, b"parts = 99999999999999999999")],
+            3,
+            b"refused NotToml file\n",
+        ),
+        (
+            &[(9, b"rde = 50")],
+            3,
+            b"refused UnknownKey signal[1].rde\n",
+        ),
         (&[(9, b"")], 3, b"refused Missing signal[1].red\n"),
-        (&[(9, b"red = 47.5")], 3, b"refused WrongType signal[1].red\n"),
-        (&[(4, b"cycle = [1.5, 2]")], 3, b"refused WrongType artery.cycle[1]\n"),
-        (&[(5, b"ratio = \"1/2\"")], 3, b"refused NotBuilt artery.ratio\n"),
-        (&[(2, b"units = \"english\"")], 3, b"refused NotBuilt artery.units\n"),
-        (&[(9, b"red = 100")], 3, b"refused OutOfRange signal[1].red\n"),
-        (&[(12, b"name = \"A\"")], 3, b"refused RepeatedName signal[2].name\n"),
-        (&[(4, b"cycle = [100, 50]")], 3, b"refused LimitsCrossed artery.cycle\n"),
+        (
+            &[(9, b"red = 47.5")],
+            3,
+            b"refused WrongType signal[1].red\n",
+        ),
+        (
+            &[(4, b"cycle = [1.5, 2]")],
+            3,
+            b"refused WrongType artery.cycle[1]\n",
+        ),
+        (
+            &[(5, b"ratio = \"1/2\"")],
+            3,
+            b"refused NotBuilt artery.ratio\n",
+        ),
+        (
+            &[(2, b"units = \"english\"")],
+            3,
+            b"refused NotBuilt artery.units\n",
+        ),
+        (
+            &[(9, b"red = 100")],
+            3,
+            b"refused OutOfRange signal[1].red\n",
+        ),
+        (
+            &[(12, b"name = \"A\"")],
+            3,
+            b"refused RepeatedName signal[2].name\n",
+        ),
+        (
+            &[(4, b"cycle = [100, 50]")],
+            3,
+            b"refused LimitsCrossed artery.cycle\n",
+        ),
     ];
     for (lines, number, written) in rows {
         let artery = with_lines(rt.alloc(), ARTERY, lines)?;
@@ -181,7 +236,11 @@ fn words_of_no_form(rt: HostRuntime) -> Result<(), Fail> {
 }
 
 /// What the words come to over the base artery and its timing, where some calls on files fail.
-fn over_failing_files(alloc: Global, words: &[&str], fail: Vec<u64>) -> Result<(u8, Vec<u8>), Fail> {
+fn over_failing_files(
+    alloc: Global,
+    words: &[&str],
+    fail: Vec<u64>,
+) -> Result<(u8, Vec<u8>), Fail> {
     let mut files = MemFiles::new(alloc, fail);
     files.add("a.toml", ARTERY.as_bytes())?;
     files.add("c.txt", TIMING.as_bytes())?;

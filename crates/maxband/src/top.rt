@@ -12,7 +12,10 @@ use crate::cause::{Cause, Status};
 use crate::command::{Command, command_in};
 use crate::finish::write_lines;
 use crate::hold::hold;
-use crate::lines::{bad_text_line, cannot_read_line, fails_line, holds_lines, refused_line, too_long_line, words_line};
+use crate::lines::{
+    bad_text_line, cannot_read_line, fails_line, holds_lines, refused_line, too_long_line,
+    words_line,
+};
 use outer_edge::{Files, Sink};
 use std::alloc::{AllocError, Global};
 
@@ -24,12 +27,7 @@ struct Answer {
 }
 
 /// The lines of `hold` where the timing breaks a rule or a file's turn ends the run.
-fn end_lines(
-    alloc: Global,
-    artery: &str,
-    timing: &str,
-    cause: &Cause,
-) -> Result<String, AllocError>
+fn end_lines(alloc: Global, artery: &str, timing: &str, cause: &Cause) -> Result<String, AllocError>
     ensures { IfOk result (λ text. string_bytes text ≡ end_lines artery.now timing.now cause.now) }
 {
     match cause {
@@ -78,11 +76,7 @@ fn hold_answer<F: Files>(
 }
 
 /// The answer of the words.
-fn answer_to<F: Files>(
-    alloc: Global,
-    words: &[String],
-    files: &mut F,
-) -> Result<Answer, AllocError>
+fn answer_to<F: Files>(alloc: Global, words: &[String], files: &mut F) -> Result<Answer, AllocError>
     ensures told { IfOk result (λ a. Answers (F.holds files.old) (F.read_faults files.old) (F.read_faults files.new) (command_of (map string_bytes words.now)) a.cause a.lines.items) }
     ensures files { SameFiles (F.holds files.old) (F.holds files.new) }
     ensures reads { NoneFell (F.read_faults files.old) (F.read_faults files.new) }
@@ -112,12 +106,7 @@ fn status(cause: Cause) -> Status
 /// The status has its cause: what the files held at entry, where they tell it, or which count of
 /// faults rose. The output grew by exactly that answer's lines. After `Memory` nothing was written;
 /// after `WriteFault` a front of the lines of the answer that was reached. No file changes.
-pub fn run<F: Files, K: Sink>(
-    alloc: Global,
-    words: &[String],
-    files: &mut F,
-    out: &mut K,
-) -> Status
+pub fn run<F: Files, K: Sink>(alloc: Global, words: &[String], files: &mut F, out: &mut K) -> Status
     ensures number { result.number ≡ number_of result.cause }
     ensures ends { Ends (F.holds files.old) (F.read_faults files.old) (F.read_faults files.new) (command_of (map string_bytes words.now)) (K.taken out.old) (K.taken out.new) result.cause }
     ensures write_fault { result.cause ≡ Cause.WriteFault → Rose (K.faults out.old) (K.faults out.new) }
