@@ -11,4 +11,4 @@ returns-in-Ok-read_artery-clause-ok g c =
 pub returns-in-Err-Refused-clause-err : goal.returns-in-Err-Refused-clause-err
 returns-in-Err-Refused-clause-err g c =
     let told = subst (λ f. Refuses c.as_slice.result.now f) c.in-Err-Refused.field-0-is c.in-Err-Refused.ensures.refused in
-    refuses_artery _ _ _ c.in-Ok.bytes.items c.in-Err-Refused.refusal c.in-Ok.ensures.ok (subst (λ x. Refuses x (flaw.Refused c.in-Err-Refused.refusal)) c.as_slice.ensures.value told)
+    refuses_artery _ 0 0 c.in-Ok.bytes.items c.in-Err-Refused.refusal c.in-Ok.ensures.ok (subst (λ x. Refuses x (flaw.Refused c.in-Err-Refused.refusal)) c.as_slice.ensures.value told)
