@@ -2,3 +2,4 @@ pub mod Fraction
 pub mod Views
 pub mod Made
 pub mod Past128
+pub mod Attempt

@@ -1,0 +1,16 @@
+use Rattle.std.proofs.Common.{pos, length, sym, ◌∙◌, ap, ap₂, arith}
+use Rattle.std.proofs.lemmas.List.{get_or_default}
+use Rattle.ratio.specs.Rational.{whole}
+use Rattle.narrow_fraction.specs.Attempt.{attempt, refusal_if}
+use Rattle.named_row.specs.declared.names.Place.TheVariants.{Cell}
+use Rattle.named_row.specs.Covering.{below, number_at}
+use Rattle.named_row.proofs.Columns.{first_is}
+use Rattle.named_row.proofs.cells.none_negative.Goals as goal
+
+pub returns-then-lt : goal.returns-then-lt
+returns-then-lt c =
+    let k = c.loop-column.column in
+    let x = c.index-coefs-column.is ∙ get_or_default c.args.coefs.now k c.index-coefs-column.result (whole (pos 0)) (omega arith) in
+    let y = c.whole-zero.ensures in
+    let e = ap₂ (λ a b. below a b k) (sym x) (sym y) ∙ ap (λ t. refusal_if t (Cell k)) (sym c.if-lt.ensures) in
+    sym (ap (λ o. attempt o tt) (first_is (λ j. below (number_at c.args.coefs.now j) (whole (pos 0)) j) k (length c.args.coefs.now) (Cell k) c.loop-column.invariant e c.loop-column-test.true))

@@ -1,0 +1,48 @@
+use Rattle.std.proofs.Common.{length, sym, ◌∙◌, ap, ap₂}
+use Rattle.std.proofs.lemmas.List.{with_items_is}
+use Rattle.ratio.specs.Rational.{◌+ℚ◌, ◌*ℚ◌}
+use Rattle.ratio.specs.Rows.{add, scale}
+use Rattle.narrow_fraction.specs.Attempt.{attempt, attempt_err, attempt_ok, first_below}
+use Rattle.named_row.specs.Sheets.{Sheet}
+use Rattle.named_row.specs.declared.names.Place.TheVariants.{Bound}
+use Rattle.named_row.specs.Refusals.{place_refusal, cell_refusal}
+use Rattle.named_row.proofs.Whole.{cells_stop, bound_stops, sum_passes, with_times_is}
+use Rattle.named_row.proofs.row.Row.add_scaled.Goals as goal
+
+pub returns-in-Err-clause-outcome : goal.returns-in-Err-clause-outcome
+returns-in-Err-clause-outcome c =
+    let a = c.deref_mut.ensures.value ∙ ap (λ (t : Sheet). t.coefs) c.self.view_is in
+    let b = c.deref.ensures.value ∙ ap (λ (t : Sheet). t.coefs) c.other.view_is in
+    let e = ap₂ (λ x y. first_below (cell_refusal c.args.by x y) (length x)) (sym a) (sym b) ∙ attempt_err _ _ _ c.in-Err.ensures.outcome in
+    sym (ap (λ o. attempt o tt) (cells_stop c.args.by c.args.other.now c.args.self.now c.in-Err.wide e))
+
+pub returns-in-Ok-clause-outcome : goal.returns-in-Ok-clause-outcome
+returns-in-Ok-clause-outcome c =
+    let a = c.deref_mut.ensures.value ∙ ap (λ (t : Sheet). t.coefs) c.self.view_is in
+    let b = c.deref.ensures.value ∙ ap (λ (t : Sheet). t.coefs) c.other.view_is in
+    let p = ap (λ (t : Sheet). t.bound) c.self.view_is in
+    let q = ap (λ (t : Sheet). t.bound) c.other.view_is in
+    let e = ap₂ (λ x y. first_below (cell_refusal c.args.by x y) (length x)) (sym a) (sym b) ∙ (attempt_ok _ _ _ c.in_default.ensures.outcome).0 in
+    let f = ap₂ (λ x y. place_refusal Bound c.args.by x y) (sym p) (sym q) ∙ (attempt_ok _ _ _ c.in-Ok.ensures).0 in
+    sym (ap (λ o. attempt o tt) (sum_passes c.args.by c.args.other.now c.args.self.now e f))
+
+pub returns-in-Ok-clause-sum : goal.returns-in-Ok-clause-sum
+returns-in-Ok-clause-sum c =
+    let a = c.deref_mut.ensures.value ∙ ap (λ (t : Sheet). t.coefs) c.self.view_is in
+    let b = c.deref.ensures.value ∙ ap (λ (t : Sheet). t.coefs) c.other.view_is in
+    let p = ap (λ (t : Sheet). t.bound) c.self.view_is in
+    let q = ap (λ (t : Sheet). t.bound) c.other.view_is in
+    let w = with_items_is c.self.inside.coefs c.add_cells.new.coefs (c.in_default.ensures.width ∙ ap length c.deref_mut.ensures.value ∙ sym c.self.inside.coefs.ok.0) in
+    let e = w ∙ c.in_default.ensures.sum ∙ ap₂ (λ x y. add x (scale c.args.by y)) a b in
+    let f = (attempt_ok _ _ _ c.in-Ok.ensures).1 ∙ ap₂ (λ x y. x +ℚ c.args.by *ℚ y) p q in
+    with_times_is c.args.by c.args.other.now c.args.self.now _ _ _ e f (ap (λ (t : Sheet). t.spent) c.self.view_is)
+
+pub returns-in-Err-add_number-clause-outcome : goal.returns-in-Err-add_number-clause-outcome
+returns-in-Err-add_number-clause-outcome c =
+    let a = c.deref_mut.ensures.value ∙ ap (λ (t : Sheet). t.coefs) c.self.view_is in
+    let b = c.deref.ensures.value ∙ ap (λ (t : Sheet). t.coefs) c.other.view_is in
+    let p = ap (λ (t : Sheet). t.bound) c.self.view_is in
+    let q = ap (λ (t : Sheet). t.bound) c.other.view_is in
+    let e = ap₂ (λ x y. first_below (cell_refusal c.args.by x y) (length x)) (sym a) (sym b) ∙ (attempt_ok _ _ _ c.in_default.ensures.outcome).0 in
+    let f = ap₂ (λ x y. place_refusal Bound c.args.by x y) (sym p) (sym q) ∙ attempt_err _ _ _ c.in-Err-add_number.ensures in
+    sym (ap (λ o. attempt o tt) (bound_stops c.args.by c.args.other.now c.args.self.now c.in-Err-add_number.wide e f))

@@ -1,0 +1,4 @@
+pub mod Sheets
+pub mod Refusals
+pub mod Covering
+pub mod Meaning

@@ -1,0 +1,70 @@
+ghost use Rattle.std.specs.Prelude.{◌≡◌, ◌<◌, ◌^◌, length, IfOk, pos};
+ghost use Rattle.ratio.specs.Rational.{whole, ◌+ℚ◌, ◌*ℚ◌};
+ghost use Rattle.ratio.specs.Rows.{add, scale};
+ghost use Rattle.narrow_fraction.specs.Attempt.{attempt, first_below};
+ghost use Rattle.named_row.specs.Refusals.{place_refusal, cell_refusal};
+ghost use Rattle.named_row.specs.Covering.{below, number_at};
+
+use crate::names::Place;
+use crate::wide_at::WideAt;
+use narrow_fraction::Frac;
+
+/// The number and `by` times another one, for this place: first the product, then the sum.
+pub fn add_number(number: Frac, by: Frac, other: Frac, place: Place) -> Result<Frac, WideAt>
+    ensures { result ≡ attempt (place_refusal place by number other) (number +ℚ by *ℚ other) }
+{
+    let product = match by.times(other) {
+        Ok(product) => product,
+        Err(wide) => return Err(WideAt { place, wide }),
+    };
+    match number.plus(product) {
+        Ok(sum) => Ok(sum),
+        Err(wide) => Err(WideAt { place, wide }),
+    }
+}
+
+/// Each number and `by` times the other row's, column by column.
+pub fn add_cells(coefs: &mut [Frac], by: Frac, other: &[Frac]) -> Result<(), WideAt>
+    requires same { length other.now ≡ length coefs.old }
+    requires width { length coefs.old < 2 ^ 32 }
+    ensures outcome { result ≡ attempt (first_below (cell_refusal by coefs.old other.now) (length coefs.old)) tt }
+    ensures sum { IfOk result (λ _. coefs.new ≡ add coefs.old (scale by other.now)) }
+    ensures width { length coefs.new ≡ length coefs.old }
+{
+    for column in 0..coefs.len() {
+        let place = Place::Cell(column as u32);
+        match add_number(coefs[column], by, other[column], place) {
+            Ok(sum) => coefs[column] = sum,
+            Err(wide) => return Err(wide),
+        }
+    }
+    Ok(())
+}
+
+/// Refuses the first column whose number is less than the goal's.
+pub fn none_below(coefs: &[Frac], goal: &[Frac]) -> Result<(), Place>
+    requires same { length goal.now ≡ length coefs.now }
+    requires width { length coefs.now < 2 ^ 32 }
+    ensures { result ≡ attempt (first_below (λ j. below (number_at coefs.now j) (number_at goal.now j) j) (length coefs.now)) tt }
+{
+    for column in 0..coefs.len() {
+        if coefs[column] < goal[column] {
+            return Err(Place::Cell(column as u32));
+        }
+    }
+    Ok(())
+}
+
+/// Refuses the first column whose number is negative.
+pub fn none_negative(coefs: &[Frac]) -> Result<(), Place>
+    requires width { length coefs.now < 2 ^ 32 }
+    ensures { result ≡ attempt (first_below (λ j. below (number_at coefs.now j) (whole (pos 0)) j) (length coefs.now)) tt }
+{
+    let zero = Frac::whole(0);
+    for column in 0..coefs.len() {
+        if coefs[column] < zero {
+            return Err(Place::Cell(column as u32));
+        }
+    }
+    Ok(())
+}

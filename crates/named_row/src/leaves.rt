@@ -1,0 +1,21 @@
+use crate::names::RowId;
+use narrow_fraction::Frac;
+
+/// A row, and by what it is multiplied.
+#[derive(Debug, Clone, Copy, PartialEq, Eq)]
+pub struct Weight {
+    pub row: RowId,
+    pub by: Frac,
+}
+
+/// A sum of rows, in the order in which it is built.
+#[derive(Debug, Drop)]
+pub struct Leaf {
+    pub multipliers: Vec<Weight>,
+}
+
+/// A value for each column.
+#[derive(Debug, Drop)]
+pub struct Point {
+    pub values: Vec<Frac>,
+}

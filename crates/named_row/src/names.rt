@@ -1,0 +1,14 @@
+/// The name of a row: a family of rows (from 1), and which of its rows, by the number of a signal or link, or 0.
+/// Ordered by family, then index.
+#[derive(Debug, Clone, Copy, PartialEq, Eq, PartialOrd, Ord)]
+pub struct RowId {
+    pub family: u8,
+    pub index: u32,
+}
+
+/// A place of a row: the coefficient of a column, which count from 0, or the bound.
+#[derive(Debug, Clone, Copy, PartialEq, Eq)]
+pub enum Place {
+    Cell(u32),
+    Bound,
+}
