@@ -81,9 +81,10 @@ tail_number false false d e p q h k f = decimal_injective d e (wide d h) (wide e
 
 pub same_size : (size : List ℕ) (n d m e : ℕ) → SpellsSize size n d → SpellsSize size m e → (n ≡ m) × (d ≡ e)
 same_size size n d m e s t =
-    let place = position_or_len is_mark size in
-    (decimal_injective n m (wide n s.top_fits) (wide m t.top_fits) (sym (numerator_is size n d place refl s) ∙ numerator_is size m e place refl t),
-    tail_number (nat_eq d 1) (nat_eq e 1) d e refl refl s.bottom_fits t.bottom_fits (sym (denominator_is size n d place refl s) ∙ denominator_is size m e place refl t))
+    let place = position_or_len is_mark size in (
+      decimal_injective n m (wide n s.top_fits) (wide m t.top_fits) (sym (numerator_is size n d place refl s) ∙ numerator_is size m e place refl t),
+      tail_number (nat_eq d 1) (nat_eq e 1) d e refl refl s.bottom_fits t.bottom_fits (sym (denominator_is size n d place refl s) ∙ denominator_is size m e place refl t),
+    )
 
 size_spelled : (negative : Bool) (size : List ℕ) (x : ℚ) → SpellsSigned negative size x → SpellsSize size (unsigned_abs x.num) x.den
 size_spelled negative size x s = record { top_fits = s.fits.num_fits; above = x.positive; bottom_fits = s.fits.den_fits; spelled = s.spelled }
