@@ -1,12 +1,11 @@
 -- Long division, digit by digit.
-use Rattle.std.proofs.Common.{◌≡◌, ℕ, zero, suc, ℤ, pos, negsuc, ◌+◌, ◌*◌, ◌/◌, ◌%◌, ◌^◌, ◌<◌, ◌≤◌, ◌≤ℤ◌, List, [], ◌∷◌, ◌++◌, arith, refl, sym, ◌∙◌, ap, ap₂, subst, unsigned_abs, append_assoc, add-one, div-lt_iff_lt-mul, le-div_iff_mul-le, lit<}
+use Rattle.std.proofs.Common.{◌≡◌, ℕ, ℤ, pos, negsuc, ◌+◌, ◌*◌, ◌/◌, ◌%◌, ◌^◌, ◌<◌, ◌≤◌, ◌≤ℤ◌, List, [], ◌∷◌, ◌++◌, arith, refl, sym, ◌∙◌, ap, ap₂, unsigned_abs, append_assoc, add-one, div-lt_iff_lt-mul, le-div_iff_mul-le, lit<}
 use Rattle.std.proofs.lemmas.Int.{ints}
 use Rattle.std.proofs.Math.Nat.{pow-succ', add-mul-div_right, add-mul-mod_self_right, div-div-eq-div-mul, mul-div-mul_right, one-le-pow}
 use Rattle.std.specs.Fmt.{decimal}
-use borrow.Author.Differences.{up, down}
 use Rattle.ratio.specs.Rational.{ℚ, whole, ◌*ℚ◌}
 use Rattle.ratio.specs.Floor.{floor_ℚ, floor_is}
-use Rattle.ratio.specs.Laws.{IsRatio, own_ratio, whole_ratio, product_ratio, ≤ℚ_in, ≤ℚ_out}
+use Rattle.ratio.specs.Laws.{IsRatio, whole_ratio, product_ratio, ≤ℚ_in, ≤ℚ_out}
 use Rattle.quantity_text.specs.Decimal.{last_digits, scaled, decimal_spelling}
 
 -- ten times as much

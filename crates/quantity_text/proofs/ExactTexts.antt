@@ -1,7 +1,6 @@
 -- The parts of an exact spelling: the minus, the numerator's digits, and what stands after them.
-use Rattle.std.proofs.Common.{◌≡◌, ℕ, zero, suc, ℤ, pos, negsuc, neg_ℤ, ◌+◌, ◌^◌, ◌<◌, ◌≤◌, Bool, true, false, not, List, [], ◌∷◌, ◌++◌, length, take, drop, get_or, Option, Some, None, arith, refl, sym, ◌∙◌, ap, ap₂, subst, unsigned_abs, length-drop, ◌-◌}
+use Rattle.std.proofs.Common.{◌≡◌, ℕ, zero, suc, ℤ, pos, negsuc, neg_ℤ, ◌^◌, ◌<◌, ◌≤◌, Bool, true, false, List, [], ◌∷◌, ◌++◌, length, take, drop, get_or, Option, Some, None, arith, refl, sym, ◌∙◌, ap, ap₂, subst, unsigned_abs, length-drop, ◌-◌}
 use Rattle.std.specs.Prelude.{IfNone, nat_eq, if◌then◌else◌}
-use Rattle.std.specs.Char.{digit_value}
 use Rattle.std.specs.Fmt.{decimal, signed_decimal}
 use Rattle.std.specs.List.{position_or_len}
 use Rattle.std.specs.Str.Parse.{AllDigits}
@@ -11,7 +10,7 @@ use Rattle.std.proofs.Math.Seq.{take-append_seam, drop-append_seam}
 use Rattle.std.proofs.lemmas.List.{take_all}
 use Rattle.ratio.specs.Rational.{ℚ}
 use Rattle.narrow_fraction.specs.Fraction.{signed}
-use Rattle.quantity_text.specs.Exact.{denominator_text, exact_spelling, SpellsExactly, SpellsSize, SpellsSigned, HasParts}
+use Rattle.quantity_text.specs.Exact.{denominator_text, SpellsExactly, SpellsSize, SpellsSigned, HasParts}
 use Rattle.quantity_text.specs.Quantity.{is_mark}
 use Rattle.quantity_text.proofs.Numerals.{decimal_leads, decimal_digits, decimal_injective}
 

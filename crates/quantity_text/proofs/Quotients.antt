@@ -1,6 +1,5 @@
 -- Quotients of two natural numbers that fit.
 use Rattle.std.proofs.Common.{◌≡◌, ℕ, zero, suc, ℤ, pos, neg_ℤ, Bool, true, false, ap₂, ◌*◌, ◌/◌, ◌<◌, ◌≤◌, ◌^◌, Ok, Err, ◌∙◌, sym, ap, subst, refl, arith, unsigned_abs}
-use Rattle.std.specs.Prelude.{int_div}
 use Rattle.std.proofs.lemmas.Int.{ints}
 use native.Mathlib.Nat.{mul-le-mul_right}
 use Rattle.ratio.specs.Gcd.{gcd}

@@ -1,6 +1,6 @@
 -- Runs of digits, and the place where one ends.
-use Rattle.std.proofs.Common.{◌≡◌, inl, inr, not, ℕ, ◌+◌, ◌-◌, ◌*◌, ◌^◌, ◌<◌, ◌≤◌, Bool, true, false, List, length, take, get_or, Some, None, arith, refl, sym, ◌∙◌, ap, subst, length-take, lit<}
-use Rattle.std.specs.Prelude.{Option, nat_lt, nat_le, ◌&&◌, if◌then◌else◌, unwrap_or}
+use Rattle.std.proofs.Common.{◌≡◌, inl, inr, not, ℕ, ◌+◌, ◌-◌, ◌*◌, ◌^◌, ◌<◌, ◌≤◌, Bool, true, false, List, length, take, get_or, Some, None, arith, refl, length-take, lit<}
+use Rattle.std.specs.Prelude.{nat_lt, nat_le, ◌&&◌, if◌then◌else◌, unwrap_or}
 use Rattle.std.specs.Char.{is_ascii_digit, digit_value}
 use Rattle.std.specs.List.{position, position_or_len}
 use Rattle.std.specs.Str.{all_ascii_digits}
