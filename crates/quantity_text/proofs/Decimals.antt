@@ -12,21 +12,26 @@ use Rattle.quantity_text.specs.Decimal.{last_digits, scaled, decimal_spelling}
 times_ten : (n b : ℕ) → 0 < b → n * 10 ≡ n % b * 10 + n / b * 10 * b
 times_ten n b h = let split : b * (n / b) + n % b ≡ n = omega (arith, h) in omega (arith, split)
 
+-- the quotient gets one more digit
 div_ten : (n b : ℕ) → 0 < b → n * 10 / b ≡ n / b * 10 + n % b * 10 / b
 div_ten n b h = ap (λ x. x / b) (times_ten n b h) ∙ add-mul-div_right (n % b * 10) (n / b * 10) h ∙ omega arith
 
+-- and the rest is that of the rest
 pub mod_ten : (n b : ℕ) → 0 < b → n * 10 % b ≡ n % b * 10 % b
 mod_ten n b h = ap (λ x. x % b) (times_ten n b h) ∙ add-mul-mod_self_right (n % b * 10) (n / b * 10) b
 
+-- the next digit is one
 pub digit_below : (rest b : ℕ) → rest < b → rest * 10 / b < 10
 digit_below rest b h = let some : 0 < b = omega arith in (div-lt_iff_lt-mul some).1 (omega arith)
 
+-- one more digit at the end
 last_digits_more : (k q d : ℕ) → d < 10 → last_digits (k + 1) (q * 10 + d) ≡ last_digits k q ++ (48 + d) ∷ []
 last_digits_more k q d h =
     let front : (q * 10 + d) / 10 ≡ q = omega arith in
     let end : (q * 10 + d) % 10 ≡ d = omega arith in
     rw (add-one, front, end) refl
 
+-- one more factor ten
 pow_more : (a k : ℕ) → a * 10 ^ (k + 1) ≡ a * 10 ^ k * 10
 pow_more a k = rw (add-one, pow-succ' 10 k) (omega arith)
 
@@ -42,30 +47,33 @@ place_more a b k rest digit text h r d e =
     ∙ append_assoc (decimal (a / b)) (46 ∷ last_digits k (n / b)) ((48 + n % b * 10 / b) ∷ [])
     ∙ ap (λ t. decimal (a / b) ++ 46 ∷ t) (sym longer)
 
+-- and what is left then
 pub rest_more : (a b k rest : ℕ) → 0 < b → rest ≡ a * 10 ^ k % b → rest * 10 % b ≡ a * 10 ^ (k + 1) % b
 rest_more a b k rest h r = ap (λ x. x * 10 % b) r ∙ sym (mod_ten (a * 10 ^ k) b h) ∙ ap (λ x. x % b) (sym (pow_more a k))
 
-pub no_places : (a b : ℕ) → a * 10 ^ 0 ≡ a
-no_places a b = omega arith
-
 -- ---- the floor
+-- the quotient is at most the floor
 ratio_floor_le : (y : ℚ) (a d : ℕ) → IsRatio y a 0 d → pos (a / d) ≤ℤ floor_ℚ y
 ratio_floor_le y a d r =
     let m : a / d * d ≤ a = (le-div_iff_mul-le r.above).0 (omega arith) in
     (floor_is (pos (a / d)) y).0 (≤ℚ_in _ _ _ _ _ _ _ _ (whole_ratio (pos (a / d))) r (omega (arith, m)))
 
+-- and no natural number below the floor is above it
 ratio_floor_ge : (y : ℚ) (a d n : ℕ) → IsRatio y a 0 d → pos n ≤ℤ floor_ℚ y → n ≤ a / d
 ratio_floor_ge y a d n r h =
     let k = ≤ℚ_out _ _ _ _ _ _ _ _ (whole_ratio (pos n)) r ((floor_is (pos n) y).1 h) in
     (le-div_iff_mul-le r.above).1 (omega (arith, k))
 
+-- the greatest natural number up to z
 floor_natural : (z : ℤ) (n : ℕ) → pos n ≤ℤ z → ((m : ℕ) → pos m ≤ℤ z → m ≤ n) → unsigned_abs z ≡ n
 floor_natural (pos m) n h f = let g = f m (omega (arith, ints)) in omega (arith, ints, h, g)
 floor_natural (negsuc m) n h f = absurd (omega (arith, ints, h))
 
+-- the floor of a ratio of natural numbers
 ratio_floor : (y : ℚ) (a d : ℕ) → IsRatio y a 0 d → unsigned_abs (floor_ℚ y) ≡ a / d
 ratio_floor y a d r = floor_natural (floor_ℚ y) (a / d) (ratio_floor_le y a d r) (λ m h. ratio_floor_ge y a d m r h)
 
+-- a number of at least 0 as such a ratio
 own_positive : (x : ℚ) → pos 0 ≤ℤ x.num → IsRatio x (unsigned_abs x.num) 0 x.den
 own_positive x h = let n : x.num ≡ pos (unsigned_abs x.num) = omega (arith, ints, h) in record { above = x.positive; ratio = rw n (omega arith) }
 
@@ -76,6 +84,7 @@ scaled_is x places h =
     let r : IsRatio (x *ℚ whole (pos (10 ^ places))) (unsigned_abs x.num * 10 ^ places) 0 x.den = record { above = x.positive; ratio = omega (arith, p.ratio) } in
     ratio_floor (x *ℚ whole (pos (10 ^ places))) (unsigned_abs x.num * 10 ^ places) x.den r
 
+-- what stands before the point is the whole part
 cut_whole : (a b p : ℕ) → 0 < p → a * p / b / p ≡ a / b
 cut_whole a b p h = div-div-eq-div-mul (a * p) b p ∙ mul-div-mul_right a b h
 
