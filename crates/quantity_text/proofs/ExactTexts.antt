@@ -1,7 +1,6 @@
 -- The parts of an exact spelling: the minus, the numerator's digits, and what stands after them.
-use Rattle.std.proofs.Common.{◌≡◌, ℕ, zero, suc, ℤ, pos, negsuc, neg_ℤ, ◌+◌, ◌^◌, ◌<◌, ◌≤◌, Bool, true, false, not, List, [], ◌∷◌, ◌++◌, length, take, drop, get_or, Option, Some, None, arith, refl, sym, ◌∙◌, ap, ap₂, subst, unsigned_abs, length-drop, ◌-◌}
+use Rattle.std.proofs.Common.{◌≡◌, ℕ, ℤ, pos, negsuc, neg_ℤ, ◌^◌, ◌<◌, ◌≤◌, Bool, true, false, List, [], ◌∷◌, ◌++◌, length, take, drop, get_or, Option, Some, None, arith, refl, sym, ◌∙◌, ap, ap₂, subst, unsigned_abs, length-drop, ◌-◌}
 use Rattle.std.specs.Prelude.{IfNone, nat_eq, if◌then◌else◌}
-use Rattle.std.specs.Char.{digit_value}
 use Rattle.std.specs.Fmt.{decimal, signed_decimal}
 use Rattle.std.specs.List.{position_or_len}
 use Rattle.std.specs.Str.Parse.{AllDigits}
@@ -11,10 +10,11 @@ use Rattle.std.proofs.Math.Seq.{take-append_seam, drop-append_seam}
 use Rattle.std.proofs.lemmas.List.{take_all}
 use Rattle.ratio.specs.Rational.{ℚ}
 use Rattle.narrow_fraction.specs.Fraction.{signed}
-use Rattle.quantity_text.specs.Exact.{denominator_text, exact_spelling, SpellsExactly, SpellsSize, SpellsSigned, HasParts}
+use Rattle.quantity_text.specs.Exact.{denominator_text, SpellsExactly, SpellsSize, SpellsSigned, HasParts}
 use Rattle.quantity_text.specs.Quantity.{is_mark}
 use Rattle.quantity_text.proofs.Numerals.{decimal_leads, decimal_digits, decimal_injective}
 
+-- what rules out more, where there is no value
 pub none_weaker : {A : Type 0} (o : Option A) (P Q : Type 0) → (P → Q) → IfNone o P → IfNone o Q
 none_weaker None P Q f h = f h
 none_weaker (Some x) P Q f h = tt
@@ -24,6 +24,7 @@ pub rest_all : (k : ℕ) (xs : List ℕ) → take (length xs - k) (drop k xs) �
 rest_all k xs = take_all (length xs - k) (drop k xs) (omega (arith, length-drop k xs))
 
 -- ---- where the numerator's digits end
+-- among digits there is no mark
 place_at_digits : (ds t : List ℕ) → AllDigits 10 ds → position_or_len is_mark t ≡ 0 → position_or_len is_mark (ds ++ t) ≡ length ds
 place_at_digits [] t all z = z
 place_at_digits (c ∷ cs) t all z =
@@ -32,13 +33,16 @@ place_at_digits (c ∷ cs) t all z =
     let slash : nat_eq c 47 ≡ false = ne_eqb c 47 (λ e. omega (arith, e, r.0)) in
     rw (point, slash) (omega (arith, place_at_digits cs t all.1 z))
 
+-- a denominator's text is empty or begins with the mark
 place_at_tail : (b : Bool) (ds : List ℕ) → position_or_len is_mark (if b then [] else 47 ∷ ds) ≡ 0
 place_at_tail true ds = refl
 place_at_tail false ds = refl
 
+-- numbers of 128 bits have at most 64 digits
 wide : (n : ℕ) → n < 2 ^ 127 → n < 10 ^ 64
 wide n h = omega (arith, h)
 
+-- the first mark stands after the numerator's digits
 size_place : (size : List ℕ) (top bottom : ℕ) → SpellsSize size top bottom → position_or_len is_mark size ≡ length (decimal top)
 size_place size top bottom s =
     ap (λ x. position_or_len is_mark x) s.spelled
@@ -55,6 +59,7 @@ denominator_is size top bottom place p s =
     ap₂ (λ k x. drop k x) (p ∙ size_place size top bottom s) s.spelled ∙ drop-append_seam (decimal top) (denominator_text bottom)
 
 -- ---- the denominator
+-- what is written after the slash, where something is
 tail_rest : (b : Bool) (tail ds : List ℕ) → 1 ≤ length tail → tail ≡ (if b then [] else 47 ∷ ds) → (b ≡ false) × (drop 1 tail ≡ ds)
 tail_rest true tail ds h e = absurd (omega (arith, h, ap length e))
 tail_rest false tail ds h e = (refl, ap (λ x. drop 1 x) e)
@@ -73,18 +78,22 @@ no_small_denominator tail small d h e le above fits f =
     r.0 (omega (arith, same, le, above))
 
 -- ---- the two numbers of a text are its own
+-- equal texts of denominators are of equal numbers
 tail_number : (b c : Bool) (d e : ℕ) → nat_eq d 1 ≡ b → nat_eq e 1 ≡ c → d < 2 ^ 127 → e < 2 ^ 127 → (if b then [] else 47 ∷ decimal d) ≡ (if c then [] else 47 ∷ decimal e) → d ≡ e
 tail_number true true d e p q h k f = eqb-true d 1 p ∙ sym (eqb-true e 1 q)
 tail_number true false d e p q h k f = absurd (omega (arith, ap length f))
 tail_number false true d e p q h k f = absurd (omega (arith, ap length f))
 tail_number false false d e p q h k f = decimal_injective d e (wide d h) (wide e k) (ap (λ x. drop 1 x) f)
 
+-- a text spells one pair of numbers
 pub same_size : (size : List ℕ) (n d m e : ℕ) → SpellsSize size n d → SpellsSize size m e → (n ≡ m) × (d ≡ e)
 same_size size n d m e s t =
-    let place = position_or_len is_mark size in
-    (decimal_injective n m (wide n s.top_fits) (wide m t.top_fits) (sym (numerator_is size n d place refl s) ∙ numerator_is size m e place refl t),
-    tail_number (nat_eq d 1) (nat_eq e 1) d e refl refl s.bottom_fits t.bottom_fits (sym (denominator_is size n d place refl s) ∙ denominator_is size m e place refl t))
+    let place = position_or_len is_mark size in (
+      decimal_injective n m (wide n s.top_fits) (wide m t.top_fits) (sym (numerator_is size n d place refl s) ∙ numerator_is size m e place refl t),
+      tail_number (nat_eq d 1) (nat_eq e 1) d e refl refl s.bottom_fits t.bottom_fits (sym (denominator_is size n d place refl s) ∙ denominator_is size m e place refl t),
+    )
 
+-- a spelled number gives the two numbers of its text
 size_spelled : (negative : Bool) (size : List ℕ) (x : ℚ) → SpellsSigned negative size x → SpellsSize size (unsigned_abs x.num) x.den
 size_spelled negative size x s = record { top_fits = s.fits.num_fits; above = x.positive; bottom_fits = s.fits.den_fits; spelled = s.spelled }
 
@@ -95,52 +104,20 @@ parts_agree negative size x top bottom s t =
     record { num_is = t.parts.num_is ∙ ap (λ n. signed negative n) e.0; den_is = e.1; no_minus_zero = λ n. subst (λ k. 0 < k) e.0 (t.parts.no_minus_zero n) }
 
 -- ---- the sign
+-- digits do not begin with a minus
 first_digit : (ds t : List ℕ) → 0 < length ds → AllDigits 10 ds → get_or (ds ++ t) 0 0 ≡ 45 → ⊥
 first_digit [] t h all e = omega (arith, h)
 first_digit (c ∷ cs) t h all e = let r = digit_from_value c all.0 in omega (arith, r.0, e)
 
+-- a spelling that begins with a minus is that of a number below 0
 minus_out_z : (z : ℤ) (text t : List ℕ) → unsigned_abs z < 2 ^ 127 → get_or text 0 0 ≡ 45 → text ≡ signed_decimal z ++ t
     → (z ≡ neg_ℤ (pos (unsigned_abs z))) × (0 < unsigned_abs z) × (drop 1 text ≡ decimal (unsigned_abs z) ++ t)
 minus_out_z (pos n) text t h f e =
     absurd (first_digit (decimal n) t (decimal_leads n (wide n h)).some (decimal_digits n (wide n h)) (ap (λ x. get_or x 0 0) (sym e) ∙ f))
 minus_out_z (negsuc n) text t h f e = (refl, omega arith, ap (λ x. drop 1 x) e)
 
-minus_in_z : (z : ℤ) (text t : List ℕ) → z ≡ neg_ℤ (pos (unsigned_abs z)) → 0 < unsigned_abs z → 0 < length text → get_or text 0 0 ≡ 45 → drop 1 text ≡ decimal (unsigned_abs z) ++ t → text ≡ signed_decimal z ++ t
-minus_in_z z [] t e above some f d = absurd (omega (arith, some))
-minus_in_z (pos zero) (c ∷ cs) t e above some f d = absurd (omega (arith, above))
-minus_in_z (pos (suc n)) (c ∷ cs) t e above some f d = absurd (minus_not_plus n e)
-  where
-    minus_not_plus : (n : ℕ) → pos (suc n) ≡ negsuc n → ⊥
-    minus_not_plus n e = cc
-minus_in_z (negsuc n) (c ∷ cs) t e above some f d = ap₂ (λ x xs. x ∷ xs) f d
-
-plain_out_z : (z : ℤ) (text t : List ℕ) → (get_or text 0 0 ≡ 45 → ⊥) → text ≡ signed_decimal z ++ t → (z ≡ pos (unsigned_abs z)) × (text ≡ decimal (unsigned_abs z) ++ t)
-plain_out_z (pos n) text t differs e = (refl, e)
-plain_out_z (negsuc n) text t differs e = absurd (differs (ap (λ x. get_or x 0 0) e))
-
-plain_in_z : (z : ℤ) (text t : List ℕ) → z ≡ pos (unsigned_abs z) → text ≡ decimal (unsigned_abs z) ++ t → text ≡ signed_decimal z ++ t
-plain_in_z (pos n) text t e d = d
-plain_in_z (negsuc n) text t e d = absurd (negative_not_pos n (suc n) e)
-  where
-    negative_not_pos : (n m : ℕ) → negsuc n ≡ pos m → ⊥
-    negative_not_pos n m e = cc
-
+-- so the rest of the text spells it without the sign
 pub minus_out : (text : List ℕ) (x : ℚ) → get_or text 0 0 ≡ 45 → SpellsExactly text x → SpellsSigned true (drop 1 text) x
 minus_out text x f s =
     let o = minus_out_z x.num text (denominator_text x.den) s.fits.num_fits f s.spelled in
     record { fits = s.fits; parts = record { num_is = o.0; den_is = refl; no_minus_zero = λ n. o.1 }; spelled = o.2 }
-
-pub minus_in : (text : List ℕ) (x : ℚ) → 0 < length text → get_or text 0 0 ≡ 45 → SpellsSigned true (drop 1 text) x → SpellsExactly text x
-minus_in text x some f s =
-    record { fits = s.fits; spelled = minus_in_z x.num text (denominator_text x.den) s.parts.num_is (s.parts.no_minus_zero refl) some f s.spelled }
-
-pub plain_out : (text : List ℕ) (x : ℚ) → (get_or text 0 0 ≡ 45 → ⊥) → SpellsExactly text x → SpellsSigned false text x
-plain_out text x differs s =
-    let o = plain_out_z x.num text (denominator_text x.den) differs s.spelled in
-    record { fits = s.fits; parts = record { num_is = o.0; den_is = refl; no_minus_zero = λ n. absurd (false_not_true n) }; spelled = o.1 }
-  where
-    false_not_true : false ≡ true → ⊥
-    false_not_true n = cc
-
-pub plain_in : (text : List ℕ) (x : ℚ) → SpellsSigned false text x → SpellsExactly text x
-plain_in text x s = record { fits = s.fits; spelled = plain_in_z x.num text (denominator_text x.den) s.parts.num_is s.spelled }

@@ -1,3 +1,4 @@
+pub mod Decimals
 pub mod ExactTexts
 pub mod Numerals
 pub mod Quotients

@@ -1,6 +1,6 @@
 -- Runs of digits, and the place where one ends.
-use Rattle.std.proofs.Common.{◌≡◌, inl, inr, not, ℕ, ◌+◌, ◌-◌, ◌*◌, ◌^◌, ◌<◌, ◌≤◌, Bool, true, false, List, length, take, get_or, Some, None, arith, refl, sym, ◌∙◌, ap, subst, length-take, lit<}
-use Rattle.std.specs.Prelude.{Option, nat_lt, nat_le, ◌&&◌, if◌then◌else◌, unwrap_or}
+use Rattle.std.proofs.Common.{◌≡◌, inl, inr, not, ℕ, ◌+◌, ◌-◌, ◌*◌, ◌^◌, ◌<◌, ◌≤◌, Bool, true, false, List, length, take, get_or, Some, None, arith, refl, length-take, lit<}
+use Rattle.std.specs.Prelude.{nat_lt, nat_le, ◌&&◌, if◌then◌else◌, unwrap_or}
 use Rattle.std.specs.Char.{is_ascii_digit, digit_value}
 use Rattle.std.specs.List.{position, position_or_len}
 use Rattle.std.specs.Str.{all_ascii_digits}
@@ -20,12 +20,15 @@ run_below ds i k h le =
     let far : 10 ^ length (take i ds) ≤ 10 ^ k = pow-le-pow_right (lit< tt) len in
     omega (arith, small, far)
 
+-- std's test of digits and their value
 own : IsNumeralModel (λ ds. all_ascii_digits ds ≡ true) (digits_value 10)
 own = numerals_by_value _ tells_all_ascii_digits
 
+-- a run, by its three tests
 run_test : (a b c : Bool) (n : ℕ) → a ≡ true → b ≡ true → c ≡ true → Some n ≡ (if a && (b && c) then Some n else None)
 run_test a b c n p q r = rw (p, q, r) refl
 
+-- no run, by the last test
 run_blocked : (a b c : Bool) (n : ℕ) → c ≡ false → None ≡ (if a && (b && c) then Some n else None)
 run_blocked true true c n r = rw r refl
 run_blocked true false c n r = refl
@@ -36,6 +39,7 @@ pub run_found : (ds : List ℕ) → 0 < length ds → length ds ≤ 18 → AllDi
 run_found ds least most h =
     run_test (nat_lt 0 (length ds)) (nat_le (length ds) 18) (all_ascii_digits ds) (digits_value 10 ds) (lt-ltb 0 (length ds) least) (le-leb (length ds) 18 most) (own.from ds h)
 
+-- a byte that is no digit fails the test of all
 not_all : (t : Bool) (ds : List ℕ) (i : ℕ) → all_ascii_digits ds ≡ t → i < length ds → is_ascii_digit (get_or ds i 0) ≡ false → t ≡ false
 not_all false ds i e h n = refl
 not_all true ds i e h n =

@@ -1,12 +1,18 @@
 //! Fractions as text: the quantities of descriptions, the exact spelling of certificates and reports, and decimals.
+//!
+//! A text is seen as the list of its bytes and a `Frac` as the rational number that it is. `specs/` has the grammars:
+//! `quantity_of` gives what a quantity means, `exact_spelling` is the one text of a fraction, and `decimal_spelling`
+//! cuts it at a place. Begin with `parse_quantity` for what users write, and with `exact_text` for what is printed.
 #![tactic(auto)]
 
+mod decimal;
 mod digits;
 mod exact;
 mod exact_read;
 mod numeral;
 mod quantity;
 
+pub use decimal::decimal_text;
 pub use exact::exact_text;
 pub use exact_read::parse_exact;
 pub use quantity::{BadNumber, parse_quantity};

@@ -1,4 +1,4 @@
-use crate::{BadNumber, exact_text, parse_quantity};
+use crate::{BadNumber, decimal_text, exact_text, parse_exact, parse_quantity};
 use narrow_fraction::Frac;
 use std::test::Fail;
 
@@ -14,8 +14,7 @@ fn quantities_are_read_exactly(rt: HostRuntime) -> Result<(), Fail> {
     ];
     for (text, num, den) in rows {
         let value = parse_quantity(text).map_err(|_| text)?;
-        assert_eq!(rt; value.num(), num, "at {text}");
-        assert_eq!(rt; value.den(), den, "at {text}");
+        assert!(rt; value.num() == num && value.den() == den, "at {text}");
     }
     let none = [
         "1/0",
@@ -44,6 +43,57 @@ fn the_exact_spelling_is_in_lowest_terms(rt: HostRuntime) -> Result<(), Fail> {
     for (num, den, want) in rows {
         let value = Frac::new(num, den)?;
         let text = exact_text(rt.alloc(), value).map_err(|_| "memory")?;
+        assert_eq!(rt; text.as_slice(), want.as_bytes());
+    }
+    Ok(())
+}
+
+#[test]
+fn only_the_exact_spelling_is_read_back(rt: HostRuntime) -> Result<(), Fail> {
+    for (text, num, den) in [("27/2", 27, 2), ("-3/2", -3, 2), ("0", 0, 1), ("10", 10, 1)] {
+        let value = parse_exact(text.as_bytes()).map_err(|_| text)?;
+        assert_eq!(rt; value.num(), num, "at {text}");
+        assert_eq!(rt; value.den(), den, "at {text}");
+    }
+    let most = "170141183460469231731687303715884105727";
+    assert!(rt; parse_exact(most.as_bytes()).is_ok());
+    let none = [
+        "",
+        "-",
+        "-0",
+        "00",
+        "01",
+        "+1",
+        "1.5",
+        "2/4",
+        "3/1",
+        "1/0",
+        "1/02",
+        "1/-2",
+        "1/",
+        "/2",
+        "170141183460469231731687303715884105728",
+    ];
+    for text in none {
+        let refused = parse_exact(text.as_bytes());
+        assert!(rt; matches!(refused, Err(BadNumber)), "at {text}");
+    }
+    Ok(())
+}
+
+#[test]
+fn decimals_are_cut_and_not_rounded(rt: HostRuntime) -> Result<(), Fail> {
+    let rows = [
+        (2, 3, 3, "0.666"),
+        (27, 2, 1, "13.5"),
+        (1, 1000, 2, "0.00"),
+        (0, 1, 6, "0.000000"),
+        (100_007, 1000, 9, "100.007000000"),
+    ];
+    for (num, den, places, want) in rows {
+        let value = Frac::new(num, den)?;
+        assert!(rt; value.num() >= 0 && value.den() <= 1000);
+        let text = decimal_text(rt.alloc(), value, places).map_err(|_| "memory")?;
         assert_eq!(rt; text.as_slice(), want.as_bytes());
     }
     Ok(())

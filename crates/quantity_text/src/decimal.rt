@@ -1,0 +1,64 @@
+ghost use Rattle.std.specs.Prelude.{◌≡◌, ◌+◌, ◌*◌, ◌/◌, ◌<◌, ◌≤◌, ◌^◌, [], ◌∷◌, ◌++◌, pos, ◌≤ℤ◌, IfOk, OnOk};
+ghost use Rattle.std.specs.Fmt.{decimal};
+ghost use Rattle.quantity_text.specs.Decimal.{decimal_spelling, last_digits};
+
+use narrow_fraction::{Frac, Memory};
+use std::alloc::Global;
+
+/// A fraction of at least 0 with so many decimal places: the floor of `value * 10^places`, with a point before its last
+/// `places` digits and at least one digit before the point. It is cut and never rounded: 2/3 to 3 places is `0.666`.
+pub fn decimal_text(alloc: Global, value: Frac, places: u32) -> Result<Vec<u8>, Memory>
+    requires least { pos 0 ≤ℤ value.num }
+    requires denominator { value.den ≤ 2 ^ 120 }
+    requires some_places { 1 ≤ places }
+    requires most_places { places ≤ 9 }
+    ensures { IfOk result (λ text. text.items ≡ decimal_spelling value places) }
+{
+    let top = value.num().unsigned_abs();
+    let bottom = value.den().unsigned_abs();
+    quotient_text(alloc, top, bottom, places)
+}
+
+/// `top / bottom` with so many places.
+fn quotient_text(alloc: Global, top: u128, bottom: u128, places: u32) -> Result<Vec<u8>, Memory>
+    requires above { 0 < bottom }
+    requires bottom { bottom ≤ 2 ^ 120 }
+    ensures { IfOk result (λ text. text.items ≡ decimal (top / bottom) ++ 46 ∷ last_digits places (top * 10 ^ places / bottom)) }
+{
+    let mut text = whole_part(alloc, top / bottom)?;
+    let mut rest = top % bottom;
+    for place in 0..places {
+        let _ = place;
+        push(&mut text, next_digit(rest, bottom))?;
+        rest = rest * 10 % bottom;
+    }
+    Ok(text)
+}
+
+/// The digits before the point, and the point.
+fn whole_part(alloc: Global, whole: u128) -> Result<Vec<u8>, Memory>
+    ensures { IfOk result (λ text. text.items ≡ decimal whole ++ 46 ∷ []) }
+{
+    match format!(in alloc; "{whole}.") {
+        Ok(text) => Ok(text.into_bytes()),
+        Err(_) => Err(Memory),
+    }
+}
+
+/// The next digit of a long division.
+fn next_digit(rest: u128, bottom: u128) -> u8
+    requires rest { rest < bottom }
+    requires bottom { bottom ≤ 2 ^ 120 }
+    ensures { result ≡ 48 + rest * 10 / bottom }
+{
+    b'0' + (rest * 10 / bottom) as u8
+}
+
+fn push(text: &mut Vec<u8>, byte: u8) -> Result<(), Memory>
+    ensures { OnOk result (text.new.items ≡ text.old.items ++ byte ∷ []) }
+{
+    match text.push(byte) {
+        Ok(()) => Ok(()),
+        Err(_) => Err(Memory),
+    }
+}
