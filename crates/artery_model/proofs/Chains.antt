@@ -1,5 +1,5 @@
 -- Refusals of a list of tests that are made one after another.
-use Rattle.std.proofs.Common.{◌≡◌, List, [], ◌∷◌, Option, None, Some, Result, Ok, Err, refl}
+use Rattle.std.proofs.Common.{◌≡◌, List, [], ◌∷◌, Option, None, Some, Result, refl}
 use Rattle.artery_model.specs.Faults.{Fault, first_fault, Names, Judges}
 use Rattle.artery_model.specs.declared.kind.Flaw.{Flaw}
 use Rattle.artery_model.specs.declared.kind.Flaw.TheVariants.{Refused, Memory}

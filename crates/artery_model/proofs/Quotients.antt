@@ -1,11 +1,9 @@
 -- Quotients of bounded numbers in lowest terms.
-use Rattle.std.proofs.Common.{◌≡◌, ℕ, zero, suc, ℤ, pos, ◌*ℤ◌, ◌≤ℤ◌, ◌+◌, ◌*◌, ◌/◌, ◌<◌, ◌≤◌, ◌^◌, Ok, Err, refl, sym, ◌∙◌, ap, subst, arith, unsigned_abs, mul-pos}
-use Rattle.std.specs.Prelude.{int_div}
+use Rattle.std.proofs.Common.{◌≡◌, ℕ, zero, suc, ℤ, pos, ◌≤ℤ◌, ◌*◌, ◌/◌, ◌<◌, ◌≤◌, ◌^◌, Ok, Err, sym, ◌∙◌, ap, subst, arith, unsigned_abs, mul-pos}
 use Rattle.std.proofs.lemmas.Int.{ints}
 use native.Mathlib.Nat.{mul-le-mul_right}
-use borrow.Author.Differences.{up, down}
 use Rattle.ratio.specs.Gcd.{gcd}
-use Rattle.ratio.specs.Fractions.{gcd_pos, times_part, part_pos, first_part_pos, abs-int_div}
+use Rattle.ratio.specs.Fractions.{gcd_pos, times_part, first_part_pos, abs-int_div}
 use Rattle.ratio.specs.Rational.{ℚ, whole, over, ◌*ℚ◌, ◌/ℚ◌, ◌≤ℚ◌, inverse_ℚ, quotient}
 use Rattle.ratio.specs.Laws.{IsRatio, own_ratio, same_ratio, over_ratio, product_ratio, whole_ratio, *ℚ_assoc, *ℚ_comm, *ℚ-one, ≤ℚ_out}
 use Rattle.ratio.specs.Order.{≤ℚ_refl, *ℚ-inverse, *ℚ_cancel}

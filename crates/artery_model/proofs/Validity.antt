@@ -1,5 +1,5 @@
 -- An artery with no fault is valid.
-use Rattle.std.proofs.Common.{◌≡◌, ℕ, zero, suc, ℤ, pos, negsuc, ◌+◌, ◌-◌, ◌<◌, ◌≤◌, ◌==◌, ◌≤ℤ◌, ◌*ℤ◌, List, [], ◌∷◌, length, slice_index_or, Option, None, Some, Bool, true, false, true≢false, ◌&&◌, nat_le, nat_lt, nat_eq, refl, sym, ◌∙◌, ap, arith, unsigned_abs}
+use Rattle.std.proofs.Common.{◌≡◌, ℕ, zero, suc, ℤ, pos, negsuc, ◌+◌, ◌-◌, ◌<◌, ◌≤◌, ◌==◌, ◌≤ℤ◌, ◌*ℤ◌, List, [], ◌∷◌, length, slice_index_or, Option, None, Some, Bool, true, false, true≢false, ◌&&◌, nat_le, nat_lt, refl, sym, arith}
 use Rattle.std.specs.Prelude.{codes}
 use Rattle.std.proofs.lemmas.Bool.Decides.{nat_tests}
 use Rattle.std.proofs.lemmas.Int.{ints}
@@ -12,7 +12,7 @@ use Rattle.progression.specs.declared.parts.Link.{Link}
 use Rattle.progression.specs.declared.parts.Pair.{Pair}
 use Rattle.artery_model.specs.Faults.{Fault, first_fault, unless, each_numbered, artery_place, link_place}
 use Rattle.artery_model.specs.Limits.{within, in_range, pair_ranges, head_ranges, signal_tests, signal_ranges, change_ranges, link_tests, link_ranges, in_order, in_order_if_there, green_tests, has_green, limit_tests, link_limits, range_tests, rule_tests, artery_fault}
-use Rattle.artery_model.specs.Valid.{IsQuantity, IsPair, IsSpeeds, IsChange, IsSignal, IsLink, IsValid}
+use Rattle.artery_model.specs.Valid.{IsQuantity, IsPair, IsChange, IsSignal, IsLink, IsValid}
 use Rattle.artery_model.specs.declared.kind.Kind.{Kind}
 
 -- ---- tests that all passed

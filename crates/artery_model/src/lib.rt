@@ -14,3 +14,6 @@ mod runs;
 pub use artery::Artery;
 pub use kind::{Flaw, Kind, Refusal};
 pub use progression::{Dir, Head, Link, Pair, Signal, Text, Units};
+
+#[cfg(test)]
+mod tests;

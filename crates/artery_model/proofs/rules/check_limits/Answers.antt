@@ -1,7 +1,5 @@
 use Rattle.std.proofs.lemmas.Result.{err_from_is_err_and}
-use Rattle.artery_model.specs.Faults.{Judges, Names, first_fault, unless, link_place}
-use Rattle.artery_model.specs.Limits.{link_limits, in_order, in_order_if_there}
-use Rattle.artery_model.proofs.Chains.{first_named, later_named, later_judged, last_judged}
+use Rattle.artery_model.proofs.Chains.{first_named}
 use Rattle.artery_model.proofs.rules.check_limits.Goals as goal
 
 pub returns-in_err-check_speeds : goal.returns-in_err-check_speeds

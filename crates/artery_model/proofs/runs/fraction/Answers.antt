@@ -1,4 +1,4 @@
-use Rattle.std.proofs.Common.{◌≡◌, ◌∙◌, pos, ℤ, FitsSigned, w64, rules, arith, unsigned_abs, ◌^◌, ◌<◌}
+use Rattle.std.proofs.Common.{◌∙◌, FitsSigned, w64, rules, arith}
 use Rattle.std.specs.Int.{w128}
 use Rattle.std.proofs.lemmas.Int.{to_z-of_z, ints}
 use Rattle.artery_model.proofs.Quotients.{made_value, always_made, over_num_small, over_den_small}

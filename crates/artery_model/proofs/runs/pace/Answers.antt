@@ -1,4 +1,4 @@
-use Rattle.std.proofs.Common.{◌≡◌, ◌∙◌, FitsSigned, w64, rules, arith, ◌<◌}
+use Rattle.std.proofs.Common.{◌∙◌, FitsSigned, w64, rules, ◌<◌}
 use Rattle.std.proofs.lemmas.Int.{to_z-of_z}
 use Rattle.progression.specs.Speeds.{unit_length}
 use Rattle.artery_model.proofs.Quotients.{over_whole}

@@ -1,5 +1,5 @@
-use Rattle.std.proofs.Common.{◌≡◌, ◌∙◌, ◌*◌, FitsSigned, w64, rules, arith, ◌<◌, ℤ, pos, unsigned_abs}
-use Rattle.std.proofs.lemmas.Int.{to_z-of_z, ints}
+use Rattle.std.proofs.Common.{◌∙◌, ◌*◌, FitsSigned, w64, rules, unsigned_abs}
+use Rattle.std.proofs.lemmas.Int.{to_z-of_z}
 use Rattle.artery_model.proofs.Quotients.{over_times, above_zero}
 use Rattle.artery_model.proofs.runs.run.Goals as goal
 

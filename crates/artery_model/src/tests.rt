@@ -1,0 +1,324 @@
+use crate::{Artery, Dir, Flaw, Head, Kind, Link, Pair, Signal, Text, Units};
+use narrow_fraction::Frac;
+use std::alloc::Global;
+use std::process::Abort;
+
+/// The names of the signals.
+#[derive(Clone, Copy)]
+enum Names {
+    Different,
+    Same,
+    Empty,
+    /// Two lines in a name.
+    Control,
+}
+
+/// The numbers of an artery whose signals are alike, and so are its links.
+#[derive(Clone, Copy)]
+struct Numbers {
+    units: Units,
+    parts: u32,
+    cycle: Pair,
+    signals: usize,
+    links: usize,
+    names: Names,
+    red: u32,
+    left_out: u32,
+    left_in: u32,
+    allowed: bool,
+    distance: u32,
+    speed: Pair,
+    /// Of link 1 alone, outbound.
+    change: Option<Pair>,
+}
+
+fn pair(least: i64, most: i64) -> Pair {
+    Pair {
+        least: Frac::whole(least),
+        most: Frac::whole(most),
+    }
+}
+
+fn two_signals() -> Numbers {
+    Numbers {
+        units: Units::Metric,
+        parts: 100,
+        cycle: pair(100, 100),
+        signals: 2,
+        links: 1,
+        names: Names::Different,
+        red: 50,
+        left_out: 0,
+        left_in: 0,
+        allowed: true,
+        distance: 500,
+        speed: pair(36, 36),
+        change: None,
+    }
+}
+
+fn name(names: Names, index: usize) -> &'static str {
+    match (names, index) {
+        (Names::Different, 0) | (Names::Same, _) => "A",
+        (Names::Different, 1) => "B",
+        (Names::Different, _) => "C",
+        (Names::Empty, _) => "",
+        (Names::Control, _) => "A\nB",
+    }
+}
+
+fn signal(alloc: Global, numbers: Numbers, index: usize) -> Result<Signal, Flaw> {
+    match Text::new(alloc, name(numbers.names, index)) {
+        Ok(name) => Ok(Signal {
+            name,
+            red: numbers.red,
+            left_out: numbers.left_out,
+            left_in: numbers.left_in,
+            patterns: [numbers.allowed, false, false, numbers.allowed],
+            clear_out: 3,
+            clear_in: 4,
+        }),
+        Err(_) => Err(Flaw::Memory),
+    }
+}
+
+fn make(alloc: Global, numbers: Numbers) -> Result<Artery, Flaw> {
+    let mut signals = Vec::new(alloc);
+    for index in 0..numbers.signals {
+        let made = signal(alloc, numbers, index)?;
+        signals.push(made).map_err(|_| Flaw::Memory)?;
+    }
+    let mut links = Vec::new(alloc);
+    for index in 0..numbers.links {
+        let link = Link {
+            distance_out: numbers.distance,
+            distance_in: numbers.distance,
+            speed_out: numbers.speed,
+            speed_in: numbers.speed,
+            change_out: if index == 0 { numbers.change } else { None },
+            change_in: None,
+        };
+        links.push(link).map_err(|_| Flaw::Memory)?;
+    }
+    let head = Head {
+        name: None,
+        units: numbers.units,
+        parts: numbers.parts,
+        cycle: numbers.cycle,
+        ratio: Frac::whole(1),
+    };
+    Artery::new(alloc, head, signals, links)
+}
+
+#[test]
+fn two_signals_500_metres_apart(rt: HostRuntime) {
+    let Ok(artery) = make(rt.alloc(), two_signals()) else {
+        panic!(rt; "no artery");
+    };
+    assert_eq!(rt; artery.count(), 2);
+    assert_eq!(rt; artery.parts(), 100);
+    assert_eq!(rt; artery.head().parts, 100);
+    assert_eq!(rt; artery.signals().len(), 2);
+    assert_eq!(rt; artery.links().len(), 1);
+    assert!(rt; artery.cycle().least == Frac::whole(100));
+    assert!(rt; artery.ratio() == Frac::whole(1));
+    for dir in [Dir::Outbound, Dir::Inbound] {
+        assert_eq!(rt; artery.red(dir, 2), 50);
+        assert_eq!(rt; artery.distance(dir, 1), 500);
+        assert!(rt; artery.run_low(dir, 1) == Frac::whole(50));
+        assert!(rt; artery.run_high(dir, 1) == Frac::whole(50));
+        assert!(rt; artery.change(dir, 1).is_none());
+    }
+}
+
+#[test]
+fn three_signals_with_left_turns_in_feet(rt: HostRuntime) {
+    let numbers = Numbers {
+        units: Units::English,
+        signals: 3,
+        links: 2,
+        red: 40,
+        left_out: 5,
+        left_in: 10,
+        distance: 264,
+        speed: pair(30, 60),
+        change: Some(pair(-33, 66)),
+        ..two_signals()
+    };
+    let Ok(artery) = make(rt.alloc(), numbers) else {
+        panic!(rt; "no artery");
+    };
+    assert_eq!(rt; artery.count(), 3);
+    assert_eq!(rt; artery.red_out(3), 50);
+    assert_eq!(rt; artery.red_in(3), 45);
+    assert_eq!(rt; artery.left_against(Dir::Outbound, 1), 10);
+    assert_eq!(rt; artery.left_against(Dir::Inbound, 1), 5);
+    assert_eq!(rt; artery.clearance(Dir::Outbound, 1), 3);
+    assert_eq!(rt; artery.clearance(Dir::Inbound, 1), 4);
+    for (pattern, shift) in [(1, 0), (2, 15), (3, 10), (4, 5)] {
+        assert_eq!(rt; artery.shift(1, pattern), shift);
+        assert_eq!(rt; artery.allows(1, pattern), pattern == 1 || pattern == 4);
+    }
+    assert!(rt; !artery.allows(1, 0) && !artery.allows(1, 5));
+    assert!(rt; artery.run_low(Dir::Inbound, 2) == Frac::whole(3));
+    assert!(rt; artery.run_high(Dir::Inbound, 2) == Frac::whole(6));
+    let Some(change) = artery.change(Dir::Outbound, 1) else {
+        panic!(rt; "no change");
+    };
+    assert_eq!(rt; (change.least.num(), change.least.den()), (-1, 160));
+    assert_eq!(rt; (change.most.num(), change.most.den()), (1, 80));
+    assert!(rt; artery.change(Dir::Inbound, 1).is_none());
+}
+
+fn expect(rt: &impl Abort, made: Result<Artery, Flaw>, kind: Kind, place: &str) {
+    match made {
+        Err(Flaw::Refused(refusal)) => {
+            assert_eq!(rt; refusal.kind, kind, "{place}");
+            assert_eq!(rt; refusal.place.as_str(), place);
+        }
+        Ok(_) | Err(Flaw::Memory) => panic!(rt; "not refused: {place}"),
+    }
+}
+
+#[test]
+fn a_value_outside_its_limits_is_named_first(rt: HostRuntime) {
+    let base = two_signals();
+    let made = make(
+        rt.alloc(),
+        Numbers {
+            signals: 1,
+            parts: 1,
+            ..base
+        },
+    );
+    expect(&rt, made, Kind::OutOfRange, "signal");
+    let made = make(
+        rt.alloc(),
+        Numbers {
+            signals: 17,
+            links: 16,
+            ..base
+        },
+    );
+    expect(&rt, made, Kind::OutOfRange, "signal");
+    let made = make(rt.alloc(), Numbers { parts: 1, ..base });
+    expect(&rt, made, Kind::OutOfRange, "artery.parts");
+    let made = make(
+        rt.alloc(),
+        Numbers {
+            cycle: pair(0, 3601),
+            ..base
+        },
+    );
+    expect(&rt, made, Kind::OutOfRange, "artery.cycle[1]");
+    let made = make(
+        rt.alloc(),
+        Numbers {
+            names: Names::Empty,
+            ..base
+        },
+    );
+    expect(&rt, made, Kind::OutOfRange, "signal[1].name");
+    let made = make(
+        rt.alloc(),
+        Numbers {
+            names: Names::Control,
+            ..base
+        },
+    );
+    expect(&rt, made, Kind::OutOfRange, "signal[1].name");
+    let made = make(
+        rt.alloc(),
+        Numbers {
+            red: 100,
+            left_in: 100,
+            ..base
+        },
+    );
+    expect(&rt, made, Kind::OutOfRange, "signal[1].red");
+    let made = make(
+        rt.alloc(),
+        Numbers {
+            distance: 30_001,
+            links: 2,
+            ..base
+        },
+    );
+    expect(&rt, made, Kind::OutOfRange, "link[1].distance_out");
+    let made = make(
+        rt.alloc(),
+        Numbers {
+            speed: pair(36, 301),
+            ..base
+        },
+    );
+    expect(&rt, made, Kind::OutOfRange, "link[1].speed_out[2]");
+    let made = make(
+        rt.alloc(),
+        Numbers {
+            change: Some(pair(0, 1)),
+            ..base
+        },
+    );
+    expect(&rt, made, Kind::OutOfRange, "link[1].change_out");
+}
+
+#[test]
+fn the_first_broken_rule_is_named(rt: HostRuntime) {
+    let base = two_signals();
+    let made = make(
+        rt.alloc(),
+        Numbers {
+            links: 2,
+            names: Names::Same,
+            ..base
+        },
+    );
+    expect(&rt, made, Kind::CountMismatch, "link");
+    let made = make(
+        rt.alloc(),
+        Numbers {
+            allowed: false,
+            names: Names::Same,
+            ..base
+        },
+    );
+    expect(&rt, made, Kind::RepeatedName, "signal[2].name");
+    let made = make(
+        rt.alloc(),
+        Numbers {
+            allowed: false,
+            red: 60,
+            left_in: 40,
+            ..base
+        },
+    );
+    expect(&rt, made, Kind::NoPattern, "signal[1].patterns");
+    let made = make(
+        rt.alloc(),
+        Numbers {
+            red: 60,
+            left_in: 40,
+            cycle: pair(90, 60),
+            ..base
+        },
+    );
+    expect(&rt, made, Kind::NoGreen, "signal[1].left_in");
+    let made = make(
+        rt.alloc(),
+        Numbers {
+            cycle: pair(90, 60),
+            speed: pair(50, 36),
+            ..base
+        },
+    );
+    expect(&rt, made, Kind::LimitsCrossed, "artery.cycle");
+    let made = make(
+        rt.alloc(),
+        Numbers {
+            speed: pair(50, 36),
+            ..base
+        },
+    );
+    expect(&rt, made, Kind::LimitsCrossed, "link[1].speed_out");
+}
