@@ -1,6 +1,6 @@
 -- What a reading's parts say together.
 use Rattle.std.proofs.Common.{◌≡◌, ℕ, List, Result, Ok, Err, None, IfOk, subst, sym, ◌∙◌, ap}
-use Rattle.toml.specs.Data.{Data, table}
+use Rattle.toml.specs.Data.{Data}
 use Rattle.progression.specs.Street.{Street}
 use Rattle.artery_model.specs.Faults.{Judges}
 use Rattle.artery_model.specs.declared.kind.Flaw.{Flaw}

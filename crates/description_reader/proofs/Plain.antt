@@ -1,12 +1,11 @@
 -- What is described is plain.
-use Rattle.std.proofs.Common.{◌≡◌, ℕ, ◌+◌, ◌<◌, List, [], ◌∷◌, length, map, true, Option, None, Some, ℤ, refl, ap, arith, rules, Bool, false, pos, codes}
+use Rattle.std.proofs.Common.{◌≡◌, ℕ, ◌+◌, List, [], ◌∷◌, map, true, Option, None, Some, ℤ, refl, ap, arith, rules, Bool, false, pos, codes}
 use Rattle.std.specs.List.{All}
 use Rattle.std.specs.Ordering.{int_eq}
 use Rattle.std.specs.Cmp.{signed_Decides}
 use Rattle.std.proofs.lemmas.List.Elements.{All-cons}
-use Rattle.toml.specs.Data.{Data, get, as_table, table, string, integer, float, boolean, datetime, array}
+use Rattle.toml.specs.Data.{Data, get, table, string, integer, float, boolean, datetime, array}
 use Rattle.ratio.specs.Rational.{whole}
-use Rattle.progression.specs.declared.parts.Pair.{Pair}
 use Rattle.artery_model.specs.Faults.{Fault, first_fault, unless, each_numbered}
 use Rattle.artery_model.specs.Limits.{artery_fault}
 use Rattle.artery_model.specs.declared.kind.Kind.{Kind}
@@ -15,7 +14,7 @@ use Rattle.description_reader.specs.Places.{key_place}
 use Rattle.description_reader.specs.declared.demand.Demand.TheVariants.{Absent, Simple, Equal}
 use Rattle.description_reader.specs.Values.{if_there, items_in, items_at, items_or_none}
 use Rattle.description_reader.specs.Checks.{bounds_in, are_equal, value_fault, items_fault, both_values, meets}
-use Rattle.description_reader.specs.Judgement.{speeds_built, support, in_table, artery_fault_in, signal_fault, link_fault, facts_of, stage_tests, value_tests}
+use Rattle.description_reader.specs.Judgement.{speeds_built, in_table, artery_fault_in, signal_fault, link_fault, facts_of, stage_tests, value_tests}
 use Rattle.description_reader.specs.Streets.{pair_of, pair_at, head_in, signal_in, link_in, street_in, description_fault}
 use Rattle.description_reader.specs.Plain.{IsPlain, IsPlainLink, IsPlainSignal}
 use Rattle.description_reader.specs.declared.values.Bounds.{Bounds}

@@ -1,5 +1,5 @@
 -- What a value of a description must be, and the faults of values that aren't.
-use Rattle.std.specs.Prelude.{◌&&◌, ◌||◌, ◌==◌, not, ℕ, List, [], ◌∷◌, length, Bool, true, false, Option, None, Some, is_some, ℤ, pos, int_lt, int_le, codes}
+use Rattle.std.specs.Prelude.{◌&&◌, ◌||◌, ◌==◌, not, ℕ, List, [], ◌∷◌, length, Bool, true, false, Option, None, Some, is_some, pos, int_lt, int_le, codes}
 use Rattle.std.specs.Ordering.{int_eq}
 use Rattle.toml.specs.Data.{Data, get, as_integer, as_str, as_array, as_table}
 use Rattle.artery_model.specs.Faults.{Fault, first_fault, unless, each_numbered}
