@@ -30,7 +30,8 @@ most_is x g n = (
 )
 
 -- ---- changes of pace
-inverse_ratio : (d : ℕ) → 0 < d → IsRatio (inverse_ℚ (number d)) 1 0 d
+-- one over a whole number
+pub inverse_ratio : (d : ℕ) → 0 < d → IsRatio (inverse_ℚ (number d)) 1 0 d
 unfolding inverse_ℚ whole
 inverse_ratio d h = over_ratio (pos 1) d h
 

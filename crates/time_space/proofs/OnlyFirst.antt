@@ -1,5 +1,5 @@
 -- The order of the failings tells any two apart that fail, so that only one is the first.
-use Rattle.std.proofs.Common.{◌≡◌, ℕ, ◌+◌, ◌-◌, ◌<◌, ◌≤◌, false, refl, sym, subst, ◌∙◌, ap, arith, inl, inr}
+use Rattle.std.proofs.Common.{◌≡◌, ℕ, ◌-◌, ◌<◌, refl, sym, subst, ◌∙◌, ap, arith, inl, inr}
 use Rattle.std.specs.Prelude.{ℤ, pos, ◌+ℤ◌}
 use Rattle.std.proofs.lemmas.Bool.{cases_lt}
 use Rattle.progression.specs.Street.{Street, count}
@@ -10,7 +10,7 @@ use Rattle.progression.specs.declared.parts.Dir.TheVariants.{Outbound, Inbound}
 use Rattle.time_space.specs.FirstRed.{IsFirstRed}
 use Rattle.time_space.specs.Blocked.{IsBlockedAt, IsBlockedSomewhere}
 use Rattle.time_space.specs.Failing.{Fails}
-use Rattle.time_space.specs.FirstFailing.{rule_order, dir_order, direction_order, place_order, IsFirstFailing, OneFirst}
+use Rattle.time_space.specs.FirstFailing.{rule_order, dir_order, direction_order, place_order, OneFirst}
 use Rattle.time_space.specs.declared.failing.Failing.{Failing}
 use Rattle.time_space.specs.declared.failing.Failing.TheVariants as failing
 

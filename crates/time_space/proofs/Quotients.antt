@@ -4,7 +4,7 @@ use Rattle.std.proofs.lemmas.Int.{ints}
 use native.Mathlib.Nat.{mul-le-mul_right}
 use Rattle.ratio.specs.Gcd.{gcd}
 use Rattle.ratio.specs.Fractions.{gcd_pos, times_part, abs-int_div}
-use Rattle.ratio.specs.Rational.{ℚ, whole, over, ◌+ℚ◌, ◌*ℚ◌, ◌/ℚ◌, inverse_ℚ, quotient}
+use Rattle.ratio.specs.Rational.{ℚ, over, ◌+ℚ◌, ◌*ℚ◌, ◌/ℚ◌, quotient}
 use Rattle.ratio.specs.Laws.{IsRatio, same_ratio, over_ratio, sum_ratio, product_ratio, whole_ratio}
 use Rattle.ratio.specs.Lowest.{quotient-pos}
 use Rattle.narrow_fraction.specs.Fraction.{FitsFrac}
@@ -12,6 +12,7 @@ use Rattle.narrow_fraction.specs.Made.{IsMade}
 use Rattle.narrow_fraction.specs.declared.unfit.Unfit.{Unfit}
 use Rattle.narrow_fraction.specs.declared.unfit.Unfit.TheVariants.{ZeroDen, Width}
 use Rattle.progression.specs.Speeds.{number}
+use Rattle.time_space.proofs.Fractions.{inverse_ratio}
 
 le_times : (g a b : ℕ) → 0 < g → g * a ≡ b → a ≤ b
 le_times g a b h e = let k : 1 * a ≤ g * a = mul-le-mul_right a h in omega (arith, k, e)
@@ -47,10 +48,6 @@ pub made_value : (top bottom : ℕ) (x : ℚ) → IsMade (pos top) (pos bottom) 
 made_value top bottom x m = m.2 ∙ quotient-pos (pos top) bottom
 
 -- ---- the weighted band
-inverse_ratio : (d : ℕ) → 0 < d → IsRatio (inverse_ℚ (number d)) 1 0 d
-unfolding inverse_ℚ whole
-inverse_ratio d h = over_ratio (pos 1) d h
-
 weighted_at : (k : ℚ) (n o i c : ℕ) → pos n ≡ k.num → 0 < c → over (pos (k.den * o + n * i)) (k.den * c) ≡ (number o +ℚ k *ℚ number i) /ℚ number c
 weighted_at k n o i c e h =
     let bands = sum_ratio _ _ _ _ _ _ _ _ (whole_ratio (pos o)) (product_ratio k (number i) _ _ _ _ _ _ (positive_ratio k n e) (whole_ratio (pos i))) in

@@ -3,7 +3,7 @@
 use progression::Dir;
 
 /// A rule of a good timing that a timing breaks, and where.
-#[derive(Clone, Copy, Debug)]
+#[derive(Clone, Copy, Debug, PartialEq, Eq)]
 pub enum Failing {
     /// The timing has another number of signals than the artery.
     Shape,

@@ -42,7 +42,8 @@ pub fn is_at_most(ticks: u128, limit: Frac, grid: u128) -> bool
     product(limit.den(), ticks) <= product(limit.num(), grid)
 }
 
-/// The greatest size of the numerator of a limit on changes of pace, times both distances and the grid, fits.
+/// The numerator of a limit on changes of pace, times the grid and both distances. The largest of these products is
+/// just below `2^127`, so that no other factor may join it.
 fn weighed(number: i128, area: u128) -> i128
     requires number { unsigned_abs number ≤ 100000 }
     requires area { area < 2 ^ 110 }
@@ -51,6 +52,7 @@ fn weighed(number: i128, area: u128) -> i128
     number * area as i128
 }
 
+/// The grid times both distances.
 fn area(grid: u128, distance: u32, next_distance: u32) -> u128
     requires grid { grid < 2 ^ 80 }
     requires distance { distance ≤ 30000 }
@@ -83,6 +85,7 @@ fn change_of(paces: Paces) -> i128
         - (paces.run * u128::from(paces.next_distance)) as i128
 }
 
+/// The change of pace times both distances and the denominator of its limit.
 fn scaled(change: i128, den: u128) -> i128
     requires change { unsigned_abs change < 2 ^ 95 }
     requires den { den ≤ 5280000 }
