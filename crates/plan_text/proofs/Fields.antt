@@ -1,7 +1,7 @@
 -- A line that is read is the line that was written, and what was written is read again.
-use Rattle.std.proofs.Common.{◌≡◌, Bor, ℕ, zero, suc, ◌+◌, ◌<◌, ◌≤◌, ◌^◌, Bool, true, false, leb, List, [], ◌∷◌, ◌++◌, map, length, All, Option, Some, None, Result, Ok, Err, refl, sym, ap, subst, ◌∙◌, arith}
-use Rattle.std.specs.Prelude.{◌&&◌, if◌then◌else◌, IfOk, nat_eq}
-use Rattle.std.specs.Cmp.Lexicographic.{pointwise, bytes_decides}
+use Rattle.std.proofs.Common.{◌≡◌, Bor, ℕ, ◌<◌, ◌≤◌, ◌^◌, Bool, true, false, leb, List, [], ◌∷◌, ◌++◌, map, length, All, Option, Some, None, Result, Ok, Err, refl, ap, subst, ◌∙◌, arith}
+use Rattle.std.specs.Prelude.{◌&&◌, if◌then◌else◌, IfOk}
+use Rattle.std.specs.Cmp.Lexicographic.{bytes_decides}
 use Rattle.std.specs.Fmt.{decimal}
 use Rattle.std.specs.Global.{Vec}
 use Rattle.std.specs.List.{AllByRecursion}
@@ -10,13 +10,13 @@ use Rattle.std.proofs.lemmas.List.{length-map}
 use Rattle.std.proofs.lemmas.List.Elements.{All-from_recursion}
 use Rattle.plan_text.specs.declared.fault.BadText.{BadText}
 use Rattle.plan_text.specs.declared.fault.TextFault.{TextFault}
-use Rattle.plan_text.specs.declared.fault.TextFault.TheVariants.{Ended, Shape, Number}
+use Rattle.plan_text.specs.declared.fault.TextFault.TheVariants.{Shape, Number}
 use Rattle.plan_text.specs.declared.fault.TextEnd.{TextEnd}
 use Rattle.plan_text.specs.declared.lines.Place.{Place}
 use Rattle.plan_text.specs.Words.{cut, words}
 use Rattle.plan_text.specs.Numbers.{number}
 use Rattle.plan_text.specs.Spelling.{spelled}
-use Rattle.plan_text.specs.Lines.{◌>>=◌, Gives, fault, line_or, line_at, is_text, fixed_at, nothing_at, ranged, numbers_in, has_shape, after_key, numbers_of, numbers_at}
+use Rattle.plan_text.specs.Lines.{◌>>=◌, Gives, fault, line_or, line_at, is_text, fixed_at, nothing_at, ranged, numbers_in, numbers_of, numbers_at}
 use Rattle.plan_text.proofs.Spellings.{decimal-number, number-decimal, both_true}
 use Rattle.plan_text.proofs.Pieces.{uncut, cut_again, lacks, respelled, words_spelled, line_spelled, AreBelow}
 
@@ -35,6 +35,10 @@ done x = Ok x
 
 pub ok_is : {A : Type 0} (x y : A) → ◌≡◌ {A = Result A BadText} (Ok x) (Ok y) → x ≡ y
 ok_is x y e = cc
+
+-- a fact of the one value is one of the other
+pub moved : {A : Type 0} (P : A → Type 0) (x y : A) → ◌≡◌ {A = Result A BadText} (Ok x) (Ok y) → P x → P y
+moved P x y e p = subst P (ok_is x y e) p
 
 -- ---- a line
 

@@ -1,18 +1,17 @@
 -- The two laws of the text of a timing: what is read is spelled so, and what is spelled so is read.
-use Rattle.std.proofs.Common.{◌≡◌, ℕ, zero, suc, ◌+◌, ◌-◌, ◌<◌, ◌≤◌, ◌^◌, List, [], ◌∷◌, ◌++◌, map, length, get_or, All, Result, Ok, Err, refl, sym, ap, subst, ◌∙◌, arith}
-use Rattle.std.specs.Prelude.{ℤ, pos, unsigned_abs, IfOk, slice_index}
+use Rattle.std.proofs.Common.{◌≡◌, ℕ, ◌-◌, ◌<◌, ◌≤◌, ◌^◌, List, [], ◌∷◌, ◌++◌, map, length, All, Result, Ok, Err, refl, sym, ap, ◌∙◌, arith}
+use Rattle.std.specs.Prelude.{pos, unsigned_abs, IfOk, slice_index}
 use Rattle.std.specs.List.{AllByRecursion}
 use Rattle.std.proofs.lemmas.List.Elements.{All-from_recursion, recursion_from_All}
 use Rattle.progression.specs.Plan.{Plan}
 use Rattle.time_space.specs.Timing.{IsTiming, plan_of}
-use Rattle.plan_text.specs.declared.fault.BadText.{BadText}
 use Rattle.plan_text.specs.declared.fault.TextEnd.{TextEnd}
 use Rattle.plan_text.specs.declared.lines.Place.{Place}
 use Rattle.plan_text.specs.declared.reading.Bands.{Bands}
-use Rattle.plan_text.specs.Spelling.{spelled, ended, head_line, grid_key, unit_key, pattern_key, red_key, run_out_key, run_in_key, first_key, band_key, end_line, timing_text, IsHeld}
+use Rattle.plan_text.specs.Spelling.{spelled, head_line, grid_key, unit_key, pattern_key, red_key, run_out_key, run_in_key, first_key, band_key, end_line, timing_text, IsHeld}
 use Rattle.plan_text.specs.Lines.{◌>>=◌, Gives, fixed_at, nothing_at, numbers_at}
 use Rattle.plan_text.specs.Reading.{place_of, pattern_place, scale_at, signals_at, runs_at, bands_at, timing_of}
-use Rattle.plan_text.proofs.Fields.{bind_ok, ok_is, fixed_takes, fixed_again, nothing_takes, numbers_take, numbers_again, Suits, IsWithin, IsKey}
+use Rattle.plan_text.proofs.Fields.{bind_ok, ok_is, moved, fixed_takes, fixed_again, nothing_takes, numbers_take, numbers_again, Suits, IsWithin}
 
 -- ---- numbers at a place
 
@@ -100,7 +99,8 @@ scale_takes bytes x e =
     let u = one_of 3 2 d.0.0 unit.1 in
     let second : b.0.1 ≡ spelled unit_key (slice_index d.0.0 0 ∷ []) ++ 10 ∷ d.0.1 = unit.0 ∙ ap (λ (ns : List ℕ). spelled unit_key ns ++ 10 ∷ d.0.1) u.0 in
     let first : a.0 ≡ spelled grid_key (slice_index b.0.0 0 ∷ []) ++ 10 ∷ b.0.1 = grid.0 ∙ ap (λ (ns : List ℕ). spelled grid_key ns ++ 10 ∷ b.0.1) g.0 in
-    subst (ScaleOf bytes) (ok_is (slice_index b.0.0 0, slice_index d.0.0 0, d.0.1) x d.2) (record {
+    let made : ℕ × ℕ × List ℕ = (slice_index b.0.0 0, slice_index d.0.0 0, d.0.1) in
+    moved (ScaleOf bytes) made x d.2 (record {
       parts = head ∙ ap (λ (r : List ℕ). head_line ++ 10 ∷ r) (first ∙ ap (λ (r : List ℕ). spelled grid_key (slice_index b.0.0 0 ∷ []) ++ 10 ∷ r) second);
       grid_least = g.1;
       grid_most = g.2;
@@ -115,7 +115,8 @@ signals_take bytes x e =
     let b = bind_ok (numbers_at red_key (place_of 5 (length a.0.0) 0) a.0.1) (λ reds. Ok (a.0.0, reds.0, reds.1)) x a.2 in
     let patterns = numbers_take pattern_key pattern_place bytes a.0 a.1 in
     let reds = numbers_take red_key (place_of 5 (length a.0.0) 0) a.0.1 b.0 b.1 in
-    subst (SignalsOf bytes) (ok_is (a.0.0, b.0.0, b.0.1) x b.2) (record {
+    let made : List ℕ × List ℕ × List ℕ = (a.0.0, b.0.0, b.0.1) in
+    moved (SignalsOf bytes) made x b.2 (record {
       parts = patterns.0 ∙ ap (λ (r : List ℕ). spelled pattern_key a.0.0 ++ 10 ∷ r) reds.0;
       patterns = patterns.1;
       reds = reds.1;
@@ -128,7 +129,8 @@ runs_take links bytes x e =
     let b = bind_ok (numbers_at run_in_key (place_of 7 links 0) a.0.1) (λ run_in. Ok (a.0.0, run_in.0, run_in.1)) x a.2 in
     let run_out = numbers_take run_out_key (place_of 6 links 0) bytes a.0 a.1 in
     let run_in = numbers_take run_in_key (place_of 7 links 0) a.0.1 b.0 b.1 in
-    subst (RunsOf links bytes) (ok_is (a.0.0, b.0.0, b.0.1) x b.2) (record {
+    let made : List ℕ × List ℕ × List ℕ = (a.0.0, b.0.0, b.0.1) in
+    moved (RunsOf links bytes) made x b.2 (record {
       parts = run_out.0 ∙ ap (λ (r : List ℕ). spelled run_out_key a.0.0 ++ 10 ∷ r) run_in.0;
       run_out = run_out.1;
       run_in = run_in.1;
@@ -149,9 +151,8 @@ bands_take bytes x e =
     let last : b.0.1 ≡ end_line ++ 10 ∷ [] = fixed_takes 10 end_line b.0.1 d.0 d.1 ∙ ap (λ (r : List ℕ). end_line ++ 10 ∷ r) (nothing_takes 11 d.0 f.0 f.1) in
     let g = two_of 8 a.0.0 first.1 in
     let h = two_of 9 b.0.0 band.1 in
-    let x-is : bands_of a.0.0 b.0.0 ≡ x = ok_is (bands_of a.0.0 b.0.0) x f.2 in
     let second : a.0.1 ≡ spelled band_key (slice_index b.0.0 0 ∷ slice_index b.0.0 1 ∷ []) ++ 10 ∷ (end_line ++ 10 ∷ []) = band.0 ∙ (λ i. spelled band_key (h.0 i) ++ 10 ∷ last i) in
-    subst (BandsOf bytes) x-is (record {
+    moved (BandsOf bytes) (bands_of a.0.0 b.0.0) x f.2 (record {
       parts = first.0 ∙ (λ i. spelled first_key (g.0 i) ++ 10 ∷ second i);
       first_out = g.1;
       first_in = g.2;

@@ -1,5 +1,5 @@
 -- Reading a text line by line. Each reader answers what it read and the bytes that follow, or the first fault with its line.
-use Rattle.std.specs.Prelude.{◌≡◌, ℕ, ◌==◌, nat_eq, nat_le, ◌&&◌, List, [], ◌∷◌, length, Bool, true, false, Option, None, Some, Result, Ok, Err, if◌then◌else◌, slice_index}
+use Rattle.std.specs.Prelude.{◌≡◌, ℕ, nat_eq, nat_le, ◌&&◌, List, [], ◌∷◌, length, Bool, false, Option, None, Some, Result, Ok, Err, if◌then◌else◌}
 use Rattle.std.specs.Cmp.Lexicographic.{pointwise}
 use Rattle.plan_text.specs.Words.{cut, words}
 use Rattle.plan_text.specs.Numbers.{number}

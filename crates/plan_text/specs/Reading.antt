@@ -1,5 +1,5 @@
 -- Reading the text of a timing from its first line on.
-use Rattle.std.specs.Prelude.{ℕ, ◌-◌, ◌^◌, List, [], ◌∷◌, length, Result, Ok, slice_index}
+use Rattle.std.specs.Prelude.{ℕ, ◌-◌, ◌^◌, List, length, Result, Ok, slice_index}
 use Rattle.progression.specs.Plan.{Plan}
 use Rattle.time_space.specs.Timing.{plan_of}
 use Rattle.plan_text.specs.declared.fault.BadText.{BadText}

@@ -1,5 +1,5 @@
 -- The one text of a timing: ten lines, each ended by a line feed, of words that one space parts.
-use Rattle.std.specs.Prelude.{◌≡◌, ℕ, List, [], ◌∷◌, ◌++◌, map, ℤ, pos, unsigned_abs}
+use Rattle.std.specs.Prelude.{◌≡◌, ℕ, List, [], ◌∷◌, ◌++◌, map, pos, unsigned_abs}
 use Rattle.std.specs.Fmt.{decimal}
 use Rattle.progression.specs.Plan.{Plan}
 use Rattle.time_space.specs.Timing.{IsTiming}

@@ -114,7 +114,7 @@ fn numbers_of(
 }
 
 #[tactic(auto, unfolding(crate::specs::Lines::numbers_at))]
-fn some_at<'a>(
+fn line_of_numbers<'a>(
     alloc: Global,
     key: &[u8],
     place: Place,
@@ -140,5 +140,5 @@ pub fn numbers_at<'a>(
     ensures most { IfOk result (λ x. length x.0.items ≤ place.most) }
     ensures each { IfOk result (λ x. All (λ n. (place.least ≤ n) × (n ≤ place.greatest)) x.0.items) }
 {
-    some_at(alloc, key, place, bytes)
+    line_of_numbers(alloc, key, place, bytes)
 }

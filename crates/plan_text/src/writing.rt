@@ -56,8 +56,21 @@ fn text_of(alloc: Global, timing: &Timing) -> Result<Vec<u8>, AllocError>
     push_numbers(alloc, &mut out, b"red", timing.reds())?;
     push_numbers(alloc, &mut out, b"run_out", timing.run_out())?;
     push_numbers(alloc, &mut out, b"run_in", timing.run_in())?;
-    push_numbers(alloc, &mut out, b"first", &[first_of(timing, Dir::Outbound), first_of(timing, Dir::Inbound)])?;
-    push_numbers(alloc, &mut out, b"band", &[timing.band(Dir::Outbound), timing.band(Dir::Inbound)])?;
+    push_numbers(
+        alloc,
+        &mut out,
+        b"first",
+        &[
+            first_of(timing, Dir::Outbound),
+            first_of(timing, Dir::Inbound),
+        ],
+    )?;
+    push_numbers(
+        alloc,
+        &mut out,
+        b"band",
+        &[timing.band(Dir::Outbound), timing.band(Dir::Inbound)],
+    )?;
     push_numbers(alloc, &mut out, b"end", &[])?;
     Ok(out)
 }

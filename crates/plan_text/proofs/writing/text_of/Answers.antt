@@ -32,14 +32,14 @@ returns c =
     let first_out : c.first_of.result ≡ unsigned_abs t.first_out = c.first_of.ensures in
     let first_in : c.first_of-2.result ≡ unsigned_abs t.first_in = c.first_of-2.ensures in
     e10 ∙ (λ i. ended (
-        head_line
-        ∷ spelled grid_key (c.grid.ensures.value i ∷ [])
-        ∷ spelled unit_key (c.unit.ensures.value i ∷ [])
-        ∷ spelled pattern_key (patterns i)
-        ∷ spelled red_key (reds i)
-        ∷ spelled run_out_key (c.run_out.ensures.value i)
-        ∷ spelled run_in_key (c.run_in.ensures.value i)
-        ∷ spelled first_key (first_out i ∷ first_in i ∷ [])
-        ∷ spelled band_key (c.band.ensures.value i ∷ c.band-2.ensures.value i ∷ [])
-        ∷ end_line
-        ∷ []))
+    head_line
+    ∷ spelled grid_key (c.grid.ensures.value i ∷ [])
+    ∷ spelled unit_key (c.unit.ensures.value i ∷ [])
+    ∷ spelled pattern_key (patterns i)
+    ∷ spelled red_key (reds i)
+    ∷ spelled run_out_key (c.run_out.ensures.value i)
+    ∷ spelled run_in_key (c.run_in.ensures.value i)
+    ∷ spelled first_key (first_out i ∷ first_in i ∷ [])
+    ∷ spelled band_key (c.band.ensures.value i ∷ c.band-2.ensures.value i ∷ [])
+    ∷ end_line
+    ∷ []))

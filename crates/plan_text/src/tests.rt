@@ -1,0 +1,196 @@
+use super::*;
+use progression::Dir;
+use std::alloc::{AllocError, Global};
+use std::test::*;
+
+/// The timing of a base artery: two signals with reds of half the cycle, and bands of the other half.
+const TEXT: &[u8] =
+    b"maxband-timing 1\ngrid 2\nunit 2\npattern 1 1\nred 0 100\nrun_out 100\nrun_in 100\nfirst 100 200\nband 100 100\nend\n";
+
+const LINES: [&[u8]; 10] = [
+    b"maxband-timing 1",
+    b"grid 2",
+    b"unit 2",
+    b"pattern 1 1",
+    b"red 0 100",
+    b"run_out 100",
+    b"run_in 100",
+    b"first 100 200",
+    b"band 100 100",
+    b"end",
+];
+
+/// The base text with another line in place of this one.
+fn replaced(alloc: Global, line: u64, other: &[u8]) -> Result<Vec<u8>, AllocError> {
+    let mut text = Vec::new(alloc);
+    let mut number = 0u64;
+    for kept in LINES.iter() {
+        number = number.wrapping_add(1);
+        text.extend_from_slice(if number == line { other } else { *kept })?;
+        text.push(b'\n')?;
+    }
+    Ok(text)
+}
+
+fn fault_of(alloc: Global, text: &[u8]) -> Option<BadText> {
+    match read_timing(alloc, text) {
+        Err(TextEnd::Bad(bad)) => Some(bad),
+        _ => None,
+    }
+}
+
+#[test]
+fn the_base_text_is_read_and_written_again(rt: HostRuntime) -> Result<(), Fail> {
+    let timing = read_timing(rt.alloc(), TEXT)
+        .ok()
+        .ok_or("the base text is a timing")?;
+    let text = write_timing(rt.alloc(), &timing)
+        .ok()
+        .ok_or("there is memory")?;
+    assert_eq!(rt; text.as_slice(), TEXT);
+    Ok(())
+}
+
+#[test]
+fn each_number_goes_to_its_place(rt: HostRuntime) -> Result<(), Fail> {
+    let text =
+        b"maxband-timing 1\ngrid 1208925819614629174706175\nunit 21\npattern 1 2 4\nred 0 7 9\nrun_out 31 32\nrun_in 33 34\nfirst 41 42\nband 43 44\nend\n";
+    let timing = read_timing(rt.alloc(), text)
+        .ok()
+        .ok_or("the text is a timing")?;
+    assert_eq!(rt; timing.grid(), 1208925819614629174706175);
+    assert_eq!(rt; timing.unit(), 21);
+    assert_eq!(rt; timing.patterns(), [1, 2, 4].as_slice());
+    assert_eq!(rt; timing.reds(), [0, 7, 9].as_slice());
+    assert_eq!(rt; timing.run_out(), [31, 32].as_slice());
+    assert_eq!(rt; timing.run_in(), [33, 34].as_slice());
+    assert_eq!(rt; timing.first(Dir::Outbound), 41);
+    assert_eq!(rt; timing.first(Dir::Inbound), 42);
+    assert_eq!(rt; timing.band(Dir::Outbound), 43);
+    assert_eq!(rt; timing.band(Dir::Inbound), 44);
+    Ok(())
+}
+
+/// A line that is put in, where, and the fault with its line.
+const REFUSED: [(u64, &[u8], u64, TextFault); 44] = [
+    (1, b"maxband-timing 2", 1, TextFault::Shape),
+    (1, b"maxband-certificate 1", 1, TextFault::Shape),
+    (1, b"maxband-timing 1 ", 1, TextFault::Shape),
+    (1, b"", 1, TextFault::Shape),
+    (2, b"grid  2", 2, TextFault::Shape),
+    (2, b"grid\t2", 2, TextFault::Shape),
+    (2, b"grid", 2, TextFault::Shape),
+    (2, b"grid 2 2", 2, TextFault::Shape),
+    (2, b"Grid 2", 2, TextFault::Shape),
+    (2, b"unit 2", 2, TextFault::Shape),
+    (2, b"grid 2\r", 2, TextFault::Number),
+    (2, b"grid ", 2, TextFault::Number),
+    (2, b"grid 02", 2, TextFault::Number),
+    (2, b"grid 00", 2, TextFault::Number),
+    (2, b"grid +2", 2, TextFault::Number),
+    (2, b"grid +", 2, TextFault::Number),
+    (2, b"grid -2", 2, TextFault::Number),
+    (2, b"grid 2x", 2, TextFault::Number),
+    (2, b"grid 2.0", 2, TextFault::Number),
+    (2, b"grid \xff", 2, TextFault::Number),
+    (2, b"grid 2\xff", 2, TextFault::Number),
+    (2, b"grid 0", 2, TextFault::Number),
+    (2, b"grid 1208925819614629174706176", 2, TextFault::Number),
+    (
+        2,
+        b"grid 340282366920938463463374607431768211458",
+        2,
+        TextFault::Number,
+    ),
+    (
+        2,
+        b"grid 1000000000000000000000000000000000000000000000000000000000000000000000000000000000000000000000000000",
+        2,
+        TextFault::Number,
+    ),
+    (3, b"unit 1", 3, TextFault::Number),
+    (3, b"", 3, TextFault::Shape),
+    (3, b"unit 2\nunit 2", 4, TextFault::Shape),
+    (4, b"pattern 1", 4, TextFault::Shape),
+    (
+        4,
+        b"pattern 1 1 1 1 1 1 1 1 1 1 1 1 1 1 1 1 1",
+        4,
+        TextFault::Shape,
+    ),
+    (4, b"pattern 1 9", 4, TextFault::Number),
+    (4, b"pattern 0 1", 4, TextFault::Number),
+    (4, b"pattern 1 1 1", 5, TextFault::Shape),
+    (5, b"red 0 100 100", 5, TextFault::Shape),
+    (5, b"red 0", 5, TextFault::Shape),
+    (6, b"run_out 100 100", 6, TextFault::Shape),
+    (7, b"run_in", 7, TextFault::Shape),
+    (8, b"first 100", 8, TextFault::Shape),
+    (
+        8,
+        b"first 100 1208925819614629174706176",
+        8,
+        TextFault::Number,
+    ),
+    (9, b"band 100 100 ", 9, TextFault::Shape),
+    (9, b"band x", 9, TextFault::Shape),
+    (10, b"end ", 10, TextFault::Shape),
+    (10, b"end\n", 11, TextFault::Shape),
+    (10, b"end\nend", 11, TextFault::Shape),
+];
+
+#[test]
+fn the_first_bad_line_is_named(rt: HostRuntime) -> Result<(), Fail> {
+    for (line, other, bad, kind) in REFUSED.iter() {
+        let text = replaced(rt.alloc(), *line, other)
+            .ok()
+            .ok_or("there is memory")?;
+        let found = fault_of(rt.alloc(), text.as_slice());
+        assert_eq!(rt;
+            found,
+            Some(BadText {
+                line: *bad,
+                kind: *kind
+            }),
+            "in place of line {line}"
+        );
+    }
+    Ok(())
+}
+
+/// Texts without the line feed of this line.
+const ENDED: [(&[u8], u64); 9] = [
+    (b"", 1),
+    (b"maxband", 1),
+    (b"maxband-timing 1", 1),
+    (b"maxband-timing 1\n", 2),
+    (b"maxband-timing 1\ngrid 2\nunit 2\npattern 1 9", 4),
+    (b"maxband-timing 1\ngrid 2\nunit 2\npattern 1 1\n", 5),
+    (
+        b"maxband-timing 1\ngrid 2\nunit 2\npattern 1 1\nred 0 100\nrun_out 100\nrun_in 100\nfirst 100 200\nband 100 100\n",
+        10,
+    ),
+    (
+        b"maxband-timing 1\ngrid 2\nunit 2\npattern 1 1\nred 0 100\nrun_out 100\nrun_in 100\nfirst 100 200\nband 100 100\nend",
+        10,
+    ),
+    (
+        b"maxband-timing 1\ngrid 2\nunit 2\npattern 1 1\nred 0 100\nrun_out 100\nrun_in 100\nfirst 100 200\nband 100 100\nend\nxyz",
+        11,
+    ),
+];
+
+#[test]
+fn a_line_without_its_feed_is_named(rt: HostRuntime) {
+    for (text, line) in ENDED.iter() {
+        let found = fault_of(rt.alloc(), text);
+        assert_eq!(rt;
+            found,
+            Some(BadText {
+                line: *line,
+                kind: TextFault::Ended
+            }),
+            "line {line}"
+        );
+    }
+}
