@@ -1,5 +1,10 @@
-//! The outside: files by their names and an output, each as a trait with counts of failed calls, so
-//! that a caller can show that it reports a fault only where one was counted.
+//! The outside: files by their names and an output, each a trait with counts of failed calls, so that a caller can show
+//! that it reports a fault only where one was counted.
+//!
+//! `Files` is seen as what each name holds, where that is told, with a count of failed reads and one of failed puts for
+//! each name; `Sink` as the bytes taken, where they are told, a count of failed writes and the room that is left. Be
+//! generic over the two and begin with `read_whole` and `write_whole`. `RealFiles` and `RealOut` are the system's;
+//! `SureFiles` and `SureSink` are in memory and never fail; `MemFiles` and `MemSink` fail at the calls that one names.
 #![tactic(auto)]
 
 mod files;

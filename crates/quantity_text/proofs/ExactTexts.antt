@@ -1,10 +1,11 @@
 -- The parts of an exact spelling: the minus, the numerator's digits, and what stands after them.
-use Rattle.std.proofs.Common.{◌≡◌, ℕ, ℤ, pos, negsuc, neg_ℤ, ◌^◌, ◌<◌, ◌≤◌, Bool, true, false, List, [], ◌∷◌, ◌++◌, length, take, drop, get_or, Option, Some, None, arith, refl, sym, ◌∙◌, ap, ap₂, subst, unsigned_abs, length-drop, ◌-◌}
+use Rattle.std.proofs.Common.{◌≡◌, inl, inr, ◌*ℤ◌, ℕ, ℤ, pos, negsuc, neg_ℤ, ◌^◌, ◌<◌, ◌≤◌, Bool, true, false, List, [], ◌∷◌, ◌++◌, length, take, drop, get_or, Option, Some, None, arith, refl, sym, ◌∙◌, ap, ap₂, subst, unsigned_abs, length-drop, ◌-◌}
 use Rattle.std.specs.Prelude.{IfNone, nat_eq, if◌then◌else◌}
 use Rattle.std.specs.Fmt.{decimal, signed_decimal}
 use Rattle.std.specs.List.{position_or_len}
 use Rattle.std.specs.Str.Parse.{AllDigits}
-use Rattle.std.proofs.lemmas.Bool.{ne_eqb, eqb-true, eqb-false}
+use Rattle.ratio.specs.Laws.{same_cross}
+use Rattle.std.proofs.lemmas.Bool.{cases_eq, false≢true, ne_eqb, eqb-true, eqb-false}
 use Rattle.std.proofs.lemmas.Str.Parse.{digit_from_value}
 use Rattle.std.proofs.Math.Seq.{take-append_seam, drop-append_seam}
 use Rattle.std.proofs.lemmas.List.{take_all}
@@ -121,3 +122,29 @@ pub minus_out : (text : List ℕ) (x : ℚ) → get_or text 0 0 ≡ 45 → Spell
 minus_out text x f s =
     let o = minus_out_z x.num text (denominator_text x.den) s.fits.num_fits f s.spelled in
     record { fits = s.fits; parts = record { num_is = o.0; den_is = refl; no_minus_zero = λ n. o.1 }; spelled = o.2 }
+
+-- and one that begins otherwise that of a number of at least 0
+plain_out_z : (z : ℤ) (text t : List ℕ) → (get_or text 0 0 ≡ 45 → ⊥) → text ≡ signed_decimal z ++ t → (z ≡ pos (unsigned_abs z)) × (text ≡ decimal (unsigned_abs z) ++ t)
+plain_out_z (pos n) text t differs e = (refl, e)
+plain_out_z (negsuc n) text t differs e = absurd (differs (ap (λ x. get_or x 0 0) e))
+
+-- so the whole text spells it without a sign
+plain_out : (text : List ℕ) (x : ℚ) → (get_or text 0 0 ≡ 45 → ⊥) → SpellsExactly text x → SpellsSigned false text x
+plain_out text x differs s =
+    let o = plain_out_z x.num text (denominator_text x.den) differs s.spelled in
+    record { fits = s.fits; parts = record { num_is = o.0; den_is = refl; no_minus_zero = λ n. absurd (false≢true n) }; spelled = o.1 }
+
+-- with one sign a text spells one number
+same_signed : (negative : Bool) (size : List ℕ) (x y : ℚ) → SpellsSigned negative size x → SpellsSigned negative size y → x ≡ y
+same_signed negative size x y s t =
+    let e = same_size size (unsigned_abs x.num) x.den (unsigned_abs y.num) y.den (size_spelled negative size x s) (size_spelled negative size y t) in
+    let num : x.num ≡ y.num = s.parts.num_is ∙ ap (λ n. signed negative n) e.0 ∙ sym t.parts.num_is in
+    same_cross x y (ap₂ (λ z d. z *ℤ pos d) num (sym e.1))
+
+-- a text spells one number
+pub one_spelling : (text : List ℕ) (x y : ℚ) → SpellsExactly text x → SpellsExactly text y → x ≡ y
+one_spelling text x y s t =
+    elim (cases_eq (get_or text 0 0) 45) [
+      | inl minus ↦ same_signed true (drop 1 text) x y (minus_out text x minus s) (minus_out text y minus t)
+      | inr plain ↦ same_signed false text x y (plain_out text x plain s) (plain_out text y plain t)
+    ]

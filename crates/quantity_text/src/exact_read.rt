@@ -1,4 +1,4 @@
-ghost use Rattle.std.specs.Prelude.{◌≡◌, ◌↔◌, ◌<◌, ◌^◌, ℕ, pos, unsigned_abs, IsTrue, IfSome, IfNone, MatchResult, length, slice_index};
+ghost use Rattle.std.specs.Prelude.{◌≡◌, ◌↔◌, ◌<◌, ◌^◌, ℕ, List, pos, unsigned_abs, IsTrue, IfSome, IfNone, MatchResult, length, slice_index};
 ghost use Rattle.ratio.specs.Rational.{ℚ};
 ghost use Rattle.narrow_fraction.specs.Fraction.{FitsFrac};
 ghost use Rattle.quantity_text.specs.Exact.{SpellsExactly, SpellsSigned, SpellsSize, HasParts, denominator_text};
@@ -20,6 +20,11 @@ pub fn parse_exact(text: &[u8]) -> Result<Frac, BadNumber>
         None => Err(BadNumber),
     }
 }
+
+/// The law that no text spells two fractions, so that what `exact_text` wrote is read back as it was.
+pub fn law_one_spelling()
+    ensures { (text : List ℕ) (x y : ℚ) → SpellsExactly text x → SpellsExactly text y → x ≡ y }
+{}
 
 fn exact(text: &[u8]) -> Option<Frac>
     ensures none { IfNone result ((value : ℚ) → SpellsExactly text.now value → ⊥) }

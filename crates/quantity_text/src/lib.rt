@@ -14,7 +14,7 @@ mod quantity;
 
 pub use decimal::decimal_text;
 pub use exact::exact_text;
-pub use exact_read::parse_exact;
+pub use exact_read::{law_one_spelling, parse_exact};
 pub use quantity::{BadNumber, parse_quantity};
 
 #[cfg(test)]
