@@ -152,7 +152,7 @@ fn timings_of_two_signals(rt: HostRuntime) -> Result<(), Fail> {
 }
 
 #[test]
-fn descriptions_that_are_refused(rt: HostRuntime) -> Result<(), Fail> {
+fn descriptions_with_another_line(rt: HostRuntime) -> Result<(), Fail> {
     let rows: &[Row] = &[
         (&[(2, b"units = \"\xff\"")], 3, b"refused NotUtf8 file\n"),
         (&[(1, b"[artery")], 3, b"refused NotToml file\n"),
@@ -184,8 +184,18 @@ fn descriptions_that_are_refused(rt: HostRuntime) -> Result<(), Fail> {
         ),
         (
             &[(2, b"units = \"english\"")],
+            4,
+            b"fails slow out link 1\n",
+        ),
+        (
+            &[(4, b"cycle = [\"+1\", 90]")],
             3,
-            b"refused NotBuilt artery.units\n",
+            b"refused BadNumber artery.cycle[1]\n",
+        ),
+        (
+            &[(1, b"version = 2\n[artery]")],
+            3,
+            b"refused OutOfRange version\n",
         ),
         (
             &[(9, b"red = 100")],
