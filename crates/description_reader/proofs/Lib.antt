@@ -1,4 +1,3 @@
 pub mod Answers
 pub mod Plain
 pub mod Views
-pub mod Digits

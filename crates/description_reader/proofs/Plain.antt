@@ -1,26 +1,25 @@
 -- What is described is plain.
-use Rattle.std.proofs.Common.{◌≡◌, ℕ, ◌+◌, List, [], ◌∷◌, map, true, Option, None, Some, ℤ, refl, ap, arith, rules, Bool, false, pos, codes}
+use Rattle.std.proofs.Common.{◌≡◌, ℕ, ◌+◌, List, [], ◌∷◌, map, true, Option, None, Some, ℤ, refl, sym, arith, rules, Bool, false, pos, codes}
 use Rattle.std.specs.List.{All}
-use Rattle.std.specs.Ordering.{int_eq}
-use Rattle.std.specs.Cmp.{signed_Decides}
 use Rattle.std.proofs.lemmas.List.Elements.{All-cons}
 use Rattle.toml.specs.Data.{Data, get, table, string, integer, float, boolean, datetime, array}
 use Rattle.ratio.specs.Rational.{whole}
+use Rattle.ratio.specs.Compare.{eq_true}
 use Rattle.artery_model.specs.Faults.{Fault, first_fault, unless, each_numbered}
 use Rattle.artery_model.specs.Limits.{artery_fault}
 use Rattle.artery_model.specs.declared.kind.Kind.{Kind}
 use Rattle.artery_model.specs.declared.kind.Kind.TheVariants.{NotBuilt}
 use Rattle.description_reader.specs.Places.{key_place}
-use Rattle.description_reader.specs.declared.demand.Demand.TheVariants.{Absent, Simple, Equal}
+use Rattle.description_reader.specs.declared.demand.Demand.TheVariants.{Absent, Equal}
 use Rattle.description_reader.specs.Values.{if_there, items_in, items_at, items_or_none}
-use Rattle.description_reader.specs.Checks.{bounds_in, are_equal, value_fault, items_fault, both_values, meets}
-use Rattle.description_reader.specs.Judgement.{speeds_built, in_table, artery_fault_in, signal_fault, link_fault, facts_of, stage_tests, value_tests}
+use Rattle.description_reader.specs.Checks.{limits_in, are_equal, value_fault, both_values, meets}
+use Rattle.description_reader.specs.Judgement.{in_table, artery_fault_in, signal_fault, link_fault, facts_of, stage_tests, value_tests}
 use Rattle.description_reader.specs.Streets.{pair_of, pair_at, head_in, signal_in, link_in, street_in, description_fault}
 use Rattle.description_reader.specs.Plain.{IsPlain, IsPlainLink, IsPlainSignal}
-use Rattle.description_reader.specs.declared.values.Bounds.{Bounds}
+use Rattle.progression.specs.declared.parts.Pair.{Pair}
 use Rattle.description_reader.specs.declared.judge.Facts.{Facts}
 use Rattle.description_reader.specs.declared.judge.Stage.{Stage}
-use Rattle.description_reader.specs.declared.judge.Stage.TheVariants.{Keys, Needed, Types, Support, Ranges}
+use Rattle.description_reader.specs.declared.judge.Stage.TheVariants.{Keys, Needed, Types, Support, Numbers, Ranges}
 use Rattle.description_reader.specs.declared.place.Section.{Section}
 use Rattle.description_reader.specs.declared.place.Section.TheVariants.{Root, Link}
 
@@ -33,18 +32,16 @@ pub none_rest : (test : Option Fault) (tests : List (Option Fault)) → first_fa
 none_rest None tests h = h
 none_rest (Some f) tests h = search rules
 
--- of two, three, four and five tests without a fault
+-- of two, three, four and six tests without a fault
 pub second_of_two : (a b : Option Fault) → first_fault (a ∷ b ∷ []) ≡ None → b ≡ None
 second_of_two a b h = none_first b [] (none_rest a (b ∷ []) h)
-
-pub second_of_three : (a b c : Option Fault) → first_fault (a ∷ b ∷ c ∷ []) ≡ None → b ≡ None
-second_of_three a b c h = none_first b (c ∷ []) (none_rest a (b ∷ c ∷ []) h)
 
 pub last_of_four : (a b c d : Option Fault) → first_fault (a ∷ b ∷ c ∷ d ∷ []) ≡ None → d ≡ None
 last_of_four a b c d h = second_of_two c d (none_rest b (c ∷ d ∷ []) (none_rest a (b ∷ c ∷ d ∷ []) h))
 
-pub fourth_of_five : (a b c d e : Option Fault) → first_fault (a ∷ b ∷ c ∷ d ∷ e ∷ []) ≡ None → d ≡ None
-fourth_of_five a b c d e h = second_of_three c d e (none_rest b (c ∷ d ∷ e ∷ []) (none_rest a (b ∷ c ∷ d ∷ e ∷ []) h))
+pub fourth_of_six : (a b c d e f : Option Fault) → first_fault (a ∷ b ∷ c ∷ d ∷ e ∷ f ∷ []) ≡ None → d ≡ None
+fourth_of_six a b c d e f h =
+    none_first d (e ∷ f ∷ []) (none_rest c (d ∷ e ∷ f ∷ []) (none_rest b (c ∷ d ∷ e ∷ f ∷ []) (none_rest a (b ∷ c ∷ d ∷ e ∷ f ∷ []) h)))
 
 -- a test without a fault passed
 pub passed : (b : Bool) (kind : Kind) (place : List ℕ) → unless b kind place ≡ None → b ≡ true
@@ -52,29 +49,38 @@ passed true kind place h = refl
 passed false kind place h = search rules
 
 -- equal numbers make equal limits
-pub equal_limits : (o : Option Bounds) → are_equal o ≡ true → (pair_of o).least ≡ (pair_of o).most
+pub equal_limits : (o : Option Pair) → are_equal o ≡ true → (pair_of o).least ≡ (pair_of o).most
 equal_limits None h = refl
-equal_limits (Some b) h = ap whole (same b.least b.most h) where
-  same : (x y : ℤ) → int_eq x y ≡ true → x ≡ y
-  same x y h = (signed_Decides x y).0 h
+equal_limits (Some limits) h = eq_true limits.least limits.most (sym h)
 
 -- two speeds that passed are equal
-pub equal_speeds : (section : Section) (key : List ℕ) (d : Data) → speeds_built section key d ≡ None → (pair_at d key).least ≡ (pair_at d key).most
-unfolding speeds_built value_fault
-equal_speeds section key d h = at_value (get key d) (second_of_two (items_fault NotBuilt Simple section key d) (value_fault NotBuilt Equal section key d) h) where
+pub equal_speeds : (section : Section) (key : List ℕ) (d : Data) → value_fault NotBuilt Equal section key d ≡ None → (pair_at d key).least ≡ (pair_at d key).most
+unfolding value_fault
+equal_speeds section key d h = at_value (get key d) h where
   at_value : (o : Option Data) → unless (if_there (meets Equal) o) NotBuilt (key_place section key) ≡ None
-      → (pair_of (bounds_in (items_or_none o))).least ≡ (pair_of (bounds_in (items_or_none o))).most
+      → (pair_of (limits_in (items_or_none o))).least ≡ (pair_of (limits_in (items_or_none o))).most
   at_value None h = refl
-  at_value (Some v) h = equal_limits (bounds_in (items_in v)) (passed _ _ _ h)
+  at_value (Some v) h = equal_limits (limits_in (items_in v)) (passed _ _ _ h)
+
+-- the same of both directions
+pub equal_both : (i : ℕ) (d : Data) → both_values NotBuilt Equal (Link i) (codes "speed_out") (codes "speed_in") d ≡ None
+    → ((pair_at d (codes "speed_out")).least ≡ (pair_at d (codes "speed_out")).most) × ((pair_at d (codes "speed_in")).least ≡ (pair_at d (codes "speed_in")).most)
+unfolding both_values
+equal_both i d h =
+    let speed = λ (key : List ℕ). value_fault NotBuilt Equal (Link i) key d in
+    ( equal_speeds (Link i) (codes "speed_out") d (none_first (speed (codes "speed_out")) (speed (codes "speed_in") ∷ []) h)
+    , equal_speeds (Link i) (codes "speed_in") d (second_of_two (speed (codes "speed_out")) (speed (codes "speed_in")) h)
+    )
 
 -- a link without an unsupported value is plain
 pub plain_link : (facts : Facts) (i : ℕ) (d : Data) → link_fault Support facts i d ≡ None → IsPlainLink (link_in d)
 plain_link facts i (table ms) h =
-    let speeds = λ (key : List ℕ). speeds_built (Link i) key (table ms) in
+    let speeds = both_values NotBuilt Equal (Link i) (codes "speed_out") (codes "speed_in") (table ms) in
     let changes = both_values NotBuilt Absent (Link i) (codes "change_out") (codes "change_in") (table ms) in
+    let both = equal_both i (table ms) (none_first speeds (changes ∷ []) h) in
     record {
-      speed_out = equal_speeds (Link i) (codes "speed_out") (table ms) (none_first (speeds (codes "speed_out")) (speeds (codes "speed_in") ∷ changes ∷ []) h);
-      speed_in = equal_speeds (Link i) (codes "speed_in") (table ms) (second_of_three (speeds (codes "speed_out")) (speeds (codes "speed_in")) changes h);
+      speed_out = both.0;
+      speed_in = both.1;
       change_out = refl;
       change_in = refl;
     }
@@ -110,7 +116,8 @@ links_pass d h =
     let facts = facts_of d in
     let values = none_first (first_fault (value_tests d)) (artery_fault (street_in d) ∷ []) h in
     let of_stage = λ (stage : Stage). first_fault (stage_tests stage facts d) in
-    let support : of_stage Support ≡ None = fourth_of_five (of_stage Keys) (of_stage Needed) (of_stage Types) (of_stage Support) (of_stage Ranges) values in
+    let support : of_stage Support ≡ None =
+    fourth_of_six (of_stage Keys) (of_stage Needed) (of_stage Types) (of_stage Support) (of_stage Numbers) (of_stage Ranges) values in
     last_of_four (in_table Support facts Root d) (artery_fault_in Support facts (get (codes "artery") d))
     (first_fault (each_numbered (signal_fault Support facts) 1 (items_at d (codes "signal"))))
     (first_fault (each_numbered (link_fault Support facts) 1 (items_at d (codes "link")))) support

@@ -1,27 +1,43 @@
 -- What a value of a description must be, and the faults of values that aren't.
-use Rattle.std.specs.Prelude.{◌&&◌, ◌||◌, ◌==◌, not, ℕ, List, [], ◌∷◌, length, Bool, true, false, Option, None, Some, is_some, pos, int_lt, int_le, codes}
-use Rattle.std.specs.Ordering.{int_eq}
+use Rattle.std.specs.Prelude.{◌&&◌, ◌||◌, ◌==◌, not, ℕ, List, [], ◌∷◌, length, Bool, true, false, Option, None, Some, is_some, ℤ, pos, int_lt, int_le, codes}
+use Rattle.std.specs.Ordering.{int_eq, eq_by_cmp}
 use Rattle.toml.specs.Data.{Data, get, as_integer, as_str, as_array, as_table}
 use Rattle.artery_model.specs.Faults.{Fault, first_fault, unless, each_numbered}
-use Rattle.artery_model.specs.Limits.{is_name, in_range}
+use Rattle.ratio.specs.Rational.{ℚ, whole}
+use Rattle.ratio.specs.Compare.{cmp_ℚ}
+use Rattle.progression.specs.declared.parts.Pair.{Pair}
+use Rattle.artery_model.specs.Limits.{is_name, in_range, within}
 use Rattle.artery_model.specs.declared.kind.Kind.{Kind}
 use Rattle.artery_model.specs.declared.kind.Kind.TheVariants as kind
-use Rattle.description_reader.specs.Quantity.{is_quantity, is_simple, quantity}
+use Rattle.description_reader.specs.Quantity.{is_quantity, quantity_in, integer_in}
 use Rattle.description_reader.specs.Values.{is_text, has, if_there, items_in, items_at, text_in}
 use Rattle.description_reader.specs.Places.{key_place, item_place}
-use Rattle.description_reader.specs.declared.values.Bounds.{Bounds}
 use Rattle.description_reader.specs.declared.place.Section.{Section}
 use Rattle.description_reader.specs.declared.demand.Demand.{Demand}
 use Rattle.description_reader.specs.declared.demand.Demand.TheVariants as demand
 
--- the numbers of an array of two
-abbrev pub bounds_in : List Data → Option Bounds
-bounds_in (least ∷ most ∷ []) = Some (record { least = quantity least; most = quantity most })
-bounds_in _ = None
+-- two limits, where both are numbers
+abbrev pub limits_of : Option ℚ → Option ℚ → Option Pair
+limits_of (Some least) (Some most) = Some (record { least = least; most = most })
+limits_of _ _ = None
 
-abbrev pub are_equal : Option Bounds → Bool
+-- the two limits in an array of two numbers, none where it holds anything else
+abbrev pub limits_in : List Data → Option Pair
+limits_in (least ∷ most ∷ []) = limits_of (quantity_in least) (quantity_in most)
+limits_in _ = None
+
+abbrev pub are_equal : Option Pair → Bool
 are_equal None = true
-are_equal (Some b) = int_eq b.least b.most
+are_equal (Some limits) = eq_by_cmp cmp_ℚ limits.least limits.most
+
+abbrev pub is_one : Option ℚ → Bool
+is_one None = true
+is_one (Some q) = eq_by_cmp cmp_ℚ q (whole (pos 1))
+
+-- a number keeps to its limits; what is no number is another fault
+abbrev pub is_between : ℤ → ℤ → Option ℚ → Bool
+is_between least most None = true
+is_between least most (Some q) = within (whole least) (whole most) q
 
 -- the value is what it must be
 abbrev pub meets : Demand → Data → Bool
@@ -33,14 +49,14 @@ meets demand.Integer d = is_some (as_integer d)
 meets demand.Text d = is_some (as_str d)
 meets demand.Quantity d = is_quantity d
 meets demand.Absent d = false
-meets demand.NotEnglish d = not (is_text (text_in d) (codes "english"))
-meets demand.Simple d = is_simple d
-meets demand.One d = int_eq (quantity d) (pos 1)
-meets demand.Equal d = are_equal (bounds_in (items_in d))
+meets demand.One d = is_one (quantity_in d)
+meets demand.Equal d = are_equal (limits_in (items_in d))
+meets demand.Number d = is_some (quantity_in d)
 meets demand.Units d = is_text (text_in d) (codes "metric") || is_text (text_in d) (codes "english")
 meets demand.Name d = is_name (text_in d)
-meets (demand.Between least most) d = int_le least (quantity d) && int_le (quantity d) most
-meets (demand.OneToBelow limit) d = int_le (pos 1) (quantity d) && int_lt (quantity d) limit
+meets (demand.Between least most) d = int_le least (integer_in d) && int_le (integer_in d) most
+meets (demand.OneToBelow limit) d = int_le (pos 1) (integer_in d) && int_lt (integer_in d) limit
+meets (demand.Within least most) d = is_between least most (quantity_in d)
 
 -- a needed key is absent
 unfoldable pub missing : Section → List ℕ → Data → Option Fault

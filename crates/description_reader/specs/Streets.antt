@@ -1,5 +1,5 @@
 -- The artery that the values of a description make, with what holds where a key is absent.
-use Rattle.std.specs.Prelude.{ℕ, List, [], ◌∷◌, map, true, Option, None, Some, ℤ, pos, negsuc, nat_lt, codes, if◌then◌else◌}
+use Rattle.std.specs.Prelude.{ℕ, List, [], ◌∷◌, map, true, Option, None, Some, option_map, ℤ, pos, negsuc, nat_lt, codes, if◌then◌else◌}
 use Rattle.toml.specs.Data.{Data, get}
 use Rattle.ratio.specs.Rational.{whole}
 use Rattle.progression.specs.Street.{Street, no_pair}
@@ -7,25 +7,26 @@ use Rattle.progression.specs.declared.parts.Head.{Head}
 use Rattle.progression.specs.declared.parts.Signal.{Signal}
 use Rattle.progression.specs.declared.parts.Link.{Link}
 use Rattle.progression.specs.declared.parts.Pair.{Pair}
-use Rattle.progression.specs.declared.parts.Units.TheVariants.{Metric}
+use Rattle.progression.specs.declared.parts.Units.{Units}
+use Rattle.progression.specs.declared.parts.Units.TheVariants.{Metric, English}
 use Rattle.artery_model.specs.Faults.{Fault, first_fault}
 use Rattle.artery_model.specs.Limits.{artery_fault}
-use Rattle.description_reader.specs.Values.{items_at, text_at, number_at}
-use Rattle.description_reader.specs.Checks.{bounds_in}
+use Rattle.description_reader.specs.Values.{is_text, items_at, text_in, text_at, number_at}
+use Rattle.description_reader.specs.Checks.{limits_in}
 use Rattle.description_reader.specs.Judgement.{value_tests}
-use Rattle.description_reader.specs.declared.values.Bounds.{Bounds}
 
 -- a number of 32 bits, 0 for any other, which is a fault of the description
 abbrev pub small : ℤ → ℕ
 small (pos n) = if nat_lt n 4294967296 then n else 0
 small (negsuc n) = 0
 
-abbrev pub pair_of : Option Bounds → Pair
+abbrev pub pair_of : Option Pair → Pair
 pair_of None = no_pair
-pair_of (Some b) = record { least = whole b.least; most = whole b.most }
+pair_of (Some limits) = limits
 
+-- the two limits at a key, 0 and 0 where they aren't two numbers, which is a fault of the description
 abbrev pub pair_at : Data → List ℕ → Pair
-pair_at d key = pair_of (bounds_in (items_at d key))
+pair_at d key = pair_of (limits_in (items_at d key))
 
 abbrev pub signal_in : Data → Signal
 signal_in d = record {
@@ -48,12 +49,29 @@ link_in d = record {
   change_in = None;
 }
 
-abbrev pub head_of : ℕ → Pair → Head
-head_of parts cycle = record { name = None; units = Metric; parts = parts; cycle = cycle; ratio = whole (pos 1) }
+-- a name, where one is given
+abbrev pub name_at : Data → Option (List ℕ)
+name_at d = option_map text_in (get (codes "name") d)
+
+-- any other text than the two is a fault of the description
+abbrev pub units_of : List ℕ → Units
+units_of text = if is_text text (codes "english") then English else Metric
+
+abbrev pub no_head : Head
+no_head = record { name = None; units = Metric; parts = 0; cycle = no_pair; ratio = whole (pos 1) }
+
+abbrev pub head_of : Data → Head
+head_of d = record {
+  name = name_at d;
+  units = units_of (text_at d (codes "units"));
+  parts = small (number_at d (codes "parts"));
+  cycle = pair_at d (codes "cycle");
+  ratio = whole (pos 1);
+}
 
 abbrev pub head_in : Option Data → Head
-head_in None = head_of 0 no_pair
-head_in (Some artery) = head_of (small (number_at artery (codes "parts"))) (pair_at artery (codes "cycle"))
+head_in None = no_head
+head_in (Some artery) = head_of artery
 
 abbrev pub street_in : Data → Street
 street_in root = record {

@@ -2,7 +2,7 @@
 use Rattle.std.specs.Prelude.{ℕ, List, [], ◌∷◌, Option, None, Some, Bool, true, is_some, ℤ, pos, nat_eq}
 use Rattle.std.specs.Cmp.Lexicographic.{pointwise}
 use Rattle.toml.specs.Data.{Data, array, string, table, Items, no_items, item, Members, no_members, member, get}
-use Rattle.description_reader.specs.Quantity.{quantity}
+use Rattle.description_reader.specs.Quantity.{integer_in}
 
 -- two texts have the same bytes
 abbrev pub is_text : List ℕ → List ℕ → Bool
@@ -45,10 +45,10 @@ text_or_none (Some d) = text_in d
 abbrev pub text_at : Data → List ℕ → List ℕ
 text_at d key = text_or_none (get key d)
 
--- the number of a value, 0 where there is none
+-- the integer at a key, 0 where there is none
 abbrev pub number_or_zero : Option Data → ℤ
 number_or_zero None = pos 0
-number_or_zero (Some d) = quantity d
+number_or_zero (Some d) = integer_in d
 
 abbrev pub number_at : Data → List ℕ → ℤ
 number_at d key = number_or_zero (get key d)

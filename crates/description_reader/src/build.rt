@@ -4,9 +4,9 @@ ghost use Rattle.std.specs.Prelude.{◌≡◌, map, option_map, codes, IfOk};
 ghost use Rattle.toml.specs.Data.{get};
 ghost use Rattle.toml.specs.View.{view};
 ghost use Rattle.progression.specs.Street.{no_pair};
-ghost use Rattle.description_reader.specs.Streets.{small, pair_at, signal_in, link_in, head_of, head_in};
+ghost use Rattle.description_reader.specs.Streets.{small, pair_at, name_at, units_of, no_head, head_of, head_in, signal_in, link_in};
 
-use crate::values::{bounds_in, items_at, number_at, text_at, value_at};
+use crate::values::{items_at, limits_in, number_at, text_at, text_in, value_at};
 use artery_model::{Head, Link, Pair, Signal, Text, Units};
 use narrow_fraction::Frac;
 use std::alloc::{AllocError, Global};
@@ -36,34 +36,66 @@ fn no_pair() -> Pair
 fn pair_at(table: &Value, key: &str) -> Pair
     ensures { result ≡ pair_at (view table.now) key.now }
 {
-    match bounds_in(items_at(table, key)) {
-        Some(bounds) => Pair {
-            least: Frac::whole(bounds.least),
-            most: Frac::whole(bounds.most),
-        },
+    match limits_in(items_at(table, key)) {
+        Some(limits) => limits,
         None => no_pair(),
     }
 }
 
-fn head_of(parts: u32, cycle: Pair) -> Head
-    ensures { result ≡ head_of parts cycle }
+/// The name in a table, where there is one.
+fn name_at(alloc: Global, table: &Value) -> Result<Option<Text>, AllocError>
+    ensures { IfOk result (λ n. n ≡ name_at (view table.now)) }
+{
+    match value_at(table, "name") {
+        Some(found) => {
+            let name = String::from_str(alloc, text_in(found))?;
+            Ok(Some(Text::from(name)))
+        }
+        None => Ok(None),
+    }
+}
+
+fn units_of(text: &str) -> Units
+    ensures { result ≡ units_of text.now }
+{
+    if text == "english" {
+        Units::English
+    } else {
+        Units::Metric
+    }
+}
+
+fn no_head() -> Head
+    ensures { result ≡ no_head }
 {
     Head {
         name: None,
         units: Units::Metric,
-        parts,
-        cycle,
+        parts: 0,
+        cycle: no_pair(),
         ratio: Frac::whole(1),
     }
 }
 
+fn head_of(alloc: Global, table: &Value) -> Result<Head, AllocError>
+    ensures { IfOk result (λ h. h ≡ head_of (view table.now)) }
+{
+    Ok(Head {
+        name: name_at(alloc, table)?,
+        units: units_of(text_at(table, "units")),
+        parts: small(number_at(table, "parts")),
+        cycle: pair_at(table, "cycle"),
+        ratio: Frac::whole(1),
+    })
+}
+
 /// What holds of the whole artery.
-pub fn head_in(root: &Value) -> Head
-    ensures { result ≡ head_in (get (codes "artery") (view root.now)) }
+pub fn head_in(alloc: Global, root: &Value) -> Result<Head, AllocError>
+    ensures { IfOk result (λ h. h ≡ head_in (get (codes "artery") (view root.now))) }
 {
     match value_at(root, "artery") {
-        Some(artery) => head_of(small(number_at(artery, "parts")), pair_at(artery, "cycle")),
-        None => head_of(0, no_pair()),
+        Some(artery) => head_of(alloc, artery),
+        None => Ok(no_head()),
     }
 }
 

@@ -3,12 +3,15 @@
 ghost use Rattle.std.specs.Prelude.{◌≡◌, ◌&&◌, ◌==◌, not, nat_le, codes};
 ghost use Rattle.std.specs.List.{list_all};
 ghost use Rattle.toml.specs.View.{view};
-ghost use Rattle.artery_model.specs.Limits.{is_name};
+ghost use Rattle.ratio.specs.Rational.{whole};
+ghost use Rattle.artery_model.specs.Limits.{is_name, within};
 ghost use Rattle.description_reader.specs.Values.{items_in};
-ghost use Rattle.description_reader.specs.Checks.{meets, are_equal, bounds_in};
+ghost use Rattle.description_reader.specs.Checks.{meets, are_equal, limits_in, is_one, is_between};
 
-use crate::quantity::{is_quantity, is_simple, quantity};
-use crate::values::{bounds_in, items_in, text_in};
+use crate::quantity::{integer_in, is_quantity, quantity_in};
+use crate::values::{items_in, limits_in, text_in};
+use artery_model::Pair;
+use narrow_fraction::Frac;
 use toml::Value;
 
 /// What a value of a description must be.
@@ -26,22 +29,22 @@ pub enum Demand {
     Quantity,
     /// Nothing: no value may stand here.
     Absent,
-    /// A text other than `english`.
-    NotEnglish,
-    /// No text but 1 to 18 digits.
-    Simple,
-    /// The number 1.
+    /// No number but 1.
     One,
-    /// A pair of equal numbers.
+    /// No pair of different numbers.
     Equal,
+    /// A number, and no text outside the grammar of quantities.
+    Number,
     /// `metric` or `english`.
     Units,
     /// A text of 1 to 60 bytes without control characters.
     Name,
-    /// A number from the first to the second.
+    /// An integer from the first to the second.
     Between(i64, i64),
-    /// A number from 1 on and below this.
+    /// An integer from 1 on and below this.
     OneToBelow(i64),
+    /// A quantity from the first to the second, of a bounded numerator and denominator.
+    Within(i64, i64),
 }
 
 fn has_no_control(bytes: &[u8]) -> bool
@@ -57,12 +60,43 @@ fn is_name(text: &str) -> bool
     1 <= size && size <= 60 && has_no_control(text.as_bytes())
 }
 
-/// Whether the numbers of an array of two are equal.
-fn has_equal_bounds(value: &Value) -> bool
-    ensures { result ≡ are_equal (bounds_in (items_in (view value.now))) }
+/// Whether two limits, where there are two, are equal.
+fn are_equal(limits: Option<Pair>) -> bool
+    ensures { result ≡ are_equal limits }
 {
-    match bounds_in(items_in(value)) {
-        Some(bounds) => bounds.least == bounds.most,
+    match limits {
+        Some(limits) => limits.least == limits.most,
+        None => true,
+    }
+}
+
+/// Whether a number, where there is one, is 1.
+fn is_one(number: Option<Frac>) -> bool
+    ensures { result ≡ is_one number }
+{
+    match number {
+        Some(value) => value == Frac::whole(1),
+        None => true,
+    }
+}
+
+/// Whether a quantity lies between two whole numbers, its numerator and denominator being of a
+/// bounded size.
+fn is_within(low: i64, high: i64, value: Frac) -> bool
+    ensures { result ≡ within (whole low) (whole high) value }
+{
+    value.num().unsigned_abs() <= 100_000
+        && value.den().unsigned_abs() <= 1000
+        && Frac::whole(low) <= value
+        && value <= Frac::whole(high)
+}
+
+/// Whether a number, where there is one, keeps to its limits.
+fn is_between(low: i64, high: i64, number: Option<Frac>) -> bool
+    ensures { result ≡ is_between low high number }
+{
+    match number {
+        Some(value) => is_within(low, high, value),
         None => true,
     }
 }
@@ -83,13 +117,13 @@ pub fn meets(demand: Demand, value: &Value) -> bool
         Demand::Text => value.is_str(),
         Demand::Quantity => is_quantity(value),
         Demand::Absent => false,
-        Demand::NotEnglish => text_in(value) != "english",
-        Demand::Simple => is_simple(value),
-        Demand::One => quantity(value) == 1,
-        Demand::Equal => has_equal_bounds(value),
+        Demand::One => is_one(quantity_in(value)),
+        Demand::Equal => are_equal(limits_in(items_in(value))),
+        Demand::Number => quantity_in(value).is_some(),
         Demand::Units => text_in(value) == "metric" || text_in(value) == "english",
         Demand::Name => is_name(text_in(value)),
-        Demand::Between(least, most) => least <= quantity(value) && quantity(value) <= most,
-        Demand::OneToBelow(limit) => 1 <= quantity(value) && quantity(value) < limit,
+        Demand::Between(least, most) => least <= integer_in(value) && integer_in(value) <= most,
+        Demand::OneToBelow(limit) => 1 <= integer_in(value) && integer_in(value) < limit,
+        Demand::Within(least, most) => is_between(least, most, quantity_in(value)),
     }
 }

@@ -8,6 +8,7 @@ ghost use Rattle.description_reader.specs.Judgement.{table_fault, in_table, arte
 
 use crate::keys::check_keys;
 use crate::needed::check_table_needed;
+use crate::numbers::check_numbers;
 use crate::place::Section;
 use crate::ranges::check_ranges;
 use crate::support::check_support;
@@ -28,6 +29,8 @@ pub enum Stage {
     Types,
     /// Keys and values that are not supported yet.
     Support,
+    /// Quantities that are no numbers.
+    Numbers,
     /// Values outside their limits.
     Ranges,
 }
@@ -55,6 +58,7 @@ fn check_table(
         Stage::Needed => check_table_needed(alloc, section, table),
         Stage::Types => check_types(alloc, section, table),
         Stage::Support => check_support(alloc, section, table),
+        Stage::Numbers => check_numbers(alloc, section, table),
         Stage::Ranges => check_ranges(alloc, facts.parts, section, table),
     }
 }
@@ -145,5 +149,6 @@ pub fn check_values(alloc: Global, root: &Value) -> Result<(), Flaw>
     check_stage(alloc, Stage::Needed, facts, root)?;
     check_stage(alloc, Stage::Types, facts, root)?;
     check_stage(alloc, Stage::Support, facts, root)?;
+    check_stage(alloc, Stage::Numbers, facts, root)?;
     check_stage(alloc, Stage::Ranges, facts, root)
 }

@@ -14,6 +14,7 @@ mod demand;
 mod judge;
 mod keys;
 mod needed;
+mod numbers;
 mod place;
 mod quantity;
 mod ranges;

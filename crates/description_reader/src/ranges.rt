@@ -20,6 +20,14 @@ fn check_root(alloc: Global, table: &Value) -> Result<(), Flaw>
     check_value(
         alloc,
         Kind::OutOfRange,
+        Demand::Between(1, 1),
+        section,
+        "version",
+        table,
+    )?;
+    check_value(
+        alloc,
+        Kind::OutOfRange,
         Demand::TwoToSixteen,
         section,
         "signal",
@@ -31,6 +39,14 @@ fn check_artery(alloc: Global, table: &Value) -> Result<(), Flaw>
     ensures { Judges result (first_fault (ranges (pos 0) Artery (view table.now))) }
 {
     let section = Section::Artery;
+    check_value(
+        alloc,
+        Kind::OutOfRange,
+        Demand::Name,
+        section,
+        "name",
+        table,
+    )?;
     check_value(
         alloc,
         Kind::OutOfRange,
@@ -50,7 +66,7 @@ fn check_artery(alloc: Global, table: &Value) -> Result<(), Flaw>
     check_items(
         alloc,
         Kind::OutOfRange,
-        Demand::Between(1, 3600),
+        Demand::Within(1, 3600),
         section,
         "cycle",
         table,
@@ -95,7 +111,7 @@ fn check_link(alloc: Global, number: usize, table: &Value) -> Result<(), Flaw>
     check_both_items(
         alloc,
         Kind::OutOfRange,
-        Demand::Between(1, 300),
+        Demand::Within(1, 300),
         section,
         "speed_out",
         "speed_in",

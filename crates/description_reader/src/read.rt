@@ -42,13 +42,16 @@ fn build(alloc: Global, root: &Value) -> Result<Artery, Flaw>
     ensures made { IfOk result (λ a. a ≡ street_in (view root.now)) }
     ensures judged { Judges result (artery_fault (street_in (view root.now))) }
 {
+    let Ok(head) = head_in(alloc, root) else {
+        return Err(Flaw::Memory);
+    };
     let Ok(signals) = signals_in(alloc, items_at(root, "signal")) else {
         return Err(Flaw::Memory);
     };
     let Ok(links) = links_in(alloc, items_at(root, "link")) else {
         return Err(Flaw::Memory);
     };
-    Artery::new(alloc, head_in(root), signals, links)
+    Artery::new(alloc, head, signals, links)
 }
 
 /// The artery of a document, or its first fault.

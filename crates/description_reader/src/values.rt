@@ -3,10 +3,12 @@
 ghost use Rattle.std.specs.Prelude.{◌≡◌, option_map, map, codes};
 ghost use Rattle.toml.specs.Data.{get};
 ghost use Rattle.toml.specs.View.{view};
-ghost use Rattle.description_reader.specs.Checks.{bounds_in};
+ghost use Rattle.description_reader.specs.Checks.{limits_of, limits_in};
 ghost use Rattle.description_reader.specs.Values.{has, items_in, items_at, text_in, text_at, number_at};
 
-use crate::quantity::quantity;
+use crate::quantity::{integer_in, quantity_in};
+use artery_model::Pair;
+use narrow_fraction::Frac;
 use toml::Value;
 
 /// The value at a key.
@@ -64,32 +66,32 @@ pub fn text_at<'a>(value: &'a Value, key: &str) -> &'a str
     }
 }
 
-/// The number at a key, 0 where there is none.
+/// The integer at a key, 0 where there is none.
 pub fn number_at(value: &Value, key: &str) -> i64
     ensures { result ≡ number_at (view value.now) key.now }
 {
     match value_at(value, key) {
-        Some(found) => quantity(found),
+        Some(found) => integer_in(found),
         None => 0,
     }
 }
 
-/// The numbers of an array of two.
-#[derive(Clone, Copy, Debug)]
-pub struct Bounds {
-    pub least: i64,
-    pub most: i64,
+/// Two limits, where both are numbers.
+fn limits_of(least: Option<Frac>, most: Option<Frac>) -> Option<Pair>
+    ensures { result ≡ limits_of least most }
+{
+    match (least, most) {
+        (Some(least), Some(most)) => Some(Pair { least, most }),
+        _ => None,
+    }
 }
 
-/// The numbers of an array of two, nothing where there are fewer or more.
-pub fn bounds_in(items: &[Value]) -> Option<Bounds>
-    ensures { result ≡ bounds_in (map view items.now) }
+/// The two limits in an array of two numbers, none where it holds anything else.
+pub fn limits_in(items: &[Value]) -> Option<Pair>
+    ensures { result ≡ limits_in (map view items.now) }
 {
     match items {
-        [least, most] => Some(Bounds {
-            least: quantity(least),
-            most: quantity(most),
-        }),
+        [least, most] => limits_of(quantity_in(least), quantity_in(most)),
         _ => None,
     }
 }
