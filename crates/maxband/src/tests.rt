@@ -40,6 +40,10 @@ band 100 100
 end
 ";
 
+/// A number of 100 digits.
+const LONG: &[u8] =
+    b"grid 1111111111222222222233333333334444444444555555555566666666667777777777888888888899999999990000000000";
+
 const HOLDS: &[u8] = b"holds\nweighted 1\n";
 
 /// A text with some of its lines, counted from 1, replaced.
@@ -89,8 +93,6 @@ type Row<'a> = (&'a [(usize, &'a [u8])], u8, &'a [u8]);
 
 #[test]
 fn timings_of_two_signals(rt: HostRuntime) -> Result<(), Fail> {
-    let long =
-        b"grid 1111111111222222222233333333334444444444555555555566666666667777777777888888888899999999990000000000";
     let rows: &[Row] = &[
         (&[], 0, HOLDS),
         (&[(4, b"pattern 4 2")], 0, HOLDS),
@@ -134,7 +136,7 @@ fn timings_of_two_signals(rt: HostRuntime) -> Result<(), Fail> {
             3,
             b"refused BadText line 5 Shape\n",
         ),
-        (&[(2, long)], 3, b"refused BadText line 2 Number\n"),
+        (&[(2, LONG)], 3, b"refused BadText line 2 Number\n"),
         (&[(10, b"end\nend")], 3, b"refused BadText line 11 Shape\n"),
     ];
     for (lines, number, written) in rows {
