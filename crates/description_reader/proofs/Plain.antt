@@ -1,5 +1,5 @@
 -- What is described is plain.
-use Rattle.std.proofs.Common.{◌≡◌, ℕ, ◌+◌, List, [], ◌∷◌, map, true, Option, None, Some, ℤ, refl, sym, arith, rules, Bool, false, pos, codes}
+use Rattle.std.proofs.Common.{◌≡◌, ℕ, ◌+◌, List, [], ◌∷◌, map, true, Option, None, Some, refl, sym, arith, rules, Bool, false, pos, codes}
 use Rattle.std.specs.List.{All}
 use Rattle.std.proofs.lemmas.List.Elements.{All-cons}
 use Rattle.toml.specs.Data.{Data, get, table, string, integer, float, boolean, datetime, array}
@@ -67,9 +67,9 @@ pub equal_both : (i : ℕ) (d : Data) → both_values NotBuilt Equal (Link i) (c
     → ((pair_at d (codes "speed_out")).least ≡ (pair_at d (codes "speed_out")).most) × ((pair_at d (codes "speed_in")).least ≡ (pair_at d (codes "speed_in")).most)
 unfolding both_values
 equal_both i d h =
-    let speed = λ (key : List ℕ). value_fault NotBuilt Equal (Link i) key d in
-    ( equal_speeds (Link i) (codes "speed_out") d (none_first (speed (codes "speed_out")) (speed (codes "speed_in") ∷ []) h)
-    , equal_speeds (Link i) (codes "speed_in") d (second_of_two (speed (codes "speed_out")) (speed (codes "speed_in")) h)
+    let speed = λ (key : List ℕ). value_fault NotBuilt Equal (Link i) key d in (
+      equal_speeds (Link i) (codes "speed_out") d (none_first (speed (codes "speed_out")) (speed (codes "speed_in") ∷ []) h),
+      equal_speeds (Link i) (codes "speed_in") d (second_of_two (speed (codes "speed_out")) (speed (codes "speed_in")) h),
     )
 
 -- a link without an unsupported value is plain

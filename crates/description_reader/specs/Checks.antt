@@ -1,6 +1,6 @@
 -- What a value of a description must be, and the faults of values that aren't.
-use Rattle.std.specs.Prelude.{◌&&◌, ◌||◌, ◌==◌, not, ℕ, List, [], ◌∷◌, length, Bool, true, false, Option, None, Some, is_some, ℤ, pos, int_lt, int_le, codes}
-use Rattle.std.specs.Ordering.{int_eq, eq_by_cmp}
+use Rattle.std.specs.Prelude.{◌&&◌, ◌||◌, ◌==◌, ℕ, List, [], ◌∷◌, length, Bool, true, false, Option, None, Some, is_some, ℤ, pos, int_lt, int_le, codes}
+use Rattle.std.specs.Ordering.{eq_by_cmp}
 use Rattle.toml.specs.Data.{Data, get, as_integer, as_str, as_array, as_table}
 use Rattle.artery_model.specs.Faults.{Fault, first_fault, unless, each_numbered}
 use Rattle.ratio.specs.Rational.{ℚ, whole}
