@@ -1,9 +1,11 @@
 # make             builds the program
 # make example     builds it and runs a shipped example
 # make test        proves everything and runs every test
+# make bench       times the program, and fractions beside plain Rust
 # make install     puts the program under PREFIX (/usr/local)
 PREFIX ?= /usr/local
 PROGRAM = crates/maxband/out/maxband
+FRACTIONS = crates/fraction_bench/out/fraction_bench
 SOURCES = crates.txt $(wildcard crates/*/src/*.rt crates/*/specs/*.antt crates/*/proofs/*.antt)
 
 all: $(PROGRAM)
@@ -20,8 +22,13 @@ example: $(PROGRAM)
 test:
 	rt ci
 
-bench: $(PROGRAM)
+bench: $(PROGRAM) $(FRACTIONS)
 	scripts/bench
+
+$(FRACTIONS): $(SOURCES)
+	rm -f $@
+	cd crates/fraction_bench && rt run >/dev/null
+	test -x $@
 
 install: $(PROGRAM)
 	install -D -m 755 $(PROGRAM) $(DESTDIR)$(PREFIX)/bin/maxband
