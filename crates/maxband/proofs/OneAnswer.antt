@@ -6,7 +6,7 @@ use Rattle.progression.specs.Street.{Street}
 use Rattle.progression.specs.Plan.{Plan}
 use Rattle.progression.specs.Good.{Good}
 use Rattle.progression.specs.Best.{weighted_band}
-use Rattle.artery_model.specs.Faults.{Fault, fault_of}
+use Rattle.artery_model.specs.Faults.{fault_of}
 use Rattle.artery_model.specs.declared.kind.Refusal.{Refusal}
 use Rattle.description_reader.specs.Described as described
 use Rattle.description_reader.specs.Described.{RefusedAs}
@@ -15,10 +15,10 @@ use Rattle.plan_text.specs.declared.fault.BadText.{BadText}
 use Rattle.time_space.specs.Failing.{FailsRulesOut}
 use Rattle.time_space.specs.FirstFailing.{OneFirst, IsFirstFailing}
 use Rattle.time_space.specs.declared.failing.Failing.{Failing}
-use Rattle.maxband.specs.Command.{Form, Hold}
+use Rattle.maxband.specs.Command.{Hold}
 use Rattle.maxband.specs.Lines.{holds_lines, end_lines}
-use Rattle.maxband.specs.Hold.{limit, NotRead, ReadsArtery, FirstEnds, ReadsTiming, SecondEnds, Holds, HoldEnds}
-use Rattle.maxband.specs.Run.{HoldAnswers, Answers, IsReached, AreTold, OneAnswer}
+use Rattle.maxband.specs.Hold.{limit, ReadsArtery, FirstEnds, ReadsTiming, SecondEnds}
+use Rattle.maxband.specs.Run.{HoldAnswers, IsReached, OneAnswer}
 use Rattle.maxband.specs.declared.cause.Cause.{Cause}
 use Rattle.maxband.specs.declared.cause.Cause.TheVariants as cause
 

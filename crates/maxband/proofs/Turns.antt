@@ -1,13 +1,12 @@
 -- What a file's bytes say, said of what the file holds.
-use Rattle.std.proofs.Common.{◌≡◌, ℕ, ◌+◌, ◌-◌, ◌^◌, ◌≤◌, min, List, length, Option, Some, None, Ok, Err, ◌⊎◌, inl, inr, sym, subst, arith}
+use Rattle.std.proofs.Common.{◌≡◌, ℕ, ◌≤◌, List, length, Option, Some, None, inl, inr, subst, arith}
 use Rattle.progression.specs.Street.{Street}
-use Rattle.progression.specs.Plan.{Plan}
 use Rattle.artery_model.specs.Faults.{fault_of}
 use Rattle.artery_model.specs.declared.kind.Flaw.TheVariants as flaw
 use Rattle.artery_model.specs.declared.kind.Refusal.{Refusal}
 use Rattle.outer_edge.specs.Counts.{Rose}
 use Rattle.description_reader.specs.Described.{Described, RefusedAs, Refuses}
-use Rattle.maxband.specs.Hold.{limit, IsWithinLimit, NotRead, ReadsArtery, FirstEnds, ReadsTiming, SecondEnds, HoldEnds}
+use Rattle.maxband.specs.Hold.{limit, IsWithinLimit, NotRead, ReadsArtery, FirstEnds, SecondEnds, HoldEnds}
 use Rattle.maxband.specs.declared.cause.Cause.{Cause}
 use Rattle.maxband.specs.declared.cause.Cause.TheVariants as cause
 

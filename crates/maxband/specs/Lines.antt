@@ -1,5 +1,5 @@
 -- The lines of each answer.
-use Rattle.std.specs.Prelude.{ℕ, ◌==◌, List, [], ◌∷◌, ◌++◌, ℤ, codes, if◌then◌else◌}
+use Rattle.std.specs.Prelude.{ℕ, ◌==◌, List, [], ◌++◌, codes, if◌then◌else◌}
 use Rattle.std.specs.Fmt.{decimal, signed_decimal}
 use Rattle.ratio.specs.Rational.{ℚ}
 use Rattle.quantity_text.specs.Exact.{exact_spelling}

@@ -41,10 +41,7 @@ fn artery_of<F: Files>(alloc: Global, files: &mut F, name: &str) -> Result<Arter
     ensures reads { NoneFell (F.read_faults files.old) (F.read_faults files.new) }
     ensures puts { SameCounts (F.put_faults files.old) (F.put_faults files.new) }
 {
-    let bytes = match bytes_of(alloc, files, name, 1) {
-        Ok(bytes) => bytes,
-        Err(cause) => return Err(cause),
-    };
+    let bytes = bytes_of(alloc, files, name, 1)?;
     match read_artery(alloc, bytes.as_slice()) {
         Ok(artery) => Ok(artery),
         Err(Flaw::Refused(refusal)) => Err(Cause::Refused(refusal)),
@@ -60,10 +57,7 @@ fn timing_of<F: Files>(alloc: Global, files: &mut F, name: &str) -> Result<Timin
     ensures reads { NoneFell (F.read_faults files.old) (F.read_faults files.new) }
     ensures puts { SameCounts (F.put_faults files.old) (F.put_faults files.new) }
 {
-    let bytes = match bytes_of(alloc, files, name, 2) {
-        Ok(bytes) => bytes,
-        Err(cause) => return Err(cause),
-    };
+    let bytes = bytes_of(alloc, files, name, 2)?;
     match read_timing(alloc, bytes.as_slice()) {
         Ok(timing) => Ok(timing),
         Err(TextEnd::Bad(bad)) => Err(Cause::BadText(bad)),
@@ -85,14 +79,8 @@ pub fn hold<F: Files>(
     ensures reads { NoneFell (F.read_faults files.old) (F.read_faults files.new) }
     ensures puts { SameCounts (F.put_faults files.old) (F.put_faults files.new) }
 {
-    let artery = match artery_of(alloc, files, artery) {
-        Ok(artery) => artery,
-        Err(cause) => return Err(cause),
-    };
-    let timing = match timing_of(alloc, files, timing) {
-        Ok(timing) => timing,
-        Err(cause) => return Err(cause),
-    };
+    let artery = artery_of(alloc, files, artery)?;
+    let timing = timing_of(alloc, files, timing)?;
     match holds(&artery, &timing) {
         Ok(()) => Ok(value(&artery, &timing)),
         Err(failing) => Err(Cause::Fails(failing)),
