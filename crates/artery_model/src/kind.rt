@@ -15,8 +15,6 @@ pub enum Kind {
     Missing,
     /// A value has another type.
     WrongType,
-    /// The key or the value is not supported yet.
-    NotBuilt,
     /// A text is not a number.
     BadNumber,
     /// A value lies outside its limits.

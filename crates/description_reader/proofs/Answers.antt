@@ -1,13 +1,11 @@
 -- What a reading's parts say together.
-use Rattle.std.proofs.Common.{◌≡◌, ℕ, List, Result, Ok, Err, None, IfOk, subst, sym, ◌∙◌, ap}
+use Rattle.std.proofs.Common.{◌≡◌, ℕ, List, Result, Ok, Err, None, IfOk, subst, ◌∙◌, ap}
 use Rattle.toml.specs.Data.{Data}
 use Rattle.progression.specs.Street.{Street}
 use Rattle.artery_model.specs.Faults.{Judges}
 use Rattle.artery_model.specs.declared.kind.Flaw.{Flaw}
 use Rattle.description_reader.specs.Streets.{street_in, description_fault}
 use Rattle.description_reader.specs.Described.{ReadsAs, Described}
-use Rattle.description_reader.specs.Plain.{IsPlain}
-use Rattle.description_reader.proofs.Plain.{plain_street}
 
 -- an artery made of a document without a fault is described
 pub described_of : (x : List ℕ) (d : Data) (r : Result Street Flaw) → ReadsAs x d → IfOk r (λ a. a ≡ street_in d) → Judges r (description_fault d)
@@ -20,8 +18,3 @@ described_of x d (Ok a) reads made judged = record {
   is = made ∙ ap street_in reads.is;
 }
 described_of x d (Err e) reads made judged = tt
-
--- and it is plain
-pub plain_of : (d : Data) (r : Result Street Flaw) → IfOk r (λ a. a ≡ street_in d) → Judges r (description_fault d) → IfOk r IsPlain
-plain_of d (Ok a) made judged = subst IsPlain (sym made) (plain_street d judged)
-plain_of d (Err e) made judged = tt

@@ -1,3 +1,12 @@
 pub mod Answers
-pub mod Plain
+pub mod CanonicalAnswers
+pub mod CanonicalDepth
+pub mod CanonicalFaults
+pub mod CanonicalKeys
+pub mod CanonicalLimits
+pub mod CanonicalStreet
+pub mod CanonicalTables
+pub mod CanonicalTests
+pub mod CanonicalTexts
+pub mod CanonicalValues
 pub mod Views

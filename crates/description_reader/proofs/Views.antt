@@ -1,11 +1,14 @@
 -- TOML values beside what is read from them.
-use Rattle.std.proofs.Common.{◌≡◌, List, [], ◌∷◌, refl, ap, map, String, Global, string_bytes}
+use Rattle.std.proofs.Common.{◌≡◌, ℕ, List, [], ◌∷◌, ◌||◌, refl, ap, map, pos, int_eq, String, Global, string_bytes}
+use Rattle.std.specs.List.{list_any}
 use Rattle.std.specs.Map.{keys_of}
 use Rattle.std.proofs.Common.{BTreeMap}
 use Rattle.toml.proofs.Views.{view-Table}
 use Rattle.toml.specs.Data.{Data, table}
 use Rattle.toml.specs.View.{view, table_view, members_view, items_of}
 use Rattle.toml.specs.declared.value.Value.{Value, Table}
+use Rattle.description_reader.specs.Quantity.{integer_in}
+use Rattle.description_reader.specs.Streets.{names}
 use Rattle.description_reader.specs.Values.{keys_of_members, list_of}
 
 -- the keys that a map's iterator gives are those of the table
@@ -21,3 +24,8 @@ list_of_items (d ∷ ds) = ap (λ xs. d ∷ xs) (list_of_items ds)
 -- the data of a table as a value
 pub view_of_table : (m : BTreeMap (String Global) Value) → view (Table m) ≡ table (table_view m)
 view_of_table m = view-Table m
+
+-- a number stands among values where it stands among their data
+pub names_of_views : (vs : List Value) (p : ℕ) → list_any (λ v. int_eq (integer_in (view v)) (pos p)) vs ≡ names (map view vs) p
+names_of_views [] p = refl
+names_of_views (v ∷ vs) p = ap (λ b. int_eq (integer_in (view v)) (pos p) || b) (names_of_views vs p)

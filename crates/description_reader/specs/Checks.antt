@@ -1,10 +1,8 @@
 -- What a value of a description must be, and the faults of values that aren't.
-use Rattle.std.specs.Prelude.{◌&&◌, ◌||◌, ◌==◌, ℕ, List, [], ◌∷◌, length, Bool, true, false, Option, None, Some, is_some, ℤ, pos, int_lt, int_le, codes}
-use Rattle.std.specs.Ordering.{eq_by_cmp}
+use Rattle.std.specs.Prelude.{◌&&◌, ◌||◌, ◌==◌, ℕ, List, [], ◌∷◌, length, Bool, true, Option, None, Some, is_some, ℤ, int_lt, int_le, codes}
 use Rattle.toml.specs.Data.{Data, get, as_integer, as_str, as_array, as_table}
 use Rattle.artery_model.specs.Faults.{Fault, first_fault, unless, each_numbered}
 use Rattle.ratio.specs.Rational.{ℚ, whole}
-use Rattle.ratio.specs.Compare.{cmp_ℚ}
 use Rattle.progression.specs.declared.parts.Pair.{Pair}
 use Rattle.artery_model.specs.Limits.{is_name, in_range, within}
 use Rattle.artery_model.specs.declared.kind.Kind.{Kind}
@@ -26,14 +24,6 @@ abbrev pub limits_in : List Data → Option Pair
 limits_in (least ∷ most ∷ []) = limits_of (quantity_in least) (quantity_in most)
 limits_in _ = None
 
-abbrev pub are_equal : Option Pair → Bool
-are_equal None = true
-are_equal (Some limits) = eq_by_cmp cmp_ℚ limits.least limits.most
-
-abbrev pub is_one : Option ℚ → Bool
-is_one None = true
-is_one (Some q) = eq_by_cmp cmp_ℚ q (whole (pos 1))
-
 -- a number keeps to its limits; what is no number is another fault
 abbrev pub is_between : ℤ → ℤ → Option ℚ → Bool
 is_between least most None = true
@@ -48,14 +38,11 @@ meets demand.TwoToSixteen d = in_range 2 16 (length (items_in d))
 meets demand.Integer d = is_some (as_integer d)
 meets demand.Text d = is_some (as_str d)
 meets demand.Quantity d = is_quantity d
-meets demand.Absent d = false
-meets demand.One d = is_one (quantity_in d)
-meets demand.Equal d = are_equal (limits_in (items_in d))
 meets demand.Number d = is_some (quantity_in d)
 meets demand.Units d = is_text (text_in d) (codes "metric") || is_text (text_in d) (codes "english")
 meets demand.Name d = is_name (text_in d)
 meets (demand.Between least most) d = int_le least (integer_in d) && int_le (integer_in d) most
-meets (demand.OneToBelow limit) d = int_le (pos 1) (integer_in d) && int_lt (integer_in d) limit
+meets (demand.FromBelow least limit) d = int_le least (integer_in d) && int_lt (integer_in d) limit
 meets (demand.Within least most) d = is_between least most (quantity_in d)
 
 -- a needed key is absent

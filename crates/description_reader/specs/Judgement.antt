@@ -1,16 +1,16 @@
 -- What is wrong with the values of a description: a list of tests, for each kind in order, and within it for each place in order.
-use Rattle.std.specs.Prelude.{ℕ, List, [], ◌∷◌, length, Option, None, Some, is_some, ℤ, pos, codes, if◌then◌else◌}
+use Rattle.std.specs.Prelude.{ℕ, List, [], ◌∷◌, length, Option, None, Some, is_some, ℤ, pos, negsuc, codes, if◌then◌else◌}
 use Rattle.toml.specs.Data.{Data, get, as_table}
 use Rattle.artery_model.specs.Faults.{Fault, first_fault, each_numbered}
-use Rattle.artery_model.specs.declared.kind.Kind.TheVariants.{WrongType, NotBuilt, BadNumber, OutOfRange}
+use Rattle.artery_model.specs.declared.kind.Kind.TheVariants.{WrongType, BadNumber, OutOfRange}
 use Rattle.description_reader.specs.Values.{items_at, number_at}
 use Rattle.description_reader.specs.Checks.{missing, value_fault, items_fault, both_missing, both_values, both_items, array_fault, both_arrays}
 use Rattle.description_reader.specs.Keys.{unknown_key}
 use Rattle.description_reader.specs.declared.place.Section.{Section}
 use Rattle.description_reader.specs.declared.place.Section.TheVariants.{Root, Artery, Signal, Link}
-use Rattle.description_reader.specs.declared.demand.Demand.TheVariants.{Table, Array, TwoToSixteen, Pair, Integer, Text, Quantity, Absent, One, Equal, Number, Units, Name, Between, OneToBelow, Within}
+use Rattle.description_reader.specs.declared.demand.Demand.TheVariants.{Table, Array, TwoToSixteen, Pair, Integer, Text, Quantity, Number, Units, Name, Between, FromBelow, Within}
 use Rattle.description_reader.specs.declared.judge.Stage.{Stage}
-use Rattle.description_reader.specs.declared.judge.Stage.TheVariants.{Keys, Needed, Types, Support, Numbers, Ranges}
+use Rattle.description_reader.specs.declared.judge.Stage.TheVariants.{Keys, Needed, Types, Numbers, Ranges}
 use Rattle.description_reader.specs.declared.judge.Facts.{Facts}
 
 -- ---- needed keys
@@ -56,27 +56,15 @@ types (Link i) d =
     ∷ both_arrays WrongType Pair Quantity (Link i) (codes "change_out") (codes "change_in") d
     ∷ []
 
--- ---- what is not supported yet: all but plain arteries
--- a ratio or two speeds that are no numbers aren't other numbers
-abbrev pub support : Section → Data → List (Option Fault)
-support Root d = []
-support Artery d = value_fault NotBuilt One Artery (codes "ratio") d ∷ []
-support (Signal i) d =
-    both_values NotBuilt Absent (Signal i) (codes "left_out") (codes "left_in") d
-    ∷ value_fault NotBuilt Absent (Signal i) (codes "patterns") d
-    ∷ both_values NotBuilt Absent (Signal i) (codes "clear_out") (codes "clear_in") d
-    ∷ []
-support (Link i) d =
-    both_values NotBuilt Equal (Link i) (codes "speed_out") (codes "speed_in") d
-    ∷ both_values NotBuilt Absent (Link i) (codes "change_out") (codes "change_in") d
-    ∷ []
-
 -- ---- quantities that are texts outside the grammar
 abbrev pub numbers : Section → Data → List (Option Fault)
 numbers Root d = []
 numbers Artery d = items_fault BadNumber Number Artery (codes "cycle") d ∷ value_fault BadNumber Number Artery (codes "ratio") d ∷ []
 numbers (Signal i) d = []
-numbers (Link i) d = both_items BadNumber Number (Link i) (codes "speed_out") (codes "speed_in") d ∷ []
+numbers (Link i) d =
+    both_items BadNumber Number (Link i) (codes "speed_out") (codes "speed_in") d
+    ∷ both_items BadNumber Number (Link i) (codes "change_out") (codes "change_in") d
+    ∷ []
 
 -- ---- values outside their limits
 abbrev pub ranges : ℤ → Section → Data → List (Option Fault)
@@ -89,14 +77,19 @@ ranges parts Artery d =
     ∷ value_fault OutOfRange Units Artery (codes "units") d
     ∷ value_fault OutOfRange (Between (pos 2) (pos 3600)) Artery (codes "parts") d
     ∷ items_fault OutOfRange (Within (pos 1) (pos 3600)) Artery (codes "cycle") d
+    ∷ value_fault OutOfRange (Within (pos 0) (pos 100)) Artery (codes "ratio") d
     ∷ []
 ranges parts (Signal i) d =
     value_fault OutOfRange Name (Signal i) (codes "name") d
-    ∷ value_fault OutOfRange (OneToBelow parts) (Signal i) (codes "red") d
+    ∷ value_fault OutOfRange (FromBelow (pos 1) parts) (Signal i) (codes "red") d
+    ∷ both_values OutOfRange (FromBelow (pos 0) parts) (Signal i) (codes "left_out") (codes "left_in") d
+    ∷ items_fault OutOfRange (Between (pos 1) (pos 4)) (Signal i) (codes "patterns") d
+    ∷ both_values OutOfRange (FromBelow (pos 0) parts) (Signal i) (codes "clear_out") (codes "clear_in") d
     ∷ []
 ranges parts (Link i) d =
     both_values OutOfRange (Between (pos 1) (pos 30000)) (Link i) (codes "distance_out") (codes "distance_in") d
     ∷ both_items OutOfRange (Within (pos 1) (pos 300)) (Link i) (codes "speed_out") (codes "speed_in") d
+    ∷ both_items OutOfRange (Within (negsuc 999) (pos 1000)) (Link i) (codes "change_out") (codes "change_in") d
     ∷ []
 
 -- ---- one kind over a whole description
@@ -105,7 +98,6 @@ abbrev pub table_fault : Stage → Facts → Section → Data → Option Fault
 table_fault Keys facts section d = unknown_key facts.links section d
 table_fault Needed facts section d = first_fault (needed section d)
 table_fault Types facts section d = first_fault (types section d)
-table_fault Support facts section d = first_fault (support section d)
 table_fault Numbers facts section d = first_fault (numbers section d)
 table_fault Ranges facts section d = first_fault (ranges facts.parts section d)
 
@@ -145,7 +137,6 @@ value_tests root =
     first_fault (stage_tests Keys (facts_of root) root)
     ∷ first_fault (stage_tests Needed (facts_of root) root)
     ∷ first_fault (stage_tests Types (facts_of root) root)
-    ∷ first_fault (stage_tests Support (facts_of root) root)
     ∷ first_fault (stage_tests Numbers (facts_of root) root)
     ∷ first_fault (stage_tests Ranges (facts_of root) root)
     ∷ []

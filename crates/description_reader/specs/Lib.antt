@@ -1,9 +1,11 @@
+pub mod Canonical
 pub mod Checks
 pub mod Described
 pub mod Judgement
 pub mod Keys
+pub mod Members
 pub mod Places
-pub mod Plain
+pub mod Printed
 pub mod Quantity
 pub mod Streets
 pub mod Values

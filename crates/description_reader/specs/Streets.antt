@@ -1,7 +1,9 @@
 -- The artery that the values of a description make, with what holds where a key is absent.
-use Rattle.std.specs.Prelude.{ℕ, List, [], ◌∷◌, map, true, Option, None, Some, option_map, ℤ, pos, negsuc, nat_lt, codes, if◌then◌else◌}
+use Rattle.std.specs.Prelude.{ℕ, List, [], ◌∷◌, map, Bool, true, Option, None, Some, option_map, ℤ, pos, negsuc, nat_lt, codes, if◌then◌else◌}
+use Rattle.std.specs.List.{list_any}
+use Rattle.std.specs.Ordering.{int_eq}
 use Rattle.toml.specs.Data.{Data, get}
-use Rattle.ratio.specs.Rational.{whole}
+use Rattle.ratio.specs.Rational.{ℚ, whole}
 use Rattle.progression.specs.Street.{Street, no_pair}
 use Rattle.progression.specs.declared.parts.Head.{Head}
 use Rattle.progression.specs.declared.parts.Signal.{Signal}
@@ -11,7 +13,8 @@ use Rattle.progression.specs.declared.parts.Units.{Units}
 use Rattle.progression.specs.declared.parts.Units.TheVariants.{Metric, English}
 use Rattle.artery_model.specs.Faults.{Fault, first_fault}
 use Rattle.artery_model.specs.Limits.{artery_fault}
-use Rattle.description_reader.specs.Values.{is_text, items_at, text_in, text_at, number_at}
+use Rattle.description_reader.specs.Quantity.{quantity_in, integer_in}
+use Rattle.description_reader.specs.Values.{is_text, items_in, items_at, text_in, text_at, number_at}
 use Rattle.description_reader.specs.Checks.{limits_in}
 use Rattle.description_reader.specs.Judgement.{value_tests}
 
@@ -28,15 +31,28 @@ pair_of (Some limits) = limits
 abbrev pub pair_at : Data → List ℕ → Pair
 pair_at d key = pair_of (limits_in (items_at d key))
 
+-- one of the numbers at a key is this one
+abbrev pub names : List Data → ℕ → Bool
+names ds p = list_any (λ d. int_eq (integer_in d) (pos p)) ds
+
+-- the left turn patterns 1 to 4 that are named, all four where the key is absent
+abbrev pub patterns_of : Option Data → List Bool
+patterns_of None = true ∷ true ∷ true ∷ true ∷ []
+patterns_of (Some d) = names (items_in d) 1 ∷ names (items_in d) 2 ∷ names (items_in d) 3 ∷ names (items_in d) 4 ∷ []
+
+-- the limits of a change of pace, where they are given
+abbrev pub change_at : Data → List ℕ → Option Pair
+change_at d key = option_map (λ v. pair_of (limits_in (items_in v))) (get key d)
+
 abbrev pub signal_in : Data → Signal
 signal_in d = record {
   name = text_at d (codes "name");
   red = small (number_at d (codes "red"));
-  left_out = 0;
-  left_in = 0;
-  patterns = true ∷ true ∷ true ∷ true ∷ [];
-  clear_out = 0;
-  clear_in = 0;
+  left_out = small (number_at d (codes "left_out"));
+  left_in = small (number_at d (codes "left_in"));
+  patterns = patterns_of (get (codes "patterns") d);
+  clear_out = small (number_at d (codes "clear_out"));
+  clear_in = small (number_at d (codes "clear_in"));
 }
 
 abbrev pub link_in : Data → Link
@@ -45,9 +61,18 @@ link_in d = record {
   distance_in = small (number_at d (codes "distance_in"));
   speed_out = pair_at d (codes "speed_out");
   speed_in = pair_at d (codes "speed_in");
-  change_out = None;
-  change_in = None;
+  change_out = change_at d (codes "change_out");
+  change_in = change_at d (codes "change_in");
 }
+
+-- the number at a key, 0 where there is none, which is a fault of the description
+abbrev pub quantity_or_zero : Option ℚ → ℚ
+quantity_or_zero None = whole (pos 0)
+quantity_or_zero (Some q) = q
+
+abbrev pub ratio_of : Option Data → ℚ
+ratio_of None = whole (pos 0)
+ratio_of (Some d) = quantity_or_zero (quantity_in d)
 
 -- a name, where one is given
 abbrev pub name_at : Data → Option (List ℕ)
@@ -58,7 +83,7 @@ abbrev pub units_of : List ℕ → Units
 units_of text = if is_text text (codes "english") then English else Metric
 
 abbrev pub no_head : Head
-no_head = record { name = None; units = Metric; parts = 0; cycle = no_pair; ratio = whole (pos 1) }
+no_head = record { name = None; units = Metric; parts = 0; cycle = no_pair; ratio = whole (pos 0) }
 
 abbrev pub head_of : Data → Head
 head_of d = record {
@@ -66,7 +91,7 @@ head_of d = record {
   units = units_of (text_at d (codes "units"));
   parts = small (number_at d (codes "parts"));
   cycle = pair_at d (codes "cycle");
-  ratio = whole (pos 1);
+  ratio = ratio_of (get (codes "ratio") d);
 }
 
 abbrev pub head_in : Option Data → Head

@@ -4,9 +4,10 @@ ghost use Rattle.std.specs.Prelude.{◌≡◌, map, option_map, codes, IfOk};
 ghost use Rattle.toml.specs.Data.{get};
 ghost use Rattle.toml.specs.View.{view};
 ghost use Rattle.progression.specs.Street.{no_pair};
-ghost use Rattle.description_reader.specs.Streets.{small, pair_at, name_at, units_of, no_head, head_of, head_in, signal_in, link_in};
+ghost use Rattle.description_reader.specs.Streets.{small, pair_of, pair_at, names, patterns_of, change_at, quantity_or_zero, ratio_of, name_at, units_of, no_head, head_of, head_in, signal_in, link_in};
 
-use crate::values::{items_at, limits_in, number_at, text_at, text_in, value_at};
+use crate::quantity::{integer_in, quantity_in};
+use crate::values::{items_at, items_in, limits_in, number_at, text_at, text_in, value_at};
 use artery_model::{Head, Link, Pair, Signal, Text, Units};
 use narrow_fraction::Frac;
 use std::alloc::{AllocError, Global};
@@ -32,13 +33,67 @@ fn no_pair() -> Pair
     }
 }
 
+/// Two limits, 0 and 0 where there are none.
+fn pair_of(limits: Option<Pair>) -> Pair
+    ensures { result ≡ pair_of limits }
+{
+    match limits {
+        Some(limits) => limits,
+        None => no_pair(),
+    }
+}
+
 /// The two limits at a key.
 fn pair_at(table: &Value, key: &str) -> Pair
     ensures { result ≡ pair_at (view table.now) key.now }
 {
-    match limits_in(items_at(table, key)) {
-        Some(limits) => limits,
-        None => no_pair(),
+    pair_of(limits_in(items_at(table, key)))
+}
+
+/// The limits of a change of pace, where they are given.
+fn change_at(table: &Value, key: &str) -> Option<Pair>
+    ensures { result ≡ change_at (view table.now) key.now }
+{
+    match value_at(table, key) {
+        Some(found) => Some(pair_of(limits_in(items_in(found)))),
+        None => None,
+    }
+}
+
+/// Whether one of the numbers of a list is this one.
+fn names(items: &[Value], pattern: u32) -> bool
+    ensures { result ≡ names (map view items.now) pattern }
+{
+    items
+        .iter()
+        .any(|item| integer_in(item) == i64::from(pattern))
+}
+
+/// The left turn patterns 1 to 4 that are named, all four where the key is absent.
+fn patterns_of(table: &Value) -> [bool; 4]
+    ensures { result ≡ patterns_of (get (codes "patterns") (view table.now)) }
+{
+    match value_at(table, "patterns") {
+        Some(found) => {
+            let items = items_in(found);
+            [
+                names(items, 1),
+                names(items, 2),
+                names(items, 3),
+                names(items, 4),
+            ]
+        }
+        None => [true, true, true, true],
+    }
+}
+
+/// The weight of the inbound band.
+fn ratio_of(table: &Value) -> Frac
+    ensures { result ≡ ratio_of (get (codes "ratio") (view table.now)) }
+{
+    match value_at(table, "ratio") {
+        Some(found) => quantity_in(found).unwrap_or(Frac::whole(0)),
+        None => Frac::whole(0),
     }
 }
 
@@ -73,7 +128,7 @@ fn no_head() -> Head
         units: Units::Metric,
         parts: 0,
         cycle: no_pair(),
-        ratio: Frac::whole(1),
+        ratio: Frac::whole(0),
     }
 }
 
@@ -85,7 +140,7 @@ fn head_of(alloc: Global, table: &Value) -> Result<Head, AllocError>
         units: units_of(text_at(table, "units")),
         parts: small(number_at(table, "parts")),
         cycle: pair_at(table, "cycle"),
-        ratio: Frac::whole(1),
+        ratio: ratio_of(table),
     })
 }
 
@@ -106,11 +161,11 @@ fn signal_in(alloc: Global, table: &Value) -> Result<Signal, AllocError>
     Ok(Signal {
         name: Text::from(name),
         red: small(number_at(table, "red")),
-        left_out: 0,
-        left_in: 0,
-        patterns: [true, true, true, true],
-        clear_out: 0,
-        clear_in: 0,
+        left_out: small(number_at(table, "left_out")),
+        left_in: small(number_at(table, "left_in")),
+        patterns: patterns_of(table),
+        clear_out: small(number_at(table, "clear_out")),
+        clear_in: small(number_at(table, "clear_in")),
     })
 }
 
@@ -133,8 +188,8 @@ fn link_of(table: &Value, speed_out: Pair, speed_in: Pair) -> Link
         distance_in: small(number_at(table, "distance_in")),
         speed_out,
         speed_in,
-        change_out: None,
-        change_in: None,
+        change_out: change_at(table, "change_out"),
+        change_in: change_at(table, "change_in"),
     }
 }
 

@@ -81,50 +81,6 @@ pub fn check_needed(alloc: Global, section: Section, key: &str, table: &Value) -
     check(alloc, has(table, key), Kind::Missing, section, key)
 }
 
-/// Whether the value at a key, where there is one, is what it must be.
-fn meets_at(demand: Demand, key: &str, table: &Value) -> bool
-    ensures { result ≡ if_there (meets demand) (get key.now (view table.now)) }
-{
-    match value_at(table, key) {
-        Some(found) => meets(demand, found),
-        None => true,
-    }
-}
-
-/// Refuses the value at a key, where there is one, that is not what it must be.
-#[tactic(auto, unfolding(crate::specs::Checks::value_fault))]
-pub fn check_value(
-    alloc: Global,
-    kind: Kind,
-    demand: Demand,
-    section: Section,
-    key: &str,
-    table: &Value,
-) -> Result<(), Flaw>
-    ensures { Judges result (value_fault kind demand section key.now (view table.now)) }
-{
-    check(alloc, meets_at(demand, key, table), kind, section, key)
-}
-
-/// Refuses the first item of the array at a key that is not what it must be.
-#[tactic(auto, unfolding(crate::specs::Checks::items_fault))]
-pub fn check_items(
-    alloc: Global,
-    kind: Kind,
-    demand: Demand,
-    section: Section,
-    key: &str,
-    table: &Value,
-) -> Result<(), Flaw>
-    ensures { Judges result (items_fault kind demand section key.now (view table.now)) }
-{
-    let items = items_at(table, key);
-    for (index, item) in items.iter().enumerate() {
-        check_item(alloc, meets(demand, item), kind, section, key, index + 1)?;
-    }
-    Ok(())
-}
-
 /// Refuses a table without the needed key of each direction.
 #[tactic(auto, unfolding(crate::specs::Checks::both_missing))]
 pub fn check_both_needed(
@@ -140,71 +96,94 @@ pub fn check_both_needed(
     check_needed(alloc, section, back, table)
 }
 
-/// Refuses the value of each direction that is not what it must be.
-#[tactic(auto, unfolding(crate::specs::Checks::both_values))]
-pub fn check_both_values(
-    alloc: Global,
-    kind: Kind,
-    demand: Demand,
-    section: Section,
-    out: &str,
-    back: &str,
-    table: &Value,
-) -> Result<(), Flaw>
-    ensures { Judges result (both_values kind demand section out.now back.now (view table.now)) }
+/// Whether the value at a key, where there is one, is what it must be.
+fn meets_at(demand: Demand, key: &str, table: &Value) -> bool
+    ensures { result ≡ if_there (meets demand) (get key.now (view table.now)) }
 {
-    check_value(alloc, kind, demand, section, out, table)?;
-    check_value(alloc, kind, demand, section, back, table)
+    match value_at(table, key) {
+        Some(found) => meets(demand, found),
+        None => true,
+    }
 }
 
-/// Refuses the first item of the arrays of both directions that is not what it must be.
-#[tactic(auto, unfolding(crate::specs::Checks::both_items))]
-pub fn check_both_items(
+/// The check of the values of one table for one kind of fault.
+#[derive(Clone, Copy, Debug)]
+pub struct TableCheck<'a> {
     alloc: Global,
     kind: Kind,
-    demand: Demand,
     section: Section,
-    out: &str,
-    back: &str,
-    table: &Value,
-) -> Result<(), Flaw>
-    ensures { Judges result (both_items kind demand section out.now back.now (view table.now)) }
-{
-    check_items(alloc, kind, demand, section, out, table)?;
-    check_items(alloc, kind, demand, section, back, table)
+    table: &'a Value,
 }
 
-/// Refuses the array at a key, or its first item, that is not what it must be.
-#[tactic(auto, unfolding(crate::specs::Checks::array_fault))]
-pub fn check_array(
-    alloc: Global,
-    kind: Kind,
-    whole: Demand,
-    each: Demand,
-    section: Section,
-    key: &str,
-    table: &Value,
-) -> Result<(), Flaw>
-    ensures { Judges result (array_fault kind whole each section key.now (view table.now)) }
-{
-    check_value(alloc, kind, whole, section, key, table)?;
-    check_items(alloc, kind, each, section, key, table)
-}
+impl<'a> TableCheck<'a> {
+    pub fn new(alloc: Global, kind: Kind, section: Section, table: &'a Value) -> Self
+        ensures kind { result.kind ≡ kind }
+        ensures section { result.section ≡ section }
+        ensures table { result.table.now ≡ table.now }
+    {
+        TableCheck {
+            alloc,
+            kind,
+            section,
+            table,
+        }
+    }
 
-/// Refuses the array of each direction, or its first item, that is not what it must be.
-#[tactic(auto, unfolding(crate::specs::Checks::both_arrays))]
-pub fn check_both_arrays(
-    alloc: Global,
-    kind: Kind,
-    whole: Demand,
-    each: Demand,
-    section: Section,
-    out: &str,
-    back: &str,
-    table: &Value,
-) -> Result<(), Flaw>
-    ensures { Judges result (both_arrays kind whole each section out.now back.now (view table.now)) }
-{
-    check_array(alloc, kind, whole, each, section, out, table)?;
-    check_array(alloc, kind, whole, each, section, back, table)
+    /// Refuses the value at a key, where there is one, that is not what it must be.
+    #[tactic(auto, unfolding(crate::specs::Checks::value_fault))]
+    pub fn value(self, demand: Demand, key: &str) -> Result<(), Flaw>
+        ensures { Judges result (value_fault self.entry.kind demand self.entry.section key.now (view self.entry.table.now)) }
+    {
+        let passes = meets_at(demand, key, self.table);
+        check(self.alloc, passes, self.kind, self.section, key)
+    }
+
+    /// Refuses the first item of the array at a key that is not what it must be.
+    #[tactic(auto, unfolding(crate::specs::Checks::items_fault))]
+    pub fn items(self, demand: Demand, key: &str) -> Result<(), Flaw>
+        ensures { Judges result (items_fault self.entry.kind demand self.entry.section key.now (view self.entry.table.now)) }
+    {
+        let items = items_at(self.table, key);
+        for (index, item) in items.iter().enumerate() {
+            let passes = meets(demand, item);
+            check_item(self.alloc, passes, self.kind, self.section, key, index + 1)?;
+        }
+        Ok(())
+    }
+
+    /// Refuses the value of each direction that is not what it must be.
+    #[tactic(auto, unfolding(crate::specs::Checks::both_values))]
+    pub fn both_values(self, demand: Demand, out: &str, back: &str) -> Result<(), Flaw>
+        ensures { Judges result (both_values self.entry.kind demand self.entry.section out.now back.now (view self.entry.table.now)) }
+    {
+        self.value(demand, out)?;
+        self.value(demand, back)
+    }
+
+    /// Refuses the first item of the arrays of both directions that is not what it must be.
+    #[tactic(auto, unfolding(crate::specs::Checks::both_items))]
+    pub fn both_items(self, demand: Demand, out: &str, back: &str) -> Result<(), Flaw>
+        ensures { Judges result (both_items self.entry.kind demand self.entry.section out.now back.now (view self.entry.table.now)) }
+    {
+        self.items(demand, out)?;
+        self.items(demand, back)
+    }
+
+    /// Refuses the array at a key, or its first item, that is not what it must be.
+    #[tactic(auto, unfolding(crate::specs::Checks::array_fault))]
+    pub fn array(self, whole: Demand, each: Demand, key: &str) -> Result<(), Flaw>
+        ensures { Judges result (array_fault self.entry.kind whole each self.entry.section key.now (view self.entry.table.now)) }
+    {
+        self.value(whole, key)?;
+        self.items(each, key)
+    }
+
+    /// Refuses the array of each direction, or its first item, that is not what it must be.
+    #[tactic(auto, unfolding(crate::specs::Checks::both_arrays))]
+    pub fn both_arrays(self, whole: Demand, each: Demand, out: &str, back: &str) -> Result<(), Flaw>
+        ensures { Judges result (both_arrays self.entry.kind whole each self.entry.section out.now back.now (view self.entry.table.now)) }
+    {
+        self.array(whole, each, out)?;
+        self.array(whole, each, back)
+    }
 }

@@ -6,11 +6,10 @@ ghost use Rattle.toml.specs.View.{view};
 ghost use Rattle.ratio.specs.Rational.{whole};
 ghost use Rattle.artery_model.specs.Limits.{is_name, within};
 ghost use Rattle.description_reader.specs.Values.{items_in};
-ghost use Rattle.description_reader.specs.Checks.{meets, are_equal, limits_in, is_one, is_between};
+ghost use Rattle.description_reader.specs.Checks.{meets, is_between};
 
 use crate::quantity::{integer_in, is_quantity, quantity_in};
-use crate::values::{items_in, limits_in, text_in};
-use artery_model::Pair;
+use crate::values::{items_in, text_in};
 use narrow_fraction::Frac;
 use toml::Value;
 
@@ -27,12 +26,6 @@ pub enum Demand {
     Text,
     /// An integer or a text.
     Quantity,
-    /// Nothing: no value may stand here.
-    Absent,
-    /// No number but 1.
-    One,
-    /// No pair of different numbers.
-    Equal,
     /// A number, and no text outside the grammar of quantities.
     Number,
     /// `metric` or `english`.
@@ -41,8 +34,8 @@ pub enum Demand {
     Name,
     /// An integer from the first to the second.
     Between(i64, i64),
-    /// An integer from 1 on and below this.
-    OneToBelow(i64),
+    /// An integer from the first on and below the second.
+    FromBelow(i64, i64),
     /// A quantity from the first to the second, of a bounded numerator and denominator.
     Within(i64, i64),
 }
@@ -58,26 +51,6 @@ fn is_name(text: &str) -> bool
 {
     let size = text.len();
     1 <= size && size <= 60 && has_no_control(text.as_bytes())
-}
-
-/// Whether two limits, where there are two, are equal.
-fn are_equal(limits: Option<Pair>) -> bool
-    ensures { result ≡ are_equal limits }
-{
-    match limits {
-        Some(limits) => limits.least == limits.most,
-        None => true,
-    }
-}
-
-/// Whether a number, where there is one, is 1.
-fn is_one(number: Option<Frac>) -> bool
-    ensures { result ≡ is_one number }
-{
-    match number {
-        Some(value) => value == Frac::whole(1),
-        None => true,
-    }
 }
 
 /// Whether a quantity lies between two whole numbers, its numerator and denominator being of a
@@ -116,14 +89,11 @@ pub fn meets(demand: Demand, value: &Value) -> bool
         Demand::Integer => value.is_integer(),
         Demand::Text => value.is_str(),
         Demand::Quantity => is_quantity(value),
-        Demand::Absent => false,
-        Demand::One => is_one(quantity_in(value)),
-        Demand::Equal => are_equal(limits_in(items_in(value))),
         Demand::Number => quantity_in(value).is_some(),
         Demand::Units => text_in(value) == "metric" || text_in(value) == "english",
         Demand::Name => is_name(text_in(value)),
         Demand::Between(least, most) => least <= integer_in(value) && integer_in(value) <= most,
-        Demand::OneToBelow(limit) => 1 <= integer_in(value) && integer_in(value) < limit,
+        Demand::FromBelow(least, limit) => least <= integer_in(value) && integer_in(value) < limit,
         Demand::Within(least, most) => is_between(least, most, quantity_in(value)),
     }
 }

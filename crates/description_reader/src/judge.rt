@@ -11,7 +11,6 @@ use crate::needed::check_table_needed;
 use crate::numbers::check_numbers;
 use crate::place::Section;
 use crate::ranges::check_ranges;
-use crate::support::check_support;
 use crate::types::check_types;
 use crate::values::{items_at, number_at, value_at};
 use artery_model::Flaw;
@@ -27,8 +26,6 @@ pub enum Stage {
     Needed,
     /// Values of another type.
     Types,
-    /// Keys and values that are not supported yet.
-    Support,
     /// Quantities that are no numbers.
     Numbers,
     /// Values outside their limits.
@@ -57,7 +54,6 @@ fn check_table(
         Stage::Keys => check_keys(alloc, facts.links, section, table),
         Stage::Needed => check_table_needed(alloc, section, table),
         Stage::Types => check_types(alloc, section, table),
-        Stage::Support => check_support(alloc, section, table),
         Stage::Numbers => check_numbers(alloc, section, table),
         Stage::Ranges => check_ranges(alloc, facts.parts, section, table),
     }
@@ -148,7 +144,6 @@ pub fn check_values(alloc: Global, root: &Value) -> Result<(), Flaw>
     check_stage(alloc, Stage::Keys, facts, root)?;
     check_stage(alloc, Stage::Needed, facts, root)?;
     check_stage(alloc, Stage::Types, facts, root)?;
-    check_stage(alloc, Stage::Support, facts, root)?;
     check_stage(alloc, Stage::Numbers, facts, root)?;
     check_stage(alloc, Stage::Ranges, facts, root)
 }

@@ -1,9 +1,8 @@
 //! Reads the description of an artery, a TOML document, and names what is wrong with a document that
 //! describes none. The specification is a list of tests of the document's values, kind by kind and
 //! of each kind place by place: `specs/Judgement.antt` has the tests, `specs/Streets.antt` the artery
-//! that the values make, and `specs/Described.antt` joins them. Plain arteries are read: no left
-//! turns, no clearances, all four patterns, one speed on each link and direction, and equal weights.
-//! Start with `read_artery`.
+//! that the values make, and `specs/Described.antt` joins them. Start with `read_artery`. The way back
+//! is `print_artery`: `specs/Canonical.antt` has the table that it prints.
 #![tactic(auto)]
 
 ghost use Rattle.description_reader.specs.Described.{OneAnswer};
@@ -16,16 +15,19 @@ mod keys;
 mod needed;
 mod numbers;
 mod place;
+mod print;
+#[cfg(test)]
+mod print_tests;
 mod quantity;
 mod ranges;
 mod read;
-mod support;
 #[cfg(test)]
 mod tests;
 mod types;
 mod values;
 
 pub use artery_model::{Artery, Flaw, Kind, Refusal};
+pub use print::{law_one_text, print_artery};
 pub use read::read_artery;
 
 /// For any bytes there is at most one answer: one artery, or one fault.

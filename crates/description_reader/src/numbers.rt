@@ -5,7 +5,7 @@ ghost use Rattle.artery_model.specs.Faults.{Judges, first_fault};
 ghost use Rattle.description_reader.specs.Judgement.{numbers};
 ghost use Rattle.description_reader.specs.declared.place.Section.TheVariants.{Artery, Link};
 
-use crate::check::{check_both_items, check_items, check_value};
+use crate::check::TableCheck;
 use crate::demand::Demand;
 use crate::place::Section;
 use artery_model::{Flaw, Kind};
@@ -15,38 +15,17 @@ use toml::Value;
 fn check_artery(alloc: Global, table: &Value) -> Result<(), Flaw>
     ensures { Judges result (first_fault (numbers Artery (view table.now))) }
 {
-    let section = Section::Artery;
-    check_items(
-        alloc,
-        Kind::BadNumber,
-        Demand::Number,
-        section,
-        "cycle",
-        table,
-    )?;
-    check_value(
-        alloc,
-        Kind::BadNumber,
-        Demand::Number,
-        section,
-        "ratio",
-        table,
-    )
+    let check = TableCheck::new(alloc, Kind::BadNumber, Section::Artery, table);
+    check.items(Demand::Number, "cycle")?;
+    check.value(Demand::Number, "ratio")
 }
 
 fn check_link(alloc: Global, number: usize, table: &Value) -> Result<(), Flaw>
     ensures { Judges result (first_fault (numbers (Link number) (view table.now))) }
 {
-    let section = Section::Link(number);
-    check_both_items(
-        alloc,
-        Kind::BadNumber,
-        Demand::Number,
-        section,
-        "speed_out",
-        "speed_in",
-        table,
-    )
+    let check = TableCheck::new(alloc, Kind::BadNumber, Section::Link(number), table);
+    check.both_items(Demand::Number, "speed_out", "speed_in")?;
+    check.both_items(Demand::Number, "change_out", "change_in")
 }
 
 /// Refuses a table with a quantity that is no number.

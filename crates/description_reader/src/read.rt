@@ -6,7 +6,6 @@ ghost use Rattle.artery_model.specs.Faults.{Judges};
 ghost use Rattle.artery_model.specs.Limits.{artery_fault};
 ghost use Rattle.description_reader.specs.Streets.{street_in, description_fault};
 ghost use Rattle.description_reader.specs.Described.{ReadsAs, Described, Refuses};
-ghost use Rattle.description_reader.specs.Plain.{IsPlain};
 
 use crate::build::{head_in, links_in, signals_in};
 use crate::check::refused_file;
@@ -68,7 +67,6 @@ fn judge(alloc: Global, root: &Value) -> Result<Artery, Flaw>
 /// order of the places; `Memory` may come in place of any answer.
 pub fn read_artery(alloc: Global, bytes: &[u8]) -> Result<Artery, Flaw>
     ensures described { IfOk result (λ a. Described bytes.now a) }
-    ensures plain { IfOk result IsPlain }
     ensures refused { IfErr result (λ e. Refuses bytes.now e) }
 {
     let root = read_root(alloc, bytes)?;

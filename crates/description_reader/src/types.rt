@@ -5,7 +5,7 @@ ghost use Rattle.artery_model.specs.Faults.{Judges, first_fault};
 ghost use Rattle.description_reader.specs.Judgement.{types};
 ghost use Rattle.description_reader.specs.declared.place.Section.TheVariants.{Artery, Link, Root, Signal};
 
-use crate::check::{check_array, check_both_arrays, check_both_values, check_value};
+use crate::check::TableCheck;
 use crate::demand::Demand;
 use crate::place::Section;
 use artery_model::{Flaw, Kind};
@@ -15,158 +15,42 @@ use toml::Value;
 fn check_root(alloc: Global, table: &Value) -> Result<(), Flaw>
     ensures { Judges result (first_fault (types Root (view table.now))) }
 {
-    let section = Section::Root;
-    check_value(
-        alloc,
-        Kind::WrongType,
-        Demand::Integer,
-        section,
-        "version",
-        table,
-    )?;
-    check_value(
-        alloc,
-        Kind::WrongType,
-        Demand::Table,
-        section,
-        "artery",
-        table,
-    )?;
-    check_array(
-        alloc,
-        Kind::WrongType,
-        Demand::Array,
-        Demand::Table,
-        section,
-        "signal",
-        table,
-    )?;
-    check_array(
-        alloc,
-        Kind::WrongType,
-        Demand::Array,
-        Demand::Table,
-        section,
-        "link",
-        table,
-    )
+    let check = TableCheck::new(alloc, Kind::WrongType, Section::Root, table);
+    check.value(Demand::Integer, "version")?;
+    check.value(Demand::Table, "artery")?;
+    check.array(Demand::Array, Demand::Table, "signal")?;
+    check.array(Demand::Array, Demand::Table, "link")
 }
 
 fn check_artery(alloc: Global, table: &Value) -> Result<(), Flaw>
     ensures { Judges result (first_fault (types Artery (view table.now))) }
 {
-    let section = Section::Artery;
-    check_value(alloc, Kind::WrongType, Demand::Text, section, "name", table)?;
-    check_value(
-        alloc,
-        Kind::WrongType,
-        Demand::Text,
-        section,
-        "units",
-        table,
-    )?;
-    check_value(
-        alloc,
-        Kind::WrongType,
-        Demand::Integer,
-        section,
-        "parts",
-        table,
-    )?;
-    check_array(
-        alloc,
-        Kind::WrongType,
-        Demand::Pair,
-        Demand::Quantity,
-        section,
-        "cycle",
-        table,
-    )?;
-    check_value(
-        alloc,
-        Kind::WrongType,
-        Demand::Quantity,
-        section,
-        "ratio",
-        table,
-    )
+    let check = TableCheck::new(alloc, Kind::WrongType, Section::Artery, table);
+    check.value(Demand::Text, "name")?;
+    check.value(Demand::Text, "units")?;
+    check.value(Demand::Integer, "parts")?;
+    check.array(Demand::Pair, Demand::Quantity, "cycle")?;
+    check.value(Demand::Quantity, "ratio")
 }
 
 fn check_signal(alloc: Global, number: usize, table: &Value) -> Result<(), Flaw>
     ensures { Judges result (first_fault (types (Signal number) (view table.now))) }
 {
-    let section = Section::Signal(number);
-    check_value(alloc, Kind::WrongType, Demand::Text, section, "name", table)?;
-    check_value(
-        alloc,
-        Kind::WrongType,
-        Demand::Integer,
-        section,
-        "red",
-        table,
-    )?;
-    check_both_values(
-        alloc,
-        Kind::WrongType,
-        Demand::Integer,
-        section,
-        "left_out",
-        "left_in",
-        table,
-    )?;
-    check_array(
-        alloc,
-        Kind::WrongType,
-        Demand::Array,
-        Demand::Integer,
-        section,
-        "patterns",
-        table,
-    )?;
-    check_both_values(
-        alloc,
-        Kind::WrongType,
-        Demand::Integer,
-        section,
-        "clear_out",
-        "clear_in",
-        table,
-    )
+    let check = TableCheck::new(alloc, Kind::WrongType, Section::Signal(number), table);
+    check.value(Demand::Text, "name")?;
+    check.value(Demand::Integer, "red")?;
+    check.both_values(Demand::Integer, "left_out", "left_in")?;
+    check.array(Demand::Array, Demand::Integer, "patterns")?;
+    check.both_values(Demand::Integer, "clear_out", "clear_in")
 }
 
 fn check_link(alloc: Global, number: usize, table: &Value) -> Result<(), Flaw>
     ensures { Judges result (first_fault (types (Link number) (view table.now))) }
 {
-    let section = Section::Link(number);
-    check_both_values(
-        alloc,
-        Kind::WrongType,
-        Demand::Integer,
-        section,
-        "distance_out",
-        "distance_in",
-        table,
-    )?;
-    check_both_arrays(
-        alloc,
-        Kind::WrongType,
-        Demand::Pair,
-        Demand::Quantity,
-        section,
-        "speed_out",
-        "speed_in",
-        table,
-    )?;
-    check_both_arrays(
-        alloc,
-        Kind::WrongType,
-        Demand::Pair,
-        Demand::Quantity,
-        section,
-        "change_out",
-        "change_in",
-        table,
-    )
+    let check = TableCheck::new(alloc, Kind::WrongType, Section::Link(number), table);
+    check.both_values(Demand::Integer, "distance_out", "distance_in")?;
+    check.both_arrays(Demand::Pair, Demand::Quantity, "speed_out", "speed_in")?;
+    check.both_arrays(Demand::Pair, Demand::Quantity, "change_out", "change_in")
 }
 
 /// Refuses a table with a value of another type.

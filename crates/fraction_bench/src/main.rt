@@ -1,9 +1,9 @@
 //! Times the operations of fractions, for `scripts/bench`. With the word `time` each line has the
-//! nanoseconds of an operation at a size of operands; with no word it has how many of the results
+//! nanoseconds of an operation on operands of one size and mix; with no word it has how many of the results
 //! fit, which is the same at each run.
-#![tactic(auto, using(ratio::specs::Compare::eq_false))]
+#![tactic(auto)]
 
-ghost use Rattle.std.specs.Prelude.{◌<◌};
+ghost use Rattle.std.specs.Prelude.{◌<◌, ◌≤◌};
 
 use narrow_fraction::{Frac, Wide};
 use std::time::Instant;
@@ -34,6 +34,7 @@ impl Operation {
     }
 
     /// The result; a quotient by 0 counts as its dividend.
+    #[tactic(auto, using(ratio::specs::Compare::eq_false))]
     fn apply(self, left: Frac, right: Frac) -> Result<Frac, Wide> {
         match self {
             Operation::Plus => left.plus(right),
@@ -48,6 +49,45 @@ impl Operation {
     }
 }
 
+/// Which operands there are.
+#[derive(Clone, Copy)]
+enum Mix {
+    Fractions,
+    Whole,
+    /// Each fraction stands between whole numbers.
+    WithWhole,
+    /// Each fraction stands between zeros.
+    WithZero,
+}
+
+impl Mix {
+    /// What is said of them behind their size.
+    fn words(self) -> &'static str {
+        match self {
+            Mix::Fractions => "",
+            Mix::Whole => " whole",
+            Mix::WithWhole => " with whole",
+            Mix::WithZero => " with 0",
+        }
+    }
+
+    /// The numerator and denominator of the operand at this place, from two numbers that were drawn.
+    fn parts(self, place: usize, num: i128, den: i128) -> (i128, i128) {
+        match (self, place % 2) {
+            (Mix::Whole, _) | (Mix::WithWhole, 0) => (num, 1),
+            (Mix::WithZero, 0) => (0, 1),
+            _ => (num, den),
+        }
+    }
+}
+
+/// The size and the mix of operands.
+#[derive(Clone, Copy)]
+struct Set {
+    bits: u32,
+    mix: Mix,
+}
+
 /// The next state of a generator of numbers (Knuth's constants).
 fn next(state: u64) -> u64 {
     state
@@ -55,31 +95,32 @@ fn next(state: u64) -> u64 {
         .wrapping_add(1442695040888963407)
 }
 
-/// An odd number of at most `128 - shift` bits.
-fn number(state: u64, shift: u32) -> i128
-    requires { shift < 128 }
+/// An odd number of at most so many bits.
+fn number(state: u64, bits: u32) -> i128
+    requires { (0 < bits) × (bits ≤ 128) }
 {
     let high = u128::from(next(state)).wrapping_mul(1 << 64);
-    i128::try_from(((high | u128::from(state)) >> shift) | 1).unwrap_or(1)
+    i128::try_from(((high | u128::from(state)) >> (128 - bits)) | 1).unwrap_or(1)
 }
 
 /// The operands, about half of them negative.
-fn operands<R: AllocGlobal>(rt: &R, shift: u32) -> io::Result<Vec<Frac>>
-    requires { shift < 128 }
+fn operands<R: AllocGlobal>(rt: &R, set: Set) -> io::Result<Vec<Frac>>
+    requires { (0 < set.bits) × (set.bits ≤ 128) }
 {
     let mut all = Vec::new(rt.alloc());
     let mut state: u64 = 42;
-    for _ in 0..PAIRS {
-        let size = number(state, shift);
+    for place in 0..PAIRS {
+        let size = number(state, set.bits);
         state = next(next(state));
-        let den = number(state, shift);
+        let den = number(state, set.bits);
         state = next(next(state));
         let num = if state > u64::MAX / 2 {
             size.checked_neg().unwrap_or(1)
         } else {
             size
         };
-        all.push(Frac::new(num, den).unwrap_or(Frac::whole(1)))?;
+        let (top, bottom) = set.mix.parts(place, num, den);
+        all.push(Frac::new(top, bottom).unwrap_or(Frac::whole(1)))?;
     }
     Ok(all)
 }
@@ -100,49 +141,60 @@ fn fitting(all: &[Frac], operation: Operation) -> u64 {
 fn print_line<R: AllocGlobal + Print + std::rt::Clock>(
     rt: &R,
     timed: bool,
-    bits: u32,
+    set: Set,
     all: &[Frac],
     operation: Operation,
 ) -> io::Result<()> {
     let name = operation.name();
+    let bits = set.bits;
+    let words = set.mix.words();
     if !timed {
         let fit = fitting(all, operation);
-        return println!(rt; "{name} {bits} bits {fit} fit");
+        return println!(rt; "{name} {bits} bits{words} {fit} fit");
     }
     let start = Instant::now(rt)?;
     let mut fit: u64 = 0;
     for _ in 0..ROUNDS {
         fit = fit.wrapping_add(fitting(all, operation));
     }
-    let nanos = start.elapsed(rt)?.as_nanos() / (u128::from(ROUNDS) * PAIRS as u128);
-    println!(rt; "{name} {bits} bits {nanos} ns")
+    let picos = start.elapsed(rt)?.as_nanos() * 1_000 / (u128::from(ROUNDS) * PAIRS as u128);
+    let nanos = picos / 1_000;
+    let tenths = picos / 100 % 10;
+    println!(rt; "{name} {bits} bits{words} {nanos}.{tenths} ns")
 }
 
 fn print_lines<R: AllocGlobal + Print + std::rt::Clock>(
     rt: &R,
     timed: bool,
     bits: u32,
-    shift: u32,
+    mix: Mix,
 ) -> io::Result<()>
-    requires { shift < 128 }
+    requires { (0 < bits) × (bits ≤ 128) }
 {
-    let all = operands(rt, shift)?;
+    let set = Set { bits, mix };
+    let all = operands(rt, set)?;
     for operation in [
         Operation::Plus,
         Operation::Minus,
         Operation::Times,
         Operation::Over,
     ] {
-        print_line(rt, timed, bits, all.as_slice(), operation)?;
+        print_line(rt, timed, set, all.as_slice(), operation)?;
     }
     Ok(())
 }
 
 fn main(rt: HostRuntime) -> io::Result<()> {
     let timed = env::args(&rt)?.skip(1).any(|word| word.as_str() == "time");
-    print_lines(&rt, timed, 5, 123)?;
-    print_lines(&rt, timed, 30, 98)?;
-    print_lines(&rt, timed, 50, 78)?;
-    print_lines(&rt, timed, 64, 64)?;
-    print_lines(&rt, timed, 100, 28)
+    print_lines(&rt, timed, 5, Mix::Fractions)?;
+    print_lines(&rt, timed, 30, Mix::Fractions)?;
+    print_lines(&rt, timed, 50, Mix::Fractions)?;
+    print_lines(&rt, timed, 64, Mix::Fractions)?;
+    print_lines(&rt, timed, 100, Mix::Fractions)?;
+    print_lines(&rt, timed, 30, Mix::Whole)?;
+    print_lines(&rt, timed, 30, Mix::WithWhole)?;
+    print_lines(&rt, timed, 30, Mix::WithZero)?;
+    print_lines(&rt, timed, 100, Mix::Whole)?;
+    print_lines(&rt, timed, 100, Mix::WithWhole)?;
+    print_lines(&rt, timed, 100, Mix::WithZero)
 }

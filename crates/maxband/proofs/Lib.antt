@@ -1,2 +1,2 @@
+pub mod Holding
 pub mod OneAnswer
-pub mod Turns

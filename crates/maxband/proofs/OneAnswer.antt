@@ -10,15 +10,16 @@ use Rattle.artery_model.specs.Faults.{fault_of}
 use Rattle.artery_model.specs.declared.kind.Refusal.{Refusal}
 use Rattle.description_reader.specs.Described as described
 use Rattle.description_reader.specs.Described.{RefusedAs}
+use Rattle.description_reader.specs.Printed.{IsPrinted, IsCanonicalText, OneText}
 use Rattle.plan_text.specs.Reading.{timing_of}
 use Rattle.plan_text.specs.declared.fault.BadText.{BadText}
 use Rattle.time_space.specs.Failing.{FailsRulesOut}
 use Rattle.time_space.specs.FirstFailing.{OneFirst, IsFirstFailing}
 use Rattle.time_space.specs.declared.failing.Failing.{Failing}
-use Rattle.maxband.specs.Command.{Hold}
+use Rattle.maxband.specs.Command.{Hold, Show}
 use Rattle.maxband.specs.Lines.{holds_lines, end_lines}
-use Rattle.maxband.specs.Hold.{limit, ReadsArtery, FirstEnds, ReadsTiming, SecondEnds}
-use Rattle.maxband.specs.Run.{HoldAnswers, IsReached, OneAnswer}
+use Rattle.maxband.specs.Turns.{limit, ReadsArtery, FirstEnds, ReadsTiming, SecondEnds}
+use Rattle.maxband.specs.Run.{HoldAnswers, ShowAnswers, IsReached, OneAnswer}
 use Rattle.maxband.specs.declared.cause.Cause.{Cause}
 use Rattle.maxband.specs.declared.cause.Cause.TheVariants as cause
 
@@ -161,9 +162,32 @@ module _ (reader : described.OneAnswer) where
       one_reached c d x y n m (Ended h l) (Broken b u f q k j r) = absurd (turn_apart b u c n q h)
       one_reached c d x y n m (Ended h l) (Ended k r) = let e = turn_once c d n m h k in (e, l ∙ ap (end_lines artery timing) e ∙ sym r)
 
-pub one_answer : described.OneAnswer → OneFirst → FailsRulesOut → OneAnswer
-one_answer reader one_first rules held before after None c d x y told n m h k = (h.0 ∙ sym k.0, h.1 ∙ sym k.1)
-one_answer reader one_first rules held before after (Some (Hold artery timing)) c d x y told n m h k =
+module _ (reader : described.OneAnswer) (one_text : OneText) (held : List ℕ → Option (List ℕ)) (before after : List ℕ → ℕ) (artery : List ℕ) (told : IsSome (held artery)) where
+  -- the two kinds of answers of `show`
+  data ReachedShow (c : Cause) (lines : List ℕ) : Type 0 where
+    Shown : (a : Street) → ReadsArtery (held artery) a → IsCanonicalText a lines → c ≡ cause.Done → ReachedShow c lines
+    Not_shown : FirstEnds (held artery) (before artery) (after artery) c → lines ≡ end_lines artery artery c → ReachedShow c lines
+
+  reached_show : (c : Cause) (lines : List ℕ) → ShowAnswers held before after artery c lines → ReachedShow c lines
+  reached_show cause.Done lines h = Shown h.0 h.1 h.2 refl
+  reached_show cause.Memory lines h = absurd h
+  reached_show c lines h = Not_shown h.0 h.1
+
+  one_shown : (c d : Cause) (x y : List ℕ) → IsReached c → IsReached d → ReachedShow c x → ReachedShow d y → (c ≡ d) × (x ≡ y)
+  one_shown c d x y n m (Shown a r k i) (Shown b s l j) = let e = one_artery reader (held artery) a b told r s in
+      (i ∙ sym j, one_text.same b x y (subst (λ z. IsPrinted x z) e k.printed) l.printed)
+  one_shown c d x y n m (Shown a r k i) (Not_shown f l) = absurd (first_apart reader (held artery) (before artery) (after artery) a d told m r f)
+  one_shown c d x y n m (Not_shown f l) (Shown b s k j) = absurd (first_apart reader (held artery) (before artery) (after artery) b c told n s f)
+  one_shown c d x y n m (Not_shown f l) (Not_shown g k) = let e = first_once reader (held artery) (before artery) (after artery) c d told n m f g in
+      (e, l ∙ ap (end_lines artery artery) e ∙ sym k)
+
+pub one_answer : described.OneAnswer → OneText → OneFirst → FailsRulesOut → OneAnswer
+one_answer reader one_text one_first rules held before after None c d x y told n m h k = (h.0 ∙ sym k.0, h.1 ∙ sym k.1)
+one_answer reader one_text one_first rules held before after (Some (Hold artery timing)) c d x y told n m h k =
     one_reached reader held before after artery timing told one_first rules c d x y n m
     (reached reader held before after artery timing told c x h)
     (reached reader held before after artery timing told d y k)
+one_answer reader one_text one_first rules held before after (Some (Show artery)) c d x y told n m h k =
+    one_shown reader one_text held before after artery told c d x y n m
+    (reached_show reader one_text held before after artery told c x h)
+    (reached_show reader one_text held before after artery told d y k)

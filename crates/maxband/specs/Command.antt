@@ -6,10 +6,13 @@ use Rattle.maxband.specs.declared.command.Command.TheVariants as command
 
 pub data Form : Type 0 where
   Hold : List ℕ → List ℕ → Form  -- the names of a description and of a timing
+  Show : List ℕ → Form  -- the name of a description
 
 abbrev pub view : Command → Form
 view (command.Hold artery timing) = Hold artery.now timing.now
+view (command.Show artery) = Show artery.now
 
 abbrev pub command_of : List (List ℕ) → Option Form
+command_of (word ∷ artery ∷ []) = if bytes_eq word (codes "show") then Some (Show artery) else None
 command_of (word ∷ artery ∷ timing ∷ []) = if bytes_eq word (codes "hold") then Some (Hold artery timing) else None
 command_of _ = None

@@ -3,67 +3,14 @@
 ghost use Rattle.std.specs.Prelude.{◌≡◌, ◌≤◌, IfOk, IfErr};
 ghost use Rattle.outer_edge.specs.Counts.{NoneFell, SameCounts};
 ghost use Rattle.outer_edge.specs.Held.{SameFiles};
-ghost use Rattle.maxband.specs.Hold.{IsWithinLimit, NotRead, ReadsArtery, ReadsTiming, FirstEnds, SecondEnds, Holds, HoldEnds};
+ghost use Rattle.maxband.specs.Hold.{Holds, HoldEnds};
 
 use crate::cause::Cause;
-use artery_model::{Artery, Flaw};
-use description_reader::read_artery;
+use crate::turns::{artery_of, timing_of};
 use narrow_fraction::Frac;
-use outer_edge::{Files, ReadEnd, read_whole};
-use plan_text::{TextEnd, read_timing};
+use outer_edge::Files;
 use std::alloc::Global;
-use time_space::{Timing, holds, value};
-
-/// The most bytes of a description or a timing.
-const LIMIT: u64 = 1_048_576;
-
-/// The bytes of a file, or why its turn ends.
-fn bytes_of<F: Files>(alloc: Global, files: &mut F, name: &str, file: u8) -> Result<Vec<u8>, Cause>
-    ensures ok { IfOk result (λ bytes. IsWithinLimit (F.holds files.old name.now) bytes.items) }
-    ensures err { IfErr result (λ c. NotRead (F.holds files.old name.now) (F.read_faults files.old name.now) (F.read_faults files.new name.now) file c) }
-    ensures files { SameFiles (F.holds files.old) (F.holds files.new) }
-    ensures reads { NoneFell (F.read_faults files.old) (F.read_faults files.new) }
-    ensures puts { SameCounts (F.put_faults files.old) (F.put_faults files.new) }
-{
-    match read_whole(alloc, files, name, LIMIT) {
-        Ok(bytes) => Ok(bytes),
-        Err(ReadEnd::ReadFault) => Err(Cause::ReadFault { file }),
-        Err(ReadEnd::TooLong) => Err(Cause::TooLong { file }),
-        Err(ReadEnd::Memory) => Err(Cause::Memory),
-    }
-}
-
-/// The artery of the first file, or why its turn ends.
-fn artery_of<F: Files>(alloc: Global, files: &mut F, name: &str) -> Result<Artery, Cause>
-    ensures ok { IfOk result (ReadsArtery (F.holds files.old name.now)) }
-    ensures err { IfErr result (FirstEnds (F.holds files.old name.now) (F.read_faults files.old name.now) (F.read_faults files.new name.now)) }
-    ensures files { SameFiles (F.holds files.old) (F.holds files.new) }
-    ensures reads { NoneFell (F.read_faults files.old) (F.read_faults files.new) }
-    ensures puts { SameCounts (F.put_faults files.old) (F.put_faults files.new) }
-{
-    let bytes = bytes_of(alloc, files, name, 1)?;
-    match read_artery(alloc, bytes.as_slice()) {
-        Ok(artery) => Ok(artery),
-        Err(Flaw::Refused(refusal)) => Err(Cause::Refused(refusal)),
-        Err(Flaw::Memory) => Err(Cause::Memory),
-    }
-}
-
-/// The timing of the second file, or why its turn ends.
-fn timing_of<F: Files>(alloc: Global, files: &mut F, name: &str) -> Result<Timing, Cause>
-    ensures ok { IfOk result (ReadsTiming (F.holds files.old name.now)) }
-    ensures err { IfErr result (SecondEnds (F.holds files.old name.now) (F.read_faults files.old name.now) (F.read_faults files.new name.now)) }
-    ensures files { SameFiles (F.holds files.old) (F.holds files.new) }
-    ensures reads { NoneFell (F.read_faults files.old) (F.read_faults files.new) }
-    ensures puts { SameCounts (F.put_faults files.old) (F.put_faults files.new) }
-{
-    let bytes = bytes_of(alloc, files, name, 2)?;
-    match read_timing(alloc, bytes.as_slice()) {
-        Ok(timing) => Ok(timing),
-        Err(TextEnd::Bad(bad)) => Err(Cause::BadText(bad)),
-        Err(TextEnd::Memory) => Err(Cause::Memory),
-    }
-}
+use time_space::{holds, value};
 
 /// Tests the timing of the second file on the artery of the first: its weighted band where it
 /// holds, else why not.

@@ -20,7 +20,6 @@ fn kind_name(kind: Kind) -> &'static str
         Kind::UnknownKey => "UnknownKey",
         Kind::Missing => "Missing",
         Kind::WrongType => "WrongType",
-        Kind::NotBuilt => "NotBuilt",
         Kind::BadNumber => "BadNumber",
         Kind::OutOfRange => "OutOfRange",
         Kind::CountMismatch => "CountMismatch",

@@ -10,9 +10,11 @@ mod command;
 mod finish;
 mod hold;
 mod lines;
+mod show;
 #[cfg(test)]
 mod tests;
 mod top;
+mod turns;
 
 pub use cause::{Cause, Status};
 use outer_edge::{RealFiles, RealOut};

@@ -6,7 +6,7 @@ ghost use Rattle.outer_edge.specs.Held.{SameFiles};
 ghost use Rattle.maxband.specs.Status.{number_of};
 ghost use Rattle.maxband.specs.Command.{command_of};
 ghost use Rattle.maxband.specs.Lines.{named, end_lines};
-ghost use Rattle.maxband.specs.Run.{HoldAnswers, Answers, Ends, OneAnswer};
+ghost use Rattle.maxband.specs.Run.{HoldAnswers, ShowAnswers, Answers, Ends, OneAnswer};
 
 use crate::cause::{Cause, Status};
 use crate::command::{Command, command_in};
@@ -16,6 +16,7 @@ use crate::lines::{
     bad_text_line, cannot_read_line, fails_line, holds_lines, refused_line, too_long_line,
     words_line,
 };
+use crate::show::show;
 use outer_edge::{Files, Sink};
 use std::alloc::{AllocError, Global};
 
@@ -75,6 +76,27 @@ fn hold_answer<F: Files>(
     }
 }
 
+/// The answer of `show`.
+fn show_answer<F: Files>(alloc: Global, files: &mut F, artery: &str) -> Result<Answer, AllocError>
+    ensures told { IfOk result (λ a. ShowAnswers (F.holds files.old) (F.read_faults files.old) (F.read_faults files.new) artery.now a.cause a.lines.items) }
+    ensures files { SameFiles (F.holds files.old) (F.holds files.new) }
+    ensures reads { NoneFell (F.read_faults files.old) (F.read_faults files.new) }
+    ensures puts { SameCounts (F.put_faults files.old) (F.put_faults files.new) }
+{
+    match show(alloc, files, artery) {
+        Ok(lines) => Ok(Answer {
+            cause: Cause::Done,
+            lines,
+        }),
+        Err(Cause::Memory) => Err(AllocError),
+        Err(cause) => {
+            // There is one file alone.
+            let lines = end_lines(alloc, artery, artery, &cause)?.into_bytes();
+            Ok(Answer { cause, lines })
+        }
+    }
+}
+
 /// The answer of the words.
 fn answer_to<F: Files>(alloc: Global, words: &[String], files: &mut F) -> Result<Answer, AllocError>
     ensures told { IfOk result (λ a. Answers (F.holds files.old) (F.read_faults files.old) (F.read_faults files.new) (command_of (map string_bytes words.now)) a.cause a.lines.items) }
@@ -84,6 +106,7 @@ fn answer_to<F: Files>(alloc: Global, words: &[String], files: &mut F) -> Result
 {
     match command_in(words) {
         Some(Command::Hold { artery, timing }) => hold_answer(alloc, files, artery, timing),
+        Some(Command::Show { artery }) => show_answer(alloc, files, artery),
         None => Ok(Answer {
             cause: Cause::Words,
             lines: words_line(alloc)?.into_bytes(),
@@ -133,6 +156,7 @@ pub fn law_one_answer()
     ensures { OneAnswer }
 {
     description_reader::law_one_answer();
+    description_reader::law_one_text();
     time_space::law_one_first();
     time_space::law_fails_rules_out();
 }

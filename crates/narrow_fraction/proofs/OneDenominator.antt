@@ -1,7 +1,7 @@
 -- A sum over the least common denominator: its steps, its value, and the short ways to it.
-use Rattle.std.proofs.Common.{◌≡◌, ℕ, ℤ, pos, neg_ℤ, ◌+ℤ◌, ◌*ℤ◌, ◌+◌, ◌*◌, ◌/◌, ◌<◌, ◌^◌, sym, ◌∙◌, SFits, ap, subst, unsigned_abs, arith, mul-pos, mul-one}
+use Rattle.std.proofs.Common.{◌≡◌, refl, ℕ, ℤ, pos, neg_ℤ, ◌+ℤ◌, ◌*ℤ◌, ◌+◌, ◌*◌, ◌/◌, ◌<◌, ◌^◌, sym, ◌∙◌, SFits, ap, subst, unsigned_abs, arith, mul-pos, mul-one}
 use Rattle.std.proofs.Math.Nat.{div_self, div-one}
-use Rattle.std.proofs.Math.IntN.{+ℤ_comm}
+use Rattle.std.proofs.Math.IntN.{+ℤ_comm, zero-*ℤ}
 use Rattle.std.proofs.lemmas.Int.{ints, unsigned_abs-mul}
 use Prim.Native.Nat.{◌∣◌}
 use native.Mathlib.Nat.{dvd-mul_left, dvd-mul_right, eq-one_of_dvd-one}
@@ -14,8 +14,10 @@ use Rattle.ratio.specs.Gcd.{gcd}
 use Rattle.ratio.specs.Coprime.{gcd-IsGcd, Coprime-cancel}
 use Rattle.ratio.specs.Integers.{up-mul, down-mul, up-neg, down-neg, *ℤ-+ℤ}
 use Rattle.ratio.specs.Fractions.{times_part, first_part_pos, part_pos, times-int_div, parts_reduced, IsGcd-one, gcd-is, gcd_comm, gcd-one, gcd-self}
-use Rattle.ratio.specs.Rational.{ℚ, over, ◌+ℚ◌}
-use Rattle.ratio.specs.Laws.{same_ratio, over_terms, own_ratio, sum_ratio}
+use Rattle.ratio.specs.Rational.{ℚ, whole, over, ◌+ℚ◌}
+use Rattle.ratio.specs.Laws.{same_ratio, over_terms, own_ratio, sum_ratio, +ℚ-zero}
+use Rattle.ratio.specs.Order.{zero_num}
+use Rattle.narrow_fraction.specs.Fraction.{FitsFrac}
 use Rattle.narrow_fraction.specs.Past128.{SumFits}
 
 sum_cross : (ux vx uy vy x y g b d : ℕ) → g * b ≡ x → g * d ≡ y
@@ -85,6 +87,19 @@ module _ (x y : ℚ) (e : y.den ≡ 1) where
 
   pub whole_sum : over (x.num +ℤ y.num *ℤ pos x.den) x.den ≡ x +ℚ y
   whole_sum = rw (whole_left, whole_right, once x.num, mul-one x.den) at (sum-over x y)
+
+-- ---- with 0
+whole_den : (z : ℤ) → (whole z).den ≡ 1
+unfolding whole
+whole_den z = refl
+
+pub zero_sum : (x y : ℚ) → FitsFrac x → unsigned_abs y.num ≡ 0 → SumFits x y × (x ≡ x +ℚ y)
+zero_sum x y f e =
+    let z : y.num ≡ pos 0 = omega (arith, ints) in
+    let w : y ≡ whole (pos 0) = zero_num y z in
+    let d : y.den ≡ 1 = ap (λ (t : ℚ). t.den) w ∙ whole_den (pos 0) in
+    let m : y.num *ℤ pos x.den ≡ pos 0 = ap (λ n. n *ℤ pos x.den) z ∙ zero-*ℤ (pos x.den) in
+    (fits_whole x y d f.num_fits f.den_fits (rw m (omega arith)) (omega (arith, ints, m, f.num_fits)), sym (+ℚ-zero x) ∙ ap (λ t. x +ℚ t) (sym w))
 
 -- ---- over one denominator
 module _ (x y : ℚ) (e : x.den ≡ y.den) where

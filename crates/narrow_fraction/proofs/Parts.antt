@@ -1,5 +1,5 @@
 -- The parts of a fraction: a sign, and two numbers with no common divisor.
-use Rattle.std.proofs.Common.{◌≡◌, ℕ, zero, suc, ℤ, pos, negsuc, Bool, true, false, neg_ℤ, not, ◌*ℤ◌, ◌*◌, ◌/◌, ◌<◌, ◌^◌, refl, sym, ◌∙◌, ap, ap₂, subst, arith, unsigned_abs, mul-pos}
+use Rattle.std.proofs.Common.{◌≡◌, ℕ, zero, suc, ℤ, pos, negsuc, Bool, true, false, neg_ℤ, not, ◌*ℤ◌, ◌*◌, ◌/◌, ◌<◌, ◌^◌, refl, sym, ◌∙◌, ap, ap₂, subst, arith, unsigned_abs, mul-pos, mul-zero, zero-mul, ◌⊎◌, inl, inr}
 use Rattle.std.specs.Prelude.{int_div, int_lt}
 use Rattle.std.specs.Int.{IsGcd}
 use mathlib.Core.Bool.{beq}
@@ -10,10 +10,11 @@ use native.Mathlib.Nat.{one-dvd, dvd-mul_left}
 use Rattle.ratio.specs.Gcd.{gcd}
 use Rattle.ratio.specs.Coprime.{Coprime-cancel}
 use Rattle.ratio.specs.Fractions.{IsGcd-one, gcd-is, gcd_pos, times_part, part_pos, parts_reduced}
-use Rattle.ratio.specs.Rational.{ℚ, over, neg_ℚ, quotient, ◌*ℚ◌}
+use Rattle.ratio.specs.Rational.{ℚ, over, whole, neg_ℚ, quotient, ◌*ℚ◌}
 use Rattle.ratio.specs.Integers.{up-neg, down-neg}
 use Rattle.ratio.specs.Laws.{same_ratio, over_ratio}
-use Rattle.ratio.specs.Lowest.{over-own, over-lowest, over-neg_ℤ, quotient-pos, quotient-negsuc}
+use Rattle.ratio.specs.Order.{zero_num}
+use Rattle.ratio.specs.Lowest.{over-own, over-lowest, num_size, over-neg_ℤ, quotient-pos, quotient-negsuc}
 use Rattle.narrow_fraction.specs.Fraction.{FitsFrac, signed}
 
 pub abs-signed : (b : Bool) (n : ℕ) → unsigned_abs (signed b n) ≡ n
@@ -129,6 +130,29 @@ signed-times (negsuc a) (negsuc b) = refl
 pub product-over : (x y : ℚ) → over (x.num *ℤ y.num) (x.den * y.den) ≡ x *ℚ y
 unfolding ◌*ℚ◌
 product-over x y = refl
+
+zero_sign : (s : Bool) (n : ℕ) → n ≡ 0 → signed s n ≡ pos 0
+zero_sign true n e = rw e
+zero_sign false n e = rw e
+
+-- 0 over any number is 0
+pub zero_over : (d : ℕ) → 0 < d → over (pos 0) d ≡ whole (pos 0)
+zero_over d h = zero_num (over (pos 0) d) (omega (arith, ints, num_size (pos 0) d h))
+
+zero_factor : (a c : ℕ) → (a ≡ 0) ⊎ ((a ≡ 0 → ⊥) × (c ≡ 0)) → a * c ≡ 0
+zero_factor a c (inl e) = rw (e, zero-mul c)
+zero_factor a c (inr h) = rw (h.1, mul-zero a)
+
+zero_fits : FitsFrac (whole (pos 0))
+unfolding whole
+zero_fits = record { num_fits = omega arith; den_fits = omega arith }
+
+-- a product with 0 is 0
+pub zero_product : (s : Bool) (a b c d : ℕ) → 0 < b → 0 < d → (a ≡ 0) ⊎ ((a ≡ 0 → ⊥) × (c ≡ 0)) → (z : ℚ) → z ≡ whole (pos 0)
+    → FitsFrac (over (signed s (a * c)) (b * d)) × (z ≡ over (signed s (a * c)) (b * d))
+zero_product s a b c d p q h z e =
+    let f = ap (λ n. over n (b * d)) (zero_sign s (a * c) (zero_factor a c h)) ∙ zero_over (b * d) (mul-pos p q) in
+    (subst FitsFrac (sym f) zero_fits, e ∙ sym f)
 
 -- ---- quotients of two signs
 not-beq_false : (b : Bool) → not (beq b false) ≡ b

@@ -3,3 +3,4 @@ pub mod Views
 pub mod Made
 pub mod Past128
 pub mod Attempt
+pub mod Short

@@ -1,7 +1,10 @@
 ghost use Rattle.std.specs.Prelude.{◌≡◌, ◌<◌, ◌≤◌, ◌/◌, ◌%◌, ◌^◌};
 ghost use Rattle.ratio.specs.Gcd.{gcd};
 
-/// The greatest common divisor, by Euclid's steps, with no division where one number is 1.
+/// The greatest word, which is a number of 64 bits.
+const WORD: u128 = 18_446_744_073_709_551_615;
+
+/// The greatest common divisor, by Euclid's steps, on words as soon as they serve.
 pub fn common_divisor(a: u128, b: u128) -> u128
     ensures value { result ≡ gcd a b }
     ensures positive { 0 < b → 0 < result }
@@ -11,12 +14,41 @@ pub fn common_divisor(a: u128, b: u128) -> u128
     }
     let mut x = a;
     let mut y = b;
-    'steps: while y != 0 {
-        let rest = remainder(x, y);
+    'steps: while y > WORD {
+        let rest = x % y;
         x = y;
         y = rest;
     }
-    x
+    if y == 0 {
+        return x;
+    }
+    word_divisor(y as u64, remainder(x, y) as u64) as u128
+}
+
+/// The greatest common divisor of two words.
+pub fn word_divisor(a: u64, b: u64) -> u64
+    ensures value { result ≡ gcd a b }
+    ensures positive { 0 < b → 0 < result }
+{
+    if a == 1 {
+        return 1;
+    }
+    let mut x = a;
+    let mut y = b;
+    'steps: while y > 1 {
+        let rest = x % y;
+        x = y;
+        y = rest;
+    }
+    if y == 1 { 1 } else { x }
+}
+
+/// `n / by`, with no division by 1.
+pub fn word_quotient(n: u64, by: u64) -> u64
+    requires { 0 < by }
+    ensures { result ≡ n / by }
+{
+    if by == 1 { n } else { n / by }
 }
 
 /// `n / by`, with no division of 128 bits where a shorter one serves.

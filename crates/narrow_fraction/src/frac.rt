@@ -4,6 +4,7 @@ ghost use Rattle.ratio.specs.Floor.{floor_ℚ};
 ghost use Rattle.ratio.specs.Gcd.{gcd};
 ghost use Rattle.narrow_fraction.specs.Fraction.{FitsFrac, signed};
 ghost use Rattle.narrow_fraction.specs.Made.{IsMade};
+ghost use Rattle.narrow_fraction.specs.Short.{IsShort};
 
 use crate::divisor::{common_divisor, divided};
 use crate::unfit::Unfit;
@@ -38,6 +39,9 @@ impl Model for Frac {
 /// The greatest size of a numerator or denominator.
 pub const MOST: u128 = 170_141_183_460_469_231_731_687_303_715_884_105_727;
 
+/// The greatest number of 63 bits: a product of two has at most 126 bits, and a sum of two products at most 127.
+pub const SHORT: u128 = 9_223_372_036_854_775_807;
+
 /// The number of this size and sign.
 pub fn with_sign(negative: bool, size: u128) -> i128
     requires { size < 2 ^ 127 }
@@ -51,7 +55,7 @@ pub fn with_sign(negative: bool, size: u128) -> i128
 }
 
 /// The fraction of these two sizes, which have no common divisor, with this sign.
-fn lowest(negative: bool, top: u128, bottom: u128) -> Frac
+pub fn lowest(negative: bool, top: u128, bottom: u128) -> Frac
     requires above { 0 < bottom }
     requires reduced { gcd top bottom ≡ 1 }
     requires top { top < 2 ^ 127 }
@@ -142,6 +146,14 @@ impl Frac {
         ensures size { result < 2 ^ 127 }
     {
         self.den.unsigned_abs()
+    }
+
+    /// Whether both numbers have at most 63 bits.
+    pub(crate) fn is_short(self) -> bool
+        ensures { IsTrue result → IsShort self }
+    {
+        let parts = self.parts();
+        parts.top <= SHORT && parts.bottom <= SHORT
     }
 
     /// `num / den` in lowest terms, for any two numbers.

@@ -9,7 +9,7 @@
 //!
 //! and then `a < b`, `a <= b` and `a == b` are `<ℚ`, `≤ℚ` and `≡` to the goals after the test. From the clause of
 //! `Frac::new`, `specs/Made.antt` has `made`: a quotient that fits is answered.
-#![tactic(auto, using(ratio::specs::Compare::eq_false))]
+#![tactic(auto)]
 
 mod compare;
 mod divisor;

@@ -1,8 +1,9 @@
 ghost use Rattle.std.specs.Prelude.{◌≡◌, ◌^◌, ◌<◌, ◌*◌, ◌+ℤ◌, ◌*ℤ◌, pos, unsigned_abs, SomeIff};
 ghost use Rattle.ratio.specs.Rational.{◌+ℚ◌};
 ghost use Rattle.narrow_fraction.specs.Past128.{SumFits};
+ghost use Rattle.narrow_fraction.specs.Short.{IsShort};
 
-use crate::divisor::{common_divisor, divided};
+use crate::divisor::{common_divisor, divided, word_divisor, word_quotient};
 use crate::frac::{Frac, MOST, already_reduced, reduced, reduced_by, with_sign};
 
 /// `n * by`, where it is at most `2^127 - 1` in size.
@@ -61,10 +62,14 @@ fn sum_over_same(x: Frac, y: Frac) -> Option<Frac>
     requires { x.den ≡ y.den }
     ensures { SomeIff result (SumFits x y) (x +ℚ y) }
 {
+    let bottom = x.bottom();
     let Some(top) = fitting_sum(x.num(), y.num()) else {
         return None;
     };
-    Some(reduced(top, x.bottom()))
+    if top == 0 {
+        return Some(Frac::whole(0));
+    }
+    Some(reduced(top, bottom))
 }
 
 /// The sum over the least common denominator.
@@ -94,18 +99,57 @@ fn sum_over_common(x: Frac, y: Frac) -> Option<Frac>
     Some(reduced_by(top, bottom, divisor))
 }
 
+/// `n * by`, which has at most 126 bits.
+fn short_product(n: i128, by: u64) -> i128
+    requires n { unsigned_abs n < 2 ^ 63 }
+    requires by { by < 2 ^ 63 }
+    ensures value { result ≡ n *ℤ pos by }
+    ensures size { unsigned_abs result < 2 ^ 126 }
+{
+    n * by as i128
+}
+
+/// The sum over the least common denominator of fractions of at most 63 bits, which fits in any case.
+fn sum_of_short(x: Frac, y: Frac) -> Frac
+    requires left { IsShort x }
+    requires right { IsShort y }
+    ensures { result ≡ x +ℚ y }
+{
+    let b = x.bottom() as u64;
+    let d = y.bottom() as u64;
+    let shared = word_divisor(b, d);
+    let right_part = word_quotient(d, shared);
+    let first = short_product(x.num(), right_part);
+    let second = short_product(y.num(), word_quotient(b, shared));
+    let top = first + second;
+    let bottom = b as u128 * right_part as u128;
+    let divisor = common_divisor(top.unsigned_abs(), shared as u128);
+    reduced_by(top, bottom, divisor)
+}
+
 /// The sum, by the shortest way.
 pub fn sum(x: Frac, y: Frac) -> Option<Frac>
     ensures { SomeIff result (SumFits x y) (x +ℚ y) }
 {
-    if y.bottom() == 1 {
+    let left = x.parts();
+    let right = y.parts();
+    if right.top == 0 {
+        return Some(x);
+    }
+    if left.top == 0 {
+        return Some(y);
+    }
+    if right.bottom == 1 {
         return sum_with_whole(x, y);
     }
-    if x.bottom() == 1 {
+    if left.bottom == 1 {
         return sum_with_whole(y, x);
     }
-    if x.bottom() == y.bottom() {
+    if left.bottom == right.bottom {
         return sum_over_same(x, y);
+    }
+    if x.is_short() && y.is_short() {
+        return Some(sum_of_short(x, y));
     }
     sum_over_common(x, y)
 }

@@ -1,6 +1,8 @@
 use crate::{Frac, Op, Unfit, Wide};
 use std::rt::HostRuntime;
 
+const TWO_63: i128 = 9_223_372_036_854_775_808;
+
 const TWO_126: i128 = 85_070_591_730_234_615_865_843_651_857_942_052_864;
 
 const TWO_100: i128 = 1_267_650_600_228_229_401_496_703_205_376;
@@ -13,6 +15,7 @@ fn fraction(num: i128, den: i128) -> Frac {
 }
 
 /// The operation's answer; a quotient by 0 is not asked for.
+#[tactic(auto, using(ratio::specs::Compare::eq_false))]
 fn answer(op: Op, left: Frac, right: Frac) -> Result<Frac, Wide> {
     match op {
         Op::Add => left.plus(right),
@@ -61,8 +64,29 @@ fn operations_within_128_bits(rt: HostRuntime) {
         (Op::Add, (-TWO_126, 1), (-TWO_126 + 1, 1), (-i128::MAX, 1)),
         (Op::Sub, (1, 2), (2, 3), (-1, 6)),
         (Op::Sub, (5, 1), (0, 1), (5, 1)),
+        (Op::Sub, (0, 1), (5, 3), (-5, 3)),
+        (
+            Op::Sub,
+            (TWO_63 - 1, 2),
+            (1 - TWO_63, 6),
+            (2 * (TWO_63 - 1), 3),
+        ),
+        (
+            Op::Add,
+            (TWO_63, 3),
+            (1, TWO_63 + 1),
+            ((TWO_126 + TWO_63) / 3 + 1, TWO_63 + 1),
+        ),
         (Op::Mul, (2, 3), (-9, 4), (-3, 2)),
         (Op::Mul, (i128::MAX, 2), (2, i128::MAX), (1, 1)),
+        (Op::Mul, (-1, 1), (i128::MAX, 2), (-i128::MAX, 2)),
+        (
+            Op::Mul,
+            (TWO_63 - 1, 2),
+            (TWO_63, TWO_63 - 1),
+            (TWO_63 / 2, 1),
+        ),
+        (Op::Div, (0, 1), (-4, 9), (0, 1)),
         (Op::Div, (2, 3), (-4, 9), (-3, 2)),
         (Op::Div, (1, 1), (-i128::MAX, 5), (-5, i128::MAX)),
     ];

@@ -13,10 +13,10 @@ use Rattle.plan_text.specs.declared.fault.TextFault.{TextFault}
 use Rattle.plan_text.specs.declared.fault.TextFault.TheVariants.{Shape, Number}
 use Rattle.plan_text.specs.declared.fault.TextEnd.{TextEnd}
 use Rattle.plan_text.specs.declared.lines.Place.{Place}
-use Rattle.plan_text.specs.Words.{cut, words}
+use Rattle.plan_text.specs.Words.{cut, words, is_text}
 use Rattle.plan_text.specs.Numbers.{number}
 use Rattle.plan_text.specs.Spelling.{spelled}
-use Rattle.plan_text.specs.Lines.{◌>>=◌, Gives, fault, line_or, line_at, is_text, fixed_at, nothing_at, ranged, numbers_in, numbers_of, numbers_at}
+use Rattle.plan_text.specs.Lines.{◌>>=◌, Gives, fault, line_or, line_at, fixed_at, nothing_at, ranged, numbers_in, numbers_of, numbers_at}
 use Rattle.plan_text.proofs.Spellings.{decimal-number, number-decimal, both_true}
 use Rattle.plan_text.proofs.Pieces.{uncut, cut_again, lacks, respelled, words_spelled, line_spelled, AreBelow}
 
@@ -56,10 +56,10 @@ line_again line text rest e = ap (line_or line) (cut_again 10 text rest e)
 
 -- ---- a fixed line
 
-same_text : (x y : List ℕ) → is_text x y ≡ true → x ≡ y
+pub same_text : (x y : List ℕ) → is_text x y ≡ true → x ≡ y
 same_text x y e = (bytes_decides x y).0 e
 
-text_same : (x : List ℕ) → is_text x x ≡ true
+pub text_same : (x : List ℕ) → is_text x x ≡ true
 text_same x = (bytes_decides x x).1 refl
 
 pub fixed_takes : (line : ℕ) (text bytes rest : List ℕ) → fixed_at line text bytes ≡ Ok rest → bytes ≡ text ++ 10 ∷ rest
@@ -96,13 +96,13 @@ ranged_ok place (Some m) n e =
     let b = both_true (leb place.least m) (leb m place.greatest) g.0 in
     (ap (λ (k : ℕ). Some k) is, subst (λ (k : ℕ). place.least ≤ k) is (leb-true _ _ b.0), subst (λ (k : ℕ). k ≤ place.greatest) is (leb-true _ _ b.1))
 
-number_takes : (place : Place) (w : List ℕ) (n : ℕ) → ranged place (number w) ≡ Ok n → (w ≡ decimal n) × IsWithin place n
+pub number_takes : (place : Place) (w : List ℕ) (n : ℕ) → ranged place (number w) ≡ Ok n → (w ≡ decimal n) × IsWithin place n
 number_takes place w n e =
     let r = ranged_ok place (number w) n e in
     let d = decimal-number w n r.0 in
     (d.0, record { least = r.1; greatest = r.2; limit = d.1 })
 
-number_again : (place : Place) (n : ℕ) → IsWithin place n → ranged place (number (decimal n)) ≡ Ok n
+pub number_again : (place : Place) (n : ℕ) → IsWithin place n → ranged place (number (decimal n)) ≡ Ok n
 number_again place n fits = rw (number-decimal n fits.limit, le-leb place.least n fits.least, le-leb n place.greatest fits.greatest) refl
 
 pub in_takes : (place : Place) (ws : List (List ℕ)) (ns : List ℕ) → numbers_in place ws ≡ Ok ns → (ws ≡ map decimal ns) × AllByRecursion (IsWithin place) ns

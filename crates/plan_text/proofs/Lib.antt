@@ -5,3 +5,13 @@ pub mod Pieces
 pub mod Fields
 pub mod Timings
 pub mod Written
+pub mod ExactWords
+pub mod FamilyNames
+pub mod RowLoop
+pub mod WordLines
+pub mod WeightLines
+pub mod NodeLines
+pub mod NodeLoop
+pub mod Claims
+pub mod Certificates
+pub mod WrittenTexts

@@ -6,7 +6,7 @@ use Rattle.std.specs.Fmt.{decimal}
 use Rattle.std.specs.List.{AllByRecursion}
 use Rattle.std.proofs.lemmas.Bool.Decides.{nat_tests}
 use Rattle.std.proofs.lemmas.Str.Parse.{tells_all_ascii_digits}
-use Rattle.plan_text.specs.Words.{cut, words, with_byte}
+use Rattle.plan_text.specs.Words.{cut, words, with_byte, line_of}
 use Rattle.plan_text.specs.Spelling.{spelled}
 use Rattle.plan_text.proofs.Cuts.{some_is, words_one, words_more}
 use Rattle.plan_text.proofs.Spellings.{all_digits_decimal}
@@ -24,10 +24,10 @@ uncut_by b x xs front rest None false is h e = absurd cc
 uncut_by b x xs front rest (Some p) false is h e =
     ap (λ (y : List ℕ). x ∷ y) (h p.0 p.1 refl) ∙ ap (λ (q : List ℕ × List ℕ). q.0 ++ b ∷ q.1) (some_is (x ∷ p.0, p.1) (front, rest) e)
 
-same_byte : (x b : ℕ) → (x == b) ≡ true → x ≡ b
+pub same_byte : (x b : ℕ) → (x == b) ≡ true → x ≡ b
 same_byte x b e = grind (arith, nat_tests)
 
-other_byte : (x b : ℕ) → b < 48 → 48 ≤ x → (x == b) ≡ false
+pub other_byte : (x b : ℕ) → b < 48 → 48 ≤ x → (x == b) ≡ false
 other_byte x b small large = grind (arith, nat_tests)
 
 equal_byte : (b : ℕ) → (b == b) ≡ true
@@ -72,10 +72,10 @@ cut_again b (x ∷ xs) rest e = cuttable x (xs ++ b ∷ rest) xs rest (cut b (xs
 
 -- ---- digits
 
-lacks_more : (c l : Bool) → c ≡ false → l ≡ true → (if c then false else l) ≡ true
+pub lacks_more : (c l : Bool) → c ≡ false → l ≡ true → (if c then false else l) ≡ true
 lacks_more c l p q = rw p q
 
-lacks_digits : (b : ℕ) (ds : List ℕ) → b < 48 → all_ascii_digits ds ≡ true → lacks b ds ≡ true
+pub lacks_digits : (b : ℕ) (ds : List ℕ) → b < 48 → all_ascii_digits ds ≡ true → lacks b ds ≡ true
 lacks_digits b [] small e = refl
 lacks_digits b (d ∷ ds) small e =
     let p = tells_all_ascii_digits.parts d ds e in
@@ -86,25 +86,14 @@ lacks_decimal b n small few = lacks_digits b (decimal n) small (all_digits_decim
 
 -- ---- words
 
--- words with one space between
-after_space : List (List ℕ) → List ℕ
-after_space [] = []
-after_space (w ∷ ws) = 32 ∷ (w ++ after_space ws)
-
-joined : List (List ℕ) → List ℕ
-joined [] = []
-joined (w ∷ ws) = w ++ after_space ws
-
 abbrev pub AreBelow : List ℕ → Type 0
 AreBelow ns = AllByRecursion (λ n. n < 2 ^ 80) ns
 
-joined_with : (x : ℕ) (ws : List (List ℕ)) → joined (with_byte x ws) ≡ x ∷ joined ws
-unfolding joined after_space
+joined_with : (x : ℕ) (ws : List (List ℕ)) → line_of (with_byte x ws) ≡ x ∷ line_of ws
 joined_with x [] = refl
 joined_with x (w ∷ ws) = refl
 
-joined_after : (ws : List (List ℕ)) → 0 < length ws → joined ([] ∷ ws) ≡ 32 ∷ joined ws
-unfolding joined after_space
+joined_after : (ws : List (List ℕ)) → 0 < length ws → line_of ([] ∷ ws) ≡ 32 ∷ line_of ws
 joined_after [] some = absurd (omega arith)
 joined_after (w ∷ ws) some = refl
 
@@ -120,23 +109,21 @@ some_words : (xs : List ℕ) → 0 < length (words xs)
 some_words [] = omega arith
 some_words (x ∷ xs) = some_by x (words xs) (x == 32)
 
-joined_by : (x : ℕ) (xs : List ℕ) (ws : List (List ℕ)) (c : Bool) → (c ≡ true → x ≡ 32) → 0 < length ws → joined ws ≡ xs → joined (if c then [] ∷ ws else with_byte x ws) ≡ x ∷ xs
+joined_by : (x : ℕ) (xs : List ℕ) (ws : List (List ℕ)) (c : Bool) → (c ≡ true → x ≡ 32) → 0 < length ws → line_of ws ≡ xs → line_of (if c then [] ∷ ws else with_byte x ws) ≡ x ∷ xs
 joined_by x xs ws true is some e = joined_after ws some ∙ (λ i. sym (is refl) i ∷ e i)
 joined_by x xs ws false is some e = joined_with x ws ∙ ap (λ (y : List ℕ). x ∷ y) e
 
-joined_words : (xs : List ℕ) → joined (words xs) ≡ xs
-unfolding joined after_space
+pub joined_words : (xs : List ℕ) → line_of (words xs) ≡ xs
 joined_words [] = refl
 joined_words (x ∷ xs) = joined_by x xs (words xs) (x == 32) (same_byte x 32) (some_words xs) (joined_words xs)
 
-joined_spelled : (w : List ℕ) (ns : List ℕ) → joined (w ∷ map decimal ns) ≡ spelled w ns
-unfolding joined after_space
+joined_spelled : (w : List ℕ) (ns : List ℕ) → line_of (w ∷ map decimal ns) ≡ spelled w ns
 joined_spelled w [] = append-nil w
 joined_spelled w (n ∷ ns) = ap (λ (y : List ℕ). w ++ 32 ∷ y) (joined_spelled (decimal n) ns)
 
 -- a line whose words are a key and numbers is spelled so
 pub respelled : (line key : List ℕ) (ns : List ℕ) → words line ≡ key ∷ map decimal ns → line ≡ spelled key ns
-respelled line key ns e = sym (joined_words line) ∙ ap joined e ∙ joined_spelled key ns
+respelled line key ns e = sym (joined_words line) ∙ ap line_of e ∙ joined_spelled key ns
 
 -- the words of what is spelled
 pub words_spelled : (w : List ℕ) (ns : List ℕ) → lacks 32 w ≡ true → AreBelow ns → words (spelled w ns) ≡ w ∷ map decimal ns

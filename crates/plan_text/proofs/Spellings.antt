@@ -13,7 +13,7 @@ use Rattle.std.proofs.lemmas.Str.Parse.{digit_from_value, IsNumeralModel, numera
 use Rattle.plan_text.specs.Numbers.{number, is_numeral, is_plain}
 
 -- digits by test, with std's value
-own : IsNumeralModel (λ ds. all_ascii_digits ds ≡ true) (digits_value 10)
+pub own : IsNumeralModel (λ ds. all_ascii_digits ds ≡ true) (digits_value 10)
 own = numerals_by_value (λ ds. all_ascii_digits ds ≡ true) tells_all_ascii_digits
 
 le_value_after : (n : ℕ) (ds : List ℕ) → n ≤ digits_value_after 10 n ds

@@ -13,12 +13,19 @@ pub spelled_flat : (w ns : List ℕ) → spelled w ns ≡ w ++ flat_map spaced n
 spelled_flat w [] = sym (append-nil w)
 spelled_flat w (n ∷ ns) = ap (λ (y : List ℕ). w ++ 32 ∷ y) (spelled_flat (decimal n) ns)
 
+-- lines, and lines after them
+pub ended-append : (first second : List (List ℕ)) → ended (first ++ second) ≡ ended first ++ ended second
+ended-append [] second = refl
+ended-append (l ∷ ls) second = ap (λ (y : List ℕ). l ++ 10 ∷ y) (ended-append ls second) ∙ sym (append_assoc l (10 ∷ ended ls) (ended second))
+
+-- more lines
+pub more_lines : (old : List ℕ) (lines more : List (List ℕ)) (before after : List ℕ) → before ≡ old ++ ended lines → after ≡ before ++ ended more → after ≡ old ++ ended (lines ++ more)
+more_lines old lines more before after e f =
+    f ∙ ap (λ (y : List ℕ). y ++ ended more) e ∙ append_assoc old (ended lines) (ended more) ∙ ap (λ (y : List ℕ). old ++ y) (sym (ended-append lines more))
+
 -- one more line
-pub one_more : (lines : List (List ℕ)) (line before after : List ℕ) → before ≡ ended lines → after ≡ before ++ (line ++ 10 ∷ []) → after ≡ ended (lines ++ line ∷ [])
-one_more [] line before after e f = f ∙ ap (λ (y : List ℕ). y ++ (line ++ 10 ∷ [])) e
-one_more (l ∷ ls) line before after e f =
-    f ∙ ap (λ (y : List ℕ). y ++ (line ++ 10 ∷ [])) e ∙ append_assoc l (10 ∷ ended ls) (line ++ 10 ∷ [])
-    ∙ ap (λ (y : List ℕ). l ++ 10 ∷ y) (one_more ls line (ended ls) (ended ls ++ (line ++ 10 ∷ [])) refl refl)
+pub one_more : (old : List ℕ) (lines : List (List ℕ)) (line before after : List ℕ) → before ≡ old ++ ended lines → after ≡ before ++ (line ++ 10 ∷ []) → after ≡ old ++ ended (lines ++ line ∷ [])
+one_more old lines line before after e f = more_lines old lines (line ∷ []) before after e f
 
 -- one more number
 pub pushed : (front ns : List ℕ) (i : ℕ) (before word after : List ℕ) → i < length ns → before ≡ front ++ flat_map spaced (take i ns) → word ≡ spaced (get_or ns i 0) → after ≡ before ++ word

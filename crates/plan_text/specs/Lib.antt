@@ -1,5 +1,10 @@
 pub mod Words
 pub mod Numbers
+pub mod Fractions
 pub mod Spelling
 pub mod Lines
 pub mod Reading
+pub mod Families
+pub mod Warrants
+pub mod CertificateText
+pub mod CertificateReading

@@ -1,7 +1,6 @@
 -- Reading a text line by line. Each reader answers what it read and the bytes that follow, or the first fault with its line.
-use Rattle.std.specs.Prelude.{◌≡◌, ℕ, nat_eq, nat_le, ◌&&◌, List, [], ◌∷◌, length, Bool, false, Option, None, Some, Result, Ok, Err, if◌then◌else◌}
-use Rattle.std.specs.Cmp.Lexicographic.{pointwise}
-use Rattle.plan_text.specs.Words.{cut, words}
+use Rattle.std.specs.Prelude.{◌≡◌, ℕ, nat_le, ◌&&◌, List, [], ◌∷◌, length, Bool, false, Option, None, Some, Result, Ok, Err, if◌then◌else◌}
+use Rattle.plan_text.specs.Words.{cut, words, is_text}
 use Rattle.plan_text.specs.Numbers.{number}
 use Rattle.plan_text.specs.declared.fault.TextFault.{TextFault}
 use Rattle.plan_text.specs.declared.fault.TextFault.TheVariants.{Ended, Shape, Number}
@@ -35,15 +34,17 @@ line_or line (Some p) = Ok p
 unfoldable pub line_at : ℕ → List ℕ → Result (List ℕ × List ℕ) BadText
 line_at line bytes = line_or line (cut 10 bytes)
 
--- two texts have the same bytes
-abbrev pub is_text : List ℕ → List ℕ → Bool
-is_text x y = pointwise nat_eq x y
-
 -- what follows a line with this very text
 unfoldable pub fixed_at : ℕ → List ℕ → List ℕ → Result (List ℕ) BadText
 fixed_at line text bytes = do
   l ← line_at line bytes
   if is_text l.0 text then Ok l.1 else fault line Shape
+
+-- the words of the next line, and what follows it
+unfoldable pub words_at : ℕ → List ℕ → Result (List (List ℕ) × List ℕ) BadText
+words_at line bytes = do
+  l ← line_at line bytes
+  Ok (words l.0, l.1)
 
 -- nothing is left
 unfoldable pub nothing_at : ℕ → List ℕ → Result ℕ BadText

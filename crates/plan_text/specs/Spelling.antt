@@ -45,11 +45,10 @@ band_key = 98 ∷ 97 ∷ 110 ∷ 100 ∷ []
 abbrev pub end_line : List ℕ  -- end
 end_line = 101 ∷ 110 ∷ 100 ∷ []
 
--- the ten lines
-abbrev pub timing_lines : Plan → List (List ℕ)
-timing_lines t =
-    head_line
-    ∷ spelled grid_key (t.grid ∷ [])
+-- the eight lines of its numbers
+abbrev pub plan_lines : Plan → List (List ℕ)
+plan_lines t =
+    spelled grid_key (t.grid ∷ [])
     ∷ spelled unit_key (t.unit ∷ [])
     ∷ spelled pattern_key t.patterns
     ∷ spelled red_key (map unsigned_abs t.reds)
@@ -57,8 +56,11 @@ timing_lines t =
     ∷ spelled run_in_key t.run_in
     ∷ spelled first_key (unsigned_abs t.first_out ∷ unsigned_abs t.first_in ∷ [])
     ∷ spelled band_key (t.band_out ∷ t.band_in ∷ [])
-    ∷ end_line
     ∷ []
+
+-- the ten lines
+abbrev pub timing_lines : Plan → List (List ℕ)
+timing_lines t = head_line ∷ plan_lines t ++ end_line ∷ []
 
 abbrev pub timing_text : Plan → List ℕ
 timing_text t = ended (timing_lines t)

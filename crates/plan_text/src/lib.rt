@@ -1,20 +1,35 @@
 //! Texts of plans: what is written is the one spelling, and what is read is exactly that. Where a text is
 //! refused, its first bad line is named with what is wrong there.
 //!
-//! Contracts see a timing as the `Plan` of the model. `specs/Spelling` has its one text, and `specs/Lines`
-//! and `specs/Reading` say which fault comes at which line. Start with `read_timing`.
+//! Contracts see a timing as the `Plan` of the model, and a certificate as a `Warrant`: a claim, a timing where the
+//! claim has a value, and one tree of splits and leaves in preorder. `specs/Spelling` and `specs/CertificateText` have
+//! their texts, and `specs/Lines`, `specs/Reading` and `specs/CertificateReading` say which fault comes at which line.
+//! Start with `read_timing` and `read_certificate`.
 #![tactic(auto)]
 
+mod cert_reading;
+mod cert_writing;
+mod certificate;
+mod claim;
 mod cut;
+mod family;
 mod fault;
+mod fraction;
 mod lines;
 mod number;
 mod reading;
+mod row;
+mod tree;
 mod writing;
 
+pub use cert_reading::read_certificate;
+pub use cert_writing::write_certificate;
+pub use certificate::{CertNode, Certificate, Claim};
 pub use fault::{BadText, TextEnd, TextFault};
 pub use reading::read_timing;
 pub use writing::write_timing;
 
+#[cfg(test)]
+mod cert_tests;
 #[cfg(test)]
 mod tests;

@@ -1,7 +1,7 @@
 //! The lines of a text, one after the other.
 
 ghost use Rattle.std.specs.Prelude.{◌≡◌, ◌≤◌, All, map, length, IfOk};
-ghost use Rattle.plan_text.specs.Lines.{Gives, line_at, fixed_at, nothing_at, ranged, numbers_in, has_shape, numbers_of, numbers_at};
+ghost use Rattle.plan_text.specs.Lines.{Gives, line_at, words_at, fixed_at, nothing_at, ranged, numbers_in, has_shape, numbers_of, numbers_at};
 ghost use Rattle.plan_text.specs.Numbers.{number};
 ghost use Rattle.plan_text.specs.Words.{words};
 
@@ -24,7 +24,7 @@ pub struct Place {
 }
 
 /// A fault at a line.
-fn bad(line: u64, kind: TextFault) -> TextEnd
+pub fn bad(line: u64, kind: TextFault) -> TextEnd
     ensures { result ≡ TextEnd.Bad (record { line = line; kind = kind }) }
 {
     TextEnd::Bad(BadText { line, kind })
@@ -32,7 +32,7 @@ fn bad(line: u64, kind: TextFault) -> TextEnd
 
 /// The next line, and what follows it.
 #[tactic(auto, unfolding(crate::specs::Lines::line_at))]
-fn line_at(line: u64, bytes: &[u8]) -> Result<(&[u8], &[u8]), TextEnd>
+pub fn line_at(line: u64, bytes: &[u8]) -> Result<(&[u8], &[u8]), TextEnd>
     ensures { Gives (λ x. (x.0.now, x.1.now)) result (line_at line bytes.now) }
 {
     match cut(bytes, b'\n') {
@@ -53,6 +53,16 @@ pub fn fixed_at<'a>(line: u64, text: &[u8], bytes: &'a [u8]) -> Result<&'a [u8],
     Ok(rest)
 }
 
+/// The words of the next line, and what follows it.
+#[tactic(auto, unfolding(crate::specs::Lines::words_at))]
+pub fn words_at(alloc: Global, line: u64, bytes: &[u8]) -> Result<(Vec<&[u8]>, &[u8]), TextEnd>
+    ensures { Gives (λ x. (map (λ w. w.now) x.0.items, x.1.now)) result (words_at line bytes.now) }
+{
+    let (text, rest) = line_at(line, bytes)?;
+    let words = words(alloc, text)?;
+    Ok((words, rest))
+}
+
 /// That nothing is left.
 #[tactic(auto, unfolding(crate::specs::Lines::nothing_at))]
 pub fn nothing_at(line: u64, bytes: &[u8]) -> Result<(), TextEnd>
@@ -66,8 +76,9 @@ pub fn nothing_at(line: u64, bytes: &[u8]) -> Result<(), TextEnd>
 }
 
 /// A number in its spelling and its range.
-fn ranged(place: Place, word: &[u8]) -> Result<u128, TextEnd>
-    ensures { Gives (λ n. n) result (ranged place (number word.now)) }
+pub fn ranged(place: Place, word: &[u8]) -> Result<u128, TextEnd>
+    ensures exact { Gives (λ n. n) result (ranged place (number word.now)) }
+    ensures most { IfOk result (λ n. n ≤ place.greatest) }
 {
     match number(word) {
         Some(number) if place.least <= number && number <= place.greatest => Ok(number),

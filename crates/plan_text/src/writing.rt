@@ -2,7 +2,7 @@
 
 ghost use Rattle.std.specs.Prelude.{◌≡◌, ◌++◌, ◌∷◌, [], IfOk, OnOk, unsigned_abs};
 ghost use Rattle.progression.specs.Plan.{first};
-ghost use Rattle.plan_text.specs.Spelling.{spelled, timing_text};
+ghost use Rattle.plan_text.specs.Spelling.{spelled, ended, plan_lines, timing_text};
 
 use narrow_fraction::Memory;
 use progression::Dir;
@@ -44,21 +44,20 @@ fn first_of(timing: &Timing, dir: Dir) -> u128
     timing.first(dir).unsigned_abs()
 }
 
-fn text_of(alloc: Global, timing: &Timing) -> Result<Vec<u8>, AllocError>
-    ensures { IfOk result (λ v. v.items ≡ timing_text timing.now) }
+/// Writes the eight lines of a timing's numbers at the end.
+pub(crate) fn push_plan(alloc: Global, out: &mut Vec<u8>, timing: &Timing) -> Result<(), AllocError>
+    ensures { OnOk result (out.new.items ≡ out.old.items ++ ended (plan_lines timing.now)) }
 {
     let patterns = widened(alloc, timing.patterns())?;
-    let mut out = Vec::new(alloc);
-    push_numbers(alloc, &mut out, b"maxband-timing 1", &[])?;
-    push_numbers(alloc, &mut out, b"grid", &[timing.grid()])?;
-    push_numbers(alloc, &mut out, b"unit", &[timing.unit()])?;
-    push_numbers(alloc, &mut out, b"pattern", patterns.as_slice())?;
-    push_numbers(alloc, &mut out, b"red", timing.reds())?;
-    push_numbers(alloc, &mut out, b"run_out", timing.run_out())?;
-    push_numbers(alloc, &mut out, b"run_in", timing.run_in())?;
+    push_numbers(alloc, out, b"grid", &[timing.grid()])?;
+    push_numbers(alloc, out, b"unit", &[timing.unit()])?;
+    push_numbers(alloc, out, b"pattern", patterns.as_slice())?;
+    push_numbers(alloc, out, b"red", timing.reds())?;
+    push_numbers(alloc, out, b"run_out", timing.run_out())?;
+    push_numbers(alloc, out, b"run_in", timing.run_in())?;
     push_numbers(
         alloc,
-        &mut out,
+        out,
         b"first",
         &[
             first_of(timing, Dir::Outbound),
@@ -67,10 +66,19 @@ fn text_of(alloc: Global, timing: &Timing) -> Result<Vec<u8>, AllocError>
     )?;
     push_numbers(
         alloc,
-        &mut out,
+        out,
         b"band",
         &[timing.band(Dir::Outbound), timing.band(Dir::Inbound)],
     )?;
+    Ok(())
+}
+
+fn text_of(alloc: Global, timing: &Timing) -> Result<Vec<u8>, AllocError>
+    ensures { IfOk result (λ v. v.items ≡ timing_text timing.now) }
+{
+    let mut out = Vec::new(alloc);
+    push_numbers(alloc, &mut out, b"maxband-timing 1", &[])?;
+    push_plan(alloc, &mut out, timing)?;
     push_numbers(alloc, &mut out, b"end", &[])?;
     Ok(out)
 }

@@ -9,8 +9,18 @@ use std::alloc::{AllocError, Global};
 pub fn exact_text(alloc: Global, value: Frac) -> Result<Vec<u8>, Memory>
     ensures { IfOk result (λ text. text.items ≡ exact_spelling value) }
 {
-    match spelled(alloc, value.num(), value.den().unsigned_abs()) {
+    match exact_string(alloc, value) {
         Ok(text) => Ok(text.into_bytes()),
+        Err(_) => Err(Memory),
+    }
+}
+
+/// The same as a string.
+pub fn exact_string(alloc: Global, value: Frac) -> Result<String, Memory>
+    ensures { IfOk result (λ text. string_bytes text ≡ exact_spelling value) }
+{
+    match spelled(alloc, value.num(), value.den().unsigned_abs()) {
+        Ok(text) => Ok(text),
         Err(_) => Err(Memory),
     }
 }

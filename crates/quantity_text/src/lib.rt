@@ -13,7 +13,7 @@ mod numeral;
 mod quantity;
 
 pub use decimal::decimal_text;
-pub use exact::exact_text;
+pub use exact::{exact_string, exact_text};
 pub use exact_read::{law_one_spelling, parse_exact};
 pub use quantity::{BadNumber, parse_quantity};
 

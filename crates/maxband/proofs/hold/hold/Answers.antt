@@ -1,7 +1,7 @@
 use Rattle.std.proofs.Common.{subst}
 use Rattle.std.proofs.lemmas.Result.{err_from_is_err_and}
-use Rattle.maxband.specs.Hold.{ReadsTiming}
-use Rattle.maxband.proofs.Turns.{second_later, ends_second}
+use Rattle.maxband.specs.Turns.{ReadsTiming}
+use Rattle.maxband.proofs.Holding.{second_later, ends_second}
 use Rattle.maxband.proofs.hold.hold.Goals as goal
 
 pub returns-in-Ok-clause-ok : goal.returns-in-Ok-clause-ok

@@ -1,0 +1,91 @@
+-- What an accepted certificate says of every good timing.
+use Rattle.std.proofs.Common.{◌⊎◌, inl, inr, Option, None, Some, List, [], ◌∷◌, map, sym, subst}
+use Rattle.ratio.specs.Rational.{ℚ, ◌≤ℚ◌}
+use Rattle.ratio.specs.Rows as maths
+use Rattle.ratio.specs.Rows.{IsMet}
+use Rattle.progression.specs.Street.{Street}
+use Rattle.progression.specs.Plan.{Plan}
+use Rattle.progression.specs.Good.{Good}
+use Rattle.progression.specs.Best.{weighted_band, Bounded}
+use Rattle.progression.specs.Columns.{point}
+use Rattle.linear_model.specs.Boxes.{Area, InBox, IsBoxOf, root_box}
+use Rattle.linear_model.specs.Counts.{IsStreet}
+use Rattle.linear_model.specs.Trees.{leaf_sum}
+use Rattle.linear_model.specs.TreeLaws.{leaf_met}
+use Rattle.linear_model.specs.Bounds.{covers_law, refutes_law}
+use Rattle.linear_model.specs.Roots.{root_law, shift_there}
+use Rattle.linear_model.specs.RootBoxes.{root_boxed, root_is}
+use Rattle.linear_model.specs.Splits.{loop_split}
+use Rattle.linear_model.specs.TurnSplits.{turn_split}
+use Rattle.linear_model.specs.PartBoxes.{low_loop_boxed, high_loop_boxed, low_turn_boxed, high_turn_boxed}
+use Rattle.loop_rows.specs.Weights.{named}
+use Rattle.search_box.specs.Places.{IsPlace, low_part, high_part}
+use Rattle.search_box.specs.declared.span.At.{At}
+use Rattle.search_box.specs.declared.span.At.TheVariants.{Loop, Turn}
+use Rattle.plan_text.specs.declared.certificate.Claim.{Claim}
+use Rattle.plan_text.specs.declared.certificate.Claim.TheVariants.{Best, NoTiming, Stopped}
+use Rattle.plan_text.specs.Warrants.{Warrant, Node, SplitAt, LeafOf}
+use Rattle.certificate_checker.specs.Accepted.{IsTimed, Shows, AreProofs, IsAccepted, limit_of, value_of}
+use Rattle.certificate_checker.specs.Claims.{IsBest, Holds}
+
+-- a value is at most the limit; where there is no limit, there is no value
+abbrev IsWithin : Option ℚ → ℚ → Type 0
+IsWithin None x = ⊥
+IsWithin (Some limit) x = x ≤ℚ limit
+
+-- a box of the artery that holds the timing, and one of several
+abbrev HoldsTiming : Street → Plan → Area → Type 0
+HoldsTiming a t box = IsBoxOf a box × InBox a box t
+
+abbrev InSome : Street → Plan → List Area → Type 0
+InSome a t [] = ⊥
+InSome a t (box ∷ boxes) = HoldsTiming a t box ⊎ InSome a t boxes
+
+module _ (a : Street) (t : Plan) (h : IsStreet a) (g : Good a t) where
+  sum_says : (limit : Option ℚ) (r : maths.Row) → IsMet (point a t) r → Shows a limit r → IsWithin limit (weighted_band a t)
+  sum_says None r m s = refutes_law a t h g r m s
+  sum_says (Some limit) r m (inl s) = covers_law a t h g r limit m s
+  sum_says (Some limit) r m (inr s) = absurd (refutes_law a t h g r m s)
+
+  -- a box that holds the timing has a part that does
+  part_holds : (box : Area) (at : At) → IsPlace box at → HoldsTiming a t box → HoldsTiming a t (low_part box at) ⊎ HoldsTiming a t (high_part box at)
+  part_holds box (Loop i at) p k = elim (loop_split a box t i at k.0 p k.1) [
+    | inl m ↦ inl (low_loop_boxed a box k.0 i at p, m)
+    | inr m ↦ inr (high_loop_boxed a box k.0 i at p, m)
+  ]
+  part_holds box (Turn i rank) p k = elim (turn_split a box t i rank k.0 p k.1) [
+    | inl m ↦ inl (low_turn_boxed a box k.0 i rank p, m)
+    | inr m ↦ inr (high_turn_boxed a box k.0 i rank p, m)
+  ]
+
+  -- the trees keep the weighted band of a timing that one of their boxes holds down to the limit
+  trees_say : (limit : Option ℚ) (boxes : List Area) (ns : List Node) → AreProofs a limit boxes ns → InSome a t boxes → IsWithin limit (weighted_band a t)
+  trees_say limit [] [] c k = absurd k
+  trees_say limit [] (n ∷ ns) c k = absurd k
+  trees_say limit (box ∷ boxes) [] c k = absurd c
+  trees_say limit (box ∷ boxes) (SplitAt at ∷ ns) c (inl k) =
+      trees_say limit (low_part box at ∷ high_part box at ∷ boxes) ns c.1 (elim (part_holds box at c.0 k) [ inl m ↦ inl m | inr m ↦ inr (inl m) ])
+  trees_say limit (box ∷ boxes) (SplitAt at ∷ ns) c (inr k) = trees_say limit (low_part box at ∷ high_part box at ∷ boxes) ns c.1 (inr (inr k))
+  trees_say limit (box ∷ boxes) (LeafOf ws ∷ ns) c (inl k) =
+      sum_says limit (leaf_sum a box (map named ws))
+      (leaf_met a box t (record { street = h; good = g; boxed = k.0; inside = k.1 }) (map named ws) c.0.rows) c.0.shows
+  trees_say limit (box ∷ boxes) (LeafOf ws ∷ ns) c (inr k) = trees_say limit boxes ns c.1 k
+
+  -- the root box holds each good timing
+  root_says : (limit : Option ℚ) (ns : List Node) → AreProofs a limit (root_box a ∷ []) ns → IsWithin limit (weighted_band a t)
+  root_says limit ns c =
+      let root = root_is a h.signals in
+      trees_say limit (root_box a ∷ []) ns c (inl (root_boxed a (root_box a) (shift_there a t h g) root, root_law a t h g (root_box a) root))
+
+best_timed : (a : Street) (value : ℚ) (timing : Option Plan) → Bounded a value → IsTimed a timing (Some value) → IsBest a timing value
+best_timed a value None b h = h
+best_timed a value (Some t) b h = (record { good = h.0; greatest = subst (Bounded a) (sym h.1) b }, h.1)
+
+-- what an accepted certificate claims holds
+claim_holds : (a : Street) (claim : Claim) (timing : Option Plan) (ns : List Node) → IsStreet a → IsTimed a timing (value_of claim) → AreProofs a (limit_of claim) (root_box a ∷ []) ns → Holds a claim timing
+claim_holds a (Best value) timing ns h i c = best_timed a value timing (λ t g. root_says a t h g (Some value) ns c) i
+claim_holds a NoTiming timing ns h i c = λ t g. root_says a t h g None ns c
+claim_holds a (Stopped bound value) timing ns h i c = (λ t g. root_says a t h g (Some bound) ns c, i)
+
+pub accepted_holds : (a : Street) (c : Warrant) → IsStreet a → IsAccepted a c → Holds a c.claim c.timing
+accepted_holds a c h k = claim_holds a c.claim c.timing c.nodes h k.timing k.tree

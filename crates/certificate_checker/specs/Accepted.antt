@@ -1,0 +1,78 @@
+-- Accepted certificates: the timing is good and has the claimed value, and the tree of boxes proves the claim, leaf by leaf.
+use Rattle.std.specs.Prelude.{◌≡◌, ◌⊎◌, List, [], ◌∷◌, map, Option, None, Some}
+use Rattle.ratio.specs.Rational.{ℚ, ◌≤ℚ◌}
+use Rattle.ratio.specs.Rows as maths
+use Rattle.progression.specs.Street.{Street, count}
+use Rattle.progression.specs.Plan.{Plan}
+use Rattle.progression.specs.Good.{Good}
+use Rattle.progression.specs.Best.{weighted_band}
+use Rattle.linear_model.specs.Places.{width}
+use Rattle.linear_model.specs.Boxes.{Area, root_box}
+use Rattle.linear_model.specs.Covering.{CoversGoal, RefutesAll}
+use Rattle.linear_model.specs.Trees.{leaf_sum, AreWeights}
+use Rattle.named_row.specs.Sheets.{Sheet, blank}
+use Rattle.named_row.specs.Refusals.{sum_refusal}
+use Rattle.named_row.specs.declared.leaves.Weight.{Weight}
+use Rattle.loop_rows.specs.Weights.{named, row_at, after_weight}
+use Rattle.search_box.specs.Places.{IsPlace, low_part, high_part}
+use Rattle.plan_text.specs.declared.certificate.Claim.{Claim}
+use Rattle.plan_text.specs.declared.certificate.Claim.TheVariants.{Best, NoTiming, Stopped}
+use Rattle.plan_text.specs.Warrants.{Warrant, Node, SplitAt, LeafOf}
+
+-- ---- the claim
+-- the value that is claimed for the timing, and the number that no weighted band is claimed to exceed
+abbrev pub value_of : Claim → Option ℚ
+value_of (Best value) = Some value
+value_of NoTiming = None
+value_of (Stopped bound value) = value
+
+abbrev pub limit_of : Claim → Option ℚ
+limit_of (Best value) = Some value
+limit_of NoTiming = None
+limit_of (Stopped bound value) = Some bound
+
+-- a timing stands exactly where a value does, is good, and has the value
+abbrev pub IsTimed : Street → Option Plan → Option ℚ → Type 0
+IsTimed a None None = Unit {0}
+IsTimed a None (Some value) = ⊥
+IsTimed a (Some t) None = ⊥
+IsTimed a (Some t) (Some value) = Good a t × (weighted_band a t ≡ value)
+
+-- a claimed bound is not less than a claimed value
+abbrev pub IsBoundAbove : Claim → Type 0
+IsBoundAbove (Best value) = Unit {0}
+IsBoundAbove NoTiming = Unit {0}
+IsBoundAbove (Stopped bound None) = Unit {0}
+IsBoundAbove (Stopped bound (Some value)) = value ≤ℚ bound
+
+-- ---- leaves
+-- no operation of the sum leaves 128 bits, from this sum on
+abbrev pub FitsAlong : Street → Area → Sheet → List Weight → Type 0
+FitsAlong a box sum [] = Unit {0}
+FitsAlong a box sum (w ∷ ws) = (sum_refusal w.by (row_at a box w.row) sum ≡ None) × FitsAlong a box (after_weight a box sum w) ws
+
+-- no point meets the row, or the row keeps the weighted band down to the limit
+abbrev pub Shows : Street → Option ℚ → maths.Row → Type 0
+Shows a None r = RefutesAll a r
+Shows a (Some limit) r = CoversGoal a limit r ⊎ RefutesAll a r
+
+-- a leaf names rows of the artery, with multipliers of at least 0, whose sum shows what is claimed
+pub record IsProof (a : Street) (limit : Option ℚ) (box : Area) (ws : List Weight) : Type 0 where
+  pub rows : AreWeights a (map named ws)
+  pub fits : FitsAlong a box (blank (width (count a))) ws
+  pub shows : Shows a limit (leaf_sum a box (map named ws))
+
+-- ---- trees
+-- the nodes, read in their order, are whole trees for these boxes: each split's place lies in its box, and its two parts
+-- are the next boxes; each leaf is a proof for its box
+abbrev pub AreProofs : Street → Option ℚ → List Area → List Node → Type 0
+AreProofs a limit [] [] = Unit {0}
+AreProofs a limit [] (n ∷ ns) = ⊥
+AreProofs a limit (box ∷ boxes) [] = ⊥
+AreProofs a limit (box ∷ boxes) (SplitAt at ∷ ns) = IsPlace box at × AreProofs a limit (low_part box at ∷ high_part box at ∷ boxes) ns
+AreProofs a limit (box ∷ boxes) (LeafOf ws ∷ ns) = IsProof a limit box ws × AreProofs a limit boxes ns
+
+pub record IsAccepted (a : Street) (c : Warrant) : Type 0 where
+  pub timing : IsTimed a c.timing (value_of c.claim)
+  pub bound : IsBoundAbove c.claim
+  pub tree : AreProofs a (limit_of c.claim) (root_box a ∷ []) c.nodes

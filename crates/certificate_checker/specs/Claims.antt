@@ -1,0 +1,21 @@
+-- What a certificate claims of the artery, of every timing on any grid.
+use Rattle.std.specs.Prelude.{◌≡◌, Option, None, Some}
+use Rattle.ratio.specs.Rational.{ℚ}
+use Rattle.progression.specs.Street.{Street}
+use Rattle.progression.specs.Plan.{Plan}
+use Rattle.progression.specs.Best as best
+use Rattle.progression.specs.Best.{weighted_band, Bounded}
+use Rattle.plan_text.specs.declared.certificate.Claim.{Claim}
+use Rattle.plan_text.specs.declared.certificate.Claim.TheVariants.{Best, NoTiming, Stopped}
+use Rattle.certificate_checker.specs.Accepted.{IsTimed}
+
+-- the timing is best and has this value
+abbrev pub IsBest : Street → Option Plan → ℚ → Type 0
+IsBest a None value = ⊥
+IsBest a (Some t) value = best.Best a t × (weighted_band a t ≡ value)
+
+-- the timing is best; or no timing is good; or no good timing has a value above the bound, and the timing is good with its value
+abbrev pub Holds : Street → Claim → Option Plan → Type 0
+Holds a (Best value) timing = IsBest a timing value
+Holds a NoTiming timing = best.NoTiming a
+Holds a (Stopped bound value) timing = Bounded a bound × IsTimed a timing value

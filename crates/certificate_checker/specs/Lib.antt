@@ -1,0 +1,4 @@
+pub mod Accepted
+pub mod Refusals
+pub mod Claims
+pub mod Laws

@@ -1,0 +1,24 @@
+//! The check of a certificate: whether its timing is as claimed, and whether its tree of boxes proves what it claims of
+//! every good timing.
+//!
+//! Start with `check`, which answers Ok exactly for the accepted certificates (`specs/Accepted.antt`) and else the first
+//! refusal (`specs/Refusals.antt`). Where it answers Ok, what is claimed holds of the artery (`specs/Claims.antt`), on
+//! any grid. It uses no tableau and no search, and nothing calls itself: the nodes are read one after another, with a
+//! stack of the boxes that still want a tree.
+#![tactic(auto)]
+
+#[cfg(test)]
+mod built;
+mod checking;
+mod claims;
+mod laws;
+mod leaves;
+mod owed;
+mod reject;
+#[cfg(test)]
+mod tests;
+mod walk;
+
+pub use checking::check;
+pub use laws::law_accepted_or_refused;
+pub use reject::Reject;

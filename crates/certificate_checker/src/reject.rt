@@ -1,0 +1,29 @@
+//! Why a certificate is refused.
+
+use named_row::{Place, RowId, WideAt};
+use narrow_fraction::Frac;
+use time_space::Failing;
+
+/// Why a certificate is not accepted. Nodes are counted from 1 in their order, and leaves from 1 among the leaves alone.
+#[derive(Clone, Copy, Debug, PartialEq, Eq)]
+pub enum Reject {
+    /// The timing breaks this rule.
+    TimingFails(Failing),
+    /// The timing's weighted band is `kept` and not what is claimed.
+    ValueDiffers { kept: Frac, claimed: Frac },
+    /// The claimed bound is less than the claimed value.
+    BoundBelow { bound: Frac, value: Frac },
+    /// The node's box can't be split at its place.
+    SplitOutside { node: u64 },
+    /// The leaf names a row that the artery doesn't have.
+    NoSuchRow { leaf: u64, row: RowId },
+    /// The leaf's multiplier of this row is below 0.
+    Negative { leaf: u64, row: RowId },
+    /// The leaf's sum with this row leaves 128 bits, first at this place.
+    Wide { leaf: u64, row: RowId, at: WideAt },
+    /// The leaf's sum doesn't rule out its box and, where a value or a bound is claimed, doesn't keep the weighted band
+    /// down to it. This is the first place where it fails to: without a value or bound, where it fails to rule out.
+    LeafTooWeak { leaf: u64, place: Place },
+    /// Want of memory.
+    Memory,
+}

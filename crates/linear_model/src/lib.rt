@@ -1,0 +1,37 @@
+//! The linear model: each good timing is a point of linear programming, and lies in a box of whole numbers; here stand the
+//! rows that such points meet, for contracts and proofs alone. This crate has no code but two laws.
+//!
+//! Begin with `specs/Promises.antt`, which `law_nothing_is_lost` keeps. All holds of timings of any size.
+//!
+//! Definitions, in the order in which they stand on each other (all on `Street`, `Plan`, `Good` and `Columns` of `progression`):
+//!
+//! - `Places`: `place n c`, the number of a column among those of n signals, `width n`, `value_at n x c`.
+//! - `Shifts`: a signal's distinct shifts, ranked upwards from 0: `shifts_of`, `shift_at a i rank`, `shift_count`.
+//! - `Blocks`: `part`, `green_part`, `block_of` with its twelve terms in their order, `block_sum a x i`.
+//! - `Boxes`: `Span`, `Ranks`, `Area`; `root_span`, `root_ranks`, `root_box`, `IsRoot`; `IsBoxOf a box`; `LoopIn`, `TurnIn`, `InBox a box t`;
+//!   the parts `low_loop`, `high_loop`, `low_turn`, `high_turn` at an `IsLoopPlace` or `IsTurnPlace`.
+//! - `Rows`: `Entry`, `Form`, `line a f` (the row of a form), a form for each family, `goal_form`.
+//! - `Names`: `Name`, `name_of family index`, `HasRow a n`, `form_of a box n`.
+//! - `Counts`: `IsStreet` (what an artery's numbers keep), `Counts a box t`, `IsGoodPoint a box x`.
+//! - `Covering`: `CoversGoal a value r`, `RefutesAll a r`. `Trees`: `Tree`, `leaf_sum`, `Accepted P a box tree`.
+//! - `Promises`: `NothingIsLost`. `Worked`: boxes worked by hand, which `law_worked_boxes` decides.
+//!
+//! Lemmas, by what one asks:
+//!
+//! - When is a band green? `Remainders` (`split_ℤ`, `mod_unique`, `mod-turns`), `Fits`, `Windows`: `window_after` and `window_before`,
+//!   from green to `wait + band ≤ cycle - red` and back.
+//! - What does a row say at a point? `Points` (`share`, `point_at`, `point_width`), `SparseSums`: `line_met a t f h order shares`,
+//!   `line_total` at any point, `line_width`.
+//! - Are block sums whole? `WholeBlocks` in ticks, `Shares` and `BlockSums` in fractions: `block_sum_whole`.
+//! - Are they in range? `RankedShifts`, `Ranges`, `Divided` (a rule of a good timing over its cycle), `Roots`: `root_law`; `RootBoxes`:
+//!   `root_boxed`, `root_is`, `root_only`.
+//! - Which rows are met? `Ratios`, `RowLaws`, `BoxRowLaws`: a law for each family; `NamedRows`: `row_law`, `row_at_point`.
+//! - What does a split lose? `Splits`, `TurnSplits`: `loop_split`, `loop_joined`, `loop_once`; `PartBoxes`: `low_loop_boxed`.
+//! - What does a sum of rows prove? `Bounds`: `covers_law`, `refutes_law`; `TreeLaws`: `tree_law`, `bounded`, `no_timing`.
+//! - How is it computed? `Quotients` and `Spans`: `root_least_is` and `root_most_is`, one integer division each, `seconds_is`; `ShiftSizes`;
+//!   `RowNumbers`: each number of a row as one fraction (`Shares.number_over` for plain quotients).
+#![tactic(auto)]
+
+mod laws;
+
+pub use laws::{law_nothing_is_lost, law_worked_boxes};

@@ -1,0 +1,72 @@
+//! The row of the ratio of the bands.
+
+ghost use Rattle.std.specs.Prelude.{◌≡◌, ◌≢◌, length};
+ghost use Rattle.progression.specs.Street.{count};
+ghost use Rattle.linear_model.specs.Places.{width};
+ghost use Rattle.linear_model.specs.Rows.{ratio_below_form, ratio_above_form};
+ghost use Rattle.linear_model.specs.Names.{RatioRow, HasRow, form_of};
+ghost use Rattle.linear_model.specs.NamedRows.{row_law};
+ghost use Rattle.loop_rows.specs.Meeting.{at_points};
+ghost use Rattle.loop_rows.specs.Writing.{written};
+
+use crate::columns::band;
+use crate::family::{Family, Progression};
+use artery_model::{Artery, Dir};
+use named_row::{Place, Row};
+use narrow_fraction::Frac;
+use search_box::SearchBox;
+
+/// The row of a ratio below 1: the inbound band is at least the ratio times the outbound one.
+fn fill_below(artery: &Artery, into: &mut Row)
+    requires { length into.old.coefs ≡ width (count artery.now) }
+    ensures { into.new ≡ written artery.now (ratio_below_form artery.now) }
+{
+    into.clear();
+    into.set(band(artery, Dir::Outbound), artery.ratio());
+    into.set(band(artery, Dir::Inbound), Frac::whole(-1));
+    into.set(Place::Bound, Frac::whole(0));
+}
+
+/// The row of a ratio above 1: the inbound band is at most the ratio times the outbound one.
+fn fill_above(artery: &Artery, into: &mut Row)
+    requires { length into.old.coefs ≡ width (count artery.now) }
+    ensures { into.new ≡ written artery.now (ratio_above_form artery.now) }
+{
+    into.clear();
+    into.set(band(artery, Dir::Outbound), artery.ratio().neg());
+    into.set(band(artery, Dir::Inbound), Frac::whole(1));
+    into.set(Place::Bound, Frac::whole(0));
+}
+
+/// The bands keep the ratio.
+#[derive(Drop)]
+pub struct BandRatio;
+
+impl Family for BandRatio {
+    type Of = Progression;
+
+    ghost family = { λ f. 13 };
+
+    ghost exists = { λ f a i. HasRow a (RatioRow i) };
+
+    ghost form = { λ f a box i. form_of a box (RatioRow i) };
+
+    fn number(&self) -> u8 {
+        13
+    }
+
+    #[tactic(auto, using(ratio::specs::Compare::ne_true, ratio::specs::Compare::ne_false))]
+    fn has(&self, artery: &Artery, index: u32) -> bool {
+        index == 0 && artery.ratio() != Frac::whole(1)
+    }
+
+    fn fill(&self, artery: &Artery, area: &SearchBox, index: u32, into: &mut Row) {
+        if artery.ratio() < Frac::whole(1) {
+            fill_below(artery, into);
+        } else {
+            fill_above(artery, into);
+        }
+    }
+
+    ghost law = { λ f a box i x e h. at_points a box x _ h (λ t c. row_law a box t c (RatioRow i) e) };
+}

@@ -1,0 +1,126 @@
+//! The rows that keep the changes of pace within their limits.
+
+ghost use Rattle.std.specs.Prelude.{◌≡◌, ◌↔◌, IsTrue, ◌<◌, ◌≤◌, ◌+◌, length};
+ghost use Rattle.progression.specs.Street.{count};
+ghost use Rattle.linear_model.specs.Places.{width};
+ghost use Rattle.linear_model.specs.Rows.{rise_form, drop_form};
+ghost use Rattle.linear_model.specs.Names.{RiseRow, DropRow, HasRow, HasChange, form_of};
+ghost use Rattle.linear_model.specs.NamedRows.{row_law};
+ghost use Rattle.loop_rows.specs.Meeting.{at_points};
+ghost use Rattle.loop_rows.specs.Directions.{by_dir};
+ghost use Rattle.loop_rows.specs.Writing.{written};
+
+use crate::columns::{frequency, next_of, run};
+use crate::family::{Family, Progression};
+use crate::numbers::one_over;
+use artery_model::{Artery, Dir, Pair};
+use named_row::{Place, Row};
+use narrow_fraction::Frac;
+use search_box::SearchBox;
+
+/// Whether there are limits for the change of pace from a link to the next.
+fn is_limited(artery: &Artery, dir: Dir, link: u32) -> bool
+    ensures { IsTrue result ↔ HasChange artery.now dir link }
+{
+    1 <= link && link < artery.count() - 1 && artery.change(dir, link).is_some()
+}
+
+/// The row of these limits.
+fn fill_rise(artery: &Artery, dir: Dir, link: u32, limits: Pair, into: &mut Row)
+    requires first { 1 ≤ link }
+    requires last { link + 1 < count artery.now }
+    requires columns { length into.old.coefs ≡ width (count artery.now) }
+    ensures { into.new ≡ written artery.now (rise_form artery.now dir link limits) }
+{
+    let next = next_of(artery, link);
+    into.clear();
+    into.set(frequency(artery), limits.most.neg());
+    into.set(run(artery, dir, link), one_over(artery, dir, link).neg());
+    into.set(run(artery, dir, next), one_over(artery, dir, next));
+    into.set(Place::Bound, Frac::whole(0));
+}
+
+/// The row of these limits.
+fn fill_fall(artery: &Artery, dir: Dir, link: u32, limits: Pair, into: &mut Row)
+    requires first { 1 ≤ link }
+    requires last { link + 1 < count artery.now }
+    requires columns { length into.old.coefs ≡ width (count artery.now) }
+    ensures { into.new ≡ written artery.now (drop_form artery.now dir link limits) }
+{
+    let next = next_of(artery, link);
+    into.clear();
+    into.set(frequency(artery), limits.least);
+    into.set(run(artery, dir, link), one_over(artery, dir, link));
+    into.set(run(artery, dir, next), one_over(artery, dir, next).neg());
+    into.set(Place::Bound, Frac::whole(0));
+}
+
+/// From a link to the next the pace rises by no more than the greatest change.
+#[derive(Drop)]
+pub struct Rise {
+    pub dir: Dir,
+}
+
+impl Family for Rise {
+    type Of = Progression;
+
+    ghost family = { λ f. by_dir f.dir 7 8 };
+
+    ghost exists = { λ f a i. HasRow a (RiseRow f.dir i) };
+
+    ghost form = { λ f a box i. form_of a box (RiseRow f.dir i) };
+
+    fn number(&self) -> u8 {
+        match self.dir {
+            Dir::Outbound => 7,
+            Dir::Inbound => 8,
+        }
+    }
+
+    fn has(&self, artery: &Artery, index: u32) -> bool {
+        is_limited(artery, self.dir, index)
+    }
+
+    fn fill(&self, artery: &Artery, area: &SearchBox, index: u32, into: &mut Row) {
+        if let Some(limits) = artery.change(self.dir, index) {
+            fill_rise(artery, self.dir, index, limits, into);
+        }
+    }
+
+    ghost law = { λ f a box i x e h. at_points a box x _ h (λ t c. row_law a box t c (RiseRow f.dir i) e) };
+}
+
+/// From a link to the next the pace changes by no less than the least change.
+#[derive(Drop)]
+pub struct Fall {
+    pub dir: Dir,
+}
+
+impl Family for Fall {
+    type Of = Progression;
+
+    ghost family = { λ f. by_dir f.dir 9 10 };
+
+    ghost exists = { λ f a i. HasRow a (DropRow f.dir i) };
+
+    ghost form = { λ f a box i. form_of a box (DropRow f.dir i) };
+
+    fn number(&self) -> u8 {
+        match self.dir {
+            Dir::Outbound => 9,
+            Dir::Inbound => 10,
+        }
+    }
+
+    fn has(&self, artery: &Artery, index: u32) -> bool {
+        is_limited(artery, self.dir, index)
+    }
+
+    fn fill(&self, artery: &Artery, area: &SearchBox, index: u32, into: &mut Row) {
+        if let Some(limits) = artery.change(self.dir, index) {
+            fill_fall(artery, self.dir, index, limits, into);
+        }
+    }
+
+    ghost law = { λ f a box i x e h. at_points a box x _ h (λ t c. row_law a box t c (DropRow f.dir i) e) };
+}

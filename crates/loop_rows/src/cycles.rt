@@ -1,0 +1,74 @@
+//! The rows of the cycle's limits.
+
+ghost use Rattle.std.specs.Prelude.{◌≡◌};
+ghost use Rattle.linear_model.specs.Names.{CycleLowRow, CycleHighRow, HasRow, form_of};
+ghost use Rattle.linear_model.specs.NamedRows.{row_law};
+ghost use Rattle.loop_rows.specs.Meeting.{at_points};
+
+use crate::columns::frequency;
+use crate::family::{Family, Progression};
+use crate::numbers::reciprocal;
+use artery_model::Artery;
+use named_row::{Place, Row};
+use narrow_fraction::Frac;
+use search_box::SearchBox;
+
+/// The frequency is at least that of the greatest cycle.
+#[derive(Drop)]
+pub struct CycleLow;
+
+impl Family for CycleLow {
+    type Of = Progression;
+
+    ghost family = { λ f. 11 };
+
+    ghost exists = { λ f a i. HasRow a (CycleLowRow i) };
+
+    ghost form = { λ f a box i. form_of a box (CycleLowRow i) };
+
+    fn number(&self) -> u8 {
+        11
+    }
+
+    fn has(&self, artery: &Artery, index: u32) -> bool {
+        index == 0
+    }
+
+    fn fill(&self, artery: &Artery, area: &SearchBox, index: u32, into: &mut Row) {
+        into.clear();
+        into.set(frequency(artery), Frac::whole(-1));
+        into.set(Place::Bound, reciprocal(artery.cycle().most).neg());
+    }
+
+    ghost law = { λ f a box i x e h. at_points a box x _ h (λ t c. row_law a box t c (CycleLowRow i) e) };
+}
+
+/// The frequency is at most that of the least cycle.
+#[derive(Drop)]
+pub struct CycleHigh;
+
+impl Family for CycleHigh {
+    type Of = Progression;
+
+    ghost family = { λ f. 12 };
+
+    ghost exists = { λ f a i. HasRow a (CycleHighRow i) };
+
+    ghost form = { λ f a box i. form_of a box (CycleHighRow i) };
+
+    fn number(&self) -> u8 {
+        12
+    }
+
+    fn has(&self, artery: &Artery, index: u32) -> bool {
+        index == 0
+    }
+
+    fn fill(&self, artery: &Artery, area: &SearchBox, index: u32, into: &mut Row) {
+        into.clear();
+        into.set(frequency(artery), Frac::whole(1));
+        into.set(Place::Bound, reciprocal(artery.cycle().least));
+    }
+
+    ghost law = { λ f a box i x e h. at_points a box x _ h (λ t c. row_law a box t c (CycleHighRow i) e) };
+}

@@ -1,0 +1,46 @@
+//! The rows of an artery's linear program, family by family: each row of a box is met by the point of every good timing
+//! whose block sums and shift ranks are those of the box.
+//!
+//! Begin with `next_row`, which names an artery's rows in their order, and `fill_row`, which makes the row of a name for a
+//! box; `fill_goal` makes the weighted band and `block_sum` adds up a link's block sum at a point. None of these takes
+//! memory, and no row is refused. `leaf_sum` adds up the rows that a leaf names. A `Family` comes with the proof that every
+//! point meets its rows that counts for its `Problem`; `Progression` is the problem of the timings of one artery. Which rows
+//! there are, and what they say, is defined in `linear_model` (`specs/Rows.antt`, `specs/Names.antt`); `laws` says over
+//! those definitions alone what they promise.
+#![tactic(auto)]
+
+mod bands;
+mod changes;
+mod columns;
+mod cycles;
+mod family;
+mod fault;
+#[cfg(test)]
+mod feature_tests;
+pub mod laws;
+#[cfg(test)]
+mod leaf_tests;
+mod leaves;
+mod loops;
+mod numbers;
+mod rows;
+mod runs;
+mod sums;
+#[cfg(test)]
+mod tests;
+mod turns;
+mod waits;
+
+pub use bands::BandRatio;
+pub use changes::{Fall, Rise};
+pub use columns::column_count;
+pub use cycles::{CycleHigh, CycleLow};
+pub use family::{Family, Problem, Progression};
+pub use fault::SumFault;
+pub use leaves::leaf_sum;
+pub use loops::{LoopHigh, LoopLow};
+pub use rows::{fill_goal, fill_row, next_row};
+pub use runs::{Fast, Slow};
+pub use sums::block_sum;
+pub use turns::{TurnHigh, TurnLow};
+pub use waits::Waits;

@@ -1,0 +1,103 @@
+//! The rows that keep the block sums within their spans.
+
+ghost use Rattle.std.specs.Prelude.{◌≡◌, ◌<◌, ◌≤◌, length};
+ghost use Rattle.progression.specs.Street.{count};
+ghost use Rattle.linear_model.specs.Places.{width};
+ghost use Rattle.linear_model.specs.Rows.{block_entries};
+ghost use Rattle.linear_model.specs.Names.{LoopLowRow, LoopHighRow, HasRow, form_of};
+ghost use Rattle.linear_model.specs.NamedRows.{row_law};
+ghost use Rattle.named_row.specs.Sheets.{blank};
+ghost use Rattle.loop_rows.specs.Meeting.{at_points};
+ghost use Rattle.loop_rows.specs.Writing.{with_entries};
+
+use crate::columns::{next_of, run, shift, wait};
+use crate::family::{Family, Progression};
+use crate::numbers::{high_bound, low_bound};
+use artery_model::{Artery, Dir};
+use named_row::{Place, Row};
+use narrow_fraction::Frac;
+use search_box::SearchBox;
+
+/// The columns of a link's block sum, each with the number for those that are added or for those that are taken away.
+fn fill_block(artery: &Artery, link: u32, added: Frac, taken: Frac, into: &mut Row)
+    requires first { 1 ≤ link }
+    requires last { link < count artery.now }
+    requires columns { length into.old.coefs ≡ width (count artery.now) }
+    ensures value { into.new ≡ with_entries (count artery.now) (block_entries link added taken) (blank (width (count artery.now))) }
+    ensures columns { length into.new.coefs ≡ width (count artery.now) }
+{
+    let next = next_of(artery, link);
+    into.clear();
+    into.set(wait(artery, Dir::Outbound, link), added);
+    into.set(wait(artery, Dir::Outbound, next), taken);
+    into.set(wait(artery, Dir::Inbound, link), added);
+    into.set(wait(artery, Dir::Inbound, next), taken);
+    into.set(run(artery, Dir::Outbound, link), added);
+    into.set(run(artery, Dir::Inbound, link), added);
+    into.set(shift(artery, link), added);
+    into.set(shift(artery, next), taken);
+}
+
+/// A link's block sum is at least the least number of its span.
+#[derive(Drop)]
+pub struct LoopLow;
+
+impl Family for LoopLow {
+    type Of = Progression;
+
+    ghost family = { λ f. 14 };
+
+    ghost exists = { λ f a i. HasRow a (LoopLowRow i) };
+
+    ghost form = { λ f a box i. form_of a box (LoopLowRow i) };
+
+    fn number(&self) -> u8 {
+        14
+    }
+
+    fn has(&self, artery: &Artery, index: u32) -> bool {
+        1 <= index && index < artery.count()
+    }
+
+    fn fill(&self, artery: &Artery, area: &SearchBox, index: u32, into: &mut Row) {
+        fill_block(artery, index, Frac::whole(-1), Frac::whole(1), into);
+        into.set(
+            Place::Bound,
+            low_bound(artery, index, area.loop_span(index).least),
+        );
+    }
+
+    ghost law = { λ f a box i x e h. at_points a box x _ h (λ t c. row_law a box t c (LoopLowRow i) e) };
+}
+
+/// A link's block sum is at most the greatest number of its span.
+#[derive(Drop)]
+pub struct LoopHigh;
+
+impl Family for LoopHigh {
+    type Of = Progression;
+
+    ghost family = { λ f. 15 };
+
+    ghost exists = { λ f a i. HasRow a (LoopHighRow i) };
+
+    ghost form = { λ f a box i. form_of a box (LoopHighRow i) };
+
+    fn number(&self) -> u8 {
+        15
+    }
+
+    fn has(&self, artery: &Artery, index: u32) -> bool {
+        1 <= index && index < artery.count()
+    }
+
+    fn fill(&self, artery: &Artery, area: &SearchBox, index: u32, into: &mut Row) {
+        fill_block(artery, index, Frac::whole(1), Frac::whole(-1), into);
+        into.set(
+            Place::Bound,
+            high_bound(artery, index, area.loop_span(index).most),
+        );
+    }
+
+    ghost law = { λ f a box i x e h. at_points a box x _ h (λ t c. row_law a box t c (LoopHighRow i) e) };
+}

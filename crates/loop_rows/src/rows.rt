@@ -1,0 +1,191 @@
+//! The rows of an artery by their names.
+
+ghost use Rattle.std.specs.Prelude.{◌≡◌, ◌↔◌, ◌+◌, IsTrue, length, true, false};
+ghost use Rattle.progression.specs.Street.{count};
+ghost use Rattle.linear_model.specs.Places.{width};
+ghost use Rattle.linear_model.specs.Boxes.{IsBoxOf};
+ghost use Rattle.linear_model.specs.Rows.{goal_form};
+ghost use Rattle.linear_model.specs.Names.{HasRow, form_of, name_of};
+ghost use Rattle.loop_rows.specs.Writing.{written};
+ghost use Rattle.loop_rows.specs.Meeting.{IsFilled};
+ghost use Rattle.loop_rows.specs.Following.{IsIndexFrom, IsRowFrom, IsNextRow};
+
+use crate::bands::BandRatio;
+use crate::changes::{Fall, Rise};
+use crate::columns::band;
+use crate::cycles::{CycleHigh, CycleLow};
+use crate::family::{Family, Progression};
+use crate::loops::{LoopHigh, LoopLow};
+use crate::runs::{Fast, Slow};
+use crate::turns::{TurnHigh, TurnLow};
+use crate::waits::Waits;
+use artery_model::{Artery, Dir};
+use named_row::{Place, Row, RowId};
+use narrow_fraction::Frac;
+use search_box::SearchBox;
+
+/// The greatest number of a family.
+const LAST_FAMILY: u8 = 17;
+
+/// Fills the row of this index, where the artery has it, and answers whether it has.
+fn fill_by<F: Family<Of = Progression>>(
+    family: &F,
+    artery: &Artery,
+    area: &SearchBox,
+    row: RowId,
+    into: &mut Row,
+) -> bool
+    requires family { F.family family.now ≡ row.family }
+    requires boxed { IsBoxOf artery.now area.now }
+    requires columns { length into.old.coefs ≡ width (count artery.now) }
+    ensures there { IsTrue result ↔ F.exists family.now artery.now row.index }
+    ensures row { result ≡ true → into.new ≡ written artery.now (F.form family.now artery.now area.now row.index) }
+    ensures met { result ≡ true → IsFilled artery.now area.now into.new }
+    ensures same { result ≡ false → into.new ≡ into.old }
+    ensures width { length into.new.coefs ≡ width (count artery.now) }
+{
+    if !family.has(artery, row.index) {
+        return false;
+    }
+    family.fill(artery, area, row.index, into);
+    true
+}
+
+/// Fills the row of this name for a box, where the artery has it, and answers whether it has. Each point that counts
+/// for the artery and the box meets it. Where there is no such row, `into` stays as it was.
+pub fn fill_row(artery: &Artery, area: &SearchBox, row: RowId, into: &mut Row) -> bool
+    requires boxed { IsBoxOf artery.now area.now }
+    requires columns { length into.old.coefs ≡ width (count artery.now) }
+    ensures there { IsTrue result ↔ HasRow artery.now (name_of row.family row.index) }
+    ensures row { result ≡ true → into.new ≡ written artery.now (form_of artery.now area.now (name_of row.family row.index)) }
+    ensures met { result ≡ true → IsFilled artery.now area.now into.new }
+    ensures same { result ≡ false → into.new ≡ into.old }
+    ensures width { length into.new.coefs ≡ width (count artery.now) }
+{
+    let (out, back) = (Dir::Outbound, Dir::Inbound);
+    match row.family {
+        1 => fill_by(&Waits { dir: out }, artery, area, row, into),
+        2 => fill_by(&Waits { dir: back }, artery, area, row, into),
+        3 => fill_by(&Fast { dir: out }, artery, area, row, into),
+        4 => fill_by(&Fast { dir: back }, artery, area, row, into),
+        5 => fill_by(&Slow { dir: out }, artery, area, row, into),
+        6 => fill_by(&Slow { dir: back }, artery, area, row, into),
+        7 => fill_by(&Rise { dir: out }, artery, area, row, into),
+        8 => fill_by(&Rise { dir: back }, artery, area, row, into),
+        9 => fill_by(&Fall { dir: out }, artery, area, row, into),
+        10 => fill_by(&Fall { dir: back }, artery, area, row, into),
+        11 => fill_by(&CycleLow, artery, area, row, into),
+        12 => fill_by(&CycleHigh, artery, area, row, into),
+        13 => fill_by(&BandRatio, artery, area, row, into),
+        14 => fill_by(&LoopLow, artery, area, row, into),
+        15 => fill_by(&LoopHigh, artery, area, row, into),
+        16 => fill_by(&TurnLow, artery, area, row, into),
+        17 => fill_by(&TurnHigh, artery, area, row, into),
+        _ => false,
+    }
+}
+
+/// The weighted band: 1 at the outbound band, the ratio at the inbound one, and 0 elsewhere.
+pub fn fill_goal(artery: &Artery, into: &mut Row)
+    requires columns { length into.old.coefs ≡ width (count artery.now) }
+    ensures row { into.new ≡ written artery.now (goal_form artery.now) }
+    ensures unspent { into.new.spent ≡ false }
+    ensures width { length into.new.coefs ≡ width (count artery.now) }
+{
+    into.clear();
+    into.set(band(artery, Dir::Outbound), Frac::whole(1));
+    into.set(band(artery, Dir::Inbound), artery.ratio());
+    into.set(Place::Bound, Frac::whole(0));
+}
+
+/// Whether the artery has the row of this name.
+fn has_row(artery: &Artery, family: u8, index: u32) -> bool
+    ensures { IsTrue result ↔ HasRow artery.now (name_of family index) }
+{
+    let (out, back) = (Dir::Outbound, Dir::Inbound);
+    match family {
+        1 => Waits { dir: out }.has(artery, index),
+        2 => Waits { dir: back }.has(artery, index),
+        3 => Fast { dir: out }.has(artery, index),
+        4 => Fast { dir: back }.has(artery, index),
+        5 => Slow { dir: out }.has(artery, index),
+        6 => Slow { dir: back }.has(artery, index),
+        7 => Rise { dir: out }.has(artery, index),
+        8 => Rise { dir: back }.has(artery, index),
+        9 => Fall { dir: out }.has(artery, index),
+        10 => Fall { dir: back }.has(artery, index),
+        11 => CycleLow.has(artery, index),
+        12 => CycleHigh.has(artery, index),
+        13 => BandRatio.has(artery, index),
+        14 => LoopLow.has(artery, index),
+        15 => LoopHigh.has(artery, index),
+        16 => TurnLow.has(artery, index),
+        17 => TurnHigh.has(artery, index),
+        _ => false,
+    }
+}
+
+/// The least index from this number on at which the artery has a row of the family.
+fn index_from(artery: &Artery, family: u8, from: u32) -> Option<u32>
+    ensures { IsIndexFrom artery.now family from result }
+{
+    for index in from..artery.count() + 1 {
+        if has_row(artery, family, index) {
+            return Some(index);
+        }
+    }
+    None
+}
+
+/// The artery's first row of the families from this number on.
+fn row_from(artery: &Artery, family: u8) -> Option<RowId>
+    ensures { IsRowFrom artery.now family result }
+{
+    for next in family..LAST_FAMILY + 1 {
+        if let Some(index) = index_from(artery, next, 0) {
+            return Some(RowId {
+                family: next,
+                index,
+            });
+        }
+    }
+    None
+}
+
+/// The least index above that of a row at which the artery has a row of the same family.
+fn index_after(artery: &Artery, row: RowId) -> Option<u32>
+    ensures { IsIndexFrom artery.now row.family (row.index + 1) result }
+{
+    if artery.count() <= row.index {
+        return None;
+    }
+    index_from(artery, row.family, row.index + 1)
+}
+
+/// The artery's first row of the families above this number.
+fn row_past(artery: &Artery, family: u8) -> Option<RowId>
+    ensures { IsRowFrom artery.now (family + 1) result }
+{
+    if LAST_FAMILY <= family {
+        return None;
+    }
+    row_from(artery, family + 1)
+}
+
+/// The artery's least row above `after`, by family, then index, or its first row for None. None exactly where there is
+/// no such row.
+pub fn next_row(artery: &Artery, after: Option<RowId>) -> Option<RowId>
+    ensures { IsNextRow artery.now after result }
+{
+    let row = match after {
+        Some(row) => row,
+        None => return row_from(artery, 1),
+    };
+    match index_after(artery, row) {
+        Some(index) => Some(RowId {
+            family: row.family,
+            index,
+        }),
+        None => row_past(artery, row.family),
+    }
+}

@@ -1,0 +1,114 @@
+//! The rows that keep the shifts within those of their spans of ranks.
+
+ghost use Rattle.std.specs.Prelude.{◌≡◌, ◌<◌, ◌≤◌};
+ghost use Rattle.progression.specs.Street.{count};
+ghost use Rattle.linear_model.specs.Blocks.{part};
+ghost use Rattle.linear_model.specs.Boxes.{IsBoxOf, turn_span};
+ghost use Rattle.linear_model.specs.Shifts.{shift_at, shift_count};
+ghost use Rattle.linear_model.specs.Names.{TurnLowRow, TurnHighRow, HasRow, form_of};
+ghost use Rattle.linear_model.specs.NamedRows.{row_law};
+ghost use Rattle.loop_rows.specs.Meeting.{at_points};
+
+use crate::columns::shift;
+use crate::family::{Family, Progression};
+use crate::numbers::part;
+use artery_model::Artery;
+use named_row::{Place, Row};
+use narrow_fraction::Frac;
+use search_box::{SearchBox, shift_at, shift_count};
+
+/// The least shift rank of a signal in the box.
+fn least_rank(artery: &Artery, area: &SearchBox, signal: u32) -> u32
+    requires first { 1 ≤ signal }
+    requires last { signal ≤ count artery.now }
+    requires boxed { IsBoxOf artery.now area.now }
+    ensures value { result ≡ (turn_span area.now signal).least }
+    ensures ranked { result < shift_count artery.now signal }
+{
+    prove!(shift_count(artery, signal) <= 4);
+    area.turn_span(signal).least as u32
+}
+
+/// The greatest shift rank of a signal in the box.
+fn greatest_rank(artery: &Artery, area: &SearchBox, signal: u32) -> u32
+    requires first { 1 ≤ signal }
+    requires last { signal ≤ count artery.now }
+    requires boxed { IsBoxOf artery.now area.now }
+    ensures value { result ≡ (turn_span area.now signal).most }
+    ensures ranked { result < shift_count artery.now signal }
+{
+    prove!(shift_count(artery, signal) <= 4);
+    area.turn_span(signal).most as u32
+}
+
+/// The shift of a rank, as a fraction of the cycle.
+fn shift_part(artery: &Artery, signal: u32, rank: u32) -> Frac
+    requires first { 1 ≤ signal }
+    requires last { signal ≤ count artery.now }
+    requires rank { rank < shift_count artery.now signal }
+    ensures { result ≡ part artery.now (shift_at artery.now signal rank) }
+{
+    part(artery, shift_at(artery, signal, rank))
+}
+
+/// A signal's shift is at least that of the least rank.
+#[derive(Drop)]
+pub struct TurnLow;
+
+impl Family for TurnLow {
+    type Of = Progression;
+
+    ghost family = { λ f. 16 };
+
+    ghost exists = { λ f a i. HasRow a (TurnLowRow i) };
+
+    ghost form = { λ f a box i. form_of a box (TurnLowRow i) };
+
+    fn number(&self) -> u8 {
+        16
+    }
+
+    fn has(&self, artery: &Artery, index: u32) -> bool {
+        1 <= index && index <= artery.count()
+    }
+
+    fn fill(&self, artery: &Artery, area: &SearchBox, index: u32, into: &mut Row) {
+        let rank = least_rank(artery, area, index);
+        into.clear();
+        into.set(shift(artery, index), Frac::whole(-1));
+        into.set(Place::Bound, shift_part(artery, index, rank).neg());
+    }
+
+    ghost law = { λ f a box i x e h. at_points a box x _ h (λ t c. row_law a box t c (TurnLowRow i) e) };
+}
+
+/// A signal's shift is at most that of the greatest rank.
+#[derive(Drop)]
+pub struct TurnHigh;
+
+impl Family for TurnHigh {
+    type Of = Progression;
+
+    ghost family = { λ f. 17 };
+
+    ghost exists = { λ f a i. HasRow a (TurnHighRow i) };
+
+    ghost form = { λ f a box i. form_of a box (TurnHighRow i) };
+
+    fn number(&self) -> u8 {
+        17
+    }
+
+    fn has(&self, artery: &Artery, index: u32) -> bool {
+        1 <= index && index <= artery.count()
+    }
+
+    fn fill(&self, artery: &Artery, area: &SearchBox, index: u32, into: &mut Row) {
+        let rank = greatest_rank(artery, area, index);
+        into.clear();
+        into.set(shift(artery, index), Frac::whole(1));
+        into.set(Place::Bound, shift_part(artery, index, rank));
+    }
+
+    ghost law = { λ f a box i x e h. at_points a box x _ h (λ t c. row_law a box t c (TurnHighRow i) e) };
+}

@@ -1,0 +1,82 @@
+-- The text of a certificate, written piece by piece.
+use Rattle.std.proofs.lemmas.List.{flat_map_more, take_more, take_all, map-append, length-map, get_or-map}
+use Rattle.std.proofs.lemmas.List.Elements.{All-get_or}
+use Rattle.std.proofs.Common.{◌≡◌, ℕ, ◌+◌, ◌<◌, ◌≤◌, map, length, get_or, take, All, List, [], ◌∷◌, ◌++◌, Option, None, Some, sym, ap, subst, ◌∙◌, append_assoc, arith}
+use Rattle.std.specs.Prelude.{flat_map}
+use Rattle.ratio.specs.Rational.{ℚ}
+use Rattle.progression.specs.Plan.{Plan}
+use Rattle.named_row.specs.declared.leaves.Weight.{Weight}
+use Rattle.plan_text.specs.declared.certificate.Claim.{Claim}
+use Rattle.plan_text.specs.declared.certificate.Claim.TheVariants.{Best, Stopped}
+use Rattle.plan_text.specs.declared.certificate.CertNode.{CertNode}
+use Rattle.plan_text.specs.Words.{line_of}
+use Rattle.plan_text.specs.Spelling.{ended, end_line}
+use Rattle.plan_text.specs.Warrants.{node_of, IsNode, Warrant}
+use Rattle.plan_text.specs.CertificateText.{best_line, open_line, no_timing_line, certificate_line, tree_line, value_key, bound_key, fraction_words, weight_line, node_lines, timing_part, claim_lines, certificate_text}
+use Rattle.plan_text.proofs.Written.{more_lines, ended-append}
+
+-- one more row
+pub more_rows : (old : List ℕ) (ws : List Weight) (i : ℕ) (d w : Weight) (before after : List ℕ) → i < length ws → w ≡ get_or ws i d → before ≡ old ++ ended (map weight_line (take i ws)) → after ≡ before ++ ended (weight_line w ∷ []) → after ≡ old ++ ended (map weight_line (take (i + 1) ws))
+more_rows old ws i d w before after lt is e f =
+    let made : take (i + 1) ws ≡ take i ws ++ w ∷ [] = take_more ws i d lt ∙ ap (λ (y : Weight). take i ws ++ y ∷ []) (sym is) in
+    more_lines old (map weight_line (take i ws)) (weight_line w ∷ []) before after e f
+    ∙ ap (λ (y : List (List ℕ)). old ++ ended y) (sym (ap (map weight_line) made ∙ map-append weight_line (take i ws) (w ∷ [])))
+
+pub all_rows : (old : List ℕ) (ws : List Weight) (i : ℕ) (now : List ℕ) → length ws ≤ i → now ≡ old ++ ended (map weight_line (take i ws)) → now ≡ old ++ ended (map weight_line ws)
+all_rows old ws i now le e = e ∙ ap (λ (y : List Weight). old ++ ended (map weight_line y)) (take_all i ws le)
+
+-- one more node
+pub more_nodes : (old : List ℕ) (ns : List CertNode) (i : ℕ) (d n : CertNode) (before after : List ℕ) → i < length ns → n ≡ get_or ns i d → before ≡ old ++ ended (flat_map node_lines (map node_of (take i ns))) → after ≡ before ++ ended (node_lines (node_of n)) → after ≡ old ++ ended (flat_map node_lines (map node_of (take (i + 1) ns)))
+more_nodes old ns i d n before after lt is e f =
+    let taken : take (i + 1) ns ≡ take i ns ++ n ∷ [] = take_more ns i d lt ∙ ap (λ (y : CertNode). take i ns ++ y ∷ []) (sym is) in
+    let made : map node_of (take (i + 1) ns) ≡ map node_of (take i ns) ++ node_of n ∷ [] = ap (map node_of) taken ∙ map-append node_of (take i ns) (n ∷ []) in
+    more_lines old (flat_map node_lines (map node_of (take i ns))) (node_lines (node_of n)) before after e f
+    ∙ ap (λ (y : List (List ℕ)). old ++ ended y) (flat_map_more node_lines [] (map node_of (take i ns)) (node_of n) ∙ ap (flat_map node_lines) (sym made))
+
+pub all_nodes : (old : List ℕ) (ns : List CertNode) (i : ℕ) (now : List ℕ) → length ns ≤ i → now ≡ old ++ ended (flat_map node_lines (map node_of (take i ns))) → now ≡ old ++ ended (flat_map node_lines (map node_of ns))
+all_nodes old ns i now le e = e ∙ ap (λ (y : List CertNode). old ++ ended (flat_map node_lines (map node_of y))) (take_all i ns le)
+
+-- a node of a list is one
+pub node_here : (ns : List CertNode) (i : ℕ) (d n : CertNode) → i < length ns → n ≡ get_or ns i d → All IsNode (map node_of ns) → IsNode (node_of n)
+node_here ns i d n lt is all = subst IsNode (get_or-map node_of ns i d (node_of d) lt ∙ ap node_of (sym is)) (All-get_or IsNode (map node_of ns) i (node_of d) (omega (arith, length-map ns node_of)) all)
+
+-- ---- claims
+
+pub best_written : (old first second after : List ℕ) (claim : Claim) (value : ℚ) (timing : Option Plan) → claim ≡ Best value → first ≡ old ++ ended (best_line ∷ []) → second ≡ first ++ ended (line_of (fraction_words value_key value) ∷ []) → after ≡ second ++ ended (timing_part timing)
+    → after ≡ old ++ ended (claim_lines claim timing)
+unfolding claim_lines
+best_written old first second after claim value timing is e f g =
+    more_lines old (best_line ∷ line_of (fraction_words value_key value) ∷ []) (timing_part timing) second after (more_lines old (best_line ∷ []) (line_of (fraction_words value_key value) ∷ []) first second e f) g
+    ∙ ap (λ (c : Claim). old ++ ended (claim_lines c timing)) (sym is)
+
+bound_written : (old first second : List ℕ) (bound : ℚ) → first ≡ old ++ ended (open_line ∷ []) → second ≡ first ++ ended (line_of (fraction_words bound_key bound) ∷ []) → second ≡ old ++ ended (open_line ∷ line_of (fraction_words bound_key bound) ∷ [])
+bound_written old first second bound e f = more_lines old (open_line ∷ []) (line_of (fraction_words bound_key bound) ∷ []) first second e f
+
+pub missing_written : (old first second after : List ℕ) (claim : Claim) (bound : ℚ) (value : Option ℚ) (timing : Option Plan) → claim ≡ Stopped bound value → value ≡ None → first ≡ old ++ ended (open_line ∷ []) → second ≡ first ++ ended (line_of (fraction_words bound_key bound) ∷ []) → after ≡ second ++ ended (no_timing_line ∷ [])
+    → after ≡ old ++ ended (claim_lines claim timing)
+unfolding claim_lines
+missing_written old first second after claim bound value timing is none e f g =
+    more_lines old (open_line ∷ line_of (fraction_words bound_key bound) ∷ []) (no_timing_line ∷ []) second after (bound_written old first second bound e f) g
+    ∙ ap (λ (c : Claim). old ++ ended (claim_lines c timing)) (sym (is ∙ ap (λ (v : Option ℚ). Stopped bound v) none))
+
+pub stopped_written : (old first second third after : List ℕ) (claim : Claim) (bound x : ℚ) (value : Option ℚ) (timing : Option Plan) → claim ≡ Stopped bound value → value ≡ Some x → first ≡ old ++ ended (open_line ∷ []) → second ≡ first ++ ended (line_of (fraction_words bound_key bound) ∷ []) → third ≡ second ++ ended (line_of (fraction_words value_key x) ∷ []) → after ≡ third ++ ended (timing_part timing)
+    → after ≡ old ++ ended (claim_lines claim timing)
+unfolding claim_lines
+stopped_written old first second third after claim bound x value timing is some e f g h =
+    let two = bound_written old first second bound e f in
+    let three = more_lines old (open_line ∷ line_of (fraction_words bound_key bound) ∷ []) (line_of (fraction_words value_key x) ∷ []) second third two g in
+    more_lines old (open_line ∷ line_of (fraction_words bound_key bound) ∷ line_of (fraction_words value_key x) ∷ []) (timing_part timing) third after three h
+    ∙ ap (λ (c : Claim). old ++ ended (claim_lines c timing)) (sym (is ∙ ap (λ (v : Option ℚ). Stopped bound v) some))
+
+-- ---- the whole
+
+pub certificate_written : (first second third fourth after : List ℕ) (c : Warrant) → first ≡ ended (certificate_line ∷ []) → second ≡ first ++ ended (claim_lines c.claim c.timing) → third ≡ second ++ ended (tree_line ∷ []) → fourth ≡ third ++ ended (flat_map node_lines c.nodes) → after ≡ fourth ++ ended (end_line ∷ [])
+    → after ≡ certificate_text c
+certificate_written first second third fourth after c e f g h k =
+    let claim = claim_lines c.claim c.timing in
+    let nodes = flat_map node_lines c.nodes in
+    let body : third ≡ ended (certificate_line ∷ []) ++ ended (claim ++ tree_line ∷ []) = more_lines (ended (certificate_line ∷ [])) claim (tree_line ∷ []) second third (f ∙ ap (λ (y : List ℕ). y ++ ended claim) e) g in
+    let tree : fourth ≡ ended (certificate_line ∷ []) ++ ended ((claim ++ tree_line ∷ []) ++ nodes) = more_lines (ended (certificate_line ∷ [])) (claim ++ tree_line ∷ []) nodes third fourth body h in
+    let all : after ≡ ended (certificate_line ∷ []) ++ ended (((claim ++ tree_line ∷ []) ++ nodes) ++ end_line ∷ []) = more_lines (ended (certificate_line ∷ [])) ((claim ++ tree_line ∷ []) ++ nodes) (end_line ∷ []) fourth after tree k in
+    all ∙ sym (ended-append (certificate_line ∷ []) (((claim ++ tree_line ∷ []) ++ nodes) ++ end_line ∷ []))
+    ∙ ap (λ (y : List (List ℕ)). ended (certificate_line ∷ y)) (simp append_assoc)

@@ -1,0 +1,8 @@
+use Rattle.plan_text.proofs.NodeLoop.{is_shorter, has_lines}
+use Rattle.plan_text.proofs.tree.node_at.Goals as goal
+
+pub returns-clause-shorter : goal.returns-clause-shorter
+returns-clause-shorter c = is_shorter c.args.line c.args.bytes.now c.node_from.result c.node_from.ensures
+
+pub returns-clause-lines : goal.returns-clause-lines
+returns-clause-lines c = has_lines c.args.line c.args.bytes.now c.node_from.result c.node_from.ensures

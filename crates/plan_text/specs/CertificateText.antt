@@ -1,0 +1,124 @@
+-- The one text of a certificate: its claim, its timing, its tree and a last line, each line ended by a line feed.
+use Rattle.std.specs.Prelude.{ℕ, ◌<◌, ◌^◌, List, [], ◌∷◌, ◌++◌, length, map, flat_map, All, codes, Option, None, Some, FitsSigned, if◌then◌else◌}
+use Rattle.std.specs.Int.{w64}
+use Rattle.std.specs.Fmt.{decimal, signed_decimal}
+use Rattle.ratio.specs.Rational.{ℚ}
+use Rattle.narrow_fraction.specs.Fraction.{FitsFrac}
+use Rattle.progression.specs.Plan.{Plan}
+use Rattle.quantity_text.specs.Exact.{exact_spelling}
+use Rattle.named_row.specs.declared.leaves.Weight.{Weight}
+use Rattle.named_row.specs.declared.names.RowId.{RowId}
+use Rattle.search_box.specs.declared.span.At.{At}
+use Rattle.search_box.specs.declared.span.At.TheVariants.{Loop, Turn}
+use Rattle.plan_text.specs.declared.certificate.Claim.{Claim}
+use Rattle.plan_text.specs.declared.certificate.Claim.TheVariants.{Best, NoTiming, Stopped}
+use Rattle.plan_text.specs.Words.{line_of}
+use Rattle.plan_text.specs.Spelling.{ended, plan_lines, end_line, IsHeld}
+use Rattle.plan_text.specs.Families.{family_name, is_lone}
+use Rattle.plan_text.specs.Warrants.{Node, SplitAt, LeafOf, Warrant, IsCertificate}
+
+-- lines that stand as they are
+abbrev pub certificate_line : List ℕ
+certificate_line = codes "maxband-certificate 1"
+
+abbrev pub best_line : List ℕ
+best_line = codes "verdict best"
+
+abbrev pub none_line : List ℕ
+none_line = codes "verdict none"
+
+abbrev pub open_line : List ℕ
+open_line = codes "verdict open"
+
+abbrev pub no_timing_line : List ℕ
+no_timing_line = codes "no timing"
+
+abbrev pub tree_line : List ℕ
+tree_line = codes "tree"
+
+-- words that lines begin with
+abbrev pub value_key : List ℕ
+value_key = codes "value"
+
+abbrev pub bound_key : List ℕ
+bound_key = codes "bound"
+
+abbrev pub split_key : List ℕ
+split_key = codes "split"
+
+abbrev pub loop_key : List ℕ
+loop_key = codes "loop"
+
+abbrev pub turn_key : List ℕ
+turn_key = codes "turn"
+
+abbrev pub leaf_key : List ℕ
+leaf_key = codes "leaf"
+
+-- a key and a fraction
+abbrev pub fraction_words : List ℕ → ℚ → List (List ℕ)
+fraction_words key x = key ∷ exact_spelling x ∷ []
+
+-- a row's name: its family's, and its index where the family has one
+abbrev pub row_words : RowId → List (List ℕ)
+row_words row = if is_lone row.family then family_name row.family ∷ [] else family_name row.family ∷ decimal row.index ∷ []
+
+abbrev pub weight_words : Weight → List (List ℕ)
+weight_words w = row_words w.row ++ exact_spelling w.by ∷ []
+
+abbrev pub split_words : At → List (List ℕ)
+split_words (Loop link at) = split_key ∷ loop_key ∷ decimal link ∷ signed_decimal at ∷ []
+split_words (Turn signal rank) = split_key ∷ turn_key ∷ decimal signal ∷ decimal rank ∷ []
+
+abbrev pub weight_line : Weight → List ℕ
+weight_line w = line_of (weight_words w)
+
+unfoldable pub node_lines : Node → List (List ℕ)
+node_lines (SplitAt at) = line_of (split_words at) ∷ []
+node_lines (LeafOf ws) = line_of (leaf_key ∷ decimal (length ws) ∷ []) ∷ map weight_line ws
+
+abbrev pub timing_part : Option Plan → List (List ℕ)
+timing_part None = []
+timing_part (Some t) = plan_lines t
+
+-- the lines from the second on up to the tree
+unfoldable pub claim_lines : Claim → Option Plan → List (List ℕ)
+claim_lines (Best value) timing = best_line ∷ line_of (fraction_words value_key value) ∷ timing_part timing
+claim_lines NoTiming timing = none_line ∷ []
+claim_lines (Stopped bound None) timing = open_line ∷ line_of (fraction_words bound_key bound) ∷ no_timing_line ∷ []
+claim_lines (Stopped bound (Some value)) timing = open_line ∷ line_of (fraction_words bound_key bound) ∷ line_of (fraction_words value_key value) ∷ timing_part timing
+
+abbrev pub certificate_lines : Warrant → List (List ℕ)
+certificate_lines c = certificate_line ∷ (claim_lines c.claim c.timing ++ tree_line ∷ (flat_map node_lines c.nodes ++ end_line ∷ []))
+
+abbrev pub certificate_text : Warrant → List ℕ
+certificate_text c = ended (certificate_lines c)
+
+-- ---- certificates that the program can hold
+
+abbrev pub IsHeldClaim : Claim → Type 0
+IsHeldClaim (Best value) = FitsFrac value
+IsHeldClaim NoTiming = Unit {0}
+IsHeldClaim (Stopped bound None) = FitsFrac bound
+IsHeldClaim (Stopped bound (Some value)) = FitsFrac bound × FitsFrac value
+
+abbrev pub IsHeldTiming : Option Plan → Type 0
+IsHeldTiming None = Unit {0}
+IsHeldTiming (Some t) = IsHeld t
+
+-- an index of 32 bits, and a multiplier that fits
+pub record IsHeldWeight (w : Weight) : Type 0 where
+  pub index : w.row.index < 2 ^ 32
+  pub by : FitsFrac w.by
+
+abbrev pub IsHeldNode : Node → Type 0
+IsHeldNode (SplitAt (Loop link at)) = (link < 2 ^ 32) × FitsSigned w64 at
+IsHeldNode (SplitAt (Turn signal rank)) = (signal < 2 ^ 32) × (rank < 2 ^ 32)
+IsHeldNode (LeafOf ws) = All IsHeldWeight ws
+
+-- a warrant that a certificate of the program can be
+pub record IsHeldWarrant (c : Warrant) : Type 0 where
+  pub kept : IsCertificate c
+  pub claim : IsHeldClaim c.claim
+  pub timing : IsHeldTiming c.timing
+  pub nodes : All IsHeldNode c.nodes

@@ -1,0 +1,62 @@
+-- A certificate as contracts see it: a claim, a timing where the claim has a value, and a tree of splits and leaves.
+use Rattle.std.specs.Prelude.{◌≡◌, ℕ, suc, zero, ◌≤◌, List, [], ◌∷◌, length, All, true, Option, None, Some}
+use Rattle.progression.specs.Plan.{Plan}
+use Rattle.named_row.specs.declared.leaves.Weight.{Weight}
+use Rattle.named_row.specs.declared.names.RowId.{RowId}
+use Rattle.search_box.specs.declared.span.At.{At}
+use Rattle.search_box.specs.declared.span.At.TheVariants.{Loop, Turn}
+use Rattle.plan_text.specs.declared.certificate.Claim.{Claim}
+use Rattle.plan_text.specs.declared.certificate.Claim.TheVariants.{Best, NoTiming, Stopped}
+use Rattle.plan_text.specs.declared.certificate.CertNode.{CertNode}
+use Rattle.plan_text.specs.declared.certificate.CertNode.TheVariants.{Split, Leaf}
+use Rattle.plan_text.specs.Families.{IsNamed, is_after}
+
+-- a box is split at a place, or rows are summed, each with its multiplier
+pub data Node : Type 0 where
+  SplitAt : At → Node
+  LeafOf : List Weight → Node
+
+pub record Warrant : Type 0 where
+  pub claim : Claim
+  pub timing : Option Plan
+  pub nodes : List Node
+
+abbrev pub node_of : CertNode → Node
+node_of (Split at) = SplitAt at
+node_of (Leaf leaf) = LeafOf leaf.multipliers.items
+
+-- Whole trees in preorder, so many of them. A split takes the place of one tree by two, and a leaf is one.
+abbrev pub AreTrees : ℕ → List Node → Type 0
+AreTrees zero [] = Unit {0}
+AreTrees zero (n ∷ ns) = ⊥
+AreTrees (suc owed) [] = ⊥
+AreTrees (suc owed) (SplitAt at ∷ ns) = AreTrees (suc (suc owed)) ns
+AreTrees (suc owed) (LeafOf ws ∷ ns) = AreTrees owed ns
+
+-- a timing stands exactly where a value does
+abbrev pub HasTiming : Claim → Option Plan → Type 0
+HasTiming (Best value) None = ⊥
+HasTiming (Best value) (Some t) = Unit {0}
+HasTiming NoTiming None = Unit {0}
+HasTiming NoTiming (Some t) = ⊥
+HasTiming (Stopped bound None) None = Unit {0}
+HasTiming (Stopped bound None) (Some t) = ⊥
+HasTiming (Stopped bound (Some value)) None = ⊥
+HasTiming (Stopped bound (Some value)) (Some t) = Unit {0}
+
+-- the rows ascend, from one after the last on
+abbrev pub Ascend : Option RowId → List Weight → Type 0
+Ascend last [] = Unit {0}
+Ascend last (w ∷ ws) = (is_after last w.row ≡ true) × Ascend (Some w.row) ws
+
+-- links and signals count from 1; a leaf's rows have names and ascend, and there are at most 10,000
+abbrev pub IsNode : Node → Type 0
+IsNode (SplitAt (Loop link at)) = 1 ≤ link
+IsNode (SplitAt (Turn signal rank)) = 1 ≤ signal
+IsNode (LeafOf ws) = (length ws ≤ 10000) × Ascend None ws × All (λ w. IsNamed w.row) ws
+
+-- what every certificate of the program keeps
+pub record IsCertificate (c : Warrant) : Type 0 where
+  pub timing : HasTiming c.claim c.timing
+  pub tree : AreTrees 1 c.nodes
+  pub nodes : All IsNode c.nodes

@@ -1,0 +1,421 @@
+use super::*;
+use named_row::{Leaf, RowId};
+use narrow_fraction::Frac;
+use search_box::At;
+use std::alloc::{AllocError, Global};
+use std::test::*;
+
+/// No timing: the two rows add up to a bound below 0.
+const NONE: &[u8] =
+    b"maxband-certificate 1\nverdict none\ntree\nleaf 2\nloop_lo 1 1\nloop_hi 1 1\nend\n";
+
+/// Multipliers of 1/2^100 and 1/3^70.
+const NARROW: &[u8] =
+    b"maxband-certificate 1\nverdict none\ntree\nleaf 2\nwout 1 1/1267650600228229401496703205376\nwout 2 1/2503155504993241601315571986085849\nend\n";
+
+/// A bound and no timing.
+const BOUND: &[u8] =
+    b"maxband-certificate 1\nverdict open\nbound -3/4\nno timing\ntree\nleaf 0\nend\n";
+
+/// A best timing of two signals, with a split and two leaves.
+const BEST: [&[u8]; 30] = [
+    b"maxband-certificate 1",
+    b"verdict best",
+    b"value 1/2",
+    b"grid 2",
+    b"unit 2",
+    b"pattern 1 1",
+    b"red 0 50",
+    b"run_out 50",
+    b"run_in 50",
+    b"first 100 150",
+    b"band 100 0",
+    b"tree",
+    b"split loop 1 0",
+    b"leaf 7",
+    b"wout 2 1",
+    b"win 2 1",
+    b"fast_out 1 1",
+    b"fast_in 1 1",
+    b"cycle_low 50",
+    b"loop_hi 1 1",
+    b"turn_hi 2 1",
+    b"leaf 7",
+    b"wout 1 1",
+    b"win 1 1",
+    b"slow_out 1 1",
+    b"slow_in 1 1",
+    b"cycle_high 50",
+    b"loop_lo 1 1",
+    b"turn_hi 1 1",
+    b"end",
+];
+
+/// A timing and a bound.
+const OPEN: [&[u8]; 15] = [
+    b"maxband-certificate 1",
+    b"verdict open",
+    b"bound 3/4",
+    b"value 1/2",
+    b"grid 2",
+    b"unit 2",
+    b"pattern 1 1",
+    b"red 0 50",
+    b"run_out 50",
+    b"run_in 50",
+    b"first 100 150",
+    b"band 100 0",
+    b"tree",
+    b"leaf 0",
+    b"end",
+];
+
+fn push_line(text: &mut Vec<u8>, line: &[u8]) -> Result<(), AllocError> {
+    text.extend_from_slice(line)?;
+    text.push(b'\n')?;
+    Ok(())
+}
+
+/// The text of these lines, with another line in place of this one.
+fn replaced(
+    alloc: Global,
+    lines: &[&[u8]],
+    line: u64,
+    other: &[u8],
+) -> Result<Vec<u8>, AllocError> {
+    let mut text = Vec::new(alloc);
+    let mut number = 0u64;
+    for kept in lines {
+        number = number.wrapping_add(1);
+        push_line(&mut text, if number == line { other } else { *kept })?;
+    }
+    Ok(text)
+}
+
+/// The text of the first of these lines, so many.
+fn cut_after(alloc: Global, lines: &[&[u8]], count: u64) -> Result<Vec<u8>, AllocError> {
+    let mut text = Vec::new(alloc);
+    let mut number = 0u64;
+    for kept in lines {
+        number = number.wrapping_add(1);
+        if number <= count {
+            push_line(&mut text, kept)?;
+        }
+    }
+    Ok(text)
+}
+
+fn fault_of(alloc: Global, text: &[u8]) -> Option<BadText> {
+    match read_certificate(alloc, text) {
+        Err(TextEnd::Bad(bad)) => Some(bad),
+        _ => None,
+    }
+}
+
+/// Whether a text is read, and written again as it was.
+fn is_same(alloc: Global, text: &[u8]) -> bool {
+    let Ok(certificate) = read_certificate(alloc, text) else {
+        return false;
+    };
+    match write_certificate(alloc, &certificate) {
+        Ok(written) => written.as_slice() == text,
+        Err(_) => false,
+    }
+}
+
+#[test]
+fn short_texts_are_read_and_written_again(rt: HostRuntime) {
+    assert!(rt; is_same(rt.alloc(), NONE));
+    assert!(rt; is_same(rt.alloc(), NARROW));
+    assert!(rt; is_same(rt.alloc(), BOUND));
+}
+
+/// Lines that may stand in place of those of the best timing.
+const READ: [(u64, &[u8]); 12] = [
+    (1, b"maxband-certificate 1"),
+    (3, b"value -1/2"),
+    (3, b"value 0"),
+    (3, b"value 170141183460469231731687303715884105727"),
+    (13, b"split loop 1 -9223372036854775808"),
+    (13, b"split loop 4294967295 9223372036854775807"),
+    (13, b"split turn 1 0"),
+    (13, b"split turn 4294967295 4294967295"),
+    (15, b"wout 2 -7/3"),
+    (15, b"wout 2 0"),
+    (16, b"wout 3 1"),
+    (19, b"ratio 1"),
+];
+
+#[test]
+fn long_texts_are_read_and_written_again(rt: HostRuntime) -> Result<(), Fail> {
+    for (line, other) in READ.iter() {
+        let text = replaced(rt.alloc(), &BEST, *line, other)?;
+        assert!(rt;
+            is_same(rt.alloc(), text.as_slice()),
+            "in place of line {line}"
+        );
+    }
+    let text = replaced(rt.alloc(), &OPEN, 0, b"")?;
+    assert!(rt; is_same(rt.alloc(), text.as_slice()));
+    Ok(())
+}
+
+/// A line that is put in, where, and the fault with its line.
+const REFUSED: [(u64, &[u8], u64, TextFault); 86] = [
+    (1, b"maxband-certificate 2", 1, TextFault::Shape),
+    (1, b"maxband-timing 1", 1, TextFault::Shape),
+    (2, b"verdict", 2, TextFault::Shape),
+    (2, b"verdict good", 2, TextFault::Shape),
+    (2, b"verdict best ", 2, TextFault::Shape),
+    (2, b"verdict none", 3, TextFault::Shape),
+    (2, b"verdict open", 3, TextFault::Shape),
+    (3, b"value", 3, TextFault::Shape),
+    (3, b"bound 1/2", 3, TextFault::Shape),
+    (3, b"value 1 2", 3, TextFault::Shape),
+    (3, b"value ", 3, TextFault::Number),
+    (3, b"value 2/4", 3, TextFault::Number),
+    (3, b"value 3/1", 3, TextFault::Number),
+    (3, b"value 0/5", 3, TextFault::Number),
+    (3, b"value -0", 3, TextFault::Number),
+    (3, b"value +1", 3, TextFault::Number),
+    (3, b"value 01", 3, TextFault::Number),
+    (3, b"value 1/02", 3, TextFault::Number),
+    (3, b"value 1/0", 3, TextFault::Number),
+    (3, b"value 1/-2", 3, TextFault::Number),
+    (3, b"value 0.5", 3, TextFault::Number),
+    (3, b"value 1/2/3", 3, TextFault::Number),
+    (
+        3,
+        b"value 170141183460469231731687303715884105728",
+        3,
+        TextFault::Number,
+    ),
+    (
+        3,
+        b"value 1/170141183460469231731687303715884105728",
+        3,
+        TextFault::Number,
+    ),
+    (
+        3,
+        b"value 1111111111111111111111111111111111111111111111111111111111111111111111111111111111111111111111111111",
+        3,
+        TextFault::Number,
+    ),
+    (4, b"grid 0", 4, TextFault::Number),
+    (5, b"unit 1", 5, TextFault::Number),
+    (6, b"pattern 1", 6, TextFault::Shape),
+    (6, b"pattern 1 9", 6, TextFault::Number),
+    (7, b"red 0", 7, TextFault::Shape),
+    (8, b"run_out", 8, TextFault::Shape),
+    (9, b"run_in x", 9, TextFault::Number),
+    (10, b"first 100", 10, TextFault::Shape),
+    (11, b"band 100", 11, TextFault::Shape),
+    (12, b"tree ", 12, TextFault::Shape),
+    (12, b"", 12, TextFault::Shape),
+    (12, b"end", 12, TextFault::Shape),
+    (13, b"split loop 1", 13, TextFault::Shape),
+    (13, b"split loop 1 0 0", 13, TextFault::Shape),
+    (13, b"split  loop 1 0", 13, TextFault::Shape),
+    (13, b"split bend 1 0", 13, TextFault::Shape),
+    (13, b"spilt loop 1 0", 13, TextFault::Shape),
+    (13, b"split loop 0 0", 13, TextFault::Number),
+    (13, b"split loop 01 0", 13, TextFault::Number),
+    (13, b"split loop 4294967296 0", 13, TextFault::Number),
+    (13, b"split loop 1 -0", 13, TextFault::Number),
+    (13, b"split loop 1 +1", 13, TextFault::Number),
+    (13, b"split loop 1 --1", 13, TextFault::Number),
+    (13, b"split loop 1 -", 13, TextFault::Number),
+    (13, b"split loop 1 ", 13, TextFault::Number),
+    (
+        13,
+        b"split loop 1 9223372036854775808",
+        13,
+        TextFault::Number,
+    ),
+    (
+        13,
+        b"split loop 1 -9223372036854775809",
+        13,
+        TextFault::Number,
+    ),
+    (13, b"split turn 0 0", 13, TextFault::Number),
+    (13, b"split turn 1 -1", 13, TextFault::Number),
+    (13, b"split turn 1 4294967296", 13, TextFault::Number),
+    (14, b"leaf", 14, TextFault::Shape),
+    (14, b"leaf 7 1", 14, TextFault::Shape),
+    (14, b"Leaf 7", 14, TextFault::Shape),
+    (14, b"leaf 07", 14, TextFault::Number),
+    (14, b"leaf -1", 14, TextFault::Number),
+    (14, b"leaf 10001", 14, TextFault::Number),
+    (14, b"leaf 6", 21, TextFault::Shape),
+    (14, b"leaf 8", 22, TextFault::Shape),
+    (15, b"wout 2", 15, TextFault::Shape),
+    (15, b"wout 2 1 1", 15, TextFault::Shape),
+    (15, b"wait 2 1", 15, TextFault::Shape),
+    (15, b"wait 0 x", 15, TextFault::Shape),
+    (15, b"", 15, TextFault::Shape),
+    (15, b"wout 0 1", 15, TextFault::Number),
+    (15, b"wout 4294967296 1", 15, TextFault::Number),
+    (15, b"wout 2 2/2", 15, TextFault::Number),
+    (15, b"wout -2 1", 15, TextFault::Number),
+    (16, b"wout 2 1", 16, TextFault::Order),
+    (16, b"wout 1 1", 16, TextFault::Order),
+    (16, b"wout 1 x", 16, TextFault::Number),
+    (16, b"wout 1", 16, TextFault::Shape),
+    (19, b"cycle_low 1 50", 19, TextFault::Shape),
+    (19, b"cycle_low", 19, TextFault::Shape),
+    (19, b"cycle_low 5/5", 19, TextFault::Number),
+    (19, b"fast_out 9 1", 19, TextFault::Order),
+    (20, b"cycle_low 50", 20, TextFault::Order),
+    (22, b"end", 22, TextFault::Shape),
+    (30, b"leaf 0", 30, TextFault::Shape),
+    (30, b"end ", 30, TextFault::Shape),
+    (30, b"end\n", 31, TextFault::Shape),
+    (30, b"end\nend", 31, TextFault::Shape),
+];
+
+/// The same for the text with a bound.
+const REFUSED_OPEN: [(u64, &[u8], u64, TextFault); 13] = [
+    (2, b"verdict closed", 2, TextFault::Shape),
+    (3, b"value 3/4", 3, TextFault::Shape),
+    (3, b"bound 6/8", 3, TextFault::Number),
+    (4, b"value", 4, TextFault::Shape),
+    (4, b"value 2/4", 4, TextFault::Number),
+    (4, b"no timings", 4, TextFault::Shape),
+    (4, b"no timing", 5, TextFault::Shape),
+    (4, b"", 4, TextFault::Shape),
+    (5, b"grid x", 5, TextFault::Number),
+    (12, b"band 1", 12, TextFault::Shape),
+    (13, b"end", 13, TextFault::Shape),
+    (14, b"leaf 1", 15, TextFault::Shape),
+    (15, b"", 15, TextFault::Shape),
+];
+
+#[test]
+fn the_first_bad_line_is_named(rt: HostRuntime) -> Result<(), Fail> {
+    for (line, other, bad, kind) in REFUSED.iter() {
+        let text = replaced(rt.alloc(), &BEST, *line, other)?;
+        let found = fault_of(rt.alloc(), text.as_slice());
+        let expected = BadText {
+            line: *bad,
+            kind: *kind,
+        };
+        assert_eq!(rt; found, Some(expected), "in place of line {line}");
+    }
+    for (line, other, bad, kind) in REFUSED_OPEN.iter() {
+        let text = replaced(rt.alloc(), &OPEN, *line, other)?;
+        let found = fault_of(rt.alloc(), text.as_slice());
+        let expected = BadText {
+            line: *bad,
+            kind: *kind,
+        };
+        assert_eq!(rt; found, Some(expected), "in place of line {line}");
+    }
+    Ok(())
+}
+
+#[test]
+fn a_text_that_ends_early_is_named_at_its_next_line(rt: HostRuntime) -> Result<(), Fail> {
+    for count in 0..30 {
+        let mut text = cut_after(rt.alloc(), &BEST, count)?;
+        let expected = BadText {
+            line: count + 1,
+            kind: TextFault::Ended,
+        };
+        assert_eq!(rt; fault_of(rt.alloc(), text.as_slice()), Some(expected));
+        text.extend_from_slice(b"end")?;
+        assert_eq!(rt; fault_of(rt.alloc(), text.as_slice()), Some(expected));
+    }
+    Ok(())
+}
+
+#[test]
+fn a_leaf_after_the_tree_is_refused(rt: HostRuntime) -> Result<(), Fail> {
+    let mut text = cut_after(rt.alloc(), &BEST, 29)?;
+    let mut number = 0u64;
+    for line in BEST.iter() {
+        number = number.wrapping_add(1);
+        if number >= 22 {
+            push_line(&mut text, line)?;
+        }
+    }
+    let expected = BadText {
+        line: 30,
+        kind: TextFault::Shape,
+    };
+    assert_eq!(rt; fault_of(rt.alloc(), text.as_slice()), Some(expected));
+    Ok(())
+}
+
+#[test]
+fn each_part_goes_to_its_place(rt: HostRuntime) -> Result<(), Fail> {
+    let text = replaced(rt.alloc(), &BEST, 15, b"wout 2 -7/3")?;
+    let certificate = read_certificate(rt.alloc(), text.as_slice())
+        .ok()
+        .ok_or("the text is a certificate")?;
+    let value = Frac::new(1, 2).ok().ok_or("a half is a fraction")?;
+    assert_eq!(rt; certificate.claim, Claim::Best { value });
+    let timing = certificate.timing.as_ref().ok_or("a timing stands there")?;
+    assert_eq!(rt; timing.reds(), [0, 50].as_slice());
+    let [
+        CertNode::Split(place),
+        CertNode::Leaf(first),
+        CertNode::Leaf(second),
+    ] = certificate.nodes.as_slice()
+    else {
+        return Err(Fail::from("there are three nodes"));
+    };
+    assert_eq!(rt; *place, At::Loop { link: 1, at: 0 });
+    let weight = first.multipliers.first().ok_or("there are seven rows")?;
+    let by = Frac::new(-7, 3).ok().ok_or("the multiplier is a fraction")?;
+    assert_eq!(rt;
+        weight.row,
+        RowId {
+            family: 1,
+            index: 2
+        }
+    );
+    assert_eq!(rt; weight.by, by);
+    let last = second.multipliers.last().ok_or("there are seven rows")?;
+    assert_eq!(rt;
+        last.row,
+        RowId {
+            family: 17,
+            index: 1
+        }
+    );
+    Ok(())
+}
+
+#[test]
+fn a_bound_and_a_value_go_to_their_places(rt: HostRuntime) -> Result<(), Fail> {
+    let text = replaced(rt.alloc(), &OPEN, 0, b"")?;
+    let certificate = read_certificate(rt.alloc(), text.as_slice())
+        .ok()
+        .ok_or("the text is a certificate")?;
+    let bound = Frac::new(3, 4).ok().ok_or("it is a fraction")?;
+    let value = Some(Frac::new(1, 2).ok().ok_or("it is a fraction")?);
+    assert_eq!(rt; certificate.claim, Claim::Stopped { bound, value });
+    Ok(())
+}
+
+#[test]
+fn a_certificate_is_made_of_its_parts(rt: HostRuntime) -> Result<(), Fail> {
+    let mut nodes = Vec::new(rt.alloc());
+    let multipliers = Vec::new(rt.alloc());
+    nodes.push(CertNode::Leaf(Leaf { multipliers }))?;
+    let certificate = Certificate {
+        claim: Claim::NoTiming,
+        timing: None,
+        nodes,
+    };
+    let text = write_certificate(rt.alloc(), &certificate)
+        .ok()
+        .ok_or("there is memory")?;
+    assert_eq!(rt;
+        text.as_slice(),
+        b"maxband-certificate 1\nverdict none\ntree\nleaf 0\nend\n".as_slice()
+    );
+    Ok(())
+}

@@ -1,0 +1,191 @@
+//! The text of a certificate, written.
+
+ghost use Rattle.std.specs.Prelude.{◌≡◌, ◌++◌, ◌∷◌, [], All, map, flat_map, length, IfOk, OnOk, string_bytes};
+ghost use Rattle.std.specs.Fmt.{decimal};
+ghost use Rattle.quantity_text.specs.Exact.{exact_spelling};
+ghost use Rattle.plan_text.specs.Words.{line_of};
+ghost use Rattle.plan_text.specs.Spelling.{ended};
+ghost use Rattle.plan_text.specs.Families.{IsNamed};
+ghost use Rattle.plan_text.specs.Warrants.{node_of, IsNode};
+ghost use Rattle.plan_text.specs.CertificateText.{leaf_key, fraction_words, row_words, split_words, weight_line, node_lines, timing_part, claim_lines, certificate_text};
+
+use crate::certificate::{CertNode, Certificate, Claim};
+use crate::family::{family_name, is_lone};
+use crate::writing::push_plan;
+use named_row::{RowId, Weight};
+use narrow_fraction::{Frac, Memory};
+use quantity_text::exact_text;
+use search_box::At;
+use std::alloc::Global;
+use time_space::Timing;
+
+/// Writes bytes at the end.
+fn push(out: &mut Vec<u8>, bytes: &[u8]) -> Result<(), Memory>
+    ensures { OnOk result (out.new.items ≡ out.old.items ++ bytes.now) }
+{
+    out.extend_from_slice(bytes).map_err(|_| Memory)
+}
+
+/// Writes a line at the end.
+fn push_line(out: &mut Vec<u8>, line: &[u8]) -> Result<(), Memory>
+    ensures { OnOk result (out.new.items ≡ out.old.items ++ ended (line.now ∷ [])) }
+{
+    push(out, line)?;
+    push(out, b"\n")
+}
+
+/// Writes a fraction after a space, and the end of its line.
+fn push_fraction(alloc: Global, out: &mut Vec<u8>, value: Frac) -> Result<(), Memory>
+    ensures { OnOk result (out.new.items ≡ out.old.items ++ 32 ∷ (exact_spelling value ++ 10 ∷ [])) }
+{
+    let text = exact_text(alloc, value)?;
+    push(out, b" ")?;
+    push_line(out, text.as_slice())
+}
+
+/// Writes a line of a key and a fraction at the end.
+fn push_value(alloc: Global, out: &mut Vec<u8>, key: &[u8], value: Frac) -> Result<(), Memory>
+    ensures { OnOk result (out.new.items ≡ out.old.items ++ ended (line_of (fraction_words key.now value) ∷ [])) }
+{
+    push(out, key)?;
+    push_fraction(alloc, out, value)
+}
+
+/// Writes an index after a space.
+fn push_index(alloc: Global, out: &mut Vec<u8>, index: u32) -> Result<(), Memory>
+    ensures { OnOk result (out.new.items ≡ out.old.items ++ 32 ∷ decimal index) }
+{
+    let text = format!(in alloc; " {index}").map_err(|_| Memory)?;
+    push(out, text.as_bytes())
+}
+
+/// Writes the name of a row.
+fn push_name(alloc: Global, out: &mut Vec<u8>, row: RowId) -> Result<(), Memory>
+    requires { IsNamed row }
+    ensures { OnOk result (out.new.items ≡ out.old.items ++ line_of (row_words row)) }
+{
+    push(out, family_name(row.family))?;
+    if is_lone(row.family) {
+        Ok(())
+    } else {
+        push_index(alloc, out, row.index)
+    }
+}
+
+/// Writes the line of a row and its multiplier.
+fn push_weight(alloc: Global, out: &mut Vec<u8>, weight: &Weight) -> Result<(), Memory>
+    requires { IsNamed weight.now.row }
+    ensures { OnOk result (out.new.items ≡ out.old.items ++ ended (weight_line weight.now ∷ [])) }
+{
+    push_name(alloc, out, weight.row)?;
+    push_fraction(alloc, out, weight.by)
+}
+
+fn push_weights(alloc: Global, out: &mut Vec<u8>, weights: &[Weight]) -> Result<(), Memory>
+    requires { All (λ w. IsNamed w.row) weights.now }
+    ensures { OnOk result (out.new.items ≡ out.old.items ++ ended (map weight_line weights.now)) }
+{
+    for weight in weights {
+        push_weight(alloc, out, weight)?;
+    }
+    Ok(())
+}
+
+/// Writes the line of a split.
+fn push_split(alloc: Global, out: &mut Vec<u8>, place: At) -> Result<(), Memory>
+    ensures { OnOk result (out.new.items ≡ out.old.items ++ ended (line_of (split_words place) ∷ [])) }
+{
+    let text = match place {
+        At::Loop { link, at } => format!(in alloc; "split loop {link} {at}"),
+        At::Turn { signal, rank } => format!(in alloc; "split turn {signal} {rank}"),
+    };
+    let text = text.map_err(|_| Memory)?;
+    push_line(out, text.as_bytes())
+}
+
+/// Writes the first line of a leaf with so many rows.
+fn push_leaf(alloc: Global, out: &mut Vec<u8>, count: usize) -> Result<(), Memory>
+    ensures { OnOk result (out.new.items ≡ out.old.items ++ ended (line_of (leaf_key ∷ decimal count ∷ []) ∷ [])) }
+{
+    let text = format!(in alloc; "leaf {count}").map_err(|_| Memory)?;
+    push_line(out, text.as_bytes())
+}
+
+/// Writes the lines of a node.
+#[tactic(auto, unfolding(crate::specs::CertificateText::node_lines))]
+fn push_node(alloc: Global, out: &mut Vec<u8>, node: &CertNode) -> Result<(), Memory>
+    requires { IsNode (node_of node.now) }
+    ensures { OnOk result (out.new.items ≡ out.old.items ++ ended (node_lines (node_of node.now))) }
+{
+    match node {
+        CertNode::Split(place) => push_split(alloc, out, *place),
+        CertNode::Leaf(leaf) => {
+            push_leaf(alloc, out, leaf.multipliers.len())?;
+            push_weights(alloc, out, leaf.multipliers.as_slice())
+        }
+    }
+}
+
+fn push_nodes(alloc: Global, out: &mut Vec<u8>, nodes: &[CertNode]) -> Result<(), Memory>
+    requires { All IsNode (map node_of nodes.now) }
+    ensures { OnOk result (out.new.items ≡ out.old.items ++ ended (flat_map node_lines (map node_of nodes.now))) }
+{
+    for node in nodes {
+        push_node(alloc, out, node)?;
+    }
+    Ok(())
+}
+
+/// Writes the lines of a timing, if there is one.
+fn push_timing(alloc: Global, out: &mut Vec<u8>, timing: &Option<Timing>) -> Result<(), Memory>
+    ensures { OnOk result (out.new.items ≡ out.old.items ++ ended (timing_part timing.now)) }
+{
+    match timing {
+        Some(timing) => push_plan(alloc, out, timing).map_err(|_| Memory),
+        None => Ok(()),
+    }
+}
+
+/// Writes the lines of a claim and its timing.
+#[tactic(auto, unfolding(crate::specs::CertificateText::claim_lines))]
+fn push_claim(
+    alloc: Global,
+    out: &mut Vec<u8>,
+    claim: &Claim,
+    timing: &Option<Timing>,
+) -> Result<(), Memory>
+    ensures { OnOk result (out.new.items ≡ out.old.items ++ ended (claim_lines claim.now timing.now)) }
+{
+    match claim {
+        Claim::Best { value } => {
+            push_line(out, b"verdict best")?;
+            push_value(alloc, out, b"value", *value)?;
+            push_timing(alloc, out, timing)
+        }
+        Claim::NoTiming => push_line(out, b"verdict none"),
+        Claim::Stopped { bound, value } => {
+            push_line(out, b"verdict open")?;
+            push_value(alloc, out, b"bound", *bound)?;
+            match value {
+                Some(value) => {
+                    push_value(alloc, out, b"value", *value)?;
+                    push_timing(alloc, out, timing)
+                }
+                None => push_line(out, b"no timing"),
+            }
+        }
+    }
+}
+
+/// The one text of a certificate, which `read_certificate` reads again.
+pub fn write_certificate(alloc: Global, certificate: &Certificate) -> Result<Vec<u8>, Memory>
+    ensures { IfOk result (λ v. v.items ≡ certificate_text certificate.now) }
+{
+    let mut out = Vec::new(alloc);
+    push_line(&mut out, b"maxband-certificate 1")?;
+    push_claim(alloc, &mut out, &certificate.claim, &certificate.timing)?;
+    push_line(&mut out, b"tree")?;
+    push_nodes(alloc, &mut out, certificate.nodes.as_slice())?;
+    push_line(&mut out, b"end")?;
+    Ok(out)
+}

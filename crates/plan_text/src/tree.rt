@@ -1,0 +1,158 @@
+//! The tree of a certificate, node by node.
+
+ghost use Rattle.std.specs.Prelude.{◌≡◌, ◌+◌, ◌-◌, ◌≤◌, ◌<◌, ◌^◌, map, length, IfOk, None, IsTrue};
+ghost use Rattle.plan_text.specs.Lines.{Gives, ranged};
+ghost use Rattle.plan_text.specs.Numbers.{number};
+ghost use Rattle.plan_text.specs.Fractions.{integer};
+ghost use Rattle.plan_text.specs.Warrants.{node_of};
+ghost use Rattle.plan_text.specs.CertificateReading.{or_number, split_of, head_of, rest_of, node_at, owed_after, nodes_at, tree_at};
+
+use crate::certificate::CertNode;
+use crate::fault::{TextEnd, TextFault};
+use crate::fraction::integer;
+use crate::lines::{bad, fixed_at, nothing_at, words_at};
+use crate::row::{index_of, small, weights_at};
+use named_row::Leaf;
+use search_box::At;
+use std::alloc::Global;
+
+/// The most rows of a leaf.
+const MOST_ROWS: u32 = 10_000;
+
+/// What the first line of a node says: a split, or a leaf with so many rows.
+#[derive(Clone, Copy)]
+enum Head {
+    Split(At),
+    Leaf(u32),
+}
+
+/// A number of 64 bits in this line.
+fn signed(line: u64, word: &[u8]) -> Result<i64, TextEnd>
+    ensures { Gives (λ n. n) result (or_number line (integer word.now)) }
+{
+    match integer(word) {
+        Some(number) => Ok(number),
+        None => Err(bad(line, TextFault::Number)),
+    }
+}
+
+/// The place of a split.
+#[tactic(auto, unfolding(crate::specs::CertificateReading::split_of))]
+fn split_of(line: u64, kind: &[u8], index: &[u8], place: &[u8]) -> Result<At, TextEnd>
+    ensures { Gives (λ x. x) result (split_of line kind.now index.now place.now) }
+{
+    if kind == b"loop".as_slice() {
+        let link = index_of(line, index)?;
+        let at = signed(line, place)?;
+        Ok(At::Loop { link, at })
+    } else if kind == b"turn".as_slice() {
+        let signal = index_of(line, index)?;
+        let rank = small(line, 0, u32::MAX, place)?;
+        Ok(At::Turn { signal, rank })
+    } else {
+        Err(bad(line, TextFault::Shape))
+    }
+}
+
+/// What the words of a node's first line say.
+#[tactic(auto, unfolding(crate::specs::CertificateReading::head_of))]
+fn head_of(line: u64, words: &[&[u8]]) -> Result<Head, TextEnd>
+    ensures { Gives (λ x. x) result (head_of line (map (λ w. w.now) words.now)) }
+{
+    match words {
+        [key, count] if *key == b"leaf".as_slice() => {
+            let count = small(line, 0, MOST_ROWS, count)?;
+            Ok(Head::Leaf(count))
+        }
+        [key, kind, index, place] if *key == b"split".as_slice() => {
+            let at = split_of(line, kind, index, place)?;
+            Ok(Head::Split(at))
+        }
+        _ => Err(bad(line, TextFault::Shape)),
+    }
+}
+
+/// The node that begins so, the number of the line after it, and what follows.
+#[tactic(auto, unfolding(crate::specs::CertificateReading::rest_of))]
+fn rest_of(
+    alloc: Global,
+    head: Head,
+    line: u64,
+    bytes: &[u8],
+) -> Result<(CertNode, u64, &[u8]), TextEnd>
+    requires { line + 2 ^ 32 < 2 ^ 64 }
+    ensures { Gives (λ x. (node_of x.0, x.1, x.2.now)) result (rest_of head line bytes.now) }
+{
+    match head {
+        Head::Split(at) => Ok((CertNode::Split(at), line, bytes)),
+        Head::Leaf(count) => {
+            let (multipliers, rest) = weights_at(alloc, count, line, bytes)?;
+            let node = CertNode::Leaf(Leaf { multipliers });
+            Ok((node, line + count as u64, rest))
+        }
+    }
+}
+
+#[tactic(auto, unfolding(crate::specs::CertificateReading::node_at))]
+fn node_from(alloc: Global, line: u64, bytes: &[u8]) -> Result<(CertNode, u64, &[u8]), TextEnd>
+    requires { line + 2 ^ 33 < 2 ^ 64 }
+    ensures { Gives (λ x. (node_of x.0, x.1, x.2.now)) result (node_at line bytes.now) }
+{
+    let (words, rest) = words_at(alloc, line, bytes)?;
+    let head = head_of(line, words.as_slice())?;
+    rest_of(alloc, head, line + 1, rest)
+}
+
+/// The next node, the number of the line after it, and what follows.
+fn node_at(alloc: Global, line: u64, bytes: &[u8]) -> Result<(CertNode, u64, &[u8]), TextEnd>
+    requires { line + 2 ^ 33 < 2 ^ 64 }
+    ensures exact { Gives (λ x. (node_of x.0, x.1, x.2.now)) result (node_at line bytes.now) }
+    ensures shorter { IfOk result (λ x. length x.2.now < length bytes.now) }
+    ensures lines { IfOk result (λ x. x.1 + length x.2.now ≤ line + length bytes.now) }
+{
+    node_from(alloc, line, bytes)
+}
+
+/// How many trees are owed after the first node of one, when so many others were.
+fn owed_after(node: &CertNode, others: usize) -> usize
+    requires { others + 2 < 2 ^ 64 }
+    ensures { result ≡ owed_after (node_of node.now) others }
+{
+    match node {
+        CertNode::Split(_) => others + 2,
+        CertNode::Leaf(_) => others,
+    }
+}
+
+/// The nodes of one tree, the number of the line after them, and what follows.
+fn nodes_at(alloc: Global, line: u64, bytes: &[u8]) -> Result<(Vec<CertNode>, u64, &[u8]), TextEnd>
+    requires { line + 2 ^ 34 < 2 ^ 64 - length bytes.now }
+    ensures exact { Gives (λ x. (map node_of x.0.items, x.1, x.2.now)) result (nodes_at (length bytes.now) 1 line bytes.now) }
+    ensures lines { IfOk result (λ x. x.1 + length x.2.now ≤ line + length bytes.now) }
+{
+    let mut nodes = Vec::new(alloc);
+    let mut owed = 1;
+    let mut line = line;
+    let mut rest = bytes;
+    'trees: while owed > 0 {
+        let (node, next, after) = node_at(alloc, line, rest)?;
+        owed = owed_after(&node, owed - 1);
+        nodes.push(node)?;
+        line = next;
+        rest = after;
+    }
+    Ok((nodes, line, rest))
+}
+
+/// The tree of a certificate, with which its text ends.
+#[tactic(auto, unfolding(crate::specs::CertificateReading::tree_at))]
+pub fn tree_at(alloc: Global, line: u64, bytes: &[u8]) -> Result<Vec<CertNode>, TextEnd>
+    requires { line ≤ 13 }
+    ensures { Gives (λ x. map node_of x.items) result (tree_at line bytes.now) }
+{
+    let rest = fixed_at(line, b"tree", bytes)?;
+    let (nodes, line, rest) = nodes_at(alloc, line + 1, rest)?;
+    let rest = fixed_at(line, b"end", rest)?;
+    nothing_at(line + 1, rest)?;
+    Ok(nodes)
+}

@@ -1,0 +1,4 @@
+pub mod Seen
+pub mod Rising
+pub mod Places
+pub mod Sums

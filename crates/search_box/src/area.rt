@@ -1,0 +1,156 @@
+//! Boxes of block sums and shift ranks.
+
+ghost use Rattle.std.specs.Prelude.{◌≡◌, ◌↔◌, ◌≤◌, length, All, IsTrue, IfOk};
+ghost use Rattle.progression.specs.Plan.{Plan};
+ghost use Rattle.progression.specs.Good.{Good};
+ghost use Rattle.linear_model.specs.Counts.{IsStreet};
+ghost use Rattle.linear_model.specs.Boxes.{root_box, IsRoot, IsBoxOf, InBox, loop_span, turn_span, with_loop, with_turn};
+
+use crate::lists::{copied, replaced};
+use crate::root::{root_loops, root_turns};
+use crate::span::Span;
+use artery_model::Artery;
+use narrow_fraction::Memory;
+use std::alloc::Global;
+use std::marker::Model;
+
+/// The shift ranks from `least` to `most`.
+#[derive(Clone, Copy, Debug)]
+pub(crate) struct RankSpan {
+    pub(crate) least: u32,
+    pub(crate) most: u32,
+}
+
+/// A box, seen as an `Area`: a span of block sums of each link, and a span of shift ranks of each signal.
+#[derive(Debug, Drop)]
+pub struct SearchBox {
+    loops: Vec<Span>,
+    turns: Vec<RankSpan>,
+}
+
+impl Model for SearchBox {
+    ghost use Rattle.linear_model.specs.Boxes.{Area};
+
+    ghost Value = { Area };
+
+    ghost use Rattle.search_box.specs.Seen.{area_of};
+
+    ghost view = { area_of };
+}
+
+fn are_single(spans: &[Span]) -> bool
+    ensures { IsTrue result ↔ All (λ s. s.least ≡ s.most) spans.now }
+{
+    spans.iter().all(|span| span.least == span.most)
+}
+
+fn are_single_ranks(spans: &[RankSpan]) -> bool
+    ensures { IsTrue result ↔ All (λ s. s.least ≡ s.most) spans.now }
+{
+    spans.iter().all(|span| span.least == span.most)
+}
+
+impl SearchBox {
+    ghost use Rattle.search_box.specs.Seen.{span_of, ranks_of, span_of_ranks};
+    ghost use Rattle.search_box.specs.Places.{IsSingle};
+
+    /// The box with the root's span of each link and all ranks of each signal: every good timing of the artery lies in
+    /// it. The error is want of memory.
+    #[tactic(auto, using(crate::proofs::Streets::street_of))]
+    pub fn root(alloc: Global, artery: &Artery) -> Result<SearchBox, Memory>
+        ensures value { IfOk result (λ area. area ≡ root_box artery.now) }
+        ensures root { IfOk result (λ area. IsRoot artery.now area) }
+        ensures boxed { IfOk result (λ area. IsBoxOf artery.now area) }
+        ensures street { IsStreet artery.now }
+        ensures holds { IfOk result (λ area. (t : Plan) → Good artery.now t → InBox artery.now area t) }
+    {
+        // its contract says that the artery is valid
+        let _ = artery.head();
+        let loops = root_loops(alloc, artery)?;
+        let turns = root_turns(alloc, artery)?;
+        Ok(SearchBox { loops, turns })
+    }
+
+    /// The span of a link's block sums.
+    pub fn loop_span(&self, link: u32) -> Span
+        requires first { 1 ≤ link }
+        requires last { link ≤ length self.now.loops }
+        ensures { span_of result ≡ loop_span self.now link }
+    {
+        self.loops[link as usize - 1]
+    }
+
+    pub(crate) fn ranks(&self, signal: u32) -> RankSpan
+        requires first { 1 ≤ signal }
+        requires last { signal ≤ length self.now.turns }
+        ensures { ranks_of result ≡ turn_span self.now signal }
+    {
+        self.turns[signal as usize - 1]
+    }
+
+    /// The span of a signal's shift ranks. In a box of an artery these lie below the signal's number of shifts.
+    pub fn turn_span(&self, signal: u32) -> Span
+        requires first { 1 ≤ signal }
+        requires last { signal ≤ length self.now.turns }
+        ensures { result ≡ span_of_ranks (turn_span self.now signal) }
+    {
+        let ranks = self.ranks(signal);
+        Span {
+            least: i64::from(ranks.least),
+            most: i64::from(ranks.most),
+        }
+    }
+
+    pub(crate) fn has_link(&self, link: u32) -> bool
+        ensures { IsTrue result ↔ ((1 ≤ link) × (link ≤ length self.now.loops)) }
+    {
+        1 <= link && link as usize <= self.loops.len()
+    }
+
+    pub(crate) fn has_signal(&self, signal: u32) -> bool
+        ensures { IsTrue result ↔ ((1 ≤ signal) × (signal ≤ length self.now.turns)) }
+    {
+        1 <= signal && signal as usize <= self.turns.len()
+    }
+
+    /// Whether every span has one number.
+    pub fn is_single(&self) -> bool
+        ensures { IsTrue result ↔ IsSingle self.now }
+    {
+        are_single(self.loops.as_slice()) && are_single_ranks(self.turns.as_slice())
+    }
+
+    /// The same box with another span for a link.
+    #[tactic(auto, using(crate::proofs::Views::loop_put))]
+    pub(crate) fn with_loop(
+        &self,
+        alloc: Global,
+        link: u32,
+        span: Span,
+    ) -> Result<SearchBox, Memory>
+        requires first { 1 ≤ link }
+        requires last { link ≤ length self.now.loops }
+        ensures { IfOk result (λ area. area ≡ with_loop self.now link (span_of span)) }
+    {
+        let loops = replaced(alloc, self.loops.as_slice(), link as usize - 1, span)?;
+        let turns = copied(alloc, self.turns.as_slice())?;
+        Ok(SearchBox { loops, turns })
+    }
+
+    /// The same box with other ranks for a signal.
+    #[tactic(auto, using(crate::proofs::Views::turn_put))]
+    pub(crate) fn with_turn(
+        &self,
+        alloc: Global,
+        signal: u32,
+        ranks: RankSpan,
+    ) -> Result<SearchBox, Memory>
+        requires first { 1 ≤ signal }
+        requires last { signal ≤ length self.now.turns }
+        ensures { IfOk result (λ area. area ≡ with_turn self.now signal (ranks_of ranks)) }
+    {
+        let loops = copied(alloc, self.loops.as_slice())?;
+        let turns = replaced(alloc, self.turns.as_slice(), signal as usize - 1, ranks)?;
+        Ok(SearchBox { loops, turns })
+    }
+}

@@ -1,0 +1,40 @@
+//! Copies of lists, and one more item.
+
+ghost use Rattle.std.specs.Prelude.{◌≡◌, ◌<◌, ◌++◌, [], ◌∷◌, length, slice_set, IfOk, OnOk};
+
+use narrow_fraction::Memory;
+use std::alloc::Global;
+
+pub(crate) fn copied<T: Copy>(alloc: Global, items: &[T]) -> Result<Vec<T>, Memory>
+    ensures { IfOk result (λ copy. copy.items ≡ items.now) }
+{
+    let mut copy = Vec::new(alloc);
+    match copy.extend_from_slice(items) {
+        Ok(()) => Ok(copy),
+        Err(_) => Err(Memory),
+    }
+}
+
+/// A copy with another item at an index.
+pub(crate) fn replaced<T: Copy>(
+    alloc: Global,
+    items: &[T],
+    index: usize,
+    item: T,
+) -> Result<Vec<T>, Memory>
+    requires { index < length items.now }
+    ensures { IfOk result (λ copy. copy.items ≡ slice_set items.now index item) }
+{
+    let mut copy = copied(alloc, items)?;
+    copy[index] = item;
+    Ok(copy)
+}
+
+pub(crate) fn push<T: Copy>(items: &mut Vec<T>, item: T) -> Result<(), Memory>
+    ensures { OnOk result (items.new.items ≡ items.old.items ++ item ∷ []) }
+{
+    match items.push(item) {
+        Ok(()) => Ok(()),
+        Err(_) => Err(Memory),
+    }
+}

@@ -1,0 +1,200 @@
+//! The root box, which has room for every good timing.
+
+ghost use Rattle.std.specs.Prelude.{◌≡◌, ◌+◌, ◌-◌, ◌*◌, ◌<◌, ◌≤◌, ◌^◌, ℕ, map, pos, ◌*ℤ◌, ◌≤ℤ◌, unsigned_abs, IfOk};
+ghost use Rattle.std.specs.Int.{int_div_euclid};
+ghost use Rattle.ratio.specs.Floor.{floor_ℚ, ceil_ℚ};
+ghost use Rattle.progression.specs.Street.{count, HasSignal};
+ghost use Rattle.progression.specs.Columns.{numbered};
+ghost use Rattle.linear_model.specs.Shifts.{shift_count};
+ghost use Rattle.linear_model.specs.Boxes.{least_sum, greatest_sum, root_span, root_ranks};
+ghost use Rattle.linear_model.specs.Spans.{least_parts, greatest_parts};
+ghost use Rattle.search_box.specs.Seen.{span_of, ranks_of};
+ghost use Rattle.search_box.specs.Sums.{share_of, sum_of, top_of, bottom_of};
+
+use crate::area::{RankSpan, SearchBox};
+use crate::lists::push;
+use crate::share::{Share, run_share};
+use crate::shifts::shift_count;
+use crate::span::Span;
+use crate::whole_parts::{greatest_parts, least_parts};
+use artery_model::Artery;
+use narrow_fraction::Memory;
+use progression::Dir;
+use std::alloc::Global;
+
+/// The product of the denominators.
+fn bottoms(first: Share, second: Share) -> u128
+    ensures value { result ≡ first.bottom * second.bottom }
+    ensures size { result < 2 ^ 76 }
+{
+    u128::from(first.bottom) * u128::from(second.bottom)
+}
+
+/// The numerator of two shares together, over the product of the denominators.
+fn tops(first: Share, second: Share) -> u128
+    ensures value { result ≡ first.top * second.bottom + second.top * first.bottom }
+    ensures size { result < 2 ^ 78 }
+{
+    let left = u128::from(first.top) * u128::from(second.bottom);
+    let right = u128::from(second.top) * u128::from(first.bottom);
+    left + right
+}
+
+/// A number `whole` times, with a sign.
+fn times(whole: u32, count: u128) -> i128
+    requires whole { whole < 2 ^ 12 }
+    requires count { count < 2 ^ 78 }
+    ensures value { result ≡ pos (whole * count) }
+    ensures size { unsigned_abs result < 2 ^ 90 }
+{
+    (u128::from(whole) * count) as i128
+}
+
+fn product(number: i128, count: u128) -> i128
+    requires number { unsigned_abs number < 2 ^ 16 }
+    requires count { count < 2 ^ 76 }
+    ensures value { result ≡ number *ℤ pos count }
+    ensures size { unsigned_abs result < 2 ^ 92 }
+{
+    number * count as i128
+}
+
+/// The numerator of so many parts of `whole` and two shares together.
+fn top(parts: i128, whole: u32, first: Share, second: Share) -> i128
+    requires parts { unsigned_abs parts < 2 ^ 16 }
+    requires whole { whole < 2 ^ 12 }
+    ensures value { result ≡ top_of parts whole first second }
+    ensures size { unsigned_abs result < 2 ^ 93 }
+{
+    product(parts, bottoms(first, second)) + times(whole, tops(first, second))
+}
+
+/// Their denominator.
+fn bottom(whole: u32, first: Share, second: Share) -> i128
+    requires whole { whole < 2 ^ 12 }
+    ensures value { result ≡ pos (bottom_of whole first second) }
+    ensures size { unsigned_abs result < 2 ^ 90 }
+{
+    times(whole, bottoms(first, second))
+}
+
+/// The quotient of whole numbers, rounded down.
+#[tactic(auto, using(crate::proofs::Sums::quotient_small))]
+fn quotient(top: i128, bottom: i128) -> i64
+    requires top { unsigned_abs top < 2 ^ 93 }
+    requires some { pos 1 ≤ℤ bottom }
+    requires bottom { unsigned_abs bottom < 2 ^ 90 }
+    requires fits { unsigned_abs top ≤ 2 ^ 41 * unsigned_abs bottom }
+    ensures value { result ≡ int_div_euclid top bottom }
+    ensures size { unsigned_abs result ≤ 2 ^ 41 }
+{
+    top.div_euclid(bottom) as i64
+}
+
+/// So many parts of `whole` and two shares together, rounded down.
+#[tactic(auto, using(crate::proofs::Sums::floor_sum, crate::proofs::Sums::top_small))]
+fn floor(parts: i128, whole: u32, first: Share, second: Share) -> i64
+    requires parts { unsigned_abs parts < 2 ^ 16 }
+    requires some { 1 ≤ whole }
+    requires whole { whole < 2 ^ 12 }
+    ensures { result ≡ floor_ℚ (sum_of parts whole first second) }
+{
+    quotient(
+        top(parts, whole, first, second),
+        bottom(whole, first, second),
+    )
+}
+
+/// So many parts of `whole` and two shares together, rounded up.
+#[tactic(auto, using(crate::proofs::Sums::ceil_sum, crate::proofs::Sums::top_small))]
+fn ceiling(parts: i128, whole: u32, first: Share, second: Share) -> i64
+    requires parts { unsigned_abs parts < 2 ^ 16 }
+    requires some { 1 ≤ whole }
+    requires whole { whole < 2 ^ 12 }
+    ensures { result ≡ ceil_ℚ (sum_of parts whole first second) }
+{
+    -quotient(
+        -top(parts, whole, first, second),
+        bottom(whole, first, second),
+    )
+}
+
+/// The least block sum of a link, rounded up.
+#[tactic(auto, using(linear_model::specs::Spans::least_sum_is))]
+fn least(artery: &Artery, link: u32) -> i64
+    requires first { 1 ≤ link }
+    requires last { link < count artery.now }
+    ensures { result ≡ ceil_ℚ (least_sum artery.now link) }
+{
+    let cycle = artery.cycle().most;
+    let outbound = run_share(artery.run_low(Dir::Outbound, link), cycle);
+    let inbound = run_share(artery.run_low(Dir::Inbound, link), cycle);
+    ceiling(least_parts(artery, link), artery.parts(), outbound, inbound)
+}
+
+/// The greatest block sum of a link, rounded down.
+#[tactic(auto, using(linear_model::specs::Spans::greatest_sum_is))]
+fn greatest(artery: &Artery, link: u32) -> i64
+    requires first { 1 ≤ link }
+    requires last { link < count artery.now }
+    ensures { result ≡ floor_ℚ (greatest_sum artery.now link) }
+{
+    let cycle = artery.cycle().least;
+    let outbound = run_share(artery.run_high(Dir::Outbound, link), cycle);
+    let inbound = run_share(artery.run_high(Dir::Inbound, link), cycle);
+    floor(
+        greatest_parts(artery, link),
+        artery.parts(),
+        outbound,
+        inbound,
+    )
+}
+
+/// The whole numbers that the block sum of a link can be in a good timing: from the least sum, rounded up, to the
+/// greatest, rounded down, with each wait, run and shift by itself at the end of its range. There may be none.
+pub fn root_span(artery: &Artery, link: u32) -> Span
+    requires first { 1 ≤ link }
+    requires last { link < count artery.now }
+    ensures { span_of result ≡ root_span artery.now link }
+{
+    Span {
+        least: least(artery, link),
+        most: greatest(artery, link),
+    }
+}
+
+/// All ranks of a signal's shifts.
+fn root_ranks(artery: &Artery, signal: u32) -> RankSpan
+    requires first { 1 ≤ signal }
+    requires last { signal ≤ count artery.now }
+    ensures value { ranks_of result ≡ root_ranks artery.now signal }
+    ensures some { 1 ≤ shift_count artery.now signal }
+{
+    RankSpan {
+        least: 0,
+        most: shift_count(artery, signal) - 1,
+    }
+}
+
+/// The root's span of each link.
+pub(crate) fn root_loops(alloc: Global, artery: &Artery) -> Result<Vec<Span>, Memory>
+    ensures { IfOk result (λ loops. map span_of loops.items ≡ numbered (count artery.now - 1) 1 (root_span artery.now)) }
+{
+    let mut loops = Vec::new(alloc);
+    for link in 1..artery.count() {
+        push(&mut loops, root_span(artery, link))?;
+    }
+    Ok(loops)
+}
+
+/// The root's ranks of each signal.
+pub(crate) fn root_turns(alloc: Global, artery: &Artery) -> Result<Vec<RankSpan>, Memory>
+    ensures value { IfOk result (λ turns. map ranks_of turns.items ≡ numbered (count artery.now) 1 (root_ranks artery.now)) }
+    ensures some { IfOk result (λ turns. (i : ℕ) → HasSignal artery.now i → 1 ≤ shift_count artery.now i) }
+{
+    let mut turns = Vec::new(alloc);
+    for signal in 1..artery.count() + 1 {
+        push(&mut turns, root_ranks(artery, signal))?;
+    }
+    Ok(turns)
+}

@@ -1,0 +1,16 @@
+//! Spans, and places where a box is split.
+
+/// The whole numbers from `least` to `most`; none where `least` is above `most`.
+#[derive(Clone, Copy, Debug, PartialEq, Eq)]
+pub struct Span {
+    pub least: i64,
+    pub most: i64,
+}
+
+/// Where a box is split: the first part has a link's block sums up to `at`, or a signal's ranks up to `rank`, and the
+/// second part those from the next on.
+#[derive(Clone, Copy, Debug, PartialEq, Eq)]
+pub enum At {
+    Loop { link: u32, at: i64 },
+    Turn { signal: u32, rank: u32 },
+}

@@ -1,0 +1,279 @@
+//! Worked boxes: two signals A and B, parts 100, unless a row says otherwise.
+
+ghost use Rattle.std.specs.Prelude.{IfOk, IfSome};
+ghost use Rattle.linear_model.specs.Boxes.{IsBoxOf};
+
+use crate::{At, SearchBox, Span, law_valid_street, root_span, shift_at, shift_count};
+use artery_model::{Artery, Head, Link, Pair, Signal, Text, Units};
+use narrow_fraction::Frac;
+use std::alloc::Global;
+use std::test::Fail;
+
+/// What differs between the arteries. The second numbers of a pair, the lefts, the patterns and the clearance are those
+/// of signal B.
+#[derive(Clone, Copy)]
+struct Street {
+    distance: u32,
+    reds: [u32; 2],
+    left: u32,
+    patterns: [bool; 4],
+    clear_out: u32,
+    cycle: [i64; 2],
+}
+
+const ALL: [bool; 4] = [true, true, true, true];
+
+fn base() -> Street {
+    Street {
+        distance: 500,
+        reds: [50, 50],
+        left: 0,
+        patterns: ALL,
+        clear_out: 0,
+        cycle: [100, 100],
+    }
+}
+
+fn near() -> Street {
+    Street {
+        distance: 250,
+        ..base()
+    }
+}
+
+fn with_lefts() -> Street {
+    Street {
+        reds: [50, 40],
+        left: 10,
+        ..near()
+    }
+}
+
+fn pair(least: i64, most: i64) -> Pair {
+    Pair {
+        least: Frac::whole(least),
+        most: Frac::whole(most),
+    }
+}
+
+fn signal(
+    alloc: Global,
+    name: &str,
+    red: u32,
+    left: u32,
+    patterns: [bool; 4],
+    clear_out: u32,
+) -> Result<Signal, Fail> {
+    Ok(Signal {
+        name: Text::new(alloc, name).ok().ok_or("no memory")?,
+        red,
+        left_out: left,
+        left_in: left,
+        patterns,
+        clear_out,
+        clear_in: 0,
+    })
+}
+
+fn artery(alloc: Global, street: Street) -> Result<Artery, Fail> {
+    let Street {
+        left,
+        patterns,
+        clear_out,
+        ..
+    } = street;
+    let signals = vec![in alloc;
+        signal(alloc, "A", street.reds[0], 0, ALL, 0)?,
+        signal(alloc, "B", street.reds[1], left, patterns, clear_out)?,
+    ]?;
+    let links = vec![in alloc;
+        Link {
+            distance_out: street.distance,
+            distance_in: street.distance,
+            speed_out: pair(36, 36),
+            speed_in: pair(36, 36),
+            change_out: None,
+            change_in: None,
+        },
+    ]?;
+    let head = Head {
+        name: None,
+        units: Units::Metric,
+        parts: 100,
+        cycle: pair(street.cycle[0], street.cycle[1]),
+        ratio: Frac::whole(1),
+    };
+    Ok(
+        Artery::new(alloc, head, signals, links)
+            .ok()
+            .ok_or("no artery")?,
+    )
+}
+
+fn span(least: i64, most: i64) -> Span {
+    Span { least, most }
+}
+
+fn root(alloc: Global, artery: &Artery) -> Result<SearchBox, Fail>
+    ensures { IfOk result (λ area. IsBoxOf artery.now area) }
+{
+    match SearchBox::root(alloc, artery) {
+        Ok(area) => Ok(area),
+        Err(_) => Err(Fail::from("no memory")),
+    }
+}
+
+/// The spans of link 1 and of the two signals.
+fn spans(artery: &Artery, area: &SearchBox) -> [Span; 3]
+    requires { IsBoxOf artery.now area.now }
+{
+    prove!(artery.count() >= 2);
+    [area.loop_span(1), area.turn_span(1), area.turn_span(2)]
+}
+
+/// Those of the root box, the first also without the box.
+fn root_spans(alloc: Global, street: Street) -> Result<(Span, [Span; 3]), Fail> {
+    let artery = artery(alloc, street)?;
+    prove!(artery.count() >= 2);
+    let area = root(alloc, &artery)?;
+    Ok((root_span(&artery, 1), spans(&artery, &area)))
+}
+
+fn with_one_rank(least: i64, most: i64) -> (Span, [Span; 3]) {
+    let sums = span(least, most);
+    (sums, [sums, span(0, 0), span(0, 0)])
+}
+
+#[test]
+fn root_boxes(rt: HostRuntime) -> Result<(), Fail> {
+    let rows = [
+        (base(), with_one_rank(0, 2)),
+        (near(), with_one_rank(0, 1)),
+        (
+            Street {
+                reds: [80, 80],
+                ..near()
+            },
+            with_one_rank(1, 0),
+        ),
+        (
+            with_lefts(),
+            (span(0, 1), [span(0, 1), span(0, 0), span(0, 2)]),
+        ),
+        (
+            Street {
+                distance: 2500,
+                ..base()
+            },
+            with_one_rank(4, 6),
+        ),
+        (
+            Street {
+                clear_out: 60,
+                ..base()
+            },
+            with_one_rank(0, 1),
+        ),
+        (
+            Street {
+                cycle: [50, 100],
+                ..base()
+            },
+            with_one_rank(0, 3),
+        ),
+    ];
+    for (street, expected) in rows {
+        assert!(rt; root_spans(rt.alloc(), street)? == expected);
+    }
+    Ok(())
+}
+
+#[test]
+fn shifts_of_left_turns(rt: HostRuntime) -> Result<(), Fail> {
+    let all = artery(rt.alloc(), with_lefts())?;
+    assert!(rt; all.count() == 2);
+    assert!(rt; shift_count(&all, 1) == 1);
+    assert!(rt; shift_at(&all, 1, 0) == 0);
+    assert!(rt; shift_count(&all, 2) == 3);
+    assert!(rt; shift_at(&all, 2, 0) == 0);
+    assert!(rt; shift_at(&all, 2, 1) == 10);
+    assert!(rt; shift_at(&all, 2, 2) == 20);
+    let third = Street {
+        patterns: [false, false, true, false],
+        ..with_lefts()
+    };
+    let one = artery(rt.alloc(), third)?;
+    assert!(rt; one.count() == 2);
+    assert!(rt; shift_count(&one, 2) == 1);
+    assert!(rt; shift_at(&one, 2, 0) == 10);
+    Ok(())
+}
+
+fn split(
+    alloc: Global,
+    artery: &Artery,
+    area: &SearchBox,
+    place: At,
+) -> Result<Option<(SearchBox, SearchBox)>, Fail>
+    requires { IsBoxOf artery.now area.now }
+    ensures low { IfOk result (λ parts. IfSome parts (λ p. IsBoxOf artery.now p.0)) }
+    ensures high { IfOk result (λ parts. IfSome parts (λ p. IsBoxOf artery.now p.1)) }
+{
+    match area.split(alloc, place) {
+        Ok(parts) => Ok(parts),
+        Err(_) => Err(Fail::from("no memory")),
+    }
+}
+
+/// The spans of both parts of the root box, and which of them have one number each.
+fn parts(
+    alloc: Global,
+    street: Street,
+    place: At,
+) -> Result<Option<([Span; 3], [Span; 3], [bool; 2])>, Fail> {
+    let artery = artery(alloc, street)?;
+    let area = root(alloc, &artery)?;
+    match split(alloc, &artery, &area, place)? {
+        None => Ok(None),
+        Some((low, high)) => {
+            let single = [low.is_single(), high.is_single()];
+            Ok(Some((spans(&artery, &low), spans(&artery, &high), single)))
+        }
+    }
+}
+
+#[test]
+fn splits(rt: HostRuntime) -> Result<(), Fail> {
+    let one_rank = span(0, 0);
+    let halves = Some((
+        [span(0, 0), one_rank, one_rank],
+        [span(1, 1), one_rank, one_rank],
+        [true, true],
+    ));
+    let ranks = Some((
+        [span(0, 1), one_rank, span(0, 0)],
+        [span(0, 1), one_rank, span(1, 2)],
+        [false, false],
+    ));
+    let rows = [
+        (near(), At::Loop { link: 1, at: 0 }, halves),
+        (near(), At::Loop { link: 1, at: 1 }, None),
+        (near(), At::Loop { link: 1, at: -1 }, None),
+        (near(), At::Loop { link: 0, at: 0 }, None),
+        (near(), At::Loop { link: 2, at: 0 }, None),
+        (near(), At::Turn { signal: 2, rank: 0 }, None),
+        (near(), At::Turn { signal: 0, rank: 0 }, None),
+        (with_lefts(), At::Turn { signal: 2, rank: 0 }, ranks),
+        (with_lefts(), At::Turn { signal: 2, rank: 2 }, None),
+        (with_lefts(), At::Turn { signal: 3, rank: 0 }, None),
+    ];
+    for (street, place, expected) in rows {
+        assert!(rt; parts(rt.alloc(), street, place)? == expected);
+    }
+    Ok(())
+}
+
+#[test]
+fn laws() {
+    law_valid_street();
+}
