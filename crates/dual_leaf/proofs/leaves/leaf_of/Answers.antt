@@ -1,0 +1,7 @@
+use Rattle.std.proofs.Common.{sym, subst}
+use Rattle.dual_leaf.specs.Leaves.{LeafCovers}
+use Rattle.dual_leaf.specs.LeafLaws.{goal_leaf_covers}
+use Rattle.dual_leaf.proofs.leaves.leaf_of.Goals as goal
+
+pub returns-in-Ok-clause-covers : goal.returns-in-Ok-clause-covers
+returns-in-Ok-clause-covers c = subst (LeafCovers c.args.tableau.now) (sym c.in-Ok.ensures) (goal_leaf_covers c.args.tableau.now)

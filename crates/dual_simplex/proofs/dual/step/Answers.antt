@@ -1,0 +1,69 @@
+use Rattle.std.proofs.Common.{sym, ◌∙◌, ap, subst}
+use Rattle.simplex_model.specs.DualSteps.{IsDual, dual-exchange}
+use Rattle.fraction_tableau.specs.NamedTableaus.{NamedTableau}
+use Rattle.simplex_model.specs.Signs.{negative_nonzero}
+use Rattle.simplex_model.specs.BlandRule.{chosen_place, chosen_choice, chosen_row_in}
+use Rattle.narrow_fraction.specs.Attempt.{attempt_ok, attempt_err}
+use Rattle.dual_simplex.specs.Ratios.{place_of}
+use Rattle.dual_simplex.specs.Steps.{step_optimal, step_wide_ratio, step_infeasible, step_pivoted, step_wide}
+use Rattle.dual_simplex.proofs.Choices.{place_with}
+use Rattle.dual_simplex.proofs.dual.step.Goals as goal
+
+pub returns-in_default-clause-outcome : goal.returns-in_default-clause-outcome
+returns-in_default-clause-outcome c = sym (step_optimal c.args.tableau.now.table c.in_default.ensures)
+
+pub chosen_place-requires : goal.chosen_place-requires
+chosen_place-requires c = (chosen_row_in c.args.tableau.now.table c.in-Some.row (sym c.in-Some.ensures)).0
+
+pub returns-in-Err-clause-outcome : goal.returns-in-Err-clause-outcome
+returns-in-Err-clause-outcome c = sym (step_wide_ratio c.args.tableau.now.table c.in-Some.row c.in-Err.cell c.in-Some.ensures (attempt_err _ _ _ c.in-Err.ensures))
+
+pub returns-in_default-chosen-clause-outcome : goal.returns-in_default-chosen-clause-outcome
+returns-in_default-chosen-clause-outcome c =
+    let t = c.args.tableau.now.table in
+    let q = attempt_ok _ _ _ c.in-Ok.ensures in
+    let p = ap place_of (sym c.in_default-chosen.is ∙ q.1) ∙ place_with t c.in-Some.row (chosen_place t c.in-Some.row) in
+    sym (step_infeasible t c.in-Some.row c.in-Some.ensures q.0 p)
+
+pub pivot-requires-clause-row : goal.pivot-requires-clause-row
+pivot-requires-clause-row c = (chosen_row_in c.args.tableau.now.table c.in-Some.row (sym c.in-Some.ensures)).0
+
+pub pivot-requires-clause-col : goal.pivot-requires-clause-col
+pivot-requires-clause-col c =
+    let t = c.args.tableau.now.table in
+    let r = c.in-Some.ensures in
+    let q = attempt_ok _ _ _ c.in-Ok.ensures in
+    let p = ap place_of (sym c.in-Some-chosen.is ∙ q.1) ∙ place_with t c.in-Some.row (chosen_place t c.in-Some.row) in
+    (chosen_choice t c.in-Some.row c.in-Some-chosen.best.place (sym r) (sym p)).place
+
+pub pivot-requires-clause-pivot : goal.pivot-requires-clause-pivot
+pivot-requires-clause-pivot c =
+    let t = c.args.tableau.now.table in
+    let r = c.in-Some.ensures in
+    let q = attempt_ok _ _ _ c.in-Ok.ensures in
+    let p = ap place_of (sym c.in-Some-chosen.is ∙ q.1) ∙ place_with t c.in-Some.row (chosen_place t c.in-Some.row) in
+    negative_nonzero _ (chosen_choice t c.in-Some.row c.in-Some-chosen.best.place (sym r) (sym p)).entering
+
+pub returns-in-Ok-pivot-clause-outcome : goal.returns-in-Ok-pivot-clause-outcome
+returns-in-Ok-pivot-clause-outcome c =
+    let t = c.args.tableau.now.table in
+    let r = c.in-Some.ensures in
+    let q = attempt_ok _ _ _ c.in-Ok.ensures in
+    let p = ap place_of (sym c.in-Some-chosen.is ∙ q.1) ∙ place_with t c.in-Some.row (chosen_place t c.in-Some.row) in
+    sym (step_pivoted t c.in-Some.row c.in-Some-chosen.best.place r q.0 p (attempt_ok _ _ _ c.in-Ok-pivot.ensures.outcome).0)
+
+pub returns-in-Err-pivot-clause-outcome : goal.returns-in-Err-pivot-clause-outcome
+returns-in-Err-pivot-clause-outcome c =
+    let t = c.args.tableau.now.table in
+    let r = c.in-Some.ensures in
+    let q = attempt_ok _ _ _ c.in-Ok.ensures in
+    let p = ap place_of (sym c.in-Some-chosen.is ∙ q.1) ∙ place_with t c.in-Some.row (chosen_place t c.in-Some.row) in
+    sym (step_wide t c.in-Some.row c.in-Some-chosen.best.place c.in-Err-pivot.cell r q.0 p (attempt_err _ _ _ c.in-Err-pivot.ensures.outcome))
+
+pub returns-in-Ok-pivot-clause-dual : goal.returns-in-Ok-pivot-clause-dual
+returns-in-Ok-pivot-clause-dual c =
+    let t = c.args.tableau.now.table in
+    let q = attempt_ok _ _ _ c.in-Ok.ensures in
+    let p = ap place_of (sym c.in-Some-chosen.is ∙ q.1) ∙ place_with t c.in-Some.row (chosen_place t c.in-Some.row) in
+    let choice = chosen_choice t c.in-Some.row c.in-Some-chosen.best.place (sym c.in-Some.ensures) (sym p) in
+    λ _. subst IsDual (sym (ap (λ (s : NamedTableau). s.table) c.in-Ok-pivot.ensures.exchanged)) (dual-exchange _ _ t c.requires.dual choice)

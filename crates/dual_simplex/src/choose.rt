@@ -1,0 +1,163 @@
+ghost use Rattle.std.specs.Prelude.{◌≡◌, ◌<◌, ◌≤◌, IfSome, Some, None, pos, ltb, is_some};
+ghost use Rattle.ratio.specs.Rational.{whole, neg_ℚ, ◌/ℚ◌};
+ghost use Rattle.ratio.specs.Compare.{cmp_ℚ};
+ghost use Rattle.simplex_model.specs.Tableau.{height, width, bound, cell, goal_cell};
+ghost use Rattle.simplex_model.specs.DualSteps.{ratio};
+ghost use Rattle.simplex_model.specs.Best.{best_step};
+ghost use Rattle.simplex_model.specs.BlandRule.{chosen_row, chosen_place, is_negative, row_before, place_before, less_by};
+ghost use Rattle.narrow_fraction.specs.Attempt.{attempt};
+ghost use Rattle.narrow_fraction.specs.declared.wide.Op.TheVariants.{Div};
+ghost use Rattle.fraction_tableau.specs.Refusals.{refused};
+ghost use Rattle.dual_simplex.specs.Ratios.{ratio_at, ratio_refusal, with_ratio, place_of};
+
+use fraction_tableau::{Tableau, WideCell};
+use narrow_fraction::Frac;
+use std::cmp::Ordering;
+
+/// Whether a number is below 0.
+fn is_negative(number: Frac) -> bool
+    ensures { result ≡ is_negative number }
+{
+    number < Frac::whole(0)
+}
+
+/// The cell of a row, or its bound.
+fn row_cell(tableau: &Tableau, row: u32, col: u32) -> Frac
+    requires row { row < height tableau.now.table }
+    requires col { col ≤ width tableau.now.table }
+    ensures { result ≡ cell tableau.now.table row col }
+{
+    tableau.cell(row, col)
+}
+
+/// The cell of the goal row.
+fn goal_row_cell(tableau: &Tableau, col: u32) -> Frac
+    requires { col ≤ width tableau.now.table }
+    ensures { result ≡ goal_cell tableau.now.table col }
+{
+    tableau.cell(tableau.rows(), col)
+}
+
+/// The better of the row chosen so far and this one.
+fn better_row(tableau: &Tableau, best: Option<u32>, row: u32) -> Option<u32>
+    requires row { row < height tableau.now.table }
+    requires best { IfSome best (λ other. other < height tableau.now.table) }
+    ensures { result ≡ best_step (λ i. is_negative (bound tableau.now.table i)) (row_before tableau.now.table) row best }
+{
+    let negative = is_negative(row_cell(tableau, row, tableau.width()));
+    match best {
+        None => { if negative { Some(row) } else { None } }
+        Some(other) => {
+            if negative && tableau.basic(row) < tableau.basic(other) {
+                Some(row)
+            } else {
+                Some(other)
+            }
+        }
+    }
+}
+
+/// The row with the least basic variable among those with a negative bound.
+pub fn chosen_row(tableau: &Tableau) -> Option<u32>
+    ensures { result ≡ chosen_row tableau.now.table }
+{
+    let mut best = None;
+    for row in 0..tableau.rows() {
+        best = better_row(tableau, best, row);
+    }
+    best
+}
+
+/// A place and its ratio.
+#[derive(Debug, Clone, Copy)]
+pub struct Chosen {
+    pub place: u32,
+    pub ratio: Frac,
+}
+
+/// The goal cell over the negated cell, or the refusal of this ratio.
+fn ratio_of(goal: Frac, entry: Frac, row: u32, col: u32) -> Result<Frac, WideCell>
+    requires { entry ≡ whole (pos 0) → ⊥ }
+    ensures { result ≡ attempt (refused Div goal (neg_ℚ entry) row col) (goal /ℚ neg_ℚ entry) }
+{
+    match goal.over(entry.neg()) {
+        Ok(ratio) => Ok(ratio),
+        Err(wide) => Err(WideCell { row, col, wide }),
+    }
+}
+
+/// The lesser ratio, of equal ones the lesser variable.
+fn is_before(ratio: Frac, other: Frac, variable: u32, other_variable: u32) -> bool
+    ensures { result ≡ less_by (cmp_ℚ ratio other) (ltb variable other_variable) }
+{
+    match ratio.cmp(&other) {
+        Ordering::Less => true,
+        Ordering::Equal => variable < other_variable,
+        Ordering::Greater => false,
+    }
+}
+
+/// The better of the place chosen so far and this one, or the refusal of its ratio.
+fn better_place(
+    tableau: &Tableau,
+    row: u32,
+    best: Option<Chosen>,
+    place: u32,
+) -> Result<Option<Chosen>, WideCell>
+    requires row { row < height tableau.now.table }
+    requires place { place < width tableau.now.table }
+    requires best { IfSome best (λ other. (other.place < width tableau.now.table) × (other.ratio ≡ ratio tableau.now.table row other.place)) }
+    ensures { result ≡ attempt (ratio_at tableau.now.table row place) (with_ratio tableau.now.table row (best_step (λ k. is_negative (cell tableau.now.table row k)) (place_before tableau.now.table row) place (place_of best))) }
+{
+    let entry = row_cell(tableau, row, place);
+    if !is_negative(entry) {
+        return Ok(best);
+    }
+    let ratio = match ratio_of(goal_row_cell(tableau, place), entry, row, place) {
+        Ok(ratio) => ratio,
+        Err(wide) => return Err(wide),
+    };
+    match best {
+        None => Ok(Some(Chosen { place, ratio })),
+        Some(other) => {
+            if is_before(
+                ratio,
+                other.ratio,
+                tableau.standing(place),
+                tableau.standing(other.place),
+            ) {
+                Ok(Some(Chosen { place, ratio }))
+            } else {
+                Ok(Some(other))
+            }
+        }
+    }
+}
+
+/// The place of the row's negative cells that the rule takes, or the first refused ratio.
+pub fn chosen_place(tableau: &Tableau, row: u32) -> Result<Option<Chosen>, WideCell>
+    requires { row < height tableau.now.table }
+    ensures { result ≡ attempt (ratio_refusal tableau.now.table row) (with_ratio tableau.now.table row (chosen_place tableau.now.table row)) }
+{
+    let mut best = None;
+    for place in 0..tableau.width() {
+        match better_place(tableau, row, best, place) {
+            Ok(next) => best = next,
+            Err(wide) => return Err(wide),
+        }
+    }
+    Ok(best)
+}
+
+/// Whether the row has a negative cell.
+pub fn has_negative(tableau: &Tableau, row: u32) -> bool
+    requires { row < height tableau.now.table }
+    ensures { result ≡ is_some (chosen_place tableau.now.table row) }
+{
+    for place in 0..tableau.width() {
+        if is_negative(row_cell(tableau, row, place)) {
+            return true;
+        }
+    }
+    false
+}

@@ -1,0 +1,18 @@
+//! The dual simplex method by Bland's rule on a tableau of fractions: one step, and the steps of a node until an end.
+//!
+//! `step` is the function `step_of` of the tableau (`specs/Steps.antt`), and `solve_node` goes on until an end
+//! (`specs/Ends.antt`): its contract names the number of pivots made, and the tableau afterwards is the function of the first
+//! one and of that number. Both keep the tableau dual feasible. Why the steps end is in `simplex_model`'s laws. Begin with
+//! `solve_node`.
+#![tactic(auto, using(ratio::specs::Compare::lt_true, ratio::specs::Compare::lt_false))]
+
+mod choose;
+mod dual;
+mod outcome;
+mod solve;
+#[cfg(test)]
+mod tests;
+
+pub use dual::step;
+pub use outcome::{Meter, NodeEnd, Step};
+pub use solve::solve_node;

@@ -1,0 +1,70 @@
+ghost use Rattle.std.specs.Prelude.{◌≡◌, ℕ, ◌≤◌, ◌&&◌, IfSome, None, false};
+ghost use Rattle.simplex_model.specs.DualSteps.{IsDual};
+ghost use Rattle.simplex_model.specs.BlandRule.{move};
+ghost use Rattle.simplex_model.specs.StepCounts.{is_pivot};
+ghost use Rattle.dual_simplex.specs.Ends.{Solved, is_out};
+
+use crate::choose::{chosen_row, has_negative};
+use crate::dual::step;
+use crate::outcome::{Meter, NodeEnd, Step};
+use fraction_tableau::Tableau;
+
+/// Whether all work that may be done is done.
+fn is_out(meter: &Meter) -> bool
+    ensures { result ≡ is_out meter.now }
+{
+    match meter.limit {
+        None => false,
+        Some(most) => meter.spent == most,
+    }
+}
+
+/// Whether a pivot is due.
+fn is_due(tableau: &Tableau) -> bool
+    ensures { result ≡ is_pivot (move tableau.now.table) }
+{
+    match chosen_row(tableau) {
+        None => false,
+        Some(row) => has_negative(tableau, row),
+    }
+}
+
+/// Whether a pivot is due for which no work is left.
+fn is_stopped(tableau: &Tableau, meter: &Meter) -> bool
+    ensures { result ≡ is_out meter.now && is_pivot (move tableau.now.table) }
+{
+    is_out(meter) && is_due(tableau)
+}
+
+/// Steps until an end. Each pivot that was made adds one to `pivots` and one to `spent`, and both stay at `2^64 - 1` once
+/// there.
+///
+/// `WorkOut` comes where a pivot is due and `spent` equals the limit, before a ratio is looked at. The tableau is as it was
+/// at the end, and after a refused pivot it is spent.
+pub fn solve_node(tableau: &mut Tableau, meter: &mut Meter, pivots: &mut u64) -> NodeEnd
+    requires dual { IsDual tableau.old.table }
+    requires unspent { tableau.old.spent ≡ false }
+    requires limited { meter.old.limit ≡ None → ⊥ }
+    requires within { IfSome meter.old.limit (λ most. meter.old.spent ≤ most) }
+    ensures solved { (k : ℕ) × Solved result tableau.old tableau.new meter.old meter.new pivots.old pivots.new k }
+    ensures dual { tableau.new.spent ≡ false → IsDual tableau.new.table }
+    ensures within { IfSome meter.new.limit (λ most. meter.new.spent ≤ most) }
+{
+    // what is read here is known to be in range
+    let _pivots = *pivots;
+    let _spent = meter.spent;
+    loop {
+        if is_stopped(tableau, meter) {
+            return NodeEnd::WorkOut;
+        }
+        match step(tableau) {
+            Step::Optimal => return NodeEnd::Optimal,
+            Step::Infeasible { row } => return NodeEnd::Infeasible { row },
+            Step::Wide { ratio, cell } => return NodeEnd::Wide { ratio, cell },
+            Step::Pivoted { .. } => {
+                *pivots = pivots.saturating_add(1);
+                meter.spent = meter.spent.saturating_add(1);
+            }
+        }
+    }
+}

@@ -1,0 +1,67 @@
+-- The parts of a pivot put together.
+use Rattle.std.proofs.Common.{◌≡◌, ℕ, pos, Some, None, Result, Ok, Err, IfOk, List, [], map, length, get_or, cond, eqb, ◌<◌, ◌⊎◌, inl, inr, sym, ◌∙◌, ap, ap₂, arith}
+use Rattle.std.proofs.Math.ListN.{set, length-set}
+use Rattle.std.proofs.lemmas.List.{ext_get_or, get_or-set_same, get_or-set_other, get_or-map, length-map}
+use Rattle.std.proofs.lemmas.Bool.{cases_eq, cond-true, eq-eqb}
+use Rattle.ratio.specs.Rational.{ℚ, whole}
+use Rattle.simplex_model.specs.Lines.{turned, cleared}
+use Rattle.narrow_fraction.specs.Attempt.{earlier, first_below, first_same}
+use Rattle.fraction_tableau.specs.Refusals.{turn_refusal, clear_refusal, line_refusal, pivot_refusal, exchanged_rows}
+use Rattle.fraction_tableau.specs.declared.wide_cell.WideCell.{WideCell}
+
+pub ok_both : {A E : Type 0} (r : Result A E) (P Q R : Type 0) → IfOk r (λ _. P) → IfOk r (λ _. Q) → (P → Q → R) → IfOk r (λ _. R)
+ok_both (Ok x) P Q R p q f = f p q
+ok_both (Err e) P Q R p q f = p
+
+-- the other rows are refused at the same place, before and after the pivot's own row is turned
+line_kept : (r j : ℕ) (e : List ℚ) (p : ℚ) (rows : List (List ℚ)) (u : List ℚ) (i : ℕ) → line_refusal r j e p (set rows r u) i ≡ line_refusal r j e p rows i
+line_kept r j e p rows u i = pick (cases_eq i r)
+  where
+    pick : (i ≡ r) ⊎ (i ≡ r → ⊥) → line_refusal r j e p (set rows r u) i ≡ line_refusal r j e p rows i
+    pick (inl q) = cond-true (eqb i r) _ _ (eq-eqb i r q) ∙ sym (cond-true (eqb i r) _ _ (eq-eqb i r q))
+    pick (inr q) = ap (λ d. cond (eqb i r) None (clear_refusal i j e d p)) (get_or-set_other rows r i u [] q)
+
+pub lines_kept : (r j : ℕ) (e : List ℚ) (p : ℚ) (rows : List (List ℚ)) (u : List ℚ) (n : ℕ) → first_below (line_refusal r j e p (set rows r u)) n ≡ first_below (line_refusal r j e p rows) n
+lines_kept r j e p rows u n = first_same (line_refusal r j e p (set rows r u)) (line_refusal r j e p rows) n (λ k h. line_kept r j e p rows u k)
+
+pub pivot_first : (r j : ℕ) (rows : List (List ℚ)) (goal : List ℚ) (w : WideCell) → turn_refusal r j (get_or rows r []) ≡ Some w → pivot_refusal r j rows goal ≡ Some w
+unfolding pivot_refusal
+pivot_first r j rows goal w e =
+    ap (λ o. earlier o (earlier (clear_refusal (length rows) j (turned j (get_or rows r [])) goal (get_or (get_or rows r []) j (whole (pos 0)))) (first_below (line_refusal r j (turned j (get_or rows r [])) (get_or (get_or rows r []) j (whole (pos 0))) rows) (length rows)))) e
+
+pub pivot_then : (r j : ℕ) (rows : List (List ℚ)) (goal e : List ℚ) (p : ℚ) → e ≡ turned j (get_or rows r []) → p ≡ get_or (get_or rows r []) j (whole (pos 0)) → turn_refusal r j (get_or rows r []) ≡ None
+    → pivot_refusal r j rows goal ≡ earlier (clear_refusal (length rows) j e goal p) (first_below (line_refusal r j e p rows) (length rows))
+unfolding pivot_refusal
+pivot_then r j rows goal e p a b f =
+    ap (λ o. earlier o (earlier (clear_refusal (length rows) j (turned j (get_or rows r [])) goal (get_or (get_or rows r []) j (whole (pos 0)))) (first_below (line_refusal r j (turned j (get_or rows r [])) (get_or (get_or rows r []) j (whole (pos 0))) rows) (length rows)))) f
+    ∙ ap₂ (λ u q. earlier (clear_refusal (length rows) j u goal q) (first_below (line_refusal r j u q rows) (length rows))) (sym a) (sym b)
+
+pub rows_done : (r j : ℕ) (rows now : List (List ℚ)) (e : List ℚ) → e ≡ turned j (get_or rows r []) → r < length rows → length now ≡ length rows → get_or now r [] ≡ e
+    → ((k : ℕ) → k < length rows → (k ≡ r → ⊥) → get_or now k [] ≡ cleared j e (get_or rows k [])) → now ≡ exchanged_rows r j rows
+unfolding exchanged_rows
+rows_done r j rows now e a h l o f =
+    ext_get_or [] now _ (l ∙ sym (length-set (map (cleared j (turned j (get_or rows r []))) rows) r _ ∙ length-map rows _)) (λ k m. pick k (rw (← l) m) (cases_eq k r))
+  where
+    pick : (k : ℕ) → k < length rows → (k ≡ r) ⊎ (k ≡ r → ⊥) → get_or now k [] ≡ get_or (set (map (cleared j (turned j (get_or rows r []))) rows) r (turned j (get_or rows r []))) k []
+    pick k m (inl q) = rw q (o ∙ a ∙ sym (get_or-set_same (map (cleared j (turned j (get_or rows r []))) rows) r _ [] (omega (arith, length-map rows (cleared j (turned j (get_or rows r [])))))))
+    pick k m (inr q) =
+        f k m q ∙ ap (λ u. cleared j u (get_or rows k [])) a ∙ sym (get_or-map (cleared j (turned j (get_or rows r []))) rows k [] [] m)
+        ∙ sym (get_or-set_other (map (cleared j (turned j (get_or rows r []))) rows) r k _ [] q)
+
+pub pivot_second : (r j : ℕ) (rows : List (List ℚ)) (goal e g : List ℚ) (p : ℚ) (n : ℕ) (w : WideCell) → e ≡ turned j (get_or rows r []) → p ≡ get_or (get_or rows r []) j (whole (pos 0)) → turn_refusal r j (get_or rows r []) ≡ None
+    → g ≡ goal → n ≡ length rows → clear_refusal n j e g p ≡ Some w → pivot_refusal r j rows goal ≡ Some w
+pivot_second r j rows goal e g p n w a b f h l q =
+    pivot_then r j rows goal e p a b f ∙ ap (λ o. earlier o (first_below (line_refusal r j e p rows) (length rows))) (ap₂ (λ m d. clear_refusal m j e d p) (sym l) (sym h) ∙ q)
+
+pub pivot_last : (r j : ℕ) (rows now : List (List ℚ)) (goal e g u : List ℚ) (p : ℚ) (n : ℕ) → e ≡ turned j (get_or rows r []) → p ≡ get_or (get_or rows r []) j (whole (pos 0)) → turn_refusal r j (get_or rows r []) ≡ None
+    → g ≡ goal → n ≡ length rows → clear_refusal n j e g p ≡ None → now ≡ set rows r u → first_below (line_refusal r j e p now) n ≡ pivot_refusal r j rows goal
+pivot_last r j rows now goal e g u p n a b f h l q k =
+    ap₂ (λ t m. first_below (line_refusal r j e p t) m) k l ∙ lines_kept r j e p rows u (length rows)
+    ∙ sym (pivot_then r j rows goal e p a b f ∙ ap (λ o. earlier o (first_below (line_refusal r j e p rows) (length rows))) (ap₂ (λ m d. clear_refusal m j e d p) (sym l) (sym h) ∙ q))
+
+pub rows_ok : {A E : Type 0} (o : Result A E) (r j n : ℕ) (rows then now : List (List ℚ)) (e : List ℚ) → e ≡ turned j (get_or rows r []) → r < length rows → n ≡ length rows → length now ≡ length rows → then ≡ set rows r e
+    → IfOk o (λ _. (k : ℕ) → k < n → (k ≡ r → ⊥) → get_or now k [] ≡ cleared j e (get_or then k [])) → IfOk o (λ _. get_or now r [] ≡ get_or then r []) → IfOk o (λ _. now ≡ exchanged_rows r j rows)
+rows_ok (Err x) r j n rows then now e a h m l t f g = f
+rows_ok (Ok x) r j n rows then now e a h m l t f g =
+    rows_done r j rows now e a h l (g ∙ ap (λ (q : List (List ℚ)). get_or q r []) t ∙ get_or-set_same rows r e [] h)
+    (λ k b c. f k (rw m b) c ∙ ap (cleared j e) (ap (λ (q : List (List ℚ)). get_or q k []) t ∙ get_or-set_other rows r k e [] c))

@@ -1,0 +1,6 @@
+use Rattle.std.proofs.Common.{◌≡◌, replicate, map, pos}
+use Rattle.ratio.specs.Rational.{whole}
+use Rattle.fraction_tableau.proofs.fresh.zero_lines.Given as goal
+
+abbrev pub invariant-loop : goal.invariant-loop
+invariant-loop l = map (λ row. row.items) l.lines.items ≡ replicate l.counter (replicate l.width (whole (pos 0)))

@@ -1,0 +1,4 @@
+pub mod Narrow
+pub mod Refusals
+pub mod NamedTableaus
+pub mod Loading

@@ -1,0 +1,63 @@
+-- The operations of a pivot in their order, and the first of them that leaves 128 bits.
+use Rattle.std.proofs.Common.{◌≡◌, ℕ, pos, cond, eqb, Option, Some, None, List, [], map, length, get_or, ap, ◌∙◌, sym}
+use Rattle.std.proofs.Math.ListN.{set}
+use Rattle.ratio.specs.Rational.{ℚ, whole, ◌*ℚ◌}
+use Rattle.simplex_model.specs.Lines.{turned, cleared}
+use Rattle.narrow_fraction.specs.Attempt.{earlier, first_below}
+use Rattle.narrow_fraction.specs.Past128.{Fits128, Past128, past_wide, past_none, past_some}
+use Rattle.narrow_fraction.specs.declared.wide.Op.{Op}
+use Rattle.narrow_fraction.specs.declared.wide.Op.TheVariants.{Mul, Div, Sub}
+use Rattle.narrow_fraction.specs.declared.wide.Wide.{Wide}
+use Rattle.fraction_tableau.specs.declared.wide_cell.WideCell.{WideCell}
+
+-- an operation's refusal, at row i and column k
+abbrev pub at_cell : ℕ → ℕ → Option Wide → Option WideCell
+at_cell i k None = None
+at_cell i k (Some w) = Some (record { row = i; col = k; wide = w })
+
+unfoldable pub refused : Op → ℚ → ℚ → ℕ → ℕ → Option WideCell
+refused op x y i k = at_cell i k (past_wide op x y)
+
+-- ---- the pivot's own row c, of number i, at place j: first the reciprocal of the pivot p, then each other cell over p
+abbrev pub turn_cell_refusal : ℕ → ℕ → ℚ → List ℚ → ℕ → Option WideCell
+turn_cell_refusal i j p c k = cond (eqb k j) None (refused Div (get_or c k (whole (pos 0))) p i k)
+
+abbrev pub turn_at : ℕ → ℕ → List ℚ → ℕ → Option WideCell
+turn_at i j c k = turn_cell_refusal i j (get_or c j (whole (pos 0))) c k
+
+unfoldable pub turn_refusal : ℕ → ℕ → List ℚ → Option WideCell
+turn_refusal i j c = earlier (refused Div (whole (pos 1)) (get_or c j (whole (pos 0))) i j) (first_below (turn_at i j c) (length c))
+
+-- ---- another row d, of number i, by the turned row e and the pivot p: at each place but j the product of the cell at j and
+-- the turned row's, and its difference from the own cell; then the cell at j over p
+abbrev pub clear_cell_refusal : ℕ → ℕ → ℚ → ℚ → List ℚ → ℕ → Option WideCell
+clear_cell_refusal i j f u d k = cond (eqb k j) None (earlier (refused Mul f u i k) (refused Sub (get_or d k (whole (pos 0))) (f *ℚ u) i k))
+
+abbrev pub clear_at : ℕ → ℕ → List ℚ → List ℚ → ℕ → Option WideCell
+clear_at i j e d k = clear_cell_refusal i j (get_or d j (whole (pos 0))) (get_or e k (whole (pos 0))) d k
+
+unfoldable pub clear_refusal : ℕ → ℕ → List ℚ → List ℚ → ℚ → Option WideCell
+clear_refusal i j e d p = earlier (first_below (clear_at i j e d) (length d)) (refused Div (get_or d j (whole (pos 0))) p i j)
+
+-- ---- the whole pivot on (r, j): the own row, the goal row, then each other row in order
+abbrev pub line_refusal : ℕ → ℕ → List ℚ → ℚ → List (List ℚ) → ℕ → Option WideCell
+line_refusal r j e p rows i = cond (eqb i r) None (clear_refusal i j e (get_or rows i []) p)
+
+unfoldable pub pivot_refusal : ℕ → ℕ → List (List ℚ) → List ℚ → Option WideCell
+pivot_refusal r j rows goal =
+    earlier (turn_refusal r j (get_or rows r []))
+    (earlier (clear_refusal (length rows) j (turned j (get_or rows r [])) goal (get_or (get_or rows r []) j (whole (pos 0))))
+    (first_below (line_refusal r j (turned j (get_or rows r [])) (get_or (get_or rows r []) j (whole (pos 0))) rows) (length rows)))
+
+-- the rows of the exchange
+unfoldable pub exchanged_rows : ℕ → ℕ → List (List ℚ) → List (List ℚ)
+exchanged_rows r j rows = set (map (cleared j (turned j (get_or rows r []))) rows) r (turned j (get_or rows r []))
+
+-- ---- from the clauses of an operation
+pub refused_none : (op : Op) (x y : ℚ) (i k : ℕ) → Fits128 op x y → refused op x y i k ≡ None
+unfolding refused
+refused_none op x y i k h = ap (at_cell i k) (past_none op x y h)
+
+pub refused_some : (op : Op) (x y : ℚ) (i k : ℕ) (w : Wide) → (w ≡ record { op = op; left = x; right = y }) × Past128 op x y → refused op x y i k ≡ Some (record { row = i; col = k; wide = w })
+unfolding refused
+refused_some op x y i k w h = ap (at_cell i k) (past_some op x y h.1) ∙ ap (λ (t : Wide). at_cell i k (Some t)) (sym h.0)

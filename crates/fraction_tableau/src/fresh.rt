@@ -1,0 +1,51 @@
+ghost use Rattle.std.specs.Prelude.{◌≡◌, ◌+◌, ◌<◌, ◌^◌, pos, replicate, map, IfOk};
+ghost use Rattle.std.specs.List.{range_with_len};
+ghost use Rattle.ratio.specs.Rational.{whole};
+ghost use Rattle.fraction_tableau.specs.NamedTableaus.{unnamed};
+
+use named_row::RowId;
+use narrow_fraction::Frac;
+use std::alloc::{AllocError, Global};
+
+/// So many zeros.
+pub fn zeros(alloc: Global, count: usize) -> Result<Vec<Frac>, AllocError>
+    ensures { IfOk result (λ row. row.items ≡ replicate count (whole (pos 0))) }
+{
+    vec![in alloc; Frac::whole(0); count]
+}
+
+/// So many names of family 0 with index 0.
+pub fn blank_names(alloc: Global, count: usize) -> Result<Vec<RowId>, AllocError>
+    ensures { IfOk result (λ names. names.items ≡ replicate count unnamed) }
+{
+    let name = RowId {
+        family: 0,
+        index: 0,
+    };
+    let mut names = Vec::new(alloc);
+    names.resize(count, name)?;
+    Ok(names)
+}
+
+/// The numbers from `first` on.
+pub fn numbers(alloc: Global, first: u32, count: u32) -> Result<Vec<u32>, AllocError>
+    requires { first + count < 2 ^ 32 }
+    ensures { IfOk result (λ list. list.items ≡ range_with_len first count) }
+{
+    let mut list = Vec::new(alloc);
+    for offset in 0..count {
+        list.push(first + offset)?;
+    }
+    Ok(list)
+}
+
+/// So many rows of zeros.
+pub fn zero_lines(alloc: Global, count: u32, width: usize) -> Result<Vec<Vec<Frac>>, AllocError>
+    ensures { IfOk result (λ lines. map (λ row. row.items) lines.items ≡ replicate count (replicate width (whole (pos 0)))) }
+{
+    let mut lines = Vec::new(alloc);
+    for _ in 0..count {
+        lines.push(zeros(alloc, width)?)?;
+    }
+    Ok(lines)
+}

@@ -1,0 +1,201 @@
+ghost use Rattle.std.specs.Prelude.{◌≡◌, ◌<◌, ◌≤◌, ◌+◌, ◌^◌, pos, length, IfOk, IfErr, false};
+ghost use Rattle.ratio.specs.Rational.{whole};
+ghost use Rattle.simplex_model.specs.Tableau.{cell, basic_at, standing_at, height, width, exchange};
+ghost use Rattle.narrow_fraction.specs.Attempt.{attempt};
+ghost use Rattle.fraction_tableau.specs.Refusals.{pivot_refusal};
+ghost use Rattle.fraction_tableau.specs.NamedTableaus.{IsNamed, IsSpentFrom, blank_tableau, number_at, name_at, with_row, with_goal};
+
+use crate::fresh::{blank_names, numbers, zero_lines, zeros};
+use crate::lines::exchange_cells;
+use crate::loading::{copy_goal, copy_row, count_up};
+use crate::wide_cell::WideCell;
+use named_row::{Row, RowId};
+use narrow_fraction::{Frac, Memory};
+use std::alloc::{AllocError, Global};
+use std::marker::Model;
+use std::mem;
+
+/// A tableau: rows of cells with the bound last, the goal row, and which variable is where. Column `j` is variable `j`, and
+/// the slack of row `r` is variable `width + r`.
+#[derive(Drop)]
+pub struct Tableau {
+    lines: Vec<Vec<Frac>>,
+    goal: Vec<Frac>,
+    spare: Vec<Frac>,
+    held: Vec<Frac>,
+    basic: Vec<u32>,
+    standing: Vec<u32>,
+    names: Vec<RowId>,
+    spent: bool,
+}
+
+impl Model for Tableau {
+    ghost use Rattle.std.specs.Prelude.{map, length};
+    ghost use Rattle.fraction_tableau.specs.NamedTableaus.{NamedTableau, IsSound};
+
+    ghost Value = { NamedTableau };
+
+    ghost view = { λ a. record { table = record { rows = map (λ v. v.items) a.lines.items; goal = a.goal.items; basic = a.basic.items; standing = a.standing.items }; names = a.names.items; spent = a.spent } };
+
+    ghost invariant = { λ a. IsSound (record { table = record { rows = map (λ v. v.items) a.lines.items; goal = a.goal.items; basic = a.basic.items; standing = a.standing.items }; names = a.names.items; spent = a.spent }) (length a.spare.items) (length a.held.items) };
+}
+
+/// The parts of a new tableau.
+fn blank(alloc: Global, rows: u32, width: u32) -> Result<Tableau, AllocError>
+    requires { rows + width < 2 ^ 32 }
+    ensures { IfOk result (λ tableau. tableau ≡ blank_tableau rows width) }
+{
+    let size = width as usize + 1;
+    let lines = zero_lines(alloc, rows, size)?;
+    let goal = zeros(alloc, size)?;
+    let spare = zeros(alloc, size)?;
+    let held = zeros(alloc, size)?;
+    let basic = numbers(alloc, width, rows)?;
+    let standing = numbers(alloc, 0, width)?;
+    let names = blank_names(alloc, rows as usize)?;
+    Ok(Tableau {
+        lines,
+        goal,
+        spare,
+        held,
+        basic,
+        standing,
+        names,
+        spent: false,
+    })
+}
+
+impl Tableau {
+    /// So many rows and columns, all numbers 0. Each slack is basic in its row, each column stands at its place, each name is
+    /// family 0 with index 0, and the tableau isn't spent.
+    pub fn new(alloc: Global, rows: u32, width: u32) -> Result<Tableau, Memory>
+        requires { rows + width < 2 ^ 32 }
+        ensures { IfOk result (λ tableau. tableau ≡ blank_tableau rows width) }
+    {
+        match blank(alloc, rows, width) {
+            Ok(tableau) => Ok(tableau),
+            Err(_) => Err(Memory),
+        }
+    }
+
+    /// The number of rows.
+    pub fn rows(&self) -> u32
+        ensures count { result ≡ height self.now.table }
+        ensures shape { IsNamed self.now }
+    {
+        self.lines.len() as u32
+    }
+
+    /// The number of columns, which is the number of places.
+    pub fn width(&self) -> u32
+        ensures count { result ≡ width self.now.table }
+        ensures shape { IsNamed self.now }
+    {
+        self.standing.len() as u32
+    }
+
+    /// A cell. The goal row has the number after the last row, and the bound the number after the last column.
+    pub fn cell(&self, row: u32, col: u32) -> Frac
+        requires row { row ≤ height self.now.table }
+        requires col { col ≤ width self.now.table }
+        ensures { result ≡ number_at self.now.table row col }
+    {
+        let line = row as usize;
+        if line == self.lines.len() {
+            self.goal[col as usize]
+        } else {
+            self.lines[line][col as usize]
+        }
+    }
+
+    /// The basic variable of a row.
+    pub fn basic(&self, row: u32) -> u32
+        requires { row < height self.now.table }
+        ensures { result ≡ basic_at self.now.table row }
+    {
+        self.basic[row as usize]
+    }
+
+    /// The name of a row.
+    pub fn name(&self, row: u32) -> RowId
+        requires { row < height self.now.table }
+        ensures { result ≡ name_at self.now row }
+    {
+        self.names[row as usize]
+    }
+
+    /// The variable that stands at the place of a column.
+    pub fn standing(&self, col: u32) -> u32
+        requires { col < width self.now.table }
+        ensures { result ≡ standing_at self.now.table col }
+    {
+        self.standing[col as usize]
+    }
+
+    /// Whether a pivot was refused since a goal was last loaded.
+    pub fn is_spent(&self) -> bool
+        ensures { result ≡ self.now.spent }
+    {
+        self.spent
+    }
+
+    /// Loads a named row: its cells, its bound and its name, with its slack basic. All else stays.
+    pub fn load(&mut self, row: u32, name: RowId, from: &Row)
+        requires row { row < height self.old.table }
+        requires columns { length from.now.coefs ≡ width self.old.table }
+        requires unspent { from.now.spent ≡ false }
+        ensures { self.new ≡ with_row row name from.now self.old }
+    {
+        let line = row as usize;
+        copy_row(&mut self.lines[line], from);
+        self.basic[line] = self.standing.len() as u32 + row;
+        self.names[line] = name;
+    }
+
+    /// Loads a goal: its negated coefficients, with the bound 0. Each column stands at its place, and the tableau isn't
+    /// spent. All else stays.
+    pub fn load_goal(&mut self, from: &Row)
+        requires columns { length from.now.coefs ≡ width self.old.table }
+        requires unspent { from.now.spent ≡ false }
+        ensures { self.new ≡ with_goal from.now self.old }
+    {
+        copy_goal(&mut self.goal, from);
+        count_up(&mut self.standing);
+        self.spent = false;
+    }
+
+    /// The exchange of the basic variable of `row` with the one that stands at the place `col`.
+    ///
+    /// With `p` the cell there, the operations are, in this order: 1 over `p`; the row's other cells over `p`, the bound last;
+    /// the goal row and then each other row: for each other place in order, the bound last, the row's cell at `col` times the
+    /// new cell of `row`, and the old cell minus that, then the cell at `col` over `p`. The refusal names the first of them
+    /// that leaves 128 bits; the tableau is spent from then on, and its goal row, basis and names are those before the call.
+    pub fn pivot(&mut self, row: u32, col: u32) -> Result<(), WideCell>
+        requires row { row < height self.old.table }
+        requires col { col < width self.old.table }
+        requires pivot { cell self.old.table row col ≡ whole (pos 0) → ⊥ }
+        requires unspent { self.old.spent ≡ false }
+        ensures outcome { result ≡ attempt (pivot_refusal row col self.old.table.rows self.old.table.goal) tt }
+        ensures exchanged { IfOk result (λ _. self.new ≡ record self.old { table = exchange row col self.old.table }) }
+        ensures spent { IfErr result (λ _. IsSpentFrom self.old self.new) }
+    {
+        let line = row as usize;
+        let place = col as usize;
+        if let Err(wide) = exchange_cells(
+            &mut self.lines,
+            &self.goal,
+            &mut self.spare,
+            &mut self.held,
+            line,
+            place,
+        ) {
+            self.spent = true;
+            return Err(wide);
+        }
+        mem::swap(&mut self.goal, &mut self.spare);
+        let leaving = self.basic[line];
+        self.basic[line] = self.standing[place];
+        self.standing[place] = leaving;
+        Ok(())
+    }
+}

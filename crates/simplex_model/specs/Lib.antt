@@ -1,0 +1,16 @@
+pub mod Signs
+pub mod Lines
+pub mod Tableau
+pub mod DualSteps
+pub mod Vertices
+pub mod Search
+pub mod Paths
+pub mod Best
+pub mod BlandRule
+pub mod StepCounts
+pub mod Totals
+pub mod Multipliers
+pub mod Loaded
+pub mod RowLists
+pub mod LoadedRows
+pub mod Promises
