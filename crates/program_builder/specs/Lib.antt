@@ -1,0 +1,10 @@
+pub mod BoxRows
+pub mod Opening
+pub mod Building
+pub mod NamedFamilies
+pub mod RowOrder
+pub mod FirstRows
+pub mod LineCells
+pub mod RowKinds
+pub mod UnitPivots
+pub mod OpeningLaws

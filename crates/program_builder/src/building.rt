@@ -1,0 +1,98 @@
+ghost use Rattle.std.specs.Prelude.{◌≡◌, length, IfOk, None, false};
+ghost use Rattle.progression.specs.Street.{count};
+ghost use Rattle.linear_model.specs.Places as places;
+ghost use Rattle.linear_model.specs.Boxes.{IsBoxOf};
+ghost use Rattle.simplex_model.specs.Tableau.{IsPlace, exchange};
+ghost use Rattle.simplex_model.specs.DualSteps.{IsDual};
+ghost use Rattle.simplex_model.specs.RowLists.{StandsForRows};
+ghost use Rattle.fraction_tableau.specs.Refusals.{pivot_refusal};
+ghost use Rattle.program_builder.specs.Opening.{box_rows, goal_of};
+ghost use Rattle.program_builder.specs.Building.{IsMadeFor, loaded_box, opened_box};
+
+use crate::counting::row_count;
+use crate::loading::load_rows;
+use artery_model::Artery;
+use fraction_tableau::Tableau;
+use loop_rows::{column_count, fill_goal};
+use named_row::Row;
+use narrow_fraction::Memory;
+use search_box::SearchBox;
+use std::alloc::Global;
+
+/// A pivot that is not refused.
+fn pivot(tableau: &mut Tableau, row: u32, col: u32)
+    requires place { IsPlace tableau.old.table row col }
+    requires unspent { tableau.old.spent ≡ false }
+    requires fits { pivot_refusal row col tableau.old.table.rows tableau.old.table.goal ≡ None }
+    ensures { tableau.new ≡ record tableau.old { table = exchange row col tableau.old.table } }
+{
+    match tableau.pivot(row, col) {
+        Ok(()) => {}
+        Err(_) => unreachable!(),
+    }
+}
+
+/// Loads the rows of a box and the weighted band.
+fn load(tableau: &mut Tableau, artery: &Artery, area: &SearchBox, room: &mut Row)
+    requires boxed { IsBoxOf artery.now area.now }
+    requires made { IsMadeFor artery.now tableau.old }
+    requires room { length room.old.coefs ≡ places.width (count artery.now) }
+    ensures loaded { tableau.new ≡ loaded_box artery.now area.now }
+    ensures room { length room.new.coefs ≡ places.width (count artery.now) }
+    ensures unspent { room.new.spent ≡ false }
+{
+    load_rows(tableau, artery, area, room);
+    fill_goal(artery, room);
+    tableau.load_goal(room);
+}
+
+/// Brings both bands into the basis: the outbound one in the row of the outbound wait at signal 1, the inbound one in that
+/// of the inbound wait there.
+fn enter_bands(tableau: &mut Tableau, artery: &Artery, area: &SearchBox)
+    requires boxed { IsBoxOf artery.now area.now }
+    requires loaded { tableau.old ≡ loaded_box artery.now area.now }
+    ensures { tableau.new ≡ opened_box artery.now area.now }
+{
+    // their contracts say that the artery is valid and that every number fits
+    let _ = artery.head();
+    let _ = tableau.rows();
+    pivot(tableau, 0, 0);
+    pivot(tableau, artery.count(), 1);
+}
+
+/// Makes the state that `start` gives for a box, in a tableau that `start` made for this artery, spent or not. `room` has the
+/// artery's width; afterwards it is an unspent row of that width with any contents. Takes no memory.
+pub fn reset(tableau: &mut Tableau, artery: &Artery, area: &SearchBox, room: &mut Row)
+    requires boxed { IsBoxOf artery.now area.now }
+    requires made { IsMadeFor artery.now tableau.old }
+    requires room { length room.old.coefs ≡ places.width (count artery.now) }
+    ensures opened { tableau.new ≡ opened_box artery.now area.now }
+    ensures dual { IsDual tableau.new.table }
+    ensures stands { StandsForRows tableau.new.table (box_rows artery.now area.now) (goal_of artery.now) }
+    ensures made { IsMadeFor artery.now tableau.new }
+    ensures room { length room.new.coefs ≡ places.width (count artery.now) }
+    ensures unspent { room.new.spent ≡ false }
+{
+    // its contract says that the artery is valid
+    let _ = artery.head();
+    load(tableau, artery, area, room);
+    enter_bands(tableau, artery, area);
+}
+
+/// The opening tableau of a box: every row that the artery has, in the order of their names, with the weighted band as its
+/// goal, after the two pivots that bring the bands into the basis. It is dual feasible, and no number leaves 128 bits. The
+/// error is want of memory.
+pub fn start(alloc: Global, artery: &Artery, area: &SearchBox) -> Result<Tableau, Memory>
+    requires boxed { IsBoxOf artery.now area.now }
+    ensures opened { IfOk result (λ tableau. tableau ≡ opened_box artery.now area.now) }
+    ensures dual { IfOk result (λ tableau. IsDual tableau.table) }
+    ensures stands { IfOk result (λ tableau. StandsForRows tableau.table (box_rows artery.now area.now) (goal_of artery.now)) }
+    ensures made { IfOk result (λ tableau. IsMadeFor artery.now tableau) }
+{
+    prove!(artery.count() <= 16);
+    let width = column_count(artery);
+    let mut tableau = Tableau::new(alloc, row_count(artery), width)?;
+    let mut room = Row::zero(alloc, width)?;
+    reset(&mut tableau, artery, area, &mut room);
+    Ok(tableau)
+}
