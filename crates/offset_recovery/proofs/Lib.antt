@@ -1,0 +1,13 @@
+pub mod Ranks
+pub mod NamedRefusals
+pub mod Firsts
+pub mod Spans
+pub mod Finding
+pub mod Parts
+pub mod TicksOf
+pub mod Items
+pub mod Places
+pub mod Making
+pub mod Whole
+pub mod WorkedOutcomesKept
+pub mod Vertices

@@ -1,0 +1,64 @@
+-- What is known of a vertex's numbers where its unit fits, and the lists of its timing.
+use Rattle.std.specs.Prelude.{◌≡◌, ℕ, ◌-◌, ◌*◌, ◌<◌, ◌≤◌, ◌^◌, List, length, None, if◌then◌else◌}
+use Rattle.ratio.specs.Rational.{ℚ, ◌≤ℚ◌}
+use Rattle.progression.specs.Speeds.{number, run_high}
+use Rattle.ratio.specs.Rows.{AllNonNegative}
+use Rattle.progression.specs.Street.{Street, count, signal_of, red_parts, left_against, HasSignal, HasLink}
+use Rattle.progression.specs.Plan.{Plan}
+use Rattle.progression.specs.Green.{is_early}
+use Rattle.progression.specs.Columns.{BandOf, Frequency, WaitOf, RunOf, numbered}
+use Rattle.progression.specs.declared.parts.Dir.{Dir}
+use Rattle.progression.specs.declared.parts.Dir.TheVariants.{Outbound, Inbound}
+use Rattle.linear_model.specs.Places.{width}
+use Rattle.recovery_model.specs.Ticks.{unit_of, ticks_of}
+use Rattle.recovery_model.specs.Placing.{pattern_at, with_out, reds_of, with_reds}
+use Rattle.offset_recovery.specs.Tests.{product_test}
+
+-- each product with the number of parts fits
+abbrev pub ProductsFit : Street → List ℚ → Type 0
+ProductsFit a x = (j : ℕ) → j < width (count a) → product_test a x j ≡ None
+
+-- the vertex's columns, and how many ticks they have at most
+pub record IsReady (a : Street) (x : List ℚ) : Type 0 where
+  pub parts : 0 < a.head.parts
+  pub columns : length x ≡ width (count a)
+  pub not_negative : AllNonNegative x
+  pub products : ProductsFit a x
+  pub unit : unit_of a x < 2 ^ 80
+  pub cycle : a.head.parts * unit_of a x < 2 ^ 92
+  pub some : 0 < a.head.parts * unit_of a x
+  pub waits : (d : Dir) (i : ℕ) → HasSignal a i → ticks_of a x (WaitOf d i) < 2 ^ 92
+  pub bands : (d : Dir) → ticks_of a x (BandOf d) < 2 ^ 92
+  pub grid : ticks_of a x Frequency < 2 ^ 93
+  pub second : 1 ≤ ticks_of a x Frequency
+  pub runs : (d : Dir) (i seconds : ℕ) → HasLink a i → run_high a d i ≤ℚ number seconds → ticks_of a x (RunOf d i) ≤ seconds * ticks_of a x Frequency
+
+-- each run fits a timing
+abbrev pub RunsFit : Street → List ℚ → Type 0
+RunsFit a x = (d : Dir) (i : ℕ) → HasLink a i → ticks_of a x (RunOf d i) < 2 ^ 80
+
+-- ---- the lists of the timing
+abbrev pub patterns_at : Street → List ℚ → List ℕ
+patterns_at a x = numbered (count a) 1 (pattern_at a x)
+
+abbrev pub runs_at : Street → List ℚ → Dir → List ℕ
+runs_at a x d = numbered (count a - 1) 1 (λ i. ticks_of a x (RunOf d i))
+
+abbrev pub reds_at : Street → List ℚ → List ℕ
+reds_at a x = reds_of a (unit_of a x) (ticks_of a x) (pattern_at a x)
+
+-- the timing before its reds
+abbrev pub out_at : Street → List ℚ → Plan
+out_at a x = with_out a (unit_of a x) (ticks_of a x) (pattern_at a x)
+
+-- and before its first inbound crossing
+abbrev pub reds_plan : Street → List ℚ → Plan
+reds_plan a x = with_reds a (unit_of a x) (ticks_of a x) (pattern_at a x)
+
+-- how many parts after the common red's start the outbound red ends: at once where the left turn against it lags
+abbrev pub end_parts : Street → ℕ → ℕ → ℕ
+end_parts a i p = if is_early Outbound p then (signal_of a i).red else red_parts a Outbound i
+
+-- how many parts before the common red the inbound red starts
+abbrev pub ahead_parts : Street → ℕ → ℕ → ℕ
+ahead_parts a i p = if is_early Inbound p then left_against a Inbound i else 0

@@ -1,0 +1,65 @@
+-- The timing of a vertex, the place where it splits its box, or the first number that does not fit: the tests in their order.
+use Rattle.std.specs.Prelude.{ℕ, ◌+◌, ◌-◌, List, Option, option_map, unwrap_or}
+use Rattle.ratio.specs.Rational.{ℚ}
+use Rattle.narrow_fraction.specs.Attempt.{earlier, first_below}
+use Rattle.progression.specs.Street.{Street, count}
+use Rattle.progression.specs.Columns.{BandOf, Frequency, WaitOf, RunOf}
+use Rattle.progression.specs.declared.parts.Dir.{Dir}
+use Rattle.progression.specs.declared.parts.Dir.TheVariants.{Outbound, Inbound}
+use Rattle.linear_model.specs.Places.{place, width}
+use Rattle.linear_model.specs.Boxes.{Area}
+use Rattle.recovery_model.specs.Ticks.{unit_of, ticks_of}
+use Rattle.recovery_model.specs.Placing.{pattern_at, first_out_of, red_of, first_in_of, timing_of}
+use Rattle.offset_recovery.specs.declared.outcome.WideTiming.{WideTiming}
+use Rattle.offset_recovery.specs.Outcomes.{Outcome, Refused, Gives}
+use Rattle.offset_recovery.specs.Tests.{product_test, unit_test, number_test, column_test, link_test, signal_test}
+
+-- ---- the box
+-- the block sums in order of the links, then the shifts in order of the signals
+abbrev pub link_tests : Street → List ℚ → Option Outcome
+link_tests a x = first_below (λ j. link_test a x (j + 1)) (count a - 1)
+
+abbrev pub signal_tests : Street → Area → List ℚ → Option Outcome
+signal_tests a box x = first_below (λ j. signal_test a box x (j + 1)) (count a)
+
+abbrev pub box_tests : Street → Area → List ℚ → Option Outcome
+box_tests a box x = earlier (link_tests a x) (signal_tests a box x)
+
+-- ---- numbers
+-- the products in order of the columns, then the least common multiple in the same order
+abbrev pub unit_tests : Street → List ℚ → Option WideTiming
+unit_tests a x = earlier (first_below (product_test a x) (width (count a))) (first_below (unit_test a x) (width (count a)))
+
+-- the ticks of bands, frequency and runs, in order of the columns
+abbrev pub run_tests : Street → List ℚ → Dir → Option WideTiming
+run_tests a x d = first_below (λ j. column_test a x (RunOf d (j + 1))) (count a - 1)
+
+abbrev pub column_tests : Street → List ℚ → Option WideTiming
+column_tests a x =
+    earlier (column_test a x (BandOf Outbound)) (earlier (column_test a x (BandOf Inbound)) (earlier (column_test a x Frequency)
+    (earlier (run_tests a x Outbound) (run_tests a x Inbound))))
+
+-- the first outbound crossing, the reds after the first, and the first inbound crossing, each named by a wait
+abbrev pub first_out_at : Street → List ℚ → ℕ
+first_out_at a x = first_out_of a (unit_of a x) (ticks_of a x) (pattern_at a x)
+
+abbrev pub red_at : Street → List ℚ → ℕ → ℕ
+red_at a x i = red_of a (unit_of a x) (ticks_of a x) (pattern_at a x) i
+
+abbrev pub first_in_at : Street → List ℚ → ℕ
+first_in_at a x = first_in_of a (unit_of a x) (ticks_of a x) (pattern_at a x)
+
+abbrev pub red_tests : Street → List ℚ → Option WideTiming
+red_tests a x = first_below (λ j. number_test (place (count a) (WaitOf Outbound (j + 2))) (red_at a x (j + 2))) (count a - 1)
+
+abbrev pub placed_tests : Street → List ℚ → Option WideTiming
+placed_tests a x =
+    earlier (number_test (place (count a) (WaitOf Outbound 1)) (first_out_at a x))
+    (earlier (red_tests a x) (number_test (place (count a) (WaitOf Inbound (count a))) (first_in_at a x)))
+
+abbrev pub number_tests : Street → List ℚ → Option WideTiming
+number_tests a x = earlier (unit_tests a x) (earlier (column_tests a x) (placed_tests a x))
+
+-- ---- the whole
+unfoldable pub recovered : Street → Area → List ℚ → Outcome
+recovered a box x = unwrap_or (earlier (box_tests a box x) (option_map Refused (number_tests a x))) (Gives (timing_of a x))

@@ -1,0 +1,124 @@
+//! Into how many ticks a part of the cycle is divided.
+
+ghost use Rattle.std.specs.Prelude.{◌≡◌, ◌==◌, if◌then◌else◌, ◌+◌, ◌/◌, ◌<◌, ◌≤◌, ◌^◌, ◌≤ℤ◌, nat_le, length, pos, suc, None, SomeIff, OnOk, unsigned_abs};
+ghost use Rattle.ratio.specs.Gcd.{gcd};
+ghost use Rattle.narrow_fraction.specs.Attempt.{attempt, refusal_if, first_below};
+ghost use Rattle.progression.specs.Street.{count};
+ghost use Rattle.linear_model.specs.Places.{width};
+ghost use Rattle.recovery_model.specs.Ticks.{lcm, common, in_parts, unit_of};
+ghost use Rattle.offset_recovery.specs.Tests.{product_test, unit_test};
+ghost use Rattle.offset_recovery.specs.Recovered.{unit_tests};
+ghost use Rattle.offset_recovery.specs.Numbers.{ProductsFit};
+
+use crate::outcome::WideTiming;
+use crate::products::{in_parts, product};
+use artery_model::Artery;
+use loop_rows::column_count;
+use named_row::Point;
+use narrow_fraction::Frac;
+
+/// Every number of a timing, and its unit, is below this.
+pub const LIMIT: u128 = 1 << 80;
+
+/// Whether each column's product with the number of parts fits.
+fn check_products(artery: &Artery, point: &Point) -> Result<(), WideTiming>
+    requires { length point.now.values.items ≡ width (count artery.now) }
+    ensures { result ≡ attempt (first_below (product_test artery.now point.now.values.items) (width (count artery.now))) tt }
+{
+    for column in 0..column_count(artery) {
+        product(artery, point, column)?;
+    }
+    Ok(())
+}
+
+/// What `common` does not share with `bottom`.
+fn own_part(common: u128, bottom: u128) -> u128
+    requires some { 0 < bottom }
+    requires common { common < 2 ^ 80 }
+    requires bottom { bottom < 2 ^ 127 }
+    ensures value { result ≡ common / gcd common bottom }
+    ensures small { result < 2 ^ 80 }
+{
+    match Frac::new(common as i128, bottom as i128) {
+        Ok(quotient) => quotient.num().unsigned_abs(),
+        Err(_) => unreachable!(),
+    }
+}
+
+/// The least common multiple, where it is below the limit.
+fn multiple(common: u128, bottom: u128) -> Option<u128>
+    requires some { 0 < bottom }
+    requires common { common < 2 ^ 80 }
+    requires bottom { bottom < 2 ^ 127 }
+    ensures { SomeIff result (lcm common bottom < 2 ^ 80) (lcm common bottom) }
+{
+    match own_part(common, bottom).checked_mul(bottom) {
+        Some(multiple) if multiple < LIMIT => Some(multiple),
+        _ => None,
+    }
+}
+
+/// The denominator of a product.
+pub fn bottom(product: Frac) -> u128
+    ensures value { result ≡ product.den }
+    ensures some { 0 < result }
+    ensures small { result < 2 ^ 127 }
+{
+    product.den().unsigned_abs()
+}
+
+/// The least common denominator with one more column.
+fn with_column(
+    artery: &Artery,
+    point: &Point,
+    so_far: u128,
+    column: u32,
+) -> Result<u128, WideTiming>
+    requires column { column < length point.now.values.items }
+    requires fits { product_test artery.now point.now.values.items column ≡ None }
+    requires before { so_far ≡ common artery.now point.now.values.items column }
+    requires small { so_far < 2 ^ 80 }
+    ensures value { result ≡ attempt (unit_test artery.now point.now.values.items column) (common artery.now point.now.values.items (column + 1)) }
+    ensures small { OnOk result (common artery.now point.now.values.items (column + 1) < 2 ^ 80) }
+{
+    let bottom = bottom(in_parts(artery, point, column));
+    match multiple(so_far, bottom) {
+        Some(multiple) => Ok(multiple),
+        None => Err(WideTiming::Unit {
+            left: so_far,
+            right: bottom,
+        }),
+    }
+}
+
+/// A number, or 2 in place of 1.
+fn two_or(number: u128) -> u128
+    ensures { result ≡ (if number == 1 then 2 else number) }
+{
+    if number == 1 { 2 } else { number }
+}
+
+/// The ticks of a part: the least common denominator of all columns in parts, and 2 where that is 1.
+fn unit_of(artery: &Artery, point: &Point) -> Result<u128, WideTiming>
+    requires columns { length point.now.values.items ≡ width (count artery.now) }
+    requires products { ProductsFit artery.now point.now.values.items }
+    ensures value { result ≡ attempt (first_below (unit_test artery.now point.now.values.items) (width (count artery.now))) (unit_of artery.now point.now.values.items) }
+    ensures small { OnOk result (unit_of artery.now point.now.values.items < 2 ^ 80) }
+{
+    let mut common = 1;
+    for column in 0..column_count(artery) {
+        common = with_column(artery, point, common, column)?;
+    }
+    Ok(two_or(common))
+}
+
+/// The ticks of a part, where the products with the number of parts and their least common denominator fit.
+pub fn unit(artery: &Artery, point: &Point) -> Result<u128, WideTiming>
+    requires { length point.now.values.items ≡ width (count artery.now) }
+    ensures value { result ≡ attempt (unit_tests artery.now point.now.values.items) (unit_of artery.now point.now.values.items) }
+    ensures small { OnOk result (unit_of artery.now point.now.values.items < 2 ^ 80) }
+    ensures products { OnOk result (ProductsFit artery.now point.now.values.items) }
+{
+    check_products(artery, point)?;
+    unit_of(artery, point)
+}
