@@ -1,0 +1,13 @@
+pub mod Settling
+pub mod Largest
+pub mod Waiting
+pub mod Growing
+pub mod Splicing
+pub mod Showing
+pub mod Answering
+pub mod Finishing
+pub mod Stopping
+pub mod Halting
+pub mod Rooting
+pub mod Counting
+pub mod Capping

@@ -1,0 +1,125 @@
+-- The box at the top.
+use Rattle.std.proofs.Common.{◌≡◌, ℕ, zero, suc, ◌+◌, inl, inr, [], ◌∷◌, Option, Some, None, refl, sym, subst, ◌∙◌, arith}
+use Rattle.std.specs.Prelude.{IfSome}
+use Rattle.std.specs.List.{slice_get}
+use Rattle.ratio.specs.Rational.{ℚ, ◌≤ℚ◌}
+use Rattle.ratio.specs.Order.{≤ℚ_refl}
+use Rattle.named_row.specs.declared.leaves.Leaf.{Leaf}
+use Rattle.node_tree.specs.Lines.{Line, top_line, owed, Fills, Finds, total}
+use Rattle.branch_and_bound.specs.Lineages.{IsOptimal, at_top}
+use Rattle.branch_and_bound.specs.Rules.{Rules}
+use Rattle.branch_and_bound.specs.Opening.{IsBelow, Finishes}
+use Rattle.branch_and_bound.specs.Answer.{lines_of, cost_of, IsBestLeaf, IsSorted, RootLeft, RootUnread, IsStoppedAnswer}
+use Rattle.branch_and_bound.specs.State.{place_of, IsNode, IsBetter, IsLeafNow, IsStuck, Stops, Holds, stop_of}
+use Rattle.branch_and_bound.specs.declared.meter.Meter.{Meter}
+use Rattle.branch_and_bound.specs.declared.incumbent.Incumbent.{Incumbent}
+use Rattle.branch_and_bound.specs.declared.node.Node.{Node}
+use Rattle.branch_and_bound.specs.declared.node.Node.TheVariants.{Split, Closed, Waiting}
+use Rattle.branch_and_bound.specs.declared.node.TreeNode.TheVariants as tree
+use Rattle.branch_and_bound.specs.declared.found.Site.{Site}
+use Rattle.branch_and_bound.specs.declared.found.Stop.TheVariants.{Wide}
+use Rattle.branch_and_bound.specs.declared.settle.Cause.{Cause}
+use Rattle.branch_and_bound.specs.declared.settle.Cause.TheVariants.{NoWork, WorkOut, Refused}
+use Rattle.branch_and_bound.proofs.Growing.{good_still, under_still}
+
+-- ---- a root that was finished
+root_found : {T K W : Type 0} (r : Rules T K W) (new : Option (Incumbent T)) (node : Node K) → place_of node ≡ None → IsBetter r (top_line r.root) None new
+    → IfSome new (λ b. Finds place_of (λ line node. IsBestLeaf r b.value line (place_of node)) (lines_of r) (node ∷ []))
+root_found r new node e (inl h) = subst (λ (o : Option (Incumbent _)). IfSome o (λ b. Finds place_of (λ line node. IsBestLeaf r b.value line (place_of node)) (lines_of r) (node ∷ []))) (sym h.same) tt
+root_found r new node e (inr h) =
+    let here : Finds place_of (λ line node. IsBestLeaf r h.best.value line (place_of node)) (lines_of r) (node ∷ []) = inl (record { whole = e; end = h.end; value_is = sym h.value }) in
+    subst (λ (o : Option (Incumbent _)). IfSome o (λ b. Finds place_of (λ line node. IsBestLeaf r b.value line (place_of node)) (lines_of r) (node ∷ []))) (sym h.new_is) here
+
+-- a tree of the root alone
+one_node : {T K W : Type 0} (r : Rules T K W) (P : Line → Node K → Type 0) (node : Node K) → place_of node ≡ None → P (top_line r.root) node → Fills place_of P (lines_of r) (node ∷ [])
+one_node r P node e p = (p, nothing_owed r P node e)
+  where
+    nothing_owed : {T K W : Type 0} (r : Rules T K W) (P : Line → Node K → Type 0) (node : Node K) → place_of node ≡ None → Fills place_of P (owed (place_of node) (top_line r.root) []) []
+    nothing_owed r P (Split place point) e = cc
+    nothing_owed r P (Closed leaf) e = tt
+    nothing_owed r P (Waiting area leaf bound place point kept) e = tt
+
+one_cost : {T K W : Type 0} (r : Rules T K W) (node : Node K) → total place_of (cost_of r) (lines_of r) (node ∷ []) ≡ 1 + r.steps (top_line r.root)
+one_cost r node = omega arith
+
+pub root_holds : {T K W : Type 0} (r : Rules T K W) (new : Option (Incumbent T)) (before after : Meter) (node : Node K)
+    → r.IsSound → before.spent ≡ 0 → IsLeafNow r (top_line r.root) None new node → Finishes r (top_line r.root) before after
+    → Holds r (node ∷ []) new (r.bound (top_line r.root)) after.spent
+root_holds r new before after node sound e h k = record {
+  tree = one_node r (IsNode r new (r.bound (top_line r.root))) node h.whole (h.is (r.bound (top_line r.root)) (at_top sound) (λ o. ≤ℚ_refl (r.bound (top_line r.root))));
+  good = good_still r (top_line r.root) None new h.better tt;
+  under = under_still r (top_line r.root) None new (r.bound (top_line r.root)) h.better (λ q. ≤ℚ_refl (r.bound (top_line r.root))) tt;
+  found = root_found r new node h.whole h.better;
+  units = omega (arith, k.spent, one_cost r node);
+}
+
+-- ---- a root that wasn't
+-- its only node waits
+one_waits : {T K W : Type 0} (r : Rules T K W) (leaf : Leaf) (spared : Option ℕ) → IsSorted r (tree.Waiting leaf ∷ []) None spared
+one_waits r leaf spared = record { closed = λ index l e. absurd (never leaf l index e); waits = λ index l e. inl tt }
+  where
+    never : (leaf l : Leaf) (index : ℕ) → slice_get (tree.Waiting leaf ∷ []) index ≡ Some (tree.Closed l) → ⊥
+    never leaf l zero e = cc
+    never leaf l (suc index) e = cc
+
+pub root_stuck : {T K W : Type 0} (r : Rules T K W) (limit : Option ℕ) (new : Option (Incumbent T)) (before after : Meter) (leaf : Leaf) (bound : ℚ) (site : Site W)
+    → r.IsSound → before.spent ≡ 0 → new ≡ None → IsStuck r (top_line r.root) before after leaf bound site
+    → IsStoppedAnswer r limit (tree.Waiting leaf ∷ []) new bound after.spent (Wide site)
+root_stuck r limit (Some best) before after leaf bound site sound e f h = cc
+root_stuck r limit None before after leaf bound site sound e f h =
+    let line = top_line r.root in
+    let optimal : IsOptimal (r.ending line) = subst IsOptimal (sym h.opens.end) tt in
+    let stays : r.Refutes line.area leaf → ⊥ = r.not_refuted line leaf (at_top sound) optimal h.opens.bounds.leaf_is in
+    record {
+      case = RootUnread;
+      accepted = (inr h.opens.bounds.covers, tt);
+      good = tt;
+      spot = h.opens.end;
+      needed = (
+        record {
+          tree = (record { leaf_is = h.opens.bounds.leaf_is; reached = λ reads. let t = h.opens.end in cc }, tt);
+          part_reached = tt;
+          found = tt;
+        },
+        record {
+          over = ((λ no. subst (λ b. r.bound line ≤ℚ b) (sym h.opens.bounds.bound_is) (≤ℚ_refl (r.bound line))), tt);
+          found = inl (record { not_refuted = stays; bound_is = sym h.opens.bounds.bound_is });
+          more = tt;
+        },
+      );
+      sorted = one_waits r leaf None;
+      units = let s = h.cost.spent in let t = e in omega (arith, s, t);
+      cause = record { area_is = h.area_is; pivots_is = h.opens.pivots_is; part_is = h.opens.part_is };
+    }
+
+not_spent : (limit : Option ℕ) (spent : ℕ) → spent ≡ 0 → IsBelow 0 limit → limit ≡ Some spent → ⊥
+not_spent None spent e b h = cc
+not_spent (Some n) spent e b h = let q : n ≡ spent = cc in omega (arith, b, q, e)
+
+pub root_left : {T K W : Type 0} (r : Rules T K W) (limit : Option ℕ) (new : Option (Incumbent T)) (before after : Meter) (leaf : Leaf) (bound : ℚ) (cause : Cause W)
+    → before.spent ≡ 0 → IsBelow 0 before.limit → after.limit ≡ limit → new ≡ None
+    → r.IsStart leaf → bound ≡ r.start_bound → r.Covers r.root leaf bound
+    → Stops r (top_line r.root) before after cause
+    → IsStoppedAnswer r limit (tree.Waiting leaf ∷ []) new bound after.spent (stop_of cause after.spent)
+root_left r limit (Some best) before after leaf bound cause e b l f start bound_is covers h = cc
+root_left r limit None before after leaf bound NoWork e b l f start bound_is covers h = absurd (not_spent before.limit before.spent e b h.1)
+root_left r limit None before after leaf bound WorkOut e b l f start bound_is covers h = record {
+  case = RootLeft h.0;
+  accepted = (inr covers, tt);
+  good = tt;
+  spot = tt;
+  needed = record { leaf = leaf; nodes_are = refl; leaf_is = start; bound_is = bound_is; best_is = refl };
+  sorted = one_waits r leaf None;
+  units = let s = h.2.spent in omega (arith, s, e);
+  cause = (refl, sym l ∙ h.3, h.1);
+}
+root_left r limit None before after leaf bound (Refused site) e b l f start bound_is covers h = record {
+  case = RootLeft h.0;
+  accepted = (inr covers, tt);
+  good = tt;
+  spot = tt;
+  needed = record { leaf = leaf; nodes_are = refl; leaf_is = start; bound_is = bound_is; best_is = refl };
+  sorted = one_waits r leaf None;
+  units = let s = h.2.spent in omega (arith, s, e);
+  cause = h.1;
+}

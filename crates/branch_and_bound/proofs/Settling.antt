@@ -1,0 +1,76 @@
+-- What becomes of one box.
+use Rattle.std.proofs.Common.{◌≡◌, ◌⊎◌, inl, inr, Option, Some, refl, sym, subst, ap, ◌∙◌}
+use Rattle.linear_model.specs.Boxes.{Area}
+use Rattle.ratio.specs.Rational.{ℚ}
+use Rattle.ratio.specs.Order.{≤ℚ_refl}
+use Rattle.search_box.specs.declared.span.At.{At}
+use Rattle.search_box.specs.Places.{low_part, high_part}
+use Rattle.named_row.specs.declared.leaves.Leaf.{Leaf}
+use Rattle.node_tree.specs.Lines.{Line, low_line, high_line}
+use Rattle.branch_and_bound.specs.Rules.{Rules}
+use Rattle.branch_and_bound.specs.Opening.{OpensTimed, IsPart}
+use Rattle.branch_and_bound.specs.Incumbents.{IsReached, IsBeaten}
+use Rattle.branch_and_bound.specs.State.{IsStuck, Stops, Settles, Ends, ended, IsCut, IsLeafNow}
+use Rattle.branch_and_bound.specs.declared.meter.Meter.{Meter}
+use Rattle.branch_and_bound.specs.declared.incumbent.Incumbent.{Incumbent}
+use Rattle.branch_and_bound.specs.declared.node.Node.TheVariants.{Closed}
+use Rattle.branch_and_bound.specs.declared.found.Site.{Site}
+use Rattle.branch_and_bound.specs.declared.settle.Cause.TheVariants.{Refused}
+use Rattle.branch_and_bound.specs.declared.settle.Settled.{Settled}
+use Rattle.branch_and_bound.specs.declared.settle.Settled.TheVariants.{Done, Stuck, Left}
+
+-- a box whose vertex is a timing
+pub timed_settles : {T K W : Type 0} (r : Rules T K W) (line : Line) (old new : Option (Incumbent T)) (leaf : Leaf) (bound : ℚ) (timing : T)
+    → OpensTimed r line leaf bound timing
+    → ((new ≡ old) × IsReached bound old) ⊎ ((new ≡ Some (record { value = bound; timing = timing })) × IsBeaten old bound)
+    → IsLeafNow r line old new (Closed leaf)
+timed_settles r line old new leaf bound timing h (inl k) =
+    let at_old : IsReached (r.bound line) old = subst (λ b. IsReached b old) h.bounds.bound_is k.1 in
+    let covers : r.Covers line.area leaf (r.bound line) = subst (λ b. r.Covers line.area leaf b) h.bounds.bound_is h.bounds.covers in
+    record {
+      whole = refl;
+      is = λ top met under. record {
+        lineage = met;
+        leaf_is = h.bounds.leaf_is;
+        shows = inr (record { end = h.end; covers = covers; reached = subst (λ (b : Option (Incumbent _)). IsReached (r.bound line) b) (sym k.0) at_old });
+      };
+      better = inl (record { same = k.0; reached = λ end. at_old });
+    }
+timed_settles r line old new leaf bound timing h (inr k) =
+    let covers : r.Covers line.area leaf (r.bound line) = subst (λ b. r.Covers line.area leaf b) h.bounds.bound_is h.bounds.covers in
+    let at_new : IsReached bound new = subst (λ b. IsReached bound b) (sym k.0) (≤ℚ_refl bound) in
+    record {
+      whole = refl;
+      is = λ top met under. record {
+        lineage = met;
+        leaf_is = h.bounds.leaf_is;
+        shows = inr (record { end = h.end; covers = covers; reached = subst (λ b. IsReached b new) h.bounds.bound_is at_new });
+      };
+      better = inr (record { best = record { value = bound; timing = timing }; new_is = k.0; end = h.end; value = h.bounds.bound_is; good = h.good; more = k.1 });
+    }
+
+-- the parts of a box that waits
+pub low_is : {T K W : Type 0} (r : Rules T K W) (line : Line) (area part : Area) (place : At) (kept : K)
+    → IsCut r line area place kept → part ≡ low_part area place → IsPart r line place (low_line place line) kept part
+low_is r line area part place kept h e =
+    record { lineage = h.lineage; cut = h.end; kept_is = h.kept_is; side = inl refl; area_is = e ∙ ap (λ a. low_part a place) h.area_is }
+
+pub high_is : {T K W : Type 0} (r : Rules T K W) (line : Line) (area part : Area) (place : At) (kept : K)
+    → IsCut r line area place kept → part ≡ high_part area place → IsPart r line place (high_line place line) kept part
+high_is r line area part place kept h e =
+    record { lineage = h.lineage; cut = h.end; kept_is = h.kept_is; side = inr refl; area_is = e ∙ ap (λ a. high_part a place) h.area_is }
+
+-- where a vertex couldn't be read, its pivots were made
+stuck_stops : {T K W : Type 0} (r : Rules T K W) (line : Line) (before after : Meter) (leaf : Leaf) (bound : ℚ) (site : Site W)
+    → IsStuck r line before after leaf bound site → Stops r line before after (Refused site)
+stuck_stops r line before after leaf bound site h = (
+  r.steps line,
+  record { area_is = h.area_is; pivots_is = h.opens.pivots_is; part_is = h.opens.part_is },
+  record { spent = h.cost.spent; within = h.cost.within },
+)
+
+pub ends : {T K W : Type 0} (r : Rules T K W) (line : Line) (old new : Option (Incumbent T)) (before after : Meter) (settled : Settled K W)
+    → Settles r line old new before after settled → Ends r line old new before after (ended settled)
+ends r line old new before after (Done node) h = h
+ends r line old new before after (Stuck leaf bound site) h = (h.0, stuck_stops r line before after leaf bound site h.1)
+ends r line old new before after (Left cause) h = h

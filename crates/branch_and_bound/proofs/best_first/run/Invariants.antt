@@ -1,0 +1,17 @@
+use Rattle.std.proofs.Common.{◌≡◌, IsSome}
+use Rattle.ratio.specs.Rational.{ℚ}
+use Rattle.branch_and_bound.specs.Opening.{IsWithin}
+use Rattle.branch_and_bound.specs.State.{Holds, weights}
+use Rattle.branch_and_bound.proofs.best_first.run.Given as goal
+
+abbrev pub invariant-splits : goal.invariant-splits
+invariant-splits g l = record {
+  ready : g.P.Relaxation.Ready l.relaxation l.room;
+  limited : IsSome l.meter.limit;
+  within : IsWithin l.meter.spent l.meter.limit;
+  limit : l.meter.limit ≡ l.initial.meter.limit;
+  holds : (top : ℚ) × Holds (g.P.Relaxation.rules l.relaxation) l.nodes.items l.incumbent top l.meter.spent;
+}
+
+abbrev pub decreases-splits : goal.decreases-splits
+decreases-splits g l = weights l.nodes.items

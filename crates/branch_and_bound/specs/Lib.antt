@@ -1,0 +1,10 @@
+pub mod Lineages
+pub mod Rules
+pub mod Opening
+pub mod Incumbents
+pub mod Answer
+pub mod State
+pub mod Greatest
+pub mod Enough
+pub mod Capped
+pub mod Readings

@@ -1,0 +1,42 @@
+//! Best-first branch and bound over boxes of block sums and shift ranks, for any relaxation that can be solved over one
+//! box at a time.
+//!
+//! Start with `Relaxation`, which says what is asked of a problem, and `search`. Everything that `search` needs to know
+//! of the problem stands in one record of numbers, facts and laws, `specs/Rules.antt`; what it answers is one clause,
+//! `IsAnswer` of `specs/Answer.antt`: the tree proves the verdict, every split and leaf of it was needed, the units of
+//! work are those of its boxes, and a stop has one cause at one place.
+//!
+//! - `Lineages`: how the pivots of a box end, and `IsLineage`, the lines of boxes that a search can meet.
+//! - `Rules`: the record, with its five laws. `Opening`: what opening a box answers, in units of work.
+//! - `Answer`: `IsAccepted`, `IsSorted`, `StopCase`, `IsNeeded`, `IsOpenBound`, and the three verdicts.
+//! - `Enough`: how many units are enough. `Readings`: an accepted tree is accepted by what reads its boxes alone.
+//! - `State` and `Greatest` are what the search keeps true; nothing above rests on them. `Capped` is for the tests.
+#![tactic(auto)]
+
+mod best_first;
+mod found;
+mod greatest;
+mod grow;
+mod incumbent;
+mod laws;
+mod meter;
+mod node;
+mod open;
+mod opened;
+mod relaxation;
+mod settle;
+mod shown;
+
+pub use best_first::search;
+pub use found::{Found, Site, Stop, Verdict};
+pub use incumbent::Incumbent;
+pub use laws::law_enough;
+pub use meter::Meter;
+pub use node::TreeNode;
+pub use opened::Opened;
+pub use relaxation::Relaxation;
+
+#[cfg(test)]
+mod tests;
+#[cfg(test)]
+mod toy;

@@ -1,0 +1,147 @@
+//! A relaxation for the tests: the greatest block sum of link 1 that is at most a cap. Each box costs one pivot. A cap
+//! above 1000 is refused.
+
+ghost use Rattle.std.specs.Prelude.{◌≡◌, ◌≤◌, ◌<ℤ◌, ◌-ℤ◌, ◌+◌, ℤ, pos, length, IfOk};
+ghost use Rattle.progression.specs.Street.{Street};
+ghost use Rattle.node_tree.specs.Lines.{Line};
+ghost use Rattle.branch_and_bound.specs.Opening.{HasWork, IsWithin, Opens, capped};
+ghost use Rattle.branch_and_bound.specs.Capped.{capped_rules, EndsAs};
+
+use crate::meter::{Meter, is_out};
+use crate::opened::Opened;
+use crate::relaxation::Relaxation;
+use artery_model::Artery;
+use named_row::{Leaf, Point};
+use narrow_fraction::{Frac, Memory};
+use search_box::{At, SearchBox};
+use std::alloc::Global;
+
+/// The numbers of the root's span of link 1 that are at most `cap`.
+#[derive(Drop)]
+pub(crate) struct Capped {
+    pub(crate) artery: Artery,
+    pub(crate) cap: i64,
+}
+
+/// The number before one that is more than another.
+fn before(at: i64, least: i64) -> i64
+    requires { least <ℤ at }
+    ensures { result ≡ at -ℤ pos 1 }
+{
+    at - 1
+}
+
+fn no_rows(alloc: Global) -> Leaf {
+    Leaf {
+        multipliers: Vec::new(alloc),
+    }
+}
+
+/// The end of a box.
+fn end_of(alloc: Global, cap: i64, area: &SearchBox) -> Opened<i64, u8, u8>
+    requires { 1 ≤ length area.now.loops }
+    ensures { (a : Street) (line : Line) → line.area ≡ area.now → EndsAs a cap line result }
+{
+    let span = area.loop_span(1);
+    let leaf = no_rows(alloc);
+    if span.most < span.least || cap < span.least {
+        return Opened::Infeasible { leaf };
+    }
+    let bound = Frac::whole(span.most);
+    if cap < span.most {
+        return Opened::Splits {
+            leaf,
+            bound,
+            place: At::Loop {
+                link: 1,
+                at: before(span.most, cap),
+            },
+            point: Point {
+                values: Vec::new(alloc),
+            },
+            kept: 0,
+        };
+    }
+    Opened::Timed {
+        leaf,
+        bound,
+        timing: span.most,
+    }
+}
+
+/// Spends one unit.
+fn spend(meter: &mut Meter)
+    requires { HasWork meter.old }
+    ensures spent { meter.new.spent ≡ capped (meter.old.spent + 1) }
+    ensures limit { meter.new.limit ≡ meter.old.limit }
+    ensures within { IsWithin meter.new.spent meter.new.limit }
+{
+    meter.spent = meter.spent.saturating_add(1);
+}
+
+impl Capped {
+    /// Opens a box: one unit, and one for its only pivot.
+    fn open(&self, alloc: Global, area: &SearchBox, meter: &mut Meter) -> Opened<i64, u8, u8>
+        requires work { HasWork meter.old }
+        requires link { 1 ≤ length area.now.loops }
+        ensures limit { meter.new.limit ≡ meter.old.limit }
+        ensures opens { (line : Line) → line.area ≡ area.now → Opens (capped_rules self.now.artery self.now.cap) line meter.old meter.new result }
+    {
+        spend(meter);
+        if is_out(meter) {
+            return Opened::WorkOut;
+        }
+        spend(meter);
+        if self.cap > 1000 {
+            return Opened::Wide { pivots: 1, part: 1 };
+        }
+        end_of(alloc, self.cap, area)
+    }
+}
+
+impl Relaxation for Capped {
+    type Room = u8;
+
+    type Kept = u8;
+
+    type Timing = i64;
+
+    type Part = u8;
+
+    ghost rules = { λ s. capped_rules s.artery s.cap };
+
+    ghost Ready = { λ s room. Unit {0} };
+
+    fn root(&self, alloc: Global) -> Result<SearchBox, Memory> {
+        SearchBox::root(alloc, &self.artery)
+    }
+
+    fn start_leaf(&self, alloc: Global) -> Result<(Leaf, Frac), Memory> {
+        prove!(self.artery.count() >= 2);
+        let area = SearchBox::root(alloc, &self.artery)?;
+        Ok((no_rows(alloc), Frac::whole(area.loop_span(1).most)))
+    }
+
+    fn open_root(
+        &self,
+        alloc: Global,
+        _room: &mut u8,
+        area: &SearchBox,
+        meter: &mut Meter,
+    ) -> Result<Opened<i64, u8, u8>, Memory> {
+        prove!(self.artery.count() >= 2);
+        Ok(self.open(alloc, area, meter))
+    }
+
+    fn open_part(
+        &self,
+        alloc: Global,
+        _room: &mut u8,
+        _kept: &u8,
+        area: &SearchBox,
+        meter: &mut Meter,
+    ) -> Result<Opened<i64, u8, u8>, Memory> {
+        prove!(self.artery.count() >= 2);
+        Ok(self.open(alloc, area, meter))
+    }
+}
