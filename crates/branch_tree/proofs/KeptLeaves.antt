@@ -1,0 +1,172 @@
+-- The leaf of a box's end, and the start leaf, are leaves that a certificate keeps: their rows have names and ascend, and are few.
+use Rattle.std.proofs.Common.{arith, ◌≡◌, ℕ, pos, zero, suc, ◌+◌, ◌<◌, ◌≤◌, ◌⊎◌, inl, inr, Bool, true, false, true≢false, cond, Option, None, Some, List, [], ◌∷◌, ◌++◌, length, All, refl, sym, ◌∙◌, ap, subst, length-append}
+use Rattle.std.proofs.lemmas.Bool.{lt-ltb, eq-eqb}
+use Rattle.std.proofs.lemmas.List.{append-nil}
+use Rattle.std.proofs.lemmas.List.Elements.{All-nil, All-cons, All-append}
+use Rattle.std.specs.Prelude.{◌==◌, ◌||◌, ◌&&◌, nat_lt}
+use Rattle.std.specs.Ordering.{eq_by_cmp}
+use Rattle.ratio.specs.Rational.{ℚ, whole}
+use Rattle.ratio.specs.Compare.{cmp_ℚ}
+use Rattle.progression.specs.Street.{Street, count, HasSignal, HasLink}
+use Rattle.progression.specs.Speeds.{number}
+use Rattle.artery_model.specs.Valid.{IsValid}
+use Rattle.linear_model.specs.Names.{HasRow, name_of}
+use Rattle.linear_model.specs.Boxes.{Area}
+use Rattle.loop_rows.specs.Following.{IsBelow}
+use Rattle.named_row.specs.declared.names.RowId.{RowId}
+use Rattle.named_row.specs.declared.leaves.Weight.{Weight}
+use Rattle.simplex_model.specs.BlandRule.{Move, optimal, infeasible, pivoted}
+use Rattle.program_builder.specs.BoxRows.{rows_of, name_at}
+use Rattle.program_builder.specs.RowOrder.{IsAscending, rows_ascending, rows_there}
+use Rattle.program_builder.specs.NamedFamilies.{by_family}
+use Rattle.program_builder.proofs.RowCounts.{rows_most}
+use Rattle.dual_leaf.specs.Leaves.{multiplier, multipliers_below}
+use Rattle.plan_text.specs.Families.{IsNamed, is_lone, is_below, is_after}
+use Rattle.plan_text.specs.Warrants.{Ascend, IsNode, LeafOf}
+use Rattle.branch_tree.specs.Ends.{named_last, end_move, leaf_by, end_leaf}
+use Rattle.branch_tree.specs.Starts.{first_out, first_in, start_leaf}
+
+-- ---- names
+or_left : (b c : Bool) → b ≡ true → (b || c) ≡ true
+or_left true c e = refl
+or_left false c e = absurd (true≢false (sym e))
+
+or_right : (b c : Bool) → c ≡ true → (b || c) ≡ true
+or_right true c e = refl
+or_right false c e = e
+
+and_both : (b c : Bool) → b ≡ true → c ≡ true → (b && c) ≡ true
+and_both true c e f = f
+and_both false c e f = absurd (true≢false (sym e))
+
+below_test : (r s : RowId) → IsBelow r s → is_below r s ≡ true
+below_test r s (inl h) = or_left _ _ (lt-ltb _ _ h)
+below_test r s (inr h) = or_right _ _ (and_both _ _ (eq-eqb _ _ h.0) (lt-ltb _ _ h.1))
+
+-- a row of the artery has a name
+named_row : (a : Street) (f i : ℕ) → HasRow a (name_of f i) → IsNamed (record { family = f; index = i })
+named_row a f i =
+    by_family (λ g n. HasRow a n → IsNamed (record { family = g; index = i })) f i
+    (λ h. signal 1 refl (omega arith) (omega arith) h) (λ h. signal 2 refl (omega arith) (omega arith) h) (λ h. link 3 refl (omega arith) (omega arith) h) (λ h. link 4 refl (omega arith) (omega arith) h)
+    (λ h. link 5 refl (omega arith) (omega arith) h) (λ h. link 6 refl (omega arith) (omega arith) h) (λ h. link 7 refl (omega arith) (omega arith) h.0) (λ h. link 8 refl (omega arith) (omega arith) h.0)
+    (λ h. link 9 refl (omega arith) (omega arith) h.0) (λ h. link 10 refl (omega arith) (omega arith) h.0) (λ h. lone 11 refl (omega arith) (omega arith) h) (λ h. lone 12 refl (omega arith) (omega arith) h)
+    (λ h. lone 13 refl (omega arith) (omega arith) h.0) (λ h. link 14 refl (omega arith) (omega arith) h) (λ h. link 15 refl (omega arith) (omega arith) h) (λ h. signal 16 refl (omega arith) (omega arith) h)
+    (λ h. signal 17 refl (omega arith) (omega arith) h) (λ h. absurd h)
+  where
+    indexed : (g : ℕ) → is_lone g ≡ false → 1 ≤ g → g ≤ 17 → 1 ≤ i → IsNamed (record { family = g; index = i })
+    indexed g e l m h = record { first = l; last = m; lone = λ p. absurd (true≢false (sym p ∙ e)); indexed = λ p. h }
+
+    signal : (g : ℕ) → is_lone g ≡ false → 1 ≤ g → g ≤ 17 → HasSignal a i → IsNamed (record { family = g; index = i })
+    signal g e l m h = indexed g e l m h.0
+
+    link : (g : ℕ) → is_lone g ≡ false → 1 ≤ g → g ≤ 17 → HasLink a i → IsNamed (record { family = g; index = i })
+    link g e l m h = indexed g e l m h.0
+
+    lone : (g : ℕ) → is_lone g ≡ true → 1 ≤ g → g ≤ 17 → i ≡ 0 → IsNamed (record { family = g; index = i })
+    lone g e l m h = record { first = l; last = m; lone = λ p. h; indexed = λ p. absurd (true≢false (sym e ∙ p)) }
+
+-- ---- multipliers of ascending rows
+-- each row comes before this one
+abbrev AreBelow : List Weight → RowId → Type 0
+AreBelow [] r = Unit {0}
+AreBelow (w ∷ ws) r = (is_below w.row r ≡ true) × AreBelow ws r
+
+below_append : (vs ws : List Weight) (r : RowId) → AreBelow vs r → AreBelow ws r → AreBelow (vs ++ ws) r
+below_append [] ws r h k = k
+below_append (v ∷ vs) ws r h k = (h.0, below_append vs ws r h.1 k)
+
+ascend_more : (last : Option RowId) (ws : List Weight) (w : Weight) → Ascend last ws → is_after last w.row ≡ true → AreBelow ws w.row → Ascend last (ws ++ w ∷ [])
+ascend_more last [] w h k b = (k, tt)
+ascend_more last (v ∷ vs) w h k b = (h.0, ascend_more (Some v.row) vs w h.1 b.0 b.1)
+
+module _ (names : List RowId) (f : ℕ → ℚ) where
+  -- the multiplier of one row is one weight of it, or none
+  one_length : (b : Bool) (w : Weight) → length (cond b [] (w ∷ [])) ≤ 1
+  one_length true w = omega arith
+  one_length false w = omega arith
+
+  few : (n : ℕ) → length (multipliers_below names f n) ≤ n
+  unfolding multipliers_below
+  few zero = omega arith
+  few (suc n) =
+      let h = few n in
+      let e = length-append (multipliers_below names f n) (multiplier (name_at names n) (f n)) in
+      let k = one_length (eq_by_cmp cmp_ℚ (f n) (whole (pos 0))) (record { row = name_at names n; by = f n }) in
+      omega arith
+
+  one_below : (b : Bool) (w : Weight) (r : RowId) → is_below w.row r ≡ true → AreBelow (cond b [] (w ∷ [])) r
+  one_below true w r h = tt
+  one_below false w r h = (h, tt)
+
+  all_below : (n : ℕ) (r : RowId) → ((k : ℕ) → k < n → is_below (name_at names k) r ≡ true) → AreBelow (multipliers_below names f n) r
+  unfolding multipliers_below
+  all_below zero r h = tt
+  all_below (suc n) r h = below_append (multipliers_below names f n) _ r (all_below n r (λ k l. h k (omega arith))) (one_below _ (record { row = name_at names n; by = f n }) r (h n (omega arith)))
+
+  one_more : (b : Bool) (ws : List Weight) (w : Weight) → Ascend None ws → AreBelow ws w.row → Ascend None (ws ++ cond b [] (w ∷ []))
+  one_more true ws w h k = subst (Ascend None) (sym (append-nil ws)) h
+  one_more false ws w h k = ascend_more None ws w h refl k
+
+  ascends : (n : ℕ) → ((i k : ℕ) → i < k → k < n → is_below (name_at names i) (name_at names k) ≡ true) → Ascend None (multipliers_below names f n)
+  unfolding multipliers_below
+  ascends zero h = tt
+  ascends (suc n) h =
+      one_more _ (multipliers_below names f n) (record { row = name_at names n; by = f n }) (ascends n (λ i k l m. h i k l (omega arith)))
+      (all_below n (name_at names n) (λ k l. h k n l (omega arith)))
+
+  one_named : (b : Bool) (w : Weight) → IsNamed w.row → All (λ v. IsNamed v.row) (cond b [] (w ∷ []))
+  one_named true w h = All-nil (λ v. IsNamed v.row)
+  one_named false w h = All-cons (λ v. IsNamed v.row) w [] h (All-nil (λ v. IsNamed v.row))
+
+  are_named : (n : ℕ) → ((k : ℕ) → k < n → IsNamed (name_at names k)) → All (λ w. IsNamed w.row) (multipliers_below names f n)
+  unfolding multipliers_below
+  are_named zero h = All-nil (λ w. IsNamed w.row)
+  are_named (suc n) h = All-append (λ w. IsNamed w.row) (multipliers_below names f n) _ (are_named n (λ k l. h k (omega arith))) (one_named _ (record { row = name_at names n; by = f n }) (h n (omega arith)))
+
+-- ---- leaves
+module _ (a : Street) (v : IsValid a) where
+  row_kept : (f : ℕ → ℚ) → IsNode (LeafOf (multipliers_below (rows_of a) f (length (rows_of a))))
+  row_kept f =
+      let most = rows_most a v.many in
+      let short = few (rows_of a) f (length (rows_of a)) in (
+        omega arith,
+        ascends (rows_of a) f (length (rows_of a)) (λ i k l m. below_test _ _ ((rows_ascending a).ascending i k l m)),
+        are_named (rows_of a) f (length (rows_of a)) (λ k l. named_row a _ _ (rows_there a k l)),
+      )
+
+  none_kept : IsNode (LeafOf [])
+  none_kept = (omega arith, tt, All-nil (λ w. IsNamed w.row))
+
+  -- the leaf of a box's end
+  pub end_kept : (box : Area) → IsNode (LeafOf (end_leaf a box))
+  unfolding end_leaf
+  end_kept box = pick (end_move a box)
+    where
+      pick : (m : Move) → IsNode (LeafOf (leaf_by (named_last a box) m))
+      pick optimal = row_kept _
+      pick (infeasible r) = row_kept _
+      pick (pivoted r j) = none_kept
+
+  -- the start leaf
+  pub start_kept : IsNode (LeafOf (start_leaf a))
+  start_kept = pick (eq_by_cmp cmp_ℚ a.head.ratio (whole (pos 0)))
+    where
+      out_named : IsNamed first_out
+      out_named = named_row a 1 1 (omega arith, let n = v.few in omega arith)
+
+      in_named : IsNamed first_in
+      in_named = named_row a 2 1 (omega arith, let n = v.few in omega arith)
+
+      weight_out : Weight
+      weight_out = record { row = first_out; by = number 1 }
+
+      weight_in : Weight
+      weight_in = record { row = first_in; by = a.head.ratio }
+
+      pick : (b : Bool) → IsNode (LeafOf (weight_out ∷ cond b [] (weight_in ∷ [])))
+      pick true = (omega arith, (refl, tt), All-cons (λ (w : Weight). IsNamed w.row) weight_out [] out_named (All-nil (λ (w : Weight). IsNamed w.row)))
+      pick false = (
+        omega arith,
+        (refl, (refl, tt)),
+        All-cons (λ (w : Weight). IsNamed w.row) weight_out (weight_in ∷ []) out_named (All-cons (λ (w : Weight). IsNamed w.row) weight_in [] in_named (All-nil (λ (w : Weight). IsNamed w.row))),
+      )

@@ -1,0 +1,9 @@
+mod Running
+mod Reading
+mod Opens
+mod Certificates
+mod KeptLeaves
+mod EachRefusal
+mod NamedCells
+mod NamedSites
+mod Answering

@@ -1,0 +1,104 @@
+-- From what the steps of a node answer to how the run of a box stopped.
+use Rattle.std.proofs.Common.{arith, ◌≡◌, ℕ, ◌+◌, ◌≤◌, true, false, Option, Some, None, IfSome, refl, sym, ◌∙◌, ap, subst}
+use Rattle.progression.specs.Street.{Street}
+use Rattle.artery_model.specs.Valid.{IsValid}
+use Rattle.linear_model.specs.Boxes.{Area}
+use Rattle.simplex_model.specs.Tableau.{IsShaped}
+use Rattle.simplex_model.specs.BlandRule.{optimal, infeasible, move}
+use Rattle.simplex_model.specs.StepCounts.{after, is_pivot}
+use Rattle.fraction_tableau.specs.NamedTableaus.{NamedTableau}
+use Rattle.dual_simplex.specs.declared.outcome.Step.TheVariants as steps
+use Rattle.dual_simplex.specs.declared.outcome.Meter as simplex
+use Rattle.dual_simplex.specs.declared.outcome.NodeEnd.{NodeEnd}
+use Rattle.dual_simplex.specs.declared.outcome.NodeEnd.TheVariants.{Optimal, Infeasible, WorkOut, Wide}
+use Rattle.dual_simplex.specs.Steps.{step_of}
+use Rattle.dual_simplex.specs.Ends.{Solved, end_says, metered, stepped, is_out, is_at_limit}
+use Rattle.program_builder.specs.Building.{IsMadeFor, opened_box, made_spent}
+use Rattle.branch_and_bound.specs.declared.meter.Meter.{Meter}
+use Rattle.branch_and_bound.specs.Opening.{Leaves, IsWithin, IsSpent, capped}
+use Rattle.branch_tree.specs.Ends.{table_after, named_after, steps_of, end_move}
+use Rattle.branch_tree.specs.EndLaws.{run_dual, run_height, run_width}
+use Rattle.branch_tree.specs.Runs.{ends_step, reached_by, table_by, end_here, due_at}
+use Rattle.branch_tree.specs.Sites.{step_at, IsReached}
+use Rattle.branch_tree.specs.Opening.{IsOptimalRun, IsInfeasibleRun, IsRunTo, IsRun}
+use Rattle.std.proofs.lemmas.Bool.{eqb-true}
+
+module _ (a : Street) (box : Area) (v : IsValid a) (s t : NamedTableau) (m n : simplex.Meter) (p q k : ℕ) (o : s ≡ opened_box a box) where
+  here : after s.table k ≡ table_after a box k
+  here = table_by a box s k (ap (λ u. u.table) o)
+
+  stepped_is : stepped s k ≡ named_after a box k
+  unfolding table_after
+  stepped_is = ap (λ u. stepped u k) o
+
+  reached : (e : NodeEnd) → Solved e s t m n p q k → IsReached a box k
+  reached e h = reached_by a box e s t m n p q k (ap (λ u. u.table) o) h
+
+  optimal_run : Solved Optimal s t m n p q k → (k ≡ steps_of a box) × IsOptimalRun a box t
+  optimal_run h =
+      let r = reached Optimal h in
+      let w : move (table_after a box k) ≡ optimal = ap move (sym here) ∙ end_says (after s.table k) (metered m k) Optimal h.ends in
+      let f = end_here a box v k r (ap is_pivot w) in (
+        f,
+        record {
+          reached = subst (IsReached a box) f r;
+          step = subst (λ j. step_at a box j ≡ steps.Optimal) f (ap step_of (sym here) ∙ ends_step (after s.table k) (metered m k) Optimal h.ends);
+          move_is = subst (λ j. move (table_after a box j) ≡ optimal) f w;
+          tableau_is = h.table ∙ stepped_is ∙ ap (named_after a box) f;
+        },
+      )
+
+  infeasible_run : (row : ℕ) → Solved (Infeasible row) s t m n p q k → (k ≡ steps_of a box) × IsInfeasibleRun a box t row
+  infeasible_run row h =
+      let r = reached (Infeasible row) h in
+      let w : move (table_after a box k) ≡ infeasible row = ap move (sym here) ∙ end_says (after s.table k) (metered m k) (Infeasible row) h.ends in
+      let f = end_here a box v k r (ap is_pivot w) in (
+        f,
+        record {
+          reached = subst (IsReached a box) f r;
+          step = subst (λ j. step_at a box j ≡ steps.Infeasible row) f (ap step_of (sym here) ∙ ends_step (after s.table k) (metered m k) (Infeasible row) h.ends);
+          move_is = subst (λ j. move (table_after a box j) ≡ infeasible row) f w;
+          tableau_is = h.table ∙ stepped_is ∙ ap (named_after a box) f;
+        },
+      )
+
+  limit_met : (spent : ℕ) (limit : Option ℕ) → is_at_limit spent limit ≡ true → limit ≡ Some spent
+  limit_met spent None e = absurd (let f : false ≡ true = e in cc)
+  limit_met spent (Some most) e = ap Some (sym (eqb-true spent most e))
+
+  stops : (later : Meter) (e : NodeEnd) → later.spent ≡ n.spent → later.limit ≡ n.limit → Solved e s t m n p q k → IsRunTo a box t later k e
+  stops later Optimal i j h = optimal_run h
+  stops later (Infeasible row) i j h = infeasible_run row h
+  stops later WorkOut i j h =
+      let w = end_says _ (metered m k) WorkOut h.ends in (
+        due_at a box k (reached WorkOut h) (ap (λ u. is_pivot (move u)) (sym here) ∙ w.0),
+        j ∙ ap (λ u. u.limit) h.meter ∙ limit_met _ _ w.1 ∙ ap Some (sym (i ∙ ap (λ u. u.spent) h.meter)),
+      )
+  stops later (Wide in_ratio cell) i j h = (reached (Wide in_ratio cell) h, ap step_of (sym here) ∙ (end_says _ (metered m k) (Wide in_ratio cell) h.ends).0)
+
+  -- the tableau stays one that was made for the artery
+  made_by : stepped s k ≡ t → IsMadeFor a t
+  made_by e = subst (IsMadeFor a) (sym stepped_is ∙ e) (record { rows = run_height a box v k; columns = run_width a box v k })
+
+  pub made_after : (e : NodeEnd) → IsShaped t.table → Solved e s t m n p q k → IsMadeFor a t
+  made_after Optimal g h = made_by (sym h.table)
+  made_after (Infeasible row) g h = made_by (sym h.table)
+  made_after WorkOut g h = made_by (sym h.table)
+  made_after (Wide true cell) g h = made_by (sym h.table)
+  made_after (Wide false cell) g h =
+      made_spent a (stepped s k) t (subst IsShaped (sym here) (run_dual a box v k).shaped) g h.table
+      (subst (IsMadeFor a) (sym stepped_is) (record { rows = run_height a box v k; columns = run_width a box v k }))
+
+  -- the steps after a unit for the box
+  pub run_from : (before later : Meter) (e : NodeEnd) → p ≡ 0 → m.spent ≡ capped (before.spent + 1) → later.spent ≡ n.spent → later.limit ≡ n.limit
+      → IsWithin later.spent later.limit → Solved e s t m n p q k → IsRun a box t before later e q
+  run_from before later e none unit i j within h = record {
+    k = k;
+    leaves = record { spent = i ∙ ap (λ u. u.spent) h.meter ∙ ap (λ x. capped (x + k)) unit ∙ omega arith; within = within };
+    pivots_are = h.pivots ∙ ap (λ x. capped (x + k)) none ∙ ap capped (let z : 0 + k ≡ k = omega arith in z);
+    stops = stops later e i j h;
+  }
+
+pub within_limit : (spent : ℕ) (limit : Option ℕ) → IfSome limit (λ most. spent ≤ most) → IsWithin spent limit
+within_limit spent None h = tt
+within_limit spent (Some most) h = h

@@ -1,0 +1,26 @@
+-- The leaf of an end, and the start leaf, as proofs that the checker of certificates accepts: where no operation of the sum leaves
+-- 128 bits.
+use Rattle.std.proofs.Common.{◌≡◌, inl, None, Some}
+use Rattle.progression.specs.Street.{Street}
+use Rattle.artery_model.specs.Valid.{IsValid}
+use Rattle.linear_model.specs.Boxes.{Area, root_box}
+use Rattle.loop_rows.specs.Weights.{leaf_fault}
+use Rattle.certificate_checker.specs.Accepted.{IsProof}
+use Rattle.branch_and_bound.specs.Lineages.{Empty, IsOptimal}
+use Rattle.branch_tree.specs.Ends.{end_bound, end_leaf, ending_of}
+use Rattle.branch_tree.specs.Starts.{start_leaf, start_bound}
+use Rattle.branch_tree.specs.StartLaws.{start_good}
+use Rattle.branch_tree.specs.StartFits.{start_fits}
+use Rattle.branch_tree.specs.BoxLaws.{ends_optimal, ends_infeasible}
+use Rattle.branch_tree.specs.LeafFaults.{proof_of}
+
+module _ (a : Street) (box : Area) (v : IsValid a) (f : leaf_fault a box (end_leaf a box) ≡ None) where
+  pub end_covers : IsOptimal (ending_of a box) → IsProof a (Some (end_bound a box)) box (end_leaf a box)
+  end_covers o = proof_of a (Some (end_bound a box)) box (end_leaf a box) f (inl (ends_optimal a box v o).covers)
+
+  pub end_refutes : ending_of a box ≡ Empty → IsProof a None box (end_leaf a box)
+  end_refutes e = proof_of a None box (end_leaf a box) f (ends_infeasible a box v e).refutes
+
+-- the start leaf always is one
+pub start_covers : (a : Street) → IsValid a → IsProof a (Some (start_bound a)) (root_box a) (start_leaf a)
+start_covers a v = proof_of a (Some (start_bound a)) (root_box a) (start_leaf a) (start_fits a v (root_box a)) (inl (start_good a v).covers)

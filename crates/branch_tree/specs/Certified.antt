@@ -1,0 +1,35 @@
+-- The certificate of what a search found: its claim, its timing and its tree, without the vertices.
+use Rattle.std.specs.Prelude.{map, Option, Some, None}
+use Rattle.ratio.specs.Rational.{ℚ}
+use Rattle.progression.specs.Street.{Street}
+use Rattle.progression.specs.Plan.{Plan}
+use Rattle.progression.specs.Best.{weighted_band}
+use Rattle.plan_text.specs.Warrants.{Warrant}
+use Rattle.plan_text.specs.declared.certificate.Claim.{Claim}
+use Rattle.plan_text.specs.declared.certificate.Claim.TheVariants as claim
+use Rattle.branch_and_bound.specs.declared.found.Verdict.{Verdict}
+use Rattle.branch_and_bound.specs.declared.found.Verdict.TheVariants.{Best, NoTiming, Stopped}
+use Rattle.branch_tree.specs.declared.site.SitePart.{SitePart}
+use Rattle.branch_tree.specs.declared.found.Found.{Found}
+use Rattle.branch_tree.specs.Trees.{node_of}
+
+abbrev pub value_of : Street → Option Plan → Option ℚ
+value_of a None = None
+value_of a (Some plan) = Some (weighted_band a plan)
+
+-- a best timing's value is claimed; without one there is nothing to claim
+abbrev pub best_claim : Option ℚ → Claim
+best_claim None = claim.NoTiming
+best_claim (Some value) = claim.Best value
+
+abbrev pub claim_by : Verdict SitePart → ℚ → Option ℚ → Claim
+claim_by Best bound value = best_claim value
+claim_by NoTiming bound value = claim.NoTiming
+claim_by (Stopped stop) bound value = claim.Stopped bound value
+
+abbrev pub warrant_of : Street → Found → Warrant
+warrant_of a found = record {
+  claim = claim_by found.verdict found.bound (value_of a found.timing);
+  timing = found.timing;
+  nodes = map node_of found.nodes.items;
+}

@@ -1,0 +1,62 @@
+//! Copies.
+
+ghost use Rattle.std.specs.Prelude.{◌≡◌, map, IfOk};
+
+use named_row::Leaf;
+use narrow_fraction::Memory;
+use progression::Dir;
+use std::alloc::Global;
+use time_space::Timing;
+
+fn copied<T: Copy>(alloc: Global, items: &[T]) -> Result<Vec<T>, Memory>
+    ensures { IfOk result (λ copy. copy.items ≡ items.now) }
+{
+    let mut copy = Vec::new(alloc);
+    match copy.extend_from_slice(items) {
+        Ok(()) => Ok(copy),
+        Err(_) => Err(Memory),
+    }
+}
+
+/// The same leaf again.
+pub fn copied_leaf(alloc: Global, leaf: &Leaf) -> Result<Leaf, Memory>
+    ensures { IfOk result (λ copy. copy.multipliers.items ≡ leaf.now.multipliers.items) }
+{
+    let multipliers = copied(alloc, leaf.multipliers.as_slice())?;
+    Ok(Leaf { multipliers })
+}
+
+/// The same timing again.
+fn copied_plan(alloc: Global, timing: &Timing) -> Result<Timing, Memory>
+    ensures { IfOk result (λ copy. copy ≡ timing.now) }
+{
+    let patterns = copied(alloc, timing.patterns())?;
+    let reds = copied(alloc, timing.reds())?;
+    let run_out = copied(alloc, timing.run_out())?;
+    let run_in = copied(alloc, timing.run_in())?;
+    match Timing::new(
+        timing.grid(),
+        timing.unit(),
+        patterns,
+        reds,
+        run_out,
+        run_in,
+        timing.first(Dir::Outbound) as u128,
+        timing.first(Dir::Inbound) as u128,
+        timing.band(Dir::Outbound),
+        timing.band(Dir::Inbound),
+    ) {
+        Some(copy) => Ok(copy),
+        None => unreachable!(),
+    }
+}
+
+/// The same timing again, where there is one.
+pub fn copied_timing(alloc: Global, timing: &Option<Timing>) -> Result<Option<Timing>, Memory>
+    ensures { IfOk result (λ copy. copy ≡ timing.now) }
+{
+    match timing {
+        Some(timing) => Ok(Some(copied_plan(alloc, timing)?)),
+        None => Ok(None),
+    }
+}

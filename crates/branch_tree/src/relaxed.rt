@@ -1,0 +1,89 @@
+//! An artery as a relaxation that is solved over one box at a time.
+
+ghost use Rattle.std.specs.Prelude.{IfOk};
+ghost use Rattle.branch_tree.specs.Opening.{IsRoomFor};
+
+use crate::kept::Kept;
+use crate::opening::{Opening, open};
+use crate::site::SitePart;
+use crate::starting::start_leaf;
+use artery_model::Artery;
+use branch_and_bound::{Meter, Relaxation};
+use fraction_tableau::Tableau;
+use loop_rows::column_count;
+use named_row::{Leaf, Row};
+use narrow_fraction::{Frac, Memory};
+use program_builder::start;
+use search_box::SearchBox;
+use std::alloc::Global;
+use time_space::Timing;
+
+/// Where the boxes of an artery are opened: a tableau with its rows and columns, and a spare row.
+#[derive(Drop)]
+pub struct Room {
+    pub tableau: Tableau,
+    pub row: Row,
+}
+
+/// Room for the boxes of an artery.
+pub fn make_room(alloc: Global, artery: &Artery) -> Result<Room, Memory>
+    ensures { IfOk result (λ room. IsRoomFor artery.now room) }
+{
+    // its contract says that the artery is valid
+    let _ = artery.head();
+    let area = SearchBox::root(alloc, artery)?;
+    let tableau = start(alloc, artery, &area)?;
+    let row = Row::zero(alloc, column_count(artery))?;
+    Ok(Room { tableau, row })
+}
+
+/// An artery whose boxes are opened one at a time.
+#[derive(Drop)]
+pub struct Relaxed<'a> {
+    pub artery: &'a Artery,
+}
+
+impl<'a> Relaxation for Relaxed<'a> {
+    ghost use Rattle.branch_tree.specs.Relaxed.{rules_of};
+
+    type Room = Room;
+
+    type Kept = Kept;
+
+    type Timing = Timing;
+
+    type Part = SitePart;
+
+    ghost rules = { λ relaxed. rules_of relaxed.artery.now };
+
+    ghost Ready = { λ relaxed room. IsRoomFor relaxed.artery.now room };
+
+    fn root(&self, alloc: Global) -> Result<SearchBox, Memory> {
+        SearchBox::root(alloc, self.artery)
+    }
+
+    fn start_leaf(&self, alloc: Global) -> Result<(Leaf, Frac), Memory> {
+        start_leaf(alloc, self.artery)
+    }
+
+    fn open_root(
+        &self,
+        alloc: Global,
+        room: &mut Room,
+        area: &SearchBox,
+        meter: &mut Meter,
+    ) -> Result<Opening, Memory> {
+        open(alloc, self.artery, room, area, meter)
+    }
+
+    fn open_part(
+        &self,
+        alloc: Global,
+        room: &mut Room,
+        _kept: &Kept,
+        area: &SearchBox,
+        meter: &mut Meter,
+    ) -> Result<Opening, Memory> {
+        open(alloc, self.artery, room, area, meter)
+    }
+}

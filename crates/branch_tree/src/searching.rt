@@ -1,0 +1,58 @@
+//! The search of an artery's best timing.
+
+ghost use Rattle.std.specs.Prelude.{◌≡◌, IfOk, IfSome, IsSome};
+ghost use Rattle.progression.specs.Good.{Good};
+ghost use Rattle.branch_and_bound.specs.Opening.{IsBelow};
+ghost use Rattle.branch_tree.specs.Searches.{IsSearch, Tells, IsCertifiable, HasSite, plan_of};
+
+use crate::found::Found;
+use crate::relaxed::{Relaxed, make_room};
+use crate::site::SitePart;
+use artery_model::Artery;
+use branch_and_bound as engine;
+use narrow_fraction::Memory;
+use std::alloc::Global;
+use time_space::Timing;
+
+/// The timing without its value.
+fn timing_of(incumbent: Option<engine::Incumbent<Timing>>) -> Option<Timing>
+    ensures { result ≡ plan_of incumbent }
+{
+    match incumbent {
+        Some(best) => Some(best.timing),
+        None => None,
+    }
+}
+
+/// The engine's answer, as an artery's.
+fn found_of(found: engine::Found<Timing, SitePart>) -> Found
+    ensures { result ≡ record { verdict = found.verdict; nodes = found.nodes; timing = plan_of found.incumbent; bound = found.bound; spent = found.spent } }
+{
+    Found {
+        verdict: found.verdict,
+        nodes: found.nodes,
+        timing: timing_of(found.incumbent),
+        bound: found.bound,
+        spent: found.spent,
+    }
+}
+
+/// Searches for the artery's best timing: the root box is opened first, and then, while a waiting box has a bound of more
+/// than the best weighted band, the one with the greatest bound is split and its two parts are opened.
+///
+/// A unit of work is a box that is opened or a pivot. The search stops where all units of the limit are spent and one more is
+/// wanted, or at the first number that leaves 128 bits. A limit of at least 1 has to be there. The error is want of memory.
+pub fn search(alloc: Global, artery: &Artery, limit: Option<u64>) -> Result<Found, Memory>
+    requires limited { IsSome limit }
+    requires limit { IsBelow 0 limit }
+    ensures answer { IfOk result (λ found. IsSearch artery.now limit found) }
+    ensures good { IfOk result (λ found. IfSome found.timing (λ plan. Good artery.now plan)) }
+    ensures tells { IfOk result (λ found. Tells artery.now found.timing found.bound found.verdict) }
+    ensures certifiable { IfOk result (λ found. IsCertifiable found) }
+    ensures site { IfOk result (λ found. HasSite artery.now found.verdict) }
+{
+    let relaxed = Relaxed { artery };
+    let mut room = make_room(alloc, artery)?;
+    let found = engine::search(alloc, &relaxed, &mut room, limit)?;
+    Ok(found_of(found))
+}

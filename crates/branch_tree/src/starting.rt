@@ -1,0 +1,81 @@
+//! The leaf that bounds the root before any pivot.
+
+ghost use Rattle.std.specs.Prelude.{◌≡◌, ◌++◌, [], ◌∷◌, None, IfOk, OnOk};
+ghost use Rattle.linear_model.specs.Boxes.{IsBoxOf, root_box};
+ghost use Rattle.loop_rows.specs.Weights.{leaf_fault};
+ghost use Rattle.dual_leaf.specs.Leaves.{multiplier};
+ghost use Rattle.branch_tree.specs.LeafRows.{sum_of};
+ghost use Rattle.branch_tree.specs.Starts as starts;
+ghost use Rattle.branch_tree.specs.Starts.{start_bound};
+ghost use Rattle.branch_tree.specs.Relaxed.{IsStartLeaf, CoversBox};
+
+use artery_model::Artery;
+use loop_rows::{SumFault, leaf_sum};
+use named_row::{Leaf, Place, RowId, Weight};
+use narrow_fraction::{Frac, Memory};
+use search_box::SearchBox;
+use std::alloc::Global;
+
+/// One more row of the first wait in a family.
+fn push_row(list: &mut Vec<Weight>, family: u8, by: Frac) -> Result<(), Memory>
+    ensures { OnOk result (list.new.items ≡ list.old.items ++ record { row = record { family = family; index = 1 }; by = by } ∷ []) }
+{
+    let row = RowId { family, index: 1 };
+    match list.push(Weight { row, by }) {
+        Ok(()) => Ok(()),
+        Err(_) => Err(Memory),
+    }
+}
+
+/// The same, unless its multiplier is 0.
+fn push_multiplier(list: &mut Vec<Weight>, family: u8, by: Frac) -> Result<(), Memory>
+    ensures { OnOk result (list.new.items ≡ list.old.items ++ multiplier (record { family = family; index = 1 }) by) }
+{
+    if by == Frac::whole(0) {
+        return Ok(());
+    }
+    push_row(list, family, by)
+}
+
+/// The rows of the first waits, the inbound one as often as the ratio says.
+fn first_waits(alloc: Global, artery: &Artery) -> Result<Leaf, Memory>
+    ensures { IfOk result (λ leaf. IsStartLeaf artery.now leaf) }
+{
+    let mut multipliers = Vec::new(alloc);
+    push_row(&mut multipliers, 1, Frac::whole(1))?;
+    push_multiplier(&mut multipliers, 2, artery.ratio())?;
+    Ok(Leaf { multipliers })
+}
+
+/// The bound of the sum of these rows, which fits.
+fn first_bound(
+    alloc: Global,
+    artery: &Artery,
+    area: &SearchBox,
+    leaf: &Leaf,
+) -> Result<Frac, Memory>
+    requires boxed { IsBoxOf artery.now area.now }
+    requires fits { leaf_fault artery.now area.now leaf.now.multipliers.items ≡ None }
+    ensures { IfOk result (λ bound. bound ≡ (sum_of artery.now area.now leaf.now.multipliers.items).bound) }
+{
+    match leaf_sum(alloc, artery, area, leaf) {
+        Ok(sum) => Ok(sum.get(Place::Bound)),
+        Err(SumFault::Memory) => Err(Memory),
+        Err(_) => unreachable!(),
+    }
+}
+
+/// The leaf that bounds the root box before any pivot, and its bound: at each first signal a wait and its band fit into the
+/// green.
+pub fn start_leaf(alloc: Global, artery: &Artery) -> Result<(Leaf, Frac), Memory>
+    ensures leaf { IfOk result (λ start. IsStartLeaf artery.now start.0) }
+    ensures bound { IfOk result (λ start. start.1 ≡ start_bound artery.now) }
+    ensures covers { IfOk result (λ start. CoversBox artery.now (root_box artery.now) start.0 start.1) }
+{
+    // its contract says that the artery is valid
+    let _ = artery.head();
+    let area = SearchBox::root(alloc, artery)?;
+    let leaf = first_waits(alloc, artery)?;
+    let bound = first_bound(alloc, artery, &area, &leaf)?;
+    Ok((leaf, bound))
+}

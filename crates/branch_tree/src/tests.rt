@@ -1,0 +1,206 @@
+//! Searches of two signals: 100 parts, reds of 50, a cycle of 100 seconds, 36 kilometres an hour, one link of the same length
+//! each way. At 500 metres both bands are the whole green. At 250 metres the block sum is 0 or 1, and they share it. The root
+//! of the shorter artery takes 4 units, its low part 8 and its high part 9.
+
+ghost use Rattle.std.specs.Prelude.{◌<◌, IfOk};
+ghost use Rattle.branch_tree.specs.Searches.{IsCertifiable};
+
+use crate::{Found, Stop, TreeNode, Verdict, certificate_of, search};
+use artery_model::{Artery, Head, Link, Pair, Signal, Text, Units};
+use certificate_checker::check;
+use named_row::RowId;
+use narrow_fraction::Frac;
+use std::alloc::Global;
+use std::rt::HostRuntime;
+use std::test::Fail;
+use time_space::value;
+
+fn pair(number: i64) -> Pair {
+    Pair {
+        least: Frac::whole(number),
+        most: Frac::whole(number),
+    }
+}
+
+fn signal(alloc: Global, name: &str, red: u32) -> Result<Signal, Fail> {
+    Ok(Signal {
+        name: Text::new(alloc, name).ok().ok_or("no memory")?,
+        red,
+        left_out: 0,
+        left_in: 0,
+        patterns: [true, false, false, false],
+        clear_out: 0,
+        clear_in: 0,
+    })
+}
+
+pub(crate) fn artery(alloc: Global, red: u32, distance: u32) -> Result<Artery, Fail> {
+    let head = Head {
+        name: None,
+        units: Units::Metric,
+        parts: 100,
+        cycle: pair(100),
+        ratio: Frac::whole(1),
+    };
+    let signals = vec![in alloc; signal(alloc, "A", red)?, signal(alloc, "B", red)?]?;
+    let links = vec![in alloc;
+        Link {
+            distance_out: distance,
+            distance_in: distance,
+            speed_out: pair(36),
+            speed_in: pair(36),
+            change_out: None,
+            change_in: None,
+        },
+    ]?;
+    match Artery::new(alloc, head, signals, links) {
+        Ok(artery) => Ok(artery),
+        Err(_) => Err("no artery".into()),
+    }
+}
+
+pub(crate) fn fraction(num: i128, den: i128) -> Result<Frac, Fail> {
+    Ok(Frac::new(num, den).ok().ok_or("no fraction")?)
+}
+
+fn searched(alloc: Global, artery: &Artery, limit: u64) -> Result<Found, Fail>
+    requires { 0 < limit }
+    ensures { IfOk result (λ found. IsCertifiable found) }
+{
+    match search(alloc, artery, Some(limit)) {
+        Ok(found) => Ok(found),
+        Err(_) => Err("no memory".into()),
+    }
+}
+
+/// Whether the certificate of an answer is accepted.
+fn is_accepted(alloc: Global, artery: &Artery, found: &Found) -> bool
+    requires { IsCertifiable found.now }
+{
+    match certificate_of(alloc, artery, found) {
+        Ok(certificate) => check(alloc, artery, &certificate).is_ok(),
+        Err(_) => false,
+    }
+}
+
+fn is_best(found: &Found) -> bool {
+    matches!(&found.verdict, Verdict::Best)
+}
+
+fn is_none(found: &Found) -> bool {
+    matches!(&found.verdict, Verdict::NoTiming)
+}
+
+/// The units at a stop by work, and 0 for any other end.
+fn units(found: &Found) -> u64 {
+    match &found.verdict {
+        Verdict::Stopped(Stop::Work { spent }) => *spent,
+        _ => 0,
+    }
+}
+
+/// The value of the timing, and -1 where there is none.
+fn band(artery: &Artery, found: &Found) -> Frac {
+    match &found.timing {
+        Some(timing) => value(artery, timing),
+        None => Frac::whole(-1),
+    }
+}
+
+#[test]
+fn the_whole_green_is_best(rt: HostRuntime) -> Result<(), Fail> {
+    let alloc = rt.alloc();
+    let artery = artery(alloc, 50, 500)?;
+    let found = searched(alloc, &artery, 1000)?;
+    assert!(rt; is_best(&found));
+    assert!(rt; found.bound == Frac::whole(1));
+    assert!(rt; band(&artery, &found) == Frac::whole(1));
+    Ok(())
+}
+
+#[test]
+fn a_shared_green_is_best(rt: HostRuntime) -> Result<(), Fail> {
+    let alloc = rt.alloc();
+    let artery = artery(alloc, 50, 250)?;
+    let half = fraction(1, 2)?;
+    let found = searched(alloc, &artery, 21)?;
+    assert!(rt; is_best(&found));
+    assert!(rt; found.bound == half);
+    assert!(rt; band(&artery, &found) == half);
+    assert!(rt; found.spent == 21);
+    assert!(rt; found.nodes.len() == 3);
+    assert!(rt; is_accepted(alloc, &artery, &found));
+    Ok(())
+}
+
+#[test]
+fn work_runs_out(rt: HostRuntime) -> Result<(), Fail> {
+    let alloc = rt.alloc();
+    let artery = artery(alloc, 50, 250)?;
+    let one = Frac::whole(1);
+    let high = searched(alloc, &artery, 20)?;
+    assert!(rt; units(&high) == 20);
+    assert!(rt; high.bound == one);
+    assert!(rt; band(&artery, &high) == fraction(1, 2)?);
+    let low = searched(alloc, &artery, 4)?;
+    assert!(rt; units(&low) == 4);
+    assert!(rt; low.bound == one);
+    assert!(rt; low.timing.is_none());
+    let root = searched(alloc, &artery, 1)?;
+    assert!(rt; units(&root) == 1);
+    assert!(rt; root.bound == one);
+    assert!(rt; root.timing.is_none());
+    assert!(rt; is_accepted(alloc, &artery, &root));
+    Ok(())
+}
+
+/// Whether a node is a waiting leaf of the first waits' rows, each once.
+fn is_first_waits(node: &TreeNode) -> bool {
+    let one = Frac::whole(1);
+    match node {
+        TreeNode::Waiting { leaf } => match leaf.multipliers.as_slice() {
+            [outbound, inbound] => {
+                outbound.row
+                    == RowId {
+                        family: 1,
+                        index: 1,
+                    }
+                    && outbound.by == one
+                    && inbound.row
+                        == RowId {
+                            family: 2,
+                            index: 1,
+                        }
+                    && inbound.by == one
+            }
+            _ => false,
+        },
+        _ => false,
+    }
+}
+
+#[test]
+fn an_unfinished_root_has_the_start_leaf(rt: HostRuntime) -> Result<(), Fail> {
+    let alloc = rt.alloc();
+    let artery = artery(alloc, 50, 250)?;
+    let found = searched(alloc, &artery, 1)?;
+    match found.nodes.as_slice() {
+        [node] => assert!(rt; is_first_waits(node)),
+        _ => return Err("not one node".into()),
+    }
+    Ok(())
+}
+
+#[test]
+fn long_reds_leave_no_timing(rt: HostRuntime) -> Result<(), Fail> {
+    let alloc = rt.alloc();
+    let artery = artery(alloc, 80, 250)?;
+    let found = searched(alloc, &artery, 5)?;
+    assert!(rt; is_none(&found));
+    assert!(rt; found.timing.is_none());
+    let short = searched(alloc, &artery, 4)?;
+    assert!(rt; units(&short) == 4);
+    assert!(rt; short.bound == fraction(2, 5)?);
+    assert!(rt; short.timing.is_none());
+    Ok(())
+}

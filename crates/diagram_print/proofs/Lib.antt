@@ -1,0 +1,4 @@
+pub mod ColumnNames
+pub mod RowNames
+pub mod Sizes
+pub mod Spans

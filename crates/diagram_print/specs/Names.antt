@@ -1,0 +1,37 @@
+-- The names of rows and columns, as they are printed.
+use Rattle.std.specs.Prelude.{ℕ, List, [], ◌++◌, map, codes, slice_index_or}
+use Rattle.std.specs.Fmt.{decimal}
+use Rattle.progression.specs.declared.parts.Dir.TheVariants.{Outbound, Inbound}
+use Rattle.progression.specs.Columns.{Column, BandOf, Frequency, WaitOf, RunOf, ShiftOf, columns}
+use Rattle.named_row.specs.declared.names.RowId.{RowId}
+use Rattle.named_row.specs.declared.names.Place.{Place}
+use Rattle.named_row.specs.declared.names.Place.TheVariants.{Cell, Bound}
+use Rattle.plan_text.specs.Words.{line_of}
+use Rattle.plan_text.specs.CertificateText.{row_words}
+
+-- a row, as certificates name it
+abbrev pub row_text : RowId → List ℕ
+row_text row = line_of (row_words row)
+
+-- a name with a number
+abbrev pub numbered : List ℕ → ℕ → List ℕ
+numbered name number = name ++ (codes " " ++ decimal number)
+
+-- a column; `out` or `in` is its direction, and a number that of its signal or link
+abbrev pub column_name : Column → List ℕ
+column_name (BandOf Outbound) = codes "b_out"
+column_name (BandOf Inbound) = codes "b_in"
+column_name Frequency = codes "z"
+column_name (WaitOf Outbound i) = numbered (codes "w_out") i
+column_name (WaitOf Inbound i) = numbered (codes "w_in") i
+column_name (RunOf Outbound i) = numbered (codes "y_out") i
+column_name (RunOf Inbound i) = numbered (codes "y_in") i
+column_name (ShiftOf i) = numbered (codes "s") i
+
+-- the column with this number, from 0, among those of so many signals
+abbrev pub column_text : ℕ → ℕ → List ℕ
+column_text signals number = slice_index_or (map column_name (columns signals)) number []
+
+abbrev pub place_text : ℕ → Place → List ℕ
+place_text signals (Cell number) = column_text signals number
+place_text signals Bound = codes "bound"

@@ -1,0 +1,79 @@
+-- The lines of what a search of an artery found.
+use Rattle.std.specs.Prelude.{ℕ, List, ◌++◌, flat_map, codes, Option, None, Some}
+use Rattle.std.specs.Fmt.{decimal, signed_decimal}
+use Rattle.ratio.specs.Rational.{ℚ}
+use Rattle.quantity_text.specs.Exact.{exact_spelling}
+use Rattle.quantity_text.specs.Decimal.{decimal_spelling}
+use Rattle.progression.specs.Street.{Street, count}
+use Rattle.progression.specs.Plan.{Plan}
+use Rattle.progression.specs.Best.{weighted_band}
+use Rattle.linear_model.specs.Boxes.{Area, Span, Ranks}
+use Rattle.branch_and_bound.specs.declared.found.Site.{Site}
+use Rattle.branch_and_bound.specs.declared.found.Stop.{Stop}
+use Rattle.branch_and_bound.specs.declared.found.Stop.TheVariants.{Work, Wide}
+use Rattle.branch_and_bound.specs.declared.found.Verdict.{Verdict}
+use Rattle.branch_and_bound.specs.declared.found.Verdict.TheVariants.{Best, NoTiming, Stopped}
+use Rattle.branch_tree.specs.declared.site.SitePart.{SitePart}
+use Rattle.branch_tree.specs.declared.found.Found.{Found}
+use Rattle.diagram_print.specs.Sites.{site_line, operands_line}
+
+-- ---- why a search stopped
+-- the least and the greatest block sum of a link, and the least and the greatest rank of a signal's shifts
+abbrev pub span_text : Span → List ℕ
+span_text s = codes " " ++ (signed_decimal s.least ++ (codes ":" ++ signed_decimal s.most))
+
+abbrev pub ranks_text : Ranks → List ℕ
+ranks_text r = codes " " ++ (decimal r.least ++ (codes ":" ++ decimal r.most))
+
+abbrev pub loops_line : Area → List ℕ
+loops_line box = codes "loops" ++ (flat_map span_text box.loops ++ codes "\n")
+
+abbrev pub shifts_line : Area → List ℕ
+shifts_line box = codes "shifts" ++ (flat_map ranks_text box.turns ++ codes "\n")
+
+abbrev pub pivots_line : ℕ → List ℕ
+pivots_line pivots = codes "pivots " ++ (decimal pivots ++ codes "\n")
+
+-- the box, how many pivots were made on it, and the operation
+abbrev pub wide_lines : ℕ → Site SitePart → List ℕ
+wide_lines signals site =
+    codes "stopped wide\n" ++ (loops_line site.area ++ (shifts_line site.area ++ (pivots_line site.pivots ++ (site_line signals site.part ++ operands_line site.part))))
+
+abbrev pub stop_lines : ℕ → Stop SitePart → List ℕ
+stop_lines signals (Work spent) = codes "stopped work " ++ (decimal spent ++ codes "\n")
+stop_lines signals (Wide site) = wide_lines signals site
+
+-- ---- the timing
+-- a name, a fraction, and the fraction cut after so many decimal places
+abbrev pub measure_line : List ℕ → ℚ → ℕ → List ℕ
+measure_line name x places = name ++ (codes " " ++ (exact_spelling x ++ (codes " = " ++ (decimal_spelling x places ++ codes "\n"))))
+
+abbrev pub weighted_line : Street → Plan → List ℕ
+weighted_line a t = measure_line (codes "weighted") (weighted_band a t) 6
+
+abbrev pub timing_lines : Street → Plan → List ℕ
+timing_lines a t = weighted_line a t
+
+-- ---- the report
+abbrev pub bound_line : ℚ → List ℕ
+bound_line bound = codes "bound " ++ (exact_spelling bound ++ codes "\n")
+
+abbrev pub found_lines : Street → Option Plan → List ℕ
+found_lines a None = codes "no timing\n"
+found_lines a (Some t) = timing_lines a t
+
+-- under a verdict that claims a best timing there is one
+abbrev pub best_lines : Street → Option Plan → List ℕ
+best_lines a None = codes "verdict best\n"
+best_lines a (Some t) = codes "verdict best\n" ++ timing_lines a t
+
+abbrev pub open_lines : Street → Option Plan → ℚ → Stop SitePart → List ℕ
+open_lines a timing bound stop = codes "verdict open\n" ++ (stop_lines (count a) stop ++ (bound_line bound ++ found_lines a timing))
+
+abbrev pub verdict_lines : Street → Option Plan → ℚ → Verdict SitePart → List ℕ
+verdict_lines a timing bound Best = best_lines a timing
+verdict_lines a timing bound NoTiming = codes "verdict none\n"
+verdict_lines a timing bound (Stopped stop) = open_lines a timing bound stop
+
+abbrev pub report_lines : Street → Found → List ℕ
+report_lines a found = verdict_lines a found.timing found.bound found.verdict
