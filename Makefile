@@ -1,11 +1,12 @@
 # make             builds the program
 # make example     builds it and runs a shipped example
 # make test        proves everything and runs every test
-# make bench       times the program, and fractions beside plain Rust
+# make bench       times the program, and fractions and pivots beside plain Rust
 # make install     puts the program under PREFIX (/usr/local)
 PREFIX ?= /usr/local
 PROGRAM = crates/maxband/out/maxband
 FRACTIONS = crates/fraction_bench/out/fraction_bench
+PIVOTS = crates/pivot_bench/out/pivot_bench
 SOURCES = crates.txt $(wildcard crates/*/src/*.rt crates/*/specs/*.antt crates/*/proofs/*.antt)
 
 all: $(PROGRAM)
@@ -17,17 +18,22 @@ $(PROGRAM): $(SOURCES)
 	test -x $@
 
 example: $(PROGRAM)
-	$(PROGRAM) hold examples/downtown.toml examples/downtown-good.txt
+	$(PROGRAM) solve examples/market.toml market-certificate.txt
 
 test:
 	rt ci
 
-bench: $(PROGRAM) $(FRACTIONS)
+bench: $(PROGRAM) $(FRACTIONS) $(PIVOTS)
 	scripts/bench
 
 $(FRACTIONS): $(SOURCES)
 	rm -f $@
 	cd crates/fraction_bench && rt run >/dev/null
+	test -x $@
+
+$(PIVOTS): $(SOURCES)
+	rm -f $@
+	cd crates/pivot_bench && rt run -- 4 1 >/dev/null
 	test -x $@
 
 install: $(PROGRAM)

@@ -1,2 +1,17 @@
 pub mod Holding
+pub mod Later
+pub mod Files
+pub mod HoldOnce
+pub mod ShowOnce
+pub mod CheckOnce
 pub mod OneAnswer
+pub mod ColumnNames
+pub mod RowNames
+pub mod CheckEnded
+pub mod Works
+pub mod Delivered
+pub mod Solved
+pub mod SolveFound
+pub mod Working
+pub mod Running
+pub mod SolveOnce

@@ -1,7 +1,12 @@
+pub mod Work
 pub mod Command
 pub mod Status
+pub mod Outside
 pub mod Lines
+pub mod CheckLines
 pub mod Turns
 pub mod Hold
 pub mod Show
+pub mod Check
+pub mod Solve
 pub mod Run

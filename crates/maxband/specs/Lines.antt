@@ -83,9 +83,9 @@ named file first second = if file == 1 then first else second
 
 -- the lines where a rule is broken or a file's turn ends the run
 abbrev pub end_lines : List ℕ → List ℕ → Cause → List ℕ
-end_lines artery timing (cause.Refused r) = refused_line r
-end_lines artery timing (cause.BadText b) = bad_text_line b
-end_lines artery timing (cause.Fails f) = fails_line f
-end_lines artery timing (cause.ReadFault file) = cannot_read_line (named file artery timing)
-end_lines artery timing (cause.TooLong file) = too_long_line (named file artery timing)
-end_lines artery timing _ = []
+end_lines first second (cause.Refused r) = refused_line r
+end_lines first second (cause.BadText b) = bad_text_line b
+end_lines first second (cause.Fails f) = fails_line f
+end_lines first second (cause.ReadFault file) = cannot_read_line (named file first second)
+end_lines first second (cause.TooLong file) = too_long_line (named file first second)
+end_lines first second _ = []

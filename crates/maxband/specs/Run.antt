@@ -1,12 +1,19 @@
--- What a run comes to: the cause of its status, what stands behind it, and by which lines the output grew.
-use Rattle.std.specs.Prelude.{◌≡◌, ℕ, List, Option, Some, None, IsSome}
+-- What a run comes to: the cause of its status, what stands behind it, what is put, and by which lines the output grew.
+use Rattle.std.specs.Prelude.{◌≡◌, ◌⊎◌, ℕ, List, Option, Some, None, IsSome}
 use Rattle.ratio.specs.Rational.{ℚ}
-use Rattle.outer_edge.specs.Taken.{Appends, AppendsFront}
-use Rattle.maxband.specs.Command.{Form, Hold, Show}
+use Rattle.progression.specs.Street.{Street}
+use Rattle.plan_text.specs.declared.certificate.Claim.{Claim}
+use Rattle.outer_edge.specs.Counts.{Rose, NoneFell, SameCounts}
+use Rattle.outer_edge.specs.Held.{SameFiles, OthersSame}
+use Rattle.maxband.specs.Outside.{Outside, Text, IsDone, IsUntouched, IsBroken}
+use Rattle.maxband.specs.Command.{Form, Hold, Show, Check, Solve}
 use Rattle.maxband.specs.Lines.{words_line, holds_lines, end_lines}
-use Rattle.maxband.specs.Turns.{FirstEnds}
+use Rattle.maxband.specs.CheckLines.{accepted_line, rejected_line}
+use Rattle.maxband.specs.Turns.{ReadsArtery, FirstEnds}
 use Rattle.maxband.specs.Hold.{Holds, HoldEnds}
 use Rattle.maxband.specs.Show.{Shows}
+use Rattle.maxband.specs.Check.{Accepts, Rejects, CheckEnds}
+use Rattle.maxband.specs.Solve.{Solves}
 use Rattle.maxband.specs.declared.cause.Cause.{Cause}
 use Rattle.maxband.specs.declared.cause.Cause.TheVariants as cause
 
@@ -22,25 +29,67 @@ ShowAnswers held before after artery cause.Done lines = Shows (held artery) line
 ShowAnswers held before after artery cause.Memory lines = ⊥
 ShowAnswers held before after artery c lines = FirstEnds (held artery) (before artery) (after artery) c × (lines ≡ end_lines artery artery c)
 
--- The answer to the words, and its lines. `held` is what the files held at entry, `before` and `after` count the failed reads of each name.
-abbrev pub Answers : (List ℕ → Option (List ℕ)) → (List ℕ → ℕ) → (List ℕ → ℕ) → Option Form → Cause → List ℕ → Type 0
-Answers held before after None c lines = (c ≡ cause.Words) × (lines ≡ words_line)
-Answers held before after (Some (Hold artery timing)) c lines = HoldAnswers held before after artery timing c lines
-Answers held before after (Some (Show artery)) c lines = ShowAnswers held before after artery c lines
+-- the answer of `check`, and its lines
+abbrev pub CheckAnswers : (List ℕ → Option (List ℕ)) → (List ℕ → ℕ) → (List ℕ → ℕ) → List ℕ → List ℕ → Cause → List ℕ → Type 0
+CheckAnswers held before after artery certificate cause.Done lines = (claim : Claim) × Accepts (held artery) (held certificate) claim × (lines ≡ accepted_line claim)
+CheckAnswers held before after artery certificate (cause.Rejected r) lines =
+    (signals : ℕ) × Rejects (held artery) (held certificate) signals r × (lines ≡ rejected_line signals r)
+CheckAnswers held before after artery certificate cause.Memory lines = ⊥
+CheckAnswers held before after artery certificate c lines = CheckEnds held before after artery certificate c × (lines ≡ end_lines artery certificate c)
 
--- After a write that failed: the answer that was reached, of whose lines a front went out.
-pub record Broke (held : List ℕ → Option (List ℕ)) (before after : List ℕ → ℕ) (form : Option Form) (taken now : Option (List ℕ)) : Type 0 where
+-- what is found is written, and its certificate is put in the file of this name
+abbrev pub SolveFinds : Option (List ℕ) → List ℕ → ℕ → Cause → List ℕ → Option Text → Type 0
+SolveFinds held certificate work c lines put = (text : List ℕ) × Solves held work c lines text × (put ≡ Some (record { name = certificate; bytes = text }))
+
+-- the answer of `solve`, its lines, and what it puts
+abbrev pub SolveAnswers : (List ℕ → Option (List ℕ)) → (List ℕ → ℕ) → (List ℕ → ℕ) → List ℕ → List ℕ → ℕ → Cause → List ℕ → Option Text → Type 0
+SolveAnswers held before after artery certificate work cause.Done lines put = SolveFinds (held artery) certificate work cause.Done lines put
+SolveAnswers held before after artery certificate work cause.NoTiming lines put = SolveFinds (held artery) certificate work cause.NoTiming lines put
+SolveAnswers held before after artery certificate work (cause.Stopped stop) lines put = SolveFinds (held artery) certificate work (cause.Stopped stop) lines put
+SolveAnswers held before after artery certificate work cause.Memory lines put = ⊥
+SolveAnswers held before after artery certificate work c lines put =
+    FirstEnds (held artery) (before artery) (after artery) c × (lines ≡ end_lines artery certificate c) × (put ≡ None)
+
+-- The answer to the words, its lines, and what it puts. `held` is what the files held at entry, `before` and `after` count the failed reads of each name.
+abbrev pub Answers : (List ℕ → Option (List ℕ)) → (List ℕ → ℕ) → (List ℕ → ℕ) → Option Form → Cause → List ℕ → Option Text → Type 0
+Answers held before after None c lines put = (c ≡ cause.Words) × (lines ≡ words_line) × (put ≡ None)
+Answers held before after (Some (Hold artery timing)) c lines put = HoldAnswers held before after artery timing c lines × (put ≡ None)
+Answers held before after (Some (Show artery)) c lines put = ShowAnswers held before after artery c lines × (put ≡ None)
+Answers held before after (Some (Check artery certificate)) c lines put = CheckAnswers held before after artery certificate c lines × (put ≡ None)
+Answers held before after (Some (Solve artery certificate work)) c lines put = SolveAnswers held before after artery certificate work c lines put
+
+-- an answer that was reached, after which the put or a write failed
+pub record Breaks (before now : Outside) (form : Option Form) : Type 0 where
   pub reached : Cause
   pub lines : List ℕ
-  pub answer : Answers held before after form reached lines
-  pub front : AppendsFront taken now lines
+  pub put : Option Text
+  pub answer : Answers before.holds before.reads now.reads form reached lines put
+  pub broken : IsBroken before now lines put
 
--- how the run ended, and what the output took
-abbrev pub Ends : (List ℕ → Option (List ℕ)) → (List ℕ → ℕ) → (List ℕ → ℕ) → Option Form → Option (List ℕ) → Option (List ℕ) → Cause → Type 0
-Ends held before after form taken now cause.WriteFault = Broke held before after form taken now
-Ends held before after form taken now cause.Memory = now ≡ taken
-Ends held before after form taken now c = (lines : List ℕ) × Answers held before after form c lines × Appends taken now lines
+-- How the run ended, from the outside at entry to the outside at its end.
+abbrev pub Ends : Outside → Outside → Option Form → Cause → Type 0
+Ends before now form cause.WriteFault = Breaks before now form
+Ends before now form cause.Memory = IsUntouched before now
+Ends before now form c = (lines : List ℕ) × (put : Option Text) × Answers before.holds before.reads now.reads form c lines put × IsDone before now lines put
 
+-- ---- in every case
+-- no file changes, but for `solve` the one that it names for its certificate
+abbrev pub FilesKept : Option Form → (List ℕ → Option (List ℕ)) → (List ℕ → Option (List ℕ)) → Type 0
+FilesKept None before now = SameFiles before now
+FilesKept (Some (Hold artery timing)) before now = SameFiles before now
+FilesKept (Some (Show artery)) before now = SameFiles before now
+FilesKept (Some (Check artery certificate)) before now = SameFiles before now
+FilesKept (Some (Solve artery certificate work)) before now = OthersSame before now certificate
+
+-- no count of failed puts changes, and for `solve` none falls
+abbrev pub PutsKept : Option Form → (List ℕ → ℕ) → (List ℕ → ℕ) → Type 0
+PutsKept None before now = SameCounts before now
+PutsKept (Some (Hold artery timing)) before now = SameCounts before now
+PutsKept (Some (Show artery)) before now = SameCounts before now
+PutsKept (Some (Check artery certificate)) before now = SameCounts before now
+PutsKept (Some (Solve artery certificate work)) before now = NoneFell before now
+
+-- ---- laws
 -- an answer that neither a fault nor want of memory gave
 abbrev pub IsReached : Cause → Type 0
 IsReached (cause.ReadFault file) = ⊥
@@ -48,14 +97,40 @@ IsReached cause.WriteFault = ⊥
 IsReached cause.Memory = ⊥
 IsReached _ = Unit {0}
 
--- the files that the words name tell their bytes
+-- an answer that a search gave
+abbrev pub IsVerdict : Cause → Type 0
+IsVerdict cause.Done = Unit {0}
+IsVerdict cause.NoTiming = Unit {0}
+IsVerdict (cause.Stopped stop) = Unit {0}
+IsVerdict _ = ⊥
+
+-- the files that the words name to be read tell their bytes
 abbrev pub AreTold : (List ℕ → Option (List ℕ)) → Option Form → Type 0
 AreTold held None = Unit {0}
 AreTold held (Some (Hold artery timing)) = IsSome (held artery) × IsSome (held timing)
 AreTold held (Some (Show artery)) = IsSome (held artery)
+AreTold held (Some (Check artery certificate)) = IsSome (held artery) × IsSome (held certificate)
+AreTold held (Some (Solve artery certificate work)) = IsSome (held artery)
 
--- What files that tell their bytes hold, and the words, leave one answer: so each status but that of a fault or of want of memory comes exactly by its cause.
+-- Two answers to the same words are one. Two of `solve` may both be verdicts, since of several best timings a search may find any.
+abbrev pub Agree : Option Form → Cause → List ℕ → Cause → List ℕ → Type 0
+Agree None c x d y = (c ≡ d) × (x ≡ y)
+Agree (Some (Hold artery timing)) c x d y = (c ≡ d) × (x ≡ y)
+Agree (Some (Show artery)) c x d y = (c ≡ d) × (x ≡ y)
+Agree (Some (Check artery certificate)) c x d y = (c ≡ d) × (x ≡ y)
+Agree (Some (Solve artery certificate work)) c x d y = ((c ≡ d) × (x ≡ y)) ⊎ (IsVerdict c × IsVerdict d)
+
+-- What files that tell their bytes hold, and the words, leave one answer: so each status but 0, 1 and 2 of `solve`, that of a fault and that of want of
+-- memory comes exactly by its cause.
 abbrev pub OneAnswer : Type 0
-OneAnswer = (held : List ℕ → Option (List ℕ)) (before after : List ℕ → ℕ) (form : Option Form) (c d : Cause) (x y : List ℕ)
+OneAnswer = (held : List ℕ → Option (List ℕ)) (before after : List ℕ → ℕ) (form : Option Form) (c d : Cause) (x y : List ℕ) (p q : Option Text)
     → AreTold held form → IsReached c → IsReached d
-    → Answers held before after form c x → Answers held before after form d y → (c ≡ d) × (x ≡ y)
+    → Answers held before after form c x p → Answers held before after form d y q → Agree form c x d y
+
+-- Where the file tells bytes that describe an artery, and no read of it, no put of the certificate and no write failed, `solve` ends with a verdict or by
+-- want of memory.
+abbrev pub SolveIsComplete : Type 0
+SolveIsComplete = (before now : Outside) (artery certificate : List ℕ) (work : ℕ) (a : Street) (c : Cause)
+    → IsSome (before.holds artery) → ReadsArtery (before.holds artery) a
+    → ¬ Rose (before.reads artery) (now.reads artery) → ¬ Rose (before.puts certificate) (now.puts certificate) → ¬ Rose before.writes now.writes
+    → Ends before now (Some (Solve artery certificate work)) c → IsVerdict c ⊎ (c ≡ cause.Memory)

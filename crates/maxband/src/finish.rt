@@ -1,30 +1,60 @@
-//! The end of every run: its lines go out.
+//! The end of every run: a text is put, and the lines go out.
 
-ghost use Rattle.std.specs.Prelude.{◌≡◌, ◌≤◌, ◌⊎◌, IsErrOf, OnOk, OnErr};
-ghost use Rattle.outer_edge.specs.Counts.{Rose};
+ghost use Rattle.std.specs.Prelude.{◌≡◌, ◌≤◌, IsErrOf, OnOk, option_map};
+ghost use Rattle.outer_edge.specs.Counts.{Rose, SameCounts};
 ghost use Rattle.outer_edge.specs.Taken.{Appends, AppendsFront};
-ghost use Rattle.maxband.specs.declared.cause.Cause.{Cause};
+ghost use Rattle.maxband.specs.Outside.{outside, text_of, IsDone, IsUntouched, IsBroken, OthersKept, PutsCounted};
 
-use crate::cause::Cause;
-use outer_edge::{Sink, write_whole};
+use outer_edge::{FileEnd, Files, Sink, write_whole};
 
-/// Writes the whole of an answer's lines, for which room is made first.
+/// A text that is to be put into the file of this name.
+#[derive(Drop)]
+pub struct Put<'a> {
+    pub name: &'a str,
+    pub bytes: Vec<u8>,
+}
+
+/// Why an answer isn't delivered.
+#[derive(Clone, Copy, Debug, PartialEq, Eq)]
+pub enum Undelivered {
+    /// The put or a write failed, and was counted.
+    Broken,
+    /// Memory was wanting: no file changed, and nothing was written.
+    Memory,
+}
+
+/// Puts the text where there is one, and then writes the whole of the lines, for which room is made before the put.
 ///
-/// The error is `WriteFault`, after which a front of the lines went out, or `Memory`, after which
-/// nothing did.
-pub fn write_lines<K: Sink>(out: &mut K, lines: &[u8]) -> Result<(), Cause>
-    ensures whole { OnOk result (Appends (K.taken out.old) (K.taken out.new) lines.now) }
-    ensures front { IsErrOf result Cause.WriteFault → AppendsFront (K.taken out.old) (K.taken out.new) lines.now }
-    ensures fault { IsErrOf result Cause.WriteFault → Rose (K.faults out.old) (K.faults out.new) }
-    ensures nothing { IsErrOf result Cause.Memory → K.taken out.new ≡ K.taken out.old }
-    ensures errors { OnErr result (IsErrOf result Cause.WriteFault ⊎ IsErrOf result Cause.Memory) }
-    ensures faults { K.faults out.old ≤ K.faults out.new }
+/// After a put that failed nothing was written, and its file may hold anything. After a write that failed the text was put,
+/// and a front of the lines went out.
+pub fn deliver<F: Files, K: Sink>(
+    files: &mut F,
+    out: &mut K,
+    put: &Option<Put<'_>>,
+    lines: &[u8],
+) -> Result<(), Undelivered>
+    ensures done { OnOk result (IsDone (outside (F.holds files.old) (F.read_faults files.old) (F.put_faults files.old) (K.taken out.old) (K.faults out.old)) (outside (F.holds files.new) (F.read_faults files.new) (F.put_faults files.new) (K.taken out.new) (K.faults out.new)) lines.now (option_map text_of put.now)) }
+    ensures untouched { IsErrOf result Undelivered.Memory → IsUntouched (outside (F.holds files.old) (F.read_faults files.old) (F.put_faults files.old) (K.taken out.old) (K.faults out.old)) (outside (F.holds files.new) (F.read_faults files.new) (F.put_faults files.new) (K.taken out.new) (K.faults out.new)) }
+    ensures broken { IsErrOf result Undelivered.Broken → IsBroken (outside (F.holds files.old) (F.read_faults files.old) (F.put_faults files.old) (K.taken out.old) (K.faults out.old)) (outside (F.holds files.new) (F.read_faults files.new) (F.put_faults files.new) (K.taken out.new) (K.faults out.new)) lines.now (option_map text_of put.now) }
+
+    // In every case.
+    ensures others { OthersKept (option_map text_of put.now) (F.holds files.old) (F.holds files.new) }
+    ensures reads { SameCounts (F.read_faults files.old) (F.read_faults files.new) }
+    ensures puts { PutsCounted (option_map text_of put.now) (F.put_faults files.old) (F.put_faults files.new) }
+    ensures writes { K.faults out.old ≤ K.faults out.new }
 {
     if out.reserve(lines.len() as u64).is_err() {
-        return Err(Cause::Memory);
+        return Err(Undelivered::Memory);
+    }
+    if let Some(put) = put {
+        match files.put(put.name, put.bytes.as_slice()) {
+            Ok(()) => {}
+            Err(FileEnd::Failed) => return Err(Undelivered::Broken),
+            Err(FileEnd::Memory) => return Err(Undelivered::Memory),
+        }
     }
     match write_whole(out, lines) {
         Ok(()) => Ok(()),
-        Err(_) => Err(Cause::WriteFault),
+        Err(_) => Err(Undelivered::Broken),
     }
 }

@@ -52,7 +52,7 @@ fn dir_name(dir: Dir) -> &'static str
 }
 
 /// The text that names a broken rule.
-fn failing_text(alloc: Global, failing: Failing) -> Result<String, AllocError>
+pub fn failing_text(alloc: Global, failing: Failing) -> Result<String, AllocError>
     ensures { IfOk result (λ text. string_bytes text ≡ failing_text failing) }
 {
     match failing {

@@ -1,4 +1,5 @@
-//! `maxband`: tests timings of the signals of one artery against its time-space diagram.
+//! `maxband`: tests timings of the signals of one artery against its time-space diagram, and checks certificates of what
+//! is claimed of all its good timings.
 //!
 //! `run` is the program over any files and any output; `main` hands it the system's. Its contract is
 //! the program's theorem: each status has its cause, and the output grows by exactly that answer's
@@ -6,22 +7,32 @@
 #![tactic(auto)]
 
 mod cause;
+mod check;
+mod check_lines;
+#[cfg(test)]
+mod check_tests;
 mod command;
+#[cfg(test)]
+mod endless;
 mod finish;
 mod hold;
 mod lines;
 mod show;
+mod solve;
+#[cfg(test)]
+mod solve_tests;
 #[cfg(test)]
 mod tests;
 mod top;
 mod turns;
+mod work;
 
 pub use cause::{Cause, Status};
 use outer_edge::{RealFiles, RealOut};
 use std::env;
 use std::io::ErrorKind;
 use std::process::ExitCode;
-pub use top::{law_one_answer, run};
+pub use top::{law_one_answer, law_solve_is_complete, run};
 
 /// The status for words that the system doesn't give as text. `run` never answers it.
 const NO_WORDS: u8 = 12;

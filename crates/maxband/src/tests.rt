@@ -8,7 +8,7 @@ use std::alloc::{AllocError, Global};
 use std::process::Abort;
 use std::test::Fail;
 
-const ARTERY: &str = "[artery]
+pub const ARTERY: &str = "[artery]
 units = \"metric\"
 parts = 100
 cycle = [\"100\", \"100\"]
@@ -42,7 +42,7 @@ end
 ";
 
 /// Three signals with every key: the middle one has left turns and clearances, and the paces may change.
-const WIDE: &str = "[artery]
+pub const WIDE: &str = "[artery]
 units = \"metric\"
 parts = 100
 cycle = [90, 110]
@@ -100,7 +100,11 @@ const LONG: &[u8] =
 const HOLDS: &[u8] = b"holds\nweighted 1\n";
 
 /// A text with some of its lines, counted from 1, replaced.
-fn with_lines(alloc: Global, text: &str, lines: &[(usize, &[u8])]) -> Result<Vec<u8>, AllocError> {
+pub fn with_lines(
+    alloc: Global,
+    text: &str,
+    lines: &[(usize, &[u8])],
+) -> Result<Vec<u8>, AllocError> {
     let mut bytes = Vec::new(alloc);
     for (index, line) in text.lines().enumerate() {
         let mut new = line.as_bytes();
@@ -115,7 +119,7 @@ fn with_lines(alloc: Global, text: &str, lines: &[(usize, &[u8])]) -> Result<Vec
     Ok(bytes)
 }
 
-fn owned(alloc: Global, words: &[&str]) -> Result<Vec<String>, AllocError> {
+pub fn owned(alloc: Global, words: &[&str]) -> Result<Vec<String>, AllocError> {
     let mut all = Vec::new(alloc);
     for word in words {
         all.push(String::from_str(alloc, word)?)?;
@@ -124,7 +128,12 @@ fn owned(alloc: Global, words: &[&str]) -> Result<Vec<String>, AllocError> {
 }
 
 /// Files and an output that never fail: no fault is answered.
-fn run_surely(alloc: Global, words: &[String], files: &mut SureFiles, out: &mut SureSink) -> Status
+pub fn run_surely(
+    alloc: Global,
+    words: &[String],
+    files: &mut SureFiles,
+    out: &mut SureSink,
+) -> Status
     ensures read { result.number ≢ 6 }
     ensures written { result.number ≢ 7 }
 {
@@ -561,6 +570,10 @@ fn words_of_no_form(rt: HostRuntime) -> Result<(), Fail> {
         &["Hold", "a.toml", "c.txt"],
         &["show"],
         &["show", "a.toml", "c.txt"],
+        &["check"],
+        &["check", "a.toml"],
+        &["check", "a.toml", "c.txt", "again"],
+        &["checks", "a.toml", "c.txt"],
         &["--help"],
     ];
     for words in rows {

@@ -1,30 +1,40 @@
 //! The turns of a command's files, one after the other.
 
-ghost use Rattle.std.specs.Prelude.{◌≡◌, ◌≤◌, IfOk, IfErr};
+ghost use Rattle.std.specs.Prelude.{◌≡◌, ◌≤◌, ◌<◌, ◌^◌, IfOk, IfErr};
 ghost use Rattle.outer_edge.specs.Counts.{NoneFell, SameCounts};
 ghost use Rattle.outer_edge.specs.Held.{SameFiles};
-ghost use Rattle.maxband.specs.Turns.{IsWithinLimit, NotRead, ReadsArtery, ReadsTiming, FirstEnds, SecondEnds};
+ghost use Rattle.maxband.specs.Turns.{IsWithinLimit, NotRead, ReadsArtery, FirstEnds, ReadsTiming, TimingEnds, ReadsCertificate, CertificateEnds};
 
 use crate::cause::Cause;
 use artery_model::{Artery, Flaw};
 use description_reader::read_artery;
 use outer_edge::{Files, ReadEnd, read_whole};
-use plan_text::{TextEnd, read_timing};
+use plan_text::{Certificate, TextEnd, read_certificate, read_timing};
 use std::alloc::Global;
 use time_space::Timing;
 
 /// The most bytes of a description or a timing.
-const LIMIT: u64 = 1_048_576;
+const TEXT_LIMIT: u64 = 1_048_576;
+
+/// The most bytes of a certificate.
+const CERTIFICATE_LIMIT: u64 = 268_435_456;
 
 /// The bytes of a file, or why its turn ends.
-fn bytes_of<F: Files>(alloc: Global, files: &mut F, name: &str, file: u8) -> Result<Vec<u8>, Cause>
-    ensures ok { IfOk result (λ bytes. IsWithinLimit (F.holds files.old name.now) bytes.items) }
-    ensures err { IfErr result (λ c. NotRead (F.holds files.old name.now) (F.read_faults files.old name.now) (F.read_faults files.new name.now) file c) }
+fn bytes_of<F: Files>(
+    alloc: Global,
+    files: &mut F,
+    name: &str,
+    limit: u64,
+    file: u8,
+) -> Result<Vec<u8>, Cause>
+    requires { limit < 2 ^ 63 }
+    ensures ok { IfOk result (λ bytes. IsWithinLimit limit (F.holds files.old name.now) bytes.items) }
+    ensures err { IfErr result (λ c. NotRead limit (F.holds files.old name.now) (F.read_faults files.old name.now) (F.read_faults files.new name.now) file c) }
     ensures files { SameFiles (F.holds files.old) (F.holds files.new) }
     ensures reads { NoneFell (F.read_faults files.old) (F.read_faults files.new) }
     ensures puts { SameCounts (F.put_faults files.old) (F.put_faults files.new) }
 {
-    match read_whole(alloc, files, name, LIMIT) {
+    match read_whole(alloc, files, name, limit) {
         Ok(bytes) => Ok(bytes),
         Err(ReadEnd::ReadFault) => Err(Cause::ReadFault { file }),
         Err(ReadEnd::TooLong) => Err(Cause::TooLong { file }),
@@ -40,7 +50,7 @@ pub fn artery_of<F: Files>(alloc: Global, files: &mut F, name: &str) -> Result<A
     ensures reads { NoneFell (F.read_faults files.old) (F.read_faults files.new) }
     ensures puts { SameCounts (F.put_faults files.old) (F.put_faults files.new) }
 {
-    let bytes = bytes_of(alloc, files, name, 1)?;
+    let bytes = bytes_of(alloc, files, name, TEXT_LIMIT, 1)?;
     match read_artery(alloc, bytes.as_slice()) {
         Ok(artery) => Ok(artery),
         Err(Flaw::Refused(refusal)) => Err(Cause::Refused(refusal)),
@@ -51,14 +61,34 @@ pub fn artery_of<F: Files>(alloc: Global, files: &mut F, name: &str) -> Result<A
 /// The timing of the second file, or why its turn ends.
 pub fn timing_of<F: Files>(alloc: Global, files: &mut F, name: &str) -> Result<Timing, Cause>
     ensures ok { IfOk result (ReadsTiming (F.holds files.old name.now)) }
-    ensures err { IfErr result (SecondEnds (F.holds files.old name.now) (F.read_faults files.old name.now) (F.read_faults files.new name.now)) }
+    ensures err { IfErr result (TimingEnds (F.holds files.old name.now) (F.read_faults files.old name.now) (F.read_faults files.new name.now)) }
     ensures files { SameFiles (F.holds files.old) (F.holds files.new) }
     ensures reads { NoneFell (F.read_faults files.old) (F.read_faults files.new) }
     ensures puts { SameCounts (F.put_faults files.old) (F.put_faults files.new) }
 {
-    let bytes = bytes_of(alloc, files, name, 2)?;
+    let bytes = bytes_of(alloc, files, name, TEXT_LIMIT, 2)?;
     match read_timing(alloc, bytes.as_slice()) {
         Ok(timing) => Ok(timing),
+        Err(TextEnd::Bad(bad)) => Err(Cause::BadText(bad)),
+        Err(TextEnd::Memory) => Err(Cause::Memory),
+    }
+}
+
+/// The certificate of the second file, or why its turn ends.
+pub fn certificate_of<F: Files>(
+    alloc: Global,
+    files: &mut F,
+    name: &str,
+) -> Result<Certificate, Cause>
+    ensures ok { IfOk result (ReadsCertificate (F.holds files.old name.now)) }
+    ensures err { IfErr result (CertificateEnds (F.holds files.old name.now) (F.read_faults files.old name.now) (F.read_faults files.new name.now)) }
+    ensures files { SameFiles (F.holds files.old) (F.holds files.new) }
+    ensures reads { NoneFell (F.read_faults files.old) (F.read_faults files.new) }
+    ensures puts { SameCounts (F.put_faults files.old) (F.put_faults files.new) }
+{
+    let bytes = bytes_of(alloc, files, name, CERTIFICATE_LIMIT, 2)?;
+    match read_certificate(alloc, bytes.as_slice()) {
+        Ok(certificate) => Ok(certificate),
         Err(TextEnd::Bad(bad)) => Err(Cause::BadText(bad)),
         Err(TextEnd::Memory) => Err(Cause::Memory),
     }

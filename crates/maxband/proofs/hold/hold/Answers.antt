@@ -1,7 +1,8 @@
-use Rattle.std.proofs.Common.{subst}
+use Rattle.std.proofs.Common.{subst, inr}
 use Rattle.std.proofs.lemmas.Result.{err_from_is_err_and}
-use Rattle.maxband.specs.Turns.{ReadsTiming}
-use Rattle.maxband.proofs.Holding.{second_later, ends_second}
+use Rattle.plan_text.specs.Reading.{timing_of}
+use Rattle.maxband.specs.Turns.{text_limit, ReadsTiming}
+use Rattle.maxband.proofs.Later.{second_later, hold_ends}
 use Rattle.maxband.proofs.hold.hold.Goals as goal
 
 pub returns-in-Ok-clause-ok : goal.returns-in-Ok-clause-ok
@@ -17,5 +18,5 @@ returns-clause-err g c =
 pub returns-in_err-timing-clause-err : goal.returns-in_err-timing-clause-err
 returns-in_err-timing-clause-err g c =
     let p = err_from_is_err_and c.from_residual-in_err-timing.result c.from_residual-in_err-timing.ensures.1 in
-    rw (p.1, p.2) (ends_second (g.F.Files.holds c.args.files.now) (g.F.Files.read_faults c.args.files.now) (g.F.Files.read_faults c.timing_of.new.files) c.args.artery.now c.args.timing.now c.in_ok-artery.artery c.in_err-timing.field-0.0 c.in_ok-artery.ensures.ok
-    (second_later _ _ _ _ _ c.in_err-timing.field-0.0 (c.in_ok-artery.ensures.files c.args.timing.now) (c.in_ok-artery.ensures.reads c.args.timing.now) c.in_err-timing.ensures.err))
+    rw (p.1, p.2) (hold_ends (g.F.Files.holds c.args.files.now) (g.F.Files.read_faults c.args.files.now) (g.F.Files.read_faults c.timing_of.new.files) c.args.artery.now c.args.timing.now c.in_err-timing.field-0.0
+    (inr (c.in_ok-artery.artery, c.in_ok-artery.ensures.ok, second_later text_limit timing_of _ _ _ _ _ c.in_err-timing.field-0.0 (c.in_ok-artery.ensures.files c.args.timing.now) (c.in_ok-artery.ensures.reads c.args.timing.now) c.in_err-timing.ensures.err)))

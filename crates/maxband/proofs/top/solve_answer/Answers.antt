@@ -1,0 +1,7 @@
+use Rattle.maxband.proofs.SolveFound.{found_answers}
+use Rattle.maxband.proofs.top.solve_answer.Goals as goal
+
+pub returns-in-Ok-clause-told : goal.returns-in-Ok-clause-told
+returns-in-Ok-clause-told g c =
+    found_answers (g.F.Files.holds c.args.files.now) (g.F.Files.read_faults c.args.files.now) (g.F.Files.read_faults c.solve.new.files) c.args.artery.now c.args.certificate.now c.args.work
+    c.in-Ok.solution.lines.items c.in-Ok.solution.cause c.in-Ok.solution.certificate.items c.in-Ok.ensures.ok

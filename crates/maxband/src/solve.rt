@@ -1,0 +1,94 @@
+//! The command `solve`.
+
+ghost use Rattle.std.specs.Prelude.{◌≡◌, ◌≤◌, IfOk, IfErr, OnOk};
+ghost use Rattle.outer_edge.specs.Counts.{NoneFell, SameCounts};
+ghost use Rattle.outer_edge.specs.Held.{SameFiles};
+ghost use Rattle.certificate_checker.specs.Accepted.{IsAccepted};
+ghost use Rattle.certificate_checker.specs.Claims.{Holds};
+ghost use Rattle.maxband.specs.Turns.{FirstEnds};
+ghost use Rattle.maxband.specs.Solve.{IsSolution, Solves, cause_of};
+
+use crate::cause::Cause;
+use crate::check::is_memory;
+use crate::turns::artery_of;
+use artery_model::Artery;
+use branch_tree::{Verdict, certificate_of, search};
+use certificate_checker::{check, law_accepted_or_refused};
+use diagram_print::report;
+use narrow_fraction::Memory;
+use outer_edge::Files;
+use plan_text::{Certificate, write_certificate};
+use std::alloc::Global;
+
+/// What a search comes to: its cause, the lines of its report, and the text of its certificate.
+#[derive(Drop)]
+pub struct Solution {
+    pub cause: Cause,
+    pub lines: Vec<u8>,
+    pub certificate: Vec<u8>,
+}
+
+fn cause_of(verdict: Verdict) -> Cause
+    ensures { result ≡ cause_of verdict }
+{
+    match verdict {
+        Verdict::Best => Cause::Done,
+        Verdict::NoTiming => Cause::NoTiming,
+        Verdict::Stopped(stop) => Cause::Stopped(stop),
+    }
+}
+
+/// Checks a certificate that can't be refused.
+fn confirm(alloc: Global, artery: &Artery, certificate: &Certificate) -> Result<(), Memory>
+    requires { IsAccepted artery.now certificate.now }
+    ensures { OnOk result (Holds artery.now certificate.now.claim certificate.now.timing) }
+{
+    match check(alloc, artery, certificate) {
+        Ok(()) => Ok(()),
+        Err(reject) => {
+            if !is_memory(&reject) {
+                law_accepted_or_refused();
+                unreachable!()
+            }
+            Err(Memory)
+        }
+    }
+}
+
+/// Searches for a best timing of the artery, with so many units of work. The certificate of what is found is checked.
+fn solution_of(alloc: Global, artery: &Artery, work: u64) -> Result<Solution, Memory>
+    requires { 1 ≤ work }
+    ensures { IfOk result (λ s. IsSolution artery.now work s.cause s.lines.items s.certificate.items) }
+{
+    let found = search(alloc, artery, Some(work))?;
+    let certificate = certificate_of(alloc, artery, &found)?;
+    confirm(alloc, artery, &certificate)?;
+    let text = write_certificate(alloc, &certificate)?;
+    let lines = report(alloc, artery, &found)?;
+    Ok(Solution {
+        cause: cause_of(found.verdict),
+        lines,
+        certificate: text,
+    })
+}
+
+/// Searches for a best timing of the artery of the file, with so many units of work.
+pub fn solve<F: Files>(
+    alloc: Global,
+    files: &mut F,
+    artery: &str,
+    work: u64,
+) -> Result<Solution, Cause>
+    requires { 1 ≤ work }
+    ensures ok { IfOk result (λ s. Solves (F.holds files.old artery.now) work s.cause s.lines.items s.certificate.items) }
+    ensures err { IfErr result (FirstEnds (F.holds files.old artery.now) (F.read_faults files.old artery.now) (F.read_faults files.new artery.now)) }
+    ensures files { SameFiles (F.holds files.old) (F.holds files.new) }
+    ensures reads { NoneFell (F.read_faults files.old) (F.read_faults files.new) }
+    ensures puts { SameCounts (F.put_faults files.old) (F.put_faults files.new) }
+{
+    let artery = artery_of(alloc, files, artery)?;
+    match solution_of(alloc, &artery, work) {
+        Ok(solution) => Ok(solution),
+        Err(Memory) => Err(Cause::Memory),
+    }
+}
