@@ -5,6 +5,7 @@
 
 mod artery;
 mod kind;
+mod laws;
 mod names;
 mod ranges;
 mod refusals;
@@ -13,6 +14,7 @@ mod runs;
 
 pub use artery::Artery;
 pub use kind::{Flaw, Kind, Refusal};
+pub use laws::law_no_fault_is_valid;
 pub use progression::{Dir, Head, Link, Pair, Signal, Text, Units};
 
 #[cfg(test)]

@@ -6,3 +6,4 @@ pub mod Acceptance
 pub mod Meaning
 pub mod Firsts
 pub mod Fronts
+pub mod Preorders

@@ -2,3 +2,4 @@ pub mod Accepted
 pub mod Refusals
 pub mod Claims
 pub mod Laws
+pub mod ProofTrees

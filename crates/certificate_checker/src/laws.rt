@@ -1,6 +1,7 @@
-//! How acceptance and refusals fit together.
+//! How acceptance and refusals fit together, and what tree an accepted list of nodes is.
 
 ghost use Rattle.certificate_checker.specs.Laws.{AcceptedExactly, RefusedIsNotAccepted, OneFirstRefusal};
+ghost use Rattle.certificate_checker.specs.ProofTrees.{ProofsAreTrees};
 
 use time_space::{law_fails_rules_out, law_one_first};
 
@@ -13,3 +14,9 @@ pub fn law_accepted_or_refused()
     law_fails_rules_out();
     law_one_first();
 }
+
+/// The nodes of a certificate prove its claim exactly where they are the preorder of a tree that the linear model accepts,
+/// with sums that fit.
+pub fn law_proofs_are_trees()
+    ensures { ProofsAreTrees }
+{}

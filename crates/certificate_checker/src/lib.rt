@@ -20,5 +20,5 @@ mod tests;
 mod walk;
 
 pub use checking::check;
-pub use laws::law_accepted_or_refused;
+pub use laws::{law_accepted_or_refused, law_proofs_are_trees};
 pub use reject::Reject;

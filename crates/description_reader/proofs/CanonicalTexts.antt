@@ -1,9 +1,9 @@
 -- A table without floats is printed as one text.
-use Rattle.std.proofs.Common.{◌≡◌, ℕ, ◌+◌, List, [], ◌∷◌, ◌++◌, map, Bool, true, false, Option, None, Some, refl, sym, ◌∙◌, ap, ap₂}
+use Rattle.std.proofs.Common.{◌≡◌, ℕ, ◌+◌, List, [], ◌∷◌, ◌++◌, map, Bool, true, false, Option, None, Some, sym, ◌∙◌, ap, ap₂}
 use Rattle.std.specs.Prelude.{codes, if◌then◌else◌}
 use Rattle.toml.specs.Data.{Data, string, integer, float, boolean, datetime, array, table, Items, no_items, item, Members, no_members, member}
 use Rattle.toml.specs.Tables.{Definition, key_value, std_table, array_table, Expression}
-use Rattle.toml.specs.Text.{breaks_lines, before_item, after_item, before_member, IsValueText, IsItemsText, IsMembersText, are_tables, is_section, pairs, needs_header, header_of, sections, section, elements, expressions, IsLineText, IsLinesText, IsDocumentText}
+use Rattle.toml.specs.Text.{breaks_lines, before_item, after_item, IsValueText, IsItemsText, IsMembersText, are_tables, is_section, pairs, needs_header, header_of, sections, section, elements, expressions, IsLineText, IsLinesText, IsDocumentText}
 use Rattle.toml.specs.View.{items_of}
 use Rattle.progression.specs.Street.{Street}
 use Rattle.progression.specs.declared.parts.Head.{Head}

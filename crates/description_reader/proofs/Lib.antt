@@ -1,3 +1,4 @@
+pub mod AnswerAlways
 pub mod Answers
 pub mod CanonicalAnswers
 pub mod CanonicalDepth
@@ -10,3 +11,4 @@ pub mod CanonicalTests
 pub mod CanonicalTexts
 pub mod CanonicalValues
 pub mod Views
+pub mod Validity

@@ -6,6 +6,7 @@ pub mod Keys
 pub mod Members
 pub mod Places
 pub mod Printed
+pub mod Promises
 pub mod Quantity
 pub mod Streets
 pub mod Values

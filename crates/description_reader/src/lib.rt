@@ -6,6 +6,7 @@
 #![tactic(auto)]
 
 ghost use Rattle.description_reader.specs.Described.{OneAnswer};
+ghost use Rattle.description_reader.specs.Promises.{SomeAnswer, DescribedIsValid};
 
 mod build;
 mod check;
@@ -34,3 +35,15 @@ pub use read::read_artery;
 pub fn law_one_answer()
     ensures { OneAnswer }
 {}
+
+/// For any bytes there is an answer: an artery, or a fault.
+pub fn law_some_answer()
+    ensures { SomeAnswer }
+{}
+
+/// A described artery is valid.
+pub fn law_described_is_valid()
+    ensures { DescribedIsValid }
+{
+    artery_model::law_no_fault_is_valid();
+}

@@ -1,4 +1,4 @@
--- Worked boxes and rows of two signals, each with half of a cycle of 100 seconds red, driven at 36 kilometres an hour.
+-- Worked boxes of two signals, each with half of a cycle of 100 seconds red, driven at 36 kilometres an hour.
 use Rattle.std.specs.Prelude.{◌≡◌, ℕ, [], ◌∷◌, None, ℤ, pos, codes}
 use Rattle.progression.specs.Street.{Street}
 use Rattle.progression.specs.Speeds.{number}

@@ -33,7 +33,9 @@ mod waits;
 
 pub use bands::BandRatio;
 pub use changes::{Fall, Rise};
-pub use columns::column_count;
+pub use columns::{
+    band_column, column_count, frequency_column, run_column, shift_column, wait_column,
+};
 pub use cycles::{CycleHigh, CycleLow};
 pub use family::{Family, Problem, Progression};
 pub use fault::SumFault;

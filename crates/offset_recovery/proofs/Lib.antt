@@ -11,3 +11,4 @@ pub mod Making
 pub mod Whole
 pub mod WorkedOutcomesKept
 pub mod Vertices
+pub mod Meant

@@ -4,3 +4,4 @@ pub mod Recovered
 pub mod Answers
 pub mod Numbers
 pub mod Worked
+pub mod Meaning

@@ -6,10 +6,10 @@ ghost use Rattle.recovery_model.specs.Ticks.{unit_of};
 ghost use Rattle.recovery_model.specs.Placing.{fits_shift, pattern_with, pattern_at};
 ghost use Rattle.offset_recovery.specs.Numbers.{IsReady, patterns_at, runs_at};
 
-use crate::columns::shift_column;
 use crate::products::in_parts;
 use crate::ticks::run;
 use artery_model::{Artery, Dir};
+use loop_rows::shift_column;
 use named_row::Point;
 use narrow_fraction::Memory;
 use std::alloc::Global;

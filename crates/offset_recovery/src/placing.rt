@@ -15,11 +15,11 @@ ghost use Rattle.offset_recovery.specs.Recovered.{first_out_at, red_at, first_in
 ghost use Rattle.offset_recovery.specs.Numbers.{IsReady, RunsFit, out_at, reds_plan, reds_at, end_parts, ahead_parts};
 ghost use Rattle.offset_recovery.specs.Answers.{Answers};
 
-use crate::columns::wait_column;
 use crate::lists::{pattern, push};
 use crate::outcome::{RecoverFault, WideTiming};
 use crate::ticks::{band, check_number, run, wait};
 use artery_model::{Artery, Dir};
+use loop_rows::wait_column;
 use named_row::Point;
 use std::alloc::Global;
 

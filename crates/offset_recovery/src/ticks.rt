@@ -10,11 +10,11 @@ ghost use Rattle.offset_recovery.specs.Tests.{number_test};
 ghost use Rattle.offset_recovery.specs.Recovered.{run_tests, column_tests};
 ghost use Rattle.offset_recovery.specs.Numbers.{IsReady};
 
-use crate::columns::{band_column, frequency_column, run_column, wait_column};
 use crate::outcome::WideTiming;
 use crate::products::in_parts;
 use crate::unit::{LIMIT, bottom};
 use artery_model::{Artery, Dir};
+use loop_rows::{band_column, frequency_column, run_column, wait_column};
 use named_row::Point;
 use narrow_fraction::Frac;
 

@@ -4,6 +4,7 @@ pub mod Loop
 pub mod Pieces
 pub mod Fields
 pub mod Timings
+pub mod OneText
 pub mod Written
 pub mod ExactWords
 pub mod FamilyNames

@@ -8,3 +8,4 @@ pub mod Families
 pub mod Warrants
 pub mod CertificateText
 pub mod CertificateReading
+pub mod Promises

@@ -64,7 +64,7 @@ fn push_name(alloc: Global, out: &mut Vec<u8>, row: RowId) -> Result<(), Memory>
     requires { IsNamed row }
     ensures { OnOk result (out.new.items ≡ out.old.items ++ line_of (row_words row)) }
 {
-    push(out, family_name(row.family))?;
+    push(out, family_name(row.family).as_bytes())?;
     if is_lone(row.family) {
         Ok(())
     } else {

@@ -15,6 +15,7 @@ mod cut;
 mod family;
 mod fault;
 mod fraction;
+mod laws;
 mod lines;
 mod number;
 mod reading;
@@ -25,7 +26,10 @@ mod writing;
 pub use cert_reading::read_certificate;
 pub use cert_writing::write_certificate;
 pub use certificate::{CertNode, Certificate, Claim};
+pub use family::{family_name, is_lone};
 pub use fault::{BadText, TextEnd, TextFault};
+pub use laws::{law_one_text, law_reads_back};
+pub use number::is_numeral;
 pub use reading::read_timing;
 pub use writing::write_timing;
 

@@ -23,7 +23,8 @@ pub fn number(word: &[u8]) -> Option<u128>
     }
 }
 
-fn is_numeral(word: &[u8]) -> bool
+/// Whether a word is digits without a leading zero, except `0` alone.
+pub fn is_numeral(word: &[u8]) -> bool
     ensures { result ≡ is_numeral word.now }
 {
     is_plain(word) && all_digits(word)

@@ -5,5 +5,6 @@ pub mod Firsts
 pub mod Quotients
 pub mod Scale
 pub mod Multiples
+pub mod Intervals
 pub mod FinerGrids
 pub mod OnlyFirst

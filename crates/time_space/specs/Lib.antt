@@ -7,3 +7,4 @@ pub mod LinkRules
 pub mod Failing
 pub mod FirstFailing
 pub mod Finer
+pub mod Reds

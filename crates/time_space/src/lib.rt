@@ -17,8 +17,13 @@ mod ticks;
 mod timing;
 mod weight;
 
+pub use diagram::cycle;
 pub use failing::Failing;
-pub use rules::{holds, law_fails_rules_out, law_finer_grids, law_one_first};
+pub use rules::{
+    holds, law_fails_rules_out, law_finer_grids, law_one_first, law_reds_are_intervals,
+    law_since_last_start,
+};
 pub use seen::{green, in_band};
+pub use ticks::since_start;
 pub use timing::Timing;
-pub use weight::value;
+pub use weight::{fraction, value};

@@ -11,6 +11,7 @@ ghost use Rattle.progression.specs.declared.parts.Dir.{Dir};
 ghost use Rattle.time_space.specs.LinkRules.{AllLinks};
 ghost use Rattle.time_space.specs.Failing.{FailsRulesOut};
 ghost use Rattle.time_space.specs.Finer.{FinerGrids};
+ghost use Rattle.time_space.specs.Reds.{RedsAreIntervals, SinceLastStart};
 ghost use Rattle.time_space.specs.FirstFailing.{OneFirst, IsFirstFailing, NoneBefore, link_order, link_failing};
 
 use crate::diagram::{cycle, first_blocked};
@@ -189,4 +190,15 @@ pub fn law_finer_grids()
 /// Of a timing at most one failing is the first.
 pub fn law_one_first()
     ensures { OneFirst }
+{}
+
+/// A tick isn't green exactly where, for some whole number of cycles, it lies strictly between the start and the end of
+/// the red that many cycles later.
+pub fn law_reds_are_intervals()
+    ensures { RedsAreIntervals }
+{}
+
+/// The ticks since the last start are fewer than a cycle, and some whole number of cycles leads to that start.
+pub fn law_since_last_start()
+    ensures { SinceLastStart }
 {}

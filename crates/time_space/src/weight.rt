@@ -11,7 +11,7 @@ use narrow_fraction::Frac;
 use progression::Dir;
 
 /// The fraction of two numbers that fit with a sign.
-fn fraction(top: u128, bottom: u128) -> Frac
+pub fn fraction(top: u128, bottom: u128) -> Frac
     requires top { top < 2 ^ 126 }
     requires some { 1 ≤ bottom }
     requires bottom { bottom < 2 ^ 126 }

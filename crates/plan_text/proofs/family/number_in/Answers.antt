@@ -1,10 +1,11 @@
-use Rattle.std.proofs.Common.{sym, ◌∙◌}
+use Rattle.std.proofs.Common.{List, ℕ, sym, ap, ◌∙◌}
+use Rattle.plan_text.specs.Words.{is_text}
 use Rattle.plan_text.specs.Families.{number_in}
 use Rattle.plan_text.proofs.FamilyNames.{goes_on, stops, bytes_of}
 use Rattle.plan_text.proofs.family.number_in.Goals as goal
 
 pub returns-then-eq : goal.returns-then-eq
-returns-then-eq c = stops c.loop-place.place c.args.names.now c.args.word.now _ (number_in 1 (bytes_of c.args.names.now) c.args.word.now) c.loop-place-test.true (sym c.eq.ensures ∙ c.if-eq.true) c.loop-place.invariant
+returns-then-eq c = stops c.loop-place.place c.args.names.now c.args.word.now _ (number_in 1 (bytes_of c.args.names.now) c.args.word.now) c.loop-place-test.true (ap (λ (w : List ℕ). is_text w c.args.word.now) (sym c.as_bytes.ensures.value) ∙ (sym c.eq.ensures ∙ c.if-eq.true)) c.loop-place.invariant
 
 pub loop-place-preserved : goal.loop-place-preserved
-loop-place-preserved c = goes_on c.loop-place.place c.args.names.now c.args.word.now _ (number_in 1 (bytes_of c.args.names.now) c.args.word.now) c.loop-place-test.true (sym c.eq.ensures ∙ c.if-eq.false) c.loop-place.invariant
+loop-place-preserved c = goes_on c.loop-place.place c.args.names.now c.args.word.now _ (number_in 1 (bytes_of c.args.names.now) c.args.word.now) c.loop-place-test.true (ap (λ (w : List ℕ). is_text w c.args.word.now) (sym c.as_bytes.ensures.value) ∙ (sym c.eq.ensures ∙ c.if-eq.false)) c.loop-place.invariant

@@ -1,0 +1,14 @@
+//! Laws over the definitions alone.
+
+ghost use Rattle.plan_text.specs.Promises.{OneText, ReadsBack};
+
+/// Bytes are read as a timing exactly where the program can hold it and they are its one text; and the same of
+/// certificates.
+pub fn law_one_text()
+    ensures { OneText }
+{}
+
+/// The text of a timing, or of a certificate, that the program can hold is read as just that.
+pub fn law_reads_back()
+    ensures { ReadsBack }
+{}
