@@ -11,7 +11,7 @@ use Rattle.node_tree.specs.Lines.{Line, Fills, Finds}
 use Rattle.node_tree.specs.Walks.{Fills-map, Fills-each}
 use Rattle.node_tree.specs.Matchings.{Matches, Fills-match, Finds-match, total-match}
 use Rattle.branch_and_bound.specs.Rules.{Rules}
-use Rattle.branch_and_bound.specs.Opening.{capped}
+use Rattle.branch_and_bound.specs.Units.{capped, IsWithin}
 use Rattle.branch_and_bound.specs.Incumbents.{IsReached}
 use Rattle.branch_and_bound.specs.Greatest.{IsSettled, bound_of}
 use Rattle.branch_and_bound.specs.Answer.{cut_of, lines_of, cost_of, IsProof, IsAcceptedNode, GivesValue, IsPartValue, IsBestLeaf, IsFinished, IsBestAnswer, IsNoneAnswer}
@@ -80,9 +80,9 @@ found_shown r nodes shown new spared (Some b) m h =
     (best_shown r new spared b.value) 0 (lines_of r) nodes shown m h
 
 -- ---- the answers
-finished : {T K W : Type 0} (r : Rules T K W) (nodes : List (Node K)) (shown : List TreeNode) (best : Option (Incumbent T)) (top : ℚ) (spent : ℕ)
-    → Holds r nodes best top spent → All (λ node. IsSettled best (bound_of node)) nodes → Matches (IsShown best None) 0 nodes shown → IsFinished r shown best (value_of best) spent
-finished r nodes shown best top spent h all m =
+finished : {T K W : Type 0} (r : Rules T K W) (limit : Option ℕ) (nodes : List (Node K)) (shown : List TreeNode) (best : Option (Incumbent T)) (top : ℚ) (spent : ℕ)
+    → IsWithin spent limit → Holds r nodes best top spent → All (λ node. IsSettled best (bound_of node)) nodes → Matches (IsShown best None) 0 nodes shown → IsFinished r limit shown best (value_of best) spent
+finished r limit nodes shown best top spent within h all m =
     let lines = lines_of r in
     let whole : Fills cut_of (λ line other. IsTreeNode r best best top line other × IsNotWaiting other) lines shown =
     Fills-match place_of cut_of (IsShown best None) (shown_cut best None)
@@ -104,12 +104,13 @@ finished r nodes shown best top spent h all m =
       };
       none_waits = none;
       units = h.units ∙ ap capped (total-match place_of cut_of (IsShown best None) (shown_cut best None) (cost_of r) 0 lines nodes shown m);
+      within = within;
     }
 
-pub best_answer : {T K W : Type 0} (r : Rules T K W) (nodes : List (Node K)) (shown : List TreeNode) (best : Incumbent T) (top : ℚ) (spent : ℕ)
-    → Holds r nodes (Some best) top spent → All (λ node. IsSettled (Some best) (bound_of node)) nodes → Matches (IsShown (Some best) None) 0 nodes shown → IsBestAnswer r shown (Some best) best.value spent
-best_answer r nodes shown best top spent h all m = record { timing = best.timing; best_is = refl; good = h.good; finished = finished r nodes shown (Some best) top spent h all m }
+pub best_answer : {T K W : Type 0} (r : Rules T K W) (limit : Option ℕ) (nodes : List (Node K)) (shown : List TreeNode) (best : Incumbent T) (top : ℚ) (spent : ℕ)
+    → IsWithin spent limit → Holds r nodes (Some best) top spent → All (λ node. IsSettled (Some best) (bound_of node)) nodes → Matches (IsShown (Some best) None) 0 nodes shown → IsBestAnswer r limit shown (Some best) best.value spent
+best_answer r limit nodes shown best top spent within h all m = record { timing = best.timing; best_is = refl; good = h.good; finished = finished r limit nodes shown (Some best) top spent within h all m }
 
-pub none_answer : {T K W : Type 0} (r : Rules T K W) (nodes : List (Node K)) (shown : List TreeNode) (top bound : ℚ) (spent : ℕ)
-    → Holds r nodes None top spent → All (λ node. IsSettled {T = T} None (bound_of node)) nodes → Matches (IsShown {T = T} None None) 0 nodes shown → bound ≡ number 0 → IsNoneAnswer r shown None bound spent
-none_answer r nodes shown top bound spent h all m e = record { best_is = refl; bound_is = e; finished = finished r nodes shown None top spent h all m }
+pub none_answer : {T K W : Type 0} (r : Rules T K W) (limit : Option ℕ) (nodes : List (Node K)) (shown : List TreeNode) (top bound : ℚ) (spent : ℕ)
+    → IsWithin spent limit → Holds r nodes None top spent → All (λ node. IsSettled {T = T} None (bound_of node)) nodes → Matches (IsShown {T = T} None None) 0 nodes shown → bound ≡ number 0 → IsNoneAnswer r limit shown None bound spent
+none_answer r limit nodes shown top bound spent within h all m e = record { best_is = refl; bound_is = e; finished = finished r limit nodes shown None top spent within h all m }

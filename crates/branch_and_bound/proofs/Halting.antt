@@ -6,7 +6,7 @@ use Rattle.node_tree.specs.Lines.{Line, low_line}
 use Rattle.node_tree.specs.Matchings.{Matches, line_after-match, total-match}
 use Rattle.branch_and_bound.specs.Lineages.{Cuts}
 use Rattle.branch_and_bound.specs.Rules.{Rules, IsMet}
-use Rattle.branch_and_bound.specs.Opening.{capped}
+use Rattle.branch_and_bound.specs.Units.{capped, IsWithin}
 use Rattle.branch_and_bound.specs.Incumbents.{IsBeaten}
 use Rattle.branch_and_bound.specs.Greatest.{IsGreatest, bound_of}
 use Rattle.branch_and_bound.specs.Answer.{cut_of, lines_of, line_at, cost_of, units_of, BeforeLow, InLow, BeforeHigh, InHigh, IsStoppedAnswer, Spot, low_of, high_of}
@@ -37,6 +37,10 @@ waits_there r line g (Split place point) old top h e = cc
 waits_there r line g (Closed leaf) old top h e = cc
 waits_there r line g (Waiting area leaf b place point kept) old top h e = let same : b ≡ g.bound = cc in record { lineage = h.lineage; bound_is = sym h.bounds.bound_is ∙ same }
 
+-- all units of the limit are within it
+spent_within : (after : Meter) (limit : Option ℕ) → limit ≡ Some after.spent → IsWithin after.spent limit
+spent_within after limit e = subst (IsWithin after.spent) (sym e) (let n = after.spent in omega arith)
+
 low_cases : {T K W : Type 0} (r : Rules T K W) (limit : Option ℕ) (shown : List TreeNode) (bound : ℚ) (new : Option (Incumbent T)) (before after : Meter) (spot : Spot) (cause : Cause W)
     → before.spent ≡ capped (units_of r shown) → IsHalt r shown new bound spot None → Stops r (low_of r shown spot) before after cause → after.limit ≡ limit
     → IsStoppedAnswer r limit shown new bound after.spent (stop_of cause after.spent)
@@ -48,6 +52,7 @@ low_cases r limit shown bound new before after spot NoWork units k s e = record 
   needed = (k.needed, k.open_bound);
   sorted = k.sorted;
   units = ap (λ (m : Meter). m.spent) s.0 ∙ units;
+  within = spent_within after limit (sym e ∙ ap (λ (m : Meter). m.limit) s.0 ∙ s.1 ∙ ap (λ (m : Meter). Some m.spent) (sym s.0));
   cause = (refl, sym e ∙ ap (λ (m : Meter). m.limit) s.0 ∙ s.1 ∙ ap (λ (m : Meter). Some m.spent) (sym s.0), tt);
 }
 low_cases r limit shown bound new before after spot WorkOut units k s e = record {
@@ -58,6 +63,7 @@ low_cases r limit shown bound new before after spot WorkOut units k s e = record
   needed = (k.needed, k.open_bound);
   sorted = k.sorted;
   units = let t = s.2.spent in omega (arith, t, units);
+  within = subst (IsWithin after.spent) e s.2.within;
   cause = (refl, sym e ∙ s.3, s.1);
 }
 low_cases r limit shown bound new before after spot (Refused site) units k s e = record {
@@ -68,6 +74,7 @@ low_cases r limit shown bound new before after spot (Refused site) units k s e =
   needed = (k.needed, k.open_bound);
   sorted = k.sorted;
   units = let t = s.2.spent in omega (arith, t, units);
+  within = subst (IsWithin after.spent) e s.2.within;
   cause = s.1;
 }
 
@@ -83,6 +90,7 @@ high_cases r limit shown bound new before between after spot NoWork units k low 
   needed = (k.needed, k.open_bound);
   sorted = k.sorted;
   units = let t = ap (λ (m : Meter). m.spent) s.0 in omega (arith, t, low, units);
+  within = spent_within after limit (sym e ∙ ap (λ (m : Meter). m.limit) s.0 ∙ s.1 ∙ ap (λ (m : Meter). Some m.spent) (sym s.0));
   cause = (refl, sym e ∙ ap (λ (m : Meter). m.limit) s.0 ∙ s.1 ∙ ap (λ (m : Meter). Some m.spent) (sym s.0), tt);
 }
 high_cases r limit shown bound new before between after spot WorkOut units k low s e = record {
@@ -93,6 +101,7 @@ high_cases r limit shown bound new before between after spot WorkOut units k low
   needed = (k.needed, k.open_bound);
   sorted = k.sorted;
   units = let t = s.2.spent in omega (arith, t, low, units);
+  within = subst (IsWithin after.spent) e s.2.within;
   cause = (refl, sym e ∙ s.3, s.1);
 }
 high_cases r limit shown bound new before between after spot (Refused site) units k low s e = record {
@@ -103,6 +112,7 @@ high_cases r limit shown bound new before between after spot (Refused site) unit
   needed = (k.needed, k.open_bound);
   sorted = k.sorted;
   units = let t = s.2.spent in omega (arith, t, low, units);
+  within = subst (IsWithin after.spent) e s.2.within;
   cause = s.1;
 }
 

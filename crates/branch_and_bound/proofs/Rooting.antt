@@ -8,9 +8,10 @@ use Rattle.named_row.specs.declared.leaves.Leaf.{Leaf}
 use Rattle.node_tree.specs.Lines.{Line, top_line, owed, Fills, Finds, total}
 use Rattle.branch_and_bound.specs.Lineages.{IsOptimal, at_top}
 use Rattle.branch_and_bound.specs.Rules.{Rules}
-use Rattle.branch_and_bound.specs.Opening.{IsBelow, Finishes}
+use Rattle.branch_and_bound.specs.Units.{IsWithin}
+use Rattle.branch_and_bound.specs.Opening.{Finishes}
 use Rattle.branch_and_bound.specs.Answer.{lines_of, cost_of, IsBestLeaf, IsSorted, RootLeft, RootUnread, IsStoppedAnswer}
-use Rattle.branch_and_bound.specs.State.{place_of, IsNode, IsBetter, IsLeafNow, IsStuck, Stops, Holds, stop_of}
+use Rattle.branch_and_bound.specs.State.{place_of, IsNode, IsBetter, IsLeafNow, IsStuck, IsLeftBy, Holds, stop_of}
 use Rattle.branch_and_bound.specs.declared.meter.Meter.{Meter}
 use Rattle.branch_and_bound.specs.declared.incumbent.Incumbent.{Incumbent}
 use Rattle.branch_and_bound.specs.declared.node.Node.{Node}
@@ -63,10 +64,10 @@ one_waits r leaf spared = record { closed = λ index l e. absurd (never leaf l i
     never leaf l (suc index) e = cc
 
 pub root_stuck : {T K W : Type 0} (r : Rules T K W) (limit : Option ℕ) (new : Option (Incumbent T)) (before after : Meter) (leaf : Leaf) (bound : ℚ) (site : Site W)
-    → r.IsSound → before.spent ≡ 0 → new ≡ None → IsStuck r (top_line r.root) before after leaf bound site
+    → r.IsSound → before.spent ≡ 0 → after.limit ≡ limit → new ≡ None → IsStuck r (top_line r.root) before after leaf bound site
     → IsStoppedAnswer r limit (tree.Waiting leaf ∷ []) new bound after.spent (Wide site)
-root_stuck r limit (Some best) before after leaf bound site sound e f h = cc
-root_stuck r limit None before after leaf bound site sound e f h =
+root_stuck r limit (Some best) before after leaf bound site sound e l f h = cc
+root_stuck r limit None before after leaf bound site sound e l f h =
     let line = top_line r.root in
     let optimal : IsOptimal (r.ending line) = subst IsOptimal (sym h.opens.end) tt in
     let stays : r.Refutes line.area leaf → ⊥ = r.not_refuted line leaf (at_top sound) optimal h.opens.bounds.leaf_is in
@@ -89,37 +90,36 @@ root_stuck r limit None before after leaf bound site sound e f h =
       );
       sorted = one_waits r leaf None;
       units = let s = h.cost.spent in let t = e in omega (arith, s, t);
+      within = subst (IsWithin after.spent) l h.cost.within;
       cause = record { area_is = h.area_is; pivots_is = h.opens.pivots_is; part_is = h.opens.part_is };
     }
 
-not_spent : (limit : Option ℕ) (spent : ℕ) → spent ≡ 0 → IsBelow 0 limit → limit ≡ Some spent → ⊥
-not_spent None spent e b h = cc
-not_spent (Some n) spent e b h = let q : n ≡ spent = cc in omega (arith, b, q, e)
-
 pub root_left : {T K W : Type 0} (r : Rules T K W) (limit : Option ℕ) (new : Option (Incumbent T)) (before after : Meter) (leaf : Leaf) (bound : ℚ) (cause : Cause W)
-    → before.spent ≡ 0 → IsBelow 0 before.limit → after.limit ≡ limit → new ≡ None
+    → before.spent ≡ 0 → after.limit ≡ limit → new ≡ None
     → r.IsStart leaf → bound ≡ r.start_bound → r.Covers r.root leaf bound
-    → Stops r (top_line r.root) before after cause
+    → IsLeftBy r (top_line r.root) before after cause
     → IsStoppedAnswer r limit (tree.Waiting leaf ∷ []) new bound after.spent (stop_of cause after.spent)
-root_left r limit (Some best) before after leaf bound cause e b l f start bound_is covers h = cc
-root_left r limit None before after leaf bound NoWork e b l f start bound_is covers h = absurd (not_spent before.limit before.spent e b h.1)
-root_left r limit None before after leaf bound WorkOut e b l f start bound_is covers h = record {
+root_left r limit (Some best) before after leaf bound cause e l f start bound_is covers h = cc
+root_left r limit None before after leaf bound NoWork e l f start bound_is covers h = absurd h
+root_left r limit None before after leaf bound WorkOut e l f start bound_is covers h = record {
   case = RootLeft h.0;
   accepted = (inr covers, tt);
   good = tt;
-  spot = tt;
+  spot = h.1;
   needed = record { leaf = leaf; nodes_are = refl; leaf_is = start; bound_is = bound_is; best_is = refl };
   sorted = one_waits r leaf None;
-  units = let s = h.2.spent in omega (arith, s, e);
-  cause = (refl, sym l ∙ h.3, h.1);
+  units = let s = h.3.spent in omega (arith, s, e);
+  within = subst (IsWithin after.spent) l h.3.within;
+  cause = (refl, sym l ∙ h.4, h.2);
 }
-root_left r limit None before after leaf bound (Refused site) e b l f start bound_is covers h = record {
+root_left r limit None before after leaf bound (Refused site) e l f start bound_is covers h = record {
   case = RootLeft h.0;
   accepted = (inr covers, tt);
   good = tt;
-  spot = tt;
+  spot = h.1;
   needed = record { leaf = leaf; nodes_are = refl; leaf_is = start; bound_is = bound_is; best_is = refl };
   sorted = one_waits r leaf None;
-  units = let s = h.2.spent in omega (arith, s, e);
-  cause = h.1;
+  units = let s = h.3.spent in omega (arith, s, e);
+  within = subst (IsWithin after.spent) l h.3.within;
+  cause = h.2;
 }

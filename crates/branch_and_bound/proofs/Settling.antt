@@ -10,12 +10,13 @@ use Rattle.node_tree.specs.Lines.{Line, low_line, high_line}
 use Rattle.branch_and_bound.specs.Rules.{Rules}
 use Rattle.branch_and_bound.specs.Opening.{OpensTimed, IsPart}
 use Rattle.branch_and_bound.specs.Incumbents.{IsReached, IsBeaten}
-use Rattle.branch_and_bound.specs.State.{IsStuck, Stops, Settles, Ends, ended, IsCut, IsLeafNow}
+use Rattle.branch_and_bound.specs.State.{IsStuck, Stops, IsLeftBy, Settles, Ends, ended, IsCut, IsLeafNow}
 use Rattle.branch_and_bound.specs.declared.meter.Meter.{Meter}
 use Rattle.branch_and_bound.specs.declared.incumbent.Incumbent.{Incumbent}
 use Rattle.branch_and_bound.specs.declared.node.Node.TheVariants.{Closed}
 use Rattle.branch_and_bound.specs.declared.found.Site.{Site}
-use Rattle.branch_and_bound.specs.declared.settle.Cause.TheVariants.{Refused}
+use Rattle.branch_and_bound.specs.declared.settle.Cause.{Cause}
+use Rattle.branch_and_bound.specs.declared.settle.Cause.TheVariants.{NoWork, WorkOut, Refused}
 use Rattle.branch_and_bound.specs.declared.settle.Settled.{Settled}
 use Rattle.branch_and_bound.specs.declared.settle.Settled.TheVariants.{Done, Stuck, Left}
 
@@ -69,8 +70,14 @@ stuck_stops r line before after leaf bound site h = (
   record { spent = h.cost.spent; within = h.cost.within },
 )
 
+-- and where the box wasn't finished, so many of them
+left_stops : {T K W : Type 0} (r : Rules T K W) (line : Line) (before after : Meter) (cause : Cause W) → IsLeftBy r line before after cause → Stops r line before after cause
+left_stops r line before after NoWork h = absurd h
+left_stops r line before after WorkOut (k, unfinished, due, leaves, spent) = (k, due, leaves, spent)
+left_stops r line before after (Refused site) (k, unfinished, is, leaves) = (k, is, leaves)
+
 pub ends : {T K W : Type 0} (r : Rules T K W) (line : Line) (old new : Option (Incumbent T)) (before after : Meter) (settled : Settled K W)
     → Settles r line old new before after settled → Ends r line old new before after (ended settled)
 ends r line old new before after (Done node) h = h
 ends r line old new before after (Stuck leaf bound site) h = (h.0, stuck_stops r line before after leaf bound site h.1)
-ends r line old new before after (Left cause) h = h
+ends r line old new before after (Left cause) h = (h.0, left_stops r line before after cause h.1)

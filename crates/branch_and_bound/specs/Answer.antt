@@ -10,8 +10,9 @@ use Rattle.named_row.specs.declared.leaves.Leaf.{Leaf}
 use Rattle.named_row.specs.declared.leaves.Point.{Point}
 use Rattle.node_tree.specs.Lines.{Line, top_line, low_line, high_line, Fills, Finds, total, line_after}
 use Rattle.branch_and_bound.specs.Lineages.{Empty, Reads, Cuts, Stuck}
+use Rattle.branch_and_bound.specs.Units.{capped, IsWithin}
 use Rattle.branch_and_bound.specs.Rules.{Rules}
-use Rattle.branch_and_bound.specs.Opening.{capped}
+use Rattle.branch_and_bound.specs.Unfinished.{IsUnfinished}
 use Rattle.branch_and_bound.specs.Incumbents.{IsReached, IsBeaten}
 use Rattle.branch_and_bound.specs.declared.incumbent.Incumbent.{Incumbent}
 use Rattle.branch_and_bound.specs.declared.node.TreeNode.{TreeNode}
@@ -136,8 +137,9 @@ pub record IsSpot {T K W : Type 0} (r : Rules T K W) (nodes : List TreeNode) (sp
   pub not_refuted : r.Refutes (line_at r nodes spot.index).area leaf → ⊥
   pub greatest : Fills cut_of (IsNodeUnder r (r.bound (line_at r nodes spot.index))) (lines_of r) nodes
 
+-- the root wasn't finished, or its end couldn't be read, or the undone node stands there
 abbrev pub HasSpot : {T K W : Type 0} → Rules T K W → List TreeNode → StopCase → Type 0
-HasSpot r nodes (RootLeft k) = Unit {0}
+HasSpot r nodes (RootLeft k) = IsUnfinished r (top_line r.root) k
 HasSpot r nodes RootUnread = r.ending (top_line r.root) ≡ Stuck
 HasSpot r nodes (BeforeLow spot) = IsSpot r nodes spot
 HasSpot r nodes (InLow spot k) = IsSpot r nodes spot
@@ -249,24 +251,25 @@ IsNeededStop r nodes best bound (RootLeft k) = IsStart r nodes best bound
 IsNeededStop r nodes best bound case = IsNeeded r nodes best (finished_part r nodes case) × IsOpenBound r nodes best bound (finished_part r nodes case)
 
 -- ---- the three verdicts
--- a finished search: no leaf waits
-pub record IsFinished {T K W : Type 0} (r : Rules T K W) (nodes : List TreeNode) (best : Option (Incumbent T)) (claim : Option ℚ) (spent : ℕ) : Type 0 where
+-- a finished search: no leaf waits, and the units are those of its boxes, within the limit
+pub record IsFinished {T K W : Type 0} (r : Rules T K W) (limit : Option ℕ) (nodes : List TreeNode) (best : Option (Incumbent T)) (claim : Option ℚ) (spent : ℕ) : Type 0 where
   pub accepted : IsAccepted r claim nodes
   pub needed : IsNeeded r nodes best None
   pub sorted : IsSorted r nodes best None
   pub none_waits : (index : ℕ) (leaf : Leaf) → slice_get nodes index ≡ Some (Waiting leaf) → ⊥
   pub units : spent ≡ capped (units_of r nodes)
+  pub within : IsWithin spent limit
 
-pub record IsBestAnswer {T K W : Type 0} (r : Rules T K W) (nodes : List TreeNode) (best : Option (Incumbent T)) (bound : ℚ) (spent : ℕ) : Type 0 where
+pub record IsBestAnswer {T K W : Type 0} (r : Rules T K W) (limit : Option ℕ) (nodes : List TreeNode) (best : Option (Incumbent T)) (bound : ℚ) (spent : ℕ) : Type 0 where
   pub timing : T
   pub best_is : best ≡ Some (record { value = bound; timing = timing })
   pub good : r.IsGood timing bound
-  pub finished : IsFinished r nodes best (Some bound) spent
+  pub finished : IsFinished r limit nodes best (Some bound) spent
 
-pub record IsNoneAnswer {T K W : Type 0} (r : Rules T K W) (nodes : List TreeNode) (best : Option (Incumbent T)) (bound : ℚ) (spent : ℕ) : Type 0 where
+pub record IsNoneAnswer {T K W : Type 0} (r : Rules T K W) (limit : Option ℕ) (nodes : List TreeNode) (best : Option (Incumbent T)) (bound : ℚ) (spent : ℕ) : Type 0 where
   pub best_is : best ≡ None
   pub bound_is : bound ≡ number 0
-  pub finished : IsFinished r nodes best None spent
+  pub finished : IsFinished r limit nodes best None spent
 
 pub record IsStoppedAnswer {T K W : Type 0} (r : Rules T K W) (limit : Option ℕ) (nodes : List TreeNode) (best : Option (Incumbent T)) (bound : ℚ) (spent : ℕ) (stop : Stop W) : Type 0 where
   pub case : StopCase
@@ -276,9 +279,10 @@ pub record IsStoppedAnswer {T K W : Type 0} (r : Rules T K W) (limit : Option �
   pub needed : IsNeededStop r nodes best bound case
   pub sorted : IsSorted r nodes best (undone_of case)
   pub units : spent ≡ capped (spends r nodes case)
+  pub within : IsWithin spent limit
   pub cause : IsStop r nodes case limit spent stop
 
 abbrev pub IsAnswer : {T K W : Type 0} → Rules T K W → Option ℕ → List TreeNode → Option (Incumbent T) → ℚ → ℕ → Verdict W → Type 0
-IsAnswer r limit nodes best bound spent Best = IsBestAnswer r nodes best bound spent
-IsAnswer r limit nodes best bound spent NoTiming = IsNoneAnswer r nodes best bound spent
+IsAnswer r limit nodes best bound spent Best = IsBestAnswer r limit nodes best bound spent
+IsAnswer r limit nodes best bound spent NoTiming = IsNoneAnswer r limit nodes best bound spent
 IsAnswer r limit nodes best bound spent (Stopped stop) = IsStoppedAnswer r limit nodes best bound spent stop

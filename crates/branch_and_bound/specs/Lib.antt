@@ -1,5 +1,7 @@
 pub mod Lineages
+pub mod Units
 pub mod Rules
+pub mod Unfinished
 pub mod Opening
 pub mod Incumbents
 pub mod Answer

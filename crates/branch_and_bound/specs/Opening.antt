@@ -1,5 +1,5 @@
 -- What opening a box answers, and the units of work that it spends.
-use Rattle.std.specs.Prelude.{◌≡◌, ℕ, ◌+◌, ◌-◌, ◌<◌, ◌≤◌, ◌^◌, ◌⊎◌, Option, Some, None, min}
+use Rattle.std.specs.Prelude.{◌≡◌, ℕ, ◌+◌, ◌⊎◌, Some}
 use Rattle.ratio.specs.Rational.{ℚ}
 use Rattle.linear_model.specs.Boxes.{Area}
 use Rattle.search_box.specs.declared.span.At.{At}
@@ -7,22 +7,12 @@ use Rattle.named_row.specs.declared.leaves.Leaf.{Leaf}
 use Rattle.named_row.specs.declared.leaves.Point.{Point}
 use Rattle.node_tree.specs.Lines.{Line, low_line, high_line}
 use Rattle.branch_and_bound.specs.Lineages.{Empty, Reads, Cuts, Stuck}
+use Rattle.branch_and_bound.specs.Units.{capped, IsBelow, IsWithin}
 use Rattle.branch_and_bound.specs.Rules.{Rules, IsMet}
+use Rattle.branch_and_bound.specs.Unfinished.{IsUnfinished}
 use Rattle.branch_and_bound.specs.declared.meter.Meter.{Meter}
 use Rattle.branch_and_bound.specs.declared.opened.Opened.{Opened}
 use Rattle.branch_and_bound.specs.declared.opened.Opened.TheVariants.{Infeasible, Timed, Splits, Unread, WorkOut, Wide}
-
--- a count that stays at the greatest number of its type
-abbrev pub capped : ℕ → ℕ
-capped n = min n (2 ^ 64 - 1)
-
-abbrev pub IsBelow : ℕ → Option ℕ → Type 0
-IsBelow spent None = Unit {0}
-IsBelow spent (Some limit) = spent < limit
-
-abbrev pub IsWithin : ℕ → Option ℕ → Type 0
-IsWithin spent None = Unit {0}
-IsWithin spent (Some limit) = spent ≤ limit
 
 -- a unit may be spent
 abbrev pub HasWork : Meter → Type 0
@@ -84,5 +74,5 @@ Opens r line before after (Infeasible leaf) = OpensEmpty r line leaf × Finishes
 Opens r line before after (Timed leaf bound timing) = OpensTimed r line leaf bound timing × Finishes r line before after
 Opens r line before after (Splits leaf bound place point kept) = OpensCut r line leaf bound place point kept × Finishes r line before after
 Opens r line before after (Unread leaf bound pivots part) = OpensStuck r line leaf bound pivots part × Finishes r line before after
-Opens r line before after WorkOut = (k : ℕ) × r.IsDue line k × Leaves before after k × IsSpent after
-Opens r line before after (Wide pivots part) = (k : ℕ) × r.IsWide line k part × Leaves before after k × (pivots ≡ capped k)
+Opens r line before after WorkOut = (k : ℕ) × IsUnfinished r line k × r.IsDue line k × Leaves before after k × IsSpent after
+Opens r line before after (Wide pivots part) = (k : ℕ) × IsUnfinished r line k × r.IsWide line k part × Leaves before after k × (pivots ≡ capped k)

@@ -8,8 +8,10 @@ use Rattle.named_row.specs.declared.leaves.Point.{Point}
 use Rattle.node_tree.specs.Lines.{Line, low_line, high_line, Fills, Finds, total, line_after}
 use Rattle.node_tree.specs.Volumes.{volume}
 use Rattle.branch_and_bound.specs.Lineages.{Empty, Reads, Cuts, IsOptimal}
+use Rattle.branch_and_bound.specs.Units.{capped, IsWithin}
 use Rattle.branch_and_bound.specs.Rules.{Rules, IsMet}
-use Rattle.branch_and_bound.specs.Opening.{HasBound, OpensStuck, Finishes, Leaves, IsSpent, IsWithin, capped}
+use Rattle.branch_and_bound.specs.Unfinished.{IsUnfinished}
+use Rattle.branch_and_bound.specs.Opening.{HasBound, OpensStuck, Finishes, Leaves, IsSpent}
 use Rattle.branch_and_bound.specs.Incumbents.{IsReached, IsUnder, IsBeaten}
 use Rattle.branch_and_bound.specs.Answer.{lines_of, cost_of, IsBestLeaf, IsSite}
 use Rattle.branch_and_bound.specs.declared.meter.Meter.{Meter}
@@ -101,11 +103,17 @@ pub record IsLeafNow {T K W : Type 0} (r : Rules T K W) (line : Line) (old new :
   pub is : (top : ℚ) → IsMet r line → (IsOptimal (r.ending line) → r.bound line ≤ℚ top) → IsNode r new top line node
   pub better : IsBetter r line old new
 
--- why a box wasn't finished
+-- why the opening of a part stopped
 abbrev pub Stops : {T K W : Type 0} → Rules T K W → Line → Meter → Meter → Cause W → Type 0
 Stops r line before after NoWork = (after ≡ before) × IsSpent before
 Stops r line before after WorkOut = (k : ℕ) × r.IsDue line k × Leaves before after k × IsSpent after
 Stops r line before after (Refused site) = (k : ℕ) × IsSite r line k site × Leaves before after k
+
+-- why a box wasn't finished, once it was opened
+abbrev pub IsLeftBy : {T K W : Type 0} → Rules T K W → Line → Meter → Meter → Cause W → Type 0
+IsLeftBy r line before after NoWork = ⊥
+IsLeftBy r line before after WorkOut = (k : ℕ) × IsUnfinished r line k × r.IsDue line k × Leaves before after k × IsSpent after
+IsLeftBy r line before after (Refused site) = (k : ℕ) × IsUnfinished r line k × IsSite r line k site × Leaves before after k
 
 -- the vertex was found, and an operation of its reading was refused
 pub record IsStuck {T K W : Type 0} (r : Rules T K W) (line : Line) (before after : Meter) (leaf : Leaf) (bound : ℚ) (site : Site W) : Type 0 where
@@ -117,7 +125,7 @@ pub record IsStuck {T K W : Type 0} (r : Rules T K W) (line : Line) (before afte
 abbrev pub Settles : {T K W : Type 0} → Rules T K W → Line → Option (Incumbent T) → Option (Incumbent T) → Meter → Meter → Settled K W → Type 0
 Settles r line old new before after (Done node) = IsLeafNow r line old new node × Finishes r line before after
 Settles r line old new before after (Stuck leaf bound site) = (new ≡ old) × IsStuck r line before after leaf bound site
-Settles r line old new before after (Left cause) = (new ≡ old) × Stops r line before after cause
+Settles r line old new before after (Left cause) = (new ≡ old) × IsLeftBy r line before after cause
 
 -- ---- two parts
 -- the end of a part

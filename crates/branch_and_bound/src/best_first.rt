@@ -2,7 +2,7 @@
 
 ghost use Rattle.std.specs.Prelude.{◌≡◌, ℕ, List, [], ◌∷◌, All, IfOk, IsSome};
 ghost use Rattle.ratio.specs.Rational.{ℚ};
-ghost use Rattle.branch_and_bound.specs.Opening.{IsBelow, IsWithin};
+ghost use Rattle.branch_and_bound.specs.Units.{IsBelow, IsWithin};
 ghost use Rattle.branch_and_bound.specs.Greatest.{IsSettled, bound_of};
 ghost use Rattle.branch_and_bound.specs.State.{Holds, stop_of};
 ghost use Rattle.branch_and_bound.specs.Answer.{IsAnswer};
@@ -38,6 +38,7 @@ fn finish<P: Relaxation>(
     incumbent: Option<Incumbent<P::Timing>>,
     meter: Meter,
 ) -> Result<Found<P::Timing, P::Part>, Memory>
+    requires within { IsWithin meter.spent meter.limit }
     requires settled { All (λ node. IsSettled incumbent (bound_of node)) nodes.items }
     requires holds { (top : ℚ) × Holds (P.rules _relaxation.now) nodes.items incumbent top meter.spent }
     ensures { IfOk result (λ found. IsAnswer (P.rules _relaxation.now) meter.limit found.nodes.items found.incumbent found.bound found.spent found.verdict) }

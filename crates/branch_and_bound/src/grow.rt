@@ -8,7 +8,7 @@ ghost use Rattle.search_box.specs.declared.span.At.{At};
 ghost use Rattle.named_row.specs.declared.leaves.Leaf.{Leaf};
 ghost use Rattle.named_row.specs.declared.leaves.Point.{Point};
 ghost use Rattle.branch_and_bound.specs.declared.node.Node.TheVariants.{Waiting};
-ghost use Rattle.branch_and_bound.specs.Opening.{IsWithin};
+ghost use Rattle.branch_and_bound.specs.Units.{IsWithin};
 ghost use Rattle.branch_and_bound.specs.Greatest.{IsGreatest};
 ghost use Rattle.branch_and_bound.specs.Incumbents.{IsUnder};
 ghost use Rattle.branch_and_bound.specs.State.{Holds, Grows, spliced, split_from};

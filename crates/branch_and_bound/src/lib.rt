@@ -4,10 +4,11 @@
 //! Start with `Relaxation`, which says what is asked of a problem, and `search`. Everything that `search` needs to know
 //! of the problem stands in one record of numbers, facts and laws, `specs/Rules.antt`; what it answers is one clause,
 //! `IsAnswer` of `specs/Answer.antt`: the tree proves the verdict, every split and leaf of it was needed, the units of
-//! work are those of its boxes, and a stop has one cause at one place.
+//! work are those of its boxes and at most the limit, and a stop has one cause at one place.
 //!
 //! - `Lineages`: how the pivots of a box end, and `IsLineage`, the lines of boxes that a search can meet.
-//! - `Rules`: the record, with its five laws. `Opening`: what opening a box answers, in units of work.
+//! - `Rules`: the record, with its five laws. `Units`: how units are counted, and their limit. `Unfinished`: boxes whose
+//!   steps didn't come to a leaf. `Opening`: what opening a box answers, in units of work.
 //! - `Answer`: `IsAccepted`, `IsSorted`, `StopCase`, `IsNeeded`, `IsOpenBound`, and the three verdicts.
 //! - `Enough`: how many units are enough. `Readings`: an accepted tree is accepted by what reads its boxes alone.
 //! - `State` and `Greatest` are what the search keeps true; nothing above rests on them. `Capped` is for the tests.

@@ -1,7 +1,8 @@
 //! Units of work.
 
 ghost use Rattle.std.specs.Prelude.{◌≡◌, true, false};
-ghost use Rattle.branch_and_bound.specs.Opening.{HasWork, IsSpent, IsWithin};
+ghost use Rattle.branch_and_bound.specs.Units.{IsWithin};
+ghost use Rattle.branch_and_bound.specs.Opening.{HasWork, IsSpent};
 
 /// The units of work that were spent, and how many may be. A unit is a box that is opened or a pivot. A count stays at
 /// `2^64 - 1` once it is there.

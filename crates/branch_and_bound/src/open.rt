@@ -4,7 +4,8 @@ ghost use Rattle.std.specs.Prelude.{◌≡◌, true, false, IfOk, IsSome};
 ghost use Rattle.search_box.specs.Places.{IsPlace, low_part, high_part};
 ghost use Rattle.search_box.specs.declared.span.At.{At};
 ghost use Rattle.node_tree.specs.Lines.{Line};
-ghost use Rattle.branch_and_bound.specs.Opening.{HasWork, IsSpent, IsWithin, IsPart};
+ghost use Rattle.branch_and_bound.specs.Units.{IsWithin};
+ghost use Rattle.branch_and_bound.specs.Opening.{IsPart};
 ghost use Rattle.branch_and_bound.specs.State.{IsCut, Ends, SettlesBoth, ended};
 
 use crate::incumbent::Incumbent;

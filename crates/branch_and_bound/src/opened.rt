@@ -25,7 +25,7 @@ pub enum Opened<T, K, W> {
         point: Point,
         kept: K,
     },
-    /// The vertex was found after so many pivots, and an operation of its reading was refused.
+    /// The vertex was found after so many pivots and its leaf proves the bound, but an operation of its reading was refused.
     Unread {
         leaf: Leaf,
         bound: Frac,
@@ -34,7 +34,7 @@ pub enum Opened<T, K, W> {
     },
     /// A pivot was due, and all units were spent.
     WorkOut,
-    /// After so many pivots an operation was refused.
+    /// After so many pivots an operation was refused: of the next pivot, or of the sum of the end's leaf.
     Wide {
         pivots: u64,
         part: W,

@@ -45,6 +45,13 @@ pub(crate) enum Settled<K, W> {
     },
 }
 
+/// A box whose vertex was found but not read keeps the leaf of its end.
+fn unread<K: Drop, W: Drop>(leaf: Leaf, bound: Frac, site: Site<W>) -> Settled<K, W>
+    ensures { result ≡ Settled.Stuck leaf bound site }
+{
+    Settled::Stuck { leaf, bound, site }
+}
+
 /// Makes a leaf of a box that was finished, and keeps its timing where that is better than the best so far.
 pub(crate) fn settle<P: Relaxation>(
     _relaxation: &P,
@@ -90,11 +97,7 @@ pub(crate) fn settle<P: Relaxation>(
             bound,
             pivots,
             part,
-        } => Settled::Stuck {
-            leaf,
-            bound,
-            site: Site { area, pivots, part },
-        },
+        } => unread(leaf, bound, Site { area, pivots, part }),
         Opened::WorkOut => Settled::Left {
             cause: Cause::WorkOut,
         },

@@ -153,8 +153,8 @@ fn pivots(found: &Found<i64, u8>) -> Option<u64> {
 #[test]
 fn a_refusal_stops_at_the_root(rt: HostRuntime) -> Result<(), Fail> {
     let found = found(rt.alloc(), 2000, 100)?;
-    assert!(rt; pivots(&found) == Some(1));
-    assert!(rt; found.spent == 2);
+    assert!(rt; pivots(&found) == Some(0));
+    assert!(rt; found.spent == 1);
     assert!(rt; has_shape(&found, b"w"));
     assert!(rt; found.bound == Frac::whole(3));
     assert!(rt; number(&found.incumbent) == -1);

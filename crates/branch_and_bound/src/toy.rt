@@ -4,7 +4,8 @@
 ghost use Rattle.std.specs.Prelude.{◌≡◌, ◌≤◌, ◌<ℤ◌, ◌-ℤ◌, ◌+◌, ℤ, pos, length, IfOk};
 ghost use Rattle.progression.specs.Street.{Street};
 ghost use Rattle.node_tree.specs.Lines.{Line};
-ghost use Rattle.branch_and_bound.specs.Opening.{HasWork, IsWithin, Opens, capped};
+ghost use Rattle.branch_and_bound.specs.Units.{IsWithin, capped};
+ghost use Rattle.branch_and_bound.specs.Opening.{HasWork, Opens};
 ghost use Rattle.branch_and_bound.specs.Capped.{capped_rules, EndsAs};
 
 use crate::meter::{Meter, is_out};
@@ -91,10 +92,10 @@ impl Capped {
         if is_out(meter) {
             return Opened::WorkOut;
         }
-        spend(meter);
         if self.cap > 1000 {
-            return Opened::Wide { pivots: 1, part: 1 };
+            return Opened::Wide { pivots: 0, part: 0 };
         }
+        spend(meter);
         end_of(alloc, self.cap, area)
     }
 }

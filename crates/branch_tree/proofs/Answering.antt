@@ -35,7 +35,9 @@ use Rattle.branch_tree.specs.Starts.{start_leaf}
 use Rattle.branch_tree.specs.Lineage.{IsSearchable, boxed}
 use Rattle.branch_tree.specs.Relaxed.{rules_of, IsTiming}
 use Rattle.branch_tree.specs.Trees.{node_of}
-use Rattle.branch_tree.specs.Searches.{incumbent_of, plan_of, IsSearch, HasValue, Tells, IsTimed, IsCertifiable, IsSiteOf, IsStopOf, HasSite}
+use Rattle.branch_tree.specs.Searches.{incumbent_of, IsSearch}
+use Rattle.branch_tree.specs.Told.{plan_of, HasValue, Tells, IsTimed, IsCertifiable}
+use Rattle.branch_tree.specs.SiteNames.{IsSiteOf, IsStopOf, HasSite}
 use Rattle.branch_tree.proofs.KeptLeaves.{end_kept, start_kept}
 use Rattle.branch_tree.proofs.Certificates.{certified, proofs_trees}
 use Rattle.branch_tree.proofs.NamedSites.{part_named}

@@ -1,9 +1,10 @@
+mod EachRefusal
+mod Leaving
 mod Running
 mod Reading
 mod Opens
 mod Certificates
 mod KeptLeaves
-mod EachRefusal
 mod NamedCells
 mod NamedSites
 mod Answering

@@ -24,7 +24,7 @@ use Rattle.program_builder.specs.BoxRows.{rows_of}
 use Rattle.branch_tree.specs.Ends.{table_after}
 use Rattle.branch_tree.specs.EndLaws.{run_dual, run_height, run_width}
 use Rattle.branch_tree.specs.Sites.{step_at}
-use Rattle.branch_tree.specs.Searches.{IsRatioOf, IsCellOf}
+use Rattle.branch_tree.specs.SiteNames.{IsRatioOf, IsCellOf}
 use Rattle.branch_tree.proofs.EachRefusal.{Each, each_some, each_none, each_earlier, each_first}
 
 each_cond : {E : Type 0} (P : E → Type 0) (b : Bool) (o p : Option E) → Each P o → Each P p → Each P (cond b o p)

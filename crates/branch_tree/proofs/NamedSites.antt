@@ -47,7 +47,7 @@ use Rattle.branch_tree.specs.declared.site.SitePart.{SitePart}
 use Rattle.branch_tree.specs.declared.site.SitePart.TheVariants as part
 use Rattle.branch_tree.specs.Ends.{end_leaf, end_point}
 use Rattle.branch_tree.specs.Sites.{step_at, sum_refusal, vertex_refusal, leaf_refusal, refusal_by, refusal_at}
-use Rattle.branch_tree.specs.Searches.{IsPlaceOf, IsTimingPart, IsPartOf}
+use Rattle.branch_tree.specs.SiteNames.{IsPlaceOf, IsTimingPart, IsPartOf}
 use Rattle.branch_tree.proofs.EachRefusal.{Each, each_some, each_none, each_earlier, each_first, each_map, each_if}
 use Rattle.branch_tree.proofs.NamedCells.{IsNamedStep, step_named}
 

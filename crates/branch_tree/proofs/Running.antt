@@ -1,5 +1,5 @@
 -- From what the steps of a node answer to how the run of a box stopped.
-use Rattle.std.proofs.Common.{arith, ◌≡◌, ℕ, ◌+◌, ◌≤◌, true, false, Option, Some, None, IfSome, refl, sym, ◌∙◌, ap, subst}
+use Rattle.std.proofs.Common.{arith, ◌≡◌, ℕ, ◌+◌, ◌≤◌, inl, true, false, Option, Some, None, IfSome, refl, sym, ◌∙◌, ap, subst}
 use Rattle.progression.specs.Street.{Street}
 use Rattle.artery_model.specs.Valid.{IsValid}
 use Rattle.linear_model.specs.Boxes.{Area}
@@ -15,12 +15,14 @@ use Rattle.dual_simplex.specs.Steps.{step_of}
 use Rattle.dual_simplex.specs.Ends.{Solved, end_says, metered, stepped, is_out, is_at_limit}
 use Rattle.program_builder.specs.Building.{IsMadeFor, opened_box, made_spent}
 use Rattle.branch_and_bound.specs.declared.meter.Meter.{Meter}
-use Rattle.branch_and_bound.specs.Opening.{Leaves, IsWithin, IsSpent, capped}
+use Rattle.branch_and_bound.specs.Units.{IsWithin, capped}
+use Rattle.branch_and_bound.specs.Opening.{Leaves, IsSpent}
 use Rattle.branch_tree.specs.Ends.{table_after, named_after, steps_of, end_move}
 use Rattle.branch_tree.specs.EndLaws.{run_dual, run_height, run_width}
-use Rattle.branch_tree.specs.Runs.{ends_step, reached_by, table_by, end_here, due_at}
+use Rattle.branch_tree.specs.Runs.{ends_step, reached_by, table_by, end_here, due_at, due_before}
 use Rattle.branch_tree.specs.Sites.{step_at, IsReached}
 use Rattle.branch_tree.specs.Opening.{IsOptimalRun, IsInfeasibleRun, IsRunTo, IsRun}
+use Rattle.branch_tree.proofs.Leaving.{wide_before}
 use Rattle.std.proofs.lemmas.Bool.{eqb-true}
 
 module _ (a : Street) (box : Area) (v : IsValid a) (s t : NamedTableau) (m n : simplex.Meter) (p q k : ℕ) (o : s ≡ opened_box a box) where
@@ -70,11 +72,16 @@ module _ (a : Street) (box : Area) (v : IsValid a) (s t : NamedTableau) (m n : s
   stops later Optimal i j h = optimal_run h
   stops later (Infeasible row) i j h = infeasible_run row h
   stops later WorkOut i j h =
-      let w = end_says _ (metered m k) WorkOut h.ends in (
-        due_at a box k (reached WorkOut h) (ap (λ u. is_pivot (move u)) (sym here) ∙ w.0),
+      let w = end_says _ (metered m k) WorkOut h.ends in
+      let due = due_at a box k (reached WorkOut h) (ap (λ u. is_pivot (move u)) (sym here) ∙ w.0) in (
+        inl (due_before a box v k due),
+        due,
         j ∙ ap (λ u. u.limit) h.meter ∙ limit_met _ _ w.1 ∙ ap Some (sym (i ∙ ap (λ u. u.spent) h.meter)),
       )
-  stops later (Wide in_ratio cell) i j h = (reached (Wide in_ratio cell) h, ap step_of (sym here) ∙ (end_says _ (metered m k) (Wide in_ratio cell) h.ends).0)
+  stops later (Wide in_ratio cell) i j h =
+      let r = reached (Wide in_ratio cell) h in
+      let s = ap step_of (sym here) ∙ (end_says _ (metered m k) (Wide in_ratio cell) h.ends).0 in
+      (inl (wide_before a box v k in_ratio cell r s), r, s)
 
   -- the tableau stays one that was made for the artery
   made_by : stepped s k ≡ t → IsMadeFor a t

@@ -1,6 +1,6 @@
 -- The sum of a leaf whose rows are there, with multipliers of at least 0, has no fault but an operation that leaves 128 bits; and
 -- where it has none, the leaf is a proof of what its sum shows.
-use Rattle.std.proofs.Common.{◌≡◌, List, [], ◌∷◌, map, Option, Some, None, refl, sym, ◌∙◌, subst}
+use Rattle.std.proofs.Common.{◌≡◌, List, [], ◌∷◌, map, Option, Some, None, refl, sym, ◌∙◌, ap, subst}
 use Rattle.ratio.specs.Rational.{ℚ}
 use Rattle.progression.specs.Street.{Street, count}
 use Rattle.linear_model.specs.Places.{width}
@@ -53,6 +53,17 @@ fits_in : (a : Street) (box : Area) (sum : Sheet) (ws : List Weight) → weights
 fits_in a box sum [] e = tt
 fits_in a box sum (w ∷ ws) e = let p = neither _ _ e in ((no_fault a box sum w p.0).fits, fits_in a box (after_weight a box sum w) ws p.1)
 
+fault_none : (a : Street) (box : Area) (sum : Sheet) (ws : List Weight) → AreWeights a (map named ws) → FitsAlong a box sum ws → weights_fault a box sum ws ≡ None
+fault_none a box sum [] h f = refl
+fault_none a box sum (w ∷ ws) h f =
+    ap (λ o. earlier o (weights_fault a box (after_weight a box sum w) ws)) (fault_free a box sum w (record { there = h.0; positive = h.1; fits = f.0 }))
+    ∙ fault_none a box (after_weight a box sum w) ws h.2 f.1
+
 pub proof_of : (a : Street) (limit : Option ℚ) (box : Area) (ws : List Weight) → leaf_fault a box ws ≡ None → Shows a limit (leaf_sum a box (map named ws)) → IsProof a limit box ws
 unfolding leaf_fault
 proof_of a limit box ws e s = record { rows = total_weights a box ws e; fits = fits_in a box (blank (width (count a))) ws e; shows = s }
+
+-- and back: no operation of a proof's sum is refused
+pub proof_free : (a : Street) (limit : Option ℚ) (box : Area) (ws : List Weight) → IsProof a limit box ws → leaf_fault a box ws ≡ None
+unfolding leaf_fault
+proof_free a limit box ws p = fault_none a box (blank (width (count a))) ws p.rows p.fits

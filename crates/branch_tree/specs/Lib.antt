@@ -20,6 +20,8 @@ pub mod BoxProofs
 pub mod Units
 pub mod Openings
 pub mod Promises
+pub mod Told
+pub mod SiteNames
 pub mod Searches
 pub mod Certified
 pub mod Opening

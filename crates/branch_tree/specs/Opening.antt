@@ -17,7 +17,9 @@ use Rattle.node_tree.specs.Lines.{Line, top_line}
 use Rattle.branch_and_bound.specs.declared.meter.Meter.{Meter}
 use Rattle.branch_and_bound.specs.declared.opened.Opened.{Opened}
 use Rattle.branch_and_bound.specs.declared.opened.Opened.TheVariants as opened
-use Rattle.branch_and_bound.specs.Opening.{OpensEmpty, OpensTimed, OpensCut, OpensStuck, Leaves, IsSpent, capped}
+use Rattle.branch_and_bound.specs.Units.{capped}
+use Rattle.branch_and_bound.specs.Unfinished.{IsUnfinished}
+use Rattle.branch_and_bound.specs.Opening.{OpensEmpty, OpensTimed, OpensCut, OpensStuck, Leaves, IsSpent}
 use Rattle.branch_tree.specs.declared.site.SitePart.{SitePart}
 use Rattle.branch_tree.specs.declared.kept.Kept.{Kept}
 use Rattle.branch_tree.specs.declared.relaxed.Room.{Room}
@@ -49,12 +51,16 @@ pub record IsInfeasibleRun (a : Street) (box : Area) (tableau : NamedTableau) (r
   pub move_is : end_move a box ≡ infeasible row
   pub tableau_is : tableau ≡ named_last a box
 
+-- the run of a box was left after k steps: others were to come, or the sum of the end's leaf is refused
+abbrev pub IsLeft : Street → Area → ℕ → Type 0
+IsLeft a box k = IsUnfinished (rules_of a) (top_line box) k
+
 -- where the run of a box stopped after k steps, by its end
 abbrev pub IsRunTo : Street → Area → NamedTableau → Meter → ℕ → NodeEnd → Type 0
 IsRunTo a box tableau after k Optimal = (k ≡ steps_of a box) × IsOptimalRun a box tableau
 IsRunTo a box tableau after k (Infeasible row) = (k ≡ steps_of a box) × IsInfeasibleRun a box tableau row
-IsRunTo a box tableau after k WorkOut = IsDue a box k × IsSpent after
-IsRunTo a box tableau after k (Wide in_ratio cell) = IsReached a box k × (step_at a box k ≡ steps.Wide in_ratio cell)
+IsRunTo a box tableau after k WorkOut = IsLeft a box k × IsDue a box k × IsSpent after
+IsRunTo a box tableau after k (Wide in_ratio cell) = IsLeft a box k × IsReached a box k × (step_at a box k ≡ steps.Wide in_ratio cell)
 
 -- the box took a unit, and each of its steps another
 pub record IsRun (a : Street) (box : Area) (tableau : NamedTableau) (before after : Meter) (end : NodeEnd) (pivots : ℕ) : Type 0 where
@@ -73,9 +79,9 @@ IsSummed a box ws (summed.Wide row at) = leaf_fault a box ws ≡ Some (fault.Wid
 abbrev pub Opening : Type 0
 Opening = Opened Plan Kept SitePart
 
--- a refused operation after all steps
+-- a refused operation of the end's leaf; one of the vertex alone isn't told in this way
 abbrev pub IsWideEnd : Street → Area → ℕ → ℕ → SitePart → Type 0
-IsWideEnd a box pivots told part = IsWide a box (steps_of a box) part × (told ≡ pivots)
+IsWideEnd a box pivots told part = IsLeft a box (steps_of a box) × IsWide a box (steps_of a box) part × (told ≡ pivots)
 
 -- at a last vertex
 abbrev pub IsReadEnd : Street → Area → ℕ → Opening → Type 0
@@ -97,5 +103,5 @@ IsEmptyEnd a box pivots (opened.Wide told part) = IsWideEnd a box pivots told pa
 
 -- where a step's operation was refused
 abbrev pub IsWideStep : Street → Area → ℕ → ℕ → Opening → Type 0
-IsWideStep a box k pivots (opened.Wide told part) = IsWide a box k part × (told ≡ pivots)
+IsWideStep a box k pivots (opened.Wide told part) = IsLeft a box k × IsWide a box k part × (told ≡ pivots)
 IsWideStep a box k pivots _ = ⊥

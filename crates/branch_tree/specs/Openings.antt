@@ -23,7 +23,8 @@ use Rattle.offset_recovery.specs.Outcomes.{Outcome, Refused, Splits, Gives}
 use Rattle.offset_recovery.specs.Recovered.{recovered}
 use Rattle.node_tree.specs.Lines.{Line}
 use Rattle.branch_and_bound.specs.Lineages.{IsOptimal}
-use Rattle.branch_and_bound.specs.Opening.{OpensEmpty, HasBound, OpensTimed, OpensCut, OpensStuck, capped}
+use Rattle.branch_and_bound.specs.Units.{capped}
+use Rattle.branch_and_bound.specs.Opening.{OpensEmpty, HasBound, OpensTimed, OpensCut, OpensStuck}
 use Rattle.branch_tree.specs.declared.site.SitePart.TheVariants.{Timing}
 use Rattle.branch_tree.specs.declared.kept.Kept.{Kept}
 use Rattle.branch_tree.specs.Ends.{table_after, named_after, named_last, steps_of, end_move, end_point, end_bound, leaf_by, end_leaf, ending_of, ending_by_outcome}

@@ -38,12 +38,13 @@ pub record IsRefuted (a : Street) (box : Area) : Type 0 where
   pub refutes : RefutesAll a (leaf_sum a box (map named (end_leaf a box)))
 
 -- any other box: the vertex is a point of it, with the bound as its weighted band; no point of the box has a greater one, since
--- the leaf covers the goal with the bound
+-- the leaf covers the goal, and its sum has just this bound
 pub record IsBounded (a : Street) (box : Area) : Type 0 where
   pub vertex : IsVertex a box (end_point a box)
   pub goal : goal_at a (end_point a box) ≡ end_bound a box
   pub rows : AreWeights a (map named (end_leaf a box))
   pub covers : CoversGoal a (end_bound a box) (leaf_sum a box (map named (end_leaf a box)))
+  pub bound : (leaf_sum a box (map named (end_leaf a box))).bound ≡ end_bound a box
   pub greatest : (x : List ℚ) → IsVertex a box x → goal_at a x ≤ℚ end_bound a box
 
 -- a split: its place lies in the box, the parts are boxes that share its timings out, and no part has a greater bound
@@ -72,7 +73,7 @@ boxes_end = record {
   empty = λ a box v e. let r = laws.ends_infeasible a box v e in record { rows = r.rows; refutes = r.refutes };
   bounded = λ a box v o.
       let r = laws.ends_optimal a box v o in
-      record { vertex = r.vertex; goal = r.goal; rows = r.rows; covers = r.covers; greatest = λ x p. laws.vertex_greatest a box v x o p };
+      record { vertex = r.vertex; goal = r.goal; rows = r.rows; covers = r.covers; bound = r.bound; greatest = λ x p. laws.vertex_greatest a box v x o p };
   reads = λ a box t v b e f. laws.reads_good a box v b t e f;
   cuts = λ a box place v b e.
       let p = laws.cuts_inside a box v b place e in

@@ -3,7 +3,8 @@
 ghost use Rattle.std.specs.Prelude.{◌≡◌, ◌++◌, [], ◌∷◌, ℕ, Option, map, IfOk, OnOk};
 ghost use Rattle.plan_text.specs.Warrants as warrants;
 ghost use Rattle.certificate_checker.specs.Accepted.{IsAccepted};
-ghost use Rattle.branch_tree.specs.Searches.{IsCertifiable, IsSearch};
+ghost use Rattle.branch_tree.specs.Searches.{IsSearch};
+ghost use Rattle.branch_tree.specs.Told.{IsCertifiable};
 ghost use Rattle.branch_tree.specs.Trees as trees;
 ghost use Rattle.branch_tree.specs.Certified as certified;
 ghost use Rattle.branch_tree.specs.Certified.{warrant_of};

@@ -3,7 +3,7 @@
 //!
 //! Begin with `search`. What it answers is `IsSearch` (`specs/Searches.antt`): a tree of boxes that proves the verdict, each
 //! box of which was needed, the units that it took, and why the search stopped. `certificate_of` makes the certificate of an
-//! answer, which `certificate_checker` accepts.
+//! answer, which `certificate_checker` accepts. `specs/Told.antt` and `specs/SiteNames.antt` say what else follows of an answer.
 //!
 //! - `specs/Ends.antt`: of an artery and a box, how many steps lead to the end (`steps_of`), the last tableau, its leaf
 //!   (`end_leaf`), vertex (`end_point`) and bound (`end_bound`), and how the box is searched on (`ending_of`).
@@ -29,6 +29,8 @@ mod site;
 mod starting;
 #[cfg(test)]
 mod tests;
+#[cfg(test)]
+mod wide_tests;
 
 pub use certifying::certificate_of;
 pub use found::{Found, Site, Stop, TreeNode, Verdict};

@@ -8,11 +8,12 @@ ghost use Rattle.node_tree.specs.Lines.{Line, top_line};
 ghost use Rattle.program_builder.specs.Building.{opened_box, IsMadeFor};
 ghost use Rattle.dual_simplex.specs.declared.outcome.Step.TheVariants as steps;
 ghost use Rattle.branch_and_bound.specs.declared.meter.Meter.{Meter};
-ghost use Rattle.branch_and_bound.specs.Opening.{HasWork, Opens, capped};
+ghost use Rattle.branch_and_bound.specs.Units.{capped};
+ghost use Rattle.branch_and_bound.specs.Opening.{HasWork, Opens};
 ghost use Rattle.branch_tree.specs.Ends.{steps_of, end_leaf, end_bound};
 ghost use Rattle.branch_tree.specs.Sites.{IsReached, step_at};
 ghost use Rattle.branch_tree.specs.Relaxed.{rules_of};
-ghost use Rattle.branch_tree.specs.Opening.{IsRoomFor, IsRun, IsOptimalRun, IsInfeasibleRun, IsSummed, IsReadEnd, IsEmptyEnd, IsWideStep};
+ghost use Rattle.branch_tree.specs.Opening.{IsRoomFor, IsLeft, IsRun, IsOptimalRun, IsInfeasibleRun, IsSummed, IsReadEnd, IsEmptyEnd, IsWideStep};
 
 use crate::kept::Kept;
 use crate::relaxed::Room;
@@ -197,7 +198,7 @@ fn wide_step(
     cell: WideCell,
     pivots: u64,
 ) -> Opening
-    ensures { (k : ℕ) → IsReached _artery.now _area.now k → step_at _artery.now _area.now k ≡ steps.Wide ratio cell → IsWideStep _artery.now _area.now k pivots result }
+    ensures { (k : ℕ) → IsLeft _artery.now _area.now k → IsReached _artery.now _area.now k → step_at _artery.now _area.now k ≡ steps.Wide ratio cell → IsWideStep _artery.now _area.now k pivots result }
 {
     if ratio {
         Opened::Wide {

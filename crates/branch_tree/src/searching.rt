@@ -2,8 +2,10 @@
 
 ghost use Rattle.std.specs.Prelude.{◌≡◌, IfOk, IfSome, IsSome};
 ghost use Rattle.progression.specs.Good.{Good};
-ghost use Rattle.branch_and_bound.specs.Opening.{IsBelow};
-ghost use Rattle.branch_tree.specs.Searches.{IsSearch, Tells, IsCertifiable, HasSite, plan_of};
+ghost use Rattle.branch_and_bound.specs.Units.{IsBelow};
+ghost use Rattle.branch_tree.specs.Searches.{IsSearch};
+ghost use Rattle.branch_tree.specs.Told.{Tells, IsCertifiable, plan_of};
+ghost use Rattle.branch_tree.specs.SiteNames.{HasSite};
 
 use crate::found::Found;
 use crate::relaxed::{Relaxed, make_room};

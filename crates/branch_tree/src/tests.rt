@@ -3,7 +3,7 @@
 //! of the shorter artery takes 4 units, its low part 8 and its high part 9.
 
 ghost use Rattle.std.specs.Prelude.{◌<◌, IfOk};
-ghost use Rattle.branch_tree.specs.Searches.{IsCertifiable};
+ghost use Rattle.branch_tree.specs.Told.{IsCertifiable};
 
 use crate::{Found, Stop, TreeNode, Verdict, certificate_of, search};
 use artery_model::{Artery, Head, Link, Pair, Signal, Text, Units};
@@ -15,14 +15,19 @@ use std::rt::HostRuntime;
 use std::test::Fail;
 use time_space::value;
 
-fn pair(number: i64) -> Pair {
+/// A range of this number alone.
+pub(crate) fn pair_of(number: Frac) -> Pair {
     Pair {
-        least: Frac::whole(number),
-        most: Frac::whole(number),
+        least: number,
+        most: number,
     }
 }
 
-fn signal(alloc: Global, name: &str, red: u32) -> Result<Signal, Fail> {
+fn pair(number: i64) -> Pair {
+    pair_of(Frac::whole(number))
+}
+
+pub(crate) fn signal(alloc: Global, name: &str, red: u32) -> Result<Signal, Fail> {
     Ok(Signal {
         name: Text::new(alloc, name).ok().ok_or("no memory")?,
         red,
@@ -63,7 +68,7 @@ pub(crate) fn fraction(num: i128, den: i128) -> Result<Frac, Fail> {
     Ok(Frac::new(num, den).ok().ok_or("no fraction")?)
 }
 
-fn searched(alloc: Global, artery: &Artery, limit: u64) -> Result<Found, Fail>
+pub(crate) fn searched(alloc: Global, artery: &Artery, limit: u64) -> Result<Found, Fail>
     requires { 0 < limit }
     ensures { IfOk result (λ found. IsCertifiable found) }
 {
@@ -74,7 +79,7 @@ fn searched(alloc: Global, artery: &Artery, limit: u64) -> Result<Found, Fail>
 }
 
 /// Whether the certificate of an answer is accepted.
-fn is_accepted(alloc: Global, artery: &Artery, found: &Found) -> bool
+pub(crate) fn is_accepted(alloc: Global, artery: &Artery, found: &Found) -> bool
     requires { IsCertifiable found.now }
 {
     match certificate_of(alloc, artery, found) {
@@ -155,7 +160,7 @@ fn work_runs_out(rt: HostRuntime) -> Result<(), Fail> {
 }
 
 /// Whether a node is a waiting leaf of the first waits' rows, each once.
-fn is_first_waits(node: &TreeNode) -> bool {
+pub(crate) fn is_first_waits(node: &TreeNode) -> bool {
     let one = Frac::whole(1);
     match node {
         TreeNode::Waiting { leaf } => match leaf.multipliers.as_slice() {

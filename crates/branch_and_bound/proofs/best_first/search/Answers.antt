@@ -21,7 +21,7 @@ returns-in_ok-tree-in-Stuck g c =
     let before : Meter = record { spent = 0; limit = c.args.limit } in
     let opens = subst (λ a. Opens r (top_line a) before c.open_root.new.meter c.in_ok-opened.opened) c.in_ok-area.ensures c.in_ok-opened.ensures.opens in
     let s = c.in-Stuck.ensures (top_line r.root) before c.open_root.new.meter c.in_ok-area.ensures opens in
-    let h = root_stuck r c.args.limit c.settle.new.incumbent before c.open_root.new.meter c.in-Stuck.leaf c.in-Stuck.bound c.in-Stuck.site c.requires.sound refl s.0 s.1 in
+    let h = root_stuck r c.args.limit c.settle.new.incumbent before c.open_root.new.meter c.in-Stuck.leaf c.in-Stuck.bound c.in-Stuck.site c.requires.sound refl c.in_ok-opened.ensures.limit s.0 s.1 in
     rw (c.halt.ensures.nodes, c.halt.ensures.incumbent, c.halt.ensures.bound, c.halt.ensures.spent, c.halt.ensures.verdict, c.in_ok-tree-in-Stuck.ensures) h
 
 pub returns-in_ok-tree-in-Left : goal.returns-in_ok-tree-in-Left
@@ -30,6 +30,6 @@ returns-in_ok-tree-in-Left g c =
     let before : Meter = record { spent = 0; limit = c.args.limit } in
     let opens = subst (λ a. Opens r (top_line a) before c.open_root.new.meter c.in_ok-opened.opened) c.in_ok-area.ensures c.in_ok-opened.ensures.opens in
     let s = c.in-Left.ensures (top_line r.root) before c.open_root.new.meter c.in_ok-area.ensures opens in
-    let h = root_left r c.args.limit c.settle.new.incumbent before c.open_root.new.meter c.in_ok-leaf-in-Left.leaf c.in_ok-leaf-in-Left.bound c.in-Left.cause refl c.requires.limit c.in_ok-opened.ensures.limit s.0
+    let h = root_left r c.args.limit c.settle.new.incumbent before c.open_root.new.meter c.in_ok-leaf-in-Left.leaf c.in_ok-leaf-in-Left.bound c.in-Left.cause refl c.in_ok-opened.ensures.limit s.0
     c.in_ok-leaf-in-Left.ensures.leaf c.in_ok-leaf-in-Left.ensures.bound c.in_ok-leaf-in-Left.ensures.covers s.1 in
     rw (c.halt-in-Left.ensures.nodes, c.halt-in-Left.ensures.incumbent, c.halt-in-Left.ensures.bound, c.halt-in-Left.ensures.spent, c.halt-in-Left.ensures.verdict, c.in_ok-tree-in-Left.ensures) h

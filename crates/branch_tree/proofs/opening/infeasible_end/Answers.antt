@@ -1,10 +1,11 @@
-use Rattle.std.proofs.Common.{◌≡◌, None, Some, refl, sym, ◌∙◌, ap, subst}
+use Rattle.std.proofs.Common.{◌≡◌, None, Some, inr, refl, sym, ◌∙◌, ap, subst}
 use Rattle.node_tree.specs.Lines.{top_line}
 use Rattle.loop_rows.specs.Weights.{leaf_fault}
 use Rattle.branch_tree.specs.Ends.{end_leaf}
 use Rattle.branch_tree.specs.Runs.{wide_sum_infeasible}
 use Rattle.branch_tree.specs.Opening.{IsSummed}
 use Rattle.branch_tree.specs.Openings.{opens_empty}
+use Rattle.branch_tree.proofs.Leaving.{ends_unproved}
 use Rattle.branch_tree.proofs.Reading.{row_said, refuter_read, refuter_rows}
 use Rattle.branch_tree.proofs.opening.infeasible_end.Goals as goal
 
@@ -40,4 +41,5 @@ returns-in-Wide c =
     let ws = c.in_ok-leaf.leaf.multipliers.items in
     let e : ws ≡ end_leaf a box = refuter_read a box c.args.tableau.now c.args.row ws c.requires.run c.in_ok-leaf.ensures.list in
     let s = subst (IsSummed a box ws) c.in-Wide.is c.in_ok-sum_leaf.ensures in
-    (wide_sum_infeasible a box _ c.args.row c.in-Wide.row c.in-Wide.at c.requires.run.reached c.requires.run.step (ap (leaf_fault a box) (sym e) ∙ s), refl)
+    let f = ap (leaf_fault a box) (sym e) ∙ s in
+    (inr (refl, ends_unproved a (top_line box) c.in_ok-leaf.leaf _ e f), wide_sum_infeasible a box _ c.args.row c.in-Wide.row c.in-Wide.at c.requires.run.reached c.requires.run.step f, refl)

@@ -1,4 +1,5 @@
-use Rattle.std.proofs.Common.{◌≡◌, None, Some, refl, sym, ◌∙◌, ap, subst}
+use Rattle.std.proofs.Common.{◌≡◌, None, Some, inr, refl, sym, ◌∙◌, ap, subst}
+use Rattle.node_tree.specs.Lines.{top_line}
 use Rattle.loop_rows.specs.Weights.{leaf_fault}
 use Rattle.loop_rows.specs.declared.fault.SumFault.TheVariants as fault
 use Rattle.branch_tree.specs.Ends.{end_leaf}
@@ -6,6 +7,7 @@ use Rattle.branch_tree.specs.EndLaws.{optimal_end}
 use Rattle.branch_tree.specs.LeafRows.{sum_of}
 use Rattle.branch_tree.specs.Runs.{wide_sum_optimal}
 use Rattle.branch_tree.specs.Opening.{IsSummed}
+use Rattle.branch_tree.proofs.Leaving.{ends_unproved}
 use Rattle.branch_tree.proofs.Reading.{leaf_read, leaf_rows}
 use Rattle.branch_tree.proofs.opening.optimal_end.Goals as goal
 
@@ -44,4 +46,5 @@ returns-in-Wide c =
     let ws = c.in_ok-leaf.leaf.multipliers.items in
     let e : ws ≡ end_leaf a box = leaf_read a box c.args.tableau.now ws c.requires.run c.in_ok-leaf.ensures.list in
     let s = subst (IsSummed a box ws) c.in-Wide.is c.in_ok-bound.ensures in
-    (wide_sum_optimal a box _ c.in-Wide.row c.in-Wide.at c.requires.run.reached c.requires.run.step (ap (leaf_fault a box) (sym e) ∙ s), refl)
+    let f = ap (leaf_fault a box) (sym e) ∙ s in
+    (inr (refl, ends_unproved a (top_line box) c.in_ok-leaf.leaf _ e f), wide_sum_optimal a box _ c.in-Wide.row c.in-Wide.at c.requires.run.reached c.requires.run.step f, refl)

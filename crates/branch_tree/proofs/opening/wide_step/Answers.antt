@@ -5,9 +5,9 @@ use Rattle.branch_tree.specs.Runs.{wide_ratio, wide_cell}
 use Rattle.branch_tree.proofs.opening.wide_step.Goals as goal
 
 pub returns-then-ratio : goal.returns-then-ratio
-returns-then-ratio c = λ k r e.
-    (wide_ratio c.args._artery.now c.args._area.now k c.args.cell r (subst (λ b. step_at c.args._artery.now c.args._area.now k ≡ steps.Wide b c.args.cell) c.if-ratio.true e), refl)
+returns-then-ratio c = λ k left r e.
+    (left, wide_ratio c.args._artery.now c.args._area.now k c.args.cell r (subst (λ b. step_at c.args._artery.now c.args._area.now k ≡ steps.Wide b c.args.cell) c.if-ratio.true e), refl)
 
 pub returns-else-ratio : goal.returns-else-ratio
-returns-else-ratio c = λ k r e.
-    (wide_cell c.args._artery.now c.args._area.now k c.args.cell r (subst (λ b. step_at c.args._artery.now c.args._area.now k ≡ steps.Wide b c.args.cell) c.if-ratio.false e), refl)
+returns-else-ratio c = λ k left r e.
+    (left, wide_cell c.args._artery.now c.args._area.now k c.args.cell r (subst (λ b. step_at c.args._artery.now c.args._area.now k ≡ steps.Wide b c.args.cell) c.if-ratio.false e), refl)

@@ -1,0 +1,85 @@
+-- Where the run of a box is left: a refused step isn't the last one, and a leaf whose sum is refused is no proof.
+use Rattle.std.proofs.Common.{◌≡◌, ℕ, ◌<◌, Bool, true, false, cond, Option, Some, None, refl, sym, ◌∙◌, ap}
+use Rattle.progression.specs.Street.{Street}
+use Rattle.artery_model.specs.Valid.{IsValid}
+use Rattle.linear_model.specs.Boxes.{Area}
+use Rattle.named_row.specs.declared.leaves.Leaf.{Leaf}
+use Rattle.simplex_model.specs.Tableau.{Tableau, cell, width}
+use Rattle.simplex_model.specs.BlandRule.{is_negative, place_before, chosen_row, chosen_place, move_in, move_by, move, on_place}
+use Rattle.simplex_model.specs.Best.{OnBest}
+use Rattle.simplex_model.specs.StepCounts.{is_pivot}
+use Rattle.fraction_tableau.specs.declared.wide_cell.WideCell.{WideCell}
+use Rattle.fraction_tableau.specs.Refusals.{pivot_refusal}
+use Rattle.dual_simplex.specs.Ratios.{ratio_at, ratio_refusal}
+use Rattle.dual_simplex.specs.Steps.{step_pivot, step_place, step_ratio, step_row, step_of}
+use Rattle.dual_simplex.specs.declared.outcome.Step.TheVariants as steps
+use Rattle.loop_rows.specs.Weights.{leaf_fault}
+use Rattle.loop_rows.specs.declared.fault.SumFault.{SumFault}
+use Rattle.node_tree.specs.Lines.{Line}
+use Rattle.branch_and_bound.specs.Unfinished.{EndsUnproved}
+use Rattle.branch_tree.specs.Ends.{table_after, steps_of, end_leaf}
+use Rattle.branch_tree.specs.Sites.{step_at, IsReached}
+use Rattle.branch_tree.specs.LeafFaults.{proof_free}
+use Rattle.branch_tree.specs.Relaxed.{rules_of}
+use Rattle.branch_tree.specs.Runs.{due_at, due_before}
+use Rattle.branch_tree.proofs.EachRefusal.{Each, each_none, each_first}
+
+-- ---- a refused step
+module _ (t : Tableau) (r : ℕ) where
+  -- a place of the row whose cell is negative
+  record HasNegative : Type 0 where
+    place : ℕ
+    within : place < width t
+    negative : is_negative (cell t r place) ≡ true
+
+  negative_there : (k : ℕ) → k < width t → Each (λ (w : WideCell). HasNegative) (ratio_at t r k)
+  negative_there k l = pick (is_negative (cell t r k)) _ refl
+    where
+      pick : (b : Bool) (o : Option WideCell) → is_negative (cell t r k) ≡ b → Each (λ (w : WideCell). HasNegative) (cond b o None)
+      pick true o e = λ w q. record { place = k; within = l; negative = e }
+      pick false o e = each_none (λ (w : WideCell). HasNegative)
+
+  refused_there : Each (λ (w : WideCell). HasNegative) (ratio_refusal t r)
+  unfolding ratio_refusal
+  refused_there = each_first (λ (w : WideCell). HasNegative) (ratio_at t r) (width t) negative_there
+
+  -- so a place is chosen
+  chosen_there : HasNegative → (o : Option ℕ) → OnBest (λ k. is_negative (cell t r k)) (place_before t r) (width t) o → is_pivot (move_in r o) ≡ true
+  chosen_there n None h = absurd (h n.place n.within n.negative)
+  chosen_there n (Some j) h = refl
+
+  module _ (in_ratio : Bool) (w : WideCell) where
+    by_place : (o : Option ℕ) → step_place t r o ≡ steps.Wide in_ratio w → is_pivot (move_in r o) ≡ true
+    by_place None e = cc
+    by_place (Some j) e = refl
+
+    by_ratio : (o : Option WideCell) → ratio_refusal t r ≡ o → step_ratio t r o ≡ steps.Wide in_ratio w → is_pivot (move_in r (chosen_place t r)) ≡ true
+    by_ratio None f e = by_place (chosen_place t r) e
+    by_ratio (Some v) f e = chosen_there (refused_there v f) (chosen_place t r) (on_place t r)
+
+-- at a refused step a pivot is due
+wide_pivots : (t : Tableau) (in_ratio : Bool) (w : WideCell) → step_of t ≡ steps.Wide in_ratio w → is_pivot (move t) ≡ true
+unfolding step_of move
+wide_pivots t in_ratio w e = pick (chosen_row t) e
+  where
+    pick : (o : Option ℕ) → step_row t o ≡ steps.Wide in_ratio w → is_pivot (move_by t o) ≡ true
+    pick None e = cc
+    pick (Some r) e = by_ratio t r in_ratio w (ratio_refusal t r) refl e
+
+-- so it comes before the end
+pub wide_before : (a : Street) (box : Area) → IsValid a → (k : ℕ) (in_ratio : Bool) (w : WideCell) → IsReached a box k → step_at a box k ≡ steps.Wide in_ratio w → k < steps_of a box
+wide_before a box v k in_ratio w r e = due_before a box v k (due_at a box k r (wide_pivots (table_after a box k) in_ratio w e))
+
+-- ---- a refused sum
+some_none : (f : SumFault) → Some f ≡ None → ⊥
+some_none f e = cc
+
+pub ends_unproved : (a : Street) (line : Line) (leaf : Leaf) (f : SumFault) → leaf.multipliers.items ≡ end_leaf a line.area → leaf_fault a line.area (end_leaf a line.area) ≡ Some f → EndsUnproved (rules_of a) line
+ends_unproved a line leaf f read e =
+    let told = sym e ∙ ap (leaf_fault a line.area) (sym read) in
+    record {
+      leaf = leaf;
+      leaf_is = read;
+      not_refuted = λ p. some_none f (told ∙ proof_free a None line.area leaf.multipliers.items p);
+      not_covered = λ p. some_none f (told ∙ proof_free a _ line.area leaf.multipliers.items p);
+    }
