@@ -1,0 +1,4 @@
+pub mod Steps
+pub mod Passing
+pub mod Names
+pub mod Validity
