@@ -1,4 +1,6 @@
 pub mod ColumnNames
+pub mod Pieces
 pub mod RowNames
+pub mod Runs
 pub mod Sizes
 pub mod Spans

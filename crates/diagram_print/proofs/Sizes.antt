@@ -12,6 +12,9 @@ unfolding over whole
 over_least n zero = omega (arith, ints)
 over_least n (suc d) = omega (arith, ints)
 
+pub over_small : (n d : ℕ) → 0 < d → d ≤ 2 ^ 120 → (over (pos n) d).den ≤ 2 ^ 120
+over_small n d h k = let s : (over (pos n) d).den ≤ d = den_size (pos n) d h in omega arith
+
 own_size : (z : ℤ) → pos 0 ≤ℤ z → pos (unsigned_abs z) ≡ z
 own_size z h = omega (arith, ints)
 

@@ -3,10 +3,8 @@ use Rattle.std.specs.Prelude.{ℕ, List, ◌++◌, flat_map, codes, Option, None
 use Rattle.std.specs.Fmt.{decimal, signed_decimal}
 use Rattle.ratio.specs.Rational.{ℚ}
 use Rattle.quantity_text.specs.Exact.{exact_spelling}
-use Rattle.quantity_text.specs.Decimal.{decimal_spelling}
 use Rattle.progression.specs.Street.{Street, count}
 use Rattle.progression.specs.Plan.{Plan}
-use Rattle.progression.specs.Best.{weighted_band}
 use Rattle.linear_model.specs.Boxes.{Area, Span, Ranks}
 use Rattle.branch_and_bound.specs.declared.found.Site.{Site}
 use Rattle.branch_and_bound.specs.declared.found.Stop.{Stop}
@@ -16,6 +14,10 @@ use Rattle.branch_and_bound.specs.declared.found.Verdict.TheVariants.{Best, NoTi
 use Rattle.branch_tree.specs.declared.site.SitePart.{SitePart}
 use Rattle.branch_tree.specs.declared.found.Found.{Found}
 use Rattle.diagram_print.specs.Sites.{site_line, operands_line}
+use Rattle.diagram_print.specs.Measures.{measure_lines}
+use Rattle.diagram_print.specs.Offsets.{signal_lines}
+use Rattle.diagram_print.specs.Speeds.{link_lines}
+use Rattle.diagram_print.specs.Diagram.{diagram_lines}
 
 -- ---- why a search stopped
 -- the least and the greatest block sum of a link, and the least and the greatest rank of a signal's shifts
@@ -44,15 +46,8 @@ stop_lines signals (Work spent) = codes "stopped work " ++ (decimal spent ++ cod
 stop_lines signals (Wide site) = wide_lines signals site
 
 -- ---- the timing
--- a name, a fraction, and the fraction cut after so many decimal places
-abbrev pub measure_line : List ℕ → ℚ → ℕ → List ℕ
-measure_line name x places = name ++ (codes " " ++ (exact_spelling x ++ (codes " = " ++ (decimal_spelling x places ++ codes "\n"))))
-
-abbrev pub weighted_line : Street → Plan → List ℕ
-weighted_line a t = measure_line (codes "weighted") (weighted_band a t) 6
-
 abbrev pub timing_lines : Street → Plan → List ℕ
-timing_lines a t = weighted_line a t
+timing_lines a t = measure_lines a t ++ (signal_lines a t ++ (link_lines a t ++ (codes "diagram\n" ++ diagram_lines a t)))
 
 -- ---- the report
 abbrev pub bound_line : ℚ → List ℕ

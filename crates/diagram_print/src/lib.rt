@@ -1,13 +1,22 @@
-//! What is printed of a search: the verdict, why it stopped, the bound and the timing.
+//! What is printed of a search: the verdict, why it stopped, the bound and the timing with its time-space diagram.
 //!
 //! Contracts see an `Artery` as a `Street` and a `Timing` as a `Plan`. `specs/Report` has the lines, each a function to
-//! bytes. Start with `report`.
+//! bytes, and `specs/Diagram` those of the diagram. Start with `report`. The names of rows and columns are for other lines
+//! that print them.
 #![tactic(auto)]
 
+mod chart;
 mod lines;
 mod measures;
 mod names;
+mod offsets;
 mod sites;
+mod speeds;
 mod stopped;
 
+pub use chart::diagram;
 pub use lines::report;
+pub use names::{column_text, place_text, row_text};
+
+#[cfg(test)]
+mod tests;

@@ -6,8 +6,10 @@ ghost use Rattle.progression.specs.Street.{count};
 ghost use Rattle.branch_tree.specs.Searches.{HasSite, IsStopOf};
 ghost use Rattle.diagram_print.specs.Report.{timing_lines, bound_line, found_lines, best_lines, open_lines, verdict_lines, report_lines};
 
-use crate::measures::weighted_line;
-use crate::sites::exact;
+use crate::chart::diagram_lines;
+use crate::measures::{exact, measure_lines};
+use crate::offsets::signal_lines;
+use crate::speeds::link_lines;
 use crate::stopped::stop_lines;
 use artery_model::Artery;
 use branch_tree::{Found, Stop, Verdict};
@@ -20,7 +22,15 @@ fn timing_lines(alloc: Global, artery: &Artery, timing: &Timing) -> Result<Vec<u
     requires { Good artery.now timing.now }
     ensures { IfOk result (λ lines. lines.items ≡ timing_lines artery.now timing.now) }
 {
-    weighted_line(alloc, artery, timing)
+    let mut lines = measure_lines(alloc, artery, timing)?;
+    let signals = signal_lines(alloc, artery, timing)?;
+    let links = link_lines(alloc, artery, timing)?;
+    let diagram = diagram_lines(alloc, artery, timing)?;
+    lines.extend_from_slice(signals.as_slice())?;
+    lines.extend_from_slice(links.as_slice())?;
+    lines.extend_from_slice(b"diagram\n")?;
+    lines.extend_from_slice(diagram.as_slice())?;
+    Ok(lines)
 }
 
 /// The lines of the timing of a stopped search, if there is one.
@@ -97,8 +107,10 @@ fn verdict_lines(alloc: Global, artery: &Artery, found: &Found) -> Result<Vec<u8
 }
 
 /// The lines that tell what a search of this artery found: the verdict; where the search stopped, why, and the bound; and
-/// the weighted band of the timing, exact and cut after six decimal places, or that there is none. A timing is a good one of
-/// the artery, and a site of a stop names the artery's own rows and columns. The error is want of memory.
+/// the timing, or that there is none. Of a timing there are the weighted band, both bands, the cycle, each signal's pattern,
+/// offset and name, each link's speeds and the diagram; each number is exact and then cut after six decimal places, or three
+/// of seconds and speeds. A timing is a good one of the artery, and a site of a stop names the artery's own rows and columns.
+/// The error is want of memory.
 pub fn report(alloc: Global, artery: &Artery, found: &Found) -> Result<Vec<u8>, Memory>
     requires good { IfSome found.now.timing (λ plan. Good artery.now plan) }
     requires site { HasSite artery.now found.now.verdict }

@@ -1,17 +1,37 @@
 //! Measures of a timing: each is printed exact, and cut after some decimal places.
 
-ghost use Rattle.std.specs.Prelude.{◌≡◌, ◌<◌, ◌≤◌, ◌^◌, pos, ◌≤ℤ◌, IfOk};
-ghost use Rattle.progression.specs.Plan.{cycle};
+ghost use Rattle.std.specs.Prelude.{◌≡◌, ◌++◌, codes, ◌<◌, ◌≤◌, ◌^◌, pos, ◌≤ℤ◌, IfOk, string_bytes};
+ghost use Rattle.ratio.specs.Rational.{over};
 ghost use Rattle.progression.specs.Best.{weighted_band};
+ghost use Rattle.quantity_text.specs.Exact.{exact_spelling};
 ghost use Rattle.quantity_text.specs.Decimal.{decimal_spelling};
-ghost use Rattle.diagram_print.specs.Report.{measure_line, weighted_line};
+ghost use Rattle.diagram_print.specs.Measures.{dir_name, measure_text, measure_line, weighted_line, band_line, cycle_line, measure_lines};
 
-use crate::sites::exact;
-use artery_model::Artery;
+use artery_model::{Artery, Dir};
 use narrow_fraction::Frac;
-use quantity_text::decimal_text;
+use quantity_text::{decimal_text, exact_string};
 use std::alloc::{AllocError, Global};
-use time_space::{Timing, value};
+use time_space::{Timing, cycle, fraction, value};
+
+/// The printed name of a direction.
+pub fn dir_name(dir: Dir) -> &'static str
+    ensures { result.now ≡ dir_name dir }
+{
+    match dir {
+        Dir::Outbound => "out",
+        Dir::Inbound => "in",
+    }
+}
+
+/// The exact text of a fraction.
+pub fn exact(alloc: Global, value: Frac) -> Result<String, AllocError>
+    ensures { IfOk result (λ text. string_bytes text ≡ exact_spelling value) }
+{
+    match exact_string(alloc, value) {
+        Ok(text) => Ok(text),
+        Err(_) => Err(AllocError),
+    }
+}
 
 /// The decimal text of a fraction.
 fn decimal(alloc: Global, value: Frac, places: u32) -> Result<Vec<u8>, AllocError>
@@ -28,33 +48,65 @@ fn decimal(alloc: Global, value: Frac, places: u32) -> Result<Vec<u8>, AllocErro
 }
 
 /// A name, a fraction, and the same fraction cut after so many decimal places.
-pub fn measure_line(
-    alloc: Global,
-    name: &str,
-    value: Frac,
-    places: u32,
-) -> Result<Vec<u8>, AllocError>
+fn measure_text(alloc: Global, name: &str, value: Frac, places: u32) -> Result<Vec<u8>, AllocError>
     requires least { pos 0 ≤ℤ value.num }
     requires denominator { value.den ≤ 2 ^ 120 }
     requires some_places { 1 ≤ places }
     requires most_places { places ≤ 9 }
-    ensures { IfOk result (λ line. line.items ≡ measure_line name.now value places) }
+    ensures { IfOk result (λ text. text.items ≡ measure_text name.now value places) }
 {
     let exact = exact(alloc, value)?;
     let decimals = decimal(alloc, value, places)?;
-    let mut line = format!(in alloc; "{name} {exact} = ")?.into_bytes();
-    line.extend_from_slice(decimals.as_slice())?;
+    let mut text = format!(in alloc; "{name} {exact} = ")?.into_bytes();
+    text.extend_from_slice(decimals.as_slice())?;
+    Ok(text)
+}
+
+/// The text with its line feed.
+fn ended(text: Vec<u8>) -> Result<Vec<u8>, AllocError>
+    ensures { IfOk result (λ line. line.items ≡ text.items ++ codes "\n") }
+{
+    let mut line = text;
     line.push(b'\n')?;
     Ok(line)
 }
 
-/// The cycle in ticks.
-pub fn cycle(artery: &Artery, timing: &Timing) -> u128
-    ensures value { result ≡ cycle artery.now timing.now }
-    ensures least { 4 ≤ result }
-    ensures most { result < 2 ^ 92 }
+/// The quotient of two whole numbers, as a measure.
+#[tactic(auto, using(crate::proofs::Sizes::over_least, crate::proofs::Sizes::over_small))]
+pub fn quotient_text(
+    alloc: Global,
+    name: &str,
+    top: u128,
+    bottom: u128,
+    places: u32,
+) -> Result<Vec<u8>, AllocError>
+    requires top { top < 2 ^ 126 }
+    requires some { 1 ≤ bottom }
+    requires bottom { bottom ≤ 2 ^ 120 }
+    requires some_places { 1 ≤ places }
+    requires most_places { places ≤ 9 }
+    ensures { IfOk result (λ text. text.items ≡ measure_text name.now (over (pos top) bottom) places) }
 {
-    u128::from(artery.parts()) * timing.unit()
+    measure_text(alloc, name, fraction(top, bottom), places)
+}
+
+/// The same as a line.
+pub fn quotient_line(
+    alloc: Global,
+    name: &str,
+    top: u128,
+    bottom: u128,
+    places: u32,
+) -> Result<Vec<u8>, AllocError>
+    requires top { top < 2 ^ 126 }
+    requires some { 1 ≤ bottom }
+    requires bottom { bottom ≤ 2 ^ 120 }
+    requires some_places { 1 ≤ places }
+    requires most_places { places ≤ 9 }
+    ensures { IfOk result (λ line. line.items ≡ measure_line name.now (over (pos top) bottom) places) }
+{
+    let text = quotient_text(alloc, name, top, bottom, places)?;
+    ended(text)
 }
 
 /// The weighted band, a fraction of the cycle, and the sizes of its numbers.
@@ -71,8 +123,50 @@ fn weighted(artery: &Artery, timing: &Timing) -> Frac
 }
 
 /// The line of the weighted band.
-pub fn weighted_line(alloc: Global, artery: &Artery, timing: &Timing) -> Result<Vec<u8>, AllocError>
+fn weighted_line(alloc: Global, artery: &Artery, timing: &Timing) -> Result<Vec<u8>, AllocError>
     ensures { IfOk result (λ line. line.items ≡ weighted_line artery.now timing.now) }
 {
-    measure_line(alloc, "weighted", weighted(artery, timing), 6)
+    let text = measure_text(alloc, "weighted", weighted(artery, timing), 6)?;
+    ended(text)
+}
+
+/// The line of a direction's band, a fraction of the cycle.
+fn band_line(
+    alloc: Global,
+    artery: &Artery,
+    timing: &Timing,
+    dir: Dir,
+) -> Result<Vec<u8>, AllocError>
+    ensures { IfOk result (λ line. line.items ≡ band_line artery.now timing.now dir) }
+{
+    let dir_name = dir_name(dir);
+    let name = format!(in alloc; "band {dir_name}")?;
+    quotient_line(
+        alloc,
+        name.as_str(),
+        timing.band(dir),
+        cycle(artery, timing),
+        6,
+    )
+}
+
+/// The line of the cycle, in seconds.
+fn cycle_line(alloc: Global, artery: &Artery, timing: &Timing) -> Result<Vec<u8>, AllocError>
+    ensures { IfOk result (λ line. line.items ≡ cycle_line artery.now timing.now) }
+{
+    quotient_line(alloc, "cycle", cycle(artery, timing), timing.grid(), 3)
+}
+
+/// The lines of the bands and of the cycle.
+pub fn measure_lines(alloc: Global, artery: &Artery, timing: &Timing) -> Result<Vec<u8>, AllocError>
+    ensures { IfOk result (λ lines. lines.items ≡ measure_lines artery.now timing.now) }
+{
+    let mut lines = weighted_line(alloc, artery, timing)?;
+    let outbound = band_line(alloc, artery, timing, Dir::Outbound)?;
+    let inbound = band_line(alloc, artery, timing, Dir::Inbound)?;
+    let cycle = cycle_line(alloc, artery, timing)?;
+    lines.extend_from_slice(outbound.as_slice())?;
+    lines.extend_from_slice(inbound.as_slice())?;
+    lines.extend_from_slice(cycle.as_slice())?;
+    Ok(lines)
 }

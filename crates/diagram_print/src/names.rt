@@ -1,57 +1,11 @@
 //! The names of rows and columns, as they are printed.
 
-ghost use Rattle.std.specs.Prelude.{◌≡◌, ◌<◌, ◌^◌, map, slice_index_or, [], IfOk, string_bytes};
-ghost use Rattle.plan_text.specs.Families.{family_name, is_lone};
+ghost use Rattle.std.specs.Prelude.{◌≡◌, ◌<◌, ◌^◌, IfOk, string_bytes};
 ghost use Rattle.diagram_print.specs.Names.{row_text, numbered, column_text, place_text};
 
 use named_row::{Place, RowId};
+use plan_text::{family_name, is_lone};
 use std::alloc::{AllocError, Global};
-
-/// The names of the families of rows, by their numbers from 1 on.
-const FAMILIES: [&str; 17] = [
-    "wout",
-    "win",
-    "fast_out",
-    "fast_in",
-    "slow_out",
-    "slow_in",
-    "rise_out",
-    "rise_in",
-    "drop_out",
-    "drop_in",
-    "cycle_low",
-    "cycle_high",
-    "ratio",
-    "loop_lo",
-    "loop_hi",
-    "turn_lo",
-    "turn_hi",
-];
-
-/// The name at a place, or the empty one past the last.
-fn name_at(names: &[&'static str], place: usize) -> &'static str
-    ensures { result.now ≡ slice_index_or (map (λ w. w.now) names.now) place [] }
-{
-    match names.get(place) {
-        Some(name) => name,
-        None => "",
-    }
-}
-
-/// The name of a family.
-#[tactic(auto, unfolding(plan_text::specs::Families::family_name, plan_text::specs::Families::family_names))]
-fn family_name(family: u8) -> &'static str
-    ensures { result.now ≡ family_name family }
-{
-    name_at(&FAMILIES, usize::from(family).saturating_sub(1))
-}
-
-/// Whether a family has one row, which needs no index.
-fn is_lone(family: u8) -> bool
-    ensures { result ≡ is_lone family }
-{
-    family == 11 || family == 12 || family == 13
-}
 
 /// A name with a number.
 fn numbered(alloc: Global, name: &str, number: u64) -> Result<String, AllocError>
@@ -60,7 +14,8 @@ fn numbered(alloc: Global, name: &str, number: u64) -> Result<String, AllocError
     format!(in alloc; "{name} {number}")
 }
 
-/// A row's name.
+/// A row's name, as certificates spell it: that of its family, one of 17, and the row's index where the family has several
+/// rows. The error is want of memory.
 pub fn row_text(alloc: Global, row: RowId) -> Result<String, AllocError>
     ensures { IfOk result (λ text. string_bytes text ≡ row_text row) }
 {
@@ -73,7 +28,7 @@ pub fn row_text(alloc: Global, row: RowId) -> Result<String, AllocError>
 }
 
 /// The name of the column with this number among those of so many signals.
-fn column_text(alloc: Global, signals: u64, column: u64) -> Result<String, AllocError>
+fn column_at(alloc: Global, signals: u64, column: u64) -> Result<String, AllocError>
     requires { signals < 2 ^ 32 }
     ensures { IfOk result (λ text. string_bytes text ≡ column_text signals column) }
 {
@@ -98,19 +53,21 @@ fn column_text(alloc: Global, signals: u64, column: u64) -> Result<String, Alloc
     }
 }
 
-/// The name of a column, with both numbers as they are kept.
-pub fn column_of(alloc: Global, signals: u32, column: u32) -> Result<String, AllocError>
+/// The name of the column with this number, from 0, on an artery with so many signals: `b_out`, `b_in`, `z`, or `w_out`,
+/// `w_in`, `y_out`, `y_in` or `s` with the number of its signal or link. A column past the last has an empty name. The error
+/// is want of memory.
+pub fn column_text(alloc: Global, signals: u32, column: u32) -> Result<String, AllocError>
     ensures { IfOk result (λ text. string_bytes text ≡ column_text signals column) }
 {
-    column_text(alloc, u64::from(signals), u64::from(column))
+    column_at(alloc, u64::from(signals), u64::from(column))
 }
 
-/// The name of a place of a row, on an artery with so many signals.
+/// The name of a place of a row on an artery with so many signals: that of its column, or `bound`. The error is want of memory.
 pub fn place_text(alloc: Global, signals: u32, place: Place) -> Result<String, AllocError>
     ensures { IfOk result (λ text. string_bytes text ≡ place_text signals place) }
 {
     match place {
-        Place::Cell(column) => column_of(alloc, signals, column),
+        Place::Cell(column) => column_text(alloc, signals, column),
         Place::Bound => String::from_str(alloc, "bound"),
     }
 }

@@ -1,27 +1,16 @@
 //! Where a run left 128 bits.
 
 ghost use Rattle.std.specs.Prelude.{◌≡◌, IfOk, string_bytes};
-ghost use Rattle.quantity_text.specs.Exact.{exact_spelling};
 ghost use Rattle.diagram_print.specs.Sites.{cell_line, leaf_line, product_line, number_line, timing_line, site_line, op_name, wide_line, lcm_line, ticks_line, timing_operands, operands_line};
 
-use crate::names::{column_of, place_text, row_text};
+use crate::measures::exact;
+use crate::names::{column_text, place_text, row_text};
 use branch_tree::SitePart;
 use fraction_tableau::WideCell;
 use named_row::{Place, RowId};
 use narrow_fraction::{Frac, Op, Wide};
 use offset_recovery::WideTiming;
-use quantity_text::exact_string;
 use std::alloc::{AllocError, Global};
-
-/// The exact text of a fraction.
-pub fn exact(alloc: Global, value: Frac) -> Result<String, AllocError>
-    ensures { IfOk result (λ text. string_bytes text ≡ exact_spelling value) }
-{
-    match exact_string(alloc, value) {
-        Ok(text) => Ok(text),
-        Err(_) => Err(AllocError),
-    }
-}
 
 /// The line of a cell of the tableau, by its row and place.
 fn cell_line(alloc: Global, kind: &str, cell: WideCell) -> Result<String, AllocError>
@@ -44,14 +33,14 @@ fn leaf_line(alloc: Global, signals: u32, row: RowId, place: Place) -> Result<St
 fn product_line(alloc: Global, signals: u32, column: u32) -> Result<String, AllocError>
     ensures { IfOk result (λ text. string_bytes text ≡ product_line signals column) }
 {
-    let column = column_of(alloc, signals, column)?;
+    let column = column_text(alloc, signals, column)?;
     format!(in alloc; "site product {column}\n")
 }
 
 fn number_line(alloc: Global, signals: u32, column: u32) -> Result<String, AllocError>
     ensures { IfOk result (λ text. string_bytes text ≡ number_line signals column) }
 {
-    let column = column_of(alloc, signals, column)?;
+    let column = column_text(alloc, signals, column)?;
     format!(in alloc; "site number {column}\n")
 }
 

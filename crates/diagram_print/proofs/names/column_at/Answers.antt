@@ -1,6 +1,6 @@
 use Rattle.std.proofs.Common.{◌≡◌, List, ℕ, IfOk, string_bytes, sym, ◌∙◌, subst, arith}
 use Rattle.diagram_print.proofs.ColumnNames.{wait_out, wait_in, run_out, run_in, shift, past_columns}
-use Rattle.diagram_print.proofs.names.column_text.Goals as goal
+use Rattle.diagram_print.proofs.names.column_at.Goals as goal
 
 pub returns-then-column-signals : goal.returns-then-column-signals
 returns-then-column-signals c =

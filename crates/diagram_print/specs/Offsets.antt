@@ -1,0 +1,22 @@
+-- The lines of a timing's signals: the left turn pattern, and the offset from the first signal.
+use Rattle.std.specs.Prelude.{ℕ, pos, ◌-ℤ◌, List, ◌++◌, codes}
+use Rattle.std.specs.List.{flat_map, range_with_len}
+use Rattle.std.specs.Fmt.{decimal}
+use Rattle.ratio.specs.Rational.{ℚ, over}
+use Rattle.progression.specs.Street.{Street, count, signal_of}
+use Rattle.progression.specs.Plan.{Plan, cycle, pattern_of, common_red}
+use Rattle.progression.specs.Green.{mod_ℤ}
+use Rattle.diagram_print.specs.Measures.{measure_text}
+
+-- how many seconds after the common red of signal 1 that of signal i starts, from 0 up to a cycle
+abbrev pub offset : Street → Plan → ℕ → ℚ
+offset a t i = over (pos (mod_ℤ (common_red t i -ℤ common_red t 1) (cycle a t))) t.grid
+
+abbrev pub offset_name : Plan → ℕ → List ℕ
+offset_name t i = codes "signal " ++ (decimal i ++ (codes " pattern " ++ (decimal (pattern_of t i) ++ codes " offset")))
+
+abbrev pub signal_line : Street → Plan → ℕ → List ℕ
+signal_line a t i = measure_text (offset_name t i) (offset a t i) 3 ++ (codes " " ++ ((signal_of a i).name ++ codes "\n"))
+
+abbrev pub signal_lines : Street → Plan → List ℕ
+signal_lines a t = flat_map (signal_line a t) (range_with_len 1 (count a))

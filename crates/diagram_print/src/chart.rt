@@ -1,0 +1,155 @@
+//! The time-space diagram in text.
+
+ghost use Rattle.std.specs.Prelude.{◌≡◌, ◌<◌, ◌≤◌, ◌^◌, pos, length, unsigned_abs, IfOk};
+ghost use Rattle.progression.specs.Street.{count};
+ghost use Rattle.diagram_print.specs.Diagram.{tick_at, arrow, mark_at, marks, all_marks, diagram_line, signal_rows, diagram_lines};
+
+use crate::measures::dir_name;
+use artery_model::{Artery, Dir};
+use narrow_fraction::Memory;
+use std::alloc::{AllocError, Global};
+use time_space::{Timing, cycle, green, in_band};
+
+/// How many characters stand for a cycle.
+const PLACES: u32 = 60;
+
+/// The tick of the character at a place, from 0.
+fn tick_at(cycle: u128, place: u32) -> i128
+    requires cycle { cycle < 2 ^ 92 }
+    requires place { place < 60 }
+    ensures value { result ≡ pos (tick_at cycle place) }
+    ensures small { unsigned_abs result < 2 ^ 100 }
+{
+    (u128::from(place) * cycle / u128::from(PLACES)) as i128
+}
+
+/// The character of a band.
+fn arrow(dir: Dir) -> u8
+    ensures { result ≡ arrow dir }
+{
+    match dir {
+        Dir::Outbound => b'>',
+        Dir::Inbound => b'<',
+    }
+}
+
+/// The character at a place: red, in the band, or green beside it.
+fn mark_at(artery: &Artery, timing: &Timing, dir: Dir, signal: u32, place: u32) -> u8
+    requires shape { length timing.now.patterns ≡ count artery.now }
+    requires first { 1 ≤ signal }
+    requires last { signal ≤ count artery.now }
+    requires place { place < 60 }
+    ensures { result ≡ mark_at artery.now timing.now dir signal place }
+{
+    let tick = tick_at(cycle(artery, timing), place);
+    let green = green(artery, timing, dir, signal, tick);
+    let band = in_band(artery, timing, dir, signal, tick);
+    match (green, band) {
+        (false, _) => b'#',
+        (true, true) => arrow(dir),
+        (true, false) => b'=',
+    }
+}
+
+/// So many characters of a signal and direction, from the first on.
+fn marks(
+    alloc: Global,
+    artery: &Artery,
+    timing: &Timing,
+    dir: Dir,
+    signal: u32,
+    places: u32,
+) -> Result<Vec<u8>, AllocError>
+    requires shape { length timing.now.patterns ≡ count artery.now }
+    requires first { 1 ≤ signal }
+    requires last { signal ≤ count artery.now }
+    requires places { places ≤ 60 }
+    ensures { IfOk result (λ text. text.items ≡ marks artery.now timing.now dir signal places) }
+{
+    let mut text = Vec::new(alloc);
+    for place in 0..places {
+        text.push(mark_at(artery, timing, dir, signal, place))?;
+    }
+    Ok(text)
+}
+
+/// The characters of a whole cycle.
+#[tactic(auto, unfolding(crate::specs::Diagram::all_marks))]
+fn all_marks(
+    alloc: Global,
+    artery: &Artery,
+    timing: &Timing,
+    dir: Dir,
+    signal: u32,
+) -> Result<Vec<u8>, AllocError>
+    requires shape { length timing.now.patterns ≡ count artery.now }
+    requires first { 1 ≤ signal }
+    requires last { signal ≤ count artery.now }
+    ensures { IfOk result (λ text. text.items ≡ all_marks artery.now timing.now dir signal) }
+{
+    marks(alloc, artery, timing, dir, signal, PLACES)
+}
+
+/// The line of a signal and direction.
+fn diagram_line(
+    alloc: Global,
+    artery: &Artery,
+    timing: &Timing,
+    dir: Dir,
+    signal: u32,
+) -> Result<Vec<u8>, AllocError>
+    requires shape { length timing.now.patterns ≡ count artery.now }
+    requires first { 1 ≤ signal }
+    requires last { signal ≤ count artery.now }
+    ensures { IfOk result (λ line. line.items ≡ diagram_line artery.now timing.now dir signal) }
+{
+    let dir_name = dir_name(dir);
+    let marks = all_marks(alloc, artery, timing, dir, signal)?;
+    let mut line = format!(in alloc; "{signal} {dir_name} ")?.into_bytes();
+    line.extend_from_slice(marks.as_slice())?;
+    line.push(b'\n')?;
+    Ok(line)
+}
+
+/// The lines of a signal: outbound, then inbound.
+fn signal_rows(
+    alloc: Global,
+    artery: &Artery,
+    timing: &Timing,
+    signal: u32,
+) -> Result<Vec<u8>, AllocError>
+    requires shape { length timing.now.patterns ≡ count artery.now }
+    requires first { 1 ≤ signal }
+    requires last { signal ≤ count artery.now }
+    ensures { IfOk result (λ rows. rows.items ≡ signal_rows artery.now timing.now signal) }
+{
+    let mut rows = diagram_line(alloc, artery, timing, Dir::Outbound, signal)?;
+    let inbound = diagram_line(alloc, artery, timing, Dir::Inbound, signal)?;
+    rows.extend_from_slice(inbound.as_slice())?;
+    Ok(rows)
+}
+
+/// The lines of all signals, from the last down.
+pub fn diagram_lines(alloc: Global, artery: &Artery, timing: &Timing) -> Result<Vec<u8>, AllocError>
+    requires { length timing.now.patterns ≡ count artery.now }
+    ensures { IfOk result (λ lines. lines.items ≡ diagram_lines artery.now timing.now) }
+{
+    let mut lines = Vec::new(alloc);
+    for signal in (1..artery.count() + 1).rev() {
+        let rows = signal_rows(alloc, artery, timing, signal)?;
+        lines.extend_from_slice(rows.as_slice())?;
+    }
+    Ok(lines)
+}
+
+/// The time-space diagram of a timing in text: for each signal, from the last down to the first, a line of the outbound
+/// direction and one of the inbound direction. Each line has the signal's number, `out` or `in`, and 60 characters, which
+/// stand for ticks from 0 on that divide a cycle evenly: `#` where the direction isn't green, `>` (outbound) or `<`
+/// (inbound) where the tick is in the direction's band, and `=` where it is green beside the band. The error is want of
+/// memory.
+pub fn diagram(alloc: Global, artery: &Artery, timing: &Timing) -> Result<Vec<u8>, Memory>
+    requires { length timing.now.patterns ≡ count artery.now }
+    ensures { IfOk result (λ lines. lines.items ≡ diagram_lines artery.now timing.now) }
+{
+    diagram_lines(alloc, artery, timing).map_err(|_| Memory)
+}

@@ -1,0 +1,80 @@
+//! The lines of a timing's signals.
+
+ghost use Rattle.std.specs.Prelude.{◌≡◌, ◌<◌, ◌≤◌, ◌^◌, ◌-ℤ◌, length, IfOk, string_bytes};
+ghost use Rattle.progression.specs.Street.{count, signal_of};
+ghost use Rattle.progression.specs.Plan.{cycle, common_red};
+ghost use Rattle.progression.specs.Green.{mod_ℤ};
+ghost use Rattle.diagram_print.specs.Offsets.{offset_name, signal_line, signal_lines};
+
+use crate::measures::quotient_text;
+use artery_model::Artery;
+use std::alloc::{AllocError, Global};
+use time_space::{Timing, cycle, since_start};
+
+/// How many ticks after the common red of signal 1 that of a signal starts.
+fn offset_ticks(artery: &Artery, timing: &Timing, signal: u32) -> u128
+    requires first { 1 ≤ signal }
+    requires last { signal ≤ length timing.now.patterns }
+    ensures value { result ≡ mod_ℤ (common_red timing.now signal -ℤ common_red timing.now 1) (cycle artery.now timing.now) }
+    ensures most { result < 2 ^ 92 }
+{
+    since_start(
+        cycle(artery, timing),
+        timing.common_red(1),
+        timing.common_red(signal),
+    )
+}
+
+/// What stands before a signal's offset.
+fn offset_name(alloc: Global, timing: &Timing, signal: u32) -> Result<String, AllocError>
+    requires first { 1 ≤ signal }
+    requires last { signal ≤ length timing.now.patterns }
+    ensures { IfOk result (λ text. string_bytes text ≡ offset_name timing.now signal) }
+{
+    let pattern = timing.pattern(signal);
+    format!(in alloc; "signal {signal} pattern {pattern} offset")
+}
+
+/// The name of a signal.
+fn signal_name(artery: &Artery, signal: u32) -> &str
+    requires first { 1 ≤ signal }
+    requires last { signal ≤ count artery.now }
+    ensures { result.now ≡ (signal_of artery.now signal).name }
+{
+    artery.signals()[signal as usize - 1].name.as_str()
+}
+
+/// The line of a signal: its pattern, its offset in seconds and its name.
+fn signal_line(
+    alloc: Global,
+    artery: &Artery,
+    timing: &Timing,
+    signal: u32,
+) -> Result<Vec<u8>, AllocError>
+    requires shape { length timing.now.patterns ≡ count artery.now }
+    requires first { 1 ≤ signal }
+    requires last { signal ≤ count artery.now }
+    ensures { IfOk result (λ line. line.items ≡ signal_line artery.now timing.now signal) }
+{
+    let name = offset_name(alloc, timing, signal)?;
+    let ticks = offset_ticks(artery, timing, signal);
+    let mut line = quotient_text(alloc, name.as_str(), ticks, timing.grid(), 3)?;
+    line.push(b' ')?;
+    line.extend_from_slice(signal_name(artery, signal).as_bytes())?;
+    line.push(b'\n')?;
+    Ok(line)
+}
+
+/// The lines of the signals, from the first on.
+#[tactic(auto, using(crate::proofs::Pieces::piece_up))]
+pub fn signal_lines(alloc: Global, artery: &Artery, timing: &Timing) -> Result<Vec<u8>, AllocError>
+    requires { length timing.now.patterns ≡ count artery.now }
+    ensures { IfOk result (λ lines. lines.items ≡ signal_lines artery.now timing.now) }
+{
+    let mut lines = Vec::new(alloc);
+    for signal in 1..artery.count() + 1 {
+        let line = signal_line(alloc, artery, timing, signal)?;
+        lines.extend_from_slice(line.as_slice())?;
+    }
+    Ok(lines)
+}

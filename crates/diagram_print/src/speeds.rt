@@ -1,0 +1,90 @@
+//! The lines of a timing's links.
+
+ghost use Rattle.std.specs.Prelude.{◌≡◌, ◌<◌, ◌≤◌, ◌^◌, IfOk, string_bytes};
+ghost use Rattle.progression.specs.Street.{count};
+ghost use Rattle.progression.specs.Plan.{run};
+ghost use Rattle.progression.specs.Good.{Good};
+ghost use Rattle.diagram_print.specs.Speeds.{link_name, speed_line, speed_lines, link_lines};
+
+use crate::measures::{dir_name, quotient_line};
+use artery_model::{Artery, Dir, Units};
+use std::alloc::{AllocError, Global};
+use time_space::Timing;
+
+/// The ticks that a direction's band takes on a link. A good timing takes some, since no speed limit allows none.
+fn run_ticks(artery: &Artery, timing: &Timing, dir: Dir, link: u32) -> u128
+    requires good { Good artery.now timing.now }
+    requires first { 1 ≤ link }
+    requires last { link < count artery.now }
+    ensures value { result ≡ run timing.now dir link }
+    ensures least { 1 ≤ result }
+    ensures most { result < 2 ^ 80 }
+{
+    // its contract says that this is more than nothing
+    let _ = artery.run_low(dir, link);
+    timing.run(dir, link)
+}
+
+/// What stands before a link's speed.
+fn link_name(alloc: Global, dir: Dir, link: u32) -> Result<String, AllocError>
+    ensures { IfOk result (λ text. string_bytes text ≡ link_name dir link) }
+{
+    let dir_name = dir_name(dir);
+    format!(in alloc; "link {link} {dir_name}")
+}
+
+/// The line of a direction's speed on a link, in the description's units.
+fn speed_line(
+    alloc: Global,
+    artery: &Artery,
+    timing: &Timing,
+    dir: Dir,
+    link: u32,
+) -> Result<Vec<u8>, AllocError>
+    requires good { Good artery.now timing.now }
+    requires first { 1 ≤ link }
+    requires last { link < count artery.now }
+    ensures { IfOk result (λ line. line.items ≡ speed_line artery.now timing.now dir link) }
+{
+    let name = link_name(alloc, dir, link)?;
+    let distance = u128::from(artery.distance(dir, link));
+    let grid = timing.grid();
+    let ticks = run_ticks(artery, timing, dir, link);
+    match artery.head().units {
+        Units::Metric => { quotient_line(alloc, name.as_str(), 18 * distance * grid, 5 * ticks, 3) }
+        Units::English => {
+            quotient_line(alloc, name.as_str(), 15 * distance * grid, 22 * ticks, 3)
+        }
+    }
+}
+
+/// The lines of both speeds on a link.
+fn speed_lines(
+    alloc: Global,
+    artery: &Artery,
+    timing: &Timing,
+    link: u32,
+) -> Result<Vec<u8>, AllocError>
+    requires good { Good artery.now timing.now }
+    requires first { 1 ≤ link }
+    requires last { link < count artery.now }
+    ensures { IfOk result (λ lines. lines.items ≡ speed_lines artery.now timing.now link) }
+{
+    let mut lines = speed_line(alloc, artery, timing, Dir::Outbound, link)?;
+    let inbound = speed_line(alloc, artery, timing, Dir::Inbound, link)?;
+    lines.extend_from_slice(inbound.as_slice())?;
+    Ok(lines)
+}
+
+/// The lines of the links, from the first on.
+pub fn link_lines(alloc: Global, artery: &Artery, timing: &Timing) -> Result<Vec<u8>, AllocError>
+    requires { Good artery.now timing.now }
+    ensures { IfOk result (λ lines. lines.items ≡ link_lines artery.now timing.now) }
+{
+    let mut lines = Vec::new(alloc);
+    for link in 1..artery.count() {
+        let speeds = speed_lines(alloc, artery, timing, link)?;
+        lines.extend_from_slice(speeds.as_slice())?;
+    }
+    Ok(lines)
+}
