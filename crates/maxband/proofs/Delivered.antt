@@ -1,15 +1,27 @@
 -- An answer with what became of it is how the run ended.
-use Rattle.std.proofs.Common.{◌≡◌, ℕ, ◌≤◌, List, Option, Some, None, ◌⊎◌, inl, inr, refl, sym, ◌∙◌, ap, subst, arith}
+use Rattle.std.proofs.Common.{◌≡◌, ℕ, List, Option, Some, None, ◌⊎◌, inl, inr, refl, sym, ◌∙◌, subst, arith}
+use Rattle.std.specs.Prelude.{option_map, IsNone}
 use Rattle.outer_edge.specs.Counts.{Rose, NoneFell, SameCounts}
 use Rattle.outer_edge.specs.Held.{SameFiles}
 use Rattle.outer_edge.specs.Taken.{Appends, AppendsFront}
-use Rattle.maxband.specs.Command.{Form, Hold, Show, Check, Solve}
-use Rattle.maxband.specs.Outside.{Outside, Text, IsPut, IsDone, IsUntouched, PutFailed, WriteFailed, IsBroken, OthersKept, PutsCounted}
-use Rattle.maxband.specs.Run.{SolveAnswers, Answers, Breaks, Ends, FilesKept, PutsKept}
+use Rattle.maxband.specs.Command.{Form, Hold, Show, Check, Solve, Make, Trial}
+use Rattle.maxband.specs.declared.finish.Put.{Put}
+use Rattle.maxband.specs.Outside.{Outside, Text, text_of, IsPut, IsDone, IsUntouched, PutFailed, WriteFailed, IsBroken, OthersKept, PutsCounted}
+use Rattle.branch_and_bound.specs.declared.found.Verdict.{Verdict}
+use Rattle.branch_and_bound.specs.declared.found.Verdict.TheVariants.{Best, NoTiming, Stopped}
+use Rattle.branch_tree.specs.declared.site.SitePart.{SitePart}
+use Rattle.maxband.specs.Searched.{cause_of}
+use Rattle.maxband.specs.Run.{SolveAnswers, Answers, IsVerdict, Ends, FilesKept, PutsKept, LeavesAlone}
 use Rattle.maxband.specs.declared.cause.Cause.{Cause}
 use Rattle.maxband.specs.declared.cause.Cause.TheVariants as cause
 
 -- ---- answers
+-- a search gives a verdict
+pub verdict_cause : (c : Cause) (v : Verdict SitePart) → c ≡ cause_of v → IsVerdict c
+verdict_cause c Best e = subst (λ (d : Cause). IsVerdict d) (sym e) tt
+verdict_cause c NoTiming e = subst (λ (d : Cause). IsVerdict d) (sym e) tt
+verdict_cause c (Stopped stop) e = subst (λ (d : Cause). IsVerdict d) (sym e) tt
+
 -- none is a failed write
 no_write_fault : (held : List ℕ → Option (List ℕ)) (before after : List ℕ → ℕ) (form : Option Form) (lines : List ℕ) (put : Option Text) → Answers held before after form cause.WriteFault lines put → ⊥
 no_write_fault held before after None lines put h = let e : cause.WriteFault ≡ cause.Words = h.0 in absurd cc
@@ -17,6 +29,8 @@ no_write_fault held before after (Some (Hold artery timing)) lines put h = elim 
 no_write_fault held before after (Some (Show artery)) lines put h = h.0.0
 no_write_fault held before after (Some (Check artery certificate)) lines put h = elim h.0.0 [ inl k ↦ k | inr k ↦ k.2 ]
 no_write_fault held before after (Some (Solve artery certificate work)) lines put h = h.0
+no_write_fault held before after (Some (Make signals seed)) lines put h = h.0
+no_write_fault held before after (Some (Trial signals seed work)) lines put h = verdict_cause cause.WriteFault h.0.found.verdict h.0.cause_is
 
 -- none is want of memory
 no_memory : (held : List ℕ → Option (List ℕ)) (before after : List ℕ → ℕ) (form : Option Form) (lines : List ℕ) (put : Option Text) → Answers held before after form cause.Memory lines put → ⊥
@@ -25,6 +39,8 @@ no_memory held before after (Some (Hold artery timing)) lines put h = h.0
 no_memory held before after (Some (Show artery)) lines put h = h.0
 no_memory held before after (Some (Check artery certificate)) lines put h = h.0
 no_memory held before after (Some (Solve artery certificate work)) lines put h = h
+no_memory held before after (Some (Make signals seed)) lines put h = h.0
+no_memory held before after (Some (Trial signals seed work)) lines put h = verdict_cause cause.Memory h.0.found.verdict h.0.cause_is
 
 pub done_ends : (before now : Outside) (form : Option Form) (c : Cause) (lines : List ℕ) (put : Option Text)
     → Answers before.holds before.reads now.reads form c lines put → IsDone before now lines put → Ends before now form c
@@ -100,6 +116,8 @@ untouched_files (Some (Hold artery timing)) x y h = h
 untouched_files (Some (Show artery)) x y h = h
 untouched_files (Some (Check artery certificate)) x y h = h
 untouched_files (Some (Solve artery certificate work)) x y h = λ other _. h other
+untouched_files (Some (Make signals seed)) x y h = h
+untouched_files (Some (Trial signals seed work)) x y h = h
 
 pub untouched_puts : (form : Option Form) (x y : List ℕ → ℕ) → SameCounts x y → PutsKept form x y
 untouched_puts None x y h = h
@@ -107,6 +125,8 @@ untouched_puts (Some (Hold artery timing)) x y h = h
 untouched_puts (Some (Show artery)) x y h = h
 untouched_puts (Some (Check artery certificate)) x y h = h
 untouched_puts (Some (Solve artery certificate work)) x y h = λ name. omega (arith, h name)
+untouched_puts (Some (Make signals seed)) x y h = h
+untouched_puts (Some (Trial signals seed work)) x y h = h
 
 -- what `solve` puts is put in its second file
 pub solve_puts : (held : List ℕ → Option (List ℕ)) (before after : List ℕ → ℕ) (artery certificate : List ℕ) (work : ℕ) (c : Cause) (lines : List ℕ) (put : Option Text)
@@ -123,6 +143,8 @@ module _ (held : List ℕ → Option (List ℕ)) (before after : List ℕ → �
   answer_files (Some (Hold artery timing)) x y h k = subst (λ p. OthersKept p x y) h.1 k
   answer_files (Some (Show artery)) x y h k = subst (λ p. OthersKept p x y) h.1 k
   answer_files (Some (Check artery certificate)) x y h k = subst (λ p. OthersKept p x y) h.1 k
+  answer_files (Some (Make signals seed)) x y h k = subst (λ p. OthersKept p x y) h.1 k
+  answer_files (Some (Trial signals seed work)) x y h k = subst (λ p. OthersKept p x y) h.1 k
   answer_files (Some (Solve artery certificate work)) x y h k = elim (solve_puts held before after artery certificate work c lines put h) [
     | inl e ↦ untouched_files (Some (Solve artery certificate work)) x y (subst (λ p. OthersKept p x y) e k)
     | inr e ↦ subst (λ p. OthersKept p x y) e.1 k
@@ -133,7 +155,20 @@ module _ (held : List ℕ → Option (List ℕ)) (before after : List ℕ → �
   answer_puts (Some (Hold artery timing)) x y h k = subst (λ p. PutsCounted p x y) h.1 k
   answer_puts (Some (Show artery)) x y h k = subst (λ p. PutsCounted p x y) h.1 k
   answer_puts (Some (Check artery certificate)) x y h k = subst (λ p. PutsCounted p x y) h.1 k
+  answer_puts (Some (Make signals seed)) x y h k = subst (λ p. PutsCounted p x y) h.1 k
+  answer_puts (Some (Trial signals seed work)) x y h k = subst (λ p. PutsCounted p x y) h.1 k
   answer_puts (Some (Solve artery certificate work)) x y h k = elim (solve_puts held before after artery certificate work c lines put h) [
     | inl e ↦ untouched_puts (Some (Solve artery certificate work)) x y (subst (λ p. PutsCounted p x y) e k)
     | inr e ↦ subst (λ p. PutsCounted p x y) e.1 k
   ]
+
+  -- what isn't put leaves the files alone
+  pub answer_alone : {F : Type 0} (form : Option Form) (x y z : F) → Answers held before after form c lines put → LeavesAlone form x y → (put ≡ None → z ≡ y) → LeavesAlone form x z
+  answer_alone None x y z h e k = k h.2 ∙ e
+  answer_alone (Some (Make signals seed)) x y z h e k = k h.1 ∙ e
+  answer_alone (Some (Trial signals seed work)) x y z h e k = k h.1 ∙ e
+  answer_alone (Some form) x y z h e k = tt
+
+pub no_text : (put : Option Put) → option_map text_of put ≡ None → IsNone put
+no_text None e = refl
+no_text (Some put) e = absurd cc

@@ -5,13 +5,13 @@ pub mod HoldOnce
 pub mod ShowOnce
 pub mod CheckOnce
 pub mod OneAnswer
-pub mod ColumnNames
-pub mod RowNames
 pub mod CheckEnded
-pub mod Works
+pub mod Spelled
 pub mod Delivered
 pub mod Solved
 pub mod SolveFound
-pub mod Working
+pub mod Tried
+pub mod Ranges
 pub mod Running
 pub mod SolveOnce
+pub mod MadeOnce

@@ -1,12 +1,12 @@
 -- From what answers and their delivery ensure to how the run ended.
-use Rattle.std.proofs.Common.{◌≡◌, ℕ, List, Option, sym, subst}
+use Rattle.std.proofs.Common.{◌≡◌, ℕ, List, Option, None, sym, subst}
 use Rattle.outer_edge.specs.Counts.{SameCounts}
 use Rattle.maxband.specs.Command.{Form}
 use Rattle.maxband.specs.Outside.{Outside, Text, IsDone, IsBroken, OthersKept, PutsCounted}
-use Rattle.maxband.specs.Run.{Answers, Ends, FilesKept, PutsKept}
+use Rattle.maxband.specs.Run.{Answers, Ends, FilesKept, PutsKept, LeavesAlone}
 use Rattle.maxband.specs.declared.cause.Cause.{Cause}
 use Rattle.maxband.specs.declared.cause.Cause.TheVariants as cause
-use Rattle.maxband.proofs.Delivered.{IsRead, done_ends, done_since, broken_since, others_since, counted_since, answered_since, answer_files, answer_puts}
+use Rattle.maxband.proofs.Delivered.{IsRead, done_ends, done_since, broken_since, others_since, counted_since, answered_since, answer_files, answer_puts, answer_alone}
 
 -- an answer was reached, and its lines were passed on
 module _ (before mid now : Outside) (read : IsRead before mid) (same : SameCounts mid.reads now.reads) (form : Option Form) (c : Cause) (lines passed : List ℕ) (put : Option Text)
@@ -27,3 +27,6 @@ module _ (before mid now : Outside) (read : IsRead before mid) (same : SameCount
 
   pub run_puts : PutsCounted put mid.puts now.puts → PutsKept form before.puts now.puts
   run_puts k = answer_puts before.holds before.reads now.reads c lines put form before.puts now.puts answer (counted_since before mid now read put k)
+
+  pub run_alone : {F : Type 0} (x y z : F) → LeavesAlone form x y → (put ≡ None → z ≡ y) → LeavesAlone form x z
+  run_alone x y z e k = answer_alone before.holds before.reads now.reads c lines put form x y z answer e k

@@ -1,10 +1,11 @@
 -- What is found is the answer of `solve`.
-use Rattle.std.proofs.Common.{◌≡◌, ℕ, List, Option, Some, refl, sym, subst}
+use Rattle.std.proofs.Common.{ℕ, List, Option, Some, refl, sym, subst}
 use Rattle.branch_and_bound.specs.declared.found.Verdict.{Verdict}
 use Rattle.branch_and_bound.specs.declared.found.Verdict.TheVariants.{Best, NoTiming, Stopped}
 use Rattle.branch_tree.specs.declared.site.SitePart.{SitePart}
 use Rattle.maxband.specs.Outside.{Text}
-use Rattle.maxband.specs.Solve.{Solves, cause_of}
+use Rattle.maxband.specs.Searched.{cause_of}
+use Rattle.maxband.specs.Solve.{Solves}
 use Rattle.maxband.specs.Run.{SolveFinds, SolveAnswers}
 use Rattle.maxband.specs.declared.cause.Cause.{Cause}
 

@@ -1,49 +1,17 @@
 -- The lines of what `check` finds.
-use Rattle.std.specs.Prelude.{ℕ, List, [], ◌++◌, map, codes, slice_index_or, Option, None, Some}
+use Rattle.std.specs.Prelude.{ℕ, List, [], ◌++◌, codes, Option, None, Some}
 use Rattle.std.specs.Fmt.{decimal}
 use Rattle.ratio.specs.Rational.{ℚ}
 use Rattle.quantity_text.specs.Exact.{exact_spelling}
-use Rattle.progression.specs.declared.parts.Dir.TheVariants.{Outbound, Inbound}
-use Rattle.progression.specs.Columns.{Column, BandOf, Frequency, WaitOf, RunOf, ShiftOf, columns}
 use Rattle.named_row.specs.declared.names.RowId.{RowId}
 use Rattle.named_row.specs.declared.names.Place.{Place}
-use Rattle.named_row.specs.declared.names.Place.TheVariants.{Cell, Bound}
-use Rattle.plan_text.specs.Words.{line_of}
-use Rattle.plan_text.specs.CertificateText.{row_words}
 use Rattle.plan_text.specs.declared.certificate.Claim.{Claim}
 use Rattle.plan_text.specs.declared.certificate.Claim.TheVariants.{Best, NoTiming, Stopped}
 use Rattle.certificate_checker.specs.declared.reject.Reject.{Reject}
 use Rattle.certificate_checker.specs.declared.reject.Reject.TheVariants as reject
 use Rattle.time_space.specs.declared.failing.Failing.{Failing}
+use Rattle.diagram_print.specs.Names.{row_text, place_text}
 use Rattle.maxband.specs.Lines.{failing_text}
-
--- ---- names
--- a row, as certificates name it
-abbrev pub row_text : RowId → List ℕ
-row_text row = line_of (row_words row)
-
--- a name with a number
-abbrev pub numbered : List ℕ → ℕ → List ℕ
-numbered name number = name ++ (codes " " ++ decimal number)
-
--- a column; `out` or `in` is its direction, and a number that of its signal or link
-abbrev pub column_name : Column → List ℕ
-column_name (BandOf Outbound) = codes "b_out"
-column_name (BandOf Inbound) = codes "b_in"
-column_name Frequency = codes "z"
-column_name (WaitOf Outbound i) = numbered (codes "w_out") i
-column_name (WaitOf Inbound i) = numbered (codes "w_in") i
-column_name (RunOf Outbound i) = numbered (codes "y_out") i
-column_name (RunOf Inbound i) = numbered (codes "y_in") i
-column_name (ShiftOf i) = numbered (codes "s") i
-
--- the column with this number, from 0, among those of so many signals
-abbrev pub column_text : ℕ → ℕ → List ℕ
-column_text signals number = slice_index_or (map column_name (columns signals)) number []
-
-abbrev pub place_text : ℕ → Place → List ℕ
-place_text signals (Cell number) = column_text signals number
-place_text signals Bound = codes "bound"
 
 -- ---- accepted
 abbrev pub best_line : ℚ → List ℕ

@@ -1,4 +1,4 @@
-pub mod Work
+pub mod Numbers
 pub mod Command
 pub mod Status
 pub mod Outside
@@ -8,5 +8,8 @@ pub mod Turns
 pub mod Hold
 pub mod Show
 pub mod Check
+pub mod Searched
 pub mod Solve
+pub mod Make
+pub mod Trial
 pub mod Run

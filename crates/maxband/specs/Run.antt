@@ -6,7 +6,7 @@ use Rattle.plan_text.specs.declared.certificate.Claim.{Claim}
 use Rattle.outer_edge.specs.Counts.{Rose, NoneFell, SameCounts}
 use Rattle.outer_edge.specs.Held.{SameFiles, OthersSame}
 use Rattle.maxband.specs.Outside.{Outside, Text, IsDone, IsUntouched, IsBroken}
-use Rattle.maxband.specs.Command.{Form, Hold, Show, Check, Solve}
+use Rattle.maxband.specs.Command.{Form, Hold, Show, Check, Solve, Make, Trial}
 use Rattle.maxband.specs.Lines.{words_line, holds_lines, end_lines}
 use Rattle.maxband.specs.CheckLines.{accepted_line, rejected_line}
 use Rattle.maxband.specs.Turns.{ReadsArtery, FirstEnds}
@@ -14,6 +14,8 @@ use Rattle.maxband.specs.Hold.{Holds, HoldEnds}
 use Rattle.maxband.specs.Show.{Shows}
 use Rattle.maxband.specs.Check.{Accepts, Rejects, CheckEnds}
 use Rattle.maxband.specs.Solve.{Solves}
+use Rattle.maxband.specs.Make.{Makes}
+use Rattle.maxband.specs.Trial.{IsTrial}
 use Rattle.maxband.specs.declared.cause.Cause.{Cause}
 use Rattle.maxband.specs.declared.cause.Cause.TheVariants as cause
 
@@ -50,6 +52,11 @@ SolveAnswers held before after artery certificate work cause.Memory lines put = 
 SolveAnswers held before after artery certificate work c lines put =
     FirstEnds (held artery) (before artery) (after artery) c × (lines ≡ end_lines artery certificate c) × (put ≡ None)
 
+-- the answer of `make`, which reads nothing, and its lines
+abbrev pub MakeAnswers : ℕ → ℕ → Cause → List ℕ → Type 0
+MakeAnswers signals seed cause.Done lines = Makes signals seed lines
+MakeAnswers signals seed c lines = ⊥
+
 -- The answer to the words, its lines, and what it puts. `held` is what the files held at entry, `before` and `after` count the failed reads of each name.
 abbrev pub Answers : (List ℕ → Option (List ℕ)) → (List ℕ → ℕ) → (List ℕ → ℕ) → Option Form → Cause → List ℕ → Option Text → Type 0
 Answers held before after None c lines put = (c ≡ cause.Words) × (lines ≡ words_line) × (put ≡ None)
@@ -57,6 +64,8 @@ Answers held before after (Some (Hold artery timing)) c lines put = HoldAnswers 
 Answers held before after (Some (Show artery)) c lines put = ShowAnswers held before after artery c lines × (put ≡ None)
 Answers held before after (Some (Check artery certificate)) c lines put = CheckAnswers held before after artery certificate c lines × (put ≡ None)
 Answers held before after (Some (Solve artery certificate work)) c lines put = SolveAnswers held before after artery certificate work c lines put
+Answers held before after (Some (Make signals seed)) c lines put = MakeAnswers signals seed c lines × (put ≡ None)
+Answers held before after (Some (Trial signals seed work)) c lines put = IsTrial signals seed work c lines × (put ≡ None)
 
 -- an answer that was reached, after which the put or a write failed
 pub record Breaks (before now : Outside) (form : Option Form) : Type 0 where
@@ -80,6 +89,8 @@ FilesKept (Some (Hold artery timing)) before now = SameFiles before now
 FilesKept (Some (Show artery)) before now = SameFiles before now
 FilesKept (Some (Check artery certificate)) before now = SameFiles before now
 FilesKept (Some (Solve artery certificate work)) before now = OthersSame before now certificate
+FilesKept (Some (Make signals seed)) before now = SameFiles before now
+FilesKept (Some (Trial signals seed work)) before now = SameFiles before now
 
 -- no count of failed puts changes, and for `solve` none falls
 abbrev pub PutsKept : Option Form → (List ℕ → ℕ) → (List ℕ → ℕ) → Type 0
@@ -88,6 +99,15 @@ PutsKept (Some (Hold artery timing)) before now = SameCounts before now
 PutsKept (Some (Show artery)) before now = SameCounts before now
 PutsKept (Some (Check artery certificate)) before now = SameCounts before now
 PutsKept (Some (Solve artery certificate work)) before now = NoneFell before now
+PutsKept (Some (Make signals seed)) before now = SameCounts before now
+PutsKept (Some (Trial signals seed work)) before now = SameCounts before now
+
+-- words of no form, `make` and `trial` neither read nor put: the files are just as they were
+abbrev pub LeavesAlone : {F : Type 0} → Option Form → F → F → Type 0
+LeavesAlone None before now = now ≡ before
+LeavesAlone (Some (Make signals seed)) before now = now ≡ before
+LeavesAlone (Some (Trial signals seed work)) before now = now ≡ before
+LeavesAlone (Some form) before now = Unit {0}
 
 -- ---- laws
 -- an answer that neither a fault nor want of memory gave
@@ -111,16 +131,20 @@ AreTold held (Some (Hold artery timing)) = IsSome (held artery) × IsSome (held 
 AreTold held (Some (Show artery)) = IsSome (held artery)
 AreTold held (Some (Check artery certificate)) = IsSome (held artery) × IsSome (held certificate)
 AreTold held (Some (Solve artery certificate work)) = IsSome (held artery)
+AreTold held (Some (Make signals seed)) = Unit {0}
+AreTold held (Some (Trial signals seed work)) = Unit {0}
 
--- Two answers to the same words are one. Two of `solve` may both be verdicts, since of several best timings a search may find any.
+-- Two answers to the same words are one. Two of `solve` or of `trial` may both be verdicts, since of several best timings a search may find any.
 abbrev pub Agree : Option Form → Cause → List ℕ → Cause → List ℕ → Type 0
 Agree None c x d y = (c ≡ d) × (x ≡ y)
 Agree (Some (Hold artery timing)) c x d y = (c ≡ d) × (x ≡ y)
 Agree (Some (Show artery)) c x d y = (c ≡ d) × (x ≡ y)
 Agree (Some (Check artery certificate)) c x d y = (c ≡ d) × (x ≡ y)
 Agree (Some (Solve artery certificate work)) c x d y = ((c ≡ d) × (x ≡ y)) ⊎ (IsVerdict c × IsVerdict d)
+Agree (Some (Make signals seed)) c x d y = (c ≡ d) × (x ≡ y)
+Agree (Some (Trial signals seed work)) c x d y = IsVerdict c × IsVerdict d
 
--- What files that tell their bytes hold, and the words, leave one answer: so each status but 0, 1 and 2 of `solve`, that of a fault and that of want of
+-- What files that tell their bytes hold, and the words, leave one answer: so each status but 0, 1 and 2 of `solve` and `trial`, that of a fault and that of want of
 -- memory comes exactly by its cause.
 abbrev pub OneAnswer : Type 0
 OneAnswer = (held : List ℕ → Option (List ℕ)) (before after : List ℕ → ℕ) (form : Option Form) (c d : Cause) (x y : List ℕ) (p q : Option Text)
@@ -134,3 +158,12 @@ SolveIsComplete = (before now : Outside) (artery certificate : List ℕ) (work :
     → IsSome (before.holds artery) → ReadsArtery (before.holds artery) a
     → ¬ Rose (before.reads artery) (now.reads artery) → ¬ Rose (before.puts certificate) (now.puts certificate) → ¬ Rose before.writes now.writes
     → Ends before now (Some (Solve artery certificate work)) c → IsVerdict c ⊎ (c ≡ cause.Memory)
+
+-- Where no write failed, `make` is done or ends by want of memory.
+abbrev pub MakeIsComplete : Type 0
+MakeIsComplete = (before now : Outside) (signals seed : ℕ) (c : Cause) → ¬ Rose before.writes now.writes → Ends before now (Some (Make signals seed)) c → (c ≡ cause.Done) ⊎ (c ≡ cause.Memory)
+
+-- Where no write failed, `trial` ends with a verdict or by want of memory.
+abbrev pub TrialIsComplete : Type 0
+TrialIsComplete = (before now : Outside) (signals seed work : ℕ) (c : Cause)
+    → ¬ Rose before.writes now.writes → Ends before now (Some (Trial signals seed work)) c → IsVerdict c ⊎ (c ≡ cause.Memory)

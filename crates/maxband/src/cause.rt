@@ -13,7 +13,7 @@ use time_space::Failing;
 /// reads.
 #[derive(Debug, Drop)]
 pub enum Cause {
-    /// The work was done. For `solve`: the timing that was found is a best one.
+    /// The work was done. For `solve` and `trial`: the timing that was found is a best one.
     Done,
     /// There is no good timing, on any grid.
     NoTiming,

@@ -7,7 +7,7 @@ use crate::endless::Endless;
 use crate::run;
 use crate::tests::{ARTERY, WIDE, owned, run_surely, with_lines};
 use outer_edge::{MemFiles, MemSink, SureFiles, SureSink};
-use std::alloc::{AllocError, Global};
+use std::alloc::Global;
 use std::process::Abort;
 use std::test::Fail;
 

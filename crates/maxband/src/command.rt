@@ -1,9 +1,9 @@
 //! The words of a command.
 
 ghost use Rattle.std.specs.Prelude.{◌≡◌, map, option_map, string_bytes};
-ghost use Rattle.maxband.specs.Command.{command_of, two_names, view};
+ghost use Rattle.maxband.specs.Command.{command_of, make_of, trial_of, with_two, with_three, view};
 
-use crate::work::{USUAL_WORK, work_in};
+use crate::numbers::{USUAL_WORK, seed_in, signals_in, work_in};
 
 /// What the words ask for.
 #[derive(Clone, Copy)]
@@ -29,28 +29,82 @@ pub enum Command<'a> {
         certificate: &'a str,
         work: u64,
     },
+    /// Write the canonical description of the artery that is made with so many signals from the seed.
+    Make {
+        signals: u32,
+        seed: u64,
+    },
+    /// Make that artery, search for a best timing of it with so many units of work, and check the certificate.
+    Trial {
+        signals: u32,
+        seed: u64,
+        work: u64,
+    },
 }
 
-/// The command of a word with two names.
-fn with_two_names<'a>(word: &str, artery: &'a str, second: &'a str) -> Option<Command<'a>>
-    ensures { option_map view result ≡ two_names word.now artery.now second.now }
+/// The command `make` with these words.
+fn make_of(signals: &str, seed: &str) -> Option<Command<'static>>
+    ensures { option_map view result ≡ make_of signals.now seed.now }
+{
+    let signals = signals_in(signals)?;
+    let seed = seed_in(seed)?;
+    Some(Command::Make { signals, seed })
+}
+
+/// The command `trial` with these words.
+fn trial_of(signals: &str, seed: &str, work: &str) -> Option<Command<'static>>
+    ensures { option_map view result ≡ trial_of signals.now seed.now work.now }
+{
+    let signals = signals_in(signals)?;
+    let seed = seed_in(seed)?;
+    let work = work_in(work)?;
+    Some(Command::Trial {
+        signals,
+        seed,
+        work,
+    })
+}
+
+/// The command of a word with two more.
+fn with_two<'a>(word: &str, first: &'a str, second: &'a str) -> Option<Command<'a>>
+    ensures { option_map view result ≡ with_two word.now first.now second.now }
 {
     if word == "hold" {
         Some(Command::Hold {
-            artery,
+            artery: first,
             timing: second,
         })
     } else if word == "check" {
         Some(Command::Check {
-            artery,
+            artery: first,
             certificate: second,
         })
     } else if word == "solve" {
         Some(Command::Solve {
-            artery,
+            artery: first,
             certificate: second,
             work: USUAL_WORK,
         })
+    } else if word == "make" {
+        make_of(first, second)
+    } else {
+        None
+    }
+}
+
+/// The command of a word with three more.
+fn with_three<'a>(word: &str, first: &'a str, second: &'a str, third: &str) -> Option<Command<'a>>
+    ensures { option_map view result ≡ with_three word.now first.now second.now third.now }
+{
+    if word == "solve" {
+        let work = work_in(third)?;
+        Some(Command::Solve {
+            artery: first,
+            certificate: second,
+            work,
+        })
+    } else if word == "trial" {
+        trial_of(first, second, third)
     } else {
         None
     }
@@ -68,17 +122,13 @@ pub fn command_in(words: &[String]) -> Option<Command<'_>>
         } else {
             None
         },
-        [word, artery, second] => with_two_names(word.as_str(), artery.as_str(), second.as_str()),
-        [word, artery, certificate, work] => if word.as_str() == "solve" {
-            let work = work_in(work.as_str())?;
-            Some(Command::Solve {
-                artery: artery.as_str(),
-                certificate: certificate.as_str(),
-                work,
-            })
-        } else {
-            None
-        },
+        [word, first, second] => with_two(word.as_str(), first.as_str(), second.as_str()),
+        [word, first, second, third] => with_three(
+            word.as_str(),
+            first.as_str(),
+            second.as_str(),
+            third.as_str(),
+        ),
         _ => None,
     }
 }

@@ -1,8 +1,7 @@
 //! The end of every run: a text is put, and the lines go out.
 
-ghost use Rattle.std.specs.Prelude.{◌≡◌, ◌≤◌, IsErrOf, OnOk, option_map};
-ghost use Rattle.outer_edge.specs.Counts.{Rose, SameCounts};
-ghost use Rattle.outer_edge.specs.Taken.{Appends, AppendsFront};
+ghost use Rattle.std.specs.Prelude.{◌≡◌, ◌≤◌, IsErrOf, IsNone, OnOk, option_map};
+ghost use Rattle.outer_edge.specs.Counts.{SameCounts};
 ghost use Rattle.maxband.specs.Outside.{outside, text_of, IsDone, IsUntouched, IsBroken, OthersKept, PutsCounted};
 
 use outer_edge::{FileEnd, Files, Sink, write_whole};
@@ -42,6 +41,7 @@ pub fn deliver<F: Files, K: Sink>(
     ensures reads { SameCounts (F.read_faults files.old) (F.read_faults files.new) }
     ensures puts { PutsCounted (option_map text_of put.now) (F.put_faults files.old) (F.put_faults files.new) }
     ensures writes { K.faults out.old ≤ K.faults out.new }
+    ensures alone { IsNone put.now → files.new ≡ files.old }
 {
     if out.reserve(lines.len() as u64).is_err() {
         return Err(Undelivered::Memory);

@@ -1,14 +1,25 @@
 //! The lines of each answer.
 
 ghost use Rattle.std.specs.Prelude.{◌≡◌, IfOk, string_bytes};
+ghost use Rattle.quantity_text.specs.Exact.{exact_spelling};
 ghost use Rattle.maxband.specs.Lines.{kind_name, fault_name, dir_name, link_text, failing_text, fails_line, refused_line, bad_text_line, words_line, cannot_read_line, too_long_line, holds_lines};
 
 use artery_model::{Dir, Kind, Refusal};
 use narrow_fraction::Frac;
 use plan_text::{BadText, TextFault};
-use quantity_text::exact_text;
+use quantity_text::{exact_string, exact_text};
 use std::alloc::{AllocError, Global};
 use time_space::Failing;
+
+/// The exact text of a fraction.
+pub fn exact(alloc: Global, value: Frac) -> Result<String, AllocError>
+    ensures { IfOk result (λ text. string_bytes text ≡ exact_spelling value) }
+{
+    match exact_string(alloc, value) {
+        Ok(text) => Ok(text),
+        Err(_) => Err(AllocError),
+    }
+}
 
 /// The printed name of a kind of refusal.
 fn kind_name(kind: Kind) -> &'static str

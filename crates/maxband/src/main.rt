@@ -1,11 +1,13 @@
-//! `maxband`: tests timings of the signals of one artery against its time-space diagram, and checks certificates of what
-//! is claimed of all its good timings.
+//! `maxband`: finds best timings of the signals of one artery (`solve`), with certificates of what is claimed of all its good
+//! timings (`check`), tests timings against its time-space diagram (`hold`), writes the canonical description of an artery
+//! (`show`), and makes arteries from a seed, to be described (`make`) or searched (`trial`).
 //!
 //! `run` is the program over any files and any output; `main` hands it the system's. Its contract is
 //! the program's theorem: each status has its cause, and the output grows by exactly that answer's
 //! lines.
 #![tactic(auto)]
 
+mod answers;
 mod cause;
 mod check;
 mod check_lines;
@@ -17,6 +19,13 @@ mod endless;
 mod finish;
 mod hold;
 mod lines;
+mod make;
+mod numbers;
+mod searching;
+#[cfg(test)]
+mod shipped;
+#[cfg(test)]
+mod shipped_tests;
 mod show;
 mod solve;
 #[cfg(test)]
@@ -24,15 +33,21 @@ mod solve_tests;
 #[cfg(test)]
 mod tests;
 mod top;
+mod trial;
+#[cfg(test)]
+mod trial_tests;
 mod turns;
-mod work;
+#[cfg(test)]
+mod width_tests;
 
 pub use cause::{Cause, Status};
 use outer_edge::{RealFiles, RealOut};
 use std::env;
 use std::io::ErrorKind;
 use std::process::ExitCode;
-pub use top::{law_one_answer, law_solve_is_complete, run};
+pub use top::{
+    law_make_is_complete, law_one_answer, law_solve_is_complete, law_trial_is_complete, run,
+};
 
 /// The status for words that the system doesn't give as text. `run` never answers it.
 const NO_WORDS: u8 = 12;

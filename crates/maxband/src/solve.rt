@@ -1,23 +1,19 @@
 //! The command `solve`.
 
-ghost use Rattle.std.specs.Prelude.{◌≡◌, ◌≤◌, IfOk, IfErr, OnOk};
+ghost use Rattle.std.specs.Prelude.{◌≤◌, IfOk, IfErr};
 ghost use Rattle.outer_edge.specs.Counts.{NoneFell, SameCounts};
 ghost use Rattle.outer_edge.specs.Held.{SameFiles};
-ghost use Rattle.certificate_checker.specs.Accepted.{IsAccepted};
-ghost use Rattle.certificate_checker.specs.Claims.{Holds};
 ghost use Rattle.maxband.specs.Turns.{FirstEnds};
-ghost use Rattle.maxband.specs.Solve.{IsSolution, Solves, cause_of};
+ghost use Rattle.maxband.specs.Solve.{IsSolution, Solves};
 
 use crate::cause::Cause;
-use crate::check::is_memory;
+use crate::searching::{cause_of, search_and_check};
 use crate::turns::artery_of;
 use artery_model::Artery;
-use branch_tree::{Verdict, certificate_of, search};
-use certificate_checker::{check, law_accepted_or_refused};
 use diagram_print::report;
 use narrow_fraction::Memory;
 use outer_edge::Files;
-use plan_text::{Certificate, write_certificate};
+use plan_text::write_certificate;
 use std::alloc::Global;
 
 /// What a search comes to: its cause, the lines of its report, and the text of its certificate.
@@ -28,45 +24,16 @@ pub struct Solution {
     pub certificate: Vec<u8>,
 }
 
-fn cause_of(verdict: Verdict) -> Cause
-    ensures { result ≡ cause_of verdict }
-{
-    match verdict {
-        Verdict::Best => Cause::Done,
-        Verdict::NoTiming => Cause::NoTiming,
-        Verdict::Stopped(stop) => Cause::Stopped(stop),
-    }
-}
-
-/// Checks a certificate that can't be refused.
-fn confirm(alloc: Global, artery: &Artery, certificate: &Certificate) -> Result<(), Memory>
-    requires { IsAccepted artery.now certificate.now }
-    ensures { OnOk result (Holds artery.now certificate.now.claim certificate.now.timing) }
-{
-    match check(alloc, artery, certificate) {
-        Ok(()) => Ok(()),
-        Err(reject) => {
-            if !is_memory(&reject) {
-                law_accepted_or_refused();
-                unreachable!()
-            }
-            Err(Memory)
-        }
-    }
-}
-
 /// Searches for a best timing of the artery, with so many units of work. The certificate of what is found is checked.
 fn solution_of(alloc: Global, artery: &Artery, work: u64) -> Result<Solution, Memory>
     requires { 1 ≤ work }
     ensures { IfOk result (λ s. IsSolution artery.now work s.cause s.lines.items s.certificate.items) }
 {
-    let found = search(alloc, artery, Some(work))?;
-    let certificate = certificate_of(alloc, artery, &found)?;
-    confirm(alloc, artery, &certificate)?;
-    let text = write_certificate(alloc, &certificate)?;
-    let lines = report(alloc, artery, &found)?;
+    let searched = search_and_check(alloc, artery, work)?;
+    let text = write_certificate(alloc, &searched.certificate)?;
+    let lines = report(alloc, artery, &searched.found)?;
     Ok(Solution {
-        cause: cause_of(found.verdict),
+        cause: cause_of(searched.found.verdict),
         lines,
         certificate: text,
     })

@@ -4,7 +4,7 @@ use crate::check_tests::NEAR;
 use crate::run;
 use crate::tests::{ARTERY, owned, run_surely, with_lines};
 use outer_edge::{MemFiles, MemSink, SureFiles, SureSink};
-use std::alloc::{AllocError, Global};
+use std::alloc::Global;
 use std::process::Abort;
 use std::test::Fail;
 
@@ -69,7 +69,8 @@ struct Ran {
     certificate: Vec<u8>,
 }
 
-fn written_after(
+/// What words come to: the number, and what was written.
+pub fn written_after(
     alloc: Global,
     words: &[&str],
     files: &mut SureFiles,
@@ -100,6 +101,30 @@ fn solved(alloc: Global, artery: &[u8], work: &str) -> Result<(Ran, Vec<u8>), Fa
         },
         checked.1,
     ))
+}
+
+/// The whole report of the base artery, with its diagram of 60 places in each line.
+const REPORT: &str = "verdict best
+weighted 1 = 1.000000
+band out 1/2 = 0.500000
+band in 1/2 = 0.500000
+cycle 100 = 100.000
+signal 1 pattern 1 offset 0 = 0.000 A
+signal 2 pattern 1 offset 50 = 50.000 B
+link 1 out 36 = 36.000
+link 1 in 36 = 36.000
+diagram
+2 out >>>>>>>>>>>>>>>>>>>>>>>>>>>>>>>#############################
+2 in <<<<<<<<<<<<<<<<<<<<<<<<<<<<<<<#############################
+1 out >#############################>>>>>>>>>>>>>>>>>>>>>>>>>>>>>>
+1 in <#############################<<<<<<<<<<<<<<<<<<<<<<<<<<<<<<
+";
+
+#[test]
+fn a_whole_report(rt: HostRuntime) -> Result<(), Fail> {
+    let (ran, _) = solved(rt.alloc(), ARTERY.as_bytes(), "")?;
+    assert_eq!(rt; ran.written.as_slice(), REPORT.as_bytes());
+    Ok(())
 }
 
 /// Replaced lines of a description, the work, the status, how the output begins, and what `check` writes then.

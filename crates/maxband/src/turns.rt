@@ -1,6 +1,6 @@
 //! The turns of a command's files, one after the other.
 
-ghost use Rattle.std.specs.Prelude.{◌≡◌, ◌≤◌, ◌<◌, ◌^◌, IfOk, IfErr};
+ghost use Rattle.std.specs.Prelude.{◌<◌, ◌^◌, IfOk, IfErr};
 ghost use Rattle.outer_edge.specs.Counts.{NoneFell, SameCounts};
 ghost use Rattle.outer_edge.specs.Held.{SameFiles};
 ghost use Rattle.maxband.specs.Turns.{IsWithinLimit, NotRead, ReadsArtery, FirstEnds, ReadsTiming, TimingEnds, ReadsCertificate, CertificateEnds};

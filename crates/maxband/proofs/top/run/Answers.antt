@@ -2,8 +2,8 @@ use Rattle.std.proofs.Common.{Err, refl, ap, map}
 use Rattle.std.specs.Prelude.{option_map, string_bytes}
 use Rattle.maxband.specs.Command.{command_of}
 use Rattle.maxband.specs.Outside.{Outside, outside, text_of}
-use Rattle.maxband.proofs.Delivered.{IsRead}
-use Rattle.maxband.proofs.Running.{run_done, run_broken, run_files, run_puts}
+use Rattle.maxband.proofs.Delivered.{IsRead, no_text}
+use Rattle.maxband.proofs.Running.{run_done, run_broken, run_files, run_puts, run_alone}
 use Rattle.maxband.proofs.top.run.Goals as goal
 
 pub returns-in-Ok-deliver-clause-ends : goal.returns-in-Ok-deliver-clause-ends
@@ -61,3 +61,19 @@ returns-clause-puts g c =
     let now : Outside = outside (g.F.Files.holds c.deliver.new.files) (g.F.Files.read_faults c.deliver.new.files) (g.F.Files.put_faults c.deliver.new.files) (g.K.Sink.taken c.deliver.new.out) (g.K.Sink.faults c.deliver.new.out) in
     let read : IsRead before mid = record { files = c.answer_to.ensures.files; reads = c.answer_to.ensures.reads; puts = c.answer_to.ensures.puts; taken = refl; writes = refl } in
     run_puts before mid now read c.deliver.ensures.reads (command_of (map string_bytes c.args.words.now)) c.in-Ok.answer.cause c.in-Ok.answer.lines.items c.as_slice.result.now (option_map text_of c.in-Ok.answer.put) c.in-Ok.ensures.told c.as_slice.ensures.value c.deliver.ensures.puts
+
+pub returns-in-Ok-deliver-clause-alone : goal.returns-in-Ok-deliver-clause-alone
+returns-in-Ok-deliver-clause-alone g c =
+    let before : Outside = outside (g.F.Files.holds c.args.files.now) (g.F.Files.read_faults c.args.files.now) (g.F.Files.put_faults c.args.files.now) (g.K.Sink.taken c.args.out.now) (g.K.Sink.faults c.args.out.now) in
+    let mid : Outside = outside (g.F.Files.holds c.answer_to.new.files) (g.F.Files.read_faults c.answer_to.new.files) (g.F.Files.put_faults c.answer_to.new.files) (g.K.Sink.taken c.args.out.now) (g.K.Sink.faults c.args.out.now) in
+    let now : Outside = outside (g.F.Files.holds c.deliver.new.files) (g.F.Files.read_faults c.deliver.new.files) (g.F.Files.put_faults c.deliver.new.files) (g.K.Sink.taken c.deliver.new.out) (g.K.Sink.faults c.deliver.new.out) in
+    let read : IsRead before mid = record { files = c.answer_to.ensures.files; reads = c.answer_to.ensures.reads; puts = c.answer_to.ensures.puts; taken = refl; writes = refl } in
+    run_alone before mid now read c.deliver.ensures.reads (command_of (map string_bytes c.args.words.now)) c.in-Ok.answer.cause c.in-Ok.answer.lines.items c.as_slice.result.now (option_map text_of c.in-Ok.answer.put) c.in-Ok.ensures.told c.as_slice.ensures.value c.args.files.now c.answer_to.new.files c.deliver.new.files c.answer_to.ensures.alone (λ e. c.deliver.ensures.alone (no_text c.in-Ok.answer.put e))
+
+pub returns-in-Err-Broken-clause-alone : goal.returns-in-Err-Broken-clause-alone
+returns-in-Err-Broken-clause-alone g c =
+    let before : Outside = outside (g.F.Files.holds c.args.files.now) (g.F.Files.read_faults c.args.files.now) (g.F.Files.put_faults c.args.files.now) (g.K.Sink.taken c.args.out.now) (g.K.Sink.faults c.args.out.now) in
+    let mid : Outside = outside (g.F.Files.holds c.answer_to.new.files) (g.F.Files.read_faults c.answer_to.new.files) (g.F.Files.put_faults c.answer_to.new.files) (g.K.Sink.taken c.args.out.now) (g.K.Sink.faults c.args.out.now) in
+    let now : Outside = outside (g.F.Files.holds c.deliver.new.files) (g.F.Files.read_faults c.deliver.new.files) (g.F.Files.put_faults c.deliver.new.files) (g.K.Sink.taken c.deliver.new.out) (g.K.Sink.faults c.deliver.new.out) in
+    let read : IsRead before mid = record { files = c.answer_to.ensures.files; reads = c.answer_to.ensures.reads; puts = c.answer_to.ensures.puts; taken = refl; writes = refl } in
+    run_alone before mid now read c.deliver.ensures.reads (command_of (map string_bytes c.args.words.now)) c.in-Ok.answer.cause c.in-Ok.answer.lines.items c.as_slice.result.now (option_map text_of c.in-Ok.answer.put) c.in-Ok.ensures.told c.as_slice.ensures.value c.args.files.now c.answer_to.new.files c.deliver.new.files c.answer_to.ensures.alone (λ e. c.deliver.ensures.alone (no_text c.in-Ok.answer.put e))

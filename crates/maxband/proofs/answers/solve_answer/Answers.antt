@@ -1,5 +1,5 @@
 use Rattle.maxband.proofs.SolveFound.{found_answers}
-use Rattle.maxband.proofs.top.solve_answer.Goals as goal
+use Rattle.maxband.proofs.answers.solve_answer.Goals as goal
 
 pub returns-in-Ok-clause-told : goal.returns-in-Ok-clause-told
 returns-in-Ok-clause-told g c =

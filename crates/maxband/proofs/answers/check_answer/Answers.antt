@@ -1,5 +1,5 @@
 use Rattle.maxband.proofs.CheckEnded.{check_ended}
-use Rattle.maxband.proofs.top.check_answer.Goals as goal
+use Rattle.maxband.proofs.answers.check_answer.Goals as goal
 
 pub returns-in_ok-end_lines-in-Err-clause-told : goal.returns-in_ok-end_lines-in-Err-clause-told
 returns-in_ok-end_lines-in-Err-clause-told g c =

@@ -1,0 +1,111 @@
+//! The command `trial`.
+
+ghost use Rattle.std.specs.Prelude.{◌≡◌, ◌≤◌, IfOk, string_bytes};
+ghost use Rattle.maxband.specs.Trial.{best_lines, bound_lines, between_lines, open_lines, claim_lines, trial_lines, lines_of, IsTrial};
+
+use crate::cause::Cause;
+use crate::lines::exact;
+use crate::searching::{cause_of, search_and_check};
+use narrow_fraction::{Frac, Memory};
+use plan_text::{Certificate, Claim, write_certificate};
+use std::alloc::{AllocError, Global};
+use workload_maker::make_artery;
+
+/// What a search of a made artery comes to: its cause and its lines.
+#[derive(Drop)]
+pub struct Tried {
+    pub cause: Cause,
+    pub lines: Vec<u8>,
+}
+
+fn best_lines(alloc: Global, value: Frac) -> Result<String, AllocError>
+    ensures { IfOk result (λ text. string_bytes text ≡ best_lines value) }
+{
+    let value = exact(alloc, value)?;
+    format!(in alloc; "verdict best\nweighted {value}\n")
+}
+
+fn bound_lines(alloc: Global, bound: Frac) -> Result<String, AllocError>
+    ensures { IfOk result (λ text. string_bytes text ≡ bound_lines bound) }
+{
+    let bound = exact(alloc, bound)?;
+    format!(in alloc; "verdict open\nbound {bound}\n")
+}
+
+fn between_lines(alloc: Global, bound: Frac, value: Frac) -> Result<String, AllocError>
+    ensures { IfOk result (λ text. string_bytes text ≡ between_lines bound value) }
+{
+    let bound = exact(alloc, bound)?;
+    let value = exact(alloc, value)?;
+    format!(in alloc; "verdict open\nweighted {value}\nbound {bound}\n")
+}
+
+/// The lines of a stopped search, with its bound and the value where a timing was found.
+fn open_lines(alloc: Global, bound: Frac, value: Option<Frac>) -> Result<String, AllocError>
+    ensures { IfOk result (λ text. string_bytes text ≡ open_lines bound value) }
+{
+    match value {
+        Some(value) => between_lines(alloc, bound, value),
+        None => bound_lines(alloc, bound),
+    }
+}
+
+/// The lines of what a certificate claims.
+fn claim_lines(alloc: Global, claim: Claim) -> Result<String, AllocError>
+    ensures { IfOk result (λ text. string_bytes text ≡ claim_lines claim) }
+{
+    match claim {
+        Claim::Best { value } => best_lines(alloc, value),
+        Claim::NoTiming => String::from_str(alloc, "verdict none\n"),
+        Claim::Stopped { bound, value } => open_lines(alloc, bound, value),
+    }
+}
+
+/// The lines of a trial whose certificate makes this claim and has a text of so many bytes.
+fn trial_lines(
+    alloc: Global,
+    signals: u32,
+    seed: u64,
+    claim: Claim,
+    bytes: usize,
+) -> Result<String, AllocError>
+    ensures { IfOk result (λ text. string_bytes text ≡ trial_lines signals seed claim bytes) }
+{
+    let claim = claim_lines(alloc, claim)?;
+    format!(in alloc;
+        "signals {signals}\nseed {seed}\n{claim}certificate {bytes}\ncheck accepted\n"
+    )
+}
+
+/// The lines of a trial with this certificate.
+fn lines_of(
+    alloc: Global,
+    signals: u32,
+    seed: u64,
+    certificate: &Certificate,
+) -> Result<String, Memory>
+    ensures { IfOk result (λ text. string_bytes text ≡ lines_of signals seed certificate.now) }
+{
+    let text = write_certificate(alloc, certificate)?;
+    match trial_lines(alloc, signals, seed, certificate.claim, text.len()) {
+        Ok(lines) => Ok(lines),
+        Err(AllocError) => Err(Memory),
+    }
+}
+
+/// Makes the artery with so many signals, 2 to 16, from the seed, searches for a best timing of it with so many units of work,
+/// and checks the certificate. The error is want of memory.
+pub fn trial(alloc: Global, signals: u32, seed: u64, work: u64) -> Result<Tried, Memory>
+    requires least { 2 ≤ signals }
+    requires most { signals ≤ 16 }
+    requires work { 1 ≤ work }
+    ensures { IfOk result (λ t. IsTrial signals seed work t.cause t.lines.items) }
+{
+    let artery = make_artery(alloc, signals, seed)?;
+    let searched = search_and_check(alloc, &artery, work)?;
+    let lines = lines_of(alloc, signals, seed, &searched.certificate)?.into_bytes();
+    Ok(Tried {
+        cause: cause_of(searched.found.verdict),
+        lines,
+    })
+}

@@ -1,0 +1,320 @@
+//! Runs of `solve` that stop because a number doesn't fit. The expected reports come from outside: from a second program in
+//! Python, with fractions of any size, that follows the stated rules and tests each operation.
+
+use crate::tests::{owned, run_surely};
+use outer_edge::{SureFiles, SureSink};
+use std::test::Fail;
+
+/// A street, and what `solve` writes of it.
+struct Stopped {
+    street: &'static str,
+    report: &'static str,
+}
+
+/// It stops at a cell of a pivot in the root box.
+const CELL_IN_ROOT: Stopped = Stopped {
+    street: r#"[artery]
+units = "metric"
+parts = 100
+cycle = ["55.20", "85.88"]
+ratio = "0.909"
+
+[[signal]]
+name = "S1"
+red = 75
+
+[[signal]]
+name = "S2"
+red = 74
+clear_out = 2
+
+[[signal]]
+name = "S3"
+red = 70
+
+[[link]]
+distance_out = 487
+distance_in = 487
+speed_out = ["38.078", "48.443"]
+speed_in = ["39.813", "46.274"]
+change_out = ["-9.00", "8.49"]
+change_in = ["-8.51", "7.89"]
+
+[[link]]
+distance_out = 419
+distance_in = 419
+speed_out = ["40.868", "45.686"]
+speed_in = ["40.354", "47.570"]
+"#,
+    report: r#"verdict open
+stopped wide
+loops 1:2 1:1
+shifts 0:0 0:0 0:0
+pivots 18
+site cell 15 16
+operands mul -43415651049828354543/108164612656318700000 627272471582696845439/1838116529856793678290000
+bound 1909/4000
+no timing
+"#,
+};
+
+/// It stops at a cell of a pivot in the box of a part, after a timing was found.
+const CELL_IN_PART: Stopped = Stopped {
+    street: r#"[artery]
+units = "metric"
+parts = 120
+cycle = ["55.20", "95.10"]
+ratio = "1"
+
+[[signal]]
+name = "S1"
+red = 54
+clear_out = 5
+clear_in = 3
+
+[[signal]]
+name = "S2"
+red = 51
+clear_out = 4
+clear_in = 4
+
+[[signal]]
+name = "S3"
+red = 43
+
+[[link]]
+distance_out = 353
+distance_in = 353
+speed_out = ["33.851", "53.334"]
+speed_in = ["39.857", "49.307"]
+change_in = ["-8.78", "17.45"]
+
+[[link]]
+distance_out = 613
+distance_in = 293
+speed_out = ["40.529", "48.125"]
+speed_in = ["31.738", "55.242"]
+"#,
+    report: r#"verdict open
+stopped wide
+loops 1:2 2:2
+shifts 0:0 0:0 0:0
+pivots 21
+site cell 14 3
+operands mul -170007954664584450571/22246174399912416000000 -42270941825239037/75739328396362485
+bound 11/10
+weighted 11/10 = 1.100000
+band out 11/20 = 0.550000
+band in 11/20 = 0.550000
+cycle 2810043792000/41825178517 = 67.185
+signal 1 pattern 1 offset 0 = 0.000 S1
+signal 2 pattern 1 offset 1546741512000/41825178517 = 36.981 S2
+signal 3 pattern 1 offset 32055975217106159/2091258925850000 = 15.328 S3
+link 1 out 33851/1000 = 33.851
+link 1 in 39857/1000 = 39.857
+link 2 out 385/8 = 48.125
+link 2 in 7174260000/162502777 = 44.148
+diagram
+3 out >>>>>>>>>>>>>=######################====>>>>>>>>>>>>>>>>>>>>
+3 in <<<<<<<<<<<<<<######################=====<<<<<<<<<<<<<<<<<<<
+2 out >>>>>>>>>>>>>>>>>>>>>>>>>>>>>>>>==#########################>
+2 in =<<<<<<<<<<<<<<<<<<<<<<<<<<<<<<<<<#########################=
+1 out >##########################>>>>>>>>>>>>>>>>>>>>>>>>>>>>>>>>>
+1 in <##########################<<<<<<<<<<<<<<<<<<<<<<<<<<<<<<<<<
+"#,
+};
+
+/// It stops at the bound of a leaf's sum.
+const BOUND_OF_LEAF: Stopped = Stopped {
+    street: r#"[artery]
+units = "metric"
+parts = 240
+cycle = ["61.95", "104.82"]
+ratio = "0.635"
+
+[[signal]]
+name = "S1"
+red = 93
+left_out = 10
+left_in = 9
+clear_out = 2
+clear_in = 3
+
+[[signal]]
+name = "S2"
+red = 91
+clear_in = 2
+
+[[signal]]
+name = "S3"
+red = 87
+left_in = 9
+clear_out = 2
+clear_in = 2
+
+[[signal]]
+name = "S4"
+red = 108
+clear_out = 5
+clear_in = 5
+
+[[link]]
+distance_out = 6271
+distance_in = 6607
+speed_out = ["27749/911", "36587/643"]
+speed_in = ["30757/907", "30553/587"]
+change_in = ["-7.00", "4.91"]
+
+[[link]]
+distance_out = 4051
+distance_in = 1597
+speed_out = ["30881/947", "25523/541"]
+speed_in = ["20939/691", "29389/541"]
+change_out = ["-14.99", "16.35"]
+
+[[link]]
+distance_out = 4243
+distance_in = 4243
+speed_out = ["12953/359", "46411/919"]
+speed_in = ["40099/997", "47309/769"]
+"#,
+    report: r#"verdict open
+stopped wide
+loops 7:8 3:4 5:5
+shifts 0:3 0:0 0:1 0:0
+pivots 24
+site leaf loop_hi 1 bound
+operands add -29349554416957481400614878568591390581/2103451667587575353537894424495054000 107823809/15696000
+bound 3597/4000
+no timing
+"#,
+};
+
+/// It stops at the common denominator of a vertex.
+const COMMON_DENOMINATOR: Stopped = Stopped {
+    street: r#"[artery]
+units = "metric"
+parts = 100
+cycle = ["61.334", "89.466"]
+ratio = "0.697"
+
+[[signal]]
+name = "S1"
+red = 46
+left_out = 7
+left_in = 7
+patterns = [3]
+clear_out = 4
+
+[[signal]]
+name = "S2"
+red = 43
+left_out = 11
+left_in = 10
+
+[[signal]]
+name = "S3"
+red = 37
+
+[[link]]
+distance_out = 331
+distance_in = 331
+speed_out = ["42.040", "44.476"]
+speed_in = ["41.510", "46.099"]
+change_out = ["-3.669", "0.750"]
+change_in = ["-3.064", "3.706"]
+
+[[link]]
+distance_out = 239
+distance_in = 239
+speed_out = ["42.020", "45.884"]
+speed_in = ["42.939", "46.423"]
+"#,
+    report: r#"verdict open
+stopped wide
+loops 0:0 0:1
+shifts 0:0 0:3 0:0
+pivots 16
+site unit
+operands lcm 38910526030368681 4070038217794624699403
+bound 39531/50000
+no timing
+"#,
+};
+
+/// It stops at a number of ticks of a run.
+const TICKS_OF_RUN: Stopped = Stopped {
+    street: r#"[artery]
+units = "metric"
+parts = 90
+cycle = ["66.69", "97.58"]
+ratio = "0.650"
+
+[[signal]]
+name = "S1"
+red = 44
+clear_in = 5
+
+[[signal]]
+name = "S2"
+red = 38
+clear_in = 3
+
+[[signal]]
+name = "S3"
+red = 37
+clear_out = 4
+clear_in = 4
+
+[[link]]
+distance_out = 337
+distance_in = 677
+speed_out = ["38.644", "50.891"]
+speed_in = ["37.015", "52.493"]
+change_out = ["-3.77", "10.02"]
+change_in = ["-10.73", "9.27"]
+
+[[link]]
+distance_out = 191
+distance_in = 353
+speed_out = ["38.998", "46.702"]
+speed_in = ["39.470", "51.073"]
+"#,
+    report: r#"verdict open
+stopped wide
+loops 0:0 0:1
+shifts 0:0 0:0 0:0
+pivots 12
+site number y_in 1
+operands ticks 1996929696171131904600000
+bound 253/300
+no timing
+"#,
+};
+
+const STREETS: &[Stopped] = &[
+    CELL_IN_ROOT,
+    CELL_IN_PART,
+    BOUND_OF_LEAF,
+    COMMON_DENOMINATOR,
+    TICKS_OF_RUN,
+];
+
+#[test]
+fn reports_of_stops_by_width(rt: HostRuntime) -> Result<(), Fail> {
+    let words = owned(rt.alloc(), &["solve", "street.toml", "certificate.txt"])?;
+    for stopped in STREETS {
+        let mut files = SureFiles::new(rt.alloc());
+        files.add("street.toml", stopped.street.as_bytes())?;
+        let mut out = SureSink::new(rt.alloc());
+        let status = run_surely(rt.alloc(), words.as_slice(), &mut files, &mut out);
+        assert_eq!(rt; status.number, 2);
+        assert_eq!(rt;
+            out.bytes(),
+            stopped.report.as_bytes(),
+            "{}",
+            stopped.report
+        );
+    }
+    Ok(())
+}
