@@ -1,8 +1,9 @@
-# make             builds the program
-# make example     builds it and runs a shipped example
-# make test        proves everything and runs every test
-# make bench       times the program, and fractions and pivots beside plain Rust
-# make install     puts the program under PREFIX (/usr/local)
+# make                 builds the program
+# make example         builds it and finds the best timing of a shipped street
+# make test            proves everything and runs every test
+# make check-examples  solves each shipped street, compares what is printed with its report, and checks its certificate
+# make bench           times the program, and fractions and pivots beside plain Rust
+# make install         puts the program and its manual page under PREFIX (/usr/local)
 PREFIX ?= /usr/local
 PROGRAM = crates/maxband/out/maxband
 FRACTIONS = crates/fraction_bench/out/fraction_bench
@@ -18,10 +19,13 @@ $(PROGRAM): $(SOURCES)
 	test -x $@
 
 example: $(PROGRAM)
-	$(PROGRAM) solve examples/market.toml market-certificate.txt
+	$(PROGRAM) solve examples/broadway.toml broadway-certificate.txt
 
 test:
 	rt ci
+
+check-examples: $(PROGRAM)
+	scripts/examples
 
 bench: $(PROGRAM) $(FRACTIONS) $(PIVOTS)
 	scripts/bench
@@ -38,5 +42,6 @@ $(PIVOTS): $(SOURCES)
 
 install: $(PROGRAM)
 	install -D -m 755 $(PROGRAM) $(DESTDIR)$(PREFIX)/bin/maxband
+	install -D -m 644 docs/maxband.1 $(DESTDIR)$(PREFIX)/share/man/man1/maxband.1
 
-.PHONY: all example test bench install
+.PHONY: all example test check-examples bench install
