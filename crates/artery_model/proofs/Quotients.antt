@@ -1,39 +1,12 @@
 -- Quotients of bounded numbers in lowest terms.
-use Rattle.std.proofs.Common.{◌≡◌, ℕ, zero, suc, ℤ, pos, ◌≤ℤ◌, ◌*◌, ◌/◌, ◌<◌, ◌≤◌, ◌^◌, Ok, Err, sym, ◌∙◌, ap, subst, arith, unsigned_abs, mul-pos}
+use Rattle.std.proofs.Common.{◌≡◌, ℕ, zero, suc, pos, ◌≤ℤ◌, ◌*◌, ◌<◌, sym, ◌∙◌, ap, subst, arith, unsigned_abs, mul-pos}
 use Rattle.std.proofs.lemmas.Int.{ints}
-use native.Mathlib.Nat.{mul-le-mul_right}
-use Rattle.ratio.specs.Gcd.{gcd}
-use Rattle.ratio.specs.Fractions.{gcd_pos, times_part, first_part_pos, abs-int_div}
-use Rattle.ratio.specs.Rational.{ℚ, whole, over, ◌*ℚ◌, ◌/ℚ◌, ◌≤ℚ◌, inverse_ℚ, quotient}
+use Rattle.ratio.specs.Fractions.{first_part_pos}
+use Rattle.ratio.specs.Rational.{ℚ, whole, over, ◌*ℚ◌, ◌/ℚ◌, ◌≤ℚ◌, inverse_ℚ}
 use Rattle.ratio.specs.Laws.{IsRatio, own_ratio, same_ratio, over_ratio, product_ratio, whole_ratio, *ℚ_assoc, *ℚ_comm, *ℚ-one, ≤ℚ_out}
 use Rattle.ratio.specs.Order.{≤ℚ_refl, *ℚ-inverse, *ℚ_cancel}
-use Rattle.ratio.specs.Lowest.{quotient-pos}
-use Rattle.narrow_fraction.specs.Fraction.{FitsFrac}
-use Rattle.narrow_fraction.specs.Made.{IsMade}
-use Rattle.narrow_fraction.specs.declared.unfit.Unfit.{Unfit}
-use Rattle.narrow_fraction.specs.declared.unfit.Unfit.TheVariants.{ZeroDen, Width}
 use Rattle.progression.specs.Speeds.{number}
 use Rattle.artery_model.specs.Valid.{IsQuantity}
-
--- ---- sizes
-le_times : (g a b : ℕ) → 0 < g → g * a ≡ b → a ≤ b
-le_times g a b h e = let k : 1 * a ≤ g * a = mul-le-mul_right a h in omega (arith, k, e)
-
--- lowest terms have no greater numerator
-pub over_num_small : (z : ℤ) (d : ℕ) → 0 < d → unsigned_abs (over z d).num ≤ unsigned_abs z
-unfolding over
-over_num_small z zero h = absurd (omega arith)
-over_num_small z (suc d) h =
-    let g = gcd (unsigned_abs z) (suc d) in
-    rw (abs-int_div z g) (le_times g (unsigned_abs z / g) (unsigned_abs z) (gcd_pos (unsigned_abs z) (suc d) h) (times_part (unsigned_abs z) (suc d) h).0)
-
--- and no greater denominator
-pub over_den_small : (z : ℤ) (d : ℕ) → 0 < d → (over z d).den ≤ d
-unfolding over
-over_den_small z zero h = absurd (omega arith)
-over_den_small z (suc d) h =
-    let g = gcd (unsigned_abs z) (suc d) in
-    le_times g (suc d / g) (suc d) (gcd_pos (unsigned_abs z) (suc d) h) (times_part (unsigned_abs z) (suc d) h).1
 
 -- the quotient of numbers above 0 is above 0
 pub over_positive : (n d : ℕ) → 0 < n → 0 < d → pos 1 ≤ℤ (over (pos n) d).num
@@ -74,27 +47,6 @@ over_whole x k h =
     let t = over_ratio x.num (k * x.den) (mul-pos h x.positive) in
     is_quotient x (number k) (over x.num (k * x.den)) (not_zero (number k) k 1 (whole_ratio (pos k)) h)
     (same_ratio _ _ _ _ _ _ _ _ (product_ratio _ _ _ _ _ _ _ _ t (whole_ratio (pos k))) (own_ratio x) (omega arith))
-
--- ---- making a fraction
-quotient-over : (a b top : ℤ) (bottom : ℕ) → a ≡ top → b ≡ pos bottom → quotient a b ≡ over top bottom
-quotient-over a b top bottom e f = rw (e, f) (quotient-pos top bottom)
-
-pub made_value : (a b top : ℤ) (bottom : ℕ) (x : ℚ) → IsMade a b (Ok x) → a ≡ top → b ≡ pos bottom → x ≡ over top bottom
-made_value a b top bottom x m e f = m.2 ∙ quotient-over a b top bottom e f
-
-not_none : (b : ℤ) (bottom : ℕ) → b ≡ pos bottom → 1 ≤ bottom → b ≡ pos 0 → ⊥
-not_none b bottom f h k = omega (arith, ints, f, k)
-
-fits_over : (a b top : ℤ) (bottom : ℕ) → a ≡ top → b ≡ pos bottom → 1 ≤ bottom → unsigned_abs top < 2 ^ 127 → bottom < 2 ^ 127 → FitsFrac (quotient a b)
-fits_over a b top bottom e f h k l =
-    let n = over_num_small top bottom h in
-    let d = over_den_small top bottom h in
-    rw (quotient-over a b top bottom e f) (record { num_fits = omega (arith, n, k); den_fits = omega (arith, d, l) })
-
--- numbers that fit are made into a fraction
-pub always_made : (a b top : ℤ) (bottom : ℕ) (u : Unfit) → IsMade a b (Err u) → a ≡ top → b ≡ pos bottom → 1 ≤ bottom → unsigned_abs top < 2 ^ 127 → bottom < 2 ^ 127 → ⊥
-always_made a b top bottom ZeroDen m e f h k l = not_none b bottom f h m
-always_made a b top bottom Width m e f h k l = m.1 (fits_over a b top bottom e f h k l)
 
 -- a speed is above 0
 pub above_zero : (v : ℚ) → IsQuantity (pos 1) (pos 300) v → (v.num ≡ pos (unsigned_abs v.num)) × (0 < unsigned_abs v.num)

@@ -47,6 +47,7 @@ head_ranges h =
     ∷ unless (within (number 0) (number 100) h.ratio) kind.OutOfRange (artery_place (codes "ratio"))
     ∷ []
 
+-- (parts - 1 is 0 for an artery of no parts, which was refused before its signals are looked at)
 abbrev pub signal_tests : ℕ → ℕ → Signal → List (Option Fault)
 signal_tests parts i s =
     unless (is_name s.name) kind.OutOfRange (signal_place i (codes "name"))

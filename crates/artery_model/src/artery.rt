@@ -1,3 +1,5 @@
+//! The type of a valid artery: how one is made, and its numbers in the model's words.
+
 ghost use Rattle.std.specs.Prelude.{◌≡◌, ◌+◌, ◌<◌, ◌≤◌, pos, ◌≤ℤ◌, unsigned_abs, IfSome, IfOk};
 ghost use Rattle.ratio.specs.Rational.{◌≤ℚ◌};
 ghost use Rattle.progression.specs.Street.{Street, count, signal_of, link_of, left_against, red_parts, clearance, allows, distance, speed, change_given};

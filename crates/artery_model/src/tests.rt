@@ -1,3 +1,5 @@
+//! Arteries that break one rule each, and runs that were worked by hand.
+
 use crate::{Artery, Dir, Flaw, Head, Kind, Link, Pair, Signal, Text, Units};
 use narrow_fraction::Frac;
 use std::alloc::Global;

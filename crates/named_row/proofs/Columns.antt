@@ -1,19 +1,11 @@
 -- The loop over the columns of a row: those below k are done.
-use Rattle.std.proofs.Common.{◌≡◌, ℕ, suc, pos, Option, Some, None, List, [], ◌∷◌, length, get_or, ◌+◌, ◌<◌, ◌≤◌, ◌⊎◌, inl, inr, refl, ◌∙◌, ap, ap₂, arith, add-one}
+use Rattle.std.proofs.Common.{◌≡◌, ℕ, suc, pos, None, List, [], ◌∷◌, length, get_or, ◌+◌, ◌<◌, ◌≤◌, ◌⊎◌, inl, inr, refl, ◌∙◌, ap₂, arith}
 use Rattle.std.proofs.Math.ListN.{set, length-set}
 use Rattle.std.proofs.lemmas.List.{get_or-set_same, get_or-set_other}
 use Rattle.ratio.specs.Rational.{ℚ, whole, ◌+ℚ◌, ◌*ℚ◌}
 use Rattle.ratio.specs.Rows.{add, scale}
-use Rattle.narrow_fraction.specs.Attempt.{earlier, first_below, first_stays}
+use Rattle.narrow_fraction.specs.Attempt.{first_below, first_next}
 use Rattle.named_row.specs.Refusals.{cell_refusal}
-
--- one more number was passed
-pub first_next : {E : Type 0} (f : ℕ → Option E) (k : ℕ) → first_below f k ≡ None → f k ≡ None → first_below f (k + 1) ≡ None
-first_next f k p q = ap (first_below f) (add-one k) ∙ ap₂ earlier p q
-
--- the first refusal is at k
-pub first_is : {E : Type 0} (f : ℕ → Option E) (k n : ℕ) (e : E) → first_below f k ≡ None → f k ≡ Some e → k < n → first_below f n ≡ Some e
-first_is f k n e p q h = first_stays f e (suc k) n (omega arith) (ap₂ earlier p q)
 
 -- the row c became d below k, by k times the other row s
 pub record Summed (by : ℚ) (s c d : List ℚ) (k : ℕ) : Type 0 where

@@ -1,10 +1,10 @@
 -- A whole row: its columns, then its bound.
-use Rattle.std.proofs.Common.{◌≡◌, ℕ, zero, suc, pos, Bool, true, false, Option, Some, None, List, length, ◌<◌, ◌⊎◌, inl, inr, refl, sym, ap, ap₂, subst, arith}
+use Rattle.std.proofs.Common.{◌≡◌, pos, Bool, true, false, Some, None, List, length, sym, ap, ap₂}
 use Rattle.std.specs.Ordering.{is_lt, is_le}
 use Rattle.ratio.specs.Rational.{ℚ, whole, ◌+ℚ◌, ◌*ℚ◌}
 use Rattle.ratio.specs.Rows.{add, scale}
 use Rattle.ratio.specs.Compare.{cmp_ℚ, lt_false, le_false}
-use Rattle.narrow_fraction.specs.Attempt.{refusal_if, earlier, first_below}
+use Rattle.narrow_fraction.specs.Attempt.{refusal_if, earlier, first_below, not_refused, none_each}
 use Rattle.named_row.specs.declared.names.Place.{Place}
 use Rattle.named_row.specs.declared.names.Place.TheVariants.{Cell, Bound}
 use Rattle.named_row.specs.declared.wide_at.WideAt.{WideAt}
@@ -30,32 +30,6 @@ pub with_times_is : (k : ℚ) (s r : Sheet) (xs : List ℚ) (b : ℚ) (t : Bool)
 unfolding with_times
 with_times_is k s r xs b t e f g = λ i. record { coefs = e i; bound = f i; spent = g i }
 
--- ---- none refused below n means none refused at a number below n
-earlier_none : {E : Type 0} (a b : Option E) → earlier a b ≡ None → (a ≡ None) × (b ≡ None)
-earlier_none None b e = (refl, e)
-earlier_none (Some x) b e = absurd (no e)
-  where
-    no : Some x ≡ None → ⊥
-    no e = cc
-
-last : (j n : ℕ) → j < suc n → (j ≡ n) ⊎ (j < n)
-last j n h = grind arith
-
-pub none_each : {E : Type 0} (f : ℕ → Option E) (n : ℕ) → first_below f n ≡ None → (j : ℕ) → j < n → f j ≡ None
-none_each f zero e j h = absurd (omega arith)
-none_each {E = E} f (suc n) e j h = pick (last j n h) (λ l. none_each f n (earlier_none (first_below f n) (f n) e).0 j l)
-  where
-    pick : (j ≡ n) ⊎ (j < n) → (j < n → f j ≡ None) → f j ≡ None
-    pick (inl q) g = subst (λ m. f m ≡ None) (sym q) (earlier_none (first_below f n) (f n) e).1
-    pick (inr l) g = g l
-
-passed : {E : Type 0} (b : Bool) (e : E) → refusal_if b e ≡ None → false ≡ b
-passed false e h = refl
-passed true e h = absurd (no h)
-  where
-    no : Some e ≡ None → ⊥
-    no h = cc
-
 -- ---- what a row covers
 pub cell_uncovered : (r g : Sheet) (v : ℚ) (p : Place) → first_below (λ j. below (number_at r.coefs j) (number_at g.coefs j) j) (length r.coefs) ≡ Some p → uncovered r g v ≡ Some p
 unfolding uncovered
@@ -71,7 +45,7 @@ all_covered r g v e f = ap₂ (λ o b. earlier o (refusal_if b Bound)) e (sym f)
 
 pub covers : (r g : Sheet) (v : ℚ) → first_below (λ j. below (number_at r.coefs j) (number_at g.coefs j) j) (length r.coefs) ≡ None → false ≡ is_lt (cmp_ℚ v r.bound) → Covers r g v
 covers r g v e f = record {
-  coefs = λ j h. lt_false _ _ (passed (is_lt (cmp_ℚ (number_at r.coefs j) (number_at g.coefs j))) (Cell j) (none_each (λ j. below (number_at r.coefs j) (number_at g.coefs j) j) (length r.coefs) e j h));
+  coefs = λ j h. lt_false _ _ (sym (not_refused (is_lt (cmp_ℚ (number_at r.coefs j) (number_at g.coefs j))) (Cell j) (none_each (λ j. below (number_at r.coefs j) (number_at g.coefs j) j) (length r.coefs) e j h)));
   bound = lt_false v r.bound f;
 }
 
@@ -90,6 +64,6 @@ all_refuted r e f = ap₂ (λ o b. earlier o (refusal_if b Bound)) e (sym f)
 
 pub refutes : (r : Sheet) → first_below (λ j. below (number_at r.coefs j) (whole (pos 0)) j) (length r.coefs) ≡ None → false ≡ is_le (cmp_ℚ (whole (pos 0)) r.bound) → Refutes r
 refutes r e f = record {
-  coefs = λ j h. lt_false _ _ (passed (is_lt (cmp_ℚ (number_at r.coefs j) (whole (pos 0)))) (Cell j) (none_each (λ j. below (number_at r.coefs j) (whole (pos 0)) j) (length r.coefs) e j h));
+  coefs = λ j h. lt_false _ _ (sym (not_refused (is_lt (cmp_ℚ (number_at r.coefs j) (whole (pos 0)))) (Cell j) (none_each (λ j. below (number_at r.coefs j) (whole (pos 0)) j) (length r.coefs) e j h)));
   bound = le_false (whole (pos 0)) r.bound f;
 }

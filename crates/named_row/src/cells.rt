@@ -1,3 +1,5 @@
+//! The columns of a row, one after another: sums, and the first that is too small.
+
 ghost use Rattle.std.specs.Prelude.{◌≡◌, ◌<◌, ◌^◌, length, IfOk, pos};
 ghost use Rattle.ratio.specs.Rational.{whole, ◌+ℚ◌, ◌*ℚ◌};
 ghost use Rattle.ratio.specs.Rows.{add, scale};

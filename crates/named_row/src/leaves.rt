@@ -1,3 +1,5 @@
+//! Plain lists of a leaf: multipliers of named rows, and values of columns.
+
 use crate::names::RowId;
 use narrow_fraction::Frac;
 

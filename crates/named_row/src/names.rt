@@ -1,3 +1,5 @@
+//! The names of rows, and the places of a row.
+
 /// The name of a row: a family of rows (from 1), and which of its rows, by the number of a signal or link, or 0.
 /// Ordered by family, then index.
 #[derive(Debug, Clone, Copy, PartialEq, Eq, PartialOrd, Ord)]

@@ -1,3 +1,5 @@
+//! The type of a row: its numbers, sums of rows, and what a sum shows.
+
 ghost use Rattle.std.specs.Prelude.{◌≡◌, ◌<◌, ◌^◌, length, IfOk, IfErr, true, false};
 ghost use Rattle.narrow_fraction.specs.Attempt.{attempt};
 ghost use Rattle.named_row.specs.Sheets.{blank, IsWithin, at_place, with_place, with_times};
@@ -40,14 +42,12 @@ impl Row {
     {
         let zero = Frac::whole(0);
         let mut coefs = Vec::new(alloc);
-        match coefs.resize(width as usize, zero) {
-            Ok(()) => Ok(Row {
-                coefs,
-                bound: zero,
-                spent: false,
-            }),
-            Err(_) => Err(Memory),
-        }
+        coefs.resize(width as usize, zero)?;
+        Ok(Row {
+            coefs,
+            bound: zero,
+            spent: false,
+        })
     }
 
     /// All numbers become 0, and the row is not spent. The width stays.

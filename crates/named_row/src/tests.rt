@@ -1,3 +1,5 @@
+//! Rows of two columns that were added up by hand.
+
 ghost use Rattle.std.specs.Prelude.{◌≡◌, length, IfSome, false};
 
 use crate::{Place, Row, RowId, WideAt};

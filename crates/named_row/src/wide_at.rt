@@ -1,3 +1,5 @@
+//! A refused operation with its place.
+
 use crate::names::Place;
 use narrow_fraction::Wide;
 

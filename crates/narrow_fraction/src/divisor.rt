@@ -1,3 +1,5 @@
+//! The greatest common divisor, and divisions of 128 bits that are short where they can be.
+
 ghost use Rattle.std.specs.Prelude.{◌≡◌, ◌<◌, ◌≤◌, ◌/◌, ◌%◌, ◌^◌};
 ghost use Rattle.ratio.specs.Gcd.{gcd};
 

@@ -1,5 +1,7 @@
+//! The type of a fraction: how one is made, and what is read off its two numbers.
+
 ghost use Rattle.std.specs.Prelude.{◌≡◌, ◌^◌, ◌↔◌, ◌<◌, ◌≤◌, ◌≤ℤ◌, ◌*ℤ◌, IsTrue, int_lt, pos, unsigned_abs, SomeIff};
-ghost use Rattle.ratio.specs.Rational.{whole, abs_ℚ, inverse_ℚ, over, neg_ℚ};
+ghost use Rattle.ratio.specs.Rational.{◌<ℚ◌, whole, abs_ℚ, inverse_ℚ, over, neg_ℚ};
 ghost use Rattle.ratio.specs.Floor.{floor_ℚ};
 ghost use Rattle.ratio.specs.Gcd.{gcd};
 ghost use Rattle.narrow_fraction.specs.Fraction.{FitsFrac, signed};
@@ -78,16 +80,6 @@ pub fn build(negative: bool, top: u128, bottom: u128) -> Option<Frac>
         return None;
     }
     Some(lowest(negative, top, bottom))
-}
-
-/// `top / bottom` in lowest terms.
-pub fn reduced(top: i128, bottom: u128) -> Frac
-    requires above { 0 < bottom }
-    requires top { unsigned_abs top < 2 ^ 127 }
-    requires bottom { bottom < 2 ^ 127 }
-    ensures { result ≡ over top bottom }
-{
-    reduced_by(top, bottom, common_divisor(top.unsigned_abs(), bottom))
 }
 
 /// `top / bottom` in lowest terms, by the greatest common divisor of the two.
@@ -176,6 +168,19 @@ impl Frac {
         }
     }
 
+    /// `top / bottom` in lowest terms, of two numbers that fit. Never refused.
+    #[tactic(auto, using(ratio::specs::Lowest::num_size, ratio::specs::Lowest::den_size))]
+    pub fn reduced(top: i128, bottom: u128) -> Frac
+        requires above { 0 < bottom }
+        requires top { unsigned_abs top < 2 ^ 127 }
+        requires bottom { bottom < 2 ^ 127 }
+        ensures value { result ≡ over top bottom }
+        ensures num { unsigned_abs result.num ≤ unsigned_abs top }
+        ensures den { result.den ≤ bottom }
+    {
+        reduced_by(top, bottom, common_divisor(top.unsigned_abs(), bottom))
+    }
+
     /// A whole number. Never refused.
     pub fn whole(n: i64) -> Frac
         ensures { result ≡ whole n }
@@ -201,6 +206,20 @@ impl Frac {
         ensures size { unsigned_abs result < 2 ^ 127 }
     {
         self.den
+    }
+
+    /// Whether this is 0.
+    pub fn is_zero(&self) -> bool
+        ensures { IsTrue result ↔ self.now ≡ whole (pos 0) }
+    {
+        self.parts().top == 0
+    }
+
+    /// Whether this is below 0.
+    pub fn is_negative(&self) -> bool
+        ensures { IsTrue result ↔ self.now <ℚ whole (pos 0) }
+    {
+        self.parts().negative
     }
 
     /// The same number on the other side of 0. Never refused.

@@ -1,3 +1,5 @@
+//! The order of fractions, and the traits that give it to `==`, `<` and `cmp`.
+
 ghost use Rattle.std.specs.Prelude.{◌≡◌};
 ghost use Rattle.ratio.specs.Rational.{◌<ℚ◌};
 ghost use Rattle.ratio.specs.Compare.{cmp_ℚ};

@@ -1,3 +1,5 @@
+//! Products, reduced before they are multiplied.
+
 ghost use Rattle.std.specs.Prelude.{◌≡◌, ◌<◌, ◌*◌, ◌^◌, SomeIff};
 ghost use Rattle.ratio.specs.Rational.{over, ◌*ℚ◌};
 ghost use Rattle.ratio.specs.Gcd.{gcd};

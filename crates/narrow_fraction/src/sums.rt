@@ -1,10 +1,12 @@
+//! Sums over the least common denominator, with shorter ways for whole and for short numbers.
+
 ghost use Rattle.std.specs.Prelude.{◌≡◌, ◌^◌, ◌<◌, ◌*◌, ◌+ℤ◌, ◌*ℤ◌, pos, unsigned_abs, SomeIff};
 ghost use Rattle.ratio.specs.Rational.{◌+ℚ◌};
 ghost use Rattle.narrow_fraction.specs.Past128.{SumFits};
 ghost use Rattle.narrow_fraction.specs.Short.{IsShort};
 
 use crate::divisor::{common_divisor, divided, word_divisor, word_quotient};
-use crate::frac::{Frac, MOST, already_reduced, reduced, reduced_by, with_sign};
+use crate::frac::{Frac, MOST, already_reduced, reduced_by, with_sign};
 
 /// `n * by`, where it is at most `2^127 - 1` in size.
 fn times_size(n: i128, by: u128) -> Option<i128>
@@ -69,7 +71,7 @@ fn sum_over_same(x: Frac, y: Frac) -> Option<Frac>
     if top == 0 {
         return Some(Frac::whole(0));
     }
-    Some(reduced(top, bottom))
+    Some(Frac::reduced(top, bottom))
 }
 
 /// The sum over the least common denominator.

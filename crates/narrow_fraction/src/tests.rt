@@ -1,3 +1,5 @@
+//! Worked fractions, up to the greatest of 128 bits.
+
 use crate::{Frac, Op, Unfit, Wide};
 use std::rt::HostRuntime;
 

@@ -1,3 +1,5 @@
+//! Why two numbers make no fraction.
+
 use thiserror::Error;
 
 /// Why two numbers make no fraction of 128 bits.

@@ -1,3 +1,5 @@
+//! An operation that was refused, with its operands.
+
 ghost use Rattle.std.specs.Prelude.{◌≡◌};
 
 use crate::frac::Frac;

@@ -1,3 +1,5 @@
+//! Files in memory of which chosen calls fail.
+
 ghost use Rattle.std.specs.Prelude.{false, ◌≡◌, ◌<◌, ◌≤◌, ◌↔◌, [], Some, None, MatchOption, IfOk, IfSome, IsErrOf, IsTrue, OnOk, OnErr, length, is_err};
 ghost use Rattle.outer_edge.specs.Counts.{next_count};
 ghost use Rattle.outer_edge.specs.Device.{after_read, after_put, next_fails, read_fails};

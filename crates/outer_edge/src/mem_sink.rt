@@ -1,4 +1,6 @@
-ghost use Rattle.std.specs.Prelude.{◌≡◌, ◌+◌, ◌<◌, ◌≤◌, ◌++◌, [], Some, length, take, min, IfOk, OnErr, is_err};
+//! An output in memory of which chosen calls fail.
+
+ghost use Rattle.std.specs.Prelude.{◌≡◌, ◌+◌, ◌<◌, ◌≤◌, ◌++◌, [], Some, length, take, min, IfOk, OnOk, OnErr, is_err};
 ghost use Rattle.outer_edge.specs.Counts.{next_count};
 ghost use Rattle.outer_edge.specs.Device.{next_fails, count_if};
 
@@ -72,11 +74,13 @@ impl Sink for MemSink {
 
     ghost room = { λ s. s.room };
 
-    fn reserve(&mut self, bytes: u64) -> Result<(), Memory> {
-        match self.bytes.reserve(bytes as usize) {
-            Ok(()) => Ok(()),
-            Err(_) => Err(Memory),
-        }
+    fn reserve(&mut self, bytes: u64) -> Result<(), Memory>
+        ensures room { OnOk result (bytes ≤ self.new.room) }
+        ensures kept_room { self.old.room ≤ self.new.room }
+        ensures rest { self.new ≡ record self.old { room = self.new.room } }
+    {
+        self.bytes.reserve(bytes as usize)?;
+        Ok(())
     }
 
     fn write(&mut self, bytes: &[u8]) -> Result<usize, Failed>

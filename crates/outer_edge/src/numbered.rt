@@ -1,3 +1,5 @@
+//! Calls that are to fail, by their numbers.
+
 ghost use Rattle.std.specs.Prelude.{◌≡◌, ◌==◌};
 ghost use Rattle.std.specs.List.{list_any};
 

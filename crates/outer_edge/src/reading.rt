@@ -1,3 +1,5 @@
+//! Whole files, read piece by piece up to a limit.
+
 ghost use Rattle.std.specs.Prelude.{◌≡◌, ◌+◌, ◌<◌, ◌≤◌, ◌^◌, length, vec_len, IfOk, IfSome, IsErrOf};
 ghost use Rattle.outer_edge.specs.Counts.{Rose, NoneFell, SameCounts};
 ghost use Rattle.outer_edge.specs.Held.{SameFiles, TakesMore};

@@ -1,3 +1,5 @@
+//! The system's files.
+
 ghost use Rattle.std.specs.Prelude.{◌≡◌, ◌<◌, ◌≤◌, length, None, IfOk, IsErrOf, is_err};
 ghost use Rattle.outer_edge.specs.Device.{count_if};
 
@@ -31,14 +33,11 @@ impl<R: rt::Files + Clone + Drop> RealFiles<R> {
         ensures { IfOk result (λ files. files ≡ record { reads = 0; puts = 0 }) }
     {
         let _ = alloc;
-        match rt.clone() {
-            Ok(rt) => Ok(RealFiles {
-                rt,
-                read_faults: 0,
-                put_faults: 0,
-            }),
-            Err(_) => Err(Memory),
-        }
+        Ok(RealFiles {
+            rt: rt.clone()?,
+            read_faults: 0,
+            put_faults: 0,
+        })
     }
 }
 

@@ -1,4 +1,6 @@
-ghost use Rattle.std.specs.Prelude.{◌≡◌, ◌<◌, ◌≤◌, ◌^◌, None, IfOk, length, is_err};
+//! The system's standard output.
+
+ghost use Rattle.std.specs.Prelude.{◌≡◌, ◌<◌, ◌≤◌, ◌^◌, false, None, IfOk, OnOk, length, is_err};
 ghost use Rattle.outer_edge.specs.Counts.{next_count};
 ghost use Rattle.outer_edge.specs.Device.{count_if};
 
@@ -29,10 +31,10 @@ impl<R: Print + Clone + Drop> RealOut<R> {
         ensures { IfOk result (λ out. out ≡ 0) }
     {
         let _ = alloc;
-        match rt.clone() {
-            Ok(rt) => Ok(RealOut { rt, faults: 0 }),
-            Err(_) => Err(Memory),
-        }
+        Ok(RealOut {
+            rt: rt.clone()?,
+            faults: 0,
+        })
     }
 
     /// Counts a failed write.
@@ -52,7 +54,11 @@ impl<R: Print + Clone + Drop> Sink for RealOut<R> {
 
     ghost room = { λ o. 2 ^ 64 };
 
-    fn reserve(&mut self, bytes: u64) -> Result<(), Memory> {
+    fn reserve(&mut self, bytes: u64) -> Result<(), Memory>
+        ensures always { is_err result ≡ false }
+        ensures room { OnOk result (bytes ≤ 2 ^ 64) }
+        ensures same { self.new ≡ self.old }
+    {
         let _ = bytes;
         Ok(())
     }

@@ -1,3 +1,5 @@
+//! An output: what a write means, and when a fault is counted.
+
 ghost use Rattle.std.specs.Prelude.{◌≡◌, ◌+◌, ◌<◌, ◌≤◌, ℕ, List, Option, length, take, IfOk, OnOk, OnErr};
 ghost use Rattle.outer_edge.specs.Counts.{Rose};
 ghost use Rattle.outer_edge.specs.Taken.{Appends};

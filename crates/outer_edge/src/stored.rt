@@ -1,3 +1,5 @@
+//! Files kept in memory, found by their names.
+
 ghost use Rattle.std.specs.Prelude.{◌≡◌, ◌<◌, ◌≤◌, ℕ, List, Some, None, MatchOption, OnOk, OnErr, length};
 ghost use Rattle.outer_edge.specs.Held.{ReadsFrom};
 ghost use Rattle.outer_edge.specs.Named.{stored};
@@ -51,12 +53,8 @@ pub(crate) fn put_copy(
     ensures others { OthersKept (stored files.old.items) (stored files.new.items) name.now }
     ensures err { OnErr result (files.new.items ≡ files.old.items) }
 {
-    let Ok(name) = String::from_str(alloc, name) else {
-        return Err(Memory);
-    };
-    let Ok(bytes) = bytes.to_vec(alloc) else {
-        return Err(Memory);
-    };
+    let name = String::from_str(alloc, name)?;
+    let bytes = bytes.to_vec(alloc)?;
     match files.insert(0, Named { name, bytes }) {
         Ok(()) => Ok(()),
         Err(_) => Err(Memory),

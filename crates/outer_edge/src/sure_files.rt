@@ -1,4 +1,7 @@
-ghost use Rattle.std.specs.Prelude.{◌≡◌, ◌<◌, ◌≤◌, [], Some, None, MatchOption, OnOk, OnErr, length};
+//! Files in memory of which no call fails.
+
+ghost use Rattle.std.specs.Prelude.{◌≡◌, ◌<◌, ◌≤◌, [], false, Some, None, MatchOption, IfOk, IfSome, IsErrOf, OnOk, OnErr, is_err, length};
+ghost use Rattle.outer_edge.specs.Held.{ReadsFrom};
 ghost use Rattle.outer_edge.specs.Store.{found, held, OthersKept};
 
 use crate::files::{FileEnd, Files};
@@ -61,12 +64,23 @@ impl Files for SureFiles {
 
     ghost put_faults = { λ f name. 0 };
 
-    fn read(&mut self, name: &str, into: &mut [u8], at: u64) -> Result<usize, FileEnd> {
+    fn read(&mut self, name: &str, into: &mut [u8], at: u64) -> Result<usize, FileEnd>
+        requires { 0 < length into.old }
+        ensures sure { is_err result ≡ false }
+        ensures within { IfOk result (λ k. k ≤ length into.new) }
+        ensures bytes { IfOk result (λ k. IfSome (held self.old name.now) (λ file. ReadsFrom file at k into.new)) }
+        ensures files { self.new ≡ self.old }
+    {
         let file = find(self.files.as_slice(), name).unwrap_or(&[]);
         Ok(copy_from(file, into, at))
     }
 
-    fn put(&mut self, name: &str, bytes: &[u8]) -> Result<(), FileEnd> {
+    fn put(&mut self, name: &str, bytes: &[u8]) -> Result<(), FileEnd>
+        ensures put { OnOk result (found self.new name.now ≡ Some bytes.now) }
+        ensures others { OthersKept self.old self.new name.now }
+        ensures memory { OnErr result (self.new ≡ self.old) }
+        ensures sure { IsErrOf result FileEnd.Failed → ⊥ }
+    {
         match put_copy(self.alloc, &mut self.files, name, bytes) {
             Ok(()) => Ok(()),
             Err(Memory) => Err(FileEnd::Memory),

@@ -1,3 +1,5 @@
+//! An output in memory of which no call fails.
+
 ghost use Rattle.std.specs.Prelude.{◌≡◌, ◌<◌, ◌≤◌, ◌+◌, ◌++◌, [], Some, Ok, length};
 
 use crate::sink::{Failed, Sink};
@@ -46,10 +48,8 @@ impl Sink for SureSink {
     ghost room = { λ s. s.room };
 
     fn reserve(&mut self, bytes: u64) -> Result<(), Memory> {
-        match self.bytes.reserve(bytes as usize) {
-            Ok(()) => Ok(()),
-            Err(_) => Err(Memory),
-        }
+        self.bytes.reserve(bytes as usize)?;
+        Ok(())
     }
 
     fn write(&mut self, bytes: &[u8]) -> Result<usize, Failed>

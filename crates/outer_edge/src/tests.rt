@@ -1,3 +1,5 @@
+//! Files and outputs in memory and of the system, whole reads and whole writes.
+
 use crate::{
     Failed, FileEnd, Files, MemFiles, MemSink, ReadEnd, RealFiles, RealOut, Sink, SureFiles,
     SureSink, read_whole, write_whole,

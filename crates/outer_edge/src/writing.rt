@@ -1,3 +1,5 @@
+//! Whole texts, written piece by piece.
+
 ghost use Rattle.std.specs.Prelude.{◌≡◌, ◌+◌, ◌≤◌, length, OnOk, OnErr};
 ghost use Rattle.outer_edge.specs.Counts.{Rose};
 ghost use Rattle.outer_edge.specs.Taken.{Appends, AppendsFront};

@@ -5,7 +5,7 @@ use Rattle.progression.specs.Speeds.{number}
 use Rattle.progression.specs.Plan.{Plan, cycle}
 use Rattle.progression.specs.Good.{Good}
 
--- as a fraction of the cycle
+-- as a fraction of the cycle (above 0: a valid artery has parts, and a timing ticks in each)
 abbrev pub weighted_band : Street → Plan → ℚ
 weighted_band a t = (number t.band_out +ℚ a.head.ratio *ℚ number t.band_in) /ℚ number (cycle a t)
 

@@ -9,7 +9,8 @@ use Rattle.progression.specs.Lines.{line_at}
 use Rattle.progression.specs.declared.parts.Dir.{Dir}
 use Rattle.progression.specs.declared.parts.Dir.TheVariants.{Outbound, Inbound}
 
--- From the start of the inbound red to the end of the outbound red, less the common red, in parts.
+-- From the start of the inbound red to the end of the outbound red, less the common red, in parts. The last case is pattern
+-- 4: no signal allows a number that isn't from 1 to 4.
 abbrev pub pattern_shift : Street → ℕ → ℕ → ℕ
 pattern_shift a i p = let s = signal_of a i in
     if p == 1 then 0 else (if p == 2 then s.left_out + s.left_in else (if p == 3 then s.left_in else s.left_out))

@@ -9,7 +9,8 @@ use Rattle.progression.specs.declared.parts.Pair.{Pair}
 use Rattle.progression.specs.declared.parts.Dir.{Dir}
 use Rattle.progression.specs.declared.parts.Dir.TheVariants.{Outbound, Inbound}
 
--- the pace on a link, in ticks per metre or per foot, and how much it changes to the link with the next number
+-- the pace on a link, in ticks per metre or per foot (no valid artery has a distance of 0), and how much it changes to the
+-- link with the next number
 abbrev pub pace : Street → Plan → Dir → ℕ → ℚ
 pace a t d i = number (run t d i) /ℚ number (distance a d i)
 

@@ -5,7 +5,7 @@ use Rattle.progression.specs.Plan.{Plan, pattern_of, common_red}
 use Rattle.progression.specs.declared.parts.Dir.{Dir}
 use Rattle.progression.specs.declared.parts.Dir.TheVariants.{Outbound, Inbound}
 
--- the remainder of z by c, from 0 to c - 1
+-- the remainder of z by c, from 0 to c - 1; the cycles that it is asked for are above 0
 abbrev pub mod_ℤ : ℤ → ℕ → ℕ
 mod_ℤ (pos a) c = a % c
 mod_ℤ (negsuc a) c = c - 1 - a % c

@@ -6,7 +6,8 @@ use Rattle.progression.specs.Green.{BandIsGreen, red_start, red_ticks}
 use Rattle.progression.specs.declared.parts.Dir.{Dir}
 use Rattle.progression.specs.declared.parts.Dir.TheVariants.{Outbound, Inbound}
 
--- the j-th of n signals in travel order, from 0, and the link from it to the next
+-- the j-th of n signals in travel order, from 0, and the link from it to the next (asked for j below n and below n - 1 alone,
+-- where the differences are those of whole numbers)
 abbrev pub stop : Dir → ℕ → ℕ → ℕ
 stop Outbound n j = j + 1
 stop Inbound n j = n - j

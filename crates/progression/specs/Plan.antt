@@ -28,6 +28,8 @@ pub record IsPlan (t : Plan) : Type 0 where
 abbrev pub cycle : Street → Plan → ℕ
 cycle a t = a.head.parts * t.unit
 
+-- The entry of a signal or link, and 0 past the end of a list: a timing that is good has one for each of the artery's, so
+-- none of its rules reads past an end.
 abbrev pub pattern_of : Plan → ℕ → ℕ
 pattern_of t i = slice_index t.patterns (i - 1)
 

@@ -11,7 +11,8 @@ use Rattle.progression.specs.declared.parts.Dir.{Dir}
 abbrev pub number : ℕ → ℚ
 number n = whole (pos n)
 
--- the seconds that a distance takes at a speed: 1 km/h is 5/18 m/s, and 1 mile an hour is 22/15 feet a second
+-- the seconds that a distance takes at a speed: 1 km/h is 5/18 m/s, and 1 mile an hour is 22/15 feet a second (no valid
+-- artery has a speed of 0, over which a quotient is 0)
 abbrev pub seconds : Units → ℕ → ℚ → ℚ
 seconds Metric d v = number (18 * d) /ℚ (number 5 *ℚ v)
 seconds English d v = number (15 * d) /ℚ (number 22 *ℚ v)

@@ -22,7 +22,8 @@ HasSignal a i = (1 ≤ i) × (i ≤ count a)
 abbrev pub HasLink : Street → ℕ → Type 0
 HasLink a i = (1 ≤ i) × (i < count a)
 
--- what stands past the end of a list
+-- What is read past the end of a list. A valid artery has every signal from 1 to its count and every link before that, so
+-- at no number of its own is one of these read.
 abbrev pub no_signal : Signal
 no_signal = record { name = []; red = 0; left_out = 0; left_in = 0; patterns = []; clear_out = 0; clear_in = 0 }
 
@@ -52,7 +53,7 @@ abbrev pub clearance : Street → Dir → ℕ → ℕ
 clearance a Outbound i = (signal_of a i).clear_out
 clearance a Inbound i = (signal_of a i).clear_in
 
--- there are the left turn patterns 1 to 4
+-- there are the left turn patterns 1 to 4; a signal lists all four, so the false at the end of the list is never read
 abbrev pub allows : Street → ℕ → ℕ → Bool
 allows a i p = nat_le 1 p && nat_le p 4 && slice_index_or (signal_of a i).patterns (p - 1) false
 

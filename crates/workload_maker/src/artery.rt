@@ -127,9 +127,7 @@ pub fn make_artery(alloc: Global, signals: u32, seed: u64) -> Result<Artery, Mem
     requires many { signals ≤ 16 }
     ensures { IfOk result (λ artery. artery ≡ made_street signals seed) }
 {
-    let Ok((signals, links)) = draw_parts(alloc, signals, seed) else {
-        return Err(Memory);
-    };
+    let (signals, links) = draw_parts(alloc, signals, seed)?;
     match Artery::new(alloc, head(), signals, links) {
         Ok(artery) => Ok(artery),
         Err(Flaw::Memory) => Err(Memory),

@@ -1,3 +1,5 @@
+//! The arteries of two seeds, worked out apart from the program.
+
 use crate::draws::Draws;
 use crate::make_artery;
 use artery_model::{Artery, Units};

@@ -1,10 +1,10 @@
 use Rattle.std.proofs.Common.{pos, length, sym, ◌∙◌, ap, ap₂, arith}
 use Rattle.std.proofs.lemmas.List.{get_or_default}
 use Rattle.ratio.specs.Rational.{whole}
-use Rattle.narrow_fraction.specs.Attempt.{attempt, attempt_err}
+use Rattle.narrow_fraction.specs.Attempt.{attempt, attempt_err, first_is}
 use Rattle.named_row.specs.declared.names.Place.TheVariants.{Cell}
 use Rattle.named_row.specs.Refusals.{place_refusal, cell_refusal}
-use Rattle.named_row.proofs.Columns.{first_is, sum_is}
+use Rattle.named_row.proofs.Columns.{sum_is}
 use Rattle.named_row.proofs.cells.add_cells.Goals as goal
 
 pub returns-in-Err-clause-outcome : goal.returns-in-Err-clause-outcome

@@ -22,7 +22,7 @@ returns c =
     let k = simp (c.num.ensures.value, c.num-2.ensures.value, to_z-of_z) at (rw c.in-Some.is at c.fitting_sum.ensures) in
     let t = fits_i128 (c.args.x.num +ℤ c.args.y.num) k.0 in
     let d = rw c.bottom-bottom.ensures.value at c.bottom-bottom.ensures.size in
-    (fits_same c.args.x c.args.y c.requires a b d k.0, (simp (k.1, c.bottom-bottom.ensures.value, to_z-of_z) at c.reduced.ensures) ∙ same_sum c.args.x c.args.y c.requires)
+    (fits_same c.args.x c.args.y c.requires a b d k.0, (simp (k.1, c.bottom-bottom.ensures.value, to_z-of_z) at c.reduced.ensures.value) ∙ same_sum c.args.x c.args.y c.requires)
 
 pub returns-then-top-eq0 : goal.returns-then-top-eq0
 returns-then-top-eq0 c =
