@@ -6,8 +6,6 @@ pub mod Rows
 pub mod Names
 pub mod Counts
 pub mod Terms
-pub mod Remainders
-pub mod Fits
 pub mod Windows
 pub mod Points
 pub mod SparseSums

@@ -1,5 +1,5 @@
 -- The block sum of a good timing, in ticks, is a whole number of cycles.
-use Rattle.std.proofs.Common.{◌≡◌, ℕ, zero, suc, ℤ, pos, ◌+ℤ◌, ◌-ℤ◌, ◌*ℤ◌, neg_ℤ, ◌+◌, ◌-◌, ◌*◌, ◌<◌, ◌≤◌, refl, sym, ◌∙◌, ap, arith, add-one, true, false, IsTrue, true≢false}
+use Rattle.std.proofs.Common.{◌≡◌, ℕ, zero, suc, ℤ, pos, ◌+ℤ◌, ◌-ℤ◌, ◌*ℤ◌, neg_ℤ, ◌+◌, ◌-◌, ◌*◌, ◌<◌, ◌≤◌, refl, sym, ◌∙◌, ap, arith, true, false, IsTrue, true≢false}
 use Rattle.std.specs.Prelude.{if◌then◌else◌, ◌==◌, nat_le, ◌&&◌, Bool, slice_index_or}
 use Rattle.std.proofs.lemmas.Int.{ints}
 use Rattle.std.proofs.lemmas.Bool.Decides.{nat_tests}
@@ -7,17 +7,13 @@ use Rattle.ratio.specs.Integers.{+ℤ-*ℤ, neg_ℤ-*ℤ}
 use Rattle.progression.specs.Street.{Street, count, signal_of, clearance, allows}
 use Rattle.progression.specs.Plan.{Plan, cycle, pattern_of, common_red, run}
 use Rattle.progression.specs.Green.{is_early, red_start, red_ticks}
-use Rattle.progression.specs.Lines.{crossing, advance, line_at}
+use Rattle.progression.specs.Lines.{crossing, line_at}
 use Rattle.progression.specs.Columns.{shift, wait}
-use Rattle.progression.specs.declared.parts.Dir.{Dir}
 use Rattle.progression.specs.declared.parts.Dir.TheVariants.{Outbound, Inbound}
-use Rattle.linear_model.specs.Remainders.{quot_ℤ, split_ℤ}
+use Rattle.progression.specs.Remainders.{quot_ℤ, split_ℤ}
+use Rattle.progression.specs.Crossings.{crossing_next}
 
 -- ---- the lines
--- one crossing from the one before
-crossing_next : (a : Street) (t : Plan) (d : Dir) (j : ℕ) → crossing a t d (j + 1) ≡ crossing a t d j +ℤ advance a t d j
-crossing_next a t d j = ap (crossing a t d) (add-one j)
-
 -- the outbound line from signal i to the next
 pub line_out : (a : Street) (t : Plan) (i : ℕ) → 1 ≤ i → line_at a t Outbound (i + 1) ≡ line_at a t Outbound i +ℤ (pos (run t Outbound i) -ℤ pos (clearance a Outbound (i + 1) * t.unit))
 line_out a t i h =

@@ -4,8 +4,8 @@ use Rattle.std.proofs.lemmas.Int.{ints}
 use Rattle.std.proofs.lemmas.Bool.{cases_lt, cases_eq}
 use Rattle.ratio.specs.Integers.{+ℤ-*ℤ, neg_ℤ-*ℤ}
 use Rattle.progression.specs.Green.{mod_ℤ, since, BandIsGreen}
-use Rattle.linear_model.specs.Remainders.{mod_below, quot_ℤ, split_ℤ, mod_unique}
-use Rattle.linear_model.specs.Fits.{Fits, fits_from_band, band_from_fits}
+use Rattle.progression.specs.Remainders.{mod_below, quot_ℤ, split_ℤ, mod_unique}
+use Rattle.progression.specs.Fits.{Fits, fits_from_band, band_from_fits}
 
 -- from the end of the red to the band's left edge
 abbrev pub wait_after : ℕ → ℤ → ℕ → ℤ → ℕ

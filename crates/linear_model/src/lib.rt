@@ -18,7 +18,7 @@
 //!
 //! Lemmas, by what one asks:
 //!
-//! - When is a band green? `Remainders` (`split_ℤ`, `mod_unique`, `mod-turns`), `Fits`, `Windows`: `window_after` and `window_before`,
+//! - When is a band green? `Remainders` and `Fits` of `progression`, and `Windows`: `window_after` and `window_before`,
 //!   from green to `wait + band ≤ cycle - red` and back.
 //! - What does a row say at a point? `Points` (`share`, `point_at`, `point_width`), `SparseSums`: `line_met a t f h order shares`,
 //!   `line_total` at any point, `line_width`.

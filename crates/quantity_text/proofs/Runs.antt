@@ -1,32 +1,23 @@
--- Runs of digits, and the place where one ends.
-use Rattle.std.proofs.Common.{◌≡◌, inl, inr, not, ℕ, ◌+◌, ◌-◌, ◌*◌, ◌^◌, ◌<◌, ◌≤◌, Bool, true, false, List, length, take, get_or, Some, None, arith, refl, length-take, lit<}
-use Rattle.std.specs.Prelude.{nat_lt, nat_le, ◌&&◌, if◌then◌else◌, unwrap_or}
-use Rattle.std.specs.Char.{is_ascii_digit, digit_value}
+-- Runs of digits as they are read, and the place where one ends.
+use Rattle.std.proofs.Common.{◌≡◌, inl, inr, not, ℕ, ◌+◌, ◌-◌, ◌*◌, ◌^◌, ◌<◌, ◌≤◌, Bool, true, false, List, length, take, get_or, Option, Some, None, arith, refl, ◌∙◌, ap, lit<}
+use Rattle.std.specs.Prelude.{nat_lt, nat_le, ◌&&◌, if◌then◌else◌, unwrap_or, SomeIff, IfSome}
+use Rattle.std.specs.Char.{digit_value}
 use Rattle.std.specs.List.{position, position_or_len}
 use Rattle.std.specs.Str.{all_ascii_digits}
 use Rattle.std.specs.Str.Parse.{AllDigits, digits_value}
-use Rattle.std.proofs.lemmas.Bool.{lt-ltb, le-leb, le-ltb, true≢false, cases_lt}
+use Rattle.std.proofs.lemmas.Bool.{lt-ltb, le-ltb, cases_lt}
 use Rattle.std.proofs.lemmas.Int.Digits.{digits_value-lt, digits_value_more}
 use Rattle.std.proofs.lemmas.List.Sums.{prefix_len-le-length}
-use Rattle.std.proofs.lemmas.Str.Parse.{IsNumeralModel, numerals_by_value, tells_all_ascii_digits, digit_at, digit_from_value}
 use Rattle.std.proofs.Math.Nat.{pow-le-pow_right}
 use Rattle.quantity_text.specs.Quantity.{run_of}
+use Rattle.quantity_text.specs.Runs.{ascii_digits, run_found, digit_is}
 
--- k digits or fewer write a number below 10 ^ k
-pub run_below : (ds : List ℕ) (i k : ℕ) → AllDigits 10 (take i ds) → i ≤ k → digits_value 10 (take i ds) < 10 ^ k
-run_below ds i k h le =
-    let small = digits_value-lt 10 (take i ds) h in
-    let len : length (take i ds) ≤ k = omega (arith, length-take i ds) in
-    let far : 10 ^ length (take i ds) ≤ 10 ^ k = pow-le-pow_right (lit< tt) len in
+-- 18 digits or fewer write a number below 10 ^ 18
+run_below : (ds : List ℕ) → AllDigits 10 ds → length ds ≤ 18 → digits_value 10 ds < 10 ^ 18
+run_below ds h most =
+    let small = digits_value-lt 10 ds h in
+    let far : 10 ^ length ds ≤ 10 ^ 18 = pow-le-pow_right (lit< tt) most in
     omega (arith, small, far)
-
--- std's test of digits and their value
-own : IsNumeralModel (λ ds. all_ascii_digits ds ≡ true) (digits_value 10)
-own = numerals_by_value _ tells_all_ascii_digits
-
--- a run, by its three tests
-run_test : (a b c : Bool) (n : ℕ) → a ≡ true → b ≡ true → c ≡ true → Some n ≡ (if a && (b && c) then Some n else None)
-run_test a b c n p q r = rw (p, q, r) refl
 
 -- no run, by the last test
 run_blocked : (a b c : Bool) (n : ℕ) → c ≡ false → None ≡ (if a && (b && c) then Some n else None)
@@ -34,28 +25,22 @@ run_blocked true true c n r = rw r refl
 run_blocked true false c n r = refl
 run_blocked false b c n r = refl
 
--- 1 to 18 digits are a run
-pub run_found : (ds : List ℕ) → 0 < length ds → length ds ≤ 18 → AllDigits 10 ds → Some (digits_value 10 ds) ≡ run_of ds
-run_found ds least most h =
-    run_test (nat_lt 0 (length ds)) (nat_le (length ds) 18) (all_ascii_digits ds) (digits_value 10 ds) (lt-ltb 0 (length ds) least) (le-leb (length ds) 18 most) (own.from ds h)
+-- what isn't all digits fails the test of all
+not_all : (t : Bool) (ds : List ℕ) → all_ascii_digits ds ≡ t → (AllDigits 10 ds → ⊥) → t ≡ false
+not_all false ds e none = refl
+not_all true ds e none = absurd (none (ascii_digits.to ds e))
 
--- a byte that is no digit fails the test of all
-not_all : (t : Bool) (ds : List ℕ) (i : ℕ) → all_ascii_digits ds ≡ t → i < length ds → is_ascii_digit (get_or ds i 0) ≡ false → t ≡ false
-not_all false ds i e h n = refl
-not_all true ds i e h n =
-    let d = digit_at ds i (own.to ds e) h in
-    absurd (true≢false (rw (le-leb 48 (get_or ds i 0) d.0, le-leb (get_or ds i 0) 57 d.1) at n))
+-- of 1 to 18 bytes: what they write where they are digits is the run
+pub run_is : (o : Option ℕ) (ds : List ℕ) → 0 < length ds → length ds ≤ 18 → SomeIff o (AllDigits 10 ds × (digits_value 10 ds < 2 ^ 128)) (digits_value 10 ds) → o ≡ run_of ds
+run_is None ds least most none =
+    run_blocked (nat_lt 0 (length ds)) (nat_le (length ds) 18) (all_ascii_digits ds) (digits_value 10 ds)
+    (not_all (all_ascii_digits ds) ds refl (λ h. none (h, omega (arith, run_below ds h most))))
+run_is (Some n) ds least most is = ap Some is.1 ∙ run_found ds least most is.0.0
 
--- what has a byte that is no digit is none
-pub run_none : (ds : List ℕ) (i : ℕ) → i < length ds → is_ascii_digit (get_or ds i 0) ≡ false → None ≡ run_of ds
-run_none ds i h n =
-    run_blocked (nat_lt 0 (length ds)) (nat_le (length ds) 18) (all_ascii_digits ds) (digits_value 10 ds) (not_all (all_ascii_digits ds) ds i refl h n)
-
--- a digit's value
-pub digit_is : (c : ℕ) → digit_value c < 10 → digit_value c ≡ c - 48
-digit_is c h =
-    let r = digit_from_value c h in
-    rw (le-ltb c 48 r.0, lt-ltb c 58 (omega (arith, r.1))) refl
+-- which is below 10 ^ 18
+pub run_small : (o : Option ℕ) (ds : List ℕ) → length ds ≤ 18 → SomeIff o (AllDigits 10 ds × (digits_value 10 ds < 2 ^ 128)) (digits_value 10 ds) → IfSome o (λ n. n < 10 ^ 18)
+run_small None ds most none = tt
+run_small (Some n) ds most is = omega (arith, is.1, run_below ds is.0.0 most)
 
 -- one more digit
 pub run_more : (ds : List ℕ) (i n d : ℕ) → i < length ds → digit_value (get_or ds i 0) < 10 → n ≡ digits_value 10 (take i ds) → d ≡ get_or ds i 0 - 48 → n * 10 + d ≡ digits_value 10 (take (i + 1) ds)

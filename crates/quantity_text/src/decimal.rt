@@ -1,3 +1,5 @@
+//! Decimals, cut at a place.
+
 ghost use Rattle.std.specs.Prelude.{◌≡◌, ◌+◌, ◌*◌, ◌/◌, ◌<◌, ◌≤◌, ◌^◌, [], ◌∷◌, ◌++◌, pos, ◌≤ℤ◌, IfOk, OnOk};
 ghost use Rattle.std.specs.Fmt.{decimal};
 ghost use Rattle.quantity_text.specs.Decimal.{decimal_spelling, last_digits};

@@ -1,3 +1,5 @@
+//! Exact spellings, written.
+
 ghost use Rattle.std.specs.Prelude.{◌≡◌, ◌++◌, IfOk, string_bytes};
 ghost use Rattle.std.specs.Fmt.{signed_decimal};
 ghost use Rattle.quantity_text.specs.Exact.{denominator_text, exact_spelling};

@@ -1,3 +1,5 @@
+//! Exact spellings, read: a text that is the spelling of no fraction is refused.
+
 ghost use Rattle.std.specs.Prelude.{◌≡◌, ◌↔◌, ◌<◌, ◌^◌, ℕ, List, pos, unsigned_abs, IsTrue, IfSome, IfNone, MatchResult, length, slice_index};
 ghost use Rattle.ratio.specs.Rational.{ℚ};
 ghost use Rattle.narrow_fraction.specs.Fraction.{FitsFrac};
@@ -5,7 +7,7 @@ ghost use Rattle.quantity_text.specs.Exact.{SpellsExactly, SpellsSigned, SpellsS
 
 use crate::digits::mark_place;
 use crate::numeral::numeral;
-use crate::quantity::{BadNumber, natural};
+use crate::quantity::BadNumber;
 use narrow_fraction::Frac;
 
 /// The fraction whose exact spelling this is, as `exact_text` writes it.
@@ -125,7 +127,7 @@ fn lowest(size: Size) -> Option<Frac>
     ensures num { IfSome result (λ value. value.num ≡ pos size.top) }
     ensures den { IfSome result (λ value. value.den ≡ size.bottom) }
 {
-    let value = natural(size.top, size.bottom);
+    let value = Frac::reduced(size.top as i128, size.bottom);
     if value.den().unsigned_abs() == size.bottom {
         Some(value)
     } else {

@@ -1,7 +1,7 @@
-ghost use Rattle.std.specs.Prelude.{◌≡◌, ◌<◌, ◌≤◌, ◌^◌, pos};
+//! Quantities as users write them.
+
+ghost use Rattle.std.specs.Prelude.{◌≡◌, ◌<◌, ◌≤◌, ◌^◌};
 ghost use Rattle.std.specs.Result.{result_ok};
-ghost use Rattle.ratio.specs.Rational.{over};
-ghost use Rattle.narrow_fraction.specs.Fraction.{FitsFrac};
 ghost use Rattle.quantity_text.specs.Quantity.{marked, with_tail, size_of, quantity_of};
 
 use crate::digits::{mark_place, run};
@@ -46,12 +46,12 @@ fn unsigned(text: &[u8]) -> Option<Frac>
 }
 
 /// The quantity of a whole number and what stands after it.
-fn tail(whole: u64, text: &[u8]) -> Option<Frac>
+fn tail(whole: u128, text: &[u8]) -> Option<Frac>
     requires { whole < 10 ^ 18 }
     ensures { result ≡ with_tail whole text.now }
 {
     match text {
-        [] => Some(natural(u128::from(whole), 1)),
+        [] => Some(Frac::reduced(whole as i128, 1)),
         [mark, digits @ ..] => match run(digits) {
             Some(back) => after_mark(whole, *mark, digits.len() as u32, back),
             None => None,
@@ -60,7 +60,7 @@ fn tail(whole: u64, text: &[u8]) -> Option<Frac>
 }
 
 /// The quantity of a whole number and the number of so many digits after a mark.
-fn after_mark(whole: u64, mark: u8, places: u32, back: u64) -> Option<Frac>
+fn after_mark(whole: u128, mark: u8, places: u32, back: u128) -> Option<Frac>
     requires whole { whole < 10 ^ 18 }
     requires places { places ≤ 18 }
     requires back { back < 10 ^ 18 }
@@ -68,24 +68,10 @@ fn after_mark(whole: u64, mark: u8, places: u32, back: u64) -> Option<Frac>
 {
     if mark == b'.' {
         let unit = 10u128.pow(places);
-        Some(natural(u128::from(whole) * unit + u128::from(back), unit))
+        Some(Frac::reduced((whole * unit + back) as i128, unit))
     } else if back == 0 {
         None
     } else {
-        Some(natural(u128::from(whole), u128::from(back)))
-    }
-}
-
-/// The fraction of two natural numbers.
-pub(crate) fn natural(top: u128, bottom: u128) -> Frac
-    requires top { top < 2 ^ 127 }
-    requires above { 0 < bottom }
-    requires bottom { bottom < 2 ^ 127 }
-    ensures value { result ≡ over (pos top) bottom }
-    ensures fits { FitsFrac result }
-{
-    match Frac::new(top as i128, bottom as i128) {
-        Ok(fraction) => fraction,
-        Err(_) => unreachable!(),
+        Some(Frac::reduced(whole as i128, back))
     }
 }

@@ -1,3 +1,5 @@
+//! Rows of texts and fractions that were worked by hand.
+
 use crate::{BadNumber, decimal_text, exact_text, parse_exact, parse_quantity};
 use narrow_fraction::Frac;
 use std::test::Fail;

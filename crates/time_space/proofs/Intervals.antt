@@ -1,35 +1,22 @@
 -- A tick isn't green exactly where it lies strictly inside a red of some cycle.
-use Rattle.std.proofs.Common.{◌≡◌, ℕ, ◌+◌, ◌*◌, ◌/◌, ◌%◌, ◌<◌, ◌≤◌, arith, refl, sym, ◌∙◌, ap, subst, inl, inr, false}
+use Rattle.std.proofs.Common.{◌≡◌, ℕ, ◌<◌, ◌≤◌, arith, refl, sym, subst, inl, inr, false}
 use Rattle.std.specs.Prelude.{ℤ, pos, negsuc, ◌+ℤ◌, ◌-ℤ◌, ◌*ℤ◌, ◌<ℤ◌}
-use Rattle.std.proofs.lemmas.Nat.{mod-mul-add, div-add-mod'}
 use Rattle.std.proofs.lemmas.Bool.{cases_lt, cases_eq}
 use Rattle.std.proofs.lemmas.Int.{ints}
-use borrow.Author.Differences.{up, down}
 use Rattle.progression.specs.Green.{mod_ℤ, since, is_open, is_green}
+use Rattle.progression.specs.Remainders.{quot_ℤ, split_ℤ, mod_below, mod_unique, open_at_start, open_at_end, shut_inside}
 use Rattle.time_space.specs.Reds.{start_after, IsInside, RedsAreIntervals, SinceLastStart}
-use Rattle.time_space.proofs.Remainders.{mod_below, open_at_end, open_at_zero, shut_inside}
 
--- whole cycles and a rest, of which the rest is one alone
-rest_alone : (m n c r s : ℕ) → r < c → s < c → m * c + r ≡ n * c + s → r ≡ s
-rest_alone m n c r s h k e = sym (mod-mul-add m c r h) ∙ ap (λ x. x % c) e ∙ mod-mul-add n c s k
-
+-- whole cycles and the remainder
 turns : (z : ℤ) (c : ℕ) → 0 < c → (k : ℤ) × (k *ℤ pos c +ℤ pos (mod_ℤ z c) ≡ z)
-turns (pos a) c h = (pos (a / c), let e = div-add-mod' a c in omega (arith, ints, e))
-turns (negsuc a) c h = (negsuc (a / c), let e = div-add-mod' a c in omega (arith, ints, e))
-
--- the rest of whole cycles is the remainder
-rest_is : (z : ℤ) (c : ℕ) (k : ℤ) (r : ℕ) → r < c → k *ℤ pos c +ℤ pos r ≡ z → mod_ℤ z c ≡ r
-rest_is z c k r h e =
-    let t = turns z c (omega arith) in
-    let both : (up t.0 + down k) * c + mod_ℤ z c ≡ (up k + down t.0) * c + r = let f = t.1 in omega (arith, ints, e, f) in
-    rest_alone _ _ c (mod_ℤ z c) r (mod_below z c (omega arith)) h both
+turns z c h = (quot_ℤ z c, sym (split_ℤ z c h))
 
 module _ (c : ℕ) (s : ℤ) (x : ℤ) where
   last_start : 0 < c → (k : ℤ) × (start_after c s k +ℤ pos (since c s x) ≡ x)
   last_start h = let t = turns (x -ℤ s) c h in (t.0, let e = t.1 in omega (arith, ints, e))
 
   since_is : (k : ℤ) (r : ℕ) → r < c → start_after c s k +ℤ pos r ≡ x → since c s x ≡ r
-  since_is k r h e = rest_is (x -ℤ s) c k r h (omega (arith, ints, e))
+  since_is k r h e = mod_unique (x -ℤ s) k c r (omega (arith, ints, e)) h
 
 pub since_law : SinceLastStart
 since_law c s x r h = (
@@ -40,7 +27,7 @@ since_law c s x r h = (
 -- a red that is on has begun and isn't over
 on : (red r : ℕ) → is_open red r ≡ false → (0 < r) × (r < red)
 on red r e = (
-  elim (cases_eq r 0) [ inl z ↦ (let o = open_at_zero red r z in absurd (cc)) | inr z ↦ omega arith ],
+  elim (cases_eq r 0) [ inl z ↦ (let o = open_at_start red r z in absurd (cc)) | inr z ↦ omega arith ],
   elim (cases_lt r red) [ inl w ↦ w | inr w ↦ (let o = open_at_end red r w in absurd (cc)) ],
 )
 

@@ -1,6 +1,5 @@
 pub mod Fractions
 pub mod Remainders
-pub mod Crossings
 pub mod Firsts
 pub mod Quotients
 pub mod Scale

@@ -1,13 +1,14 @@
 -- Remainders and green bands, all numbers m times as large.
-use Rattle.std.proofs.Common.{◌≡◌, ℕ, suc, ◌+◌, ◌-◌, ◌*◌, ◌/◌, ◌%◌, ◌<◌, ◌≤◌, arith, sym, ◌∙◌, ap, ◌⊎◌, inl, inr, false, add-zero}
-use Rattle.std.specs.Prelude.{ℤ, pos, negsuc, ◌+ℤ◌, ◌-ℤ◌, ◌*ℤ◌, IsTrue, ◌↔◌}
-use Rattle.std.proofs.Math.Nat.{mul-le-mul_left, mod-eq_of_lt, le_of_mul-le-mul_right, mul-le-mul_right}
+use Rattle.std.proofs.Common.{◌≡◌, ℕ, suc, ◌+◌, ◌-◌, ◌*◌, ◌/◌, ◌%◌, ◌<◌, ◌≤◌, arith, sym, ◌∙◌, ap, inl, inr}
+use Rattle.std.specs.Prelude.{ℤ, pos, negsuc, ◌+ℤ◌, ◌-ℤ◌, ◌*ℤ◌, ◌↔◌}
+use Rattle.std.proofs.Math.Nat.{mul-le-mul_left, le_of_mul-le-mul_right, mul-le-mul_right}
 use Rattle.std.proofs.lemmas.Nat.{mod-mul-add, div-add-mod'}
-use Rattle.std.proofs.lemmas.Bool.{cases_lt, cases_eq}
+use Rattle.std.proofs.lemmas.Bool.{cases_eq}
 use Rattle.std.proofs.lemmas.Int.{ints}
 use borrow.Author.Differences.{up, down}
-use Rattle.progression.specs.Green.{mod_ℤ, since, is_open, BandIsGreen}
-use Rattle.time_space.proofs.Remainders.{mod_below, mod_is, since-later, open_until_end, shut_inside, shut_past_end, open_at_zero}
+use Rattle.progression.specs.Green.{mod_ℤ, since, BandIsGreen}
+use Rattle.progression.specs.Remainders.{mod_is}
+use Rattle.progression.specs.Fits.{Fits, fits_from_band, band_from_fits}
 
 pos_mul : (a b : ℕ) → 0 < a → 0 < b → 0 < a * b
 pos_mul a b p q = let h : a * 1 ≤ a * b = mul-le-mul_left a q in omega arith
@@ -33,45 +34,8 @@ mod-scale (negsuc a) c m p q =
     let there : mod_ℤ (negsuc a *ℤ pos m) (c * m) ≡ (n * m) % (c * m) = mod_is (negsuc a *ℤ pos m) (c * m) (suc a) (n * m) (pos_mul c m p q) (scale_neg a c m n (omega arith)) in
     there ∙ scale_nat n c m p q ∙ ap (λ r. r * m) (sym here)
 
--- where a band of this width that begins r ticks after the red's start is green
-pub record Fits (c red r b : ℕ) : Type 0 where
-  pub free : ((r ≡ 0) × (b ≡ 0)) ⊎ (red ≤ r)
-  pub room : r + b ≤ c
-
 zero_of : (a m : ℕ) → 0 < m → a * m ≡ 0 → a ≡ 0
 zero_of a m q e = elim (cases_eq a 0) [ inl z ↦ z | inr z ↦ let p = pos_mul a m (omega arith) q in absurd (omega arith) ]
-
-module _ (c red r b : ℕ) (h : 2 ≤ red) (k : red < c) (l : r < c) where
-  free_from_green : ((t : ℕ) → t ≤ b → IsTrue (is_open red ((r + t) % c))) → ((r ≡ 0) × (b ≡ 0)) ⊎ (red ≤ r)
-  free_from_green g = elim (cases_lt r red) [
-    | inr w ↦ inr w
-    | inl w ↦ elim (cases_eq r 0) [
-      | inl z ↦ elim (cases_eq b 0) [
-        | inl y ↦ inl (z, y)
-        | inr y ↦ let one : (r + 1) % c ≡ 1 = ap (λ q. (q + 1) % c) z ∙ mod-eq_of_lt (omega arith) in
-            let no : is_open red ((r + 1) % c) ≡ false = shut_inside red ((r + 1) % c) (omega arith) (omega arith) in
-            let yes = g 1 (omega arith) in absurd (cc)
-      ]
-      | inr z ↦ let zero : (r + 0) % c ≡ r = ap (λ q. q % c) (add-zero r) ∙ mod-eq_of_lt l in
-          let no : is_open red ((r + 0) % c) ≡ false = shut_inside red ((r + 0) % c) (omega arith) (omega arith) in
-          let yes = g 0 (omega arith) in absurd (cc)
-    ]
-  ]
-
-  room_from_green : ((t : ℕ) → t ≤ b → IsTrue (is_open red ((r + t) % c))) → r + b ≤ c
-  room_from_green g = elim (cases_lt c (r + b)) [
-    | inr w ↦ w
-    | inl w ↦ let no = shut_past_end c red r (c + 1 - r) h k (omega arith) in let yes = g (c + 1 - r) (omega arith) in absurd (cc)
-  ]
-
-  pub fits_from_green : ((t : ℕ) → t ≤ b → IsTrue (is_open red ((r + t) % c))) → Fits c red r b
-  fits_from_green g = record { free = free_from_green g; room = room_from_green g }
-
-  pub green_from_fits : Fits c red r b → (t : ℕ) → t ≤ b → IsTrue (is_open red ((r + t) % c))
-  green_from_fits f t w = let room = f.room in elim f.free [
-    | inl z ↦ open_at_zero red ((r + t) % c) (let e : r + t ≡ 0 = omega arith in ap (λ q. q % c) e ∙ mod-eq_of_lt (omega arith))
-    | inr z ↦ open_until_end c red r t (omega arith) z (omega arith)
-  ]
 
 module _ (c red r b m : ℕ) (q : 0 < m) where
   pub fits_finer : Fits c red r b → Fits (c * m) (red * m) (r * m) (b * m)
@@ -97,13 +61,6 @@ minus_scale x a m =
 
 since-scale : (c m : ℕ) (a x : ℤ) → 0 < c → 0 < m → since (c * m) (a *ℤ pos m) (x *ℤ pos m) ≡ since c a x * m
 since-scale c m a x p q = ap (λ z. mod_ℤ z (c * m)) (minus_scale x a m) ∙ mod-scale (x -ℤ a) c m p q
-
-module _ (c red : ℕ) (a x : ℤ) (b : ℕ) (h : 2 ≤ red) (k : red < c) where
-  pub fits_from_band : BandIsGreen c a red x b → Fits c red (since c a x) b
-  fits_from_band g = fits_from_green c red (since c a x) b h k (mod_below (x -ℤ a) c (omega arith)) (λ t w. rw (← since-later c a x t (omega arith)) (g t w))
-
-  pub band_from_fits : Fits c red (since c a x) b → BandIsGreen c a red x b
-  band_from_fits f = λ t w. rw (since-later c a x t (omega arith)) (green_from_fits c red (since c a x) b h k (mod_below (x -ℤ a) c (omega arith)) f t w)
 
 -- a band is green exactly where it is on every finer grid
 pub finer_grids : (c red b m : ℕ) (a x : ℤ) → 2 ≤ red → red < c → 1 ≤ m

@@ -2,6 +2,7 @@ pub mod Timing
 pub mod Sizes
 pub mod FirstRed
 pub mod Limits
+pub mod GridLimits
 pub mod Blocked
 pub mod LinkRules
 pub mod Failing

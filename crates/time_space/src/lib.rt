@@ -26,4 +26,4 @@ pub use rules::{
 pub use seen::{green, in_band};
 pub use ticks::since_start;
 pub use timing::Timing;
-pub use weight::{fraction, value};
+pub use weight::value;

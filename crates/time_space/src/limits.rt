@@ -19,7 +19,7 @@ fn product(number: i128, count: u128) -> i128
 }
 
 /// Whether so many ticks are at least `limit` seconds.
-#[tactic(auto, using(crate::proofs::Fractions::least_is))]
+#[tactic(auto, using(crate::specs::GridLimits::least_is))]
 pub fn is_at_least(ticks: u128, limit: Frac, grid: u128) -> bool
     requires ticks { ticks < 2 ^ 92 }
     requires num { unsigned_abs limit.num < 2 ^ 30 }
@@ -31,7 +31,7 @@ pub fn is_at_least(ticks: u128, limit: Frac, grid: u128) -> bool
 }
 
 /// Whether so many ticks are at most `limit` seconds.
-#[tactic(auto, using(crate::proofs::Fractions::most_is))]
+#[tactic(auto, using(crate::specs::GridLimits::most_is))]
 pub fn is_at_most(ticks: u128, limit: Frac, grid: u128) -> bool
     requires ticks { ticks < 2 ^ 92 }
     requires num { unsigned_abs limit.num < 2 ^ 30 }

@@ -1,7 +1,6 @@
 //! The weighted band of a timing.
 
-ghost use Rattle.std.specs.Prelude.{◌≡◌, ◌+◌, ◌*◌, ◌<◌, ◌≤◌, ◌^◌, pos, ◌≤ℤ◌, unsigned_abs};
-ghost use Rattle.ratio.specs.Rational.{over};
+ghost use Rattle.std.specs.Prelude.{◌≡◌, ◌≤◌, ◌^◌, pos, ◌≤ℤ◌, unsigned_abs};
 ghost use Rattle.progression.specs.Best.{weighted_band};
 
 use crate::diagram::cycle;
@@ -9,19 +8,6 @@ use crate::timing::Timing;
 use artery_model::Artery;
 use narrow_fraction::Frac;
 use progression::Dir;
-
-/// The fraction of two numbers that fit with a sign.
-pub fn fraction(top: u128, bottom: u128) -> Frac
-    requires top { top < 2 ^ 126 }
-    requires some { 1 ≤ bottom }
-    requires bottom { bottom < 2 ^ 126 }
-    ensures { result ≡ over (pos top) bottom }
-{
-    match Frac::new(top as i128, bottom as i128) {
-        Ok(fraction) => fraction,
-        Err(_) => unreachable!(),
-    }
-}
 
 /// The numerator of a small fraction that isn't negative.
 fn numerator(given: Frac) -> u128
@@ -44,12 +30,14 @@ fn denominator(given: Frac) -> u128
 }
 
 /// The weighted band: the outbound band and the ratio times the inbound one, as a fraction of the cycle.
-#[tactic(auto, using(crate::proofs::Quotients::weighted))]
+#[tactic(auto, using(crate::proofs::Quotients::weighted, crate::proofs::Quotients::over_least))]
 pub fn value(artery: &Artery, timing: &Timing) -> Frac
-    ensures { result ≡ weighted_band artery.now timing.now }
+    ensures value { result ≡ weighted_band artery.now timing.now }
+    ensures least { pos 0 ≤ℤ result.num }
+    ensures denominator { result.den ≤ 2 ^ 120 }
 {
     let ratio = artery.ratio();
     let (num, den) = (numerator(ratio), denominator(ratio));
     let bands = den * timing.band(Dir::Outbound) + num * timing.band(Dir::Inbound);
-    fraction(bands, den * cycle(artery, timing))
+    Frac::reduced(bands as i128, den * cycle(artery, timing))
 }

@@ -2,9 +2,9 @@ use Rattle.std.proofs.Common.{◌≡◌, ◌+◌, ◌-◌, ◌^◌, ◌∙◌, a
 use Rattle.std.specs.Str.Parse.{digits_value}
 use Rattle.std.proofs.lemmas.Int.Digits.{digits_more}
 use Rattle.std.proofs.lemmas.List.{take_all}
-use Rattle.quantity_text.proofs.Numerals.{no_digit, front_large}
+use Rattle.quantity_text.specs.Numerals.{no_digit, front_large}
 use Rattle.quantity_text.proofs.Runs.{run_more}
-use Rattle.quantity_text.proofs.numeral.number.Goals as goal
+use Rattle.quantity_text.proofs.digits.number.Goals as goal
 
 pub returns-then-not-is_ascii_digit : goal.returns-then-not-is_ascii_digit
 returns-then-not-is_ascii_digit c w = no_digit c.args.digits.now c.loop-digit.digit-index (omega arith) (sym c.if-not-is_ascii_digit.ensures.value) w.0

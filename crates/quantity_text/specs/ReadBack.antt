@@ -1,4 +1,4 @@
--- The exact spelling of a fraction of at most 18 digits is a quantity, and writes that fraction.
+-- The exact spelling of a fraction of two numbers of at most 18 digits is a quantity, and is read as that fraction.
 use Rattle.std.proofs.Common.{◌≡◌, ℕ, suc, ℤ, pos, negsuc, ◌^◌, ◌<◌, Bool, true, false, List, [], ◌∷◌, ◌++◌, length, Some, arith, refl, sym, ◌∙◌, ap, ap₂, lit<, unsigned_abs}
 use Rattle.std.specs.Prelude.{nat_eq, if◌then◌else◌, option_and_then}
 use Rattle.std.specs.Option.{option_map}
@@ -12,9 +12,9 @@ use Rattle.ratio.specs.Rational.{ℚ, over, neg_ℚ}
 use Rattle.ratio.specs.Lowest.{over-own, over-neg_ℤ}
 use Rattle.quantity_text.specs.Exact.{denominator_text, exact_spelling, SpellsSize}
 use Rattle.quantity_text.specs.Quantity.{run_of, is_mark, marked, with_tail, size_of, quantity_of}
-use Rattle.quantity_text.proofs.ExactTexts.{numerator_is, denominator_is}
-use Rattle.quantity_text.proofs.Numerals.{decimal_leads, decimal_digits, value-decimal}
-use Rattle.quantity_text.proofs.Runs.{run_found}
+use Rattle.quantity_text.specs.ExactParts.{numerator_is, denominator_is}
+use Rattle.quantity_text.specs.Numerals.{decimal_leads, decimal_digits, value-decimal}
+use Rattle.quantity_text.specs.Runs.{run_found}
 
 -- a number of at most 18 digits is a run, and writes itself
 run-decimal : (n : ℕ) → n < 10 ^ 18 → run_of (decimal n) ≡ Some n
@@ -55,6 +55,6 @@ signed_read (pos n) d h above k =
 signed_read (negsuc n) d h above k =
     ap (option_map neg_ℚ) (size_read (suc n) d h above k) ∙ ap Some (sym (over-neg_ℤ (pos (suc n)) d above))
 
--- the exact spelling of a fraction is a quantity, and is read as that fraction
+-- what `exact_string` writes is read by `parse_quantity` as the same quantity
 pub exact_spelling_is_quantity : (q : ℚ) → unsigned_abs q.num < 10 ^ 18 → q.den < 10 ^ 18 → quantity_of (exact_spelling q) ≡ Some q
 exact_spelling_is_quantity q h k = signed_read q.num q.den h q.positive k ∙ ap Some (over-own q)

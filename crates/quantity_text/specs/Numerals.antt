@@ -7,7 +7,7 @@ use Rattle.std.proofs.lemmas.Bool.{le-leb, true≢false}
 use Rattle.std.proofs.lemmas.Fmt.{decimal_digit, decimal_step_wide, decimal_by_steps_wide, decimal_is_IsNumeral_wide}
 use Rattle.std.proofs.lemmas.List.{append-nil}
 use Rattle.std.proofs.lemmas.Str.Parse.{digit_from_value, digit_at, digits_value-take-le}
-use Rattle.quantity_text.proofs.Runs.{digit_is}
+use Rattle.quantity_text.specs.Runs.{digit_is}
 
 -- more digits write no smaller number
 le_value_after : (n : ℕ) (ds : List ℕ) → n ≤ digits_value_after 10 n ds
