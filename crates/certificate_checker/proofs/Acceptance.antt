@@ -7,11 +7,11 @@ use Rattle.progression.specs.Street.{Street}
 use Rattle.progression.specs.Plan.{Plan}
 use Rattle.progression.specs.Best.{weighted_band}
 use Rattle.linear_model.specs.Boxes.{root_box}
-use Rattle.narrow_fraction.specs.Attempt.{earlier}
+use Rattle.narrow_fraction.specs.Attempt.{earlier, neither, not_refused}
 use Rattle.plan_text.specs.declared.certificate.Claim.{Claim}
 use Rattle.plan_text.specs.declared.certificate.Claim.TheVariants.{Best, NoTiming, Stopped}
 use Rattle.plan_text.specs.Warrants.{Warrant, HasTiming, IsCertificate}
-use Rattle.loop_rows.proofs.LeafSums.{neither, not_refused, not_below}
+use Rattle.loop_rows.specs.LeafSums.{not_below}
 use Rattle.certificate_checker.specs.Accepted.{value_of, limit_of, IsTimed, IsBoundAbove, IsAccepted}
 use Rattle.certificate_checker.specs.Refusals.{value_refusal, bound_refusal, nodes_refusal, refusal_of, IsGoodIfThere, IsFirst}
 use Rattle.certificate_checker.specs.declared.reject.Reject.{Reject}

@@ -1,8 +1,8 @@
 -- A first refusal leaves no acceptance and no other first refusal.
 use Rattle.std.proofs.Common.{◌≡◌, ◌≢◌, inl, inr, Option, None, Some, refl, sym, ◌∙◌, ap}
+use Rattle.narrow_fraction.specs.Attempt.{some_not_none}
 use Rattle.progression.specs.Street.{Street}
 use Rattle.progression.specs.Plan.{Plan}
-use Rattle.loop_rows.proofs.LeafSums.{some_not_none}
 use Rattle.time_space.specs.Failing.{FailsRulesOut}
 use Rattle.time_space.specs.FirstFailing.{OneFirst}
 use Rattle.certificate_checker.specs.Refusals.{FailsFirst, IsGoodIfThere, IsFirst, refusal_of}

@@ -11,16 +11,15 @@ use Rattle.linear_model.specs.Boxes.{Area}
 use Rattle.linear_model.specs.Rows.{line, goal_form}
 use Rattle.linear_model.specs.Covering.{coef, CoversGoal, RefutesAll}
 use Rattle.linear_model.specs.Trees.{leaf_sum}
-use Rattle.narrow_fraction.specs.Attempt.{refusal_if, earlier, first_below}
+use Rattle.narrow_fraction.specs.Attempt.{refusal_if, earlier, first_below, neither, not_refused, none_each}
 use Rattle.named_row.specs.Sheets.{Sheet}
 use Rattle.named_row.specs.Covering.{Covers, Refutes, below, number_at, uncovered, unrefuted}
-use Rattle.named_row.proofs.Whole.{none_each}
 use Rattle.named_row.specs.declared.names.Place.{Place}
 use Rattle.named_row.specs.declared.names.Place.TheVariants.{Cell, Bound}
 use Rattle.named_row.specs.declared.leaves.Weight.{Weight}
 use Rattle.loop_rows.specs.Writing.{written, written_row}
 use Rattle.loop_rows.specs.Weights.{named, leaf_total}
-use Rattle.loop_rows.proofs.LeafSums.{neither, not_refused, not_below, total_coef, total_bound, total_width}
+use Rattle.loop_rows.specs.LeafSums.{not_below, total_coef, total_bound, total_width}
 use Rattle.certificate_checker.specs.Accepted.{Shows}
 use Rattle.certificate_checker.specs.Refusals.{where_both, weakness}
 

@@ -7,8 +7,6 @@
 //! stack of the boxes that still want a tree.
 #![tactic(auto)]
 
-#[cfg(test)]
-mod built;
 mod checking;
 mod claims;
 mod laws;

@@ -1,21 +1,33 @@
 //! Worked certificates of two signals: 100 parts, a cycle of 100 seconds, 36 kilometres an hour, one link each way. With
 //! reds of 50 and 250 metres the block sum is 0 or 1, and no weighted band is above 1/2.
 
-use crate::built::certificate;
 use crate::{Reject, check};
 use artery_model::{Artery, Dir, Head, Link, Pair, Signal, Text, Units};
-use named_row::{Leaf, Place, RowId, Weight, WideAt};
+use named_row::{Place, RowId, WideAt};
 use narrow_fraction::{Frac, Op, Wide};
-use plan_text::{CertNode, Claim};
-use search_box::At;
+use plan_text::read_certificate;
 use std::alloc::Global;
 use std::rt::HostRuntime;
 use std::test::Fail;
-use time_space::{Failing, Timing};
+use time_space::Failing;
 
-const TWO_100: i128 = 1_267_650_600_228_229_401_496_703_205_376;
+/// Half the cycle outbound and nothing inbound, in half seconds; runs of 25 seconds.
+const HALF_BAND: &str =
+    "grid 2\nunit 2\npattern 1 1\nred 0 50\nrun_out 50\nrun_in 50\nfirst 100 150\nband 100 0\n";
 
-const THREE_70: i128 = 2_503_155_504_993_241_601_315_571_986_085_849;
+/// A split between the block sums 0 and 1.
+const SPLIT: &str = "split loop 1 0\n";
+
+/// The sum is b_out + b_in + w_out 1 + w_in 1 + s 1 <= 1/2 where the block sum is at most 0.
+const LOW_LEAF: &str =
+    "leaf 7\nwout 2 1\nwin 2 1\nfast_out 1 1\nfast_in 1 1\ncycle_low 50\nloop_hi 1 1\nturn_hi 2 1\n";
+
+/// The sum is b_out + b_in + w_out 2 + w_in 2 + s 2 <= 1/2 where the block sum is at least 1.
+const HIGH_LEAF: &str =
+    "leaf 7\nwout 1 1\nwin 1 1\nslow_out 1 1\nslow_in 1 1\ncycle_high 50\nloop_lo 1 1\nturn_hi 1 1\n";
+
+/// The split with its two leaves.
+const WHOLE_TREE: [&str; 3] = [SPLIT, LOW_LEAF, HIGH_LEAF];
 
 fn pair(number: i64) -> Pair {
     Pair {
@@ -65,21 +77,8 @@ fn near(alloc: Global) -> Result<Artery, Fail> {
     artery(alloc, 50, 250)
 }
 
-/// Half the cycle outbound and nothing inbound, in half seconds; runs of 25 seconds.
-fn half_band(alloc: Global) -> Result<Timing, Fail> {
-    let timing = Timing::new(
-        2,
-        2,
-        vec![in alloc; 1, 1]?,
-        vec![in alloc; 0, 50]?,
-        vec![in alloc; 50]?,
-        vec![in alloc; 50]?,
-        100,
-        150,
-        100,
-        0,
-    );
-    Ok(timing.ok_or("no timing")?)
+fn half() -> Result<Frac, Fail> {
+    fraction(1, 2)
 }
 
 fn fraction(num: i128, den: i128) -> Result<Frac, Fail> {
@@ -90,81 +89,37 @@ fn row(family: u8, index: u32) -> RowId {
     RowId { family, index }
 }
 
-fn weight(family: u8, index: u32, by: Frac) -> Weight {
-    Weight {
-        row: row(family, index),
-        by,
-    }
+/// The first leaf is too weak here.
+fn weak_at(place: Place) -> Result<(), Reject> {
+    Err(Reject::LeafTooWeak { leaf: 1, place })
 }
 
-fn leaf(alloc: Global, weights: &[Weight]) -> Result<CertNode, Fail> {
-    let multipliers = weights.to_vec(alloc)?;
-    Ok(CertNode::Leaf(Leaf { multipliers }))
-}
-
-/// The sum is b_out + b_in + w_out 2 + w_in 2 + s 2 <= 1/2 where the block sum is at most 0.
-fn low_leaf(alloc: Global) -> Result<CertNode, Fail> {
-    let one = Frac::whole(1);
-    leaf(
-        alloc,
-        &[
-            weight(1, 2, one),
-            weight(2, 2, one),
-            weight(3, 1, one),
-            weight(4, 1, one),
-            weight(11, 0, Frac::whole(50)),
-            weight(15, 1, one),
-            weight(17, 2, one),
-        ],
-    )
-}
-
-/// The sum is b_out + b_in + w_out 1 + w_in 1 + s 1 <= 1/2 where the block sum is at least 1.
-fn high_leaf(alloc: Global) -> Result<CertNode, Fail> {
-    let one = Frac::whole(1);
-    leaf(
-        alloc,
-        &[
-            weight(1, 1, one),
-            weight(2, 1, one),
-            weight(5, 1, one),
-            weight(6, 1, one),
-            weight(12, 0, Frac::whole(50)),
-            weight(14, 1, one),
-            weight(17, 1, one),
-        ],
-    )
-}
-
-/// A split between the block sums 0 and 1.
-fn split() -> CertNode {
-    CertNode::Split(At::Loop { link: 1, at: 0 })
-}
-
-/// The split with its two leaves.
-fn whole_tree(alloc: Global) -> Result<Vec<CertNode>, Fail> {
-    Ok(vec![in alloc; split(), low_leaf(alloc)?, high_leaf(alloc)?]?)
-}
-
-/// What the check answers for the certificate of these parts.
+/// What the check answers for the certificate of this claim, its timing and these nodes.
 fn answer(
     alloc: Global,
     artery: &Artery,
-    claim: Claim,
-    timing: Option<Timing>,
-    nodes: Vec<CertNode>,
+    claim: &[&str],
+    nodes: &[&str],
 ) -> Result<Result<(), Reject>, Fail> {
-    let certificate = certificate(claim, timing, nodes).ok_or("no certificate")?;
-    Ok(check(alloc, artery, &certificate))
+    let mut text = Vec::new(alloc);
+    text.extend_from_slice(b"maxband-certificate 1\n")?;
+    for lines in claim {
+        text.extend_from_slice(lines.as_bytes())?;
+    }
+    text.extend_from_slice(b"tree\n")?;
+    for lines in nodes {
+        text.extend_from_slice(lines.as_bytes())?;
+    }
+    text.extend_from_slice(b"end\n")?;
+    let certificate = read_certificate(alloc, text.as_slice());
+    Ok(check(alloc, artery, &certificate.ok().ok_or("no certificate")?))
 }
 
 #[test]
 fn best_timing(rt: HostRuntime) -> Result<(), Fail> {
     let alloc = rt.alloc();
-    let value = fraction(1, 2)?;
-    let best = Claim::Best { value };
-    let timing = Some(half_band(alloc)?);
-    let answer = answer(alloc, &near(alloc)?, best, timing, whole_tree(alloc)?)?;
+    let claim = ["verdict best\nvalue 1/2\n", HALF_BAND];
+    let answer = answer(alloc, &near(alloc)?, &claim, &WHOLE_TREE)?;
     assert_eq!(rt; answer, Ok(()));
     Ok(())
 }
@@ -172,11 +127,10 @@ fn best_timing(rt: HostRuntime) -> Result<(), Fail> {
 #[test]
 fn another_value(rt: HostRuntime) -> Result<(), Fail> {
     let alloc = rt.alloc();
+    let claim = ["verdict best\nvalue 2/5\n", HALF_BAND];
+    let answer = answer(alloc, &near(alloc)?, &claim, &WHOLE_TREE)?;
+    let kept = half()?;
     let claimed = fraction(2, 5)?;
-    let best = Claim::Best { value: claimed };
-    let timing = Some(half_band(alloc)?);
-    let answer = answer(alloc, &near(alloc)?, best, timing, whole_tree(alloc)?)?;
-    let kept = fraction(1, 2)?;
     assert_eq!(rt; answer, Err(Reject::ValueDiffers { kept, claimed }));
     Ok(())
 }
@@ -185,12 +139,8 @@ fn another_value(rt: HostRuntime) -> Result<(), Fail> {
 #[test]
 fn timing_of_another_artery(rt: HostRuntime) -> Result<(), Fail> {
     let alloc = rt.alloc();
-    let best = Claim::Best {
-        value: fraction(1, 2)?,
-    };
-    let far = artery(alloc, 50, 500)?;
-    let timing = Some(half_band(alloc)?);
-    let answer = answer(alloc, &far, best, timing, whole_tree(alloc)?)?;
+    let claim = ["verdict best\nvalue 1/2\n", HALF_BAND];
+    let answer = answer(alloc, &artery(alloc, 50, 500)?, &claim, &WHOLE_TREE)?;
     let failing = Failing::Fast {
         dir: Dir::Outbound,
         link: 1,
@@ -203,10 +153,8 @@ fn timing_of_another_artery(rt: HostRuntime) -> Result<(), Fail> {
 #[test]
 fn no_timing(rt: HostRuntime) -> Result<(), Fail> {
     let alloc = rt.alloc();
-    let one = Frac::whole(1);
-    let nodes = vec![in alloc; leaf(alloc, &[weight(14, 1, one), weight(15, 1, one)])?]?;
-    let long_reds = artery(alloc, 80, 250)?;
-    let answer = answer(alloc, &long_reds, Claim::NoTiming, None, nodes)?;
+    let nodes = ["leaf 2\nloop_lo 1 1\nloop_hi 1 1\n"];
+    let answer = answer(alloc, &artery(alloc, 80, 250)?, &["verdict none\n"], &nodes)?;
     assert_eq!(rt; answer, Ok(()));
     Ok(())
 }
@@ -214,30 +162,17 @@ fn no_timing(rt: HostRuntime) -> Result<(), Fail> {
 #[test]
 fn bounds(rt: HostRuntime) -> Result<(), Fail> {
     let alloc = rt.alloc();
-    let half = fraction(1, 2)?;
-    let alone = Claim::Stopped {
-        bound: half,
-        value: None,
-    };
-    let answer_alone = answer(alloc, &near(alloc)?, alone, None, whole_tree(alloc)?)?;
-    assert_eq!(rt; answer_alone, Ok(()));
-    let above = Claim::Stopped {
-        bound: fraction(3, 4)?,
-        value: Some(half),
-    };
-    let timing = Some(half_band(alloc)?);
-    let answer_above = answer(alloc, &near(alloc)?, above, timing, whole_tree(alloc)?)?;
-    assert_eq!(rt; answer_above, Ok(()));
+    let near = near(alloc)?;
+    let alone = ["verdict open\nbound 1/2\nno timing\n"];
+    assert_eq!(rt; answer(alloc, &near, &alone, &WHOLE_TREE)?, Ok(()));
+    let above = ["verdict open\nbound 3/4\nvalue 1/2\n", HALF_BAND];
+    assert_eq!(rt; answer(alloc, &near, &above, &WHOLE_TREE)?, Ok(()));
+    let below = ["verdict open\nbound 2/5\nvalue 1/2\n", HALF_BAND];
     let bound = fraction(2, 5)?;
-    let below = Claim::Stopped {
-        bound,
-        value: Some(half),
-    };
-    let timing = Some(half_band(alloc)?);
-    let answer_below = answer(alloc, &near(alloc)?, below, timing, whole_tree(alloc)?)?;
+    let value = half()?;
     assert_eq!(rt;
-        answer_below,
-        Err(Reject::BoundBelow { bound, value: half })
+        answer(alloc, &near, &below, &WHOLE_TREE)?,
+        Err(Reject::BoundBelow { bound, value })
     );
     Ok(())
 }
@@ -246,18 +181,9 @@ fn bounds(rt: HostRuntime) -> Result<(), Fail> {
 #[test]
 fn split_of_one_number(rt: HostRuntime) -> Result<(), Fail> {
     let alloc = rt.alloc();
-    let bound = Claim::Stopped {
-        bound: fraction(1, 2)?,
-        value: None,
-    };
-    let nodes = vec![in alloc;
-        split(),
-        low_leaf(alloc)?,
-        split(),
-        high_leaf(alloc)?,
-        high_leaf(alloc)?,
-    ]?;
-    let answer = answer(alloc, &near(alloc)?, bound, None, nodes)?;
+    let claim = ["verdict open\nbound 1/2\nno timing\n"];
+    let nodes = [SPLIT, LOW_LEAF, SPLIT, HIGH_LEAF, HIGH_LEAF];
+    let answer = answer(alloc, &near(alloc)?, &claim, &nodes)?;
     assert_eq!(rt; answer, Err(Reject::SplitOutside { node: 3 }));
     Ok(())
 }
@@ -266,25 +192,19 @@ fn split_of_one_number(rt: HostRuntime) -> Result<(), Fail> {
 #[test]
 fn faults_of_a_leaf(rt: HostRuntime) -> Result<(), Fail> {
     let alloc = rt.alloc();
-    let bound = fraction(1, 2)?;
-    let one = Frac::whole(1);
-    let missing = leaf(alloc, &[weight(1, 1, one), weight(13, 0, one)])?;
-    let claim = Claim::Stopped { bound, value: None };
-    let nodes = vec![in alloc; split(), low_leaf(alloc)?, missing]?;
-    let answer_missing = answer(alloc, &near(alloc)?, claim, None, nodes)?;
+    let near = near(alloc)?;
+    let claim = ["verdict open\nbound 1/2\nno timing\n"];
+    let missing = [SPLIT, LOW_LEAF, "leaf 2\nwout 1 1\nratio 1\n"];
     assert_eq!(rt;
-        answer_missing,
+        answer(alloc, &near, &claim, &missing)?,
         Err(Reject::NoSuchRow {
             leaf: 2,
             row: row(13, 0)
         })
     );
-    let negative = leaf(alloc, &[weight(1, 1, one), weight(2, 1, Frac::whole(-1))])?;
-    let claim = Claim::Stopped { bound, value: None };
-    let nodes = vec![in alloc; split(), low_leaf(alloc)?, negative]?;
-    let answer_negative = answer(alloc, &near(alloc)?, claim, None, nodes)?;
+    let negative = [SPLIT, LOW_LEAF, "leaf 2\nwout 1 1\nwin 1 -1\n"];
     assert_eq!(rt;
-        answer_negative,
+        answer(alloc, &near, &claim, &negative)?,
         Err(Reject::Negative {
             leaf: 2,
             row: row(2, 1)
@@ -297,16 +217,16 @@ fn faults_of_a_leaf(rt: HostRuntime) -> Result<(), Fail> {
 #[test]
 fn sum_past_128_bits(rt: HostRuntime) -> Result<(), Fail> {
     let alloc = rt.alloc();
-    let left = fraction(1, TWO_100)?;
-    let right = fraction(1, THREE_70)?;
-    let nodes = vec![in alloc; leaf(alloc, &[weight(1, 1, left), weight(1, 2, right)])?]?;
-    let answer = answer(alloc, &near(alloc)?, Claim::NoTiming, None, nodes)?;
+    let nodes = [
+        "leaf 2\nwout 1 1/1267650600228229401496703205376\nwout 2 1/2503155504993241601315571986085849\n",
+    ];
+    let answer = answer(alloc, &near(alloc)?, &["verdict none\n"], &nodes)?;
     let at = WideAt {
         place: Place::Cell(0),
         wide: Wide {
             op: Op::Add,
-            left,
-            right,
+            left: fraction(1, 1_267_650_600_228_229_401_496_703_205_376)?,
+            right: fraction(1, 2_503_155_504_993_241_601_315_571_986_085_849)?,
         },
     };
     assert_eq!(rt;
@@ -325,29 +245,25 @@ fn sum_past_128_bits(rt: HostRuntime) -> Result<(), Fail> {
 #[test]
 fn weak_leaves(rt: HostRuntime) -> Result<(), Fail> {
     let alloc = rt.alloc();
-    let one = Frac::whole(1);
-    let low = Claim::Stopped {
-        bound: fraction(2, 5)?,
-        value: None,
-    };
-    let answer_low = answer(alloc, &near(alloc)?, low, None, whole_tree(alloc)?)?;
-    let place = Place::Bound;
-    assert_eq!(rt; answer_low, Err(Reject::LeafTooWeak { leaf: 1, place }));
-    let high = Claim::Stopped {
-        bound: one,
-        value: None,
-    };
-    let nodes = vec![in alloc; leaf(alloc, &[weight(1, 1, one)])?]?;
-    let answer_one_way = answer(alloc, &near(alloc)?, high, None, nodes)?;
-    let place = Place::Cell(1);
-    assert_eq!(rt; answer_one_way, Err(Reject::LeafTooWeak { leaf: 1, place }));
-    let nodes = vec![in alloc; leaf(alloc, &[weight(3, 1, one)])?]?;
-    let answer_run = answer(alloc, &near(alloc)?, Claim::NoTiming, None, nodes)?;
-    let place = Place::Cell(7);
-    assert_eq!(rt; answer_run, Err(Reject::LeafTooWeak { leaf: 1, place }));
-    let nodes = vec![in alloc; leaf(alloc, &[])?]?;
-    let answer_none = answer(alloc, &near(alloc)?, Claim::NoTiming, None, nodes)?;
-    let place = Place::Bound;
-    assert_eq!(rt; answer_none, Err(Reject::LeafTooWeak { leaf: 1, place }));
+    let near = near(alloc)?;
+    let low = ["verdict open\nbound 2/5\nno timing\n"];
+    let high = ["verdict open\nbound 1\nno timing\n"];
+    let none = ["verdict none\n"];
+    assert_eq!(rt;
+        answer(alloc, &near, &low, &WHOLE_TREE)?,
+        weak_at(Place::Bound)
+    );
+    let one_way = ["leaf 1\nwout 1 1\n"];
+    assert_eq!(rt;
+        answer(alloc, &near, &high, &one_way)?,
+        weak_at(Place::Cell(1))
+    );
+    let run = ["leaf 1\nfast_out 1 1\n"];
+    assert_eq!(rt; answer(alloc, &near, &none, &run)?, weak_at(Place::Cell(7)));
+    let nothing = ["leaf 0\n"];
+    assert_eq!(rt;
+        answer(alloc, &near, &none, &nothing)?,
+        weak_at(Place::Bound)
+    );
     Ok(())
 }

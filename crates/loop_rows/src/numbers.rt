@@ -11,24 +11,12 @@ use crate::columns::next_of;
 use artery_model::{Artery, Dir};
 use narrow_fraction::Frac;
 
-/// The fraction of two numbers that fit.
-fn fraction(top: i128, bottom: u32) -> Frac
-    requires above { 0 < bottom }
-    requires top { unsigned_abs top < 2 ^ 127 }
-    ensures { result ≡ over top bottom }
-{
-    match Frac::new(top, i128::from(bottom)) {
-        Ok(fraction) => fraction,
-        Err(_) => unreachable!(),
-    }
-}
-
 /// Some parts, as a fraction of the cycle.
 #[tactic(auto, using(linear_model::specs::Shares::number_over))]
 pub fn part(artery: &Artery, parts: u32) -> Frac
     ensures { result ≡ part artery.now parts }
 {
-    fraction(i128::from(parts), artery.parts())
+    Frac::reduced(i128::from(parts), u128::from(artery.parts()))
 }
 
 /// The green of a direction, as a fraction of the cycle.
@@ -39,7 +27,8 @@ pub fn green(artery: &Artery, dir: Dir, signal: u32) -> Frac
     ensures { result ≡ green_part artery.now dir signal }
 {
     let red = artery.red(dir, signal);
-    fraction(i128::from(artery.parts() - red), artery.parts())
+    let green = artery.parts() - red;
+    Frac::reduced(i128::from(green), u128::from(artery.parts()))
 }
 
 /// One over the length of a link.
@@ -49,7 +38,7 @@ pub fn one_over(artery: &Artery, dir: Dir, link: u32) -> Frac
     requires last { link < count artery.now }
     ensures { result ≡ one_over artery.now dir link }
 {
-    fraction(1, artery.distance(dir, link))
+    Frac::reduced(1, u128::from(artery.distance(dir, link)))
 }
 
 /// One over a limit of the cycle.
@@ -59,7 +48,7 @@ pub fn reciprocal(limit: Frac) -> Frac
     requires most { unsigned_abs limit.num ≤ 100000 }
     ensures { result ≡ inverse_ℚ limit }
 {
-    fraction(limit.den(), limit.num() as u32)
+    Frac::reduced(limit.den(), limit.num().unsigned_abs())
 }
 
 /// The common red of a signal, in parts.
@@ -134,7 +123,8 @@ pub fn low_bound(artery: &Artery, link: u32, number: i64) -> Frac
     requires last { link < count artery.now }
     ensures { result ≡ constant artery.now link -ℚ whole number }
 {
-    fraction(low_parts(artery, link, number), artery.parts())
+    let top = low_parts(artery, link, number);
+    Frac::reduced(top, u128::from(artery.parts()))
 }
 
 /// A whole number less the constant of a block sum.
@@ -143,5 +133,6 @@ pub fn high_bound(artery: &Artery, link: u32, number: i64) -> Frac
     requires last { link < count artery.now }
     ensures { result ≡ whole number -ℚ constant artery.now link }
 {
-    fraction(high_parts(artery, link, number), artery.parts())
+    let top = high_parts(artery, link, number);
+    Frac::reduced(top, u128::from(artery.parts()))
 }

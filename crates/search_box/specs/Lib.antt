@@ -2,3 +2,6 @@ pub mod Seen
 pub mod Rising
 pub mod Places
 pub mod Sums
+pub mod Streets
+pub mod Parts
+pub mod Ranked

@@ -56,7 +56,7 @@ impl SearchBox {
 
     /// The box with the root's span of each link and all ranks of each signal: every good timing of the artery lies in
     /// it. The error is want of memory.
-    #[tactic(auto, using(crate::proofs::Streets::street_of))]
+    #[tactic(auto, using(crate::specs::Streets::street_of))]
     pub fn root(alloc: Global, artery: &Artery) -> Result<SearchBox, Memory>
         ensures value { IfOk result (λ area. area ≡ root_box artery.now) }
         ensures root { IfOk result (λ area. IsRoot artery.now area) }

@@ -17,7 +17,7 @@ mod split;
 mod whole_parts;
 
 pub use area::SearchBox;
-pub use laws::law_valid_street;
+pub use laws::{law_shifts_are_ranked, law_valid_street};
 pub use root::root_span;
 pub use shifts::{shift_at, shift_count};
 pub use span::{At, Span};

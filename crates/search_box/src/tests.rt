@@ -3,7 +3,9 @@
 ghost use Rattle.std.specs.Prelude.{IfOk, IfSome};
 ghost use Rattle.linear_model.specs.Boxes.{IsBoxOf};
 
-use crate::{At, SearchBox, Span, law_valid_street, root_span, shift_at, shift_count};
+use crate::{
+    At, SearchBox, Span, law_shifts_are_ranked, law_valid_street, root_span, shift_at, shift_count,
+};
 use artery_model::{Artery, Head, Link, Pair, Signal, Text, Units};
 use narrow_fraction::Frac;
 use std::alloc::Global;
@@ -276,4 +278,5 @@ fn splits(rt: HostRuntime) -> Result<(), Fail> {
 #[test]
 fn laws() {
     law_valid_street();
+    law_shifts_are_ranked();
 }

@@ -1,18 +1,18 @@
 -- What the type of an artery keeps is what the linear model asks of a street.
 use Rattle.std.proofs.Common.{ℕ, pos, ◌-◌, ◌<◌, ◌≤◌, arith}
 use Rattle.std.proofs.lemmas.Int.{ints}
-use Rattle.ratio.specs.Rational.{ℚ, ◌<ℚ◌}
+use Rattle.ratio.specs.Rational.{ℚ, whole, ◌<ℚ◌}
 use Rattle.progression.specs.Street.{Street, HasSignal, HasLink, signal_of, link_of, red_parts, speed, no_signal, no_link}
 use Rattle.progression.specs.Speeds.{number}
 use Rattle.progression.specs.declared.parts.Dir.{Dir}
 use Rattle.progression.specs.declared.parts.Dir.TheVariants.{Outbound, Inbound}
 use Rattle.artery_model.specs.Valid.{IsValid, IsSignal, IsLink, IsSpeeds, IsQuantity}
 use Rattle.linear_model.specs.Counts.{IsStreet}
-use Rattle.search_box.proofs.Sums.{above_zero}
 
 -- a quantity of at least 1 is above 0
 above : {high : ℕ} (q : ℚ) → IsQuantity (pos 1) (pos high) q → number 0 <ℚ q
-above q h = above_zero q (let k = h.least in let p = q.positive in omega (arith, ints, k, p))
+unfolding whole
+above q h = let k = h.least in let p = q.positive in record { cross = omega (arith, ints, k, p) }
 
 module _ (a : Street) (v : IsValid a) where
   signal_valid : (i : ℕ) → HasSignal a i → IsSignal a.head.parts (signal_of a i)
