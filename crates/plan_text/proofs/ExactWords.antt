@@ -5,7 +5,7 @@ use Rattle.std.specs.Int.{w64}
 use Rattle.std.specs.Fmt.{decimal, signed_decimal}
 use Rattle.std.specs.Str.{all_ascii_digits}
 use Rattle.std.specs.Str.Parse.{digits_value}
-use Rattle.std.proofs.lemmas.Bool.{leb-true, le-leb}
+use Rattle.std.proofs.lemmas.Bool.{leb-true, le-leb, and_parts}
 use Rattle.std.proofs.lemmas.Fmt.{decimal_is_IsNumeral_wide}
 use Rattle.std.proofs.lemmas.Int.{ints}
 use Rattle.std.proofs.lemmas.Option.{option_and_then_some}
@@ -17,14 +17,15 @@ use Rattle.quantity_text.specs.Exact.{exact_spelling, denominator_text, SpellsEx
 use Rattle.plan_text.specs.Words.{cut, is_text}
 use Rattle.plan_text.specs.Numbers.{number}
 use Rattle.plan_text.specs.Fractions.{from_zero, below_zero, integer, signed_value, quotient_of, is_narrow, exact_if, exact}
-use Rattle.plan_text.proofs.Spellings.{own, both_true, decimal-number, number-decimal}
+use Rattle.plan_text.proofs.Spellings.{decimal-number, number-decimal}
+use Rattle.plan_text.specs.Digits.{digits_by_test}
 use Rattle.plan_text.proofs.Pieces.{lacks, lacks_append, lacks_digits, lacks_more, other_byte, same_byte, cut_lacking, cut_again}
 use Rattle.plan_text.proofs.Fields.{same_text, text_same, IsKey}
 
 -- ---- numbers of up to 64 digits
 
 digits_wide : (n : ℕ) → n < 10 ^ 64 → all_ascii_digits (decimal n) ≡ true
-digits_wide n few = own.from (decimal n) (decimal_is_IsNumeral_wide n few).0.1
+digits_wide n few = digits_by_test.from (decimal n) (decimal_is_IsNumeral_wide n few).0.1
 
 value_wide : (n : ℕ) → n < 10 ^ 64 → digits_value 10 (decimal n) ≡ n
 value_wide n few = (decimal_is_IsNumeral_wide n few).1
@@ -97,8 +98,8 @@ some_if false x y e = absurd cc
 takes_if : (w : List ℕ) (x y : ℚ) → exact_if w x ≡ Some y → SpellsExactly w y
 takes_if w x y e =
     let g = some_if (is_text w (exact_spelling x) && is_narrow x) x y e in
-    let b = both_true (is_text w (exact_spelling x)) (is_narrow x) g.0 in
-    let n = both_true (ltb (unsigned_abs x.num) (2 ^ 127)) (ltb x.den (2 ^ 127)) b.1 in
+    let b = and_parts (is_text w (exact_spelling x)) (is_narrow x) g.0 in
+    let n = and_parts (ltb (unsigned_abs x.num) (2 ^ 127)) (ltb x.den (2 ^ 127)) b.1 in
     subst (SpellsExactly w) g.1 (record { fits = record { num_fits = ltb-true _ _ n.0; den_fits = ltb-true _ _ n.1 }; spelled = same_text w (exact_spelling x) b.0 })
 
 pub exact_takes : (w : List ℕ) (x : ℚ) → exact w ≡ Some x → SpellsExactly w x
@@ -166,7 +167,7 @@ below_takes : (w : List ℕ) (n : ℕ) (z : ℤ) → number w ≡ Some n → bel
 below_takes w zero z e f = absurd cc
 below_takes w (suc n) z e f =
     let g = some_if (leb 1 (suc n) && leb (suc n) (2 ^ 63)) (negsuc n) z f in
-    let b = both_true (leb 1 (suc n)) (leb (suc n) (2 ^ 63)) g.0 in
+    let b = and_parts (leb 1 (suc n)) (leb (suc n) (2 ^ 63)) g.0 in
     let few : suc n ≤ 2 ^ 63 = leb-true _ _ b.1 in
     subst (SpellsInteger (45 ∷ w)) g.1 (record { spelled = ap (λ (y : List ℕ). 45 ∷ y) (decimal-number w (suc n) e).0; fits = fits_neg n (omega arith) })
 

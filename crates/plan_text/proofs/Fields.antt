@@ -5,7 +5,7 @@ use Rattle.std.specs.Cmp.Lexicographic.{bytes_decides}
 use Rattle.std.specs.Fmt.{decimal}
 use Rattle.std.specs.Global.{Vec}
 use Rattle.std.specs.List.{AllByRecursion}
-use Rattle.std.proofs.lemmas.Bool.{leb-true, le-leb}
+use Rattle.std.proofs.lemmas.Bool.{leb-true, le-leb, and_parts}
 use Rattle.std.proofs.lemmas.List.{length-map}
 use Rattle.std.proofs.lemmas.List.Elements.{All-from_recursion}
 use Rattle.plan_text.specs.declared.fault.BadText.{BadText}
@@ -17,7 +17,7 @@ use Rattle.plan_text.specs.Words.{cut, words, is_text}
 use Rattle.plan_text.specs.Numbers.{number}
 use Rattle.plan_text.specs.Spelling.{spelled}
 use Rattle.plan_text.specs.Lines.{◌>>=◌, Gives, fault, line_or, line_at, fixed_at, nothing_at, ranged, numbers_in, numbers_of, numbers_at}
-use Rattle.plan_text.proofs.Spellings.{decimal-number, number-decimal, both_true}
+use Rattle.plan_text.proofs.Spellings.{decimal-number, number-decimal}
 use Rattle.plan_text.proofs.Pieces.{uncut, cut_again, lacks, respelled, words_spelled, line_spelled, AreBelow}
 
 -- the value of a step that did not fail
@@ -93,7 +93,7 @@ ranged_ok place None n e = absurd cc
 ranged_ok place (Some m) n e =
     let g = guard_ok (leb place.least m && leb m place.greatest) place.line Number (Ok m) n e in
     let is : m ≡ n = ok_is m n g.1 in
-    let b = both_true (leb place.least m) (leb m place.greatest) g.0 in
+    let b = and_parts (leb place.least m) (leb m place.greatest) g.0 in
     (ap (λ (k : ℕ). Some k) is, subst (λ (k : ℕ). place.least ≤ k) is (leb-true _ _ b.0), subst (λ (k : ℕ). k ≤ place.greatest) is (leb-true _ _ b.1))
 
 pub number_takes : (place : Place) (w : List ℕ) (n : ℕ) → ranged place (number w) ≡ Ok n → (w ≡ decimal n) × IsWithin place n
@@ -133,8 +133,8 @@ unfolding numbers_of
 of_takes key place [] ns e = absurd cc
 of_takes key place (w ∷ ws) ns e =
     let g = guard_ok (is_text w key && leb place.fewest (length ws) && leb (length ws) place.most) place.line Shape (numbers_in place ws) ns e in
-    let b = both_true (is_text w key && leb place.fewest (length ws)) (leb (length ws) place.most) g.0 in
-    let d = both_true (is_text w key) (leb place.fewest (length ws)) b.0 in
+    let b = and_parts (is_text w key && leb place.fewest (length ws)) (leb (length ws) place.most) g.0 in
+    let d = and_parts (is_text w key) (leb place.fewest (length ws)) b.0 in
     let t = in_takes place ws ns g.1 in
     let len : length ws ≡ length ns = ap length t.0 ∙ length-map ns decimal in
     let most = leb-true _ _ b.1 in

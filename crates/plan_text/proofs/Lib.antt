@@ -16,3 +16,8 @@ pub mod NodeLoop
 pub mod Claims
 pub mod Certificates
 pub mod WrittenTexts
+pub mod Grown
+pub mod GrownTimings
+pub mod GrownCertificates
+pub mod Wholes
+pub mod FirstBads

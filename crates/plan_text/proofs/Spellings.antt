@@ -1,6 +1,6 @@
 -- Words that spell numbers.
 use Rattle.std.proofs.Common.{◌≡◌, ℕ, ◌+◌, ◌*◌, ◌/◌, ◌%◌, ◌^◌, ◌<◌, ◌≤◌, Bool, true, false, List, [], ◌∷◌, ◌++◌, length, get_or, Some, None, Ok, Err, refl, sym, ◌∙◌, ap, subst, arith, append_assoc, append-nil, ltb, ltb-true, le-ltb, lt-ltb, inl, inr}
-use Rattle.std.proofs.lemmas.Bool.{cases_lt}
+use Rattle.std.proofs.lemmas.Bool.{cases_lt, and_parts}
 use Rattle.std.specs.Prelude.{◌&&◌, if◌then◌else◌}
 use Rattle.std.proofs.lemmas.Bool.Decides.{nat_tests}
 use Rattle.std.specs.Fmt.{decimal}
@@ -9,12 +9,9 @@ use Rattle.std.specs.Str.Parse.{AllDigits, digits_value, digits_value_after, Par
 use Rattle.std.specs.Char.{digit_value}
 use Rattle.std.proofs.lemmas.Fmt.{decimal_digit, decimal_step_wide, decimal_is_IsNumeral_wide, decimal_by_steps_wide, IsAscii-from_digits}
 use Rattle.std.proofs.lemmas.Str.{digit_value_digit, IsUtf8-from_ascii}
-use Rattle.std.proofs.lemmas.Str.Parse.{digit_from_value, IsNumeralModel, numerals_by_value, tells_all_ascii_digits, parse_digits}
+use Rattle.std.proofs.lemmas.Str.Parse.{digit_from_value, parse_digits}
 use Rattle.plan_text.specs.Numbers.{number, is_numeral, is_plain}
-
--- digits by test, with std's value
-pub own : IsNumeralModel (λ ds. all_ascii_digits ds ≡ true) (digits_value 10)
-own = numerals_by_value (λ ds. all_ascii_digits ds ≡ true) tells_all_ascii_digits
+use Rattle.plan_text.specs.Digits.{digits_by_test}
 
 le_value_after : (n : ℕ) (ds : List ℕ) → n ≤ digits_value_after 10 n ds
 le_value_after n [] = omega arith
@@ -48,10 +45,6 @@ decimal_value_digits (c ∷ e ∷ cs) d plain small =
     decimal_value_after (0 * 10 + digit_value c) (e ∷ cs) (omega arith) d.1 small
     ∙ ap (λ x. x ++ (e ∷ cs)) (decimal_digit (0 * 10 + digit_value c) (omega (arith, d.0)) ∙ ap (λ x. x ∷ []) is)
 
-pub both_true : (a b : Bool) → (a && b) ≡ true → (a ≡ true) × (b ≡ true)
-both_true true b h = (refl, h)
-both_true false b h = absurd cc
-
 -- ---- what the test of a word decides
 
 chosen : (a b : Bool) (v n : ℕ) → (if a && b then Some v else None) ≡ Some n → (a ≡ true) × (b ≡ true) × (v ≡ n)
@@ -64,9 +57,9 @@ pub decimal-number : (w : List ℕ) (n : ℕ) → number w ≡ Some n → (w ≡
 unfolding number
 decimal-number w n e =
     let t = chosen (is_numeral w) (ltb (digits_value 10 w) (2 ^ 80)) (digits_value 10 w) n e in
-    let b = both_true (is_plain w) (all_ascii_digits w) t.0 in
+    let b = and_parts (is_plain w) (all_ascii_digits w) t.0 in
     let small : digits_value 10 w < 2 ^ 80 = ltb-true _ _ t.1 in
-    (sym (decimal_value_digits w (own.to w b.1) b.0 (omega arith)) ∙ ap decimal t.2, rw (← t.2) small)
+    (sym (decimal_value_digits w (digits_by_test.to w b.1) b.0 (omega arith)) ∙ ap decimal t.2, rw (← t.2) small)
 
 first_of_more : (n : ℕ) (ds : List ℕ) → 10 ≤ n → (is_plain ds ≡ true) × (0 < n / 10 → 48 < get_or ds 0 0) → (is_plain (ds ++ ((48 + n % 10) ∷ [])) ≡ true) × (0 < n → 48 < get_or (ds ++ ((48 + n % 10) ∷ [])) 0 0)
 first_of_more n [] le h = absurd cc
@@ -78,7 +71,7 @@ plain_decimal : (n : ℕ) → n < 10 ^ 64 → (is_plain (decimal n) ≡ true) ×
 plain_decimal n small = decimal_by_steps_wide (λ n ds. (is_plain ds ≡ true) × (0 < n → 48 < get_or ds 0 0)) (λ n lt. (refl, λ k. omega arith)) first_of_more n small
 
 pub all_digits_decimal : (n : ℕ) → n < 2 ^ 80 → all_ascii_digits (decimal n) ≡ true
-all_digits_decimal n small = own.from (decimal n) (decimal_is_IsNumeral_wide n (omega arith)).0.1
+all_digits_decimal n small = digits_by_test.from (decimal n) (decimal_is_IsNumeral_wide n (omega arith)).0.1
 
 -- what a number prints is read as that number
 pub number-decimal : (n : ℕ) → n < 2 ^ 80 → number (decimal n) ≡ Some n
@@ -96,7 +89,7 @@ none_unless w e = rw e refl
 
 -- digits are text
 pub numeral_is_utf8 : (w : List ℕ) → is_numeral w ≡ true → IsUtf8 w
-numeral_is_utf8 w e = IsUtf8-from_ascii w (IsAscii-from_digits w (own.to w (both_true (is_plain w) (all_ascii_digits w) e).1))
+numeral_is_utf8 w e = IsUtf8-from_ascii w (IsAscii-from_digits w (digits_by_test.to w (and_parts (is_plain w) (all_ascii_digits w) e).1))
 
 some : (w : List ℕ) → is_plain w ≡ true → 0 < length w
 some [] h = absurd cc
@@ -110,7 +103,7 @@ abbrev pub Unparsed : List ℕ → Type 0
 Unparsed text = ParsesUnsigned {E = Unit {0}} 128 10 text (Err tt)
 
 value_is : (w text : List ℕ) (n : ℕ) → is_numeral w ≡ true → text ≡ w → Parsed text n → n ≡ digits_value 10 w
-value_is w text n e same p = (parse_digits own {E = Unit {0}} 128 w (Ok n) (subst (λ t. Parsed t n) same p) (both_true (is_plain w) (all_ascii_digits w) e).1).1
+value_is w text n e same p = (parse_digits digits_by_test {E = Unit {0}} 128 w (Ok n) (subst (λ t. Parsed t n) same p) (and_parts (is_plain w) (all_ascii_digits w) e).1).1
 
 pub some_parsed : (w text : List ℕ) (n : ℕ) → is_numeral w ≡ true → text ≡ w → Parsed text n → n < 2 ^ 80 → Some n ≡ number w
 unfolding number
@@ -129,8 +122,8 @@ none_large w text n e same p large =
 pub none_huge : (w text : List ℕ) → is_numeral w ≡ true → text ≡ w → Unparsed text → None ≡ number w
 unfolding number
 none_huge w text e same p =
-    let b = both_true (is_plain w) (all_ascii_digits w) e in
-    let no = parse_digits own {E = Unit {0}} 128 w (Err tt) (subst Unparsed same p) b.1 in
+    let b = and_parts (is_plain w) (all_ascii_digits w) e in
+    let no = parse_digits digits_by_test {E = Unit {0}} 128 w (Err tt) (subst Unparsed same p) b.1 in
     let large : 2 ^ 80 ≤ digits_value 10 w = elim (cases_lt (digits_value 10 w) (2 ^ 80)) [ inl lt ↦ absurd (no (some w b.0, omega arith)) | inr le ↦ le ] in
     let lt : ltb (digits_value 10 w) (2 ^ 80) ≡ false = le-ltb _ _ large in
     rw (e, lt) refl

@@ -192,6 +192,19 @@ pub abs_pos : (ns : List ℕ) → map unsigned_abs (map pos ns) ≡ ns
 abs_pos [] = refl
 abs_pos (n ∷ ns) = ap (λ (x : List ℕ). n ∷ x) (abs_pos ns)
 
+-- a timing whose numbers are in their ranges is held
+pub timing_is_held : (t : Plan) (reds : List ℕ) (first_out first_in : ℕ) → IsTiming t.grid t.unit t.patterns reds t.run_out t.run_in first_out first_in t.band_out t.band_in → map pos reds ≡ t.reds → t.first_out ≡ pos first_out → t.first_in ≡ pos first_in → IsHeld t
+timing_is_held t reds first_out first_in ranges is out in' =
+    let reds_are : reds ≡ map unsigned_abs t.reds = sym (abs_pos reds) ∙ ap (map unsigned_abs) is in
+    let out_is : first_out ≡ unsigned_abs t.first_out = sym (ap unsigned_abs out) in
+    let in_is : first_in ≡ unsigned_abs t.first_in = sym (ap unsigned_abs in') in
+    record {
+      ranges = rw (← reds_are, ← out_is, ← in_is) ranges;
+      reds = sym is ∙ ap (map pos) reds_are;
+      first_out = out ∙ ap pos out_is;
+      first_in = in' ∙ ap pos in_is;
+    }
+
 -- the eight lines, each ended, and what follows
 abbrev pub plan_and : Plan → List ℕ → List ℕ
 plan_and t rest =

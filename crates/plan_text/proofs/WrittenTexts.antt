@@ -1,18 +1,18 @@
 -- The text of a certificate, written piece by piece.
 use Rattle.std.proofs.lemmas.List.{flat_map_more, take_more, take_all, map-append, length-map, get_or-map}
-use Rattle.std.proofs.lemmas.List.Elements.{All-get_or}
+use Rattle.std.proofs.lemmas.List.Elements.{All-get_or, All-same, All-push}
 use Rattle.std.proofs.Common.{◌≡◌, ℕ, ◌+◌, ◌<◌, ◌≤◌, map, length, get_or, take, All, List, [], ◌∷◌, ◌++◌, Option, None, Some, sym, ap, subst, ◌∙◌, append_assoc, arith}
 use Rattle.std.specs.Prelude.{flat_map}
 use Rattle.ratio.specs.Rational.{ℚ}
 use Rattle.progression.specs.Plan.{Plan}
 use Rattle.named_row.specs.declared.leaves.Weight.{Weight}
 use Rattle.plan_text.specs.declared.certificate.Claim.{Claim}
-use Rattle.plan_text.specs.declared.certificate.Claim.TheVariants.{Best, Stopped}
+use Rattle.plan_text.specs.declared.certificate.Claim.TheVariants.{Best, NoTiming, Stopped}
 use Rattle.plan_text.specs.declared.certificate.CertNode.{CertNode}
 use Rattle.plan_text.specs.Words.{line_of}
 use Rattle.plan_text.specs.Spelling.{ended, end_line}
-use Rattle.plan_text.specs.Warrants.{node_of, IsNode, Warrant}
-use Rattle.plan_text.specs.CertificateText.{best_line, open_line, no_timing_line, certificate_line, tree_line, value_key, bound_key, fraction_words, weight_line, node_lines, timing_part, claim_lines, certificate_text}
+use Rattle.plan_text.specs.Warrants.{node_of, IsNode, HasTiming, Warrant}
+use Rattle.plan_text.specs.CertificateText.{best_line, open_line, no_timing_line, certificate_line, tree_line, value_key, bound_key, fraction_words, weight_line, node_lines, timing_part, claim_lines, certificate_text, IsHeldTiming, IsHeldNode}
 use Rattle.plan_text.proofs.Written.{more_lines, ended-append}
 
 -- one more row
@@ -26,12 +26,16 @@ pub all_rows : (old : List ℕ) (ws : List Weight) (i : ℕ) (now : List ℕ) �
 all_rows old ws i now le e = e ∙ ap (λ (y : List Weight). old ++ ended (map weight_line y)) (take_all i ws le)
 
 -- one more node
+nodes_more : (ns : List CertNode) (i : ℕ) (d n : CertNode) → i < length ns → n ≡ get_or ns i d → map node_of (take (i + 1) ns) ≡ map node_of (take i ns) ++ node_of n ∷ []
+nodes_more ns i d n lt is = ap (map node_of) (take_more ns i d lt ∙ ap (λ (y : CertNode). take i ns ++ y ∷ []) (sym is)) ∙ map-append node_of (take i ns) (n ∷ [])
+
 pub more_nodes : (old : List ℕ) (ns : List CertNode) (i : ℕ) (d n : CertNode) (before after : List ℕ) → i < length ns → n ≡ get_or ns i d → before ≡ old ++ ended (flat_map node_lines (map node_of (take i ns))) → after ≡ before ++ ended (node_lines (node_of n)) → after ≡ old ++ ended (flat_map node_lines (map node_of (take (i + 1) ns)))
 more_nodes old ns i d n before after lt is e f =
-    let taken : take (i + 1) ns ≡ take i ns ++ n ∷ [] = take_more ns i d lt ∙ ap (λ (y : CertNode). take i ns ++ y ∷ []) (sym is) in
-    let made : map node_of (take (i + 1) ns) ≡ map node_of (take i ns) ++ node_of n ∷ [] = ap (map node_of) taken ∙ map-append node_of (take i ns) (n ∷ []) in
     more_lines old (flat_map node_lines (map node_of (take i ns))) (node_lines (node_of n)) before after e f
-    ∙ ap (λ (y : List (List ℕ)). old ++ ended y) (flat_map_more node_lines [] (map node_of (take i ns)) (node_of n) ∙ ap (flat_map node_lines) (sym made))
+    ∙ ap (λ (y : List (List ℕ)). old ++ ended y) (flat_map_more node_lines [] (map node_of (take i ns)) (node_of n) ∙ ap (flat_map node_lines) (sym (nodes_more ns i d n lt is)))
+
+pub more_held : (ns : List CertNode) (i : ℕ) (d n : CertNode) → i < length ns → n ≡ get_or ns i d → All IsHeldNode (map node_of (take i ns)) → IsHeldNode (node_of n) → All IsHeldNode (map node_of (take (i + 1) ns))
+more_held ns i d n lt is before here = All-same IsHeldNode _ _ (nodes_more ns i d n lt is) (All-push IsHeldNode (map node_of (take i ns)) (node_of n) before here)
 
 pub all_nodes : (old : List ℕ) (ns : List CertNode) (i : ℕ) (now : List ℕ) → length ns ≤ i → now ≡ old ++ ended (flat_map node_lines (map node_of (take i ns))) → now ≡ old ++ ended (flat_map node_lines (map node_of ns))
 all_nodes old ns i now le e = e ∙ ap (λ (y : List CertNode). old ++ ended (flat_map node_lines (map node_of y))) (take_all i ns le)
@@ -67,6 +71,15 @@ stopped_written old first second third after claim bound x value timing is some 
     let three = more_lines old (open_line ∷ line_of (fraction_words bound_key bound) ∷ []) (line_of (fraction_words value_key x) ∷ []) second third two g in
     more_lines old (open_line ∷ line_of (fraction_words bound_key bound) ∷ line_of (fraction_words value_key x) ∷ []) (timing_part timing) third after three h
     ∙ ap (λ (c : Claim). old ++ ended (claim_lines c timing)) (sym (is ∙ ap (λ (v : Option ℚ). Stopped bound v) some))
+
+-- where no timing stands, there is none to hold
+pub none_held : (timing : Option Plan) → HasTiming NoTiming timing → IsHeldTiming timing
+none_held None has = tt
+none_held (Some t) has = absurd has
+
+pub missing_held : (bound : ℚ) (timing : Option Plan) → HasTiming (Stopped bound None) timing → IsHeldTiming timing
+missing_held bound None has = tt
+missing_held bound (Some t) has = absurd has
 
 -- ---- the whole
 

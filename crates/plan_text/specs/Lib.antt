@@ -1,5 +1,6 @@
 pub mod Words
 pub mod Numbers
+pub mod Digits
 pub mod Fractions
 pub mod Spelling
 pub mod Lines
@@ -9,3 +10,4 @@ pub mod Warrants
 pub mod CertificateText
 pub mod CertificateReading
 pub mod Promises
+pub mod FirstBad

@@ -1,3 +1,5 @@
+//! Texts of certificates, written and read again, and each kind of bad line.
+
 use super::*;
 use named_row::{Leaf, RowId};
 use narrow_fraction::Frac;

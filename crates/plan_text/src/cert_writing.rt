@@ -1,13 +1,15 @@
 //! The text of a certificate, written.
 
-ghost use Rattle.std.specs.Prelude.{◌≡◌, ◌++◌, ◌∷◌, [], All, map, flat_map, length, IfOk, OnOk, string_bytes};
+ghost use Rattle.std.specs.Prelude.{◌≡◌, ◌++◌, ◌∷◌, [], ◌<◌, ◌^◌, All, map, flat_map, length, Ok, IfOk, OnOk, string_bytes};
 ghost use Rattle.std.specs.Fmt.{decimal};
+ghost use Rattle.narrow_fraction.specs.Fraction.{FitsFrac};
 ghost use Rattle.quantity_text.specs.Exact.{exact_spelling};
 ghost use Rattle.plan_text.specs.Words.{line_of};
 ghost use Rattle.plan_text.specs.Spelling.{ended};
 ghost use Rattle.plan_text.specs.Families.{IsNamed};
-ghost use Rattle.plan_text.specs.Warrants.{node_of, IsNode};
-ghost use Rattle.plan_text.specs.CertificateText.{leaf_key, fraction_words, row_words, split_words, weight_line, node_lines, timing_part, claim_lines, certificate_text};
+ghost use Rattle.plan_text.specs.Warrants.{node_of, SplitAt, IsNode, HasTiming};
+ghost use Rattle.plan_text.specs.CertificateText.{leaf_key, fraction_words, row_words, split_words, weight_line, node_lines, timing_part, claim_lines, certificate_text, IsHeldClaim, IsHeldTiming, IsHeldWeight, IsHeldNode};
+ghost use Rattle.plan_text.specs.CertificateReading.{certificate_of};
 
 use crate::certificate::{CertNode, Certificate, Claim};
 use crate::family::{family_name, is_lone};
@@ -23,7 +25,8 @@ use time_space::Timing;
 fn push(out: &mut Vec<u8>, bytes: &[u8]) -> Result<(), Memory>
     ensures { OnOk result (out.new.items ≡ out.old.items ++ bytes.now) }
 {
-    out.extend_from_slice(bytes).map_err(|_| Memory)
+    out.extend_from_slice(bytes)?;
+    Ok(())
 }
 
 /// Writes a line at the end.
@@ -34,10 +37,19 @@ fn push_line(out: &mut Vec<u8>, line: &[u8]) -> Result<(), Memory>
     push(out, b"\n")
 }
 
+/// A fraction's two numbers fit, so that its word is read again.
+fn fits(value: Frac)
+    ensures { FitsFrac value }
+{
+    let _numbers = (value.num(), value.den());
+}
+
 /// Writes a fraction after a space, and the end of its line.
 fn push_fraction(alloc: Global, out: &mut Vec<u8>, value: Frac) -> Result<(), Memory>
-    ensures { OnOk result (out.new.items ≡ out.old.items ++ 32 ∷ (exact_spelling value ++ 10 ∷ [])) }
+    ensures text { OnOk result (out.new.items ≡ out.old.items ++ 32 ∷ (exact_spelling value ++ 10 ∷ [])) }
+    ensures held { OnOk result (FitsFrac value) }
 {
+    fits(value);
     let text = exact_text(alloc, value)?;
     push(out, b" ")?;
     push_line(out, text.as_slice())
@@ -45,7 +57,8 @@ fn push_fraction(alloc: Global, out: &mut Vec<u8>, value: Frac) -> Result<(), Me
 
 /// Writes a line of a key and a fraction at the end.
 fn push_value(alloc: Global, out: &mut Vec<u8>, key: &[u8], value: Frac) -> Result<(), Memory>
-    ensures { OnOk result (out.new.items ≡ out.old.items ++ ended (line_of (fraction_words key.now value) ∷ [])) }
+    ensures text { OnOk result (out.new.items ≡ out.old.items ++ ended (line_of (fraction_words key.now value) ∷ [])) }
+    ensures held { OnOk result (FitsFrac value) }
 {
     push(out, key)?;
     push_fraction(alloc, out, value)
@@ -55,14 +68,15 @@ fn push_value(alloc: Global, out: &mut Vec<u8>, key: &[u8], value: Frac) -> Resu
 fn push_index(alloc: Global, out: &mut Vec<u8>, index: u32) -> Result<(), Memory>
     ensures { OnOk result (out.new.items ≡ out.old.items ++ 32 ∷ decimal index) }
 {
-    let text = format!(in alloc; " {index}").map_err(|_| Memory)?;
+    let text = format!(in alloc; " {index}")?;
     push(out, text.as_bytes())
 }
 
 /// Writes the name of a row.
 fn push_name(alloc: Global, out: &mut Vec<u8>, row: RowId) -> Result<(), Memory>
     requires { IsNamed row }
-    ensures { OnOk result (out.new.items ≡ out.old.items ++ line_of (row_words row)) }
+    ensures text { OnOk result (out.new.items ≡ out.old.items ++ line_of (row_words row)) }
+    ensures held { row.index < 2 ^ 32 }
 {
     push(out, family_name(row.family).as_bytes())?;
     if is_lone(row.family) {
@@ -75,7 +89,8 @@ fn push_name(alloc: Global, out: &mut Vec<u8>, row: RowId) -> Result<(), Memory>
 /// Writes the line of a row and its multiplier.
 fn push_weight(alloc: Global, out: &mut Vec<u8>, weight: &Weight) -> Result<(), Memory>
     requires { IsNamed weight.now.row }
-    ensures { OnOk result (out.new.items ≡ out.old.items ++ ended (weight_line weight.now ∷ [])) }
+    ensures text { OnOk result (out.new.items ≡ out.old.items ++ ended (weight_line weight.now ∷ [])) }
+    ensures held { OnOk result (IsHeldWeight weight.now) }
 {
     push_name(alloc, out, weight.row)?;
     push_fraction(alloc, out, weight.by)
@@ -83,7 +98,8 @@ fn push_weight(alloc: Global, out: &mut Vec<u8>, weight: &Weight) -> Result<(), 
 
 fn push_weights(alloc: Global, out: &mut Vec<u8>, weights: &[Weight]) -> Result<(), Memory>
     requires { All (λ w. IsNamed w.row) weights.now }
-    ensures { OnOk result (out.new.items ≡ out.old.items ++ ended (map weight_line weights.now)) }
+    ensures text { OnOk result (out.new.items ≡ out.old.items ++ ended (map weight_line weights.now)) }
+    ensures held { OnOk result (All IsHeldWeight weights.now) }
 {
     for weight in weights {
         push_weight(alloc, out, weight)?;
@@ -93,21 +109,21 @@ fn push_weights(alloc: Global, out: &mut Vec<u8>, weights: &[Weight]) -> Result<
 
 /// Writes the line of a split.
 fn push_split(alloc: Global, out: &mut Vec<u8>, place: At) -> Result<(), Memory>
-    ensures { OnOk result (out.new.items ≡ out.old.items ++ ended (line_of (split_words place) ∷ [])) }
+    ensures text { OnOk result (out.new.items ≡ out.old.items ++ ended (line_of (split_words place) ∷ [])) }
+    ensures held { IsHeldNode (SplitAt place) }
 {
     let text = match place {
         At::Loop { link, at } => format!(in alloc; "split loop {link} {at}"),
         At::Turn { signal, rank } => format!(in alloc; "split turn {signal} {rank}"),
     };
-    let text = text.map_err(|_| Memory)?;
-    push_line(out, text.as_bytes())
+    push_line(out, text?.as_bytes())
 }
 
 /// Writes the first line of a leaf with so many rows.
 fn push_leaf(alloc: Global, out: &mut Vec<u8>, count: usize) -> Result<(), Memory>
     ensures { OnOk result (out.new.items ≡ out.old.items ++ ended (line_of (leaf_key ∷ decimal count ∷ []) ∷ [])) }
 {
-    let text = format!(in alloc; "leaf {count}").map_err(|_| Memory)?;
+    let text = format!(in alloc; "leaf {count}")?;
     push_line(out, text.as_bytes())
 }
 
@@ -115,7 +131,8 @@ fn push_leaf(alloc: Global, out: &mut Vec<u8>, count: usize) -> Result<(), Memor
 #[tactic(auto, unfolding(crate::specs::CertificateText::node_lines))]
 fn push_node(alloc: Global, out: &mut Vec<u8>, node: &CertNode) -> Result<(), Memory>
     requires { IsNode (node_of node.now) }
-    ensures { OnOk result (out.new.items ≡ out.old.items ++ ended (node_lines (node_of node.now))) }
+    ensures text { OnOk result (out.new.items ≡ out.old.items ++ ended (node_lines (node_of node.now))) }
+    ensures held { OnOk result (IsHeldNode (node_of node.now)) }
 {
     match node {
         CertNode::Split(place) => push_split(alloc, out, *place),
@@ -128,7 +145,8 @@ fn push_node(alloc: Global, out: &mut Vec<u8>, node: &CertNode) -> Result<(), Me
 
 fn push_nodes(alloc: Global, out: &mut Vec<u8>, nodes: &[CertNode]) -> Result<(), Memory>
     requires { All IsNode (map node_of nodes.now) }
-    ensures { OnOk result (out.new.items ≡ out.old.items ++ ended (flat_map node_lines (map node_of nodes.now))) }
+    ensures text { OnOk result (out.new.items ≡ out.old.items ++ ended (flat_map node_lines (map node_of nodes.now))) }
+    ensures held { OnOk result (All IsHeldNode (map node_of nodes.now)) }
 {
     for node in nodes {
         push_node(alloc, out, node)?;
@@ -138,10 +156,11 @@ fn push_nodes(alloc: Global, out: &mut Vec<u8>, nodes: &[CertNode]) -> Result<()
 
 /// Writes the lines of a timing, if there is one.
 fn push_timing(alloc: Global, out: &mut Vec<u8>, timing: &Option<Timing>) -> Result<(), Memory>
-    ensures { OnOk result (out.new.items ≡ out.old.items ++ ended (timing_part timing.now)) }
+    ensures text { OnOk result (out.new.items ≡ out.old.items ++ ended (timing_part timing.now)) }
+    ensures held { OnOk result (IsHeldTiming timing.now) }
 {
     match timing {
-        Some(timing) => push_plan(alloc, out, timing).map_err(|_| Memory),
+        Some(timing) => push_plan(alloc, out, timing),
         None => Ok(()),
     }
 }
@@ -154,7 +173,10 @@ fn push_claim(
     claim: &Claim,
     timing: &Option<Timing>,
 ) -> Result<(), Memory>
-    ensures { OnOk result (out.new.items ≡ out.old.items ++ ended (claim_lines claim.now timing.now)) }
+    requires { HasTiming claim.now timing.now }
+    ensures text { OnOk result (out.new.items ≡ out.old.items ++ ended (claim_lines claim.now timing.now)) }
+    ensures claim { OnOk result (IsHeldClaim claim.now) }
+    ensures timing { OnOk result (IsHeldTiming timing.now) }
 {
     match claim {
         Claim::Best { value } => {
@@ -177,9 +199,10 @@ fn push_claim(
     }
 }
 
-/// The one text of a certificate, which `read_certificate` reads again.
+/// The one text of a certificate, which is read again as that very certificate.
 pub fn write_certificate(alloc: Global, certificate: &Certificate) -> Result<Vec<u8>, Memory>
-    ensures { IfOk result (λ v. v.items ≡ certificate_text certificate.now) }
+    ensures text { IfOk result (λ v. v.items ≡ certificate_text certificate.now) }
+    ensures read_back { IfOk result (λ v. certificate_of v.items ≡ Ok certificate.now) }
 {
     let mut out = Vec::new(alloc);
     push_line(&mut out, b"maxband-certificate 1")?;

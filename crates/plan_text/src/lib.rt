@@ -28,7 +28,7 @@ pub use cert_writing::write_certificate;
 pub use certificate::{CertNode, Certificate, Claim};
 pub use family::{family_name, is_lone};
 pub use fault::{BadText, TextEnd, TextFault};
-pub use laws::{law_one_text, law_reads_back};
+pub use laws::{law_first_bad, law_one_text, law_reads_back};
 pub use number::is_numeral;
 pub use reading::read_timing;
 pub use writing::write_timing;

@@ -1,3 +1,5 @@
+//! Texts of timings, written and read again, and each kind of bad line.
+
 use super::*;
 use progression::Dir;
 use std::alloc::{AllocError, Global};

@@ -1,8 +1,9 @@
 //! The text of a timing, written.
 
-ghost use Rattle.std.specs.Prelude.{◌≡◌, ◌++◌, ◌∷◌, [], IfOk, OnOk, unsigned_abs};
+ghost use Rattle.std.specs.Prelude.{◌≡◌, ◌++◌, ◌∷◌, [], ◌<◌, ◌^◌, pos, Ok, IfOk, OnOk};
 ghost use Rattle.progression.specs.Plan.{first};
-ghost use Rattle.plan_text.specs.Spelling.{spelled, ended, plan_lines, timing_text};
+ghost use Rattle.plan_text.specs.Spelling.{spelled, ended, plan_lines, timing_text, IsHeld};
+ghost use Rattle.plan_text.specs.Reading.{timing_of};
 
 use narrow_fraction::Memory;
 use progression::Dir;
@@ -39,14 +40,16 @@ fn widened(alloc: Global, patterns: &[u32]) -> Result<Vec<u128>, AllocError>
 
 /// Where the first line of a direction crosses, in ticks.
 fn first_of(timing: &Timing, dir: Dir) -> u128
-    ensures { result ≡ unsigned_abs (first timing.now dir) }
+    ensures value { first timing.now dir ≡ pos result }
+    ensures most { result < 2 ^ 80 }
 {
     timing.first(dir).unsigned_abs()
 }
 
 /// Writes the eight lines of a timing's numbers at the end.
-pub(crate) fn push_plan(alloc: Global, out: &mut Vec<u8>, timing: &Timing) -> Result<(), AllocError>
-    ensures { OnOk result (out.new.items ≡ out.old.items ++ ended (plan_lines timing.now)) }
+pub(crate) fn push_plan(alloc: Global, out: &mut Vec<u8>, timing: &Timing) -> Result<(), Memory>
+    ensures text { OnOk result (out.new.items ≡ out.old.items ++ ended (plan_lines timing.now)) }
+    ensures held { OnOk result (IsHeld timing.now) }
 {
     let patterns = widened(alloc, timing.patterns())?;
     push_numbers(alloc, out, b"grid", &[timing.grid()])?;
@@ -73,19 +76,14 @@ pub(crate) fn push_plan(alloc: Global, out: &mut Vec<u8>, timing: &Timing) -> Re
     Ok(())
 }
 
-fn text_of(alloc: Global, timing: &Timing) -> Result<Vec<u8>, AllocError>
-    ensures { IfOk result (λ v. v.items ≡ timing_text timing.now) }
+/// The one text of a timing, which is read again as that very timing.
+pub fn write_timing(alloc: Global, timing: &Timing) -> Result<Vec<u8>, Memory>
+    ensures text { IfOk result (λ v. v.items ≡ timing_text timing.now) }
+    ensures read_back { IfOk result (λ v. timing_of v.items ≡ Ok timing.now) }
 {
     let mut out = Vec::new(alloc);
     push_numbers(alloc, &mut out, b"maxband-timing 1", &[])?;
     push_plan(alloc, &mut out, timing)?;
     push_numbers(alloc, &mut out, b"end", &[])?;
     Ok(out)
-}
-
-/// The one text of a timing, which `read_timing` reads again.
-pub fn write_timing(alloc: Global, timing: &Timing) -> Result<Vec<u8>, Memory>
-    ensures { IfOk result (λ v. v.items ≡ timing_text timing.now) }
-{
-    text_of(alloc, timing).map_err(|_| Memory)
 }

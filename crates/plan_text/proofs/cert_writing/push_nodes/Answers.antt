@@ -1,4 +1,4 @@
-use Rattle.plan_text.proofs.WrittenTexts.{more_nodes, node_here}
+use Rattle.plan_text.proofs.WrittenTexts.{more_nodes, more_held, node_here}
 use Rattle.plan_text.proofs.cert_writing.push_nodes.Goals as goal
 
 pub push_node-requires : goal.push_node-requires
@@ -6,4 +6,9 @@ push_node-requires c = node_here c.args.nodes.now c.loop-node.node-index _ c.nod
 
 pub loop-node-preserved : goal.loop-node-preserved
 loop-node-preserved c =
-    more_nodes c.args.out.now.items c.args.nodes.now c.loop-node.node-index _ c.node-item.result c.loop-node.out.items _ c.loop-node-test.true c.node-item.is c.loop-node.invariant c.in_ok-push_node.ensures
+    let nodes = c.args.nodes.now in
+    let place = c.loop-node.node-index in
+    record {
+      text = more_nodes c.args.out.now.items nodes place _ c.node-item.result c.loop-node.out.items _ c.loop-node-test.true c.node-item.is c.loop-node.invariant.text c.in_ok-push_node.ensures.text;
+      held = more_held nodes place _ c.node-item.result c.loop-node-test.true c.node-item.is c.loop-node.invariant.held c.in_ok-push_node.ensures.held;
+    }

@@ -1,0 +1,306 @@
+-- The text of a certificate up to its last line, and the same with more bytes.
+use Rattle.std.proofs.Common.{◌≡◌, ℕ, suc, zero, ◌+◌, ◌-◌, ◌^◌, ◌<◌, ◌≤◌, Bool, true, false, List, [], ◌∷◌, ◌++◌, length, Option, None, Some, Result, Ok, Err, refl, sym, ap, ◌∙◌, inl, inr, arith}
+use Rattle.std.specs.Prelude.{if◌then◌else◌}
+use Rattle.ratio.specs.Rational.{ℚ}
+use Rattle.progression.specs.Plan.{Plan}
+use Rattle.named_row.specs.declared.leaves.Weight.{Weight}
+use Rattle.named_row.specs.declared.names.RowId.{RowId}
+use Rattle.search_box.specs.declared.span.At.{At}
+use Rattle.search_box.specs.declared.span.At.TheVariants.{Loop, Turn}
+use Rattle.plan_text.specs.declared.fault.TextFault.TheVariants.{Ended, Shape, Number, Order}
+use Rattle.plan_text.specs.declared.fault.BadText.{BadText}
+use Rattle.plan_text.specs.declared.tree.Head.{Head}
+use Rattle.plan_text.specs.declared.tree.Head.TheVariants as heads
+use Rattle.plan_text.specs.declared.certificate.Claim.{Claim}
+use Rattle.plan_text.specs.declared.certificate.Claim.TheVariants.{Best, NoTiming, Stopped}
+use Rattle.plan_text.specs.Words.{is_text}
+use Rattle.plan_text.specs.Numbers.{number}
+use Rattle.plan_text.specs.Fractions.{integer, exact}
+use Rattle.plan_text.specs.Lines.{◌>>=◌, fault, line_at, words_at, fixed_at, ranged}
+use Rattle.plan_text.specs.Reading.{plan_at}
+use Rattle.plan_text.specs.Families.{family_of, is_lone, is_after}
+use Rattle.plan_text.specs.Warrants.{Node, SplitAt, LeafOf}
+use Rattle.plan_text.specs.CertificateText.{best_line, none_line, open_line, no_timing_line, value_key, bound_key, split_key, loop_key, turn_key, leaf_key}
+use Rattle.plan_text.specs.CertificateReading.{or_number, range_of, index_of, fraction_of, lone_of, indexed_of, in_family, weight_of, weight_after, weights_at, split_of, head_of, rest_of, node_at, owed_after, nodes_at, Opening, best_at, begins_with, found_at, missing_at, open_at, verdict_of, claim_at}
+use Rattle.plan_text.specs.FirstBad.{lines_in}
+use Rattle.plan_text.proofs.NodeLines.{node_takes}
+use Rattle.plan_text.proofs.Grown.{Part, Grows, Reaches, IsAt, grows_by, grows_then, reaches_then, at_then, at_if, at_choice, tested, tested_later, chosen, chosen_later, after_line, one_and, numbered, line_grows, line_later, words_grow, words_later, fixed_grows, fixed_later, ranged_here}
+use Rattle.plan_text.proofs.GrownTimings.{plan_grows, plan_later}
+
+-- ---- the tests of one line
+
+or_number_here : {A : Type 0} (line : ℕ) (o : Option A) → IsAt line (or_number line o)
+or_number_here line None = (refl, tt)
+or_number_here line (Some x) = tt
+
+index_here : (line : ℕ) (w : List ℕ) → IsAt line (index_of line w)
+unfolding index_of
+index_here line w = ranged_here (range_of line 1 (2 ^ 32 - 1)) (number w)
+
+fraction_here : (key : List ℕ) (line : ℕ) (ws : List (List ℕ)) → IsAt line (fraction_of key line ws)
+unfolding fraction_of
+fraction_here key line [] = (refl, tt)
+fraction_here key line (k ∷ []) = (refl, tt)
+fraction_here key line (k ∷ w ∷ []) = at_if line (is_text k key) Shape (or_number line (exact w)) tt (or_number_here line (exact w))
+fraction_here key line (k ∷ w ∷ v ∷ ws) = (refl, tt)
+
+lone_here : (line family : ℕ) (ws : List (List ℕ)) → IsAt line (lone_of line family ws)
+unfolding lone_of
+lone_here line family [] = (refl, tt)
+lone_here line family (x ∷ []) = at_then line (or_number line (exact x)) (λ by. Ok (record { row = record { family = family; index = 0 }; by = by })) (or_number_here line (exact x)) (λ by. tt)
+lone_here line family (x ∷ y ∷ ws) = (refl, tt)
+
+indexed_here : (line family : ℕ) (ws : List (List ℕ)) → IsAt line (indexed_of line family ws)
+unfolding indexed_of
+indexed_here line family [] = (refl, tt)
+indexed_here line family (i ∷ []) = (refl, tt)
+indexed_here line family (i ∷ x ∷ []) =
+    at_then line (index_of line i) (λ index. or_number line (exact x) >>= λ by. Ok (record { row = record { family = family; index = index }; by = by })) (index_here line i)
+    (λ index. at_then line (or_number line (exact x)) (λ by. Ok (record { row = record { family = family; index = index }; by = by })) (or_number_here line (exact x)) (λ by. tt))
+indexed_here line family (i ∷ x ∷ y ∷ ws) = (refl, tt)
+
+in_family_here : (line : ℕ) (ws : List (List ℕ)) (o : Option ℕ) → IsAt line (in_family line ws o)
+in_family_here line ws None = (refl, tt)
+in_family_here line ws (Some family) = at_choice line (is_lone family) (lone_of line family ws) (indexed_of line family ws) (lone_here line family ws) (indexed_here line family ws)
+
+weight_here : (line : ℕ) (ws : List (List ℕ)) → IsAt line (weight_of line ws)
+unfolding weight_of
+weight_here line [] = (refl, tt)
+weight_here line (name ∷ ws) = in_family_here line ws (family_of name)
+
+after_here : (above : Option RowId) (line : ℕ) (ws : List (List ℕ)) → IsAt line (weight_after above line ws)
+unfolding weight_after
+after_here above line ws = at_then line (weight_of line ws) (λ w. if is_after above w.row then Ok w else fault line Order) (weight_here line ws) (λ w. at_if line (is_after above w.row) Order (Ok w) tt tt)
+
+split_here : (line : ℕ) (kind i place : List ℕ) → IsAt line (split_of line kind i place)
+unfolding split_of
+split_here line kind i place =
+    at_choice line (is_text kind loop_key) (index_of line i >>= λ link. or_number line (integer place) >>= λ at. Ok (Loop link at)) (if is_text kind turn_key then (index_of line i >>= λ signal. ranged (range_of line 0 (2 ^ 32 - 1)) (number place) >>= λ rank. Ok (Turn signal rank)) else fault line Shape)
+    (at_then line (index_of line i) (λ link. or_number line (integer place) >>= λ at. Ok (Loop link at)) (index_here line i) (λ link. at_then line (or_number line (integer place)) (λ at. Ok (Loop link at)) (or_number_here line (integer place)) (λ at. tt)))
+    (at_if line (is_text kind turn_key) Shape (index_of line i >>= λ signal. ranged (range_of line 0 (2 ^ 32 - 1)) (number place) >>= λ rank. Ok (Turn signal rank)) tt
+    (at_then line (index_of line i) (λ signal. ranged (range_of line 0 (2 ^ 32 - 1)) (number place) >>= λ rank. Ok (Turn signal rank)) (index_here line i)
+    (λ signal. at_then line (ranged (range_of line 0 (2 ^ 32 - 1)) (number place)) (λ rank. Ok (Turn signal rank)) (ranged_here (range_of line 0 (2 ^ 32 - 1)) (number place)) (λ rank. tt))))
+
+head_here : (line : ℕ) (ws : List (List ℕ)) → IsAt line (head_of line ws)
+unfolding head_of
+head_here line [] = (refl, tt)
+head_here line (key ∷ []) = (refl, tt)
+head_here line (key ∷ n ∷ []) =
+    at_if line (is_text key leaf_key) Shape (ranged (range_of line 0 10000) (number n) >>= λ count. Ok (heads.Leaf count)) tt
+    (at_then line (ranged (range_of line 0 10000) (number n)) (λ count. Ok (heads.Leaf count)) (ranged_here (range_of line 0 10000) (number n)) (λ count. tt))
+head_here line (key ∷ kind ∷ i ∷ []) = (refl, tt)
+head_here line (key ∷ kind ∷ i ∷ place ∷ []) =
+    at_if line (is_text key split_key) Shape (split_of line kind i place >>= λ at. Ok (heads.Split at)) tt
+    (at_then line (split_of line kind i place) (λ at. Ok (heads.Split at)) (split_here line kind i place) (λ at. tt))
+head_here line (key ∷ kind ∷ i ∷ place ∷ x ∷ ws) = (refl, tt)
+
+-- ---- the rows of a leaf
+
+abbrev Rows : Type 0
+Rows = List Weight × List ℕ
+
+abbrev and_row : Weight → Rows → Result Rows BadText
+and_row w ws = Ok (w ∷ ws.0, ws.1)
+
+abbrev rows_after : ℕ → ℕ → List ℕ → Weight → Result Rows BadText
+rows_after n line bytes w = weights_at n (Some w.row) (line + 1) bytes >>= and_row w
+
+abbrev row_then : ℕ → Option RowId → ℕ → List (List ℕ) × List ℕ → Result Rows BadText
+row_then n above line l = weight_after above line l.0 >>= rows_after n line l.1
+
+weights_later : (count : ℕ) (above : Option RowId) (last line : ℕ) (bytes : List ℕ) → last < line → Reaches (one_and (line + count)) last (weights_at count above line bytes)
+unfolding weights_at
+weights_later zero above last line bytes here = omega arith
+weights_later (suc n) above last line bytes here =
+    reaches_then (one_and (line + 1)) (one_and (line + suc n)) last (words_at line bytes) (row_then n above line) (words_later last line bytes (omega arith))
+    (λ l more. tested_later (one_and (line + suc n)) last line (weight_after above line l.0) (rows_after n line l.1) (after_here above line l.0) (omega arith)
+    (λ w. reaches_then (one_and (line + 1 + n)) (one_and (line + suc n)) last (weights_at n (Some w.row) (line + 1) l.1) (and_row w) (weights_later n (Some w.row) last (line + 1) l.1 more) (λ ws k. omega arith)))
+
+weights_grow : (count : ℕ) (above : Option RowId) (last line : ℕ) (bytes z : List ℕ) → line + lines_in bytes ≡ last → Grows (one_and (line + count)) last z (weights_at count above line bytes) (weights_at count above line (bytes ++ z))
+unfolding weights_at
+weights_grow zero above last line bytes z e = (omega arith, refl)
+weights_grow (suc n) above last line bytes z e =
+    grows_then (one_and (line + 1)) (one_and (line + suc n)) last z (words_at line bytes) (words_at line (bytes ++ z)) (row_then n above line) (words_grow last line bytes z e)
+    (λ l end. tested (one_and (line + suc n)) last line z (weight_after above line l.0) (rows_after n line l.1) (rows_after n line (l.1 ++ z)) (after_here above line l.0) (omega arith)
+    (λ w. grows_then (one_and (line + 1 + n)) (one_and (line + suc n)) last z (weights_at n (Some w.row) (line + 1) l.1) (weights_at n (Some w.row) (line + 1) (l.1 ++ z)) (and_row w) (weights_grow n (Some w.row) last (line + 1) l.1 z end) (λ ws k. (omega arith, refl)) (λ ws k. omega arith)))
+    (λ l more. tested_later (one_and (line + suc n)) last line (weight_after above line l.0) (rows_after n line l.1) (after_here above line l.0) (omega arith)
+    (λ w. reaches_then (one_and (line + 1 + n)) (one_and (line + suc n)) last (weights_at n (Some w.row) (line + 1) l.1) (and_row w) (weights_later n (Some w.row) last (line + 1) l.1 more) (λ ws k. omega arith)))
+
+-- ---- nodes
+
+abbrev as_leaf : ℕ → ℕ → Rows → Result (Node × ℕ × List ℕ) BadText
+as_leaf line count ws = Ok (LeafOf ws.0, line + count, ws.1)
+
+rest_later : (head : Head) (last line : ℕ) (bytes : List ℕ) → last < line → Reaches numbered last (rest_of head line bytes)
+unfolding rest_of
+rest_later (heads.Split at) last line bytes here = here
+rest_later (heads.Leaf count) last line bytes here = reaches_then (one_and (line + count)) numbered last (weights_at count None line bytes) (as_leaf line count) (weights_later count None last line bytes here) (λ ws more. more)
+
+rest_grows : (head : Head) (last line : ℕ) (bytes z : List ℕ) → line + lines_in bytes ≡ last → Grows numbered last z (rest_of head line bytes) (rest_of head line (bytes ++ z))
+unfolding rest_of
+rest_grows (heads.Split at) last line bytes z e = (e, refl)
+rest_grows (heads.Leaf count) last line bytes z e =
+    grows_then (one_and (line + count)) numbered last z (weights_at count None line bytes) (weights_at count None line (bytes ++ z)) (as_leaf line count) (weights_grow count None last line bytes z e) (λ ws end. (end, refl)) (λ ws here. here)
+
+abbrev head_then : ℕ → List (List ℕ) × List ℕ → Result (Node × ℕ × List ℕ) BadText
+head_then line l = head_of line l.0 >>= λ head. rest_of head (line + 1) l.1
+
+head_later : (last line : ℕ) (l : List (List ℕ) × List ℕ) → last < line + 1 → Reaches numbered last (head_then line l)
+head_later last line l here = tested_later numbered last line (head_of line l.0) (λ head. rest_of head (line + 1) l.1) (head_here line l.0) (omega arith) (λ head. rest_later head last (line + 1) l.1 here)
+
+node_later : (last line : ℕ) (bytes : List ℕ) → last ≤ line → Reaches numbered last (node_at line bytes)
+unfolding node_at
+node_later last line bytes here = reaches_then (one_and (line + 1)) numbered last (words_at line bytes) (head_then line) (words_later last line bytes here) (head_later last line)
+
+node_grows : (last line : ℕ) (bytes z : List ℕ) → line + lines_in bytes ≡ last → Grows numbered last z (node_at line bytes) (node_at line (bytes ++ z))
+unfolding node_at
+node_grows last line bytes z e =
+    grows_then (one_and (line + 1)) numbered last z (words_at line bytes) (words_at line (bytes ++ z)) (head_then line) (words_grow last line bytes z e)
+    (λ l end. tested numbered last line z (head_of line l.0) (λ head. rest_of head (line + 1) l.1) (λ head. rest_of head (line + 1) (l.1 ++ z)) (head_here line l.0) (omega arith) (λ head. rest_grows head last (line + 1) l.1 z end))
+    (head_later last line)
+
+abbrev and_node : Node → List Node × ℕ × List ℕ → Result (List Node × ℕ × List ℕ) BadText
+and_node n ns = Ok (n ∷ ns.0, ns.1, ns.2)
+
+abbrev node_then : ℕ → ℕ → Node × ℕ × List ℕ → Result (List Node × ℕ × List ℕ) BadText
+node_then steps others n = nodes_at steps (owed_after n.0 others) n.1 n.2 >>= and_node n.0
+
+pub nodes_later : (steps owed last line : ℕ) (bytes : List ℕ) → last < line → Reaches numbered last (nodes_at steps owed line bytes)
+unfolding nodes_at
+nodes_later zero zero last line bytes here = here
+nodes_later (suc steps) zero last line bytes here = here
+nodes_later zero (suc others) last line bytes here = omega arith
+nodes_later (suc steps) (suc others) last line bytes here =
+    reaches_then numbered numbered last (node_at line bytes) (node_then steps others) (node_later last line bytes (omega arith))
+    (λ n more. reaches_then numbered numbered last (nodes_at steps (owed_after n.0 others) n.1 n.2) (and_node n.0) (nodes_later steps (owed_after n.0 others) last n.1 n.2 more) (λ ns k. k))
+
+no_lines : (bytes : List ℕ) → length bytes ≤ 0 → lines_in bytes ≡ 0
+no_lines [] none = refl
+no_lines (b ∷ bs) none = absurd (omega arith)
+
+pub nodes_grow : (steps owed last line : ℕ) (bytes z : List ℕ) → length bytes ≤ steps → line + lines_in bytes ≡ last → Grows numbered last z (nodes_at steps owed line bytes) (nodes_at steps owed line (bytes ++ z))
+unfolding nodes_at
+nodes_grow zero zero last line bytes z few e = (e, refl)
+nodes_grow (suc steps) zero last line bytes z few e = (e, refl)
+nodes_grow zero (suc others) last line bytes z few e =
+    let none = no_lines bytes few in
+    let is : line ≡ last = omega arith in
+    inr (ap (λ (n : ℕ). record { line = n; kind = Ended }) is, omega arith)
+nodes_grow (suc steps) (suc others) last line bytes z few e =
+    grows_by numbered numbered last z (node_at line bytes) (node_at line (bytes ++ z)) (node_then steps others) (node_then steps others) (node_grows last line bytes z e)
+    (λ n is end. let shorter = (node_takes line bytes n is).shorter in
+    grows_then numbered numbered last z (nodes_at steps (owed_after n.0 others) n.1 n.2) (nodes_at steps (owed_after n.0 others) n.1 (n.2 ++ z)) (and_node n.0) (nodes_grow steps (owed_after n.0 others) last n.1 n.2 z (omega arith) end) (λ ns k. (k, refl)) (λ ns k. k))
+    (λ n more. reaches_then numbered numbered last (nodes_at steps (owed_after n.0 others) n.1 n.2) (and_node n.0) (nodes_later steps (owed_after n.0 others) last n.1 n.2 more) (λ ns k. k))
+
+-- ---- the claim
+
+abbrev pub opened : Part Opening
+opened = record { next = λ x. x.2; rest = λ x. x.3; more = λ z x. (x.0, x.1, x.2, x.3 ++ z) }
+
+abbrev with_timing : Claim → ℕ → Plan × List ℕ → Result Opening BadText
+with_timing claim line timing = Ok (claim, Some timing.0, line, timing.1)
+
+abbrev best_then : List (List ℕ) × List ℕ → Result Opening BadText
+best_then l = fraction_of value_key 3 l.0 >>= λ value. plan_at 4 l.1 >>= with_timing (Best value) 12
+
+timing_grows : (claim : Claim) (last line : ℕ) (bytes z : List ℕ) → line + lines_in bytes ≡ last → Grows opened last z (plan_at line bytes >>= with_timing claim (line + 8)) (plan_at line (bytes ++ z) >>= with_timing claim (line + 8))
+timing_grows claim last line bytes z e = grows_then (one_and (line + 8)) opened last z (plan_at line bytes) (plan_at line (bytes ++ z)) (with_timing claim (line + 8)) (plan_grows last line bytes z e) (λ t end. (end, refl)) (λ t here. here)
+
+timing_later : (claim : Claim) (last line : ℕ) (bytes : List ℕ) → last ≤ line → Reaches opened last (plan_at line bytes >>= with_timing claim (line + 8))
+timing_later claim last line bytes here = reaches_then (one_and (line + 8)) opened last (plan_at line bytes) (with_timing claim (line + 8)) (plan_later last line bytes here) (λ t more. more)
+
+best_grows : (last : ℕ) (bytes z : List ℕ) → 3 + lines_in bytes ≡ last → Grows opened last z (best_at bytes) (best_at (bytes ++ z))
+unfolding best_at
+best_grows last bytes z e =
+    grows_then (one_and 4) opened last z (words_at 3 bytes) (words_at 3 (bytes ++ z)) best_then (words_grow last 3 bytes z e)
+    (λ l end. tested opened last 3 z (fraction_of value_key 3 l.0) (λ value. plan_at 4 l.1 >>= with_timing (Best value) 12) (λ value. plan_at 4 (l.1 ++ z) >>= with_timing (Best value) 12) (fraction_here value_key 3 l.0) (omega arith) (λ value. timing_grows (Best value) last 4 l.1 z end))
+    (λ l here. tested_later opened last 3 (fraction_of value_key 3 l.0) (λ value. plan_at 4 l.1 >>= with_timing (Best value) 12) (fraction_here value_key 3 l.0) (omega arith) (λ value. timing_later (Best value) last 4 l.1 (omega arith)))
+
+best_later : (last : ℕ) (bytes : List ℕ) → last ≤ 3 → Reaches opened last (best_at bytes)
+unfolding best_at
+best_later last bytes before =
+    reaches_then (one_and 4) opened last (words_at 3 bytes) best_then (words_later last 3 bytes before)
+    (λ l here. tested_later opened last 3 (fraction_of value_key 3 l.0) (λ value. plan_at 4 l.1 >>= with_timing (Best value) 12) (fraction_here value_key 3 l.0) before (λ value. timing_later (Best value) last 4 l.1 (omega arith)))
+
+found_grows : (bound : ℚ) (ws : List (List ℕ)) (last : ℕ) (bytes z : List ℕ) → 5 + lines_in bytes ≡ last → Grows opened last z (found_at bound ws bytes) (found_at bound ws (bytes ++ z))
+unfolding found_at
+found_grows bound ws last bytes z e =
+    tested opened last 4 z (fraction_of value_key 4 ws) (λ value. plan_at 5 bytes >>= with_timing (Stopped bound (Some value)) 13) (λ value. plan_at 5 (bytes ++ z) >>= with_timing (Stopped bound (Some value)) 13) (fraction_here value_key 4 ws) (omega arith) (λ value. timing_grows (Stopped bound (Some value)) last 5 bytes z e)
+
+found_later : (bound : ℚ) (ws : List (List ℕ)) (last : ℕ) (bytes : List ℕ) → last ≤ 4 → Reaches opened last (found_at bound ws bytes)
+unfolding found_at
+found_later bound ws last bytes before =
+    tested_later opened last 4 (fraction_of value_key 4 ws) (λ value. plan_at 5 bytes >>= with_timing (Stopped bound (Some value)) 13) (fraction_here value_key 4 ws) before (λ value. timing_later (Stopped bound (Some value)) last 5 bytes (omega arith))
+
+abbrev as_missing : ℚ → List ℕ → Result Opening BadText
+as_missing bound rest = Ok (Stopped bound None, None, 5, rest)
+
+missing_grows : (bound : ℚ) (last : ℕ) (bytes z : List ℕ) → 4 + lines_in bytes ≡ last → Grows opened last z (missing_at bound bytes) (missing_at bound (bytes ++ z))
+unfolding missing_at
+missing_grows bound last bytes z e = grows_then (after_line 5) opened last z (fixed_at 4 no_timing_line bytes) (fixed_at 4 no_timing_line (bytes ++ z)) (as_missing bound) (fixed_grows last 4 no_timing_line bytes z e) (λ r end. (end, refl)) (λ r here. here)
+
+missing_later : (bound : ℚ) (last : ℕ) (bytes : List ℕ) → last ≤ 4 → Reaches opened last (missing_at bound bytes)
+unfolding missing_at
+missing_later bound last bytes before = reaches_then (after_line 5) opened last (fixed_at 4 no_timing_line bytes) (as_missing bound) (fixed_later last 4 no_timing_line bytes before) (λ r here. here)
+
+abbrev value_or_not : ℚ → List ℕ → List (List ℕ) × List ℕ → Result Opening BadText
+value_or_not bound bytes m = if begins_with value_key m.0 then found_at bound m.0 m.1 else missing_at bound bytes
+
+abbrev bound_then : List ℕ → ℚ → Result Opening BadText
+bound_then bytes bound = words_at 4 bytes >>= value_or_not bound bytes
+
+value_later : (bound : ℚ) (last : ℕ) (bytes : List ℕ) (m : List (List ℕ) × List ℕ) → last ≤ 4 → Reaches opened last (value_or_not bound bytes m)
+value_later bound last bytes m before = chosen_later opened last (begins_with value_key m.0) (found_at bound m.0 m.1) (missing_at bound bytes) (found_later bound m.0 last m.1 before) (missing_later bound last bytes before)
+
+bound_grows : (bound : ℚ) (last : ℕ) (bytes z : List ℕ) → 4 + lines_in bytes ≡ last → Grows opened last z (bound_then bytes bound) (bound_then (bytes ++ z) bound)
+bound_grows bound last bytes z e =
+    grows_by (one_and 5) opened last z (words_at 4 bytes) (words_at 4 (bytes ++ z)) (value_or_not bound bytes) (value_or_not bound (bytes ++ z)) (words_grow last 4 bytes z e)
+    (λ m is end. chosen opened last z (begins_with value_key m.0) (found_at bound m.0 m.1) (found_at bound m.0 (m.1 ++ z)) (missing_at bound bytes) (missing_at bound (bytes ++ z)) (found_grows bound m.0 last m.1 z end) (missing_grows bound last bytes z e))
+    (λ m here. value_later bound last (bytes ++ z) m (omega arith))
+
+bound_later : (bound : ℚ) (last : ℕ) (bytes : List ℕ) → last ≤ 4 → Reaches opened last (bound_then bytes bound)
+bound_later bound last bytes before = reaches_then (one_and 5) opened last (words_at 4 bytes) (value_or_not bound bytes) (words_later last 4 bytes before) (λ m here. value_later bound last bytes m before)
+
+open_grows : (last : ℕ) (bytes z : List ℕ) → 3 + lines_in bytes ≡ last → Grows opened last z (open_at bytes) (open_at (bytes ++ z))
+unfolding open_at
+open_grows last bytes z e =
+    grows_then (one_and 4) opened last z (words_at 3 bytes) (words_at 3 (bytes ++ z)) (λ l. fraction_of bound_key 3 l.0 >>= bound_then l.1) (words_grow last 3 bytes z e)
+    (λ l end. tested opened last 3 z (fraction_of bound_key 3 l.0) (bound_then l.1) (bound_then (l.1 ++ z)) (fraction_here bound_key 3 l.0) (omega arith) (λ bound. bound_grows bound last l.1 z end))
+    (λ l here. tested_later opened last 3 (fraction_of bound_key 3 l.0) (bound_then l.1) (fraction_here bound_key 3 l.0) (omega arith) (λ bound. bound_later bound last l.1 (omega arith)))
+
+open_later : (last : ℕ) (bytes : List ℕ) → last ≤ 3 → Reaches opened last (open_at bytes)
+unfolding open_at
+open_later last bytes before =
+    reaches_then (one_and 4) opened last (words_at 3 bytes) (λ l. fraction_of bound_key 3 l.0 >>= bound_then l.1) (words_later last 3 bytes before)
+    (λ l here. tested_later opened last 3 (fraction_of bound_key 3 l.0) (bound_then l.1) (fraction_here bound_key 3 l.0) before (λ bound. bound_later bound last l.1 (omega arith)))
+
+abbrev none_at : List ℕ → Result Opening BadText
+none_at bytes = Ok (NoTiming, None, 3, bytes)
+
+verdict_grows : (text : List ℕ) (last : ℕ) (bytes z : List ℕ) → 3 + lines_in bytes ≡ last → Grows opened last z (verdict_of text bytes) (verdict_of text (bytes ++ z))
+unfolding verdict_of
+verdict_grows text last bytes z e =
+    let other = bytes ++ z in
+    chosen opened last z (is_text text best_line) (best_at bytes) (best_at other) (if is_text text none_line then none_at bytes else (if is_text text open_line then open_at bytes else fault 2 Shape)) (if is_text text none_line then none_at other else (if is_text text open_line then open_at other else fault 2 Shape))
+    (best_grows last bytes z e)
+    (chosen opened last z (is_text text none_line) (none_at bytes) (none_at other) (if is_text text open_line then open_at bytes else fault 2 Shape) (if is_text text open_line then open_at other else fault 2 Shape)
+    (e, refl)
+    (chosen opened last z (is_text text open_line) (open_at bytes) (open_at other) (fault 2 Shape) (fault 2 Shape) (open_grows last bytes z e) (inl (tt, omega arith, refl))))
+
+verdict_later : (text : List ℕ) (last : ℕ) (bytes : List ℕ) → last ≤ 2 → Reaches opened last (verdict_of text bytes)
+unfolding verdict_of
+verdict_later text last bytes before =
+    chosen_later opened last (is_text text best_line) (best_at bytes) (if is_text text none_line then none_at bytes else (if is_text text open_line then open_at bytes else fault 2 Shape))
+    (best_later last bytes (omega arith))
+    (chosen_later opened last (is_text text none_line) (none_at bytes) (if is_text text open_line then open_at bytes else fault 2 Shape)
+    (omega arith)
+    (chosen_later opened last (is_text text open_line) (open_at bytes) (fault 2 Shape) (open_later last bytes (omega arith)) before))
+
+pub claim_grows : (last : ℕ) (bytes z : List ℕ) → 2 + lines_in bytes ≡ last → Grows opened last z (claim_at bytes) (claim_at (bytes ++ z))
+unfolding claim_at
+claim_grows last bytes z e =
+    grows_then (one_and 3) opened last z (line_at 2 bytes) (line_at 2 (bytes ++ z)) (λ l. verdict_of l.0 l.1) (line_grows last 2 bytes z e) (λ l end. verdict_grows l.0 last l.1 z end) (λ l here. verdict_later l.0 last l.1 (omega arith))
+
+pub claim_later : (last : ℕ) (bytes : List ℕ) → last ≤ 2 → Reaches opened last (claim_at bytes)
+unfolding claim_at
+claim_later last bytes before = reaches_then (one_and 3) opened last (line_at 2 bytes) (λ l. verdict_of l.0 l.1) (line_later last 2 bytes before) (λ l here. verdict_later l.0 last l.1 before)
