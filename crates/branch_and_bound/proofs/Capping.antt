@@ -10,10 +10,10 @@ use Rattle.named_row.specs.declared.leaves.Leaf.{Leaf}
 use Rattle.named_row.specs.declared.leaves.Point.{Point}
 use Rattle.node_tree.specs.Lines.{Line}
 use Rattle.branch_and_bound.specs.Lineages.{Reads, Cuts}
-use Rattle.branch_and_bound.specs.Units.{IsWithin, capped}
+use Rattle.work_meter.specs.Work.{IsWithin, capped}
 use Rattle.branch_and_bound.specs.Opening.{HasBound, OpensTimed, OpensCut, Opens}
 use Rattle.branch_and_bound.specs.Capped.{capped_rules, EndsAs, Case, is_empty, is_cut, is_read, case_of, ending_span, ending_of, bound_of, box_of, IsNumber, CoversNumbers}
-use Rattle.branch_and_bound.specs.declared.meter.Meter.{Meter}
+use Rattle.work_meter.specs.declared.meter.Meter.{Meter}
 use Rattle.branch_and_bound.specs.declared.opened.Opened.{Opened}
 use Rattle.branch_and_bound.specs.declared.opened.Opened.TheVariants.{Infeasible, Timed, Splits, Unread, WorkOut, Wide}
 

@@ -11,7 +11,7 @@ use Rattle.node_tree.specs.Lines.{Line, Fills, Finds}
 use Rattle.node_tree.specs.Walks.{Fills-map, Fills-each}
 use Rattle.node_tree.specs.Matchings.{Matches, Fills-match, Finds-match, total-match}
 use Rattle.branch_and_bound.specs.Rules.{Rules}
-use Rattle.branch_and_bound.specs.Units.{capped, IsWithin}
+use Rattle.work_meter.specs.Work.{capped, IsWithin}
 use Rattle.branch_and_bound.specs.Incumbents.{IsReached}
 use Rattle.branch_and_bound.specs.Greatest.{IsSettled, bound_of}
 use Rattle.branch_and_bound.specs.Answer.{cut_of, lines_of, cost_of, IsProof, IsAcceptedNode, GivesValue, IsPartValue, IsBestLeaf, IsFinished, IsBestAnswer, IsNoneAnswer}

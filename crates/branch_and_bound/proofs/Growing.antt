@@ -15,7 +15,7 @@ use Rattle.branch_and_bound.specs.Incumbents.{IsReached, IsUnder}
 use Rattle.branch_and_bound.specs.Greatest.{IsOverBound, bound_of}
 use Rattle.branch_and_bound.specs.Answer.{lines_of, cost_of, IsBestLeaf}
 use Rattle.branch_and_bound.specs.State.{place_of, IsNode, IsClosed, IsSplit, IsWaiting, IsBetter, IsBoth, Holds}
-use Rattle.branch_and_bound.specs.declared.meter.Meter.{Meter}
+use Rattle.work_meter.specs.declared.meter.Meter.{Meter}
 use Rattle.branch_and_bound.specs.declared.incumbent.Incumbent.{Incumbent}
 use Rattle.branch_and_bound.specs.declared.node.Node.{Node}
 use Rattle.branch_and_bound.specs.declared.node.Node.TheVariants.{Split, Closed, Waiting}

@@ -6,12 +6,12 @@ use Rattle.node_tree.specs.Lines.{Line, low_line}
 use Rattle.node_tree.specs.Matchings.{Matches, line_after-match, total-match}
 use Rattle.branch_and_bound.specs.Lineages.{Cuts}
 use Rattle.branch_and_bound.specs.Rules.{Rules, IsMet}
-use Rattle.branch_and_bound.specs.Units.{capped, IsWithin}
+use Rattle.work_meter.specs.Work.{capped, IsWithin}
 use Rattle.branch_and_bound.specs.Incumbents.{IsBeaten}
 use Rattle.branch_and_bound.specs.Greatest.{IsGreatest, bound_of}
 use Rattle.branch_and_bound.specs.Answer.{cut_of, lines_of, line_at, cost_of, units_of, BeforeLow, InLow, BeforeHigh, InHigh, IsStoppedAnswer, Spot, low_of, high_of}
 use Rattle.branch_and_bound.specs.State.{place_of, line_there, IsNode, IsShown, Stops, Halts, Holds, IsUndone, stop_of}
-use Rattle.branch_and_bound.specs.declared.meter.Meter.{Meter}
+use Rattle.work_meter.specs.declared.meter.Meter.{Meter}
 use Rattle.branch_and_bound.specs.declared.incumbent.Incumbent.{Incumbent}
 use Rattle.branch_and_bound.specs.declared.node.Node.{Node}
 use Rattle.branch_and_bound.specs.declared.node.Node.TheVariants.{Split, Closed, Waiting}
@@ -49,6 +49,7 @@ low_cases r limit shown bound new before after spot NoWork units k s e = record 
   accepted = k.accepted;
   good = k.good;
   spot = k.spot_is;
+  left = tt;
   needed = (k.needed, k.open_bound);
   sorted = k.sorted;
   units = ap (λ (m : Meter). m.spent) s.0 ∙ units;
@@ -60,6 +61,7 @@ low_cases r limit shown bound new before after spot WorkOut units k s e = record
   accepted = k.accepted;
   good = k.good;
   spot = k.spot_is;
+  left = s.4;
   needed = (k.needed, k.open_bound);
   sorted = k.sorted;
   units = let t = s.2.spent in omega (arith, t, units);
@@ -71,6 +73,7 @@ low_cases r limit shown bound new before after spot (Refused site) units k s e =
   accepted = k.accepted;
   good = k.good;
   spot = k.spot_is;
+  left = s.3;
   needed = (k.needed, k.open_bound);
   sorted = k.sorted;
   units = let t = s.2.spent in omega (arith, t, units);
@@ -87,6 +90,7 @@ high_cases r limit shown bound new before between after spot NoWork units k low 
   accepted = k.accepted;
   good = k.good;
   spot = k.spot_is;
+  left = tt;
   needed = (k.needed, k.open_bound);
   sorted = k.sorted;
   units = let t = ap (λ (m : Meter). m.spent) s.0 in omega (arith, t, low, units);
@@ -98,6 +102,7 @@ high_cases r limit shown bound new before between after spot WorkOut units k low
   accepted = k.accepted;
   good = k.good;
   spot = k.spot_is;
+  left = s.4;
   needed = (k.needed, k.open_bound);
   sorted = k.sorted;
   units = let t = s.2.spent in omega (arith, t, low, units);
@@ -109,6 +114,7 @@ high_cases r limit shown bound new before between after spot (Refused site) unit
   accepted = k.accepted;
   good = k.good;
   spot = k.spot_is;
+  left = s.3;
   needed = (k.needed, k.open_bound);
   sorted = k.sorted;
   units = let t = s.2.spent in omega (arith, t, low, units);

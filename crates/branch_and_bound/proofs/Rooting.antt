@@ -8,11 +8,11 @@ use Rattle.named_row.specs.declared.leaves.Leaf.{Leaf}
 use Rattle.node_tree.specs.Lines.{Line, top_line, owed, Fills, Finds, total}
 use Rattle.branch_and_bound.specs.Lineages.{IsOptimal, at_top}
 use Rattle.branch_and_bound.specs.Rules.{Rules}
-use Rattle.branch_and_bound.specs.Units.{IsWithin}
+use Rattle.work_meter.specs.Work.{IsWithin}
 use Rattle.branch_and_bound.specs.Opening.{Finishes}
 use Rattle.branch_and_bound.specs.Answer.{lines_of, cost_of, IsBestLeaf, IsSorted, RootLeft, RootUnread, IsStoppedAnswer}
 use Rattle.branch_and_bound.specs.State.{place_of, IsNode, IsBetter, IsLeafNow, IsStuck, IsLeftBy, Holds, stop_of}
-use Rattle.branch_and_bound.specs.declared.meter.Meter.{Meter}
+use Rattle.work_meter.specs.declared.meter.Meter.{Meter}
 use Rattle.branch_and_bound.specs.declared.incumbent.Incumbent.{Incumbent}
 use Rattle.branch_and_bound.specs.declared.node.Node.{Node}
 use Rattle.branch_and_bound.specs.declared.node.Node.TheVariants.{Split, Closed, Waiting}
@@ -76,6 +76,7 @@ root_stuck r limit None before after leaf bound site sound e l f h =
       accepted = (inr h.opens.bounds.covers, tt);
       good = tt;
       spot = h.opens.end;
+      left = tt;
       needed = (
         record {
           tree = (record { leaf_is = h.opens.bounds.leaf_is; reached = λ reads. let t = h.opens.end in cc }, tt);
@@ -106,6 +107,7 @@ root_left r limit None before after leaf bound WorkOut e l f start bound_is cove
   accepted = (inr covers, tt);
   good = tt;
   spot = h.1;
+  left = tt;
   needed = record { leaf = leaf; nodes_are = refl; leaf_is = start; bound_is = bound_is; best_is = refl };
   sorted = one_waits r leaf None;
   units = let s = h.3.spent in omega (arith, s, e);
@@ -117,6 +119,7 @@ root_left r limit None before after leaf bound (Refused site) e l f start bound_
   accepted = (inr covers, tt);
   good = tt;
   spot = h.1;
+  left = tt;
   needed = record { leaf = leaf; nodes_are = refl; leaf_is = start; bound_is = bound_is; best_is = refl };
   sorted = one_waits r leaf None;
   units = let s = h.3.spent in omega (arith, s, e);

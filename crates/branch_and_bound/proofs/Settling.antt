@@ -11,7 +11,7 @@ use Rattle.branch_and_bound.specs.Rules.{Rules}
 use Rattle.branch_and_bound.specs.Opening.{OpensTimed, IsPart}
 use Rattle.branch_and_bound.specs.Incumbents.{IsReached, IsBeaten}
 use Rattle.branch_and_bound.specs.State.{IsStuck, Stops, IsLeftBy, Settles, Ends, ended, IsCut, IsLeafNow}
-use Rattle.branch_and_bound.specs.declared.meter.Meter.{Meter}
+use Rattle.work_meter.specs.declared.meter.Meter.{Meter}
 use Rattle.branch_and_bound.specs.declared.incumbent.Incumbent.{Incumbent}
 use Rattle.branch_and_bound.specs.declared.node.Node.TheVariants.{Closed}
 use Rattle.branch_and_bound.specs.declared.found.Site.{Site}
@@ -68,13 +68,14 @@ stuck_stops r line before after leaf bound site h = (
   r.steps line,
   record { area_is = h.area_is; pivots_is = h.opens.pivots_is; part_is = h.opens.part_is },
   record { spent = h.cost.spent; within = h.cost.within },
+  inr (refl, h.opens.end),
 )
 
 -- and where the box wasn't finished, so many of them
 left_stops : {T K W : Type 0} (r : Rules T K W) (line : Line) (before after : Meter) (cause : Cause W) → IsLeftBy r line before after cause → Stops r line before after cause
 left_stops r line before after NoWork h = absurd h
-left_stops r line before after WorkOut (k, unfinished, due, leaves, spent) = (k, due, leaves, spent)
-left_stops r line before after (Refused site) (k, unfinished, is, leaves) = (k, is, leaves)
+left_stops r line before after WorkOut (k, unfinished, due, leaves, spent) = (k, due, leaves, spent, inl unfinished)
+left_stops r line before after (Refused site) (k, unfinished, is, leaves) = (k, is, leaves, inl unfinished)
 
 pub ends : {T K W : Type 0} (r : Rules T K W) (line : Line) (old new : Option (Incumbent T)) (before after : Meter) (settled : Settled K W)
     → Settles r line old new before after settled → Ends r line old new before after (ended settled)

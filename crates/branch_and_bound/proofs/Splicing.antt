@@ -18,7 +18,7 @@ use Rattle.branch_and_bound.specs.Incumbents.{IsUnder}
 use Rattle.branch_and_bound.specs.Greatest.{IsOverBound, bound_of, Waits}
 use Rattle.branch_and_bound.specs.Answer.{lines_of}
 use Rattle.branch_and_bound.specs.State.{place_of, IsNode, IsWaiting, IsCut, IsBoth, Holds, IsGrown, line_there, spliced, split_from, weight, weights}
-use Rattle.branch_and_bound.specs.declared.meter.Meter.{Meter}
+use Rattle.work_meter.specs.declared.meter.Meter.{Meter}
 use Rattle.branch_and_bound.specs.declared.incumbent.Incumbent.{Incumbent}
 use Rattle.branch_and_bound.specs.declared.node.Node.{Node}
 use Rattle.branch_and_bound.specs.declared.node.Node.TheVariants.{Split, Closed, Waiting}

@@ -10,9 +10,9 @@ use Rattle.named_row.specs.declared.leaves.Leaf.{Leaf}
 use Rattle.named_row.specs.declared.leaves.Point.{Point}
 use Rattle.node_tree.specs.Lines.{Line, top_line, low_line, high_line, Fills, Finds, total, line_after}
 use Rattle.branch_and_bound.specs.Lineages.{Empty, Reads, Cuts, Stuck}
-use Rattle.branch_and_bound.specs.Units.{capped, IsWithin}
+use Rattle.work_meter.specs.Work.{capped, IsWithin}
 use Rattle.branch_and_bound.specs.Rules.{Rules}
-use Rattle.branch_and_bound.specs.Unfinished.{IsUnfinished}
+use Rattle.branch_and_bound.specs.Unfinished.{IsUnfinished, IsLeft}
 use Rattle.branch_and_bound.specs.Incumbents.{IsReached, IsBeaten}
 use Rattle.branch_and_bound.specs.declared.incumbent.Incumbent.{Incumbent}
 use Rattle.branch_and_bound.specs.declared.node.TreeNode.{TreeNode}
@@ -146,6 +146,15 @@ HasSpot r nodes (InLow spot k) = IsSpot r nodes spot
 HasSpot r nodes (BeforeHigh spot) = IsSpot r nodes spot
 HasSpot r nodes (InHigh spot k) = IsSpot r nodes spot
 
+-- a part in which the search stopped wasn't finished
+abbrev pub HasLeft : {T K W : Type 0} → Rules T K W → List TreeNode → StopCase → Type 0
+HasLeft r nodes (RootLeft k) = Unit {0}
+HasLeft r nodes RootUnread = Unit {0}
+HasLeft r nodes (BeforeLow spot) = Unit {0}
+HasLeft r nodes (InLow spot k) = IsLeft r (low_of r nodes spot) k
+HasLeft r nodes (BeforeHigh spot) = Unit {0}
+HasLeft r nodes (InHigh spot k) = IsLeft r (high_of r nodes spot) k
+
 -- a stop by work stands before an opening or where a pivot is due
 abbrev pub IsWorkStop : {T K W : Type 0} → Rules T K W → List TreeNode → StopCase → Type 0
 IsWorkStop r nodes (RootLeft k) = r.IsDue (top_line r.root) k
@@ -276,6 +285,7 @@ pub record IsStoppedAnswer {T K W : Type 0} (r : Rules T K W) (limit : Option �
   pub accepted : IsAccepted r (Some bound) nodes
   pub good : IfSome best (λ b. r.IsGood b.timing b.value × (b.value ≤ℚ bound))
   pub spot : HasSpot r nodes case
+  pub left : HasLeft r nodes case
   pub needed : IsNeededStop r nodes best bound case
   pub sorted : IsSorted r nodes best (undone_of case)
   pub units : spent ≡ capped (spends r nodes case)

@@ -1,5 +1,4 @@
 pub mod Lineages
-pub mod Units
 pub mod Rules
 pub mod Unfinished
 pub mod Opening

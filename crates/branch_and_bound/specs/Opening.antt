@@ -1,5 +1,5 @@
 -- What opening a box answers, and the units of work that it spends.
-use Rattle.std.specs.Prelude.{◌≡◌, ℕ, ◌+◌, ◌⊎◌, Some}
+use Rattle.std.specs.Prelude.{◌≡◌, ℕ, ◌+◌, ◌⊎◌}
 use Rattle.ratio.specs.Rational.{ℚ}
 use Rattle.linear_model.specs.Boxes.{Area}
 use Rattle.search_box.specs.declared.span.At.{At}
@@ -7,20 +7,12 @@ use Rattle.named_row.specs.declared.leaves.Leaf.{Leaf}
 use Rattle.named_row.specs.declared.leaves.Point.{Point}
 use Rattle.node_tree.specs.Lines.{Line, low_line, high_line}
 use Rattle.branch_and_bound.specs.Lineages.{Empty, Reads, Cuts, Stuck}
-use Rattle.branch_and_bound.specs.Units.{capped, IsBelow, IsWithin}
+use Rattle.work_meter.specs.Work.{capped, IsWithin, IsSpent}
 use Rattle.branch_and_bound.specs.Rules.{Rules, IsMet}
 use Rattle.branch_and_bound.specs.Unfinished.{IsUnfinished}
-use Rattle.branch_and_bound.specs.declared.meter.Meter.{Meter}
+use Rattle.work_meter.specs.declared.meter.Meter.{Meter}
 use Rattle.branch_and_bound.specs.declared.opened.Opened.{Opened}
 use Rattle.branch_and_bound.specs.declared.opened.Opened.TheVariants.{Infeasible, Timed, Splits, Unread, WorkOut, Wide}
-
--- a unit may be spent
-abbrev pub HasWork : Meter → Type 0
-HasWork meter = IsBelow meter.spent meter.limit
-
--- all units are spent
-abbrev pub IsSpent : Meter → Type 0
-IsSpent meter = meter.limit ≡ Some meter.spent
 
 -- the box of a part of a split line, with what the split node kept
 pub record IsPart {T K W : Type 0} (r : Rules T K W) (parent : Line) (place : At) (line : Line) (kept : K) (area : Area) : Type 0 where

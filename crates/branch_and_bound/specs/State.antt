@@ -8,13 +8,13 @@ use Rattle.named_row.specs.declared.leaves.Point.{Point}
 use Rattle.node_tree.specs.Lines.{Line, low_line, high_line, Fills, Finds, total, line_after}
 use Rattle.node_tree.specs.Volumes.{volume}
 use Rattle.branch_and_bound.specs.Lineages.{Empty, Reads, Cuts, IsOptimal}
-use Rattle.branch_and_bound.specs.Units.{capped, IsWithin}
+use Rattle.work_meter.specs.Work.{capped, IsWithin, IsSpent}
 use Rattle.branch_and_bound.specs.Rules.{Rules, IsMet}
-use Rattle.branch_and_bound.specs.Unfinished.{IsUnfinished}
-use Rattle.branch_and_bound.specs.Opening.{HasBound, OpensStuck, Finishes, Leaves, IsSpent}
+use Rattle.branch_and_bound.specs.Unfinished.{IsUnfinished, IsLeft}
+use Rattle.branch_and_bound.specs.Opening.{HasBound, OpensStuck, Finishes, Leaves}
 use Rattle.branch_and_bound.specs.Incumbents.{IsReached, IsUnder, IsBeaten}
 use Rattle.branch_and_bound.specs.Answer.{lines_of, cost_of, IsBestLeaf, IsSite}
-use Rattle.branch_and_bound.specs.declared.meter.Meter.{Meter}
+use Rattle.work_meter.specs.declared.meter.Meter.{Meter}
 use Rattle.branch_and_bound.specs.declared.incumbent.Incumbent.{Incumbent}
 use Rattle.branch_and_bound.specs.declared.node.Node.{Node}
 use Rattle.branch_and_bound.specs.declared.node.Node.TheVariants.{Split, Closed, Waiting}
@@ -106,8 +106,8 @@ pub record IsLeafNow {T K W : Type 0} (r : Rules T K W) (line : Line) (old new :
 -- why the opening of a part stopped
 abbrev pub Stops : {T K W : Type 0} → Rules T K W → Line → Meter → Meter → Cause W → Type 0
 Stops r line before after NoWork = (after ≡ before) × IsSpent before
-Stops r line before after WorkOut = (k : ℕ) × r.IsDue line k × Leaves before after k × IsSpent after
-Stops r line before after (Refused site) = (k : ℕ) × IsSite r line k site × Leaves before after k
+Stops r line before after WorkOut = (k : ℕ) × r.IsDue line k × Leaves before after k × IsSpent after × IsLeft r line k
+Stops r line before after (Refused site) = (k : ℕ) × IsSite r line k site × Leaves before after k × IsLeft r line k
 
 -- why a box wasn't finished, once it was opened
 abbrev pub IsLeftBy : {T K W : Type 0} → Rules T K W → Line → Meter → Meter → Cause W → Type 0

@@ -2,6 +2,7 @@
 use Rattle.std.specs.Prelude.{◌≡◌, ℕ, ◌<◌, ◌⊎◌}
 use Rattle.named_row.specs.declared.leaves.Leaf.{Leaf}
 use Rattle.node_tree.specs.Lines.{Line}
+use Rattle.branch_and_bound.specs.Lineages.{Stuck}
 use Rattle.branch_and_bound.specs.Rules.{Rules}
 
 -- the leaf of a line's end is no proof: an operation of its sum is refused
@@ -14,3 +15,7 @@ pub record EndsUnproved {T K W : Type 0} (r : Rules T K W) (line : Line) : Type 
 -- after so many steps others are left, or all were made and the leaf of the end is no proof
 abbrev pub IsUnfinished : {T K W : Type 0} → Rules T K W → Line → ℕ → Type 0
 IsUnfinished r line k = (k < r.steps line) ⊎ ((k ≡ r.steps line) × EndsUnproved r line)
+
+-- the same, or all steps were made and the vertex of the end can't be read
+abbrev pub IsLeft : {T K W : Type 0} → Rules T K W → Line → ℕ → Type 0
+IsLeft r line k = IsUnfinished r line k ⊎ ((k ≡ r.steps line) × (r.ending line ≡ Stuck))

@@ -2,7 +2,7 @@
 
 ghost use Rattle.std.specs.Prelude.{◌≡◌, ℕ, List, [], ◌∷◌, All, IfOk, IsSome};
 ghost use Rattle.ratio.specs.Rational.{ℚ};
-ghost use Rattle.branch_and_bound.specs.Units.{IsBelow, IsWithin};
+ghost use Rattle.work_meter.specs.Work.{IsBelow, IsWithin};
 ghost use Rattle.branch_and_bound.specs.Greatest.{IsSettled, bound_of};
 ghost use Rattle.branch_and_bound.specs.State.{Holds, stop_of};
 ghost use Rattle.branch_and_bound.specs.Answer.{IsAnswer};
@@ -11,13 +11,13 @@ use crate::found::{Found, Stop, Verdict};
 use crate::greatest::next_waiting;
 use crate::grow::{Growth, grow};
 use crate::incumbent::Incumbent;
-use crate::meter::Meter;
 use crate::node::{Node, TreeNode};
 use crate::relaxation::Relaxation;
 use crate::settle::{Cause, Settled, settle};
 use crate::shown::shown;
 use narrow_fraction::{Frac, Memory};
-use std::alloc::Global;
+use std::alloc::{AllocError, Global};
+use work_meter::Meter;
 
 /// Why the search stopped, by why a box wasn't finished.
 fn stop_by<W: Drop>(cause: Cause<W>, spent: u64) -> Stop<W>
@@ -122,25 +122,21 @@ fn run<P: Relaxation>(
 }
 
 /// A tree of the root alone, while the search runs.
-fn single<K: Drop>(alloc: Global, node: Node<K>) -> Result<Vec<Node<K>>, Memory>
+fn single<K: Drop>(alloc: Global, node: Node<K>) -> Result<Vec<Node<K>>, AllocError>
     ensures { IfOk result (λ nodes. nodes.items ≡ node ∷ []) }
 {
     let mut nodes = Vec::new(alloc);
-    match nodes.push(node) {
-        Ok(()) => Ok(nodes),
-        Err(_) => Err(Memory),
-    }
+    nodes.push(node)?;
+    Ok(nodes)
 }
 
 /// A tree of the root alone, as it is answered.
-fn alone(alloc: Global, node: TreeNode) -> Result<Vec<TreeNode>, Memory>
+fn alone(alloc: Global, node: TreeNode) -> Result<Vec<TreeNode>, AllocError>
     ensures { IfOk result (λ nodes. nodes.items ≡ node ∷ []) }
 {
     let mut nodes = Vec::new(alloc);
-    match nodes.push(node) {
-        Ok(()) => Ok(nodes),
-        Err(_) => Err(Memory),
-    }
+    nodes.push(node)?;
+    Ok(nodes)
 }
 
 /// Searches for a best timing: the root is opened first, and then, while a waiting node's bound is more than the best

@@ -8,21 +8,21 @@ ghost use Rattle.search_box.specs.declared.span.At.{At};
 ghost use Rattle.named_row.specs.declared.leaves.Leaf.{Leaf};
 ghost use Rattle.named_row.specs.declared.leaves.Point.{Point};
 ghost use Rattle.branch_and_bound.specs.declared.node.Node.TheVariants.{Waiting};
-ghost use Rattle.branch_and_bound.specs.Units.{IsWithin};
+ghost use Rattle.work_meter.specs.Work.{IsWithin};
 ghost use Rattle.branch_and_bound.specs.Greatest.{IsGreatest};
 ghost use Rattle.branch_and_bound.specs.Incumbents.{IsUnder};
 ghost use Rattle.branch_and_bound.specs.State.{Holds, Grows, spliced, split_from};
 
 use crate::greatest::Greatest;
 use crate::incumbent::Incumbent;
-use crate::meter::Meter;
 use crate::node::Node;
 use crate::open::{Parts, Side, open_parts};
 use crate::relaxation::Relaxation;
 use crate::settle::Cause;
 use narrow_fraction::Memory;
-use std::alloc::Global;
+use std::alloc::{AllocError, Global};
 use std::mem;
+use work_meter::Meter;
 
 /// What became of a box that waited.
 #[derive(Drop)]
@@ -49,18 +49,14 @@ fn splice<K: Drop>(
     index: usize,
     low: Node<K>,
     high: Node<K>,
-) -> Result<(), Memory>
+) -> Result<(), AllocError>
     requires { index < length nodes.old.items }
     ensures { OnOk result ((area : Area) (leaf : Leaf) (bound : ℚ) (place : At) (point : Point) (kept : K) → slice_get nodes.old.items index ≡ Some (Waiting area leaf bound place point kept)
         → nodes.new.items ≡ spliced nodes.old.items index place point low high) }
 {
     let split = split_from(mem::replace(&mut nodes[index], low));
-    if nodes.insert(index, split).is_err() {
-        return Err(Memory);
-    }
-    if nodes.insert(index + 2, high).is_err() {
-        return Err(Memory);
-    }
+    nodes.insert(index, split)?;
+    nodes.insert(index + 2, high)?;
     Ok(())
 }
 

@@ -7,8 +7,8 @@
 //! work are those of its boxes and at most the limit, and a stop has one cause at one place.
 //!
 //! - `Lineages`: how the pivots of a box end, and `IsLineage`, the lines of boxes that a search can meet.
-//! - `Rules`: the record, with its five laws. `Units`: how units are counted, and their limit. `Unfinished`: boxes whose
-//!   steps didn't come to a leaf. `Opening`: what opening a box answers, in units of work.
+//! - `Rules`: the record, with its five laws. `Unfinished`: boxes whose steps didn't come to a leaf. `Opening`: what opening
+//!   a box answers, in units of work, which the `Meter` of `work_meter` counts.
 //! - `Answer`: `IsAccepted`, `IsSorted`, `StopCase`, `IsNeeded`, `IsOpenBound`, and the three verdicts.
 //! - `Enough`: how many units are enough. `Readings`: an accepted tree is accepted by what reads its boxes alone.
 //! - `State` and `Greatest` are what the search keeps true; nothing above rests on them. `Capped` is for the tests.
@@ -20,7 +20,6 @@ mod greatest;
 mod grow;
 mod incumbent;
 mod laws;
-mod meter;
 mod node;
 mod open;
 mod opened;
@@ -32,10 +31,10 @@ pub use best_first::search;
 pub use found::{Found, Site, Stop, Verdict};
 pub use incumbent::Incumbent;
 pub use laws::law_enough;
-pub use meter::Meter;
 pub use node::TreeNode;
 pub use opened::Opened;
 pub use relaxation::Relaxation;
+pub use work_meter::Meter;
 
 #[cfg(test)]
 mod tests;

@@ -4,18 +4,18 @@ ghost use Rattle.std.specs.Prelude.{◌≡◌, true, false, IfOk, IsSome};
 ghost use Rattle.search_box.specs.Places.{IsPlace, low_part, high_part};
 ghost use Rattle.search_box.specs.declared.span.At.{At};
 ghost use Rattle.node_tree.specs.Lines.{Line};
-ghost use Rattle.branch_and_bound.specs.Units.{IsWithin};
+ghost use Rattle.work_meter.specs.Work.{IsWithin};
 ghost use Rattle.branch_and_bound.specs.Opening.{IsPart};
 ghost use Rattle.branch_and_bound.specs.State.{IsCut, Ends, SettlesBoth, ended};
 
 use crate::incumbent::Incumbent;
-use crate::meter::{Meter, is_out};
 use crate::node::Node;
 use crate::relaxation::Relaxation;
 use crate::settle::{Cause, Settled, settle};
 use narrow_fraction::Memory;
 use search_box::{At, SearchBox};
 use std::alloc::Global;
+use work_meter::Meter;
 
 /// What became of a part of a box.
 #[derive(Drop)]
@@ -86,7 +86,7 @@ fn open_side<P: Relaxation>(
     ensures ends { IfOk result (λ ended. (parent line : Line) (place : At) → IsPart (P.rules relaxation.now) parent place line kept.now area
         → Ends (P.rules relaxation.now) line incumbent.old incumbent.new meter.old meter.new ended) }
 {
-    if is_out(meter) {
+    if meter.is_out() {
         return Ok(Ended::Part {
             cause: Cause::NoWork,
         });

@@ -4,14 +4,15 @@ ghost use Rattle.std.specs.Prelude.{◌≡◌, IfOk, IsSome};
 ghost use Rattle.search_box.specs.declared.span.At.{At};
 ghost use Rattle.node_tree.specs.Lines.{Line, top_line};
 ghost use Rattle.branch_and_bound.specs.Rules.{Rules};
-ghost use Rattle.branch_and_bound.specs.Opening.{Opens, HasWork, IsPart};
+ghost use Rattle.work_meter.specs.Work.{HasWork};
+ghost use Rattle.branch_and_bound.specs.Opening.{Opens, IsPart};
 
-use crate::meter::Meter;
 use crate::opened::Opened;
 use named_row::Leaf;
 use narrow_fraction::{Frac, Memory};
 use search_box::SearchBox;
 use std::alloc::Global;
+use work_meter::Meter;
 
 /// A linear relaxation of a timing problem, that can be solved over one box at a time under a meter.
 pub trait Relaxation {

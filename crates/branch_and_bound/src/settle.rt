@@ -2,7 +2,7 @@
 
 ghost use Rattle.std.specs.Prelude.{◌≡◌};
 ghost use Rattle.node_tree.specs.Lines.{Line};
-ghost use Rattle.branch_and_bound.specs.declared.meter.Meter.{Meter};
+ghost use Rattle.work_meter.specs.declared.meter.Meter.{Meter};
 ghost use Rattle.branch_and_bound.specs.Opening.{Opens};
 ghost use Rattle.branch_and_bound.specs.State.{Settles};
 

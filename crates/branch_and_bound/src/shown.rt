@@ -7,16 +7,14 @@ ghost use Rattle.branch_and_bound.specs.State.{IsShown};
 use crate::incumbent::{Incumbent, is_reached};
 use crate::node::{Node, TreeNode};
 use narrow_fraction::Memory;
-use std::alloc::Global;
+use std::alloc::{AllocError, Global};
 
 /// One more node.
-fn push(nodes: &mut Vec<TreeNode>, node: TreeNode) -> Result<(), Memory>
+fn push(nodes: &mut Vec<TreeNode>, node: TreeNode) -> Result<(), AllocError>
     ensures { OnOk result (nodes.new.items ≡ nodes.old.items ++ node ∷ []) }
 {
-    match nodes.push(node) {
-        Ok(()) => Ok(()),
-        Err(_) => Err(Memory),
-    }
+    nodes.push(node)?;
+    Ok(())
 }
 
 /// Whether this is the node whose split was undone.

@@ -1,14 +1,13 @@
 //! A relaxation for the tests: the greatest block sum of link 1 that is at most a cap. Each box costs one pivot. A cap
 //! above 1000 is refused.
 
-ghost use Rattle.std.specs.Prelude.{◌≡◌, ◌≤◌, ◌<ℤ◌, ◌-ℤ◌, ◌+◌, ℤ, pos, length, IfOk};
+ghost use Rattle.std.specs.Prelude.{◌≡◌, ◌≤◌, ◌<ℤ◌, ◌-ℤ◌, ℤ, pos, length, IfOk};
 ghost use Rattle.progression.specs.Street.{Street};
 ghost use Rattle.node_tree.specs.Lines.{Line};
-ghost use Rattle.branch_and_bound.specs.Units.{IsWithin, capped};
-ghost use Rattle.branch_and_bound.specs.Opening.{HasWork, Opens};
+ghost use Rattle.work_meter.specs.Work.{HasWork};
+ghost use Rattle.branch_and_bound.specs.Opening.{Opens};
 ghost use Rattle.branch_and_bound.specs.Capped.{capped_rules, EndsAs};
 
-use crate::meter::{Meter, is_out};
 use crate::opened::Opened;
 use crate::relaxation::Relaxation;
 use artery_model::Artery;
@@ -16,6 +15,7 @@ use named_row::{Leaf, Point};
 use narrow_fraction::{Frac, Memory};
 use search_box::{At, SearchBox};
 use std::alloc::Global;
+use work_meter::Meter;
 
 /// The numbers of the root's span of link 1 that are at most `cap`.
 #[derive(Drop)]
@@ -70,16 +70,6 @@ fn end_of(alloc: Global, cap: i64, area: &SearchBox) -> Opened<i64, u8, u8>
     }
 }
 
-/// Spends one unit.
-fn spend(meter: &mut Meter)
-    requires { HasWork meter.old }
-    ensures spent { meter.new.spent ≡ capped (meter.old.spent + 1) }
-    ensures limit { meter.new.limit ≡ meter.old.limit }
-    ensures within { IsWithin meter.new.spent meter.new.limit }
-{
-    meter.spent = meter.spent.saturating_add(1);
-}
-
 impl Capped {
     /// Opens a box: one unit, and one for its only pivot.
     fn open(&self, alloc: Global, area: &SearchBox, meter: &mut Meter) -> Opened<i64, u8, u8>
@@ -88,14 +78,14 @@ impl Capped {
         ensures limit { meter.new.limit ≡ meter.old.limit }
         ensures opens { (line : Line) → line.area ≡ area.now → Opens (capped_rules self.now.artery self.now.cap) line meter.old meter.new result }
     {
-        spend(meter);
-        if is_out(meter) {
+        meter.spend();
+        if meter.is_out() {
             return Opened::WorkOut;
         }
         if self.cap > 1000 {
             return Opened::Wide { pivots: 0, part: 0 };
         }
-        spend(meter);
+        meter.spend();
         end_of(alloc, self.cap, area)
     }
 }

@@ -1,3 +1,5 @@
+//! Leaves and the vertex of a tableau.
+
 ghost use Rattle.std.specs.Prelude.{◌≡◌, ℕ, ◌<◌, ◌≤◌, ◌++◌, pos, false, length, get_or, IfOk};
 ghost use Rattle.ratio.specs.Rational.{whole, ◌≤ℚ◌, ◌<ℚ◌};
 ghost use Rattle.simplex_model.specs.Tableau.{height, width, bound, cell};
@@ -16,7 +18,7 @@ use std::alloc::{AllocError, Global};
 fn push_multiplier(list: &mut Vec<Weight>, name: RowId, by: Frac) -> Result<(), AllocError>
     ensures { IfOk result (λ _. list.new.items ≡ list.old.items ++ multiplier name by) }
 {
-    if by == Frac::whole(0) {
+    if by.is_zero() {
         return Ok(());
     }
     list.push(Weight { row: name, by })?;
@@ -79,10 +81,8 @@ pub fn leaf_of(alloc: Global, tableau: &Tableau) -> Result<Leaf, Memory>
     ensures list { IfOk result (λ leaf. leaf.multipliers.items ≡ goal_multipliers tableau.now) }
     ensures covers { IfOk result (λ leaf. LeafCovers tableau.now leaf.multipliers.items) }
 {
-    match goal_weights(alloc, tableau) {
-        Ok(multipliers) => Ok(Leaf { multipliers }),
-        Err(_) => Err(Memory),
-    }
+    let multipliers = goal_weights(alloc, tableau)?;
+    Ok(Leaf { multipliers })
 }
 
 /// The multipliers of a row with a negative bound and no negative cell, in the order of the rows, those that aren't 0: the
@@ -97,10 +97,8 @@ pub fn refuter_of(alloc: Global, tableau: &Tableau, row: u32) -> Result<Leaf, Me
     ensures list { IfOk result (λ leaf. leaf.multipliers.items ≡ row_multipliers tableau.now row) }
     ensures refutes { IfOk result (λ leaf. LeafRefutes tableau.now leaf.multipliers.items) }
 {
-    match row_weights(alloc, tableau, row) {
-        Ok(multipliers) => Ok(Leaf { multipliers }),
-        Err(_) => Err(Memory),
-    }
+    let multipliers = row_weights(alloc, tableau, row)?;
+    Ok(Leaf { multipliers })
 }
 
 /// The vertex: each basic column has its row's bound, and every other column 0.
@@ -112,8 +110,6 @@ pub fn point_of(alloc: Global, tableau: &Tableau) -> Result<Point, Memory>
     ensures values { IfOk result (λ point. point.values.items ≡ vertex_point tableau.now.table) }
     ensures optimum { IfOk result (λ point. ReachesOptimum tableau.now.table point.values.items) }
 {
-    match vertex_values(alloc, tableau) {
-        Ok(values) => Ok(Point { values }),
-        Err(_) => Err(Memory),
-    }
+    let values = vertex_values(alloc, tableau)?;
+    Ok(Point { values })
 }

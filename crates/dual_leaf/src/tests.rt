@@ -1,3 +1,5 @@
+//! Leaves and vertices of tableaus that were worked by hand.
+
 ghost use Rattle.std.specs.Prelude.{◌≡◌, ℕ, ◌<◌, ◌≤◌, pos, length, IfSome, true, false};
 ghost use Rattle.ratio.specs.Rational.{whole, ◌≤ℚ◌, ◌<ℚ◌};
 ghost use Rattle.simplex_model.specs.Tableau.{cell, bound, height, width};

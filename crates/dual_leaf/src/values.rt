@@ -1,3 +1,5 @@
+//! Numbers by variables, read off a tableau.
+
 ghost use Rattle.std.specs.Prelude.{◌≡◌, ℕ, ◌<◌, ◌≤◌, ◌+◌, pos, eqb, cond, length, get_or, replicate, IfOk};
 ghost use Rattle.ratio.specs.Rational.{whole};
 ghost use Rattle.simplex_model.specs.Tableau.{height, width};

@@ -1,6 +1,5 @@
 -- The state of the loop over the steps of a node.
-use Rattle.std.proofs.Common.{◌≡◌, ℕ, Bool, true, false, true≢false, Option, Some, None, cond, eqb, IfSome, min, add-one, ◌&&◌, ◌+◌, ◌-◌, ◌<◌, ◌≤◌, ◌^◌, ◌⊎◌, inl, inr, refl, sym, ◌∙◌, ap, ap₂, subst, arith}
-use Rattle.std.proofs.lemmas.Bool.{eq-eqb}
+use Rattle.std.proofs.Common.{◌≡◌, ℕ, Bool, true, false, true≢false, Some, None, cond, min, add-one, ◌&&◌, ◌+◌, ◌-◌, ◌<◌, ◌^◌, ◌⊎◌, inl, inr, refl, sym, ◌∙◌, ap, ap₂, subst, arith}
 use Rattle.simplex_model.specs.Tableau.{Tableau, exchange}
 use Rattle.simplex_model.specs.DualSteps.{IsDual}
 use Rattle.simplex_model.specs.BlandRule.{move, made, next, pivoted, dual_next}
@@ -8,12 +7,13 @@ use Rattle.simplex_model.specs.StepCounts.{after, is_pivot, steps_to_end, steps_
 use Rattle.fraction_tableau.specs.NamedTableaus.{NamedTableau}
 use Rattle.dual_simplex.specs.declared.outcome.Step.{Step}
 use Rattle.dual_simplex.specs.declared.outcome.Step.TheVariants as steps
-use Rattle.dual_simplex.specs.declared.outcome.Meter.{Meter}
+use Rattle.work_meter.specs.declared.meter.Meter.{Meter}
 use Rattle.dual_simplex.specs.declared.outcome.NodeEnd.{NodeEnd}
 use Rattle.fraction_tableau.specs.declared.wide_cell.WideCell.{WideCell}
 use Rattle.dual_simplex.specs.declared.outcome.NodeEnd.TheVariants.{WorkOut, Wide}
 use Rattle.dual_simplex.specs.Steps.{step_of, IsAfterStep, Agrees, agrees}
-use Rattle.dual_simplex.specs.Ends.{capped, metered, is_at_limit, is_out, end_by_step, end_at, stepped, IsAfterEnd, Solved}
+use Rattle.work_meter.specs.Work.{capped, metered, is_out, IsWithin, below_limit, within_next, metered_none, metered_next}
+use Rattle.dual_simplex.specs.Ends.{end_by_step, end_at, stepped, IsAfterEnd, Solved}
 
 -- so many pivots were made
 pub record Running (s : NamedTableau) (p : ℕ) (m : Meter) (u : NamedTableau) (q : ℕ) (n : Meter) : Type 0 where
@@ -23,14 +23,11 @@ pub record Running (s : NamedTableau) (p : ℕ) (m : Meter) (u : NamedTableau) (
   pub dual : IsDual u.table
   pub meter : n ≡ metered m made
   pub pivots : q ≡ capped (p + made)
-  pub within : IfSome n.limit (λ most. n.spent ≤ most)
+  pub within : IsWithin n.spent n.limit
 
-fresh_meter : (m : Meter) → m.spent < 2 ^ 64 → m ≡ metered m 0
-fresh_meter m h = let e : m.spent ≡ min (m.spent + 0) (2 ^ 64 - 1) = omega arith in λ i. record { spent = e i; limit = m.limit }
-
-pub running_none : (s : NamedTableau) (p : ℕ) (m : Meter) → IsDual s.table → p < 2 ^ 64 → m.spent < 2 ^ 64 → IfSome m.limit (λ most. m.spent ≤ most) → Running s p m s p m
+pub running_none : (s : NamedTableau) (p : ℕ) (m : Meter) → IsDual s.table → p < 2 ^ 64 → m.spent < 2 ^ 64 → IsWithin m.spent m.limit → Running s p m s p m
 unfolding after
-running_none s p m d h k w = record { made = 0; goes_on = λ i l. absurd (omega arith); table = refl; dual = d; meter = fresh_meter m k; pivots = omega arith; within = w }
+running_none s p m d h k w = record { made = 0; goes_on = λ i l. absurd (omega arith); table = refl; dual = d; meter = metered_none m k; pivots = omega arith; within = w }
 
 pivoted_next : (t : Tableau) (r j : ℕ) → move t ≡ pivoted r j → next t ≡ exchange r j t
 pivoted_next t r j e = next_is t ∙ ap (λ m. made m t) e
@@ -40,30 +37,13 @@ on_step : (t : Tableau) (m : Meter) (r j : ℕ) → (is_out m && is_pivot (move 
 unfolding end_at
 on_step t m r j b e = ap₂ (λ c s. cond c (Some WorkOut) (end_by_step s)) b e
 
-below_limit : (n most : ℕ) → eqb n most ≡ false → n ≤ most → n < most
-below_limit n most e h = grind (arith, different n most e)
-  where
-    different : (n most : ℕ) → eqb n most ≡ false → n ≡ most → ⊥
-    different n most e q = true≢false (sym (eq-eqb n most q) ∙ e)
-
-more_within : (n k : ℕ) (limit : Option ℕ) → is_at_limit n limit ≡ false → IfSome limit (λ most. n ≤ most) → k ≡ min (n + 1) (2 ^ 64 - 1) → IfSome limit (λ most. k ≤ most)
-more_within n k None b h e = tt
-more_within n k (Some most) b h e = let l = below_limit n most b h in omega arith
-
 not_out : (a b : Bool) → (a && b) ≡ false → b ≡ true → a ≡ false
 not_out true true e h = absurd (true≢false e)
 not_out true false e h = absurd (true≢false (sym h))
 not_out false b e h = refl
 
-one_more : (m n k : Meter) (i : ℕ) → n ≡ metered m i → k.spent ≡ min (n.spent + 1) (2 ^ 64 - 1) → k.limit ≡ n.limit → k ≡ metered m (i + 1)
-one_more m n k i e f g =
-    let a : n.spent ≡ min (m.spent + i) (2 ^ 64 - 1) = ap (λ (x : Meter). x.spent) e in
-    let b : k.spent ≡ min (m.spent + (i + 1)) (2 ^ 64 - 1) = omega arith in
-    let c : k.limit ≡ m.limit = g ∙ ap (λ (x : Meter). x.limit) e in
-    λ j. record { spent = b j; limit = c j }
-
 pub running_next : (s : NamedTableau) (p : ℕ) (m : Meter) (u v : NamedTableau) (q r : ℕ) (n k : Meter) (i j : ℕ) → Running s p m u q n → (is_out n && is_pivot (move u.table)) ≡ false → step_of u.table ≡ steps.Pivoted i j
-    → v ≡ record { table = exchange i j u.table; names = u.names; spent = u.spent } → r ≡ min (q + 1) (2 ^ 64 - 1) → k.spent ≡ min (n.spent + 1) (2 ^ 64 - 1) → k.limit ≡ n.limit → Running s p m v r k
+    → v ≡ record { table = exchange i j u.table; names = u.names; spent = u.spent } → r ≡ min (q + 1) (2 ^ 64 - 1) → k.spent ≡ capped (n.spent + 1) → k.limit ≡ n.limit → Running s p m v r k
 unfolding after
 running_next s p m u v q r n k i j a b e f g h l =
     let moves : move u.table ≡ pivoted i j = subst (λ (x : Step). Agrees x (move u.table)) e (agrees u.table) in
@@ -79,9 +59,9 @@ running_next s p m u v q r n k i j a b e f g h l =
       goes_on = λ x y. step x (last x y) here;
       table = λ x. record { table = new x; names = names x; spent = spent x };
       dual = subst IsDual (sym t) (dual_next u.table a.dual);
-      meter = one_more m n k a.made a.meter h l;
+      meter = metered_next m n k a.made a.meter h l;
       pivots = omega arith;
-      within = subst (λ o. IfSome o (λ most. k.spent ≤ most)) (sym l) (more_within n.spent k.spent n.limit (not_out (is_out n) (is_pivot (move u.table)) b (ap is_pivot moves)) a.within h);
+      within = subst (λ o. IsWithin k.spent o) (sym l) (within_next n.spent k.spent n.limit (below_limit n.spent n.limit (not_out (is_out n) (is_pivot (move u.table)) b (ap is_pivot moves)) a.within) h);
     }
   where
     last : (x : ℕ) → x < a.made + 1 → (x ≡ a.made) ⊎ (x < a.made)

@@ -1,5 +1,5 @@
 -- How the steps of a node end, and after how many.
-use Rattle.std.proofs.Common.{◌≡◌, ℕ, Bool, true, false, Option, Some, None, cond, eqb, min, ◌&&◌, ◌+◌, ◌-◌, ◌<◌, ◌^◌, refl, sym, subst}
+use Rattle.std.proofs.Common.{◌≡◌, ℕ, Bool, true, false, Option, Some, None, cond, ◌&&◌, ◌+◌, ◌<◌, refl, sym, subst}
 use Rattle.std.proofs.lemmas.Bool.{and_parts}
 use Rattle.simplex_model.specs.Tableau.{Tableau}
 use Rattle.simplex_model.specs.BlandRule.{optimal, infeasible, pivoted, move}
@@ -7,27 +7,11 @@ use Rattle.simplex_model.specs.StepCounts.{after, is_pivot}
 use Rattle.fraction_tableau.specs.NamedTableaus.{NamedTableau, IsSpentFrom}
 use Rattle.dual_simplex.specs.declared.outcome.Step.{Step}
 use Rattle.dual_simplex.specs.declared.outcome.Step.TheVariants as steps
-use Rattle.dual_simplex.specs.declared.outcome.Meter.{Meter}
+use Rattle.work_meter.specs.declared.meter.Meter.{Meter}
+use Rattle.work_meter.specs.Work.{capped, metered, is_out}
 use Rattle.dual_simplex.specs.declared.outcome.NodeEnd.{NodeEnd}
 use Rattle.dual_simplex.specs.declared.outcome.NodeEnd.TheVariants.{Optimal, Infeasible, WorkOut, Wide}
 use Rattle.dual_simplex.specs.Steps.{step_of, Agrees, agrees}
-
--- ---- work
--- a count stays at its greatest value
-abbrev pub capped : ℕ → ℕ
-capped n = min n (2 ^ 64 - 1)
-
--- the meter after k pivots
-abbrev pub metered : Meter → ℕ → Meter
-metered m k = record { spent = capped (m.spent + k); limit = m.limit }
-
-abbrev pub is_at_limit : ℕ → Option ℕ → Bool
-is_at_limit n None = false
-is_at_limit n (Some most) = eqb n most
-
--- all work that may be done is done
-abbrev pub is_out : Meter → Bool
-is_out m = is_at_limit m.spent m.limit
 
 -- ---- ends
 -- the end that a step comes to, where it makes no pivot

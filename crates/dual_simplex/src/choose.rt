@@ -1,3 +1,5 @@
+//! Which row and which place a step takes, by Bland's rule.
+
 ghost use Rattle.std.specs.Prelude.{◌≡◌, ◌<◌, ◌≤◌, IfSome, Some, None, pos, ltb, is_some};
 ghost use Rattle.ratio.specs.Rational.{whole, neg_ℚ, ◌/ℚ◌};
 ghost use Rattle.ratio.specs.Compare.{cmp_ℚ};
@@ -18,7 +20,7 @@ use std::cmp::Ordering;
 fn is_negative(number: Frac) -> bool
     ensures { result ≡ is_negative number }
 {
-    number < Frac::whole(0)
+    number.is_negative()
 }
 
 /// The cell of a row, or its bound.

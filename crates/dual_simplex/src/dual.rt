@@ -1,3 +1,5 @@
+//! One step.
+
 ghost use Rattle.std.specs.Prelude.{◌≡◌, true, false};
 ghost use Rattle.simplex_model.specs.DualSteps.{IsDual};
 ghost use Rattle.dual_simplex.specs.Steps.{step_of, IsAfterStep};

@@ -14,5 +14,6 @@ mod solve;
 mod tests;
 
 pub use dual::step;
-pub use outcome::{Meter, NodeEnd, Step};
+pub use outcome::{NodeEnd, Step};
 pub use solve::solve_node;
+pub use work_meter::Meter;

@@ -1,11 +1,6 @@
-use fraction_tableau::WideCell;
+//! What a step comes to, and what the steps of a node do.
 
-/// The work done so far, in pivots, and how much may be done at most.
-#[derive(Debug, Clone, Copy, PartialEq, Eq)]
-pub struct Meter {
-    pub spent: u64,
-    pub limit: Option<u64>,
-}
+use fraction_tableau::WideCell;
 
 /// What one step of the dual method came to. `ratio` says whether it was a ratio that left 128 bits, or an operation of the
 /// pivot.

@@ -1,23 +1,17 @@
-ghost use Rattle.std.specs.Prelude.{◌≡◌, ℕ, ◌≤◌, ◌&&◌, IfSome, None, false};
+//! The steps of a node.
+
+ghost use Rattle.std.specs.Prelude.{◌≡◌, ℕ, ◌&&◌, None, false};
 ghost use Rattle.simplex_model.specs.DualSteps.{IsDual};
 ghost use Rattle.simplex_model.specs.BlandRule.{move};
 ghost use Rattle.simplex_model.specs.StepCounts.{is_pivot};
-ghost use Rattle.dual_simplex.specs.Ends.{Solved, is_out};
+ghost use Rattle.work_meter.specs.Work.{is_out, IsWithin};
+ghost use Rattle.dual_simplex.specs.Ends.{Solved};
 
 use crate::choose::{chosen_row, has_negative};
 use crate::dual::step;
-use crate::outcome::{Meter, NodeEnd, Step};
+use crate::outcome::{NodeEnd, Step};
 use fraction_tableau::Tableau;
-
-/// Whether all work that may be done is done.
-fn is_out(meter: &Meter) -> bool
-    ensures { result ≡ is_out meter.now }
-{
-    match meter.limit {
-        None => false,
-        Some(most) => meter.spent == most,
-    }
-}
+use work_meter::Meter;
 
 /// Whether a pivot is due.
 fn is_due(tableau: &Tableau) -> bool
@@ -33,7 +27,7 @@ fn is_due(tableau: &Tableau) -> bool
 fn is_stopped(tableau: &Tableau, meter: &Meter) -> bool
     ensures { result ≡ is_out meter.now && is_pivot (move tableau.now.table) }
 {
-    is_out(meter) && is_due(tableau)
+    meter.is_out() && is_due(tableau)
 }
 
 /// Steps until an end. Each pivot that was made adds one to `pivots` and one to `spent`, and both stay at `2^64 - 1` once
@@ -45,10 +39,10 @@ pub fn solve_node(tableau: &mut Tableau, meter: &mut Meter, pivots: &mut u64) ->
     requires dual { IsDual tableau.old.table }
     requires unspent { tableau.old.spent ≡ false }
     requires limited { meter.old.limit ≡ None → ⊥ }
-    requires within { IfSome meter.old.limit (λ most. meter.old.spent ≤ most) }
+    requires within { IsWithin meter.old.spent meter.old.limit }
     ensures solved { (k : ℕ) × Solved result tableau.old tableau.new meter.old meter.new pivots.old pivots.new k }
     ensures dual { tableau.new.spent ≡ false → IsDual tableau.new.table }
-    ensures within { IfSome meter.new.limit (λ most. meter.new.spent ≤ most) }
+    ensures within { IsWithin meter.new.spent meter.new.limit }
 {
     // what is read here is known to be in range
     let _pivots = *pivots;
@@ -63,7 +57,7 @@ pub fn solve_node(tableau: &mut Tableau, meter: &mut Meter, pivots: &mut u64) ->
             Step::Wide { ratio, cell } => return NodeEnd::Wide { ratio, cell },
             Step::Pivoted { .. } => {
                 *pivots = pivots.saturating_add(1);
-                meter.spent = meter.spent.saturating_add(1);
+                meter.spend();
             }
         }
     }

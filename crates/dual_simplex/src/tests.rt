@@ -1,3 +1,5 @@
+//! Steps on tableaus of two columns that were worked by hand.
+
 ghost use Rattle.std.specs.Prelude.{◌≡◌, ℕ, ◌<◌, pos, length, IfSome, true, false};
 ghost use Rattle.ratio.specs.Rational.{whole, ◌≤ℚ◌};
 ghost use Rattle.simplex_model.specs.Tableau.{goal_cell, width};

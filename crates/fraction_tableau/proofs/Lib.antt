@@ -6,3 +6,4 @@ pub mod Others
 pub mod Pivots
 pub mod Filling
 pub mod Tableaus
+pub mod Named

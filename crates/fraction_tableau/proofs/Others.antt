@@ -5,10 +5,9 @@ use Rattle.std.proofs.lemmas.List.{get_or-set_same, get_or-set_other}
 use Rattle.std.proofs.lemmas.Bool.{cases_eq, cond-true, cond-false, eq-eqb, ne_eqb}
 use Rattle.ratio.specs.Rational.{ℚ}
 use Rattle.simplex_model.specs.Lines.{cleared}
-use Rattle.narrow_fraction.specs.Attempt.{first_below}
+use Rattle.narrow_fraction.specs.Attempt.{first_below, first_next, first_is}
 use Rattle.fraction_tableau.specs.Narrow.{AreNarrow}
 use Rattle.fraction_tableau.specs.Refusals.{clear_refusal, line_refusal}
-use Rattle.fraction_tableau.proofs.Turns.{first_next, first_is}
 use Rattle.fraction_tableau.specs.declared.wide_cell.WideCell.{WideCell}
 
 pub record Others (r j : ℕ) (e : List ℚ) (p : ℚ) (rows now : List (List ℚ)) (n : ℕ) : Type 0 where

@@ -1,22 +1,14 @@
 -- The loops over a row: the places below k are done, with a new cell at each but the pivot's.
-use Rattle.std.proofs.Common.{◌≡◌, ℕ, suc, pos, Option, Some, None, List, length, get_or, true, cond, eqb, ◌+◌, ◌<◌, ◌≤◌, ◌⊎◌, inl, inr, add-one, refl, sym, ◌∙◌, ap, ap₂, arith}
+use Rattle.std.proofs.Common.{◌≡◌, ℕ, pos, Some, None, List, length, get_or, true, cond, eqb, ◌+◌, ◌<◌, ◌≤◌, ◌⊎◌, inl, inr, refl, sym, ◌∙◌, ap, ap₂, arith}
 use Rattle.std.proofs.Math.ListN.{set, length-set}
 use Rattle.std.proofs.lemmas.List.{get_or-set_same, get_or-set_other}
 use Rattle.std.proofs.lemmas.Bool.{cases_eq, eq-eqb, ne_eqb, cond-false}
 use Rattle.ratio.specs.Rational.{ℚ, whole, neg_ℚ, inverse_ℚ, ◌+ℚ◌, ◌*ℚ◌}
-use Rattle.narrow_fraction.specs.Attempt.{earlier, first_below, first_stays}
+use Rattle.narrow_fraction.specs.Attempt.{earlier, first_below, first_next, first_is}
 use Rattle.narrow_fraction.specs.declared.wide.Op.TheVariants.{Div}
 use Rattle.fraction_tableau.specs.Narrow.{IsNarrow}
 use Rattle.fraction_tableau.specs.Refusals.{refused, turn_refusal, turn_cell_refusal, turn_at, clear_refusal, clear_cell_refusal, clear_at}
 use Rattle.fraction_tableau.specs.declared.wide_cell.WideCell.{WideCell}
-
--- one more was passed
-pub first_next : {E : Type 0} (f : ℕ → Option E) (k : ℕ) → first_below f k ≡ None → f k ≡ None → first_below f (k + 1) ≡ None
-first_next f k p q = ap (first_below f) (add-one k) ∙ ap₂ earlier p q
-
--- the first refusal is at k
-pub first_is : {E : Type 0} (f : ℕ → Option E) (k n : ℕ) (e : E) → first_below f k ≡ None → f k ≡ Some e → k < n → first_below f n ≡ Some e
-first_is f k n e p q h = first_stays f e (suc k) n (omega arith) (ap₂ earlier p q)
 
 -- the loop over a row c, now d, with `put` as the new cell of each place, but at place j
 pub record Written (put : ℕ → ℚ) (j : ℕ) (c d : List ℚ) (k : ℕ) : Type 0 where

@@ -2,3 +2,4 @@ pub mod Narrow
 pub mod Refusals
 pub mod NamedTableaus
 pub mod Loading
+pub mod Operations

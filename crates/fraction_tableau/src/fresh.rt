@@ -1,3 +1,5 @@
+//! The lists of a new tableau.
+
 ghost use Rattle.std.specs.Prelude.{◌≡◌, ◌+◌, ◌<◌, ◌^◌, pos, replicate, map, IfOk};
 ghost use Rattle.std.specs.List.{range_with_len};
 ghost use Rattle.ratio.specs.Rational.{whole};

@@ -4,10 +4,11 @@
 //! A `Tableau` is seen as a `NamedTableau` (`specs/NamedTableaus.antt`): the `Tableau` of `simplex_model`, a list of names
 //! and whether it is spent. Begin with `Tableau::new`, then load each row by `Tableau::load` and a goal by
 //! `Tableau::load_goal`; `Tableau::pivot` exchanges two variables exactly, or names the first operation that leaves 128 bits
-//! (`specs/Refusals.antt` tells the operations in their order). What an exchange keeps is in `simplex_model`'s laws.
+//! (`specs/Operations.antt` lists the operations in their order). What an exchange keeps is in `simplex_model`'s laws.
 #![tactic(auto)]
 
 mod fresh;
+mod laws;
 mod lines;
 mod loading;
 mod rows;
@@ -16,5 +17,6 @@ mod tableau;
 mod tests;
 mod wide_cell;
 
+pub use laws::law_first_refused;
 pub use tableau::Tableau;
 pub use wide_cell::WideCell;

@@ -1,3 +1,5 @@
+//! The cells of a whole exchange.
+
 ghost use Rattle.std.specs.Prelude.{◌≡◌, ℕ, ◌<◌, ◌^◌, pos, length, get_or, set, map, eqb, cond, IfOk, []};
 ghost use Rattle.ratio.specs.Rational.{whole, inverse_ℚ};
 ghost use Rattle.simplex_model.specs.Lines.{turned, cleared};

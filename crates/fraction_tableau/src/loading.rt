@@ -1,3 +1,5 @@
+//! The cells of a row or a goal that is loaded.
+
 ghost use Rattle.std.specs.Prelude.{◌≡◌, ◌+◌, ◌<◌, ◌≤◌, ◌^◌, length};
 ghost use Rattle.std.specs.List.{range_with_len};
 ghost use Rattle.fraction_tableau.specs.Narrow.{IsNarrow};

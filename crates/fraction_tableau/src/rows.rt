@@ -1,4 +1,6 @@
-ghost use Rattle.std.specs.Prelude.{◌≡◌, ◌↔◌, IsTrue, ◌<◌, ◌^◌, pos, length, get_or, set, eqb, cond, IfOk};
+//! The cells of one row in an exchange: the pivot's own row turned, another row cleared.
+
+ghost use Rattle.std.specs.Prelude.{◌≡◌, ◌<◌, ◌^◌, pos, length, get_or, set, eqb, cond, IfOk};
 ghost use Rattle.ratio.specs.Rational.{whole, inverse_ℚ, neg_ℚ, ◌+ℚ◌, ◌*ℚ◌};
 ghost use Rattle.simplex_model.specs.Lines.{turned, cleared};
 ghost use Rattle.narrow_fraction.specs.Attempt.{attempt};
@@ -7,13 +9,6 @@ ghost use Rattle.fraction_tableau.specs.Refusals.{turn_cell_refusal, turn_refusa
 
 use crate::wide_cell::{Spot, WideCell};
 use narrow_fraction::Frac;
-
-/// Whether a number is 0.
-fn is_zero(number: Frac) -> bool
-    ensures { IsTrue result ↔ (number ≡ whole (pos 0)) }
-{
-    number.num().unsigned_abs() == 0
-}
 
 /// One cell of the pivot's row: over the pivot, but at `place`.
 fn turn_cell(
@@ -91,7 +86,7 @@ fn clear_cell(
     ensures written { IfOk result (λ _. row.new ≡ cond (eqb col place) row.old (set row.old col (get_or row.old col (whole (pos 0)) +ℚ neg_ℚ (factor *ℚ turned)))) }
     ensures narrow { IsNarrow row.new }
 {
-    if is_zero(turned) {
+    if turned.is_zero() {
         return Ok(());
     }
     if col == place {
@@ -134,7 +129,7 @@ pub fn clear(
     ensures narrow { IsNarrow row.new }
 {
     let factor = row[place];
-    if is_zero(factor) {
+    if factor.is_zero() {
         return Ok(());
     }
     for col in 0..row.len() {

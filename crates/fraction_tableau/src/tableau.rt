@@ -1,3 +1,5 @@
+//! The tableau.
+
 ghost use Rattle.std.specs.Prelude.{◌≡◌, ◌<◌, ◌≤◌, ◌+◌, ◌^◌, pos, length, IfOk, IfErr, false};
 ghost use Rattle.ratio.specs.Rational.{whole};
 ghost use Rattle.simplex_model.specs.Tableau.{cell, basic_at, standing_at, height, width, exchange};
@@ -11,7 +13,7 @@ use crate::loading::{copy_goal, copy_row, count_up};
 use crate::wide_cell::WideCell;
 use named_row::{Row, RowId};
 use narrow_fraction::{Frac, Memory};
-use std::alloc::{AllocError, Global};
+use std::alloc::Global;
 use std::marker::Model;
 use std::mem;
 
@@ -40,31 +42,6 @@ impl Model for Tableau {
     ghost invariant = { λ a. IsSound (record { table = record { rows = map (λ v. v.items) a.lines.items; goal = a.goal.items; basic = a.basic.items; standing = a.standing.items }; names = a.names.items; spent = a.spent }) (length a.spare.items) (length a.held.items) };
 }
 
-/// The parts of a new tableau.
-fn blank(alloc: Global, rows: u32, width: u32) -> Result<Tableau, AllocError>
-    requires { rows + width < 2 ^ 32 }
-    ensures { IfOk result (λ tableau. tableau ≡ blank_tableau rows width) }
-{
-    let size = width as usize + 1;
-    let lines = zero_lines(alloc, rows, size)?;
-    let goal = zeros(alloc, size)?;
-    let spare = zeros(alloc, size)?;
-    let held = zeros(alloc, size)?;
-    let basic = numbers(alloc, width, rows)?;
-    let standing = numbers(alloc, 0, width)?;
-    let names = blank_names(alloc, rows as usize)?;
-    Ok(Tableau {
-        lines,
-        goal,
-        spare,
-        held,
-        basic,
-        standing,
-        names,
-        spent: false,
-    })
-}
-
 impl Tableau {
     /// So many rows and columns, all numbers 0. Each slack is basic in its row, each column stands at its place, each name is
     /// family 0 with index 0, and the tableau isn't spent.
@@ -72,10 +49,24 @@ impl Tableau {
         requires { rows + width < 2 ^ 32 }
         ensures { IfOk result (λ tableau. tableau ≡ blank_tableau rows width) }
     {
-        match blank(alloc, rows, width) {
-            Ok(tableau) => Ok(tableau),
-            Err(_) => Err(Memory),
-        }
+        let size = width as usize + 1;
+        let lines = zero_lines(alloc, rows, size)?;
+        let goal = zeros(alloc, size)?;
+        let spare = zeros(alloc, size)?;
+        let held = zeros(alloc, size)?;
+        let basic = numbers(alloc, width, rows)?;
+        let standing = numbers(alloc, 0, width)?;
+        let names = blank_names(alloc, rows as usize)?;
+        Ok(Tableau {
+            lines,
+            goal,
+            spare,
+            held,
+            basic,
+            standing,
+            names,
+            spent: false,
+        })
     }
 
     /// The number of rows.

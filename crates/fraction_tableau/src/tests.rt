@@ -1,3 +1,5 @@
+//! Tableaus of two columns that were worked by hand.
+
 ghost use Rattle.std.specs.Prelude.{◌≡◌, length, IfSome, false};
 
 use crate::{Tableau, WideCell};

@@ -1,3 +1,5 @@
+//! Operations of an exchange, with the place that each is for.
+
 ghost use Rattle.std.specs.Prelude.{◌≡◌, pos, IfOk};
 ghost use Rattle.ratio.specs.Rational.{whole, ◌-ℚ◌, ◌*ℚ◌, ◌/ℚ◌};
 ghost use Rattle.narrow_fraction.specs.Fraction.{FitsFrac};

@@ -39,10 +39,7 @@ fn own_part(common: u128, bottom: u128) -> u128
     ensures value { result ≡ common / gcd common bottom }
     ensures small { result < 2 ^ 80 }
 {
-    match Frac::new(common as i128, bottom as i128) {
-        Ok(quotient) => quotient.num().unsigned_abs(),
-        Err(_) => unreachable!(),
-    }
+    Frac::reduced(common as i128, bottom).num().unsigned_abs()
 }
 
 /// The least common multiple, where it is below the limit.

@@ -8,3 +8,5 @@ pub mod LineCells
 pub mod RowKinds
 pub mod UnitPivots
 pub mod OpeningLaws
+pub mod RowCounts
+pub mod Narrowing

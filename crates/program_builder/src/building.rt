@@ -1,3 +1,5 @@
+//! The opening tableau of a box.
+
 ghost use Rattle.std.specs.Prelude.{◌≡◌, length, IfOk, None, false};
 ghost use Rattle.progression.specs.Street.{count};
 ghost use Rattle.linear_model.specs.Places as places;

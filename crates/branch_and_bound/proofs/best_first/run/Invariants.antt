@@ -1,6 +1,6 @@
 use Rattle.std.proofs.Common.{◌≡◌, IsSome}
 use Rattle.ratio.specs.Rational.{ℚ}
-use Rattle.branch_and_bound.specs.Units.{IsWithin}
+use Rattle.work_meter.specs.Work.{IsWithin}
 use Rattle.branch_and_bound.specs.State.{Holds, weights}
 use Rattle.branch_and_bound.proofs.best_first.run.Given as goal
 

@@ -2,7 +2,7 @@ use Rattle.std.proofs.Common.{refl, sym, subst}
 use Rattle.node_tree.specs.Lines.{top_line}
 use Rattle.branch_and_bound.specs.Opening.{Opens}
 use Rattle.branch_and_bound.specs.State.{Holds}
-use Rattle.branch_and_bound.specs.declared.meter.Meter.{Meter}
+use Rattle.work_meter.specs.declared.meter.Meter.{Meter}
 use Rattle.branch_and_bound.proofs.Rooting.{root_holds, root_stuck, root_left}
 use Rattle.branch_and_bound.proofs.best_first.search.Goals as goal
 

@@ -3,5 +3,5 @@ use Rattle.dual_leaf.specs.Leaves.{LeafCovers}
 use Rattle.dual_leaf.specs.LeafLaws.{goal_leaf_covers}
 use Rattle.dual_leaf.proofs.leaves.leaf_of.Goals as goal
 
-pub returns-in-Ok-clause-covers : goal.returns-in-Ok-clause-covers
-returns-in-Ok-clause-covers c = subst (LeafCovers c.args.tableau.now) (sym c.in-Ok.ensures) (goal_leaf_covers c.args.tableau.now)
+pub returns-clause-covers : goal.returns-clause-covers
+returns-clause-covers c = subst (LeafCovers c.args.tableau.now) (sym c.in_ok-multipliers.ensures) (goal_leaf_covers c.args.tableau.now)

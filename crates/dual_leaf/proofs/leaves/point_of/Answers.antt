@@ -3,5 +3,5 @@ use Rattle.dual_leaf.specs.Leaves.{ReachesOptimum}
 use Rattle.dual_leaf.specs.LeafLaws.{reaches_optimum}
 use Rattle.dual_leaf.proofs.leaves.point_of.Goals as goal
 
-pub returns-in-Ok-clause-optimum : goal.returns-in-Ok-clause-optimum
-returns-in-Ok-clause-optimum c = subst (ReachesOptimum c.args.tableau.now.table) (sym c.in-Ok.ensures) (reaches_optimum c.args.tableau.now.table)
+pub returns-clause-optimum : goal.returns-clause-optimum
+returns-clause-optimum c = subst (ReachesOptimum c.args.tableau.now.table) (sym c.in_ok-values.ensures) (reaches_optimum c.args.tableau.now.table)

@@ -2,9 +2,8 @@ use Rattle.std.proofs.Common.{ap, sym, arith}
 use Rattle.std.proofs.lemmas.Result.{err_from_is_err_and}
 use Rattle.progression.specs.Street.{count}
 use Rattle.linear_model.specs.Places.{width}
-use Rattle.narrow_fraction.specs.Attempt.{attempt, attempt_err}
+use Rattle.narrow_fraction.specs.Attempt.{attempt, attempt_err, first_is}
 use Rattle.offset_recovery.specs.Tests.{product_test}
-use Rattle.offset_recovery.proofs.Firsts.{some_next}
 use Rattle.offset_recovery.proofs.unit.check_products.Goals as goal
 
 pub returns-in_err-product : goal.returns-in_err-product
@@ -13,4 +12,4 @@ returns-in_err-product c =
     let a = c.args.artery.now in let x = c.args.point.now.values.items in
     let refused = attempt_err _ _ _ c.in_err-product.ensures in
     rw (p.1, p.2)
-    (ap (λ o. attempt o tt) (sym (some_next (product_test a x) c.loop-column.column (width (count a)) c.in_err-product.field-0.0 c.loop-column.invariant refused (omega arith))))
+    (ap (λ o. attempt o tt) (sym (first_is (product_test a x) c.loop-column.column (width (count a)) c.in_err-product.field-0.0 c.loop-column.invariant refused (omega arith))))

@@ -3,22 +3,15 @@ use Rattle.std.specs.Int.{w128}
 use Rattle.std.proofs.lemmas.Int.{to_z-of_z}
 use Rattle.std.proofs.Common.{to_z}
 use Rattle.ratio.specs.Gcd.{gcd}
-use Rattle.loop_rows.proofs.Making.{made_value, always_made}
+use Rattle.ratio.specs.Rational.{over}
 use Rattle.offset_recovery.proofs.Parts.{over_num, part_small}
 use Rattle.offset_recovery.proofs.unit.own_part.Goals as goal
-
-pub unreachable-requires : goal.unreachable-requires
-unreachable-requires c =
-    let common : to_z w128 c.args.common ≡ pos c.args.common = search rules in
-    let bottom : to_z w128 c.args.bottom ≡ pos c.args.bottom = search rules in
-    always_made _ _ (pos c.args.common) c.args.bottom c.in-Err.field-0 c.in-Err.ensures common bottom c.requires.some (omega arith) c.requires.bottom
 
 -- the quotient's numerator
 size : (c : goal.After-unsigned_abs) → c.unsigned_abs.result ≡ c.args.common / gcd c.args.common c.args.bottom
 size c =
     let common : to_z w128 c.args.common ≡ pos c.args.common = search rules in
-    let bottom : to_z w128 c.args.bottom ≡ pos c.args.bottom = search rules in
-    let made = made_value _ _ (pos c.args.common) c.args.bottom c.in-Ok.quotient c.in-Ok.ensures common bottom in
+    let made = c.reduced.ensures.value ∙ ap (λ z. over z c.args.bottom) common in
     let fits : FitsSigned w128 c.num.result = search rules in
     c.unsigned_abs.ensures.value ∙ ap unsigned_abs (to_z-of_z w128 c.num.result fits ∙ c.num.ensures.value ∙ ap (λ x. x.num) made ∙ over_num c.args.common c.args.bottom c.requires.some)
 

@@ -2,10 +2,9 @@ use Rattle.std.proofs.Common.{◌≡◌, ◌<◌, ◌^◌, ◌∙◌, ap, sym, s
 use Rattle.std.proofs.lemmas.Result.{err_from_is_err_and}
 use Rattle.progression.specs.Street.{count}
 use Rattle.linear_model.specs.Places.{width}
-use Rattle.narrow_fraction.specs.Attempt.{attempt, attempt_err, first_below}
+use Rattle.narrow_fraction.specs.Attempt.{attempt, attempt_err, first_below, first_is}
 use Rattle.recovery_model.specs.Ticks.{unit_of}
 use Rattle.offset_recovery.specs.Tests.{unit_test}
-use Rattle.offset_recovery.proofs.Firsts.{some_next}
 use Rattle.offset_recovery.proofs.Parts.{common_first, unit_is, two_small, unit_answered}
 use Rattle.offset_recovery.proofs.unit.unit_of.Goals as goal
 
@@ -18,7 +17,7 @@ returns-in_err-common-clause-value c =
     let a = c.args.artery.now in let x = c.args.point.now.values.items in
     let refused = attempt_err _ _ _ c.in_err-common.ensures.value in
     rw (p.1, p.2)
-    (ap (λ o. attempt o (unit_of a x)) (sym (some_next (unit_test a x) c.loop-column.column (width (count a)) c.in_err-common.field-0.0 c.loop-column.invariant.tests refused (omega arith))))
+    (ap (λ o. attempt o (unit_of a x)) (sym (first_is (unit_test a x) c.loop-column.column (width (count a)) c.in_err-common.field-0.0 c.loop-column.invariant.tests refused (omega arith))))
 
 pub returns-clause-value : goal.returns-clause-value
 returns-clause-value c =

@@ -3,7 +3,7 @@ use Rattle.std.proofs.lemmas.List.{length-replicate}
 use Rattle.ratio.specs.Rational.{whole}
 use Rattle.fraction_tableau.specs.NamedTableaus.{NamedTableau, IsSound}
 use Rattle.fraction_tableau.proofs.Tableaus.{blank_is, sound_blank}
-use Rattle.fraction_tableau.proofs.tableau.blank.Goals as goal
+use Rattle.fraction_tableau.proofs.tableau.Tableau.new.Goals as goal
 
 pub invariant_of-result : goal.invariant_of-result
 invariant_of-result c =
