@@ -1,5 +1,5 @@
 -- What the engine's answer tells of an artery's search: its timing, its tree and its site.
-use Rattle.std.proofs.Common.{◌≡◌, ℕ, zero, suc, ◌⊎◌, inl, inr, List, [], ◌∷◌, map, take, All, Option, Some, None, IfSome, refl, sym, ◌∙◌, ap, subst}
+use Rattle.std.proofs.Common.{◌≡◌, ℕ, zero, suc, ◌⊎◌, inl, inr, List, [], ◌∷◌, map, take, All, Option, Some, None, IfSome, refl, sym, ap, subst}
 use Rattle.std.specs.List.{slice_get}
 use Rattle.std.proofs.lemmas.List.Elements.{All-nil, All-cons, All-map}
 use Rattle.ratio.specs.Rational.{ℚ}
@@ -22,22 +22,19 @@ use Rattle.branch_and_bound.specs.declared.incumbent.Incumbent.{Incumbent}
 use Rattle.branch_and_bound.specs.declared.node.TreeNode.{TreeNode}
 use Rattle.branch_and_bound.specs.declared.node.TreeNode.TheVariants.{Split, Closed, Waiting}
 use Rattle.branch_and_bound.specs.declared.found.Site.{Site}
-use Rattle.branch_and_bound.specs.declared.found.Stop.{Stop}
 use Rattle.branch_and_bound.specs.declared.found.Stop.TheVariants.{Work, Wide}
 use Rattle.branch_and_bound.specs.declared.found.Verdict.{Verdict}
 use Rattle.branch_and_bound.specs.declared.found.Verdict.TheVariants.{Best, NoTiming, Stopped}
 use Rattle.branch_and_bound.specs.Answer.{IsAnswer, cut_of, lines_of, line_at, IsAcceptedNode, IsNeededNode, IsStart, IsNeededStop, StopCase, RootLeft, RootUnread, BeforeLow, InLow, BeforeHigh, InHigh, Spot, IsSpot, HasSpot, IsSite, IsWideStop}
-use Rattle.branch_tree.specs.declared.kept.Kept.{Kept}
 use Rattle.branch_tree.specs.declared.site.SitePart.{SitePart}
 use Rattle.branch_tree.specs.declared.found.Found.{Found}
 use Rattle.branch_tree.specs.Ends.{end_leaf}
-use Rattle.branch_tree.specs.Starts.{start_leaf}
 use Rattle.branch_tree.specs.Lineage.{IsSearchable, boxed}
 use Rattle.branch_tree.specs.Relaxed.{rules_of, IsTiming}
 use Rattle.branch_tree.specs.Trees.{node_of}
 use Rattle.branch_tree.specs.Searches.{incumbent_of, IsSearch}
-use Rattle.branch_tree.specs.Told.{plan_of, HasValue, Tells, IsTimed, IsCertifiable}
-use Rattle.branch_tree.specs.SiteNames.{IsSiteOf, IsStopOf, HasSite}
+use Rattle.branch_tree.specs.Told.{plan_of, Tells, IsTimed, IsCertifiable}
+use Rattle.branch_tree.specs.SiteNames.{IsSiteOf, HasSite}
 use Rattle.branch_tree.proofs.KeptLeaves.{end_kept, start_kept}
 use Rattle.branch_tree.proofs.Certificates.{certified, proofs_trees}
 use Rattle.branch_tree.proofs.NamedSites.{part_named}

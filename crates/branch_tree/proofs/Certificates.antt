@@ -1,5 +1,5 @@
 -- The certificate of an answer: what it keeps, and that it is accepted where a search gave the answer.
-use Rattle.std.proofs.Common.{◌≡◌, ℕ, suc, List, [], ◌∷◌, length, map, Option, Some, None, All, IfSome, IsSome, refl, sym, ◌∙◌, ap, subst}
+use Rattle.std.proofs.Common.{◌≡◌, ℕ, List, [], ◌∷◌, length, map, Option, Some, None, refl, sym, subst}
 use Rattle.ratio.specs.Rational.{ℚ}
 use Rattle.progression.specs.Street.{Street}
 use Rattle.progression.specs.Plan.{Plan}
@@ -8,17 +8,17 @@ use Rattle.linear_model.specs.Boxes.{Area, root_box}
 use Rattle.search_box.specs.Places.{low_part, high_part}
 use Rattle.plan_text.specs.declared.certificate.Claim.{Claim}
 use Rattle.plan_text.specs.Warrants.{Node, SplitAt, LeafOf, AreTrees}
-use Rattle.certificate_checker.specs.Accepted.{AreProofs, IsAccepted, limit_of}
+use Rattle.certificate_checker.specs.Accepted.{AreProofs, IsAccepted}
 use Rattle.branch_and_bound.specs.declared.incumbent.Incumbent.{Incumbent}
 use Rattle.branch_and_bound.specs.declared.node.TreeNode.{TreeNode}
 use Rattle.branch_and_bound.specs.declared.found.Verdict.{Verdict}
 use Rattle.branch_and_bound.specs.declared.found.Verdict.TheVariants.{Best, NoTiming, Stopped}
-use Rattle.branch_and_bound.specs.Answer.{IsAnswer, IsBestAnswer, IsNoneAnswer, IsStoppedAnswer}
-use Rattle.branch_tree.specs.declared.kept.Kept.{Kept}
+use Rattle.branch_and_bound.specs.Answer.{IsAnswer}
 use Rattle.branch_tree.specs.declared.site.SitePart.{SitePart}
 use Rattle.branch_tree.specs.declared.found.Found.{Found}
 use Rattle.branch_tree.specs.Relaxed.{rules_of, IsTiming}
-use Rattle.branch_tree.specs.Trees.{node_of, accepted_proofs}
+use Rattle.branch_tree.specs.Trees.{node_of}
+use Rattle.branch_tree.proofs.TreeProofs.{accepted_proofs}
 use Rattle.branch_tree.specs.Searches.{incumbent_of, IsSearch}
 use Rattle.branch_tree.specs.Certified.{value_of, claim_by}
 

@@ -1,12 +1,9 @@
 -- What holds of each refusal holds of the first that applies.
 use Rattle.std.proofs.Common.{arith, ◌≡◌, ℕ, zero, suc, ◌<◌, Bool, true, false, Option, None, Some, option_map, refl, sym, subst}
-use Rattle.narrow_fraction.specs.Attempt.{refusal_if, earlier, first_below}
+use Rattle.narrow_fraction.specs.Attempt.{refusal_if, earlier, first_below, some_not_none}
 
 pub some_same : {X : Type 0} (x y : X) → Some x ≡ Some y → x ≡ y
 some_same x y e = cc
-
-pub some_none : {X : Type 0} {A : Type 0} (x : X) → Some x ≡ None → A
-some_none x e = cc
 
 -- P holds of what an option has
 abbrev pub Each : {E : Type 0} → (E → Type 0) → Option E → Type 0
@@ -16,7 +13,7 @@ pub each_some : {E : Type 0} (P : E → Type 0) (x : E) → P x → Each P (Some
 each_some P x h e q = subst P (some_same x e q) h
 
 pub each_none : {E : Type 0} (P : E → Type 0) → Each P None
-each_none P e q = some_none e (sym q)
+each_none P e q = some_not_none (sym q)
 
 pub each_earlier : {E : Type 0} (P : E → Type 0) (o p : Option E) → Each P o → Each P p → Each P (earlier o p)
 each_earlier P None p f g = g

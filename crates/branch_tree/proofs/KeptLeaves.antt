@@ -1,13 +1,13 @@
 -- The leaf of a box's end, and the start leaf, are leaves that a certificate keeps: their rows have names and ascend, and are few.
-use Rattle.std.proofs.Common.{arith, ◌≡◌, ℕ, pos, zero, suc, ◌+◌, ◌<◌, ◌≤◌, ◌⊎◌, inl, inr, Bool, true, false, true≢false, cond, Option, None, Some, List, [], ◌∷◌, ◌++◌, length, All, refl, sym, ◌∙◌, ap, subst, length-append}
+use Rattle.std.proofs.Common.{arith, ◌≡◌, ℕ, pos, zero, suc, ◌+◌, ◌<◌, ◌≤◌, inl, inr, Bool, true, false, true≢false, cond, Option, None, Some, List, [], ◌∷◌, ◌++◌, length, All, refl, sym, ◌∙◌, subst, length-append}
 use Rattle.std.proofs.lemmas.Bool.{lt-ltb, eq-eqb}
 use Rattle.std.proofs.lemmas.List.{append-nil}
 use Rattle.std.proofs.lemmas.List.Elements.{All-nil, All-cons, All-append}
-use Rattle.std.specs.Prelude.{◌==◌, ◌||◌, ◌&&◌, nat_lt}
+use Rattle.std.specs.Prelude.{◌||◌, ◌&&◌}
 use Rattle.std.specs.Ordering.{eq_by_cmp}
 use Rattle.ratio.specs.Rational.{ℚ, whole}
 use Rattle.ratio.specs.Compare.{cmp_ℚ}
-use Rattle.progression.specs.Street.{Street, count, HasSignal, HasLink}
+use Rattle.progression.specs.Street.{Street, HasSignal, HasLink}
 use Rattle.progression.specs.Speeds.{number}
 use Rattle.artery_model.specs.Valid.{IsValid}
 use Rattle.linear_model.specs.Names.{HasRow, name_of}
@@ -17,9 +17,9 @@ use Rattle.named_row.specs.declared.names.RowId.{RowId}
 use Rattle.named_row.specs.declared.leaves.Weight.{Weight}
 use Rattle.simplex_model.specs.BlandRule.{Move, optimal, infeasible, pivoted}
 use Rattle.program_builder.specs.BoxRows.{rows_of, name_at}
-use Rattle.program_builder.specs.RowOrder.{IsAscending, rows_ascending, rows_there}
+use Rattle.program_builder.specs.RowOrder.{rows_ascending, rows_there}
 use Rattle.program_builder.specs.NamedFamilies.{by_family}
-use Rattle.program_builder.proofs.RowCounts.{rows_most}
+use Rattle.program_builder.specs.RowCounts.{rows_most}
 use Rattle.dual_leaf.specs.Leaves.{multiplier, multipliers_below}
 use Rattle.plan_text.specs.Families.{IsNamed, is_lone, is_below, is_after}
 use Rattle.plan_text.specs.Warrants.{Ascend, IsNode, LeafOf}

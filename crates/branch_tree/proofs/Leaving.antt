@@ -1,5 +1,6 @@
 -- Where the run of a box is left: a refused step isn't the last one, and a leaf whose sum is refused is no proof.
 use Rattle.std.proofs.Common.{◌≡◌, ℕ, ◌<◌, Bool, true, false, cond, Option, Some, None, refl, sym, ◌∙◌, ap}
+use Rattle.narrow_fraction.specs.Attempt.{some_not_none}
 use Rattle.progression.specs.Street.{Street}
 use Rattle.artery_model.specs.Valid.{IsValid}
 use Rattle.linear_model.specs.Boxes.{Area}
@@ -9,9 +10,8 @@ use Rattle.simplex_model.specs.BlandRule.{is_negative, place_before, chosen_row,
 use Rattle.simplex_model.specs.Best.{OnBest}
 use Rattle.simplex_model.specs.StepCounts.{is_pivot}
 use Rattle.fraction_tableau.specs.declared.wide_cell.WideCell.{WideCell}
-use Rattle.fraction_tableau.specs.Refusals.{pivot_refusal}
 use Rattle.dual_simplex.specs.Ratios.{ratio_at, ratio_refusal}
-use Rattle.dual_simplex.specs.Steps.{step_pivot, step_place, step_ratio, step_row, step_of}
+use Rattle.dual_simplex.specs.Steps.{step_place, step_ratio, step_row, step_of}
 use Rattle.dual_simplex.specs.declared.outcome.Step.TheVariants as steps
 use Rattle.loop_rows.specs.Weights.{leaf_fault}
 use Rattle.loop_rows.specs.declared.fault.SumFault.{SumFault}
@@ -19,9 +19,9 @@ use Rattle.node_tree.specs.Lines.{Line}
 use Rattle.branch_and_bound.specs.Unfinished.{EndsUnproved}
 use Rattle.branch_tree.specs.Ends.{table_after, steps_of, end_leaf}
 use Rattle.branch_tree.specs.Sites.{step_at, IsReached}
-use Rattle.branch_tree.specs.LeafFaults.{proof_free}
+use Rattle.branch_tree.proofs.LeafFaults.{proof_free}
 use Rattle.branch_tree.specs.Relaxed.{rules_of}
-use Rattle.branch_tree.specs.Runs.{due_at, due_before}
+use Rattle.branch_tree.proofs.Runs.{due_at, due_before}
 use Rattle.branch_tree.proofs.EachRefusal.{Each, each_none, each_first}
 
 -- ---- a refused step
@@ -71,15 +71,12 @@ pub wide_before : (a : Street) (box : Area) → IsValid a → (k : ℕ) (in_rati
 wide_before a box v k in_ratio w r e = due_before a box v k (due_at a box k r (wide_pivots (table_after a box k) in_ratio w e))
 
 -- ---- a refused sum
-some_none : (f : SumFault) → Some f ≡ None → ⊥
-some_none f e = cc
-
 pub ends_unproved : (a : Street) (line : Line) (leaf : Leaf) (f : SumFault) → leaf.multipliers.items ≡ end_leaf a line.area → leaf_fault a line.area (end_leaf a line.area) ≡ Some f → EndsUnproved (rules_of a) line
 ends_unproved a line leaf f read e =
     let told = sym e ∙ ap (leaf_fault a line.area) (sym read) in
     record {
       leaf = leaf;
       leaf_is = read;
-      not_refuted = λ p. some_none f (told ∙ proof_free a None line.area leaf.multipliers.items p);
-      not_covered = λ p. some_none f (told ∙ proof_free a _ line.area leaf.multipliers.items p);
+      not_refuted = λ p. some_not_none (told ∙ proof_free a None line.area leaf.multipliers.items p);
+      not_covered = λ p. some_not_none (told ∙ proof_free a _ line.area leaf.multipliers.items p);
     }

@@ -1,8 +1,17 @@
 mod EachRefusal
+mod Runs
+mod LeafFaults
+mod StartLaws
+mod StartFits
+mod BoxProofs
+mod Openings
+mod Units
+pub mod KeptPromises
 mod Leaving
 mod Running
 mod Reading
 mod Opens
+pub mod TreeProofs
 mod Certificates
 mod KeptLeaves
 mod NamedCells

@@ -1,8 +1,8 @@
 -- The row and the column that a refused ratio or pivot names lie in the tableau: the goal row comes after the last row, and the
 -- bound after the last column.
-use Rattle.std.proofs.Common.{arith, ◌≡◌, ℕ, suc, ◌<◌, ◌≤◌, Bool, true, false, cond, eqb, Option, None, Some, List, [], length, get_or, refl, sym, ◌∙◌, ap, subst}
-use Rattle.ratio.specs.Rational.{ℚ, whole, neg_ℚ, ◌*ℚ◌}
-use Rattle.narrow_fraction.specs.Attempt.{earlier, first_below}
+use Rattle.std.proofs.Common.{arith, ◌≡◌, ℕ, suc, ◌<◌, ◌≤◌, Bool, true, false, cond, eqb, Option, None, Some, List, length, refl, subst}
+use Rattle.ratio.specs.Rational.{ℚ}
+use Rattle.narrow_fraction.specs.Attempt.{first_below}
 use Rattle.narrow_fraction.specs.declared.wide.Op.{Op}
 use Rattle.narrow_fraction.specs.declared.wide.Wide.{Wide}
 use Rattle.narrow_fraction.specs.Past128.{past_wide}
@@ -11,7 +11,7 @@ use Rattle.artery_model.specs.Valid.{IsValid}
 use Rattle.linear_model.specs.Places.{width}
 use Rattle.linear_model.specs.Boxes.{Area}
 use Rattle.simplex_model.specs.Tableau as tableaus
-use Rattle.simplex_model.specs.Tableau.{Tableau, IsShaped, height, cell, goal_cell, line}
+use Rattle.simplex_model.specs.Tableau.{Tableau, IsShaped, height, cell, line}
 use Rattle.simplex_model.specs.DualSteps.{IsChoice}
 use Rattle.simplex_model.specs.BlandRule.{is_negative, chosen_row, chosen_place, chosen_choice, chosen_row_in}
 use Rattle.fraction_tableau.specs.declared.wide_cell.WideCell.{WideCell}
@@ -22,7 +22,7 @@ use Rattle.dual_simplex.specs.declared.outcome.Step.{Step}
 use Rattle.dual_simplex.specs.declared.outcome.Step.TheVariants as steps
 use Rattle.program_builder.specs.BoxRows.{rows_of}
 use Rattle.branch_tree.specs.Ends.{table_after}
-use Rattle.branch_tree.specs.EndLaws.{run_dual, run_height, run_width}
+use Rattle.branch_tree.specs.RuleLaws.EndLaws.{run_dual, run_height, run_width}
 use Rattle.branch_tree.specs.Sites.{step_at}
 use Rattle.branch_tree.specs.SiteNames.{IsRatioOf, IsCellOf}
 use Rattle.branch_tree.proofs.EachRefusal.{Each, each_some, each_none, each_earlier, each_first}

@@ -1,17 +1,16 @@
 -- What a site names is there: the row, the column and the link are ones of the artery.
-use Rattle.std.proofs.Common.{arith, ◌≡◌, ℕ, zero, suc, ◌+◌, ◌-◌, ◌<◌, ◌≤◌, Bool, true, false, not, Option, None, Some, option_map, unwrap_or, List, [], ◌∷◌, length, replicate, map, refl, sym, ◌∙◌, ap, subst}
+use Rattle.std.proofs.Common.{arith, ◌≡◌, ℕ, suc, ◌+◌, ◌-◌, ◌<◌, ◌≤◌, Bool, true, false, not, Option, None, Some, option_map, unwrap_or, List, [], ◌∷◌, length, refl, sym, ◌∙◌, ap, subst}
 use Rattle.std.proofs.lemmas.List.{length-replicate}
 use Rattle.std.specs.Ordering.{is_lt}
-use Rattle.ratio.specs.Rational.{ℚ, whole}
+use Rattle.ratio.specs.Rational.{ℚ}
 use Rattle.ratio.specs.Compare.{cmp_ℚ}
 use Rattle.ratio.specs.Rows.{add, scale}
 use Rattle.narrow_fraction.specs.Attempt.{refusal_if, earlier, first_below}
 use Rattle.narrow_fraction.specs.Past128.{past_wide}
 use Rattle.narrow_fraction.specs.declared.wide.Op.TheVariants.{Mul}
 use Rattle.narrow_fraction.specs.declared.wide.Wide.{Wide}
-use Rattle.progression.specs.Street.{Street, count, HasLink}
+use Rattle.progression.specs.Street.{Street, count}
 use Rattle.progression.specs.Speeds.{number}
-use Rattle.progression.specs.Plan.{Plan}
 use Rattle.progression.specs.Columns.{Column, BandOf, Frequency, WaitOf, RunOf, ShiftOf}
 use Rattle.progression.specs.declared.parts.Dir.{Dir}
 use Rattle.progression.specs.declared.parts.Dir.TheVariants.{Outbound, Inbound}
@@ -20,7 +19,6 @@ use Rattle.linear_model.specs.Names.{HasRow, name_of, form_of}
 use Rattle.linear_model.specs.Places.{place, width, IsColumn}
 use Rattle.linear_model.specs.Points.{place_below}
 use Rattle.linear_model.specs.Boxes.{Area}
-use Rattle.linear_model.specs.Blocks.{block_sum}
 use Rattle.named_row.specs.Sheets.{Sheet, blank, with_times}
 use Rattle.named_row.specs.Refusals as sums
 use Rattle.named_row.specs.Refusals.{at, place_refusal, cell_refusal}
@@ -38,12 +36,10 @@ use Rattle.loop_rows.specs.declared.fault.SumFault.TheVariants as fault
 use Rattle.recovery_model.specs.Placing.{timing_of}
 use Rattle.dual_simplex.specs.declared.outcome.Step.{Step}
 use Rattle.dual_simplex.specs.declared.outcome.Step.TheVariants as steps
-use Rattle.offset_recovery.specs.declared.outcome.WideTiming.{WideTiming}
 use Rattle.offset_recovery.specs.declared.outcome.WideTiming.TheVariants as wide
 use Rattle.offset_recovery.specs.Outcomes.{Outcome, Refused, Splits, Gives}
 use Rattle.offset_recovery.specs.Tests.{product_test, unit_test, number_test, column_test, link_test, signal_test}
 use Rattle.offset_recovery.specs.Recovered.{recovered, link_tests, signal_tests, box_tests, unit_tests, run_tests, column_tests, red_tests, placed_tests, number_tests}
-use Rattle.branch_tree.specs.declared.site.SitePart.{SitePart}
 use Rattle.branch_tree.specs.declared.site.SitePart.TheVariants as part
 use Rattle.branch_tree.specs.Ends.{end_leaf, end_point}
 use Rattle.branch_tree.specs.Sites.{step_at, sum_refusal, vertex_refusal, leaf_refusal, refusal_by, refusal_at}

@@ -1,11 +1,11 @@
 -- What opening a box answers hangs on the box alone, and a part of a split box is a box of the artery.
-use Rattle.std.proofs.Common.{◌≡◌, ℕ, ◌⊎◌, inl, inr, Result, Ok, Err, IfOk, refl, sym, ◌∙◌, ap, subst}
+use Rattle.std.proofs.Common.{◌≡◌, ℕ, ◌⊎◌, inl, inr, Result, Ok, Err, IfOk, sym, ◌∙◌, ap, subst}
 use Rattle.progression.specs.Street.{Street}
 use Rattle.linear_model.specs.Boxes.{Area, IsBoxOf}
 use Rattle.search_box.specs.declared.span.At.{At}
 use Rattle.node_tree.specs.Lines.{Line, top_line, low_line, high_line}
 use Rattle.branch_and_bound.specs.Lineages.{at_low, at_high}
-use Rattle.branch_and_bound.specs.declared.meter.Meter.{Meter}
+use Rattle.work_meter.specs.declared.meter.Meter.{Meter}
 use Rattle.branch_and_bound.specs.declared.opened.Opened.TheVariants.{Infeasible, Timed, Splits, Unread, WorkOut, Wide}
 use Rattle.branch_and_bound.specs.Unfinished.{IsUnfinished}
 use Rattle.branch_and_bound.specs.Opening.{Opens, IsPart}

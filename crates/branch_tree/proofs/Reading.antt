@@ -1,5 +1,5 @@
 -- What is read off the last tableau of a box.
-use Rattle.std.proofs.Common.{◌≡◌, ℕ, List, refl, sym, ◌∙◌, ap, subst, map}
+use Rattle.std.proofs.Common.{◌≡◌, ℕ, List, sym, ◌∙◌, ap, subst, map}
 use Rattle.progression.specs.Street.{Street}
 use Rattle.artery_model.specs.Valid.{IsValid}
 use Rattle.linear_model.specs.Boxes.{Area}
@@ -8,12 +8,12 @@ use Rattle.loop_rows.specs.Weights.{named}
 use Rattle.named_row.specs.declared.leaves.Weight.{Weight}
 use Rattle.ratio.specs.Rational.{ℚ}
 use Rattle.simplex_model.specs.RowLists.{vertex_point}
-use Rattle.simplex_model.specs.BlandRule.{infeasible, move, Says, says}
+use Rattle.simplex_model.specs.BlandRule.{infeasible, Says, says}
 use Rattle.fraction_tableau.specs.NamedTableaus.{NamedTableau}
 use Rattle.dual_leaf.specs.Leaves.{goal_multipliers, row_multipliers}
 use Rattle.recovery_model.specs.Vertices.{IsVertex}
-use Rattle.branch_tree.specs.Ends.{named_last, last_table, end_move, end_point, end_leaf, leaf_by}
-use Rattle.branch_tree.specs.EndLaws.{optimal_end, infeasible_end}
+use Rattle.branch_tree.specs.Ends.{named_last, last_table, end_point, end_leaf, leaf_by}
+use Rattle.branch_tree.specs.RuleLaws.EndLaws.{optimal_end, infeasible_end}
 use Rattle.branch_tree.specs.Opening.{IsOptimalRun, IsInfeasibleRun}
 
 module _ (a : Street) (box : Area) (t : NamedTableau) where

@@ -1,5 +1,5 @@
 -- From what the steps of a node answer to how the run of a box stopped.
-use Rattle.std.proofs.Common.{arith, ◌≡◌, ℕ, ◌+◌, ◌≤◌, inl, true, false, Option, Some, None, IfSome, refl, sym, ◌∙◌, ap, subst}
+use Rattle.std.proofs.Common.{arith, ◌≡◌, ℕ, ◌+◌, ◌≤◌, inl, true, false, Option, Some, None, IfSome, sym, ◌∙◌, ap, subst}
 use Rattle.progression.specs.Street.{Street}
 use Rattle.artery_model.specs.Valid.{IsValid}
 use Rattle.linear_model.specs.Boxes.{Area}
@@ -8,24 +8,22 @@ use Rattle.simplex_model.specs.BlandRule.{optimal, infeasible, move}
 use Rattle.simplex_model.specs.StepCounts.{after, is_pivot}
 use Rattle.fraction_tableau.specs.NamedTableaus.{NamedTableau}
 use Rattle.dual_simplex.specs.declared.outcome.Step.TheVariants as steps
-use Rattle.dual_simplex.specs.declared.outcome.Meter as simplex
+use Rattle.work_meter.specs.declared.meter.Meter.{Meter}
 use Rattle.dual_simplex.specs.declared.outcome.NodeEnd.{NodeEnd}
 use Rattle.dual_simplex.specs.declared.outcome.NodeEnd.TheVariants.{Optimal, Infeasible, WorkOut, Wide}
 use Rattle.dual_simplex.specs.Steps.{step_of}
-use Rattle.dual_simplex.specs.Ends.{Solved, end_says, metered, stepped, is_out, is_at_limit}
+use Rattle.work_meter.specs.Work.{metered, is_at_limit, IsWithin, capped}
+use Rattle.dual_simplex.specs.Ends.{Solved, end_says, stepped}
 use Rattle.program_builder.specs.Building.{IsMadeFor, opened_box, made_spent}
-use Rattle.branch_and_bound.specs.declared.meter.Meter.{Meter}
-use Rattle.branch_and_bound.specs.Units.{IsWithin, capped}
-use Rattle.branch_and_bound.specs.Opening.{Leaves, IsSpent}
-use Rattle.branch_tree.specs.Ends.{table_after, named_after, steps_of, end_move}
-use Rattle.branch_tree.specs.EndLaws.{run_dual, run_height, run_width}
-use Rattle.branch_tree.specs.Runs.{ends_step, reached_by, table_by, end_here, due_at, due_before}
+use Rattle.branch_tree.specs.Ends.{table_after, named_after, steps_of}
+use Rattle.branch_tree.specs.RuleLaws.EndLaws.{run_dual, run_height, run_width}
+use Rattle.branch_tree.proofs.Runs.{ends_step, reached_by, table_by, end_here, due_at, due_before}
 use Rattle.branch_tree.specs.Sites.{step_at, IsReached}
 use Rattle.branch_tree.specs.Opening.{IsOptimalRun, IsInfeasibleRun, IsRunTo, IsRun}
 use Rattle.branch_tree.proofs.Leaving.{wide_before}
 use Rattle.std.proofs.lemmas.Bool.{eqb-true}
 
-module _ (a : Street) (box : Area) (v : IsValid a) (s t : NamedTableau) (m n : simplex.Meter) (p q k : ℕ) (o : s ≡ opened_box a box) where
+module _ (a : Street) (box : Area) (v : IsValid a) (s t : NamedTableau) (m n : Meter) (p q k : ℕ) (o : s ≡ opened_box a box) where
   here : after s.table k ≡ table_after a box k
   here = table_by a box s k (ap (λ u. u.table) o)
 

@@ -2,11 +2,11 @@
 use Rattle.progression.specs.Street.{Street}
 use Rattle.artery_model.specs.Valid.{IsValid}
 use Rattle.linear_model.specs.Boxes.{IsBoxOf, root_box}
-use Rattle.search_box.proofs.Parts.{parts_of}
+use Rattle.search_box.specs.Parts.{parts_of}
 use Rattle.node_tree.specs.Lines.{Line}
 use Rattle.branch_and_bound.specs.Lineages.{Ending, IsLineage, at_top, at_low, at_high}
 use Rattle.branch_tree.specs.Ends.{ending_of}
-use Rattle.branch_tree.specs.BoxLaws.{cuts_inside}
+use Rattle.branch_tree.specs.RuleLaws.BoxLaws.{cuts_inside}
 
 -- a valid artery whose root box is a box of it: each of its signals has a shift
 pub record IsSearchable (a : Street) : Type 0 where

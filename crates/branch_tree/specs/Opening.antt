@@ -13,13 +13,13 @@ use Rattle.dual_simplex.specs.declared.outcome.NodeEnd.TheVariants.{Optimal, Inf
 use Rattle.loop_rows.specs.Weights.{leaf_fault}
 use Rattle.loop_rows.specs.declared.fault.SumFault.TheVariants as fault
 use Rattle.named_row.specs.declared.leaves.Weight.{Weight}
-use Rattle.node_tree.specs.Lines.{Line, top_line}
-use Rattle.branch_and_bound.specs.declared.meter.Meter.{Meter}
+use Rattle.node_tree.specs.Lines.{top_line}
+use Rattle.work_meter.specs.declared.meter.Meter.{Meter}
 use Rattle.branch_and_bound.specs.declared.opened.Opened.{Opened}
 use Rattle.branch_and_bound.specs.declared.opened.Opened.TheVariants as opened
-use Rattle.branch_and_bound.specs.Units.{capped}
+use Rattle.work_meter.specs.Work.{capped, IsSpent}
 use Rattle.branch_and_bound.specs.Unfinished.{IsUnfinished}
-use Rattle.branch_and_bound.specs.Opening.{OpensEmpty, OpensTimed, OpensCut, OpensStuck, Leaves, IsSpent}
+use Rattle.branch_and_bound.specs.Opening.{OpensEmpty, OpensTimed, OpensCut, OpensStuck, Leaves}
 use Rattle.branch_tree.specs.declared.site.SitePart.{SitePart}
 use Rattle.branch_tree.specs.declared.kept.Kept.{Kept}
 use Rattle.branch_tree.specs.declared.relaxed.Room.{Room}

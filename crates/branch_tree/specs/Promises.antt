@@ -1,11 +1,12 @@
 -- What the ends of boxes promise, as an outsider reads it.
-use Rattle.std.proofs.Common.{◌≡◌, ℕ, ◌<◌, List, Some, map}
+use Rattle.std.specs.Prelude.{◌≡◌, ℕ, ◌+◌, ◌<◌, ◌^◌, List, length, Some, map}
 use Rattle.ratio.specs.Rational.{ℚ, ◌≤ℚ◌}
-use Rattle.progression.specs.Street.{Street}
+use Rattle.progression.specs.Street.{Street, count}
 use Rattle.progression.specs.Plan.{Plan}
 use Rattle.progression.specs.Good.{Good}
 use Rattle.progression.specs.Best.{weighted_band}
 use Rattle.artery_model.specs.Valid.{IsValid}
+use Rattle.linear_model.specs.Places.{width}
 use Rattle.linear_model.specs.Boxes.{Area, IsBoxOf, root_box}
 use Rattle.linear_model.specs.Covering.{CoversGoal, RefutesAll}
 use Rattle.linear_model.specs.Trees.{leaf_sum, AreWeights}
@@ -13,19 +14,21 @@ use Rattle.loop_rows.specs.Weights.{named}
 use Rattle.recovery_model.specs.Vertices.{IsVertex, goal_at}
 use Rattle.search_box.specs.declared.span.At.{At}
 use Rattle.search_box.specs.Places.{IsPlace, low_part, high_part, AreParts}
-use Rattle.search_box.proofs.Parts.{parts_of}
 use Rattle.offset_recovery.specs.Outcomes.{Gives}
 use Rattle.offset_recovery.specs.Recovered.{recovered}
 use Rattle.certificate_checker.specs.Accepted.{IsProof}
+use Rattle.program_builder.specs.BoxRows.{rows_of}
+use Rattle.branch_and_bound.specs.Enough.{IsShort}
 use Rattle.branch_and_bound.specs.Lineages.{NoEnd, Empty, Reads, Cuts, IsOptimal}
 use Rattle.branch_tree.specs.Ends.{steps_of, end_point, end_bound, end_leaf, ending_of}
 use Rattle.branch_tree.specs.declared.site.SitePart.{SitePart}
 use Rattle.branch_tree.specs.Sites.{IsDue, IsWide}
 use Rattle.branch_tree.specs.Starts.{start_leaf, start_bound}
-use Rattle.branch_tree.specs.Runs.{due_before, one_site}
-use Rattle.branch_tree.specs.Units.{sets_of, steps_few}
-use Rattle.branch_tree.specs.BoxLaws as laws
-use Rattle.branch_tree.specs.BoxProofs.{start_covers}
+use Rattle.branch_tree.specs.Relaxed.{rules_of}
+
+-- there are at most so many sets of basic variables: 2 to the power of the number of rows and columns
+abbrev pub sets_of : Street → ℕ
+sets_of a = 2 ^ (length (rows_of a) + width (count a))
 
 -- the run of each box comes to an end, before it could have met every set of basic variables
 pub record ComesToAnEnd (a : Street) (box : Area) : Type 0 where
@@ -63,22 +66,7 @@ pub record BoxesEnd : Type 0 where
   -- a run stops before its end where a step is due, and at one first refused operation at most
   pub due : (a : Street) (box : Area) (k : ℕ) → IsValid a → IsDue a box k → k < steps_of a box
   pub stops : (a : Street) (box : Area) (k m : ℕ) (p q : SitePart) → IsWide a box k p → IsWide a box m q → (k ≡ m) × (p ≡ q)
+  -- so the units that a search of the artery needs are bounded, as `IsEnough` of the engine says
+  pub short : (a : Street) → IsShort (rules_of a) (sets_of a)
   -- before any step the start leaf is a proof of its bound
   pub start : (a : Street) → IsValid a → IsProof a (Some (start_bound a)) (root_box a) (start_leaf a)
-
--- ---- they do
-pub boxes_end : BoxesEnd
-boxes_end = record {
-  comes = λ a box v. record { few = steps_few a box v; ends = laws.comes_to_an_end a box v };
-  empty = λ a box v e. let r = laws.ends_infeasible a box v e in record { rows = r.rows; refutes = r.refutes };
-  bounded = λ a box v o.
-      let r = laws.ends_optimal a box v o in
-      record { vertex = r.vertex; goal = r.goal; rows = r.rows; covers = r.covers; bound = r.bound; greatest = λ x p. laws.vertex_greatest a box v x o p };
-  reads = λ a box t v b e f. laws.reads_good a box v b t e f;
-  cuts = λ a box place v b e.
-      let p = laws.cuts_inside a box v b place e in
-      record { inside = p; parts = parts_of a box place b p; low = laws.low_falls a box v b place e; high = laws.high_falls a box v b place e };
-  due = λ a box k v d. due_before a box v k d;
-  stops = λ a box k m p q g h. one_site a box k m p q g h;
-  start = start_covers;
-}

@@ -1,7 +1,7 @@
 -- An artery as a relaxation that is searched by branch and bound, as Little searched his mixed-integer program of 1966: what each
 -- box's end is, and the laws that the search relies on.
 use Rattle.std.specs.Prelude.{◌≡◌, Some, None}
-use Rattle.std.proofs.Common.{◌⊎◌, inl, inr, subst, sym}
+use Rattle.std.proofs.Common.{inl, inr, subst}
 use Rattle.ratio.specs.Rational.{ℚ, ◌≤ℚ◌}
 use Rattle.ratio.specs.Order.{≤ℚ_trans}
 use Rattle.ratio.specs.Rows as maths
@@ -9,7 +9,7 @@ use Rattle.progression.specs.Street.{Street}
 use Rattle.progression.specs.Plan.{Plan}
 use Rattle.progression.specs.Good.{Good}
 use Rattle.progression.specs.Best.{weighted_band}
-use Rattle.linear_model.specs.Boxes.{Area, IsBoxOf, root_box}
+use Rattle.linear_model.specs.Boxes.{Area, root_box}
 use Rattle.linear_model.specs.Covering.{RefutesAll}
 use Rattle.named_row.specs.declared.leaves.Leaf.{Leaf}
 use Rattle.named_row.specs.declared.leaves.Point.{Point}
@@ -17,8 +17,7 @@ use Rattle.search_box.specs.declared.span.At.{At}
 use Rattle.search_box.specs.Places.{IsPlace}
 use Rattle.node_tree.specs.Lines.{Line, low_line, high_line}
 use Rattle.certificate_checker.specs.Accepted.{Shows, IsProof}
-use Rattle.branch_and_bound.specs.Lineages.{Cuts, IsOptimal, at_low, at_high}
-use Rattle.branch_and_bound.specs.Opening.{IsPart}
+use Rattle.branch_and_bound.specs.Lineages.{Cuts, IsOptimal}
 use Rattle.branch_and_bound.specs.Rules.{Rules}
 use Rattle.branch_tree.specs.declared.site.SitePart.{SitePart}
 use Rattle.branch_tree.specs.declared.kept.Kept.{Kept}
@@ -26,7 +25,7 @@ use Rattle.branch_tree.specs.Ends.{steps_of, end_point, end_bound, end_leaf}
 use Rattle.branch_tree.specs.Sites.{IsDue, IsWide}
 use Rattle.branch_tree.specs.Starts.{start_leaf, start_bound}
 use Rattle.branch_tree.specs.LeafRows.{sum_of}
-use Rattle.branch_tree.specs.BoxLaws as laws
+use Rattle.branch_tree.specs.RuleLaws.BoxLaws as laws
 use Rattle.branch_tree.specs.Lineage.{IsSearchable, line_ending, IsLineOf, searchable, boxed}
 
 -- ---- of a line
@@ -94,15 +93,3 @@ rules_of a = record {
   low_falls = low_falls a;
   high_falls = high_falls a;
 }
-
--- ---- the boxes that are opened
--- a part of a split line's box is a box of the artery
-pub part_met : (a : Street) (parent : Line) (place : At) (line : Line) (kept : Kept) (area : Area) → IsPart (rules_of a) parent place line kept area → IsLineOf a line
-part_met a parent place line kept area p = by_side p.side
-  where
-    by_side : (line ≡ low_line place parent) ⊎ (line ≡ high_line place parent) → IsLineOf a line
-    by_side (inl e) = subst (λ l. IsLineOf a l) (sym e) (at_low parent place p.lineage p.cut)
-    by_side (inr e) = subst (λ l. IsLineOf a l) (sym e) (at_high parent place p.lineage p.cut)
-
-pub part_boxed : (a : Street) (parent : Line) (place : At) (line : Line) (kept : Kept) (area : Area) → IsPart (rules_of a) parent place line kept area → IsBoxOf a area
-part_boxed a parent place line kept area p = subst (λ b. IsBoxOf a b) (sym p.area_is) (boxed a line (part_met a parent place line kept area p))

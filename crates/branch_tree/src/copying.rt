@@ -1,6 +1,6 @@
 //! Copies.
 
-ghost use Rattle.std.specs.Prelude.{◌≡◌, map, IfOk};
+ghost use Rattle.std.specs.Prelude.{◌≡◌, IfOk};
 
 use named_row::Leaf;
 use narrow_fraction::Memory;
@@ -12,10 +12,8 @@ fn copied<T: Copy>(alloc: Global, items: &[T]) -> Result<Vec<T>, Memory>
     ensures { IfOk result (λ copy. copy.items ≡ items.now) }
 {
     let mut copy = Vec::new(alloc);
-    match copy.extend_from_slice(items) {
-        Ok(()) => Ok(copy),
-        Err(_) => Err(Memory),
-    }
+    copy.extend_from_slice(items)?;
+    Ok(copy)
 }
 
 /// The same leaf again.

@@ -1,6 +1,6 @@
 //! What the ends of boxes promise, and that the search of an artery's boxes gives accepted trees.
 
-ghost use Rattle.std.specs.Prelude.{◌≡◌, List, [], ◌∷◌, map, Option};
+ghost use Rattle.std.specs.Prelude.{List, [], ◌∷◌, map, Option};
 ghost use Rattle.ratio.specs.Rational.{ℚ};
 ghost use Rattle.progression.specs.Street.{Street};
 ghost use Rattle.linear_model.specs.Boxes.{root_box};
@@ -13,14 +13,15 @@ ghost use Rattle.branch_tree.specs.Promises.{BoxesEnd};
 
 /// Each box of an artery comes to an end. An empty one has a leaf that refutes; any other has a leaf that covers the weighted
 /// band with its vertex's own. A vertex that gives a timing gives a good one with that band, and one that splits its box shows
-/// a place inside it, whose parts have no greater bounds.
-#[tactic(auto, using(crate::specs::Promises::boxes_end))]
+/// a place inside it, whose parts have no greater bounds. A box takes fewer steps than there are sets of basic variables, which
+/// bounds the units that a search needs.
+#[tactic(auto, using(crate::proofs::KeptPromises::boxes_end))]
 pub fn law_boxes_end()
     ensures { BoxesEnd }
 {}
 
 /// A tree that a search of the boxes of an artery accepts is one that the checker of certificates accepts, node for node.
-#[tactic(auto, using(crate::specs::Trees::accepted_proofs))]
+#[tactic(auto, using(crate::proofs::TreeProofs::accepted_proofs))]
 pub fn law_trees_are_proofs()
     ensures { (a : Street) (claim : Option ℚ) (nodes : List TreeNode) → IsAccepted (rules_of a) claim nodes → AreProofs a claim (root_box a ∷ []) (map node_of nodes) }
 {}

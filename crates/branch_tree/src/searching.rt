@@ -2,7 +2,7 @@
 
 ghost use Rattle.std.specs.Prelude.{◌≡◌, IfOk, IfSome, IsSome};
 ghost use Rattle.progression.specs.Good.{Good};
-ghost use Rattle.branch_and_bound.specs.Units.{IsBelow};
+ghost use Rattle.work_meter.specs.Work.{IsBelow};
 ghost use Rattle.branch_tree.specs.Searches.{IsSearch};
 ghost use Rattle.branch_tree.specs.Told.{Tells, IsCertifiable, plan_of};
 ghost use Rattle.branch_tree.specs.SiteNames.{HasSite};

@@ -5,7 +5,6 @@ ghost use Rattle.linear_model.specs.Boxes.{IsBoxOf, root_box};
 ghost use Rattle.loop_rows.specs.Weights.{leaf_fault};
 ghost use Rattle.dual_leaf.specs.Leaves.{multiplier};
 ghost use Rattle.branch_tree.specs.LeafRows.{sum_of};
-ghost use Rattle.branch_tree.specs.Starts as starts;
 ghost use Rattle.branch_tree.specs.Starts.{start_bound};
 ghost use Rattle.branch_tree.specs.Relaxed.{IsStartLeaf, CoversBox};
 

@@ -1,6 +1,5 @@
 pub mod ColumnNames
 pub mod Pieces
 pub mod RowNames
-pub mod Runs
 pub mod Sizes
 pub mod Spans

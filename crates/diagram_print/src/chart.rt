@@ -97,7 +97,7 @@ fn diagram_line(
     timing: &Timing,
     dir: Dir,
     signal: u32,
-) -> Result<Vec<u8>, AllocError>
+) -> Result<Vec<u8>, Memory>
     requires shape { length timing.now.patterns ≡ count artery.now }
     requires first { 1 ≤ signal }
     requires last { signal ≤ count artery.now }
@@ -107,7 +107,7 @@ fn diagram_line(
     let marks = all_marks(alloc, artery, timing, dir, signal)?;
     let mut line = format!(in alloc; "{signal} {dir_name} ")?.into_bytes();
     line.extend_from_slice(marks.as_slice())?;
-    line.push(b'\n')?;
+    line.extend_from_slice(b"\n")?;
     Ok(line)
 }
 
@@ -117,7 +117,7 @@ fn signal_rows(
     artery: &Artery,
     timing: &Timing,
     signal: u32,
-) -> Result<Vec<u8>, AllocError>
+) -> Result<Vec<u8>, Memory>
     requires shape { length timing.now.patterns ≡ count artery.now }
     requires first { 1 ≤ signal }
     requires last { signal ≤ count artery.now }
@@ -129,19 +129,6 @@ fn signal_rows(
     Ok(rows)
 }
 
-/// The lines of all signals, from the last down.
-pub fn diagram_lines(alloc: Global, artery: &Artery, timing: &Timing) -> Result<Vec<u8>, AllocError>
-    requires { length timing.now.patterns ≡ count artery.now }
-    ensures { IfOk result (λ lines. lines.items ≡ diagram_lines artery.now timing.now) }
-{
-    let mut lines = Vec::new(alloc);
-    for signal in (1..artery.count() + 1).rev() {
-        let rows = signal_rows(alloc, artery, timing, signal)?;
-        lines.extend_from_slice(rows.as_slice())?;
-    }
-    Ok(lines)
-}
-
 /// The time-space diagram of a timing in text: for each signal, from the last down to the first, a line of the outbound
 /// direction and one of the inbound direction. Each line has the signal's number, `out` or `in`, and 60 characters, which
 /// stand for ticks from 0 on that divide a cycle evenly: `#` where the direction isn't green, `>` (outbound) or `<`
@@ -151,5 +138,10 @@ pub fn diagram(alloc: Global, artery: &Artery, timing: &Timing) -> Result<Vec<u8
     requires { length timing.now.patterns ≡ count artery.now }
     ensures { IfOk result (λ lines. lines.items ≡ diagram_lines artery.now timing.now) }
 {
-    diagram_lines(alloc, artery, timing).map_err(|_| Memory)
+    let mut lines = Vec::new(alloc);
+    for signal in (1..artery.count() + 1).rev() {
+        let rows = signal_rows(alloc, artery, timing, signal)?;
+        lines.extend_from_slice(rows.as_slice())?;
+    }
+    Ok(lines)
 }

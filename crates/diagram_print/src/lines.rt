@@ -2,30 +2,30 @@
 
 ghost use Rattle.std.specs.Prelude.{◌≡◌, IfOk, IfSome, string_bytes};
 ghost use Rattle.progression.specs.Good.{Good};
-ghost use Rattle.progression.specs.Street.{count};
 ghost use Rattle.branch_tree.specs.Searches.{HasSite, IsStopOf};
-ghost use Rattle.diagram_print.specs.Report.{timing_lines, bound_line, found_lines, best_lines, open_lines, verdict_lines, report_lines};
+ghost use Rattle.diagram_print.specs.Report.{timing_lines, bound_line, found_lines, best_lines, open_lines, report_lines};
 
-use crate::chart::diagram_lines;
-use crate::measures::{exact, measure_lines};
+use crate::chart::diagram;
+use crate::measures::measure_lines;
 use crate::offsets::signal_lines;
 use crate::speeds::link_lines;
 use crate::stopped::stop_lines;
 use artery_model::Artery;
 use branch_tree::{Found, Stop, Verdict};
 use narrow_fraction::{Frac, Memory};
-use std::alloc::{AllocError, Global};
+use quantity_text::exact_string;
+use std::alloc::Global;
 use time_space::Timing;
 
 /// The lines of a timing.
-fn timing_lines(alloc: Global, artery: &Artery, timing: &Timing) -> Result<Vec<u8>, AllocError>
+fn timing_lines(alloc: Global, artery: &Artery, timing: &Timing) -> Result<Vec<u8>, Memory>
     requires { Good artery.now timing.now }
     ensures { IfOk result (λ lines. lines.items ≡ timing_lines artery.now timing.now) }
 {
     let mut lines = measure_lines(alloc, artery, timing)?;
     let signals = signal_lines(alloc, artery, timing)?;
     let links = link_lines(alloc, artery, timing)?;
-    let diagram = diagram_lines(alloc, artery, timing)?;
+    let diagram = diagram(alloc, artery, timing)?;
     lines.extend_from_slice(signals.as_slice())?;
     lines.extend_from_slice(links.as_slice())?;
     lines.extend_from_slice(b"diagram\n")?;
@@ -34,26 +34,18 @@ fn timing_lines(alloc: Global, artery: &Artery, timing: &Timing) -> Result<Vec<u
 }
 
 /// The lines of the timing of a stopped search, if there is one.
-fn found_lines(
-    alloc: Global,
-    artery: &Artery,
-    timing: &Option<Timing>,
-) -> Result<Vec<u8>, AllocError>
+fn found_lines(alloc: Global, artery: &Artery, timing: &Option<Timing>) -> Result<Vec<u8>, Memory>
     requires { IfSome timing.now (λ plan. Good artery.now plan) }
     ensures { IfOk result (λ lines. lines.items ≡ found_lines artery.now timing.now) }
 {
     match timing {
         Some(timing) => timing_lines(alloc, artery, timing),
-        None => Vec::from_slice(alloc, b"no timing\n"),
+        None => Ok(Vec::from_slice(alloc, b"no timing\n")?),
     }
 }
 
 /// The lines of the timing that a best verdict claims.
-fn best_lines(
-    alloc: Global,
-    artery: &Artery,
-    timing: &Option<Timing>,
-) -> Result<Vec<u8>, AllocError>
+fn best_lines(alloc: Global, artery: &Artery, timing: &Option<Timing>) -> Result<Vec<u8>, Memory>
     requires { IfSome timing.now (λ plan. Good artery.now plan) }
     ensures { IfOk result (λ lines. lines.items ≡ best_lines artery.now timing.now) }
 {
@@ -66,11 +58,11 @@ fn best_lines(
 }
 
 /// The line of the bound.
-fn bound_line(alloc: Global, bound: Frac) -> Result<String, AllocError>
+fn bound_line(alloc: Global, bound: Frac) -> Result<String, Memory>
     ensures { IfOk result (λ text. string_bytes text ≡ bound_line bound) }
 {
-    let bound = exact(alloc, bound)?;
-    format!(in alloc; "bound {bound}\n")
+    let bound = exact_string(alloc, bound)?;
+    Ok(format!(in alloc; "bound {bound}\n")?)
 }
 
 /// The lines of a stopped search.
@@ -80,7 +72,7 @@ fn open_lines(
     stop: &Stop,
     bound: Frac,
     timing: &Option<Timing>,
-) -> Result<Vec<u8>, AllocError>
+) -> Result<Vec<u8>, Memory>
     requires good { IfSome timing.now (λ plan. Good artery.now plan) }
     requires stop { IsStopOf artery.now stop.now }
     ensures { IfOk result (λ lines. lines.items ≡ open_lines artery.now timing.now bound stop.now) }
@@ -93,19 +85,6 @@ fn open_lines(
     Ok(lines)
 }
 
-/// The lines of a verdict.
-fn verdict_lines(alloc: Global, artery: &Artery, found: &Found) -> Result<Vec<u8>, AllocError>
-    requires good { IfSome found.now.timing (λ plan. Good artery.now plan) }
-    requires site { HasSite artery.now found.now.verdict }
-    ensures { IfOk result (λ lines. lines.items ≡ report_lines artery.now found.now) }
-{
-    match &found.verdict {
-        Verdict::Best => best_lines(alloc, artery, &found.timing),
-        Verdict::NoTiming => Vec::from_slice(alloc, b"verdict none\n"),
-        Verdict::Stopped(stop) => open_lines(alloc, artery, stop, found.bound, &found.timing),
-    }
-}
-
 /// The lines that tell what a search of this artery found: the verdict; where the search stopped, why, and the bound; and
 /// the timing, or that there is none. Of a timing there are the weighted band, both bands, the cycle, each signal's pattern,
 /// offset and name, each link's speeds and the diagram; each number is exact and then cut after six decimal places, or three
@@ -116,5 +95,9 @@ pub fn report(alloc: Global, artery: &Artery, found: &Found) -> Result<Vec<u8>, 
     requires site { HasSite artery.now found.now.verdict }
     ensures { IfOk result (λ lines. lines.items ≡ report_lines artery.now found.now) }
 {
-    verdict_lines(alloc, artery, found).map_err(|_| Memory)
+    match &found.verdict {
+        Verdict::Best => best_lines(alloc, artery, &found.timing),
+        Verdict::NoTiming => Ok(Vec::from_slice(alloc, b"verdict none\n")?),
+        Verdict::Stopped(stop) => open_lines(alloc, artery, stop, found.bound, &found.timing),
+    }
 }

@@ -1,17 +1,14 @@
 //! Measures of a timing: each is printed exact, and cut after some decimal places.
 
-ghost use Rattle.std.specs.Prelude.{◌≡◌, ◌++◌, codes, ◌<◌, ◌≤◌, ◌^◌, pos, ◌≤ℤ◌, IfOk, string_bytes};
+ghost use Rattle.std.specs.Prelude.{◌≡◌, ◌++◌, codes, ◌<◌, ◌≤◌, ◌^◌, pos, ◌≤ℤ◌, IfOk};
 ghost use Rattle.ratio.specs.Rational.{over};
-ghost use Rattle.progression.specs.Best.{weighted_band};
-ghost use Rattle.quantity_text.specs.Exact.{exact_spelling};
-ghost use Rattle.quantity_text.specs.Decimal.{decimal_spelling};
 ghost use Rattle.diagram_print.specs.Measures.{dir_name, measure_text, measure_line, weighted_line, band_line, cycle_line, measure_lines};
 
 use artery_model::{Artery, Dir};
-use narrow_fraction::Frac;
+use narrow_fraction::{Frac, Memory};
 use quantity_text::{decimal_text, exact_string};
-use std::alloc::{AllocError, Global};
-use time_space::{Timing, cycle, fraction, value};
+use std::alloc::Global;
+use time_space::{Timing, cycle, value};
 
 /// The printed name of a direction.
 pub fn dir_name(dir: Dir) -> &'static str
@@ -23,63 +20,39 @@ pub fn dir_name(dir: Dir) -> &'static str
     }
 }
 
-/// The exact text of a fraction.
-pub fn exact(alloc: Global, value: Frac) -> Result<String, AllocError>
-    ensures { IfOk result (λ text. string_bytes text ≡ exact_spelling value) }
-{
-    match exact_string(alloc, value) {
-        Ok(text) => Ok(text),
-        Err(_) => Err(AllocError),
-    }
-}
-
-/// The decimal text of a fraction.
-fn decimal(alloc: Global, value: Frac, places: u32) -> Result<Vec<u8>, AllocError>
-    requires least { pos 0 ≤ℤ value.num }
-    requires denominator { value.den ≤ 2 ^ 120 }
-    requires some_places { 1 ≤ places }
-    requires most_places { places ≤ 9 }
-    ensures { IfOk result (λ text. text.items ≡ decimal_spelling value places) }
-{
-    match decimal_text(alloc, value, places) {
-        Ok(text) => Ok(text),
-        Err(_) => Err(AllocError),
-    }
-}
-
 /// A name, a fraction, and the same fraction cut after so many decimal places.
-fn measure_text(alloc: Global, name: &str, value: Frac, places: u32) -> Result<Vec<u8>, AllocError>
+fn measure_text(alloc: Global, name: &str, value: Frac, places: u32) -> Result<Vec<u8>, Memory>
     requires least { pos 0 ≤ℤ value.num }
     requires denominator { value.den ≤ 2 ^ 120 }
     requires some_places { 1 ≤ places }
     requires most_places { places ≤ 9 }
     ensures { IfOk result (λ text. text.items ≡ measure_text name.now value places) }
 {
-    let exact = exact(alloc, value)?;
-    let decimals = decimal(alloc, value, places)?;
+    let exact = exact_string(alloc, value)?;
+    let decimals = decimal_text(alloc, value, places)?;
     let mut text = format!(in alloc; "{name} {exact} = ")?.into_bytes();
     text.extend_from_slice(decimals.as_slice())?;
     Ok(text)
 }
 
 /// The text with its line feed.
-fn ended(text: Vec<u8>) -> Result<Vec<u8>, AllocError>
+fn ended(text: Vec<u8>) -> Result<Vec<u8>, Memory>
     ensures { IfOk result (λ line. line.items ≡ text.items ++ codes "\n") }
 {
     let mut line = text;
-    line.push(b'\n')?;
+    line.extend_from_slice(b"\n")?;
     Ok(line)
 }
 
 /// The quotient of two whole numbers, as a measure.
-#[tactic(auto, using(crate::proofs::Sizes::over_least, crate::proofs::Sizes::over_small))]
+#[tactic(auto, using(crate::proofs::Sizes::over_least))]
 pub fn quotient_text(
     alloc: Global,
     name: &str,
     top: u128,
     bottom: u128,
     places: u32,
-) -> Result<Vec<u8>, AllocError>
+) -> Result<Vec<u8>, Memory>
     requires top { top < 2 ^ 126 }
     requires some { 1 ≤ bottom }
     requires bottom { bottom ≤ 2 ^ 120 }
@@ -87,7 +60,7 @@ pub fn quotient_text(
     requires most_places { places ≤ 9 }
     ensures { IfOk result (λ text. text.items ≡ measure_text name.now (over (pos top) bottom) places) }
 {
-    measure_text(alloc, name, fraction(top, bottom), places)
+    measure_text(alloc, name, Frac::reduced(top as i128, bottom), places)
 }
 
 /// The same as a line.
@@ -97,7 +70,7 @@ pub fn quotient_line(
     top: u128,
     bottom: u128,
     places: u32,
-) -> Result<Vec<u8>, AllocError>
+) -> Result<Vec<u8>, Memory>
     requires top { top < 2 ^ 126 }
     requires some { 1 ≤ bottom }
     requires bottom { bottom ≤ 2 ^ 120 }
@@ -109,34 +82,16 @@ pub fn quotient_line(
     ended(text)
 }
 
-/// The weighted band, a fraction of the cycle, and the sizes of its numbers.
-#[tactic(auto, using(crate::proofs::Sizes::weighted_least, crate::proofs::Sizes::weighted_small))]
-fn weighted(artery: &Artery, timing: &Timing) -> Frac
-    ensures value { result ≡ weighted_band artery.now timing.now }
-    ensures least { pos 0 ≤ℤ result.num }
-    ensures denominator { result.den ≤ 2 ^ 120 }
-{
-    // the contracts of these say how large the numbers are
-    let _ = artery.ratio();
-    let _ = cycle(artery, timing);
-    value(artery, timing)
-}
-
 /// The line of the weighted band.
-fn weighted_line(alloc: Global, artery: &Artery, timing: &Timing) -> Result<Vec<u8>, AllocError>
+fn weighted_line(alloc: Global, artery: &Artery, timing: &Timing) -> Result<Vec<u8>, Memory>
     ensures { IfOk result (λ line. line.items ≡ weighted_line artery.now timing.now) }
 {
-    let text = measure_text(alloc, "weighted", weighted(artery, timing), 6)?;
+    let text = measure_text(alloc, "weighted", value(artery, timing), 6)?;
     ended(text)
 }
 
 /// The line of a direction's band, a fraction of the cycle.
-fn band_line(
-    alloc: Global,
-    artery: &Artery,
-    timing: &Timing,
-    dir: Dir,
-) -> Result<Vec<u8>, AllocError>
+fn band_line(alloc: Global, artery: &Artery, timing: &Timing, dir: Dir) -> Result<Vec<u8>, Memory>
     ensures { IfOk result (λ line. line.items ≡ band_line artery.now timing.now dir) }
 {
     let dir_name = dir_name(dir);
@@ -151,14 +106,14 @@ fn band_line(
 }
 
 /// The line of the cycle, in seconds.
-fn cycle_line(alloc: Global, artery: &Artery, timing: &Timing) -> Result<Vec<u8>, AllocError>
+fn cycle_line(alloc: Global, artery: &Artery, timing: &Timing) -> Result<Vec<u8>, Memory>
     ensures { IfOk result (λ line. line.items ≡ cycle_line artery.now timing.now) }
 {
     quotient_line(alloc, "cycle", cycle(artery, timing), timing.grid(), 3)
 }
 
 /// The lines of the bands and of the cycle.
-pub fn measure_lines(alloc: Global, artery: &Artery, timing: &Timing) -> Result<Vec<u8>, AllocError>
+pub fn measure_lines(alloc: Global, artery: &Artery, timing: &Timing) -> Result<Vec<u8>, Memory>
     ensures { IfOk result (λ lines. lines.items ≡ measure_lines artery.now timing.now) }
 {
     let mut lines = weighted_line(alloc, artery, timing)?;

@@ -8,7 +8,8 @@ ghost use Rattle.diagram_print.specs.Offsets.{offset_name, signal_line, signal_l
 
 use crate::measures::quotient_text;
 use artery_model::Artery;
-use std::alloc::{AllocError, Global};
+use narrow_fraction::Memory;
+use std::alloc::Global;
 use time_space::{Timing, cycle, since_start};
 
 /// How many ticks after the common red of signal 1 that of a signal starts.
@@ -26,13 +27,13 @@ fn offset_ticks(artery: &Artery, timing: &Timing, signal: u32) -> u128
 }
 
 /// What stands before a signal's offset.
-fn offset_name(alloc: Global, timing: &Timing, signal: u32) -> Result<String, AllocError>
+fn offset_name(alloc: Global, timing: &Timing, signal: u32) -> Result<String, Memory>
     requires first { 1 ≤ signal }
     requires last { signal ≤ length timing.now.patterns }
     ensures { IfOk result (λ text. string_bytes text ≡ offset_name timing.now signal) }
 {
     let pattern = timing.pattern(signal);
-    format!(in alloc; "signal {signal} pattern {pattern} offset")
+    Ok(format!(in alloc; "signal {signal} pattern {pattern} offset")?)
 }
 
 /// The name of a signal.
@@ -50,7 +51,7 @@ fn signal_line(
     artery: &Artery,
     timing: &Timing,
     signal: u32,
-) -> Result<Vec<u8>, AllocError>
+) -> Result<Vec<u8>, Memory>
     requires shape { length timing.now.patterns ≡ count artery.now }
     requires first { 1 ≤ signal }
     requires last { signal ≤ count artery.now }
@@ -59,15 +60,15 @@ fn signal_line(
     let name = offset_name(alloc, timing, signal)?;
     let ticks = offset_ticks(artery, timing, signal);
     let mut line = quotient_text(alloc, name.as_str(), ticks, timing.grid(), 3)?;
-    line.push(b' ')?;
+    line.extend_from_slice(b" ")?;
     line.extend_from_slice(signal_name(artery, signal).as_bytes())?;
-    line.push(b'\n')?;
+    line.extend_from_slice(b"\n")?;
     Ok(line)
 }
 
 /// The lines of the signals, from the first on.
 #[tactic(auto, using(crate::proofs::Pieces::piece_up))]
-pub fn signal_lines(alloc: Global, artery: &Artery, timing: &Timing) -> Result<Vec<u8>, AllocError>
+pub fn signal_lines(alloc: Global, artery: &Artery, timing: &Timing) -> Result<Vec<u8>, Memory>
     requires { length timing.now.patterns ≡ count artery.now }
     ensures { IfOk result (λ lines. lines.items ≡ signal_lines artery.now timing.now) }
 {

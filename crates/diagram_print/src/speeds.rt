@@ -8,7 +8,8 @@ ghost use Rattle.diagram_print.specs.Speeds.{link_name, speed_line, speed_lines,
 
 use crate::measures::{dir_name, quotient_line};
 use artery_model::{Artery, Dir, Units};
-use std::alloc::{AllocError, Global};
+use narrow_fraction::Memory;
+use std::alloc::Global;
 use time_space::Timing;
 
 /// The ticks that a direction's band takes on a link. A good timing takes some, since no speed limit allows none.
@@ -26,11 +27,11 @@ fn run_ticks(artery: &Artery, timing: &Timing, dir: Dir, link: u32) -> u128
 }
 
 /// What stands before a link's speed.
-fn link_name(alloc: Global, dir: Dir, link: u32) -> Result<String, AllocError>
+fn link_name(alloc: Global, dir: Dir, link: u32) -> Result<String, Memory>
     ensures { IfOk result (λ text. string_bytes text ≡ link_name dir link) }
 {
     let dir_name = dir_name(dir);
-    format!(in alloc; "link {link} {dir_name}")
+    Ok(format!(in alloc; "link {link} {dir_name}")?)
 }
 
 /// The line of a direction's speed on a link, in the description's units.
@@ -40,7 +41,7 @@ fn speed_line(
     timing: &Timing,
     dir: Dir,
     link: u32,
-) -> Result<Vec<u8>, AllocError>
+) -> Result<Vec<u8>, Memory>
     requires good { Good artery.now timing.now }
     requires first { 1 ≤ link }
     requires last { link < count artery.now }
@@ -64,7 +65,7 @@ fn speed_lines(
     artery: &Artery,
     timing: &Timing,
     link: u32,
-) -> Result<Vec<u8>, AllocError>
+) -> Result<Vec<u8>, Memory>
     requires good { Good artery.now timing.now }
     requires first { 1 ≤ link }
     requires last { link < count artery.now }
@@ -77,7 +78,7 @@ fn speed_lines(
 }
 
 /// The lines of the links, from the first on.
-pub fn link_lines(alloc: Global, artery: &Artery, timing: &Timing) -> Result<Vec<u8>, AllocError>
+pub fn link_lines(alloc: Global, artery: &Artery, timing: &Timing) -> Result<Vec<u8>, Memory>
     requires { Good artery.now timing.now }
     ensures { IfOk result (λ lines. lines.items ≡ link_lines artery.now timing.now) }
 {

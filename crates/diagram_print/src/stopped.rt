@@ -3,27 +3,28 @@
 ghost use Rattle.std.specs.Prelude.{◌≡◌, ◌+◌, ◌≤◌, length, flat_map, IfOk, string_bytes};
 ghost use Rattle.search_box.specs.Seen.{span_of};
 ghost use Rattle.linear_model.specs.Boxes.{turn_span};
-ghost use Rattle.progression.specs.Street.{Street, count};
+ghost use Rattle.progression.specs.Street.{count};
 ghost use Rattle.branch_tree.specs.Searches.{IsStopOf};
 ghost use Rattle.diagram_print.specs.Report.{span_text, ranks_text, loops_line, shifts_line, pivots_line, wide_lines, stop_lines};
 
 use crate::sites::{operands_line, site_line};
 use artery_model::Artery;
 use branch_tree::{Site, Stop};
+use narrow_fraction::Memory;
 use search_box::{SearchBox, Span};
-use std::alloc::{AllocError, Global};
+use std::alloc::Global;
 
 /// A space, and the two ends of a span.
-fn span_text(alloc: Global, span: Span) -> Result<String, AllocError>
+fn span_text(alloc: Global, span: Span) -> Result<String, Memory>
     ensures { IfOk result (λ text. string_bytes text ≡ span_text (span_of span)) }
 {
     let least = span.least;
     let most = span.most;
-    format!(in alloc; " {least}:{most}")
+    Ok(format!(in alloc; " {least}:{most}")?)
 }
 
 /// The spans of so many links.
-fn loops_text(alloc: Global, area: &SearchBox, links: u32) -> Result<String, AllocError>
+fn loops_text(alloc: Global, area: &SearchBox, links: u32) -> Result<String, Memory>
     requires count { length area.now.loops ≡ links }
     requires few { links ≤ 16 }
     ensures { IfOk result (λ text. string_bytes text ≡ flat_map span_text area.now.loops) }
@@ -37,7 +38,7 @@ fn loops_text(alloc: Global, area: &SearchBox, links: u32) -> Result<String, All
 }
 
 /// The ranks of so many signals.
-fn shifts_text(alloc: Global, area: &SearchBox, signals: u32) -> Result<String, AllocError>
+fn shifts_text(alloc: Global, area: &SearchBox, signals: u32) -> Result<String, Memory>
     requires count { length area.now.turns ≡ signals }
     requires few { signals ≤ 16 }
     ensures { IfOk result (λ text. string_bytes text ≡ flat_map ranks_text area.now.turns) }
@@ -51,33 +52,33 @@ fn shifts_text(alloc: Global, area: &SearchBox, signals: u32) -> Result<String, 
 }
 
 /// The line of a box's spans of block sums, of so many links.
-fn loops_line(alloc: Global, area: &SearchBox, links: u32) -> Result<String, AllocError>
+fn loops_line(alloc: Global, area: &SearchBox, links: u32) -> Result<String, Memory>
     requires count { length area.now.loops ≡ links }
     requires few { links ≤ 16 }
     ensures { IfOk result (λ text. string_bytes text ≡ loops_line area.now) }
 {
     let loops = loops_text(alloc, area, links)?;
-    format!(in alloc; "loops{loops}\n")
+    Ok(format!(in alloc; "loops{loops}\n")?)
 }
 
 /// The line of a box's spans of ranks, of so many signals.
-fn shifts_line(alloc: Global, area: &SearchBox, signals: u32) -> Result<String, AllocError>
+fn shifts_line(alloc: Global, area: &SearchBox, signals: u32) -> Result<String, Memory>
     requires count { length area.now.turns ≡ signals }
     requires few { signals ≤ 16 }
     ensures { IfOk result (λ text. string_bytes text ≡ shifts_line area.now) }
 {
     let shifts = shifts_text(alloc, area, signals)?;
-    format!(in alloc; "shifts{shifts}\n")
+    Ok(format!(in alloc; "shifts{shifts}\n")?)
 }
 
-fn pivots_line(alloc: Global, pivots: u64) -> Result<String, AllocError>
+fn pivots_line(alloc: Global, pivots: u64) -> Result<String, Memory>
     ensures { IfOk result (λ text. string_bytes text ≡ pivots_line pivots) }
 {
-    format!(in alloc; "pivots {pivots}\n")
+    Ok(format!(in alloc; "pivots {pivots}\n")?)
 }
 
 /// The lines of an operation that left 128 bits, on an artery with so many signals.
-fn wide_lines(alloc: Global, signals: u32, site: &Site) -> Result<String, AllocError>
+fn wide_lines(alloc: Global, signals: u32, site: &Site) -> Result<String, Memory>
     requires loops { length site.now.area.loops + 1 ≡ signals }
     requires turns { length site.now.area.turns ≡ signals }
     requires few { signals ≤ 16 }
@@ -88,16 +89,16 @@ fn wide_lines(alloc: Global, signals: u32, site: &Site) -> Result<String, AllocE
     let pivots = pivots_line(alloc, site.pivots)?;
     let place = site_line(alloc, signals, site.part)?;
     let operands = operands_line(alloc, site.part)?;
-    format!(in alloc; "stopped wide\n{loops}{shifts}{pivots}{place}{operands}")
+    Ok(format!(in alloc; "stopped wide\n{loops}{shifts}{pivots}{place}{operands}")?)
 }
 
 /// The lines that tell why a search of this artery stopped.
-pub fn stop_lines(alloc: Global, artery: &Artery, stop: &Stop) -> Result<String, AllocError>
+pub fn stop_lines(alloc: Global, artery: &Artery, stop: &Stop) -> Result<String, Memory>
     requires { IsStopOf artery.now stop.now }
     ensures { IfOk result (λ text. string_bytes text ≡ stop_lines (count artery.now) stop.now) }
 {
     match stop {
-        Stop::Work { spent } => format!(in alloc; "stopped work {spent}\n"),
+        Stop::Work { spent } => Ok(format!(in alloc; "stopped work {spent}\n")?),
         Stop::Wide(site) => wide_lines(alloc, artery.count(), site),
     }
 }

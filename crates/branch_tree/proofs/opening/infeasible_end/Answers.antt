@@ -1,10 +1,10 @@
-use Rattle.std.proofs.Common.{◌≡◌, None, Some, inr, refl, sym, ◌∙◌, ap, subst}
+use Rattle.std.proofs.Common.{◌≡◌, inr, refl, sym, ◌∙◌, ap, subst}
 use Rattle.node_tree.specs.Lines.{top_line}
 use Rattle.loop_rows.specs.Weights.{leaf_fault}
 use Rattle.branch_tree.specs.Ends.{end_leaf}
-use Rattle.branch_tree.specs.Runs.{wide_sum_infeasible}
+use Rattle.branch_tree.proofs.Runs.{wide_sum_infeasible}
 use Rattle.branch_tree.specs.Opening.{IsSummed}
-use Rattle.branch_tree.specs.Openings.{opens_empty}
+use Rattle.branch_tree.proofs.Openings.{opens_empty}
 use Rattle.branch_tree.proofs.Leaving.{ends_unproved}
 use Rattle.branch_tree.proofs.Reading.{row_said, refuter_read, refuter_rows}
 use Rattle.branch_tree.proofs.opening.infeasible_end.Goals as goal

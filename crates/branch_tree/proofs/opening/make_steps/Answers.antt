@@ -1,7 +1,6 @@
 use Rattle.std.proofs.Common.{◌≡◌, refl, sym, ap, subst}
-use Rattle.simplex_model.specs.DualSteps.{IsDual}
 use Rattle.program_builder.specs.OpeningLaws.{opening_dual}
-use Rattle.branch_and_bound.specs.Units.{IsWithin}
+use Rattle.work_meter.specs.Work.{IsWithin}
 use Rattle.branch_tree.proofs.Running.{made_after, run_from, within_limit}
 use Rattle.branch_tree.proofs.opening.make_steps.Goals as goal
 

@@ -1,11 +1,10 @@
-use Rattle.std.proofs.Common.{◌≡◌, None, Some, inr, refl, sym, ◌∙◌, ap, subst}
+use Rattle.std.proofs.Common.{◌≡◌, inr, refl, sym, ◌∙◌, ap, subst}
 use Rattle.node_tree.specs.Lines.{top_line}
 use Rattle.loop_rows.specs.Weights.{leaf_fault}
-use Rattle.loop_rows.specs.declared.fault.SumFault.TheVariants as fault
 use Rattle.branch_tree.specs.Ends.{end_leaf}
-use Rattle.branch_tree.specs.EndLaws.{optimal_end}
+use Rattle.branch_tree.specs.RuleLaws.EndLaws.{optimal_end}
 use Rattle.branch_tree.specs.LeafRows.{sum_of}
-use Rattle.branch_tree.specs.Runs.{wide_sum_optimal}
+use Rattle.branch_tree.proofs.Runs.{wide_sum_optimal}
 use Rattle.branch_tree.specs.Opening.{IsSummed}
 use Rattle.branch_tree.proofs.Leaving.{ends_unproved}
 use Rattle.branch_tree.proofs.Reading.{leaf_read, leaf_rows}

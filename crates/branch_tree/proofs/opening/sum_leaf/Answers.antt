@@ -1,9 +1,8 @@
-use Rattle.std.proofs.Common.{Some, subst, sym, ◌∙◌, ap}
+use Rattle.std.proofs.Common.{subst, ◌∙◌, ap}
 use Rattle.named_row.specs.Sheets.{Sheet, at_place}
-use Rattle.named_row.specs.declared.names.Place.TheVariants.{Bound}
 use Rattle.loop_rows.specs.Weights.{leaf_fault, IsFirstFault}
-use Rattle.loop_rows.proofs.LeafSums.{total_bound}
-use Rattle.branch_tree.specs.LeafFaults.{only_wide}
+use Rattle.loop_rows.specs.LeafSums.{total_bound}
+use Rattle.branch_tree.proofs.LeafFaults.{only_wide}
 use Rattle.branch_tree.proofs.opening.sum_leaf.Goals as goal
 
 pub unreachable-requires : goal.unreachable-requires

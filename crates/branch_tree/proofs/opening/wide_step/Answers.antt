@@ -1,7 +1,7 @@
 use Rattle.std.proofs.Common.{◌≡◌, refl, subst}
 use Rattle.dual_simplex.specs.declared.outcome.Step.TheVariants as steps
 use Rattle.branch_tree.specs.Sites.{step_at}
-use Rattle.branch_tree.specs.Runs.{wide_ratio, wide_cell}
+use Rattle.branch_tree.proofs.Runs.{wide_ratio, wide_cell}
 use Rattle.branch_tree.proofs.opening.wide_step.Goals as goal
 
 pub returns-then-ratio : goal.returns-then-ratio

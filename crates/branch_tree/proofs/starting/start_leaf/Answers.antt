@@ -6,8 +6,8 @@ use Rattle.certificate_checker.specs.Accepted.{IsProof}
 use Rattle.loop_rows.specs.Weights.{leaf_fault}
 use Rattle.branch_tree.specs.LeafRows.{sum_of}
 use Rattle.branch_tree.specs.Starts.{start_leaf, start_bound}
-use Rattle.branch_tree.specs.StartFits.{start_fits}
-use Rattle.branch_tree.specs.BoxProofs.{start_covers}
+use Rattle.branch_tree.proofs.StartFits.{start_fits}
+use Rattle.branch_tree.proofs.BoxProofs.{start_covers}
 use Rattle.branch_tree.proofs.starting.start_leaf.Goals as goal
 
 pub first_bound-requires-clause-fits : goal.first_bound-requires-clause-fits

@@ -1,6 +1,6 @@
 use Rattle.std.proofs.Common.{◌≤◌, sym, subst, pos, ◌≤ℤ◌}
 use Rattle.ratio.specs.Rational.{ℚ}
-use Rattle.diagram_print.proofs.Runs.{some_ticks}
+use Rattle.time_space.specs.GridLimits.{some_ticks}
 use Rattle.diagram_print.proofs.speeds.run_ticks.Goals as goal
 
 pub returns-clause-least : goal.returns-clause-least

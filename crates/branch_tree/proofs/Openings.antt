@@ -5,77 +5,30 @@ use Rattle.ratio.specs.Rational.{ℚ}
 use Rattle.progression.specs.Street.{Street}
 use Rattle.progression.specs.Plan.{Plan}
 use Rattle.artery_model.specs.Valid.{IsValid}
-use Rattle.linear_model.specs.Boxes.{Area, IsBoxOf}
+use Rattle.linear_model.specs.Boxes.{IsBoxOf}
 use Rattle.named_row.specs.declared.leaves.Leaf.{Leaf}
 use Rattle.named_row.specs.declared.leaves.Point.{Point}
-use Rattle.simplex_model.specs.Tableau.{goal_bound}
-use Rattle.simplex_model.specs.BlandRule.{optimal, infeasible, move}
-use Rattle.simplex_model.specs.StepCounts.{is_pivot}
-use Rattle.simplex_model.specs.RowLists.{vertex_point}
+use Rattle.simplex_model.specs.BlandRule.{optimal, infeasible}
 use Rattle.dual_simplex.specs.declared.outcome.Step.TheVariants as steps
-use Rattle.dual_simplex.specs.Steps.{Agrees, agrees}
-use Rattle.dual_leaf.specs.Leaves.{goal_multipliers, row_multipliers}
-use Rattle.loop_rows.specs.Weights.{leaf_fault, leaf_total}
-use Rattle.loop_rows.proofs.LeafSums.{total_bound}
+use Rattle.loop_rows.specs.Weights.{leaf_fault}
 use Rattle.search_box.specs.declared.span.At.{At}
 use Rattle.offset_recovery.specs.declared.outcome.WideTiming.{WideTiming}
 use Rattle.offset_recovery.specs.Outcomes.{Outcome, Refused, Splits, Gives}
 use Rattle.offset_recovery.specs.Recovered.{recovered}
 use Rattle.node_tree.specs.Lines.{Line}
 use Rattle.branch_and_bound.specs.Lineages.{IsOptimal}
-use Rattle.branch_and_bound.specs.Units.{capped}
+use Rattle.work_meter.specs.Work.{capped}
 use Rattle.branch_and_bound.specs.Opening.{OpensEmpty, HasBound, OpensTimed, OpensCut, OpensStuck}
 use Rattle.branch_tree.specs.declared.site.SitePart.TheVariants.{Timing}
 use Rattle.branch_tree.specs.declared.kept.Kept.{Kept}
-use Rattle.branch_tree.specs.Ends.{table_after, named_after, named_last, steps_of, end_move, end_point, end_bound, leaf_by, end_leaf, ending_of, ending_by_outcome}
+use Rattle.branch_tree.specs.Ends.{steps_of, end_move, end_point, end_bound, end_leaf, ending_of, ending_by_outcome}
 use Rattle.branch_tree.specs.Sites.{step_at, IsReached}
-use Rattle.branch_tree.specs.Endings.{ends_empty, ends_by_outcome}
-use Rattle.branch_tree.specs.Runs.{end_here, wide_timing}
-use Rattle.branch_tree.specs.BoxLaws.{ends_optimal, reads_good}
-use Rattle.branch_tree.specs.BoxProofs.{end_covers, end_refutes}
+use Rattle.branch_tree.specs.RuleLaws.Endings.{ends_empty, ends_by_outcome}
+use Rattle.branch_tree.proofs.Runs.{wide_timing}
+use Rattle.branch_tree.specs.RuleLaws.BoxLaws.{reads_good}
+use Rattle.branch_tree.proofs.BoxProofs.{end_covers, end_refutes}
 use Rattle.branch_tree.specs.Relaxed.{rules_of}
 
--- ---- at an end that was reached after k steps
-pub record IsOptimalAt (a : Street) (box : Area) (k : ℕ) : Type 0 where
-  pub steps : k ≡ steps_of a box
-  pub is : end_move a box ≡ optimal
-  pub leaf : goal_multipliers (named_after a box k) ≡ end_leaf a box
-  pub point : vertex_point (table_after a box k) ≡ end_point a box
-  pub bound : goal_bound (table_after a box k) ≡ end_bound a box
-
-pub record IsInfeasibleAt (a : Street) (box : Area) (k i : ℕ) : Type 0 where
-  pub steps : k ≡ steps_of a box
-  pub is : end_move a box ≡ infeasible i
-  pub leaf : row_multipliers (named_after a box k) i ≡ end_leaf a box
-
-module _ (a : Street) (box : Area) (v : IsValid a) (k : ℕ) (r : IsReached a box k) where
-  pub optimal_at : step_at a box k ≡ steps.Optimal → IsOptimalAt a box k
-  unfolding end_leaf
-  optimal_at e =
-      let m : move (table_after a box k) ≡ optimal = subst (λ s. Agrees s (move (table_after a box k))) e (agrees (table_after a box k)) in
-      let n = end_here a box v k r (ap is_pivot m) in
-      let is : end_move a box ≡ optimal = subst (λ j. move (table_after a box j) ≡ optimal) n m in
-      record {
-        steps = n;
-        is = is;
-        leaf = ap (λ j. goal_multipliers (named_after a box j)) n ∙ ap (leaf_by (named_last a box)) (sym is);
-        point = ap (λ j. vertex_point (table_after a box j)) n;
-        bound = ap (λ j. goal_bound (table_after a box j)) n;
-      }
-
-  pub infeasible_at : (i : ℕ) → step_at a box k ≡ steps.Infeasible i → IsInfeasibleAt a box k i
-  unfolding end_leaf
-  infeasible_at i e =
-      let m : move (table_after a box k) ≡ infeasible i = subst (λ s. Agrees s (move (table_after a box k))) e (agrees (table_after a box k)) in
-      let n = end_here a box v k r (ap is_pivot m) in
-      let is : end_move a box ≡ infeasible i = subst (λ j. move (table_after a box j) ≡ infeasible i) n m in
-      record { steps = n; is = is; leaf = ap (λ j. row_multipliers (named_after a box j) i) n ∙ ap (leaf_by (named_last a box)) (sym is) }
-
--- the bound that the sum of the end's leaf has
-pub bound_read : (a : Street) (box : Area) → IsValid a → IsOptimal (ending_of a box) → (leaf_total a box (end_leaf a box)).bound ≡ end_bound a box
-bound_read a box v o = total_bound a box (end_leaf a box) ∙ (ends_optimal a box v o).bound
-
--- ---- what is answered
 module _ (a : Street) (line : Line) (leaf : Leaf) (v : IsValid a) (read : leaf.multipliers.items ≡ end_leaf a line.area) (f : leaf_fault a line.area (end_leaf a line.area) ≡ None) where
   pub opens_empty : (i : ℕ) → end_move a line.area ≡ infeasible i → OpensEmpty (rules_of a) line leaf
   opens_empty i e =

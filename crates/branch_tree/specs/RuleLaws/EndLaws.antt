@@ -1,7 +1,6 @@
 -- What the end of a box's run is: its vertex is a point of the box whose weighted band is the bound, and its leaf covers the goal
 -- with the bound, or refutes.
 use Rattle.std.proofs.Common.{◌≡◌, ℕ, zero, suc, pos, false, List, [], ◌∷◌, length, map, ◌<◌, refl, sym, ◌∙◌, ap, subst, arith}
-use Rattle.std.proofs.lemmas.Int.{ints}
 use Rattle.std.proofs.lemmas.List.{get_or-map}
 use Rattle.ratio.specs.Rational.{ℚ, whole, ◌≤ℚ◌}
 use Rattle.ratio.specs.Order.{≤ℚ_refl, <ℚ_not-≤ℚ}
@@ -35,9 +34,10 @@ use Rattle.recovery_model.specs.Vertices.{IsVertex, goal_at}
 use Rattle.dual_leaf.specs.Leaves.{goal_multipliers, row_multipliers, CoversWith, RefutesAt}
 use Rattle.dual_leaf.specs.LeafLaws.{goal_leaf_covers, row_leaf_refutes, own_shares}
 use Rattle.branch_tree.specs.Ends.{table_after, steps_of, last_table, named_last, end_move, end_point, end_bound, leaf_by, end_leaf}
-use Rattle.branch_tree.specs.LeafRows.{sum_of, sum_read, weights_there}
-use Rattle.branch_tree.specs.Standing.{height-after, width-after, stands_after}
-use Rattle.branch_tree.specs.WeakDuality.{goal_not_negative}
+use Rattle.branch_tree.specs.LeafRows.{sum_of}
+use Rattle.branch_tree.specs.RuleLaws.LeafWeights.{sum_read, weights_there}
+use Rattle.branch_tree.specs.RuleLaws.Standing.{height-after, width-after, stands_after}
+use Rattle.branch_tree.specs.RuleLaws.WeakDuality.{ratio_low, goal_not_negative}
 
 -- ---- what is promised of an end
 pub record IsOptimalEnd (a : Street) (box : Area) : Type 0 where
@@ -117,10 +117,6 @@ module _ (a : Street) (box : Area) (v : IsValid a) where
   each_named : length (rows_of a) ≡ height (last_table a box)
   each_named = sym (run_height (steps_of a box))
 
-  ratio_low : number 0 ≤ℚ a.head.ratio
-  unfolding whole
-  ratio_low = record { cross = let l = v.ratio.least in omega (arith, ints, l) }
-
   -- ---- an optimal end
   module _ (e : end_move a box ≡ optimal) where
     bounds_low : (i : ℕ) → i < height (last_table a box) → whole (pos 0) ≤ℚ bound (last_table a box) i
@@ -163,7 +159,7 @@ module _ (a : Street) (box : Area) (v : IsValid a) where
 
     -- the bound is a weighted band, so at least 0
     pub bound_not_negative : number 0 ≤ℚ end_bound a box
-    bound_not_negative = subst (λ y. number 0 ≤ℚ y) optimal_end.goal (goal_not_negative a box (end_point a box) optimal_end.vertex ratio_low one_positive)
+    bound_not_negative = subst (λ y. number 0 ≤ℚ y) optimal_end.goal (goal_not_negative a box (end_point a box) optimal_end.vertex (ratio_low a v) one_positive)
 
     -- so the leaf doesn't refute
     pub optimal_not_refuted : RefutesAll a (sum_of a box (end_leaf a box)) → ⊥

@@ -1,9 +1,8 @@
 -- The start leaf covers the goal with its bound.
 use Rattle.std.proofs.Common.{◌≡◌, ℕ, zero, suc, pos, Bool, true, false, cond, List, [], ◌∷◌, set, replicate, map, ◌≤◌, refl, sym, ◌∙◌, ap, subst, arith}
 use Rattle.std.specs.Ordering.{eq_by_cmp}
-use Rattle.std.proofs.lemmas.Int.{ints}
 use Rattle.std.proofs.lemmas.List.{length-set, length-replicate, get_or-set_same}
-use Rattle.ratio.specs.Rational.{ℚ, whole, ◌+ℚ◌, ◌*ℚ◌, ◌≤ℚ◌}
+use Rattle.ratio.specs.Rational.{ℚ, ◌+ℚ◌, ◌*ℚ◌, ◌≤ℚ◌}
 use Rattle.ratio.specs.Compare.{cmp_ℚ, eq_true}
 use Rattle.ratio.specs.Order.{≤ℚ_refl}
 use Rattle.ratio.specs.Linear.{linear, sum_not_negative, product_not_negative}
@@ -25,7 +24,9 @@ use Rattle.loop_rows.specs.Weights.{named}
 use Rattle.simplex_model.specs.Signs.{one_positive}
 use Rattle.program_builder.specs.LineCells.{line_each, line_other, line_first}
 use Rattle.simplex_model.specs.Lines.{get_or-add, get_or-scale}
-use Rattle.branch_tree.specs.LeafRows.{sum_of, weight_there}
+use Rattle.branch_tree.specs.LeafRows.{sum_of}
+use Rattle.branch_tree.specs.RuleLaws.LeafWeights.{weight_there}
+use Rattle.branch_tree.specs.RuleLaws.WeakDuality.{ratio_low}
 use Rattle.branch_tree.specs.Starts.{first_out, first_in, start_leaf, start_bound}
 
 pub record IsGoodStart (a : Street) : Type 0 where
@@ -33,12 +34,8 @@ pub record IsGoodStart (a : Street) : Type 0 where
   pub covers : CoversGoal a (start_bound a) (sum_of a (root_box a) (start_leaf a))
 
 module _ (a : Street) (v : IsValid a) where
-  pub ratio_low : number 0 ≤ℚ a.head.ratio
-  unfolding whole
-  ratio_low = record { cross = let l = v.ratio.least in omega (arith, ints, l) }
-
   start_rows : AreWeights a (map named (start_leaf a))
-  start_rows = ((omega arith, let n = v.few in omega arith), one_positive, weight_there a first_in a.head.ratio (omega arith, let n = v.few in omega arith) ratio_low)
+  start_rows = ((omega arith, let n = v.few in omega arith), one_positive, weight_there a first_in a.head.ratio (omega arith, let n = v.few in omega arith) (ratio_low a v))
 
   -- ---- the numbers of the two rows and of the goal
   abbrev wait_coef : Dir → ℕ → ℚ
@@ -95,7 +92,7 @@ module _ (a : Street) (v : IsValid a) where
   more_right x y h = linear (record { count = 1; low = lit (pos 0); high = at 0 } ∷ []) 0 (at 1) (at 0 ⊕ at 1) (x ∷ y ∷ []) (h, tt) refl
 
   in_low : (j : ℕ) → number 0 ≤ℚ (a.head.ratio *ℚ wait_coef Inbound j)
-  in_low j = product_not_negative _ _ ratio_low (wait_low Inbound j)
+  in_low j = product_not_negative _ _ (ratio_low a v) (wait_low Inbound j)
 
   goal_under : (j : ℕ) → goal_coef j ≤ℚ (wait_coef Outbound j +ℚ a.head.ratio *ℚ wait_coef Inbound j)
   goal_under zero = subst (λ y. y ≤ℚ (wait_coef Outbound 0 +ℚ a.head.ratio *ℚ wait_coef Inbound 0)) (out_first ∙ sym goal_first) (more_left (wait_coef Outbound 0) (a.head.ratio *ℚ wait_coef Inbound 0) (in_low 0))

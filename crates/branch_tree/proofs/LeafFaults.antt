@@ -6,7 +6,7 @@ use Rattle.progression.specs.Street.{Street, count}
 use Rattle.linear_model.specs.Places.{width}
 use Rattle.linear_model.specs.Boxes.{Area}
 use Rattle.linear_model.specs.Trees.{leaf_sum, AreWeights}
-use Rattle.narrow_fraction.specs.Attempt.{earlier}
+use Rattle.narrow_fraction.specs.Attempt.{earlier, neither, some_not_none}
 use Rattle.named_row.specs.Sheets.{Sheet, blank}
 use Rattle.named_row.specs.Refusals.{sum_refusal}
 use Rattle.named_row.specs.declared.leaves.Weight.{Weight}
@@ -15,8 +15,9 @@ use Rattle.loop_rows.specs.RowTests.{row_decided}
 use Rattle.loop_rows.specs.Weights.{named, name_at, row_at, after_weight, weight_fault, weights_fault, leaf_fault}
 use Rattle.loop_rows.specs.declared.fault.SumFault.{SumFault}
 use Rattle.loop_rows.specs.declared.fault.SumFault.TheVariants.{NoSuchRow, Negative, Wide, Memory}
-use Rattle.loop_rows.proofs.LeafSums.{neither, no_fault, not_below, row_wide, fault_free, total_weights}
+use Rattle.loop_rows.specs.LeafSums.{no_fault, not_below, row_wide, fault_free, total_weights}
 use Rattle.certificate_checker.specs.Accepted.{FitsAlong, Shows, IsProof}
+use Rattle.branch_tree.proofs.EachRefusal.{some_same}
 
 abbrev pub IsWideFault : SumFault → Type 0
 IsWideFault (Wide row at) = Unit {0}
@@ -24,14 +25,11 @@ IsWideFault (NoSuchRow row) = ⊥
 IsWideFault (Negative row) = ⊥
 IsWideFault Memory = ⊥
 
-some_same : {X : Type 0} (x y : X) → Some x ≡ Some y → x ≡ y
-some_same x y e = cc
-
 one_wide : (a : Street) (box : Area) (sum : Sheet) (w : Weight) (ws : List Weight) → AreWeights a (map named (w ∷ ws)) → (f : SumFault) → weight_fault a box sum w ≡ Some f → IsWideFault f
 one_wide a box sum w ws h f e = pick (sum_refusal w.by (row_at a box w.row) sum) refl
   where
     pick : (o : Option WideAt) → sum_refusal w.by (row_at a box w.row) sum ≡ o → IsWideFault f
-    pick None r = let q = fault_free a box sum w (record { there = h.0; positive = h.1; fits = r }) in absurd (let g : Some f ≡ None = sym e ∙ q in cc)
+    pick None r = let q = fault_free a box sum w (record { there = h.0; positive = h.1; fits = r }) in some_not_none (sym e ∙ q)
     pick (Some at) r =
         let q = row_wide a box sum w _ (row_decided a (name_at w.row)) ((row_decided a (name_at w.row)).1 h.0) (not_below w.by _ h.1) at r in
         subst IsWideFault (some_same (Wide w.row at) f (sym q ∙ e)) tt

@@ -9,10 +9,10 @@ use Rattle.certificate_checker.specs.Accepted.{IsProof}
 use Rattle.branch_and_bound.specs.Lineages.{Empty, IsOptimal}
 use Rattle.branch_tree.specs.Ends.{end_bound, end_leaf, ending_of}
 use Rattle.branch_tree.specs.Starts.{start_leaf, start_bound}
-use Rattle.branch_tree.specs.StartLaws.{start_good}
-use Rattle.branch_tree.specs.StartFits.{start_fits}
-use Rattle.branch_tree.specs.BoxLaws.{ends_optimal, ends_infeasible}
-use Rattle.branch_tree.specs.LeafFaults.{proof_of}
+use Rattle.branch_tree.proofs.StartLaws.{start_good}
+use Rattle.branch_tree.proofs.StartFits.{start_fits}
+use Rattle.branch_tree.specs.RuleLaws.BoxLaws.{ends_optimal, ends_infeasible}
+use Rattle.branch_tree.proofs.LeafFaults.{proof_of}
 
 module _ (a : Street) (box : Area) (v : IsValid a) (f : leaf_fault a box (end_leaf a box) ≡ None) where
   pub end_covers : IsOptimal (ending_of a box) → IsProof a (Some (end_bound a box)) box (end_leaf a box)

@@ -1,29 +1,19 @@
 -- What an ending says of the last tableau and its vertex, and the other way round.
 use Rattle.std.proofs.Common.{◌≡◌, ℕ, false, true≢false, refl, sym, ◌∙◌, ap, subst}
 use Rattle.progression.specs.Street.{Street}
-use Rattle.progression.specs.Plan.{Plan}
 use Rattle.linear_model.specs.Boxes.{Area}
 use Rattle.search_box.specs.declared.span.At.{At}
 use Rattle.simplex_model.specs.BlandRule.{Move, optimal, infeasible, pivoted}
 use Rattle.simplex_model.specs.StepCounts.{is_pivot}
-use Rattle.offset_recovery.specs.declared.outcome.WideTiming.{WideTiming}
 use Rattle.offset_recovery.specs.Outcomes.{Outcome, Refused, Splits, Gives}
 use Rattle.offset_recovery.specs.Recovered.{recovered}
-use Rattle.branch_and_bound.specs.Lineages.{Ending, NoEnd, Empty, Reads, Cuts, Stuck, IsOptimal}
+use Rattle.branch_and_bound.specs.Lineages.{Ending, NoEnd, Empty, Cuts, IsOptimal}
 use Rattle.branch_tree.specs.Ends.{end_move, end_point, ending_by_outcome, ending_by, ending_of}
 
--- the row of an infeasible end, the timing of a vertex, and its refusal
+-- the row of an infeasible end
 pub record HasRowAtEnd (a : Street) (box : Area) : Type 0 where
   pub row : ℕ
   pub is : end_move a box ≡ infeasible row
-
-pub record HasTiming (a : Street) (box : Area) : Type 0 where
-  pub timing : Plan
-  pub is : recovered a box (end_point a box) ≡ Gives timing
-
-pub record HasRefusal (a : Street) (box : Area) : Type 0 where
-  pub wide : WideTiming
-  pub is : recovered a box (end_point a box) ≡ Refused wide
 
 -- ---- outcomes
 only_cuts : (o : Outcome) (place : At) → ending_by_outcome o ≡ Cuts place → o ≡ Splits place
@@ -66,22 +56,6 @@ module _ (a : Street) (box : Area) where
 
   pub cuts_from : (place : At) → ending_of a box ≡ Cuts place → recovered a box (end_point a box) ≡ Splits place
   cuts_from place e = only_cuts (recovered a box (end_point a box)) place (outcome_is (Cuts place) tt e)
-
-  pub reads_from : ending_of a box ≡ Reads → HasTiming a box
-  reads_from e = pick (recovered a box (end_point a box)) refl (outcome_is Reads tt e)
-    where
-      pick : (o : Outcome) → recovered a box (end_point a box) ≡ o → ending_by_outcome o ≡ Reads → HasTiming a box
-      pick (Refused wide) f e = cc
-      pick (Splits place) f e = cc
-      pick (Gives plan) f e = record { timing = plan; is = f }
-
-  pub stuck_from : ending_of a box ≡ Stuck → HasRefusal a box
-  stuck_from e = pick (recovered a box (end_point a box)) refl (outcome_is Stuck tt e)
-    where
-      pick : (o : Outcome) → recovered a box (end_point a box) ≡ o → ending_by_outcome o ≡ Stuck → HasRefusal a box
-      pick (Refused wide) f e = record { wide = wide; is = f }
-      pick (Splits place) f e = cc
-      pick (Gives plan) f e = cc
 
   pub empty_from : ending_of a box ≡ Empty → HasRowAtEnd a box
   unfolding ending_of

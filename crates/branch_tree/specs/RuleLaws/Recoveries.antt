@@ -13,7 +13,7 @@ use Rattle.search_box.specs.declared.span.At.{At}
 use Rattle.search_box.specs.Places.{IsPlace}
 use Rattle.offset_recovery.specs.Outcomes.{Splits, Gives}
 use Rattle.offset_recovery.specs.Recovered.{recovered}
-use Rattle.offset_recovery.proofs.Whole.{whole_of, place_inside, gives_timing, splits_place}
+use Rattle.offset_recovery.specs.Whole.{whole_of, place_inside, gives_timing, splits_place}
 
 module _ (a : Street) (box : Area) (x : List ℚ) (h : IsStreet a) (b : IsBoxOf a box) (v : IsVertex a box x) where
   pub splits_inside : (place : At) → recovered a box x ≡ Splits place → IsPlace box place

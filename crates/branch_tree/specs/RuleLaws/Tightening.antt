@@ -20,7 +20,7 @@ use Rattle.linear_model.specs.TurnSplits.{turn_put, turn_kept, turn_inside}
 use Rattle.search_box.specs.declared.span.At.{At}
 use Rattle.search_box.specs.declared.span.At.TheVariants.{Loop, Turn}
 use Rattle.search_box.specs.Places.{IsPlace, low_part, high_part}
-use Rattle.search_box.proofs.Parts.{parts_of}
+use Rattle.search_box.specs.Parts.{parts_of}
 use Rattle.recovery_model.specs.Vertices.{IsVertex}
 
 -- each span of a box lies within the other box's

@@ -4,7 +4,7 @@ use Rattle.std.specs.Ordering.{eq_by_cmp}
 use Rattle.ratio.specs.Rational.{ℚ, whole, ◌+ℚ◌, ◌*ℚ◌}
 use Rattle.ratio.specs.Compare.{cmp_ℚ}
 use Rattle.ratio.specs.Rows as maths
-use Rattle.ratio.specs.Rows.{add, scale}
+use Rattle.ratio.specs.Rows.{scale}
 use Rattle.progression.specs.Street.{Street, count, HasSignal}
 use Rattle.progression.specs.Speeds.{number}
 use Rattle.progression.specs.declared.parts.Dir.{Dir}
@@ -23,14 +23,14 @@ use Rattle.named_row.specs.declared.names.Place.TheVariants.{Cell, Bound}
 use Rattle.named_row.specs.declared.leaves.Weight.{Weight}
 use Rattle.loop_rows.specs.Writing.{written, written_row}
 use Rattle.loop_rows.specs.Weights.{after_weight, weights_fault, leaf_fault}
-use Rattle.loop_rows.proofs.LeafSums.{fault_free}
+use Rattle.loop_rows.specs.LeafSums.{fault_free}
 use Rattle.simplex_model.specs.Signs.{one_positive}
 use Rattle.simplex_model.specs.Lines.{get_or-add, get_or-scale}
 use Rattle.program_builder.specs.LineCells.{line_each}
 use Rattle.program_builder.specs.RowKinds.{IsUpTo, small_whole, small_ratio, small_zero, small_wait}
-use Rattle.program_builder.proofs.Narrowing.{up_to_times, up_to_plus, up_to_times_fits, up_to_sum_fits}
+use Rattle.program_builder.specs.Narrowing.{up_to_times, up_to_plus, up_to_times_fits, up_to_sum_fits}
 use Rattle.branch_tree.specs.Starts.{first_out, first_in, start_leaf}
-use Rattle.branch_tree.specs.StartLaws.{ratio_low}
+use Rattle.branch_tree.specs.RuleLaws.WeakDuality.{ratio_low}
 
 -- every number of the row is n at most in both its numbers
 record IsSmallSheet (n : ℕ) (s : Sheet) : Type 0 where

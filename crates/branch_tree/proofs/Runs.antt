@@ -1,6 +1,6 @@
 -- From what the steps of a box's run answer to where the run stands: how many steps lead to the end, and which stop it is.
 use Rattle.std.proofs.Common.{arith, ◌≡◌, ℕ, ◌<◌, ◌⊎◌, inl, inr, Bool, true, false, true≢false, Some, None, cond, ◌&&◌, refl, sym, ◌∙◌, ap, subst}
-use Rattle.narrow_fraction.specs.Attempt.{earlier}
+use Rattle.narrow_fraction.specs.Attempt.{earlier, some_not_none}
 use Rattle.progression.specs.Street.{Street}
 use Rattle.artery_model.specs.Valid.{IsValid}
 use Rattle.linear_model.specs.Boxes.{Area}
@@ -11,11 +11,12 @@ use Rattle.fraction_tableau.specs.NamedTableaus.{NamedTableau}
 use Rattle.fraction_tableau.specs.declared.wide_cell.WideCell.{WideCell}
 use Rattle.dual_simplex.specs.declared.outcome.Step.{Step}
 use Rattle.dual_simplex.specs.declared.outcome.Step.TheVariants as steps
-use Rattle.dual_simplex.specs.declared.outcome.Meter.{Meter}
+use Rattle.work_meter.specs.declared.meter.Meter.{Meter}
 use Rattle.dual_simplex.specs.declared.outcome.NodeEnd.{NodeEnd}
 use Rattle.dual_simplex.specs.declared.outcome.NodeEnd.TheVariants.{Optimal, Infeasible, WorkOut, Wide}
 use Rattle.dual_simplex.specs.Steps.{step_of, Agrees, agrees}
-use Rattle.dual_simplex.specs.Ends.{Solved, end_at, end_by_step, goes_on, is_out, metered}
+use Rattle.work_meter.specs.Work.{is_out, metered}
+use Rattle.dual_simplex.specs.Ends.{Solved, end_at, end_by_step, goes_on}
 use Rattle.loop_rows.specs.Weights.{leaf_fault}
 use Rattle.loop_rows.specs.declared.fault.SumFault.TheVariants as fault
 use Rattle.named_row.specs.declared.names.RowId.{RowId}
@@ -29,11 +30,9 @@ use Rattle.branch_tree.specs.declared.site.SitePart.{SitePart}
 use Rattle.branch_tree.specs.declared.site.SitePart.TheVariants.{Ratio, Cell, LeafSum, Timing}
 use Rattle.branch_tree.specs.Ends.{table_after, steps_of, end_leaf, end_point}
 use Rattle.branch_tree.specs.Sites.{step_at, is_made, sum_refusal, vertex_refusal, leaf_refusal, refusal_by, refusal_at, IsReached, IsDue, IsWide}
+use Rattle.branch_tree.proofs.EachRefusal.{some_same}
 
 -- ---- the step where the steps of a node end
-some_same : {X : Type 0} (x y : X) → Some x ≡ Some y → x ≡ y
-some_same x y e = cc
-
 abbrev StepsAt : NodeEnd → Step → Type 0
 StepsAt Optimal s = s ≡ steps.Optimal
 StepsAt (Infeasible r) s = s ≡ steps.Infeasible r
@@ -141,11 +140,8 @@ module _ (a : Street) (box : Area) where
       pick (steps.Pivoted r j) e = refl
       pick (steps.Wide in_ratio w) e = absurd (true≢false (sym e))
 
-  some_none : (part : SitePart) → Some part ≡ None → ⊥
-  some_none part e = cc
-
   not_earlier : (k m : ℕ) (p : SitePart) → IsReached a box m → refusal_at a box k ≡ Some p → k < m → ⊥
-  not_earlier k m p r e l = some_none p (sym e ∙ made_goes_on k (r.made k l))
+  not_earlier k m p r e l = some_not_none (sym e ∙ made_goes_on k (r.made k l))
 
   pub one_site : (k m : ℕ) (p q : SitePart) → IsWide a box k p → IsWide a box m q → (k ≡ m) × (p ≡ q)
   one_site k m p q g h = pick (order k m)

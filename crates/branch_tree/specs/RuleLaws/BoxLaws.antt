@@ -13,17 +13,17 @@ use Rattle.std.specs.Prelude.{map}
 use Rattle.recovery_model.specs.Vertices.{IsVertex, goal_at}
 use Rattle.search_box.specs.declared.span.At.{At}
 use Rattle.search_box.specs.Places.{IsPlace, low_part, high_part}
-use Rattle.search_box.proofs.Streets.{street_of}
+use Rattle.search_box.specs.Streets.{street_of}
 use Rattle.offset_recovery.specs.Outcomes.{Gives}
 use Rattle.offset_recovery.specs.Recovered.{recovered}
 use Rattle.branch_and_bound.specs.Lineages.{NoEnd, Empty, Reads, Cuts, IsOptimal}
 use Rattle.branch_tree.specs.Ends.{end_point, end_bound, end_leaf, ending_of}
 use Rattle.branch_tree.specs.LeafRows.{sum_of}
-use Rattle.branch_tree.specs.EndLaws.{IsOptimalEnd, IsInfeasibleEnd, optimal_end, infeasible_end, optimal_not_refuted, end_reached}
-use Rattle.branch_tree.specs.Endings.{optimal_from, cuts_from, empty_from, ends_somehow}
-use Rattle.branch_tree.specs.WeakDuality.{goal_below}
-use Rattle.branch_tree.specs.Tightening.{low_vertex, high_vertex}
-use Rattle.branch_tree.specs.Recoveries.{splits_inside, gives_good}
+use Rattle.branch_tree.specs.RuleLaws.EndLaws.{IsOptimalEnd, IsInfeasibleEnd, optimal_end, infeasible_end, optimal_not_refuted, end_reached}
+use Rattle.branch_tree.specs.RuleLaws.Endings.{optimal_from, cuts_from, empty_from, ends_somehow}
+use Rattle.branch_tree.specs.RuleLaws.WeakDuality.{goal_below}
+use Rattle.branch_tree.specs.RuleLaws.Tightening.{low_vertex, high_vertex}
+use Rattle.branch_tree.specs.RuleLaws.Recoveries.{splits_inside, gives_good}
 
 module _ (a : Street) (box : Area) (v : IsValid a) where
   -- there is an end

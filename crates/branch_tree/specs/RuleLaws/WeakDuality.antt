@@ -1,11 +1,13 @@
 -- Weak duality over a box: a point that meets the box's rows meets each sum of them, and so has no greater weighted band than a
 -- leaf that covers the goal says.
 use Rattle.std.proofs.Common.{List, [], ◌∷◌, map, arith}
-use Rattle.ratio.specs.Rational.{ℚ, ◌≤ℚ◌}
+use Rattle.std.proofs.lemmas.Int.{ints}
+use Rattle.ratio.specs.Rational.{ℚ, whole, ◌≤ℚ◌}
 use Rattle.ratio.specs.Order.{≤ℚ_refl, ≤ℚ_trans}
 use Rattle.ratio.specs.Rows.{AllMet, AllNonNegative, IsMet, combine_met}
 use Rattle.progression.specs.Street.{Street}
 use Rattle.progression.specs.Speeds.{number}
+use Rattle.artery_model.specs.Valid.{IsValid}
 use Rattle.linear_model.specs.Boxes.{Area}
 use Rattle.linear_model.specs.Rows.{line, goal_form}
 use Rattle.linear_model.specs.Names.{form_of}
@@ -14,6 +16,11 @@ use Rattle.linear_model.specs.Covering.{CoversGoal}
 use Rattle.linear_model.specs.Trees.{Weight, leaf_sum, AreWeights}
 use Rattle.recovery_model.specs.Vertices.{IsVertex, goal_at}
 use Rattle.program_builder.specs.LineCells.{line_each}
+
+-- a valid artery's ratio is at least 0
+pub ratio_low : (a : Street) → IsValid a → number 0 ≤ℚ a.head.ratio
+unfolding whole
+ratio_low a v = record { cross = let l = v.ratio.least in omega (arith, ints, l) }
 
 module _ (a : Street) (box : Area) (x : List ℚ) (v : IsVertex a box x) where
   rows_met : (ws : List Weight) → AreWeights a ws → AllMet x (map (λ w. line a (form_of a box w.1)) ws)

@@ -1,22 +1,17 @@
 -- A box is finished within as many units as there are sets of basic variables, at most: Bland's rule meets none of them twice.
-use Rattle.std.proofs.Common.{ℕ, ◌+◌, ◌<◌, ◌^◌, length, ◌∙◌, ap, ap₂, subst, arith}
-use Rattle.progression.specs.Street.{Street, count}
+use Rattle.std.proofs.Common.{◌+◌, ◌<◌, ◌^◌, ◌∙◌, ap, ap₂, subst, arith}
+use Rattle.progression.specs.Street.{Street}
 use Rattle.artery_model.specs.Valid.{IsValid}
-use Rattle.linear_model.specs.Places as places
 use Rattle.linear_model.specs.Boxes.{Area}
 use Rattle.simplex_model.specs.StepCounts.{steps_low, room_is}
-use Rattle.program_builder.specs.BoxRows.{rows_of}
 use Rattle.program_builder.specs.Opening.{opening}
 use Rattle.program_builder.specs.OpeningLaws.{opening_dual, width-opening, height-opening}
 use Rattle.branch_and_bound.specs.Enough.{IsShort}
 use Rattle.branch_tree.specs.Ends.{steps_of}
-use Rattle.branch_tree.specs.Runs.{due_before}
+use Rattle.branch_tree.proofs.Runs.{due_before}
+use Rattle.branch_tree.specs.Promises.{sets_of}
 use Rattle.branch_tree.specs.Lineage.{searchable}
 use Rattle.branch_tree.specs.Relaxed.{rules_of}
-
--- 2 to the power of the number of rows and columns
-abbrev pub sets_of : Street → ℕ
-sets_of a = 2 ^ (length (rows_of a) + places.width (count a))
 
 pub steps_few : (a : Street) (box : Area) → IsValid a → steps_of a box < sets_of a
 unfolding steps_of
