@@ -10,5 +10,6 @@ pub mod CanonicalTables
 pub mod CanonicalTests
 pub mod CanonicalTexts
 pub mod CanonicalValues
+pub mod LeastKeys
 pub mod Views
 pub mod Validity

@@ -3,6 +3,7 @@ pub mod Checks
 pub mod Described
 pub mod Judgement
 pub mod Keys
+pub mod LeastKey
 pub mod Members
 pub mod Places
 pub mod Printed

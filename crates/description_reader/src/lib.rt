@@ -6,15 +6,22 @@
 #![tactic(auto)]
 
 ghost use Rattle.description_reader.specs.Described.{OneAnswer};
+ghost use Rattle.description_reader.specs.LeastKey.{KeysAreJudged};
 ghost use Rattle.description_reader.specs.Promises.{SomeAnswer, DescribedIsValid};
 
 mod build;
 mod check;
 mod demand;
 mod judge;
+#[cfg(test)]
+mod key_tests;
 mod keys;
+#[cfg(test)]
+mod limit_tests;
 mod needed;
 mod numbers;
+#[cfg(test)]
+mod order_tests;
 mod place;
 mod print;
 #[cfg(test)]
@@ -23,7 +30,15 @@ mod quantity;
 mod ranges;
 mod read;
 #[cfg(test)]
-mod tests;
+mod reading_tests;
+#[cfg(test)]
+mod rule_tests;
+#[cfg(test)]
+mod samples;
+#[cfg(test)]
+mod table_tests;
+#[cfg(test)]
+mod type_tests;
 mod types;
 mod values;
 
@@ -47,3 +62,9 @@ pub fn law_described_is_valid()
 {
     artery_model::law_no_fault_is_valid();
 }
+
+/// Of the keys of a table that no description has, the least by its bytes is named; where none is named,
+/// each key of the table is known.
+pub fn law_least_key()
+    ensures { KeysAreJudged }
+{}

@@ -193,9 +193,7 @@ pub fn print_artery(alloc: Global, artery: &Artery) -> Result<Vec<u8>, Memory>
     ensures reads { IfOk result (λ v. ReadsAs v.items (table (canonical artery.now))) }
     ensures described { IfOk result (λ v. Described v.items artery.now) }
 {
-    let Ok(root) = root_table(alloc, artery) else {
-        return Err(Memory);
-    };
+    let root = root_table(alloc, artery)?;
     match toml::table_to_string(alloc, &root) {
         Ok(text) => Ok(text.into_bytes()),
         Err(Error::OutOfMemory) => Err(Memory),

@@ -3,32 +3,11 @@
 ghost use Rattle.std.specs.Prelude.{◌≤◌, ◌<◌};
 ghost use Rattle.progression.specs.Street.{count};
 
+use crate::samples::BASE;
 use crate::{Artery, print_artery, read_artery};
 use artery_model::{Dir, Pair};
 use std::rt::HostRuntime;
 use std::test::Fail;
-
-/// Two signals half a kilometre apart.
-const BASE: &str = "[artery]
-units = \"metric\"
-parts = 100
-cycle = [\"100\", \"100\"]
-ratio = \"1\"
-
-[[signal]]
-name = \"A\"
-red = 50
-
-[[signal]]
-name = \"B\"
-red = 50
-
-[[link]]
-distance_out = 500
-distance_in = 500
-speed_out = [\"36\", \"36\"]
-speed_in = [\"36\", \"36\"]
-";
 
 /// Every key of the format, quotes and letters beyond ASCII.
 const FULL: &str = "version = 1
