@@ -80,3 +80,17 @@ module _ (held : List ℕ → Option (List ℕ)) (before after : List ℕ → �
     pub checked_once : (c d : Cause) (x y : List ℕ) → IsReached c → IsReached d
         → CheckAnswers held before after artery certificate c x → CheckAnswers held before after artery certificate d y → (c ≡ d) × (x ≡ y)
     checked_once c d x y n m h k = one_reached c d x y n m (reached c x h) (reached d y k)
+
+    -- where both files are read and the certificate is accepted, that is the answer
+    pub accepted_once : (a : Street) (w : Warrant) (d : Cause) (y : List ℕ) → BothRead a w → IsAccepted a w → IsReached d
+        → CheckAnswers held before after artery certificate d y → (d ≡ cause.Done) × Accepts (held artery) (held certificate) w.claim × (y ≡ accepted_line w.claim)
+    accepted_once a w d y b is m h = elim (reached d y h) [
+      | Accepted claim k i l ↦
+          let e = one_pair k.street a k.warrant w (accepted_both claim k) b in
+          let same : claim ≡ w.claim = k.claimed ∙ ap (λ (v : Warrant). v.claim) e.1 in
+          (i, subst (λ (t : Claim). Accepts (held artery) (held certificate) t) same k, l ∙ ap accepted_line same)
+      | Rejected signals r k i l ↦
+          let e = one_pair a k.street w k.warrant b (rejected_both signals r k) in
+          absurd (apart k.street k.warrant r k.first k.kept (subst (λ s. IsAccepted s k.warrant) e.0 (subst (λ v. IsAccepted a v) e.1 is)))
+      | Ended k l ↦ absurd (turn_apart a w d m b k)
+    ]

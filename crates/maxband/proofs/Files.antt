@@ -11,6 +11,7 @@ use Rattle.maxband.specs.Turns.{text_limit, ReadsArtery, FirstEnds, ReadsText, S
 use Rattle.maxband.specs.Run.{IsReached}
 use Rattle.maxband.specs.declared.cause.Cause.{Cause}
 use Rattle.maxband.specs.declared.cause.Cause.TheVariants as cause
+use Rattle.maxband.proofs.Holding.{has_told}
 
 -- ---- the first file
 same_refusal : (r s : Refusal) → fault_of r ≡ fault_of s → r ≡ s
@@ -19,7 +20,7 @@ same_refusal r s e = λ i. record { kind = (e i).kind; place = (e i).place }
 -- a reached end of the first file is a refusal, or the file is too long
 first_cases : (x : List ℕ) (before after : ℕ) (c : Cause) → IsReached c → FirstEnds (Some x) before after c
     → ((r : Refusal) × (c ≡ cause.Refused r) × (length x ≤ text_limit) × RefusedAs x (fault_of r)) ⊎ ((c ≡ cause.TooLong 1) × (text_limit < length x))
-first_cases x before after (cause.Refused r) n h = inl (r, refl, h.0, h.1)
+first_cases x before after (cause.Refused r) n h = let t = has_told text_limit x (λ y. RefusedAs y (fault_of r)) h in inl (r, refl, t.0, t.1)
 first_cases x before after (cause.TooLong f) n h = inr (ap cause.TooLong h.0, h.1)
 first_cases x before after (cause.ReadFault f) n h = absurd n
 first_cases x before after cause.WriteFault n h = absurd n
@@ -40,16 +41,19 @@ module _ (reader : described.OneAnswer) where
     ]
   ]
 
+  described_told : (x : List ℕ) (a : Street) → ReadsArtery (Some x) a → (length x ≤ text_limit) × described.Described x a
+  described_told x a h = has_told text_limit x (λ y. described.Described y a) h
+
   pub one_artery : (o : Option (List ℕ)) (a b : Street) → IsSome o → ReadsArtery o a → ReadsArtery o b → a ≡ b
   one_artery None a b told h k = absurd cc
-  one_artery (Some x) a b told h k = reader.artery x a b h.1 k.1
+  one_artery (Some x) a b told h k = reader.artery x a b (described_told x a h).1 (described_told x b k).1
 
   -- a file that describes an artery doesn't end the run
   pub first_apart : (o : Option (List ℕ)) (before after : ℕ) (a : Street) (c : Cause) → IsSome o → IsReached c → ReadsArtery o a → FirstEnds o before after c → ⊥
   first_apart None before after a c told n h k = absurd cc
   first_apart (Some x) before after a c told n h k = elim (first_cases x before after c n k) [
-    | inl p ↦ reader.apart x a (fault_of p.0) h.1 p.3
-    | inr p ↦ omega (arith, h.0, p.1)
+    | inl p ↦ reader.apart x a (fault_of p.0) (described_told x a h).1 p.3
+    | inr p ↦ omega (arith, (described_told x a h).0, p.1)
   ]
 
 -- ---- the second file
@@ -66,7 +70,7 @@ module _ (T : Type 0) (limit : ℕ) (read : List ℕ → Result T BadText) where
   -- a reached end of the second file is a bad line, or the file is too long
   second_cases : (x : List ℕ) (before after : ℕ) (c : Cause) → IsReached c → SecondEnds limit read (Some x) before after c
       → ((b : BadText) × (c ≡ cause.BadText b) × (length x ≤ limit) × (read x ≡ Err b)) ⊎ ((c ≡ cause.TooLong 2) × (limit < length x))
-  second_cases x before after (cause.BadText b) n h = inl (b, refl, h.0, h.1)
+  second_cases x before after (cause.BadText b) n h = let t = has_told limit x (λ y. read y ≡ Err b) h in inl (b, refl, t.0, t.1)
   second_cases x before after (cause.TooLong f) n h = inr (ap cause.TooLong h.0, h.1)
   second_cases x before after (cause.ReadFault f) n h = absurd n
   second_cases x before after cause.WriteFault n h = absurd n
@@ -87,16 +91,19 @@ module _ (T : Type 0) (limit : ℕ) (read : List ℕ → Result T BadText) where
     ]
   ]
 
+  text_told : (x : List ℕ) (t : T) → ReadsText limit read (Some x) t → (length x ≤ limit) × (read x ≡ Ok t)
+  text_told x t h = has_told limit x (λ y. read y ≡ Ok t) h
+
   one_read : (o : Option (List ℕ)) (t u : T) → IsSome o → ReadsText limit read o t → ReadsText limit read o u → t ≡ u
   one_read None t u told h k = absurd cc
-  one_read (Some x) t u told h k = same_ok t u (sym h.1 ∙ k.1)
+  one_read (Some x) t u told h k = same_ok t u (sym (text_told x t h).1 ∙ (text_told x u k).1)
 
   -- a file that is such a text doesn't end the run
   second_apart : (o : Option (List ℕ)) (before after : ℕ) (t : T) (c : Cause) → IsSome o → IsReached c → ReadsText limit read o t → SecondEnds limit read o before after c → ⊥
   second_apart None before after t c told n h k = absurd cc
   second_apart (Some x) before after t c told n h k = elim (second_cases x before after c n k) [
-    | inl p ↦ ok_apart t p.0 (sym h.1 ∙ p.3)
-    | inr p ↦ omega (arith, h.0, p.1)
+    | inl p ↦ ok_apart t p.0 (sym (text_told x t h).1 ∙ p.3)
+    | inr p ↦ omega (arith, (text_told x t h).0, p.1)
   ]
 
   -- ---- both

@@ -5,7 +5,8 @@ pub mod HoldOnce
 pub mod ShowOnce
 pub mod CheckOnce
 pub mod OneAnswer
-pub mod CheckEnded
+pub mod Ended
+pub mod PutAccepted
 pub mod Spelled
 pub mod Delivered
 pub mod Solved

@@ -1,12 +1,12 @@
 -- Words that spell a number in its limits.
 use Rattle.std.proofs.Common.{◌≡◌, ℕ, ◌^◌, ◌<◌, ◌≤◌, Bool, true, false, List, [], ◌∷◌, length, Some, None, Ok, Err, inl, inr, refl, ap, subst, arith}
 use Rattle.std.specs.Prelude.{◌&&◌, nat_le, if◌then◌else◌}
-use Rattle.std.proofs.lemmas.Bool.{cases_lt, leb-true, le-leb, lt-leb}
+use Rattle.std.proofs.lemmas.Bool.{cases_lt, leb-true, le-leb, lt-leb, and_parts}
 use Rattle.std.specs.Str.{all_ascii_digits}
 use Rattle.std.specs.Str.Parse.{digits_value, ParsesUnsigned}
 use Rattle.std.proofs.lemmas.Str.Parse.{parse_digits}
 use Rattle.plan_text.specs.Numbers.{is_numeral, is_plain}
-use Rattle.plan_text.proofs.Spellings.{own, both_true}
+use Rattle.plan_text.specs.Digits.{digits_by_test}
 use Rattle.maxband.specs.Numbers.{number_within}
 
 some : (w : List ℕ) → is_plain w ≡ true → 0 < length w
@@ -26,7 +26,7 @@ none_unless least most w e = rw e refl
 module _ (least most : ℕ) (w : List ℕ) (e : is_numeral w ≡ true) where
   module _ (n : ℕ) (p : ParsesUnsigned {E = Unit {0}} 64 10 w (Ok n)) where
     value : n ≡ digits_value 10 w
-    value = (parse_digits own {E = Unit {0}} 64 w (Ok n) p (both_true (is_plain w) (all_ascii_digits w) e).1).1
+    value = (parse_digits digits_by_test {E = Unit {0}} 64 w (Ok n) p (and_parts (is_plain w) (all_ascii_digits w) e).1).1
 
     pub some_within : least ≤ n → n ≤ most → Some n ≡ number_within least most w
     unfolding number_within
@@ -51,8 +51,8 @@ module _ (least most : ℕ) (w : List ℕ) (e : is_numeral w ≡ true) where
   pub none_huge : most < 2 ^ 64 → ParsesUnsigned {E = Unit {0}} 64 10 w (Err tt) → None ≡ number_within least most w
   unfolding number_within
   none_huge few p =
-      let b = both_true (is_plain w) (all_ascii_digits w) e in
-      let no = parse_digits own {E = Unit {0}} 64 w (Err tt) p b.1 in
+      let b = and_parts (is_plain w) (all_ascii_digits w) e in
+      let no = parse_digits digits_by_test {E = Unit {0}} 64 w (Err tt) p b.1 in
       let large : 2 ^ 64 ≤ digits_value 10 w = elim (cases_lt (digits_value 10 w) (2 ^ 64)) [ inl lt ↦ absurd (no (some w b.0, lt)) | inr le ↦ le ] in
       let to : nat_le (digits_value 10 w) most ≡ false = lt-leb _ _ (omega arith) in
       rw (e, to, never (nat_le least (digits_value 10 w))) refl

@@ -75,7 +75,7 @@ abbrev pub too_long_line : List ℕ → List ℕ
 too_long_line name = codes "too long " ++ (name ++ codes "\n")
 
 abbrev pub holds_lines : ℚ → List ℕ
-holds_lines value = codes "holds\nweighted " ++ exact_spelling value ++ codes "\n"
+holds_lines value = codes "holds\nweighted " ++ (exact_spelling value ++ codes "\n")
 
 -- the word that names the first or the second file
 abbrev pub named : ℕ → List ℕ → List ℕ → List ℕ

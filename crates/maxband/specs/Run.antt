@@ -1,19 +1,21 @@
 -- What a run comes to: the cause of its status, what stands behind it, what is put, and by which lines the output grew.
-use Rattle.std.specs.Prelude.{◌≡◌, ◌⊎◌, ℕ, List, Option, Some, None, IsSome}
+use Rattle.std.specs.Prelude.{◌≡◌, ◌≢◌, ◌⊎◌, ℕ, ◌≤◌, List, length, Option, Some, None, IsSome, IfSome}
 use Rattle.ratio.specs.Rational.{ℚ}
 use Rattle.progression.specs.Street.{Street}
 use Rattle.plan_text.specs.declared.certificate.Claim.{Claim}
 use Rattle.outer_edge.specs.Counts.{Rose, NoneFell, SameCounts}
 use Rattle.outer_edge.specs.Held.{SameFiles, OthersSame}
+use Rattle.outer_edge.specs.Taken.{Appends}
+use Rattle.branch_tree.specs.Certified.{warrant_of}
 use Rattle.maxband.specs.Outside.{Outside, Text, IsDone, IsUntouched, IsBroken}
 use Rattle.maxband.specs.Command.{Form, Hold, Show, Check, Solve, Make, Trial}
 use Rattle.maxband.specs.Lines.{words_line, holds_lines, end_lines}
 use Rattle.maxband.specs.CheckLines.{accepted_line, rejected_line}
-use Rattle.maxband.specs.Turns.{ReadsArtery, FirstEnds}
+use Rattle.maxband.specs.Turns.{certificate_limit, ReadsArtery, FirstEnds}
 use Rattle.maxband.specs.Hold.{Holds, HoldEnds}
 use Rattle.maxband.specs.Show.{Shows}
 use Rattle.maxband.specs.Check.{Accepts, Rejects, CheckEnds}
-use Rattle.maxband.specs.Solve.{Solves}
+use Rattle.maxband.specs.Solve.{IsSolution, Solves}
 use Rattle.maxband.specs.Make.{Makes}
 use Rattle.maxband.specs.Trial.{IsTrial}
 use Rattle.maxband.specs.declared.cause.Cause.{Cause}
@@ -167,3 +169,22 @@ MakeIsComplete = (before now : Outside) (signals seed : ℕ) (c : Cause) → ¬ 
 abbrev pub TrialIsComplete : Type 0
 TrialIsComplete = (before now : Outside) (signals seed work : ℕ) (c : Cause)
     → ¬ Rose before.writes now.writes → Ends before now (Some (Trial signals seed work)) c → IsVerdict c ⊎ (c ≡ cause.Memory)
+
+-- What `solve` found, of the artery that the file described, and that `check` accepts the file that was put with just the claim of that.
+pub record IsConfirmed (before between now : Outside) (artery certificate : List ℕ) (work : ℕ) (c d : Cause) : Type 0 where
+  pub street : Street
+  pub lines : List ℕ
+  pub text : List ℕ
+  pub description : ReadsArtery (before.holds artery) street
+  pub solution : IsSolution street work c lines text
+  pub done : d ≡ cause.Done
+  pub accepted : Accepts (between.holds artery) (between.holds certificate) (warrant_of street solution.found).claim
+  pub told : Appends between.taken now.taken (accepted_line (warrant_of street solution.found).claim)
+
+-- After a verdict of `solve` a run of `check` over the same description and the file that was put accepts what was found, unless a fault or want of memory ends
+-- it: where these are two files that tell their bytes, and the certificate isn't too long to be read.
+abbrev pub PutIsAccepted : Type 0
+PutIsAccepted = (before between now : Outside) (artery certificate : List ℕ) (work : ℕ) (c d : Cause)
+    → artery ≢ certificate → IsSome (before.holds artery) → IsSome (between.holds certificate) → IfSome (between.holds certificate) (λ bytes. length bytes ≤ certificate_limit)
+    → IsVerdict c → Ends before between (Some (Solve artery certificate work)) c
+    → IsReached d → Ends between now (Some (Check artery certificate)) d → IsConfirmed before between now artery certificate work c d

@@ -1,11 +1,14 @@
 -- What `solve` and `trial` find: what a search of an artery answers, and what its accepted certificate says of every timing on any grid.
-use Rattle.std.specs.Prelude.{◌≡◌, ℕ, Option, Some, None, IfSome}
+use Rattle.std.specs.Prelude.{◌≡◌, ℕ, List, Option, Some, None, Ok, IfSome}
 use Rattle.ratio.specs.Rational.{ℚ, ◌≤ℚ◌}
 use Rattle.progression.specs.Street.{Street}
 use Rattle.progression.specs.Plan.{Plan}
 use Rattle.progression.specs.Good.{Good}
 use Rattle.progression.specs.Best as best
 use Rattle.progression.specs.Best.{weighted_band, Bounded}
+use Rattle.plan_text.specs.Warrants.{Warrant}
+use Rattle.plan_text.specs.CertificateText.{certificate_text}
+use Rattle.plan_text.specs.CertificateReading.{certificate_of}
 use Rattle.certificate_checker.specs.Accepted.{IsAccepted}
 use Rattle.certificate_checker.specs.Claims.{IsBest}
 use Rattle.branch_and_bound.specs.declared.found.Verdict.{Verdict}
@@ -36,3 +39,8 @@ pub record IsSearched (a : Street) (work : ℕ) (found : Found) : Type 0 where
   pub site : HasSite a found.verdict
   pub proves : Proves a found.timing found.bound found.verdict
   pub accepted : IsAccepted a (warrant_of a found)
+
+-- the bytes are the one text of this certificate, and they are read as just this
+pub record IsTextOf (text : List ℕ) (certificate : Warrant) : Type 0 where
+  pub written : text ≡ certificate_text certificate
+  pub read_back : certificate_of text ≡ Ok certificate

@@ -3,14 +3,12 @@ use Rattle.std.specs.Prelude.{◌≡◌, ℕ, List, ◌++◌, length, codes, Opt
 use Rattle.std.specs.Fmt.{decimal}
 use Rattle.ratio.specs.Rational.{ℚ}
 use Rattle.quantity_text.specs.Exact.{exact_spelling}
-use Rattle.plan_text.specs.Warrants.{Warrant}
-use Rattle.plan_text.specs.CertificateText.{certificate_text}
 use Rattle.plan_text.specs.declared.certificate.Claim.{Claim}
 use Rattle.plan_text.specs.declared.certificate.Claim.TheVariants.{Best, NoTiming, Stopped}
 use Rattle.branch_tree.specs.declared.found.Found.{Found}
 use Rattle.branch_tree.specs.Certified.{warrant_of}
 use Rattle.workload_maker.specs.Made.{made_street}
-use Rattle.maxband.specs.Searched.{cause_of, IsSearched}
+use Rattle.maxband.specs.Searched.{cause_of, IsSearched, IsTextOf}
 use Rattle.maxband.specs.declared.cause.Cause.{Cause}
 
 -- ---- the lines
@@ -38,13 +36,12 @@ abbrev pub trial_lines : ℕ → ℕ → Claim → ℕ → List ℕ
 trial_lines signals seed claim bytes =
     codes "signals " ++ (decimal signals ++ (codes "\nseed " ++ (decimal seed ++ (codes "\n" ++ (claim_lines claim ++ (codes "certificate " ++ (decimal bytes ++ codes "\ncheck accepted\n")))))))
 
-abbrev pub lines_of : ℕ → ℕ → Warrant → List ℕ
-lines_of signals seed certificate = trial_lines signals seed certificate.claim (length (certificate_text certificate))
-
 -- ---- the answer
--- a search of the made artery with so many units of work, its cause, and the lines
+-- a search of the made artery with so many units of work, its cause, the text of the very certificate that is accepted, and the lines
 pub record IsTrial (signals seed work : ℕ) (c : Cause) (lines : List ℕ) : Type 0 where
   pub found : Found
   pub searched : IsSearched (made_street signals seed) work found
   pub cause_is : c ≡ cause_of found.verdict
-  pub lines_are : lines ≡ lines_of signals seed (warrant_of (made_street signals seed) found)
+  pub text : List ℕ
+  pub text_is : IsTextOf text (warrant_of (made_street signals seed) found)
+  pub lines_are : lines ≡ trial_lines signals seed (warrant_of (made_street signals seed) found).claim (length text)

@@ -24,7 +24,11 @@ pub record IsWithinLimit (limit : ℕ) (held : Option (List ℕ)) (bytes : List 
   pub few : length bytes ≤ limit
   pub told : IfSome held (λ x. bytes ≡ x)
 
--- Why a file whose turn it is, the first or the second, isn't read.
+-- The file has bytes within the limit of which this holds: those that it tells, and also where it tells none there are such bytes.
+abbrev pub HasBytes : ℕ → Option (List ℕ) → (List ℕ → Type 0) → Type 0
+HasBytes limit held p = (bytes : List ℕ) × IsWithinLimit limit held bytes × p bytes
+
+-- Why a file whose turn it is, the first or the second, isn't read. One that is too long has more bytes than the limit, where it tells them.
 abbrev pub NotRead : ℕ → Option (List ℕ) → ℕ → ℕ → ℕ → Cause → Type 0
 NotRead limit held before after file (cause.ReadFault f) = (f ≡ file) × Rose before after
 NotRead limit held before after file (cause.TooLong f) = (f ≡ file) × IfSome held (λ x. limit < length x)
@@ -34,21 +38,21 @@ NotRead limit held before after file _ = ⊥
 -- ---- the first file
 -- the file is within the limit and describes this artery
 abbrev pub ReadsArtery : Option (List ℕ) → Street → Type 0
-ReadsArtery held a = IfSome held (λ x. (length x ≤ text_limit) × Described x a)
+ReadsArtery held a = HasBytes text_limit held (λ bytes. Described bytes a)
 
 -- why the turn of the first file ends the run
 abbrev pub FirstEnds : Option (List ℕ) → ℕ → ℕ → Cause → Type 0
-FirstEnds held before after (cause.Refused r) = IfSome held (λ x. (length x ≤ text_limit) × RefusedAs x (fault_of r))
+FirstEnds held before after (cause.Refused r) = HasBytes text_limit held (λ bytes. RefusedAs bytes (fault_of r))
 FirstEnds held before after c = NotRead text_limit held before after 1 c
 
 -- ---- the second file, of which `read` says what a text is read as
 -- the file is within the limit and is the text of this
 abbrev pub ReadsText : {T : Type 0} → ℕ → (List ℕ → Result T BadText) → Option (List ℕ) → T → Type 0
-ReadsText limit read held t = IfSome held (λ x. (length x ≤ limit) × (read x ≡ Ok t))
+ReadsText limit read held t = HasBytes limit held (λ bytes. read bytes ≡ Ok t)
 
 -- why the turn of the second file ends the run
 abbrev pub SecondEnds : {T : Type 0} → ℕ → (List ℕ → Result T BadText) → Option (List ℕ) → ℕ → ℕ → Cause → Type 0
-SecondEnds limit read held before after (cause.BadText b) = IfSome held (λ x. (length x ≤ limit) × (read x ≡ Err b))
+SecondEnds limit read held before after (cause.BadText b) = HasBytes limit held (λ bytes. read bytes ≡ Err b)
 SecondEnds limit read held before after c = NotRead limit held before after 2 c
 
 -- a timing, and a certificate

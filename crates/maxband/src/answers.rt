@@ -1,6 +1,6 @@
 //! The answers of the commands, before anything is put or written.
 
-ghost use Rattle.std.specs.Prelude.{◌≡◌, ◌≤◌, None, option_map, string_bytes, IfOk};
+ghost use Rattle.std.specs.Prelude.{◌≡◌, ◌≢◌, ◌≤◌, None, option_map, string_bytes, IfOk};
 ghost use Rattle.outer_edge.specs.Counts.{NoneFell, SameCounts};
 ghost use Rattle.outer_edge.specs.Held.{SameFiles};
 ghost use Rattle.maxband.specs.Lines.{named, words_line, end_lines};
@@ -60,13 +60,39 @@ fn named<'a>(file: u8, first: &'a str, second: &'a str) -> &'a str
     if file == 1 { first } else { second }
 }
 
+/// An answer that puts nothing.
+fn told(cause: Cause, lines: Vec<u8>) -> Answer<'static>
+    ensures cause { result.cause ≡ cause }
+    ensures lines { result.lines ≡ lines }
+    ensures no_put { result.put ≡ None }
+{
+    Answer {
+        cause,
+        lines,
+        put: None,
+    }
+}
+
+/// The answer where the timing breaks a rule or a file's turn ends the run. The error is want of memory, also where that is why
+/// the run ends.
+fn ended(alloc: Global, first: &str, second: &str, cause: Cause) -> Result<Answer<'static>, Memory>
+    ensures told { IfOk result (λ a. (a.cause ≡ cause) × (cause ≢ Cause.Memory) × (a.lines.items ≡ end_lines first.now second.now cause)) }
+    ensures no_put { IfOk result (λ a. a.put ≡ None) }
+{
+    if cause.is_memory() {
+        return Err(Memory);
+    }
+    let lines = end_lines(alloc, first, second, &cause)?.into_bytes();
+    Ok(told(cause, lines))
+}
+
 /// The answer of `hold`.
 pub fn hold_answer<F: Files>(
     alloc: Global,
     files: &mut F,
     artery: &str,
     timing: &str,
-) -> Result<Answer<'static>, AllocError>
+) -> Result<Answer<'static>, Memory>
     ensures told { IfOk result (λ a. HoldAnswers (F.holds files.old) (F.read_faults files.old) (F.read_faults files.new) artery.now timing.now a.cause a.lines.items) }
     ensures no_put { IfOk result (λ a. a.put ≡ None) }
     ensures files { SameFiles (F.holds files.old) (F.holds files.new) }
@@ -75,22 +101,10 @@ pub fn hold_answer<F: Files>(
 {
     match hold(alloc, files, artery, timing) {
         Ok(value) => {
-            let lines = holds_lines(alloc, value)?;
-            Ok(Answer {
-                cause: Cause::Done,
-                lines,
-                put: None,
-            })
+            let lines = holds_lines(alloc, value)?.into_bytes();
+            Ok(told(Cause::Done, lines))
         }
-        Err(Cause::Memory) => Err(AllocError),
-        Err(cause) => {
-            let lines = end_lines(alloc, artery, timing, &cause)?.into_bytes();
-            Ok(Answer {
-                cause,
-                lines,
-                put: None,
-            })
-        }
+        Err(cause) => ended(alloc, artery, timing, cause),
     }
 }
 
@@ -99,7 +113,7 @@ pub fn show_answer<F: Files>(
     alloc: Global,
     files: &mut F,
     artery: &str,
-) -> Result<Answer<'static>, AllocError>
+) -> Result<Answer<'static>, Memory>
     ensures told { IfOk result (λ a. ShowAnswers (F.holds files.old) (F.read_faults files.old) (F.read_faults files.new) artery.now a.cause a.lines.items) }
     ensures no_put { IfOk result (λ a. a.put ≡ None) }
     ensures files { SameFiles (F.holds files.old) (F.holds files.new) }
@@ -107,21 +121,9 @@ pub fn show_answer<F: Files>(
     ensures puts { SameCounts (F.put_faults files.old) (F.put_faults files.new) }
 {
     match show(alloc, files, artery) {
-        Ok(lines) => Ok(Answer {
-            cause: Cause::Done,
-            lines,
-            put: None,
-        }),
-        Err(Cause::Memory) => Err(AllocError),
-        Err(cause) => {
-            // There is one file alone.
-            let lines = end_lines(alloc, artery, artery, &cause)?.into_bytes();
-            Ok(Answer {
-                cause,
-                lines,
-                put: None,
-            })
-        }
+        Ok(lines) => Ok(told(Cause::Done, lines)),
+        // There is one file alone.
+        Err(cause) => ended(alloc, artery, artery, cause),
     }
 }
 
@@ -131,7 +133,7 @@ pub fn check_answer<F: Files>(
     files: &mut F,
     artery: &str,
     certificate: &str,
-) -> Result<Answer<'static>, AllocError>
+) -> Result<Answer<'static>, Memory>
     ensures told { IfOk result (λ a. CheckAnswers (F.holds files.old) (F.read_faults files.old) (F.read_faults files.new) artery.now certificate.now a.cause a.lines.items) }
     ensures no_put { IfOk result (λ a. a.put ≡ None) }
     ensures files { SameFiles (F.holds files.old) (F.holds files.new) }
@@ -141,31 +143,13 @@ pub fn check_answer<F: Files>(
     match check(alloc, files, artery, certificate) {
         Ok(Verdict::Accepted(claim)) => {
             let lines = accepted_line(alloc, claim)?.into_bytes();
-            Ok(Answer {
-                cause: Cause::Done,
-                lines,
-                put: None,
-            })
+            Ok(told(Cause::Done, lines))
         }
         Ok(Verdict::Rejected { signals, reject }) => {
             let lines = rejected_line(alloc, signals, &reject)?.into_bytes();
-            Ok(Answer {
-                cause: Cause::Rejected(reject),
-                lines,
-                put: None,
-            })
+            Ok(told(Cause::Rejected(reject), lines))
         }
-        Err(cause) => {
-            if cause.is_memory() {
-                return Err(AllocError);
-            }
-            let lines = end_lines(alloc, artery, certificate, &cause)?.into_bytes();
-            Ok(Answer {
-                cause,
-                lines,
-                put: None,
-            })
-        }
+        Err(cause) => ended(alloc, artery, certificate, cause),
     }
 }
 
@@ -176,7 +160,7 @@ pub fn solve_answer<'a, F: Files>(
     artery: &'a str,
     certificate: &'a str,
     work: u64,
-) -> Result<Answer<'a>, AllocError>
+) -> Result<Answer<'a>, Memory>
     requires { 1 ≤ work }
     ensures told { IfOk result (λ a. SolveAnswers (F.holds files.old) (F.read_faults files.old) (F.read_faults files.new) artery.now certificate.now work a.cause a.lines.items (option_map text_of a.put)) }
     ensures files { SameFiles (F.holds files.old) (F.holds files.new) }
@@ -192,35 +176,19 @@ pub fn solve_answer<'a, F: Files>(
                 bytes: solution.certificate,
             }),
         }),
-        Err(cause) => {
-            if cause.is_memory() {
-                return Err(AllocError);
-            }
-            let lines = end_lines(alloc, artery, certificate, &cause)?.into_bytes();
-            Ok(Answer {
-                cause,
-                lines,
-                put: None,
-            })
-        }
+        Err(cause) => ended(alloc, artery, certificate, cause),
     }
 }
 
 /// The answer of `make`.
-pub fn make_answer(alloc: Global, signals: u32, seed: u64) -> Result<Answer<'static>, AllocError>
+pub fn make_answer(alloc: Global, signals: u32, seed: u64) -> Result<Answer<'static>, Memory>
     requires least { 2 ≤ signals }
     requires most { signals ≤ 16 }
     ensures told { IfOk result (λ a. MakeAnswers signals seed a.cause a.lines.items) }
     ensures no_put { IfOk result (λ a. a.put ≡ None) }
 {
-    match make(alloc, signals, seed) {
-        Ok(lines) => Ok(Answer {
-            cause: Cause::Done,
-            lines,
-            put: None,
-        }),
-        Err(Memory) => Err(AllocError),
-    }
+    let lines = make(alloc, signals, seed)?;
+    Ok(told(Cause::Done, lines))
 }
 
 /// The answer of `trial`.
@@ -229,32 +197,23 @@ pub fn trial_answer(
     signals: u32,
     seed: u64,
     work: u64,
-) -> Result<Answer<'static>, AllocError>
+) -> Result<Answer<'static>, Memory>
     requires least { 2 ≤ signals }
     requires most { signals ≤ 16 }
     requires work { 1 ≤ work }
     ensures told { IfOk result (λ a. IsTrial signals seed work a.cause a.lines.items) }
     ensures no_put { IfOk result (λ a. a.put ≡ None) }
 {
-    match trial(alloc, signals, seed, work) {
-        Ok(tried) => Ok(Answer {
-            cause: tried.cause,
-            lines: tried.lines,
-            put: None,
-        }),
-        Err(Memory) => Err(AllocError),
-    }
+    let tried = trial(alloc, signals, seed, work)?;
+    Ok(told(tried.cause, tried.lines))
 }
 
 /// The answer to words that are none of the forms.
-pub fn words_answer(alloc: Global) -> Result<Answer<'static>, AllocError>
+pub fn words_answer(alloc: Global) -> Result<Answer<'static>, Memory>
     ensures cause { IfOk result (λ a. a.cause ≡ Cause.Words) }
     ensures lines { IfOk result (λ a. a.lines.items ≡ words_line) }
     ensures no_put { IfOk result (λ a. a.put ≡ None) }
 {
-    Ok(Answer {
-        cause: Cause::Words,
-        lines: words_line(alloc)?.into_bytes(),
-        put: None,
-    })
+    let lines = words_line(alloc)?.into_bytes();
+    Ok(told(Cause::Words, lines))
 }

@@ -7,7 +7,7 @@ ghost use Rattle.maxband.specs.Lines.{kind_name, fault_name, dir_name, link_text
 use artery_model::{Dir, Kind, Refusal};
 use narrow_fraction::Frac;
 use plan_text::{BadText, TextFault};
-use quantity_text::{exact_string, exact_text};
+use quantity_text::exact_string;
 use std::alloc::{AllocError, Global};
 use time_space::Failing;
 
@@ -141,14 +141,9 @@ pub fn too_long_line(alloc: Global, name: &str) -> Result<String, AllocError>
 }
 
 /// The lines of a timing that holds, with its weighted band.
-pub fn holds_lines(alloc: Global, value: Frac) -> Result<Vec<u8>, AllocError>
-    ensures { IfOk result (λ lines. lines.items ≡ holds_lines value) }
+pub fn holds_lines(alloc: Global, value: Frac) -> Result<String, AllocError>
+    ensures { IfOk result (λ text. string_bytes text ≡ holds_lines value) }
 {
-    let Ok(exact) = exact_text(alloc, value) else {
-        return Err(AllocError);
-    };
-    let mut lines = Vec::from_slice(alloc, b"holds\nweighted ")?;
-    lines.extend_from_slice(exact.as_slice())?;
-    lines.push(b'\n')?;
-    Ok(lines)
+    let value = exact(alloc, value)?;
+    format!(in alloc; "holds\nweighted {value}\n")
 }

@@ -46,7 +46,8 @@ use std::env;
 use std::io::ErrorKind;
 use std::process::ExitCode;
 pub use top::{
-    law_make_is_complete, law_one_answer, law_solve_is_complete, law_trial_is_complete, run,
+    law_make_is_complete, law_one_answer, law_put_is_accepted, law_solve_is_complete,
+    law_trial_is_complete, run,
 };
 
 /// The status for words that the system doesn't give as text. `run` never answers it.

@@ -7,13 +7,12 @@ ghost use Rattle.maxband.specs.Turns.{FirstEnds};
 ghost use Rattle.maxband.specs.Solve.{IsSolution, Solves};
 
 use crate::cause::Cause;
-use crate::searching::{cause_of, search_and_check};
+use crate::searching::{Searched, cause_of, search_and_check};
 use crate::turns::artery_of;
 use artery_model::Artery;
 use diagram_print::report;
 use narrow_fraction::Memory;
 use outer_edge::Files;
-use plan_text::write_certificate;
 use std::alloc::Global;
 
 /// What a search comes to: its cause, the lines of its report, and the text of its certificate.
@@ -30,10 +29,10 @@ fn solution_of(alloc: Global, artery: &Artery, work: u64) -> Result<Solution, Me
     ensures { IfOk result (λ s. IsSolution artery.now work s.cause s.lines.items s.certificate.items) }
 {
     let searched = search_and_check(alloc, artery, work)?;
-    let text = write_certificate(alloc, &searched.certificate)?;
     let lines = report(alloc, artery, &searched.found)?;
+    let Searched { found, text, .. } = searched;
     Ok(Solution {
-        cause: cause_of(searched.found.verdict),
+        cause: cause_of(found.verdict),
         lines,
         certificate: text,
     })

@@ -6,7 +6,7 @@ ghost use Rattle.outer_edge.specs.Held.{SameFiles};
 ghost use Rattle.maxband.specs.Status.{number_of};
 ghost use Rattle.maxband.specs.Command.{command_of};
 ghost use Rattle.maxband.specs.Outside.{outside, text_of};
-ghost use Rattle.maxband.specs.Run.{Answers, Ends, FilesKept, PutsKept, LeavesAlone, OneAnswer, SolveIsComplete, MakeIsComplete, TrialIsComplete};
+ghost use Rattle.maxband.specs.Run.{Answers, Ends, FilesKept, PutsKept, LeavesAlone, OneAnswer, SolveIsComplete, MakeIsComplete, TrialIsComplete, PutIsAccepted};
 
 use crate::answers::{
     Answer, check_answer, hold_answer, make_answer, show_answer, solve_answer, trial_answer,
@@ -15,15 +15,16 @@ use crate::answers::{
 use crate::cause::{Cause, Status};
 use crate::command::{Command, command_in};
 use crate::finish::{Undelivered, deliver};
+use narrow_fraction::Memory;
 use outer_edge::{Files, Sink};
-use std::alloc::{AllocError, Global};
+use std::alloc::Global;
 
 /// The answer of the words.
 fn answer_to<'a, F: Files>(
     alloc: Global,
     words: &'a [String],
     files: &mut F,
-) -> Result<Answer<'a>, AllocError>
+) -> Result<Answer<'a>, Memory>
     ensures told { IfOk result (λ a. Answers (F.holds files.old) (F.read_faults files.old) (F.read_faults files.new) (command_of (map string_bytes words.now)) a.cause a.lines.items (option_map text_of a.put)) }
     ensures files { SameFiles (F.holds files.old) (F.holds files.new) }
     ensures reads { NoneFell (F.read_faults files.old) (F.read_faults files.new) }
@@ -70,11 +71,12 @@ fn status(cause: Cause) -> Status
 
 /// The program over any files and any output. `words` are those after the program's name.
 ///
-/// The status has its cause: what the files held at entry, where they tell it, what is made from a seed, or which count of
-/// faults rose. The output grew by exactly that answer's lines, and no file changed but that `solve` put the text of its
-/// certificate. `hold` and `check` read two files, `show` and `solve` one, and `make` and `trial` none. After `Memory` no file
-/// changed and nothing was written; after `WriteFault` either the put failed and nothing was written, or a front of the lines
-/// of the answer that was reached went out.
+/// The status has its cause: what the bytes of the files are, which are those that they held at entry where they tell them, what
+/// is made from a seed, or which count of faults rose. The output grew by exactly that answer's lines, and no file changed but
+/// that `solve` put the text of its certificate, which is read back as the very certificate that was accepted. `hold` and
+/// `check` read two files, `show` and `solve` one, and `make` and `trial` none. After `Memory` no file changed and nothing was
+/// written; after `WriteFault` either the put failed and nothing was written, or a front of the lines of the answer that was
+/// reached went out.
 pub fn run<F: Files, K: Sink>(alloc: Global, words: &[String], files: &mut F, out: &mut K) -> Status
     ensures number { result.number ≡ number_of result.cause }
     ensures ends { Ends (outside (F.holds files.old) (F.read_faults files.old) (F.put_faults files.old) (K.taken out.old) (K.faults out.old)) (outside (F.holds files.new) (F.read_faults files.new) (F.put_faults files.new) (K.taken out.new) (K.faults out.new)) (command_of (map string_bytes words.now)) result.cause }
@@ -88,7 +90,7 @@ pub fn run<F: Files, K: Sink>(alloc: Global, words: &[String], files: &mut F, ou
 {
     let answer = match answer_to(alloc, words, files) {
         Ok(answer) => answer,
-        Err(_) => return status(Cause::Memory),
+        Err(Memory) => return status(Cause::Memory),
     };
     match deliver(files, out, &answer.put, answer.lines.as_slice()) {
         Ok(()) => status(answer.cause),
@@ -126,3 +128,11 @@ pub fn law_make_is_complete()
 pub fn law_trial_is_complete()
     ensures { TrialIsComplete }
 {}
+
+/// A law over the definitions: `check` accepts the certificate that `solve` put, with the very claim of what was found.
+pub fn law_put_is_accepted()
+    ensures { PutIsAccepted }
+{
+    description_reader::law_one_answer();
+    certificate_checker::law_accepted_or_refused();
+}

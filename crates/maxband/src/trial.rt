@@ -1,13 +1,13 @@
 //! The command `trial`.
 
 ghost use Rattle.std.specs.Prelude.{◌≡◌, ◌≤◌, IfOk, string_bytes};
-ghost use Rattle.maxband.specs.Trial.{best_lines, bound_lines, between_lines, open_lines, claim_lines, trial_lines, lines_of, IsTrial};
+ghost use Rattle.maxband.specs.Trial.{best_lines, bound_lines, between_lines, open_lines, claim_lines, trial_lines, IsTrial};
 
 use crate::cause::Cause;
 use crate::lines::exact;
 use crate::searching::{cause_of, search_and_check};
 use narrow_fraction::{Frac, Memory};
-use plan_text::{Certificate, Claim, write_certificate};
+use plan_text::Claim;
 use std::alloc::{AllocError, Global};
 use workload_maker::make_artery;
 
@@ -77,22 +77,6 @@ fn trial_lines(
     )
 }
 
-/// The lines of a trial with this certificate.
-fn lines_of(
-    alloc: Global,
-    signals: u32,
-    seed: u64,
-    certificate: &Certificate,
-) -> Result<String, Memory>
-    ensures { IfOk result (λ text. string_bytes text ≡ lines_of signals seed certificate.now) }
-{
-    let text = write_certificate(alloc, certificate)?;
-    match trial_lines(alloc, signals, seed, certificate.claim, text.len()) {
-        Ok(lines) => Ok(lines),
-        Err(AllocError) => Err(Memory),
-    }
-}
-
 /// Makes the artery with so many signals, 2 to 16, from the seed, searches for a best timing of it with so many units of work,
 /// and checks the certificate. The error is want of memory.
 pub fn trial(alloc: Global, signals: u32, seed: u64, work: u64) -> Result<Tried, Memory>
@@ -103,9 +87,9 @@ pub fn trial(alloc: Global, signals: u32, seed: u64, work: u64) -> Result<Tried,
 {
     let artery = make_artery(alloc, signals, seed)?;
     let searched = search_and_check(alloc, &artery, work)?;
-    let lines = lines_of(alloc, signals, seed, &searched.certificate)?.into_bytes();
+    let lines = trial_lines(alloc, signals, seed, searched.claim, searched.text.len())?;
     Ok(Tried {
         cause: cause_of(searched.found.verdict),
-        lines,
+        lines: lines.into_bytes(),
     })
 }

@@ -292,12 +292,142 @@ no timing
 "#,
 };
 
+/// It stops at a ratio of a step, before a pivot is chosen.
+const RATIO_OF_STEP: Stopped = Stopped {
+    street: r#"[artery]
+units = "metric"
+parts = 100
+cycle = [60, 116]
+ratio = "29/100"
+
+[[signal]]
+name = "S1"
+red = 50
+
+[[signal]]
+name = "S2"
+red = 30
+
+[[signal]]
+name = "S3"
+red = 40
+
+[[signal]]
+name = "S4"
+red = 1
+
+[[signal]]
+name = "S5"
+red = 40
+
+[[link]]
+distance_out = 6000
+distance_in = 6000
+speed_out = [40, "52189/911"]
+speed_in = [70, "24913/279"]
+
+[[link]]
+distance_out = 8000
+distance_in = 8000
+speed_out = [30, "391/10"]
+speed_in = [80, "4399/50"]
+
+[[link]]
+distance_out = 27000
+distance_in = 1351
+speed_out = [30, "3847/100"]
+speed_in = [30, "44603/919"]
+
+[[link]]
+distance_out = 14000
+distance_in = 14000
+speed_out = [50, "5991/100"]
+speed_in = [50, "5449/97"]
+"#,
+    report: r#"verdict open
+stopped wide
+loops 6:15 8:9 22:23 14:14
+shifts 0:0 0:0 0:0 0:0 0:0
+pivots 21
+site ratio 5 2
+operands div 157520836698343021163761151753/34523936812388819355712750 1651380978458832929395202248381238098/897749789806234984115208145560035
+bound 129/200
+no timing
+"#,
+};
+
+/// It stops at the product of a run and the parts.
+const PRODUCT_OF_RUN: Stopped = Stopped {
+    street: r#"[artery]
+units = "metric"
+parts = 3593
+cycle = [1, "385/97"]
+ratio = 1
+
+[[signal]]
+name = "S1"
+red = 2120
+
+[[signal]]
+name = "S2"
+red = 2120
+
+[[signal]]
+name = "S3"
+red = 720
+
+[[signal]]
+name = "S4"
+red = 720
+
+[[signal]]
+name = "S5"
+red = 2120
+
+[[link]]
+distance_out = 5000
+distance_in = 5000
+speed_out = [9, 20]
+speed_in = [50, "2723/50"]
+
+[[link]]
+distance_out = 107
+distance_in = 107
+speed_out = [30, "4769/97"]
+speed_in = [20, "2861/100"]
+
+[[link]]
+distance_out = 100
+distance_in = 100
+speed_out = [20, "20561/595"]
+speed_in = [80, "42059/475"]
+
+[[link]]
+distance_out = 500
+distance_in = 500
+speed_out = [70, "69113/835"]
+speed_in = [40, "55673/885"]
+"#,
+    report: r#"verdict open
+stopped wide
+loops 311:2360 5:5 3:4 12:12
+shifts 0:0 0:0 0:0 0:0 0:0
+pivots 23
+site product y_out 1
+operands mul 54025817141783191574406643164447398/237974871168641373955972537132225 3593
+bound 2946/3593
+no timing
+"#,
+};
+
 const STREETS: &[Stopped] = &[
     CELL_IN_ROOT,
     CELL_IN_PART,
     BOUND_OF_LEAF,
     COMMON_DENOMINATOR,
     TICKS_OF_RUN,
+    RATIO_OF_STEP,
+    PRODUCT_OF_RUN,
 ];
 
 #[test]

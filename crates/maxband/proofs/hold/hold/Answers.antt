@@ -8,7 +8,7 @@ use Rattle.maxband.proofs.hold.hold.Goals as goal
 pub returns-in-Ok-clause-ok : goal.returns-in-Ok-clause-ok
 returns-in-Ok-clause-ok g c =
     let told = subst (λ o. ReadsTiming o c.in_ok-timing.timing) (c.in_ok-artery.ensures.files c.args.timing.now) c.in_ok-timing.ensures.ok in
-    (c.in_ok-artery.artery, c.in_ok-timing.timing, c.in_ok-artery.ensures.ok, told, c.in-Ok.ensures.good, c.value.ensures)
+    (c.in_ok-artery.artery, c.in_ok-timing.timing, c.in_ok-artery.ensures.ok, told, c.in-Ok.ensures.good, c.value.ensures.value)
 
 pub returns-clause-err : goal.returns-clause-err
 returns-clause-err g c =

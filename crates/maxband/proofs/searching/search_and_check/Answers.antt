@@ -1,6 +1,7 @@
-use Rattle.std.proofs.Common.{Some, subst}
+use Rattle.std.proofs.Common.{Some, ◌∙◌, ap, subst}
 use Rattle.plan_text.specs.Warrants.{Warrant}
 use Rattle.certificate_checker.specs.Accepted.{IsAccepted}
+use Rattle.maxband.specs.Searched.{IsTextOf}
 use Rattle.maxband.proofs.Solved.{found_proves}
 use Rattle.maxband.proofs.searching.search_and_check.Goals as goal
 
@@ -19,3 +20,10 @@ returns-clause-searched c =
           subst (λ (w : Warrant). IsAccepted c.args.artery.now w) c.in_ok-certificate.ensures.certificate
           (c.in_ok-certificate.ensures.accepted (Some c.args.work) c.in_ok-found.ensures.answer);
     }
+
+pub returns-clause-claim : goal.returns-clause-claim
+returns-clause-claim c = ap (λ (w : Warrant). w.claim) (c.certificate.view_is ∙ c.in_ok-certificate.ensures.certificate)
+
+pub returns-clause-text : goal.returns-clause-text
+returns-clause-text c =
+    subst (λ (w : Warrant). IsTextOf c.in_ok-text.text.items w) c.in_ok-certificate.ensures.certificate (record { written = c.in_ok-text.ensures.text; read_back = c.in_ok-text.ensures.read_back })

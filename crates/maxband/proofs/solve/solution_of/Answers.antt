@@ -1,5 +1,3 @@
-use Rattle.std.proofs.Common.{◌∙◌, ap}
-use Rattle.plan_text.specs.CertificateText.{certificate_text}
 use Rattle.maxband.proofs.solve.solution_of.Goals as goal
 
 pub returns : goal.returns
@@ -9,5 +7,5 @@ returns c =
       searched = c.in_ok-searched.ensures.searched;
       cause_is = c.cause_of.ensures;
       lines_are = c.in_ok-lines.ensures;
-      certificate_is = c.in_ok-text.ensures ∙ ap certificate_text c.in_ok-searched.ensures.certificate;
+      certificate_is = c.in_ok-searched.ensures.text;
     }

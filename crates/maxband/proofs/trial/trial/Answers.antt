@@ -1,10 +1,11 @@
-use Rattle.std.proofs.Common.{◌∙◌, ap}
-use Rattle.maxband.specs.Trial.{lines_of}
+use Rattle.std.proofs.Common.{◌∙◌}
+use Rattle.maxband.specs.Trial.{trial_lines}
 use Rattle.maxband.proofs.Tried.{tried}
 use Rattle.maxband.proofs.trial.trial.Goals as goal
 
 pub returns : goal.returns
 returns c =
-    tried c.args.signals c.args.seed c.args.work c.in_ok-artery.artery c.in_ok-searched.searched.found c.cause_of.result c.into_bytes-lines.result.items
-    c.in_ok-artery.ensures c.in_ok-searched.ensures.searched c.cause_of.ensures
-    (rw c.into_bytes-lines.ensures.value (c.in_ok-lines_of.ensures ∙ ap (lines_of c.args.signals c.args.seed) c.in_ok-searched.ensures.certificate))
+    let bytes = c.len.ensures ∙ c.in_ok-searched.searched.text.ok.0 in
+    tried c.args.signals c.args.seed c.args.work c.in_ok-artery.artery c.in_ok-searched.searched.found c.cause_of.result c.in_ok-searched.searched.text.items c.into_bytes.result.items
+    c.in_ok-artery.ensures c.in_ok-searched.ensures.searched c.cause_of.ensures c.in_ok-searched.ensures.text
+    (rw c.into_bytes.ensures.value (c.in_ok-lines.ensures ∙ (λ i. trial_lines c.args.signals c.args.seed (c.in_ok-searched.ensures.claim i) (bytes i))))
