@@ -7,7 +7,8 @@ use Rattle.std.proofs.lemmas.List.FromFn.{length-range_with_len, get_or-range_wi
 use Rattle.std.proofs.lemmas.Bool.{cases_eq}
 use Rattle.ratio.specs.Rational.{ℚ, whole}
 use Rattle.narrow_fraction.specs.Fraction.{FitsFrac}
-use Rattle.fraction_tableau.specs.Narrow.{IsNarrow, zero_fits}
+use Rattle.narrow_fraction.specs.Zeros.{zero_fits}
+use Rattle.fraction_tableau.specs.Narrow.{IsNarrow}
 
 -- ---- lists that grow
 range_snoc : (a n : ℕ) → range_with_len a (suc n) ≡ range_with_len a n ++ (a + n) ∷ []

@@ -10,7 +10,8 @@ use Rattle.simplex_model.specs.Lines.{turned, cleared}
 use Rattle.simplex_model.specs.Tableau.{Tableau, IsShaped, line, exchange, height, width, shaped-exchange, height-exchange, width-exchange}
 use Rattle.named_row.specs.Sheets.{Sheet}
 use Rattle.named_row.specs.declared.names.RowId.{RowId}
-use Rattle.fraction_tableau.specs.Narrow.{IsNarrow, AreNarrow, zero_fits, are_narrow-set}
+use Rattle.narrow_fraction.specs.Zeros.{zero_fits}
+use Rattle.fraction_tableau.specs.Narrow.{IsNarrow, AreNarrow, are_narrow-set}
 use Rattle.fraction_tableau.specs.Refusals.{exchanged_rows}
 use Rattle.fraction_tableau.specs.NamedTableaus.{NamedTableau, IsSound, unnamed, blank_table, blank_tableau, row_cells, with_row, goal_cells, with_goal}
 

@@ -1,40 +1,18 @@
 -- Operations with 0 are never refused, and change nothing.
-use Rattle.std.proofs.Common.{◌≡◌, ℕ, ℤ, pos, zero, suc, Bool, true, false, cond, eqb, Option, None, List, [], length, get_or, set, ◌+ℤ◌, ◌*ℤ◌, ◌/◌, ◌<◌, ◌^◌, ◌⊎◌, inl, inr, refl, sym, ◌∙◌, ap, ap₂, subst, arith, unsigned_abs, mul-one}
-use Rattle.std.proofs.Math.Nat.{div-one}
-use Rattle.std.proofs.Math.IntN.{zero-*ℤ}
-use Rattle.ratio.specs.Gcd.{gcd}
-use Rattle.std.proofs.lemmas.Int.{ints}
+use Rattle.std.proofs.Common.{◌≡◌, ℕ, pos, zero, suc, Bool, true, false, cond, eqb, Option, None, List, [], length, get_or, set, ◌<◌, ◌⊎◌, inl, inr, refl, sym, ◌∙◌, ap, ap₂, subst}
 use Rattle.std.proofs.lemmas.List.{set-get_or, ext_get_or}
 use Rattle.std.proofs.lemmas.Bool.{cases_eq, cond_both}
-use Rattle.ratio.specs.Fractions.{gcd-one}
 use Rattle.ratio.specs.Rational.{ℚ, whole, neg_ℚ, inverse_ℚ, ◌+ℚ◌, ◌*ℚ◌}
 use Rattle.ratio.specs.Laws.{+ℚ-zero}
 use Rattle.ratio.specs.Ring.{zero-*ℚ, ring, lit, minus}
 use Rattle.narrow_fraction.specs.Fraction.{FitsFrac}
 use Rattle.narrow_fraction.specs.Past128.{SumFits}
+use Rattle.narrow_fraction.specs.Zeros.{zero_fits, sum_with_zero}
 use Rattle.narrow_fraction.specs.Attempt.{earlier, first_below}
 use Rattle.narrow_fraction.specs.declared.wide.Op.TheVariants.{Mul, Div, Sub}
 use Rattle.simplex_model.specs.Lines.{cleared, cleared_at, cleared_other, length-cleared}
-use Rattle.fraction_tableau.specs.Narrow.{IsNarrow, zero_fits}
+use Rattle.fraction_tableau.specs.Narrow.{IsNarrow}
 use Rattle.fraction_tableau.specs.Refusals.{refused, refused_none, clear_cell_refusal, clear_at, clear_refusal}
-
-once : (z : ℤ) → z *ℤ pos 1 ≡ z
-once z = omega (arith, ints)
-
-nothing : (n : ℤ) → unsigned_abs (pos 0 *ℤ n) < 2 ^ 127
-nothing n = rw (zero-*ℤ n) (omega arith)
-
-still : (z n : ℤ) → unsigned_abs z < 2 ^ 127 → unsigned_abs (z +ℤ pos 0 *ℤ n) < 2 ^ 127
-still z n h = rw (zero-*ℤ n) (omega (arith, ints))
-
-sum_with_zero : (x : ℚ) → FitsFrac x → SumFits x (whole (pos 0))
-unfolding whole
-sum_with_zero x f = record {
-  left = rw (gcd-one x.den, div-one 1, once x.num) f.num_fits;
-  right = nothing (pos (x.den / gcd x.den 1));
-  top = rw (gcd-one x.den, div-one 1, once x.num) (still x.num (pos (x.den / 1)) f.num_fits);
-  bottom = rw (gcd-one x.den, div-one 1, mul-one x.den) f.den_fits;
-}
 
 negated_zero : neg_ℚ (whole (pos 0)) ≡ whole (pos 0)
 negated_zero = ring (minus (lit (pos 0))) (lit (pos 0)) [] refl

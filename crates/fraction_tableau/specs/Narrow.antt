@@ -1,5 +1,5 @@
 -- Rows whose numbers all fit: so does every number of a `Frac`.
-use Rattle.std.proofs.Common.{◌≡◌, ℕ, pos, List, [], length, get_or, ◌<◌, ◌⊎◌, inl, inr, arith}
+use Rattle.std.proofs.Common.{◌≡◌, ℕ, pos, List, [], length, get_or, ◌<◌, ◌⊎◌, inl, inr}
 use Rattle.std.proofs.Math.ListN.{set}
 use Rattle.std.proofs.lemmas.List.{get_or-set_same, get_or-set_other}
 use Rattle.std.proofs.lemmas.Bool.{cases_eq}
@@ -12,10 +12,6 @@ pub record IsNarrow (row : List ℚ) : Type 0 where
 
 pub record AreNarrow (rows : List (List ℚ)) : Type 0 where
   pub narrow : (i : ℕ) → IsNarrow (get_or rows i [])
-
-pub zero_fits : FitsFrac (whole (pos 0))
-unfolding whole
-zero_fits = record { num_fits = omega arith; den_fits = omega arith }
 
 pub neg_fits : (x : ℚ) → FitsFrac x → FitsFrac (neg_ℚ x)
 unfolding neg_ℚ

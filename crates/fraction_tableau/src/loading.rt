@@ -5,7 +5,6 @@ ghost use Rattle.std.specs.List.{range_with_len};
 ghost use Rattle.fraction_tableau.specs.Narrow.{IsNarrow};
 ghost use Rattle.fraction_tableau.specs.NamedTableaus.{row_cells, goal_cells};
 
-use crate::wide_cell::fitting;
 use named_row::{Place, Row};
 use narrow_fraction::Frac;
 
@@ -18,9 +17,9 @@ pub fn copy_row(cells: &mut [Frac], from: &Row)
 {
     let last = cells.len() - 1;
     for col in 0..last {
-        cells[col] = fitting(from.get(Place::Cell(col as u32)));
+        cells[col] = from.get(Place::Cell(col as u32)).fitting();
     }
-    cells[last] = fitting(from.get(Place::Bound));
+    cells[last] = from.get(Place::Bound).fitting();
 }
 
 /// A row's negated coefficients, and 0 last.
@@ -32,9 +31,9 @@ pub fn copy_goal(cells: &mut [Frac], from: &Row)
 {
     let last = cells.len() - 1;
     for col in 0..last {
-        cells[col] = fitting(from.get(Place::Cell(col as u32)).neg());
+        cells[col] = from.get(Place::Cell(col as u32)).neg().fitting();
     }
-    cells[last] = fitting(Frac::whole(0));
+    cells[last] = Frac::whole(0).fitting();
 }
 
 /// The numbers from 0 on.

@@ -24,16 +24,6 @@ pub struct Spot {
     pub col: u32,
 }
 
-/// The number itself; that it fits is learned by reading it.
-pub fn fitting(number: Frac) -> Frac
-    ensures same { result ≡ number }
-    ensures fits { FitsFrac result }
-{
-    let _top = number.num();
-    let _bottom = number.den();
-    number
-}
-
 impl Spot {
     ghost use Rattle.fraction_tableau.specs.Refusals.{refused};
 
@@ -44,7 +34,7 @@ impl Spot {
         ensures fits { IfOk result (λ value. FitsFrac value) }
     {
         match left.over(right) {
-            Ok(value) => Ok(fitting(value)),
+            Ok(value) => Ok(value.fitting()),
             Err(wide) => Err(WideCell {
                 row: self.row,
                 col: self.col,
@@ -73,7 +63,7 @@ impl Spot {
         ensures fits { IfOk result (λ value. FitsFrac value) }
     {
         match left.minus(right) {
-            Ok(value) => Ok(fitting(value)),
+            Ok(value) => Ok(value.fitting()),
             Err(wide) => Err(WideCell {
                 row: self.row,
                 col: self.col,

@@ -1,3 +1,4 @@
 pub mod Operations
 pub mod Columns
 pub mod Whole
+pub mod Zeros

@@ -11,10 +11,14 @@ use crate::names::Place;
 use crate::wide_at::WideAt;
 use narrow_fraction::Frac;
 
-/// The number and `by` times another one, for this place: first the product, then the sum.
+/// The number and `by` times another one, for this place: first the product, then the sum. Another one of 0 leaves the
+/// number as it is, and neither operation can be refused.
 pub fn add_number(number: Frac, by: Frac, other: Frac, place: Place) -> Result<Frac, WideAt>
     ensures { result ≡ attempt (place_refusal place by number other) (number +ℚ by *ℚ other) }
 {
+    if other.is_zero() {
+        return Ok(number.fitting());
+    }
     let product = match by.times(other) {
         Ok(product) => product,
         Err(wide) => return Err(WideAt { place, wide }),

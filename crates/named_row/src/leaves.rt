@@ -10,7 +10,7 @@ pub struct Weight {
     pub by: Frac,
 }
 
-/// A sum of rows, in the order in which it is built.
+/// The rows whose sum a leaf shows, each with its multiplier, in the order in which they are added.
 #[derive(Debug, Drop)]
 pub struct Leaf {
     pub multipliers: Vec<Weight>,

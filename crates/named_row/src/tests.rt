@@ -41,6 +41,20 @@ fn sum_of_rows(rt: HostRuntime) {
 }
 
 #[test]
+fn a_column_of_zero_stays(rt: HostRuntime) {
+    let alloc = rt.alloc();
+    let wide = fraction(TWO_126, 1);
+    let mut own = row(alloc, wide, fraction(1, 1), fraction(0, 1)).expect(&rt, "memory");
+    let other = row(alloc, fraction(0, 1), fraction(1, TWO_126), fraction(0, 1)).expect(
+        &rt, "memory",
+    );
+    assert_eq!(rt; own.add_scaled(wide, &other), Ok(()));
+    assert_eq!(rt; own.get(Place::Cell(0)), wide);
+    assert_eq!(rt; own.get(Place::Cell(1)), fraction(2, 1));
+    assert_eq!(rt; own.get(Place::Bound), fraction(0, 1));
+}
+
+#[test]
 fn first_refused_operation(rt: HostRuntime) {
     let alloc = rt.alloc();
     let wide = fraction(TWO_126, 1);

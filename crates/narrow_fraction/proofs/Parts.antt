@@ -16,6 +16,7 @@ use Rattle.ratio.specs.Laws.{same_ratio, over_ratio}
 use Rattle.ratio.specs.Order.{zero_num}
 use Rattle.ratio.specs.Lowest.{over-own, over-lowest, num_size, over-neg_ℤ, quotient-pos, quotient-negsuc}
 use Rattle.narrow_fraction.specs.Fraction.{FitsFrac, signed}
+use Rattle.narrow_fraction.specs.Zeros.{zero_fits}
 
 pub abs-signed : (b : Bool) (n : ℕ) → unsigned_abs (signed b n) ≡ n
 abs-signed true zero = refl
@@ -142,10 +143,6 @@ zero_over d h = zero_num (over (pos 0) d) (omega (arith, ints, num_size (pos 0) 
 zero_factor : (a c : ℕ) → (a ≡ 0) ⊎ ((a ≡ 0 → ⊥) × (c ≡ 0)) → a * c ≡ 0
 zero_factor a c (inl e) = rw (e, zero-mul c)
 zero_factor a c (inr h) = rw (h.1, mul-zero a)
-
-zero_fits : FitsFrac (whole (pos 0))
-unfolding whole
-zero_fits = record { num_fits = omega arith; den_fits = omega arith }
 
 -- a product with 0 is 0
 pub zero_product : (s : Bool) (a b c d : ℕ) → 0 < b → 0 < d → (a ≡ 0) ⊎ ((a ≡ 0 → ⊥) × (c ≡ 0)) → (z : ℚ) → z ≡ whole (pos 0)

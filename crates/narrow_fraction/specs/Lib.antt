@@ -4,3 +4,4 @@ pub mod Made
 pub mod Past128
 pub mod Attempt
 pub mod Short
+pub mod Zeros

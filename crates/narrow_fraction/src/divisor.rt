@@ -4,7 +4,7 @@ ghost use Rattle.std.specs.Prelude.{◌≡◌, ◌<◌, ◌≤◌, ◌/◌, ◌%
 ghost use Rattle.ratio.specs.Gcd.{gcd};
 
 /// The greatest word, which is a number of 64 bits.
-const WORD: u128 = 18_446_744_073_709_551_615;
+pub const WORD: u128 = u64::MAX as u128;
 
 /// The greatest common divisor, by Euclid's steps, on words as soon as they serve.
 pub fn common_divisor(a: u128, b: u128) -> u128

@@ -208,6 +208,15 @@ impl Frac {
         self.den
     }
 
+    /// The same number. Each of its two numbers is at most `2^127 - 1` in size.
+    pub fn fitting(self) -> Frac
+        ensures same { result ≡ self }
+        ensures fits { FitsFrac result }
+    {
+        let _parts = self.parts();
+        self
+    }
+
     /// Whether this is 0.
     pub fn is_zero(&self) -> bool
         ensures { IsTrue result ↔ self.now ≡ whole (pos 0) }

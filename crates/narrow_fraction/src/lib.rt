@@ -1,7 +1,8 @@
 //! Exact fractions of two numbers of 128 bits with a sign.
 //!
 //! A `Frac` is seen as the rational number that it is (`ratio`'s `ℚ`), always in lowest terms, with its denominator
-//! from 1 to `2^127 - 1` and its numerator at most `2^127 - 1` in size. Begin with `Frac::new` or `Frac::whole`.
+//! from 1 to `2^127 - 1` and its numerator at most `2^127 - 1` in size. Begin with `Frac::whole`, with
+//! `Frac::reduced` for two numbers that fit, or with `Frac::new` for any two.
 //!
 //! A crate that compares two `Frac`s writes at the head of its `lib.rt`
 //!

@@ -122,6 +122,7 @@ fn order_and_whole_parts(rt: HostRuntime) {
     assert!(rt; below < above && above > below && below != above);
     assert!(rt; fraction(-1, 2) <= fraction(-1, 3) && fraction(-1, 3) < Frac::whole(0));
     assert_eq!(rt; fraction(-7, 2).abs().neg(), fraction(7, -2));
+    assert_eq!(rt; fraction(-7, 2).fitting(), fraction(-7, 2));
     assert_eq!(rt; fraction(-7, 2).floor(), -4);
     assert_eq!(rt; fraction(7, 2).floor(), 3);
     assert!(rt; Frac::whole(-3).is_whole() && !fraction(1, 3).is_whole());

@@ -37,20 +37,12 @@ fn push_line(out: &mut Vec<u8>, line: &[u8]) -> Result<(), Memory>
     push(out, b"\n")
 }
 
-/// A fraction's two numbers fit, so that its word is read again.
-fn fits(value: Frac)
-    ensures { FitsFrac value }
-{
-    let _numbers = (value.num(), value.den());
-}
-
 /// Writes a fraction after a space, and the end of its line.
 fn push_fraction(alloc: Global, out: &mut Vec<u8>, value: Frac) -> Result<(), Memory>
     ensures text { OnOk result (out.new.items ≡ out.old.items ++ 32 ∷ (exact_spelling value ++ 10 ∷ [])) }
     ensures held { OnOk result (FitsFrac value) }
 {
-    fits(value);
-    let text = exact_text(alloc, value)?;
+    let text = exact_text(alloc, value.fitting())?;
     push(out, b" ")?;
     push_line(out, text.as_slice())
 }
