@@ -70,7 +70,7 @@ impl Artery {
         })
     }
 
-    /// What holds of the whole artery.
+    /// The name, units, parts, limits of the cycle and ratio. The contract also says that the artery is valid.
     pub fn head(&self) -> &Head
         ensures value { result.now ≡ self.now.head }
         ensures valid { IsValid self.now }
@@ -142,6 +142,16 @@ impl Artery {
             Dir::Outbound => found.left_in,
             Dir::Inbound => found.left_out,
         }
+    }
+
+    /// The common red, in parts, in which both directions are red, whatever the pattern.
+    pub fn common_red(&self, signal: u32) -> u32
+        requires first { 1 ≤ signal }
+        requires last { signal ≤ count self.now }
+        ensures value { result ≡ (signal_of self.now signal).red }
+        ensures small { result < 3600 }
+    {
+        self.signal(signal).red
     }
 
     /// A direction's red, in parts: the common red and the left turn against the direction. It is

@@ -1,6 +1,10 @@
 //! Why there is no artery.
 
+ghost use Rattle.std.specs.Prelude.{◌≡◌};
+ghost use Rattle.artery_model.specs.declared.kind.Flaw.TheVariants.{Memory};
+
 use progression::Text;
+use std::alloc::AllocError;
 
 /// What is wrong with a description. The kinds stand in the order in which they are looked for.
 #[derive(Clone, Copy, Debug, PartialEq, Eq)]
@@ -43,4 +47,12 @@ pub struct Refusal {
 pub enum Flaw {
     Refused(Refusal),
     Memory,
+}
+
+impl From<AllocError> for Flaw {
+    ghost from_gives = { λ _ flaw. flaw ≡ Memory };
+
+    fn from(_: AllocError) -> Flaw {
+        Flaw::Memory
+    }
 }

@@ -13,9 +13,9 @@ use narrow_fraction::Frac;
 use progression::{Head, Link, Pair, Signal, Text};
 use std::alloc::Global;
 
-/// Whether a quantity lies between two whole numbers, its numerator and denominator being of a
-/// bounded size.
-fn is_within(low: i64, high: i64, value: Frac) -> bool
+/// Whether a quantity lies between two whole numbers, both among them, its numerator being at most 100,000 in size and its
+/// denominator at most 1,000.
+pub fn is_within(low: i64, high: i64, value: Frac) -> bool
     ensures { result ≡ within (whole low) (whole high) value }
 {
     value.num().unsigned_abs() <= 100_000
@@ -38,10 +38,10 @@ fn all_plain(bytes: &[u8]) -> bool
 }
 
 /// Whether a name has 1 to 60 bytes and no control character.
-fn is_name(name: &Text) -> bool
+pub fn is_name(name: &str) -> bool
     ensures { result ≡ is_name name.now }
 {
-    let bytes = name.as_str().as_bytes();
+    let bytes = name.as_bytes();
     1 <= bytes.len() && bytes.len() <= 60 && all_plain(bytes)
 }
 
@@ -49,7 +49,7 @@ fn is_name_if_there(name: &Option<Text>) -> bool
     ensures { result ≡ is_name_if_there name.now }
 {
     match name {
-        Some(name) => is_name(name),
+        Some(name) => is_name(name.as_str()),
         None => true,
     }
 }
@@ -85,7 +85,7 @@ fn check_signal_ranges(
 {
     let kind = Kind::OutOfRange;
     let red = 1 <= signal.red && signal.red <= parts.saturating_sub(1);
-    check_signal(alloc, is_name(&signal.name), kind, number, "name")?;
+    check_signal(alloc, is_name(signal.name.as_str()), kind, number, "name")?;
     check_signal(alloc, red, kind, number, "red")?;
     check_signal(alloc, signal.left_out < parts, kind, number, "left_out")?;
     check_signal(alloc, signal.left_in < parts, kind, number, "left_in")?;

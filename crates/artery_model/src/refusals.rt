@@ -41,10 +41,8 @@ pub(crate) fn check_item(
     if passes {
         return Ok(());
     }
-    match format!(in alloc; "{place}{item}") {
-        Ok(place) => Err(refused(alloc, kind, place.as_str())),
-        Err(_) => Err(Flaw::Memory),
-    }
+    let place = format!(in alloc; "{place}{item}")?;
+    Err(refused(alloc, kind, place.as_str()))
 }
 
 /// The path of a signal's key.
@@ -52,7 +50,7 @@ pub(crate) fn signal_place(alloc: Global, signal: usize, key: &str) -> Result<St
     ensures value { IfOk result (λ place. string_bytes place ≡ signal_place signal key.now) }
     ensures memory { IfErr result (λ flaw. flaw ≡ Flaw.Memory) }
 {
-    format!(in alloc; "signal[{signal}].{key}").map_err(|_| Flaw::Memory)
+    Ok(format!(in alloc; "signal[{signal}].{key}")?)
 }
 
 /// The path of a link's key.
@@ -60,7 +58,7 @@ pub(crate) fn link_place(alloc: Global, link: usize, key: &str) -> Result<String
     ensures value { IfOk result (λ place. string_bytes place ≡ link_place link key.now) }
     ensures memory { IfErr result (λ flaw. flaw ≡ Flaw.Memory) }
 {
-    format!(in alloc; "link[{link}].{key}").map_err(|_| Flaw::Memory)
+    Ok(format!(in alloc; "link[{link}].{key}")?)
 }
 
 /// Refuses at a signal's key where the test fails.

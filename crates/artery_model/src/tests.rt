@@ -151,6 +151,7 @@ fn three_signals_with_left_turns_in_feet(rt: HostRuntime) {
         panic!(rt; "no artery");
     };
     assert_eq!(rt; artery.count(), 3);
+    assert_eq!(rt; artery.common_red(3), 40);
     assert_eq!(rt; artery.red_out(3), 50);
     assert_eq!(rt; artery.red_in(3), 45);
     assert_eq!(rt; artery.left_against(Dir::Outbound, 1), 10);

@@ -17,10 +17,10 @@ use Rattle.artery_model.specs.Limits.{in_range, signal_ranges, link_ranges}
 use Rattle.description_reader.specs.Canonical.{pair_data, units_text, head_members, signal_data, link_data, canonical, HasFour}
 use Rattle.description_reader.specs.Checks.{limits_in}
 use Rattle.description_reader.specs.Values.{items_in, items_or_none, text_in, text_or_none, number_or_zero}
-use Rattle.description_reader.specs.Streets.{small, pair_of, units_of, quantity_or_zero, ratio_of, head_of, signal_in, link_in, street_in}
+use Rattle.description_reader.specs.Streets.{u32_or_zero, pair_of, units_of, quantity_or_zero, ratio_of, head_of, signal_in, link_in, street_in}
 use Rattle.description_reader.proofs.Views.{list_of_items}
 use Rattle.description_reader.proofs.CanonicalTests.{each_none, none_of, both_of}
-use Rattle.description_reader.proofs.CanonicalValues.{quantity_back, pair_back, small_back, patterns_back}
+use Rattle.description_reader.proofs.CanonicalValues.{quantity_back, pair_back, u32_back, patterns_back}
 use Rattle.description_reader.proofs.CanonicalLimits.{IsChangeWithin, HeadFits, SignalFits, signal_fits, LinkFits, link_fits, StreetFits}
 use Rattle.description_reader.proofs.CanonicalKeys.{head_keys, link_keys}
 
@@ -51,7 +51,7 @@ head_back h fits =
     let keys = head_keys h in
     let name = ap (option_map text_in) keys.name ∙ name_back h.name in
     let units = ap (λ o. units_of (text_or_none o)) keys.units ∙ units_back h.units in
-    let parts = ap (λ o. small (number_or_zero o)) keys.parts ∙ small_back h.parts (in_range_fits 2 3600 h.parts (omega arith) fits.parts) in
+    let parts = ap (λ o. u32_or_zero (number_or_zero o)) keys.parts ∙ u32_back h.parts (in_range_fits 2 3600 h.parts (omega arith) fits.parts) in
     let cycle = ap (λ o. pair_of (limits_in (items_or_none o))) keys.cycle ∙ pair_back (pos 1) (pos 3600) h.cycle fits.cycle in
     let ratio = ap ratio_of keys.ratio ∙ ap quantity_or_zero (quantity_back (whole (pos 0)) (whole (pos 100)) h.ratio fits.ratio) in
     λ k. record { name = name k; units = units k; parts = parts k; cycle = cycle k; ratio = ratio k }
@@ -59,11 +59,11 @@ head_back h fits =
 -- ---- a signal
 signal_back : (parts : ℕ) (s : Signal) → parts ≤ 3600 → HasFour s → SignalFits parts s → signal_in (signal_data s) ≡ s
 signal_back parts s most four fits =
-    let red = small_back s.red (in_range_fits 1 (parts - 1) s.red (omega arith) fits.red) in
-    let left_out = small_back s.left_out (below_fits parts s.left_out (omega arith) fits.left_out) in
-    let left_in = small_back s.left_in (below_fits parts s.left_in (omega arith) fits.left_in) in
-    let clear_out = small_back s.clear_out (below_fits parts s.clear_out (omega arith) fits.clear_out) in
-    let clear_in = small_back s.clear_in (below_fits parts s.clear_in (omega arith) fits.clear_in) in
+    let red = u32_back s.red (in_range_fits 1 (parts - 1) s.red (omega arith) fits.red) in
+    let left_out = u32_back s.left_out (below_fits parts s.left_out (omega arith) fits.left_out) in
+    let left_in = u32_back s.left_in (below_fits parts s.left_in (omega arith) fits.left_in) in
+    let clear_out = u32_back s.clear_out (below_fits parts s.clear_out (omega arith) fits.clear_out) in
+    let clear_in = u32_back s.clear_in (below_fits parts s.clear_in (omega arith) fits.clear_in) in
     let patterns = patterns_back s.patterns four in
     λ k. record { name = s.name; red = red k; left_out = left_out k; left_in = left_in k; patterns = patterns k; clear_out = clear_out k; clear_in = clear_in k }
 
@@ -75,11 +75,11 @@ change_back is_last (Some p) h = ap Some (pair_back (negsuc 999) (pos 1000) p h.
 link_back : (is_last : Bool) (l : Link) → LinkFits is_last l → link_in (link_data l) ≡ l
 link_back is_last l fits =
     let keys = link_keys l in
-    let number = λ (o : Option Data). small (number_or_zero o) in
+    let number = λ (o : Option Data). u32_or_zero (number_or_zero o) in
     let limits = λ (o : Option Data). pair_of (limits_in (items_or_none o)) in
     let change = λ (o : Option Data). option_map (λ v. pair_of (limits_in (items_in v))) o in
-    let distance_out = ap number keys.distance_out ∙ small_back l.distance_out (in_range_fits 1 30000 l.distance_out (omega arith) fits.distance_out) in
-    let distance_in = ap number keys.distance_in ∙ small_back l.distance_in (in_range_fits 1 30000 l.distance_in (omega arith) fits.distance_in) in
+    let distance_out = ap number keys.distance_out ∙ u32_back l.distance_out (in_range_fits 1 30000 l.distance_out (omega arith) fits.distance_out) in
+    let distance_in = ap number keys.distance_in ∙ u32_back l.distance_in (in_range_fits 1 30000 l.distance_in (omega arith) fits.distance_in) in
     let speed_out = ap limits keys.speed_out ∙ pair_back (pos 1) (pos 300) l.speed_out fits.speed_out in
     let speed_in = ap limits keys.speed_in ∙ pair_back (pos 1) (pos 300) l.speed_in fits.speed_in in
     let change_out = ap change keys.change_out ∙ change_back is_last l.change_out fits.change_out in

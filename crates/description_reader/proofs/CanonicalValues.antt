@@ -13,10 +13,10 @@ use Rattle.artery_model.specs.Faults.{first_fault, unless, each_numbered}
 use Rattle.artery_model.specs.Limits.{within, in_range}
 use Rattle.artery_model.specs.declared.kind.Kind.{Kind}
 use Rattle.description_reader.specs.Canonical.{number_data, quantity_data, pair_data, patterns_from}
-use Rattle.description_reader.specs.Checks.{meets, is_between, item_fault, items_fault, limits_in}
+use Rattle.description_reader.specs.Checks.{meets, is_within_if_there, item_fault, items_fault, limits_in}
 use Rattle.description_reader.specs.Places.{item_place}
 use Rattle.description_reader.specs.Values.{items_in}
-use Rattle.description_reader.specs.Streets.{small, pair_of, patterns_of}
+use Rattle.description_reader.specs.Streets.{u32_or_zero, pair_of, patterns_of}
 use Rattle.description_reader.specs.declared.place.Section.{Section}
 use Rattle.description_reader.specs.declared.demand.Demand.{Demand}
 use Rattle.description_reader.specs.declared.demand.Demand.TheVariants.{Number, Between, FromBelow, Within}
@@ -38,14 +38,14 @@ pub number_meets : (low high q : ℚ) → within low high q ≡ true → meets N
 number_meets low high q e = ap is_some (quantity_back low high q e)
 
 pub within_meets : (low high : ℤ) (q : ℚ) → within (whole low) (whole high) q ≡ true → meets (Within low high) (quantity_data q) ≡ true
-within_meets low high q e = ap (is_between low high) (quantity_back (whole low) (whole high) q e) ∙ e
+within_meets low high q e = ap (is_within_if_there low high) (quantity_back (whole low) (whole high) q e) ∙ e
 
 pub pair_back : (low high : ℤ) (p : Pair) → AreWithin low high p → pair_of (limits_in (items_in (pair_data p))) ≡ p
 pair_back low high p h = rw (quantity_back _ _ p.least h.least, quantity_back _ _ p.most h.most)
 
 -- ---- whole numbers
-pub small_back : (n : ℕ) → n < 4294967296 → small (pos n) ≡ n
-small_back n h = rw (lt-ltb n 4294967296 h)
+pub u32_back : (n : ℕ) → n < 4294967296 → u32_or_zero (pos n) ≡ n
+u32_back n h = rw (lt-ltb n 4294967296 h)
 
 pub between_meets : (least most n : ℕ) → in_range least most n ≡ true → meets (Between (pos least) (pos most)) (number_data n) ≡ true
 between_meets least most n e = e

@@ -8,7 +8,7 @@ use Rattle.toml.specs.Data.{Data, table}
 use Rattle.toml.specs.View.{view, table_view, members_view, items_of}
 use Rattle.toml.specs.declared.value.Value.{Value, Table}
 use Rattle.description_reader.specs.Quantity.{integer_in}
-use Rattle.description_reader.specs.Streets.{names}
+use Rattle.description_reader.specs.Streets.{has_number}
 use Rattle.description_reader.specs.Values.{keys_of_members, list_of}
 
 -- the keys that a map's iterator gives are those of the table
@@ -26,6 +26,6 @@ pub view_of_table : (m : BTreeMap (String Global) Value) → view (Table m) ≡ 
 view_of_table m = view-Table m
 
 -- a number stands among values where it stands among their data
-pub names_of_views : (vs : List Value) (p : ℕ) → list_any (λ v. int_eq (integer_in (view v)) (pos p)) vs ≡ names (map view vs) p
-names_of_views [] p = refl
-names_of_views (v ∷ vs) p = ap (λ b. int_eq (integer_in (view v)) (pos p) || b) (names_of_views vs p)
+pub number_of_views : (vs : List Value) (p : ℕ) → list_any (λ v. int_eq (integer_in (view v)) (pos p)) vs ≡ has_number (map view vs) p
+number_of_views [] p = refl
+number_of_views (v ∷ vs) p = ap (λ b. int_eq (integer_in (view v)) (pos p) || b) (number_of_views vs p)

@@ -25,9 +25,9 @@ limits_in (least ∷ most ∷ []) = limits_of (quantity_in least) (quantity_in m
 limits_in _ = None
 
 -- a number keeps to its limits; what is no number is another fault
-abbrev pub is_between : ℤ → ℤ → Option ℚ → Bool
-is_between least most None = true
-is_between least most (Some q) = within (whole least) (whole most) q
+abbrev pub is_within_if_there : ℤ → ℤ → Option ℚ → Bool
+is_within_if_there least most None = true
+is_within_if_there least most (Some q) = within (whole least) (whole most) q
 
 -- the value is what it must be
 abbrev pub meets : Demand → Data → Bool
@@ -43,7 +43,7 @@ meets demand.Units d = is_text (text_in d) (codes "metric") || is_text (text_in 
 meets demand.Name d = is_name (text_in d)
 meets (demand.Between least most) d = int_le least (integer_in d) && int_le (integer_in d) most
 meets (demand.FromBelow least limit) d = int_le least (integer_in d) && int_lt (integer_in d) limit
-meets (demand.Within least most) d = is_between least most (quantity_in d)
+meets (demand.Within least most) d = is_within_if_there least most (quantity_in d)
 
 -- a needed key is absent
 unfoldable pub missing : Section → List ℕ → Data → Option Fault

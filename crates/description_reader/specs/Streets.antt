@@ -19,9 +19,9 @@ use Rattle.description_reader.specs.Checks.{limits_in}
 use Rattle.description_reader.specs.Judgement.{value_tests}
 
 -- a number of 32 bits, 0 for any other, which is a fault of the description
-abbrev pub small : ℤ → ℕ
-small (pos n) = if nat_lt n 4294967296 then n else 0
-small (negsuc n) = 0
+abbrev pub u32_or_zero : ℤ → ℕ
+u32_or_zero (pos n) = if nat_lt n 4294967296 then n else 0
+u32_or_zero (negsuc n) = 0
 
 abbrev pub pair_of : Option Pair → Pair
 pair_of None = no_pair
@@ -32,13 +32,13 @@ abbrev pub pair_at : Data → List ℕ → Pair
 pair_at d key = pair_of (limits_in (items_at d key))
 
 -- one of the numbers at a key is this one
-abbrev pub names : List Data → ℕ → Bool
-names ds p = list_any (λ d. int_eq (integer_in d) (pos p)) ds
+abbrev pub has_number : List Data → ℕ → Bool
+has_number ds p = list_any (λ d. int_eq (integer_in d) (pos p)) ds
 
 -- the left turn patterns 1 to 4 that are named, all four where the key is absent
 abbrev pub patterns_of : Option Data → List Bool
 patterns_of None = true ∷ true ∷ true ∷ true ∷ []
-patterns_of (Some d) = names (items_in d) 1 ∷ names (items_in d) 2 ∷ names (items_in d) 3 ∷ names (items_in d) 4 ∷ []
+patterns_of (Some d) = has_number (items_in d) 1 ∷ has_number (items_in d) 2 ∷ has_number (items_in d) 3 ∷ has_number (items_in d) 4 ∷ []
 
 -- the limits of a change of pace, where they are given
 abbrev pub change_at : Data → List ℕ → Option Pair
@@ -47,18 +47,18 @@ change_at d key = option_map (λ v. pair_of (limits_in (items_in v))) (get key d
 abbrev pub signal_in : Data → Signal
 signal_in d = record {
   name = text_at d (codes "name");
-  red = small (number_at d (codes "red"));
-  left_out = small (number_at d (codes "left_out"));
-  left_in = small (number_at d (codes "left_in"));
+  red = u32_or_zero (number_at d (codes "red"));
+  left_out = u32_or_zero (number_at d (codes "left_out"));
+  left_in = u32_or_zero (number_at d (codes "left_in"));
   patterns = patterns_of (get (codes "patterns") d);
-  clear_out = small (number_at d (codes "clear_out"));
-  clear_in = small (number_at d (codes "clear_in"));
+  clear_out = u32_or_zero (number_at d (codes "clear_out"));
+  clear_in = u32_or_zero (number_at d (codes "clear_in"));
 }
 
 abbrev pub link_in : Data → Link
 link_in d = record {
-  distance_out = small (number_at d (codes "distance_out"));
-  distance_in = small (number_at d (codes "distance_in"));
+  distance_out = u32_or_zero (number_at d (codes "distance_out"));
+  distance_in = u32_or_zero (number_at d (codes "distance_in"));
   speed_out = pair_at d (codes "speed_out");
   speed_in = pair_at d (codes "speed_in");
   change_out = change_at d (codes "change_out");
@@ -89,7 +89,7 @@ abbrev pub head_of : Data → Head
 head_of d = record {
   name = name_at d;
   units = units_of (text_at d (codes "units"));
-  parts = small (number_at d (codes "parts"));
+  parts = u32_or_zero (number_at d (codes "parts"));
   cycle = pair_at d (codes "cycle");
   ratio = ratio_of (get (codes "ratio") d);
 }

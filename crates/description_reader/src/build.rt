@@ -4,7 +4,7 @@ ghost use Rattle.std.specs.Prelude.{◌≡◌, map, option_map, codes, IfOk};
 ghost use Rattle.toml.specs.Data.{get};
 ghost use Rattle.toml.specs.View.{view};
 ghost use Rattle.progression.specs.Street.{no_pair};
-ghost use Rattle.description_reader.specs.Streets.{small, pair_of, pair_at, names, patterns_of, change_at, quantity_or_zero, ratio_of, name_at, units_of, no_head, head_of, head_in, signal_in, link_in};
+ghost use Rattle.description_reader.specs.Streets.{u32_or_zero, pair_of, pair_at, has_number, patterns_of, change_at, quantity_or_zero, ratio_of, name_at, units_of, no_head, head_of, head_in, signal_in, link_in};
 
 use crate::quantity::{integer_in, quantity_in};
 use crate::values::{items_at, items_in, limits_in, number_at, text_at, text_in, value_at};
@@ -14,8 +14,8 @@ use std::alloc::{AllocError, Global};
 use toml::Value;
 
 /// A number of 32 bits, 0 for any other.
-fn small(number: i64) -> u32
-    ensures { result ≡ small number }
+fn u32_or_zero(number: i64) -> u32
+    ensures { result ≡ u32_or_zero number }
 {
     if 0 <= number && number < 4_294_967_296 {
         number as u32
@@ -61,8 +61,8 @@ fn change_at(table: &Value, key: &str) -> Option<Pair>
 }
 
 /// Whether one of the numbers of a list is this one.
-fn names(items: &[Value], pattern: u32) -> bool
-    ensures { result ≡ names (map view items.now) pattern }
+fn has_number(items: &[Value], pattern: u32) -> bool
+    ensures { result ≡ has_number (map view items.now) pattern }
 {
     items
         .iter()
@@ -77,10 +77,10 @@ fn patterns_of(table: &Value) -> [bool; 4]
         Some(found) => {
             let items = items_in(found);
             [
-                names(items, 1),
-                names(items, 2),
-                names(items, 3),
-                names(items, 4),
+                has_number(items, 1),
+                has_number(items, 2),
+                has_number(items, 3),
+                has_number(items, 4),
             ]
         }
         None => [true, true, true, true],
@@ -138,7 +138,7 @@ fn head_of(alloc: Global, table: &Value) -> Result<Head, AllocError>
     Ok(Head {
         name: name_at(alloc, table)?,
         units: units_of(text_at(table, "units")),
-        parts: small(number_at(table, "parts")),
+        parts: u32_or_zero(number_at(table, "parts")),
         cycle: pair_at(table, "cycle"),
         ratio: ratio_of(table),
     })
@@ -160,12 +160,12 @@ fn signal_in(alloc: Global, table: &Value) -> Result<Signal, AllocError>
     let name = String::from_str(alloc, text_at(table, "name"))?;
     Ok(Signal {
         name: Text::from(name),
-        red: small(number_at(table, "red")),
-        left_out: small(number_at(table, "left_out")),
-        left_in: small(number_at(table, "left_in")),
+        red: u32_or_zero(number_at(table, "red")),
+        left_out: u32_or_zero(number_at(table, "left_out")),
+        left_in: u32_or_zero(number_at(table, "left_in")),
         patterns: patterns_of(table),
-        clear_out: small(number_at(table, "clear_out")),
-        clear_in: small(number_at(table, "clear_in")),
+        clear_out: u32_or_zero(number_at(table, "clear_out")),
+        clear_in: u32_or_zero(number_at(table, "clear_in")),
     })
 }
 
@@ -180,12 +180,13 @@ pub fn signals_in(alloc: Global, tables: &[Value]) -> Result<Vec<Signal>, AllocE
     Ok(signals)
 }
 
+/// The link of a table, with these speeds.
 fn link_of(table: &Value, speed_out: Pair, speed_in: Pair) -> Link
     ensures { result ≡ record (link_in (view table.now)) { speed_out = speed_out; speed_in = speed_in } }
 {
     Link {
-        distance_out: small(number_at(table, "distance_out")),
-        distance_in: small(number_at(table, "distance_in")),
+        distance_out: u32_or_zero(number_at(table, "distance_out")),
+        distance_in: u32_or_zero(number_at(table, "distance_in")),
         speed_out,
         speed_in,
         change_out: change_at(table, "change_out"),

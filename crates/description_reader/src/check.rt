@@ -47,10 +47,8 @@ pub fn check(
     if passes {
         return Ok(());
     }
-    match key_place(alloc, section, key) {
-        Ok(place) => Err(refused(kind, place)),
-        Err(_) => Err(Flaw::Memory),
-    }
+    let place = key_place(alloc, section, key)?;
+    Err(refused(kind, place))
 }
 
 /// Refuses an item of an array, counted from 1, where the test fails.
@@ -67,10 +65,8 @@ fn check_item(
     if passes {
         return Ok(());
     }
-    match item_place(alloc, section, key, number) {
-        Ok(place) => Err(refused(kind, place)),
-        Err(_) => Err(Flaw::Memory),
-    }
+    let place = item_place(alloc, section, key, number)?;
+    Err(refused(kind, place))
 }
 
 /// Refuses a table without a needed key.

@@ -20,10 +20,7 @@ use toml::{Table, Value};
 fn quantity_value(alloc: Global, value: Frac) -> Result<Value, AllocError>
     ensures { IfOk result (λ v. view v ≡ quantity_data value) }
 {
-    match exact_string(alloc, value) {
-        Ok(text) => Ok(Value::from(text)),
-        Err(_) => Err(AllocError),
-    }
+    Ok(Value::from(exact_string(alloc, value)?))
 }
 
 /// Two limits as an array.

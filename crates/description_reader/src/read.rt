@@ -15,7 +15,7 @@ use artery_model::{Artery, Flaw, Kind};
 use std::alloc::Global;
 use toml::Value;
 
-/// The root of a document.
+/// The root of the document that the bytes are, or why they are none.
 #[tactic(auto, using(crate::proofs::Views::view_of_table))]
 fn read_root(alloc: Global, bytes: &[u8]) -> Result<Value, Flaw>
     ensures read { IfOk result (λ v. ReadsAs bytes.now (view v)) }
@@ -41,15 +41,9 @@ fn build(alloc: Global, root: &Value) -> Result<Artery, Flaw>
     ensures made { IfOk result (λ a. a ≡ street_in (view root.now)) }
     ensures judged { Judges result (artery_fault (street_in (view root.now))) }
 {
-    let Ok(head) = head_in(alloc, root) else {
-        return Err(Flaw::Memory);
-    };
-    let Ok(signals) = signals_in(alloc, items_at(root, "signal")) else {
-        return Err(Flaw::Memory);
-    };
-    let Ok(links) = links_in(alloc, items_at(root, "link")) else {
-        return Err(Flaw::Memory);
-    };
+    let head = head_in(alloc, root)?;
+    let signals = signals_in(alloc, items_at(root, "signal"))?;
+    let links = links_in(alloc, items_at(root, "link"))?;
     Artery::new(alloc, head, signals, links)
 }
 

@@ -25,7 +25,7 @@ fn is_limited(artery: &Artery, dir: Dir, link: u32) -> bool
     1 <= link && link < artery.count() - 1 && artery.change(dir, link).is_some()
 }
 
-/// The row of these limits.
+/// The row of the greatest change.
 fn fill_rise(artery: &Artery, dir: Dir, link: u32, limits: Pair, into: &mut Row)
     requires first { 1 ≤ link }
     requires last { link + 1 < count artery.now }
@@ -40,7 +40,7 @@ fn fill_rise(artery: &Artery, dir: Dir, link: u32, limits: Pair, into: &mut Row)
     into.set(Place::Bound, Frac::whole(0));
 }
 
-/// The row of these limits.
+/// The row of the least change.
 fn fill_fall(artery: &Artery, dir: Dir, link: u32, limits: Pair, into: &mut Row)
     requires first { 1 ≤ link }
     requires last { link + 1 < count artery.now }

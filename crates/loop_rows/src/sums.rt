@@ -9,7 +9,7 @@ ghost use Rattle.progression.specs.Columns.{WaitOf, RunOf, ShiftOf};
 ghost use Rattle.loop_rows.specs.Totals.{after_step, step_wide, after_steps, first_wide, block_wide};
 
 use crate::columns::{next_of, run_column, shift_column, wait_column};
-use crate::numbers::{common_red, part};
+use crate::numbers::part;
 use artery_model::{Artery, Dir};
 use named_row::Point;
 use narrow_fraction::{Frac, Wide};
@@ -90,8 +90,8 @@ pub fn block_sum(artery: &Artery, point: &Point, link: u32) -> Result<Frac, Wide
         Step::Plus(run_at(artery, point, Dir::Inbound, link)),
         Step::Plus(shift_of(artery, point, link)),
         Step::Minus(shift_of(artery, point, next)),
-        Step::Plus(part(artery, common_red(artery, link))),
-        Step::Minus(part(artery, common_red(artery, next))),
+        Step::Plus(part(artery, artery.common_red(link))),
+        Step::Minus(part(artery, artery.common_red(next))),
         Step::Minus(part(artery, artery.clearance(Dir::Outbound, next))),
         Step::Minus(part(artery, artery.clearance(Dir::Inbound, link))),
     ];

@@ -16,9 +16,7 @@ use artery_model::Artery;
 use loop_rows::column_count;
 use named_row::Point;
 use narrow_fraction::Frac;
-
-/// Every number of a timing, and its unit, is below this.
-pub const LIMIT: u128 = 1 << 80;
+use time_space::LIMIT;
 
 /// Whether each column's product with the number of parts fits.
 fn check_products(artery: &Artery, point: &Point) -> Result<(), WideTiming>

@@ -17,14 +17,6 @@ pub behind_more : (front : List ℕ) (x : ℕ) (o : Option (List ℕ × List ℕ
 behind_more front x None = refl
 behind_more front x (Some p) = ap (λ (f : List ℕ). Some (f, p.1)) (sym (append_assoc front (x ∷ []) p.0))
 
--- the next byte is another one
-pub behind_next : (b x : ℕ) (front rest : List ℕ) → (x == b) ≡ false → behind front (cut b (x ∷ rest)) ≡ behind (front ++ x ∷ []) (cut b rest)
-behind_next b x front rest e = rw e (behind_more front x (cut b rest))
-
--- the next byte is the one
-pub behind_found : (b x : ℕ) (front rest : List ℕ) → (x == b) ≡ true → behind front (cut b (x ∷ rest)) ≡ Some (front ++ [], rest)
-behind_found b x front rest e = rw e refl
-
 -- a line without a space is one word
 words_by : (x : ℕ) (xs : List ℕ) (o : Option (List ℕ × List ℕ)) (c : Bool)
     → (o ≡ None → words xs ≡ xs ∷ [])

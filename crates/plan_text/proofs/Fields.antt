@@ -12,7 +12,7 @@ use Rattle.plan_text.specs.declared.fault.BadText.{BadText}
 use Rattle.plan_text.specs.declared.fault.TextFault.{TextFault}
 use Rattle.plan_text.specs.declared.fault.TextFault.TheVariants.{Shape, Number}
 use Rattle.plan_text.specs.declared.fault.TextEnd.{TextEnd}
-use Rattle.plan_text.specs.declared.lines.Place.{Place}
+use Rattle.plan_text.specs.declared.lines.NumberLine.{NumberLine}
 use Rattle.plan_text.specs.Words.{cut, words, is_text}
 use Rattle.plan_text.specs.Numbers.{number}
 use Rattle.plan_text.specs.Spelling.{spelled}
@@ -83,12 +83,12 @@ nothing_takes line (b ∷ bs) x e =
 
 -- ---- numbers
 
-pub record IsWithin (place : Place) (n : ℕ) : Type 0 where
+pub record IsWithin (place : NumberLine) (n : ℕ) : Type 0 where
   pub least : place.least ≤ n
   pub greatest : n ≤ place.greatest
   pub limit : n < 2 ^ 80
 
-ranged_ok : (place : Place) (o : Option ℕ) (n : ℕ) → ranged place o ≡ Ok n → (o ≡ Some n) × (place.least ≤ n) × (n ≤ place.greatest)
+ranged_ok : (place : NumberLine) (o : Option ℕ) (n : ℕ) → ranged place o ≡ Ok n → (o ≡ Some n) × (place.least ≤ n) × (n ≤ place.greatest)
 ranged_ok place None n e = absurd cc
 ranged_ok place (Some m) n e =
     let g = guard_ok (leb place.least m && leb m place.greatest) place.line Number (Ok m) n e in
@@ -96,16 +96,16 @@ ranged_ok place (Some m) n e =
     let b = and_parts (leb place.least m) (leb m place.greatest) g.0 in
     (ap (λ (k : ℕ). Some k) is, subst (λ (k : ℕ). place.least ≤ k) is (leb-true _ _ b.0), subst (λ (k : ℕ). k ≤ place.greatest) is (leb-true _ _ b.1))
 
-pub number_takes : (place : Place) (w : List ℕ) (n : ℕ) → ranged place (number w) ≡ Ok n → (w ≡ decimal n) × IsWithin place n
+pub number_takes : (place : NumberLine) (w : List ℕ) (n : ℕ) → ranged place (number w) ≡ Ok n → (w ≡ decimal n) × IsWithin place n
 number_takes place w n e =
     let r = ranged_ok place (number w) n e in
     let d = decimal-number w n r.0 in
     (d.0, record { least = r.1; greatest = r.2; limit = d.1 })
 
-pub number_again : (place : Place) (n : ℕ) → IsWithin place n → ranged place (number (decimal n)) ≡ Ok n
+pub number_again : (place : NumberLine) (n : ℕ) → IsWithin place n → ranged place (number (decimal n)) ≡ Ok n
 number_again place n fits = rw (number-decimal n fits.limit, le-leb place.least n fits.least, le-leb n place.greatest fits.greatest) refl
 
-pub in_takes : (place : Place) (ws : List (List ℕ)) (ns : List ℕ) → numbers_in place ws ≡ Ok ns → (ws ≡ map decimal ns) × AllByRecursion (IsWithin place) ns
+pub in_takes : (place : NumberLine) (ws : List (List ℕ)) (ns : List ℕ) → numbers_in place ws ≡ Ok ns → (ws ≡ map decimal ns) × AllByRecursion (IsWithin place) ns
 unfolding numbers_in
 in_takes place [] ns e = subst (λ (x : List ℕ). ([] ≡ map decimal x) × AllByRecursion (IsWithin place) x) (ok_is [] ns e) (refl, tt)
 in_takes place (w ∷ ws) ns e =
@@ -115,7 +115,7 @@ in_takes place (w ∷ ws) ns e =
     let rest = in_takes place ws b.0 b.1 in
     subst (λ (x : List ℕ). ((w ∷ ws) ≡ map decimal x) × AllByRecursion (IsWithin place) x) (ok_is (a.0 ∷ b.0) ns b.2) ((λ i. first.0 i ∷ rest.0 i), (first.1, rest.1))
 
-pub in_again : (place : Place) (ns : List ℕ) → AllByRecursion (IsWithin place) ns → numbers_in place (map decimal ns) ≡ Ok ns
+pub in_again : (place : NumberLine) (ns : List ℕ) → AllByRecursion (IsWithin place) ns → numbers_in place (map decimal ns) ≡ Ok ns
 unfolding numbers_in
 in_again place [] fits = refl
 in_again place (n ∷ ns) fits = rw (number_again place n fits.0, in_again place ns fits.1) refl
@@ -123,12 +123,12 @@ in_again place (n ∷ ns) fits = rw (number_again place n fits.0, in_again place
 -- ---- a line of numbers
 
 -- as many numbers as the place allows, each within its range
-pub record Suits (place : Place) (ns : List ℕ) : Type 0 where
+pub record Suits (place : NumberLine) (ns : List ℕ) : Type 0 where
   pub fewest : place.fewest ≤ length ns
   pub most : length ns ≤ place.most
   pub each : AllByRecursion (IsWithin place) ns
 
-of_takes : (key : List ℕ) (place : Place) (ws : List (List ℕ)) (ns : List ℕ) → numbers_of key place ws ≡ Ok ns → (ws ≡ key ∷ map decimal ns) × Suits place ns
+of_takes : (key : List ℕ) (place : NumberLine) (ws : List (List ℕ)) (ns : List ℕ) → numbers_of key place ws ≡ Ok ns → (ws ≡ key ∷ map decimal ns) × Suits place ns
 unfolding numbers_of
 of_takes key place [] ns e = absurd cc
 of_takes key place (w ∷ ws) ns e =
@@ -141,14 +141,14 @@ of_takes key place (w ∷ ws) ns e =
     let fewest = leb-true _ _ d.1 in
     ((λ i. same_text w key d.0 i ∷ t.0 i), record { fewest = omega arith; most = omega arith; each = t.1 })
 
-of_again : (key : List ℕ) (place : Place) (ns : List ℕ) → Suits place ns → numbers_of key place (key ∷ map decimal ns) ≡ Ok ns
+of_again : (key : List ℕ) (place : NumberLine) (ns : List ℕ) → Suits place ns → numbers_of key place (key ∷ map decimal ns) ≡ Ok ns
 unfolding numbers_of
 of_again key place ns suits =
     let fewest = le-leb place.fewest (length ns) suits.fewest in
     let most = le-leb (length ns) place.most suits.most in
     rw (text_same key, length-map, fewest, most, in_again place ns suits.each) refl
 
-pub numbers_take : (key : List ℕ) (place : Place) (bytes : List ℕ) (x : List ℕ × List ℕ) → numbers_at key place bytes ≡ Ok x → (bytes ≡ spelled key x.0 ++ 10 ∷ x.1) × Suits place x.0
+pub numbers_take : (key : List ℕ) (place : NumberLine) (bytes : List ℕ) (x : List ℕ × List ℕ) → numbers_at key place bytes ≡ Ok x → (bytes ≡ spelled key x.0 ++ 10 ∷ x.1) × Suits place x.0
 unfolding numbers_at
 numbers_take key place bytes x e =
     let a = bind_ok (line_at place.line bytes) (λ l. numbers_of key place (words l.0) >>= λ ns. Ok (ns, l.1)) x e in
@@ -158,7 +158,7 @@ numbers_take key place bytes x e =
     subst (λ (y : List ℕ × List ℕ). (bytes ≡ spelled key y.0 ++ 10 ∷ y.1) × Suits place y.0) (ok_is (b.0, a.0.1) x b.2)
     (line_takes place.line bytes a.0 a.1 ∙ ap (λ (y : List ℕ). y ++ 10 ∷ a.0.1) line, t.1)
 
-below : (place : Place) (ns : List ℕ) → AllByRecursion (IsWithin place) ns → AreBelow ns
+below : (place : NumberLine) (ns : List ℕ) → AllByRecursion (IsWithin place) ns → AreBelow ns
 below place [] fits = tt
 below place (n ∷ ns) fits = (fits.0.limit, below place ns fits.1)
 
@@ -167,7 +167,7 @@ pub record IsKey (key : List ℕ) : Type 0 where
   pub spaces : lacks 32 key ≡ true
   pub feeds : lacks 10 key ≡ true
 
-pub numbers_again : (key : List ℕ) (place : Place) (ns rest : List ℕ) → IsKey key → Suits place ns → numbers_at key place (spelled key ns ++ 10 ∷ rest) ≡ Ok (ns, rest)
+pub numbers_again : (key : List ℕ) (place : NumberLine) (ns rest : List ℕ) → IsKey key → Suits place ns → numbers_at key place (spelled key ns ++ 10 ∷ rest) ≡ Ok (ns, rest)
 unfolding numbers_at
 numbers_again key place ns rest is suits =
     let few = below place ns suits.each in
@@ -175,26 +175,26 @@ numbers_again key place ns rest is suits =
 
 -- ---- what the code read
 
-range_of : (place : Place) (ns : List ℕ) → AllByRecursion (IsWithin place) ns → AllByRecursion (λ n. (place.least ≤ n) × (n ≤ place.greatest)) ns
+range_of : (place : NumberLine) (ns : List ℕ) → AllByRecursion (IsWithin place) ns → AllByRecursion (λ n. (place.least ≤ n) × (n ≤ place.greatest)) ns
 range_of place [] fits = tt
 range_of place (n ∷ ns) fits = ((fits.0.least, fits.0.greatest), range_of place ns fits.1)
 
-pub each_in : (place : Place) (ns : List ℕ) → Suits place ns → All (λ n. (place.least ≤ n) × (n ≤ place.greatest)) ns
+pub each_in : (place : NumberLine) (ns : List ℕ) → Suits place ns → All (λ n. (place.least ≤ n) × (n ≤ place.greatest)) ns
 each_in place ns suits = All-from_recursion (λ n. (place.least ≤ n) × (n ≤ place.greatest)) ns (range_of place ns suits.each)
 
 -- what a function that reads such a line returned
-abbrev Given : List ℕ → Place → List ℕ → Result (Vec ℕ × Bor (List ℕ)) TextEnd → Type 0
+abbrev Given : List ℕ → NumberLine → List ℕ → Result (Vec ℕ × Bor (List ℕ)) TextEnd → Type 0
 Given key place bytes r = Gives (λ (x : Vec ℕ × Bor (List ℕ)). (x.0.items, x.1.now)) r (numbers_at key place bytes)
 
-read_has : (key : List ℕ) (place : Place) (bytes : List ℕ) (Q : List ℕ → Type 0) (r : Result (Vec ℕ × Bor (List ℕ)) TextEnd) → ((ns : List ℕ) → Suits place ns → Q ns) → Given key place bytes r → IfOk r (λ x. Q x.0.items)
+read_has : (key : List ℕ) (place : NumberLine) (bytes : List ℕ) (Q : List ℕ → Type 0) (r : Result (Vec ℕ × Bor (List ℕ)) TextEnd) → ((ns : List ℕ) → Suits place ns → Q ns) → Given key place bytes r → IfOk r (λ x. Q x.0.items)
 read_has key place bytes Q (Ok x) h given = h x.0.items (numbers_take key place bytes (x.0.items, x.1.now) given).1
 read_has key place bytes Q (Err e) h given = tt
 
-pub read_fewest : (key : List ℕ) (place : Place) (bytes : List ℕ) (r : Result (Vec ℕ × Bor (List ℕ)) TextEnd) → Given key place bytes r → IfOk r (λ x. place.fewest ≤ length x.0.items)
+pub read_fewest : (key : List ℕ) (place : NumberLine) (bytes : List ℕ) (r : Result (Vec ℕ × Bor (List ℕ)) TextEnd) → Given key place bytes r → IfOk r (λ x. place.fewest ≤ length x.0.items)
 read_fewest key place bytes r given = read_has key place bytes (λ ns. place.fewest ≤ length ns) r (λ ns suits. suits.fewest) given
 
-pub read_most : (key : List ℕ) (place : Place) (bytes : List ℕ) (r : Result (Vec ℕ × Bor (List ℕ)) TextEnd) → Given key place bytes r → IfOk r (λ x. length x.0.items ≤ place.most)
+pub read_most : (key : List ℕ) (place : NumberLine) (bytes : List ℕ) (r : Result (Vec ℕ × Bor (List ℕ)) TextEnd) → Given key place bytes r → IfOk r (λ x. length x.0.items ≤ place.most)
 read_most key place bytes r given = read_has key place bytes (λ ns. length ns ≤ place.most) r (λ ns suits. suits.most) given
 
-pub read_each : (key : List ℕ) (place : Place) (bytes : List ℕ) (r : Result (Vec ℕ × Bor (List ℕ)) TextEnd) → Given key place bytes r → IfOk r (λ x. All (λ n. (place.least ≤ n) × (n ≤ place.greatest)) x.0.items)
+pub read_each : (key : List ℕ) (place : NumberLine) (bytes : List ℕ) (r : Result (Vec ℕ × Bor (List ℕ)) TextEnd) → Given key place bytes r → IfOk r (λ x. All (λ n. (place.least ≤ n) × (n ≤ place.greatest)) x.0.items)
 read_each key place bytes r given = read_has key place bytes (All (λ n. (place.least ≤ n) × (n ≤ place.greatest))) r (each_in place) given

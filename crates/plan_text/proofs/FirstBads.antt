@@ -1,13 +1,13 @@
 -- The first bad line of a text of a timing, and of a certificate.
-use Rattle.std.proofs.Common.{◌≡◌, ℕ, ◌+◌, ◌<◌, ◌≤◌, List, [], ◌++◌, length, Result, Ok, Err, refl, sym, ap, subst, ◌∙◌, arith}
+use Rattle.std.proofs.Common.{◌≡◌, ℕ, ◌+◌, ◌<◌, ◌≤◌, List, ◌++◌, length, Result, Ok, Err, refl, sym, ap, subst, ◌∙◌, arith}
 use Rattle.std.proofs.lemmas.List.{length-append}
 use Rattle.progression.specs.Plan.{Plan}
 use Rattle.plan_text.specs.declared.fault.BadText.{BadText}
-use Rattle.plan_text.specs.Spelling.{head_line, end_line, timing_text, IsHeld}
+use Rattle.plan_text.specs.Spelling.{head_line}
 use Rattle.plan_text.specs.Lines.{◌>>=◌, line_at, fixed_at}
 use Rattle.plan_text.specs.Reading.{plan_at, timing_of}
 use Rattle.plan_text.specs.Warrants.{Node, Warrant}
-use Rattle.plan_text.specs.CertificateText.{certificate_line, tree_line, certificate_text, IsHeldWarrant}
+use Rattle.plan_text.specs.CertificateText.{certificate_line, tree_line}
 use Rattle.plan_text.specs.CertificateReading.{nodes_at, Opening, claim_at, tree_at, certificate_of}
 use Rattle.plan_text.specs.FirstBad.{lines_in, NamesFirstBad, FirstBad}
 use Rattle.plan_text.proofs.Timings.{timing_again}

@@ -1,10 +1,10 @@
 -- A text, and the same text with more bytes: what reading says of the one and of the other.
-use Rattle.std.proofs.Common.{◌≡◌, ℕ, suc, ◌+◌, ◌<◌, ◌≤◌, Bool, true, false, List, [], ◌∷◌, ◌++◌, Option, Some, None, Result, Ok, Err, refl, sym, ap, subst, ◌∙◌, inl, inr, arith}
+use Rattle.std.proofs.Common.{◌≡◌, ℕ, suc, ◌+◌, ◌<◌, ◌≤◌, Bool, true, false, List, [], ◌∷◌, ◌++◌, Option, Some, None, Result, Ok, Err, refl, sym, ap, subst, inl, inr, arith}
 use Rattle.std.specs.Prelude.{◌⊎◌, ◌==◌, option_map, if◌then◌else◌}
 use Rattle.plan_text.specs.declared.fault.TextFault.{TextFault}
 use Rattle.plan_text.specs.declared.fault.TextFault.TheVariants.{Ended, Shape, Number, Order}
 use Rattle.plan_text.specs.declared.fault.BadText.{BadText}
-use Rattle.plan_text.specs.declared.lines.Place.{Place}
+use Rattle.plan_text.specs.declared.lines.NumberLine.{NumberLine}
 use Rattle.plan_text.specs.Words.{cut, words, is_text}
 use Rattle.plan_text.specs.Numbers.{number}
 use Rattle.plan_text.specs.Lines.{◌>>=◌, fault, line_or, line_at, words_at, fixed_at, ranged, numbers_in, has_shape, after_key, numbers_of, numbers_at}
@@ -171,29 +171,29 @@ fixed_later last line text bytes after =
 
 -- ---- a line of numbers
 
-pub ranged_here : (place : Place) (o : Option ℕ) → IsAt place.line (ranged place o)
+pub ranged_here : (place : NumberLine) (o : Option ℕ) → IsAt place.line (ranged place o)
 ranged_here place None = (refl, tt)
 ranged_here place (Some n) = at_if place.line _ Number (Ok n) tt tt
 
-in_here : (place : Place) (ws : List (List ℕ)) → IsAt place.line (numbers_in place ws)
+in_here : (place : NumberLine) (ws : List (List ℕ)) → IsAt place.line (numbers_in place ws)
 unfolding numbers_in
 in_here place [] = tt
 in_here place (w ∷ ws) =
     at_then place.line (ranged place (number w)) (λ n. numbers_in place ws >>= λ ns. Ok (n ∷ ns)) (ranged_here place (number w))
     (λ n. at_then place.line (numbers_in place ws) (λ ns. Ok (n ∷ ns)) (in_here place ws) (λ ns. tt))
 
-of_here : (key : List ℕ) (place : Place) (ws : List (List ℕ)) → IsAt place.line (numbers_of key place ws)
+of_here : (key : List ℕ) (place : NumberLine) (ws : List (List ℕ)) → IsAt place.line (numbers_of key place ws)
 unfolding numbers_of
 of_here key place ws = at_if place.line (has_shape key place ws) Shape (numbers_in place (after_key ws)) tt (in_here place (after_key ws))
 
-pub numbers_grow : (last : ℕ) (key : List ℕ) (place : Place) (bytes z : List ℕ) → place.line + lines_in bytes ≡ last → Grows (one_and (place.line + 1)) last z (numbers_at key place bytes) (numbers_at key place (bytes ++ z))
+pub numbers_grow : (last : ℕ) (key : List ℕ) (place : NumberLine) (bytes z : List ℕ) → place.line + lines_in bytes ≡ last → Grows (one_and (place.line + 1)) last z (numbers_at key place bytes) (numbers_at key place (bytes ++ z))
 unfolding numbers_at
 numbers_grow last key place bytes z e =
     grows_then (one_and (place.line + 1)) (one_and (place.line + 1)) last z (line_at place.line bytes) (line_at place.line (bytes ++ z)) (λ l. numbers_of key place (words l.0) >>= λ ns. Ok (ns, l.1)) (line_grows last place.line bytes z e)
     (λ l end. tested (one_and (place.line + 1)) last place.line z (numbers_of key place (words l.0)) (λ ns. Ok (ns, l.1)) (λ ns. Ok (ns, l.1 ++ z)) (of_here key place (words l.0)) (omega arith) (λ ns. (end, refl)))
     (λ l here. tested_later (one_and (place.line + 1)) last place.line (numbers_of key place (words l.0)) (λ ns. Ok (ns, l.1)) (of_here key place (words l.0)) (omega arith) (λ ns. here))
 
-pub numbers_later : (last : ℕ) (key : List ℕ) (place : Place) (bytes : List ℕ) → last ≤ place.line → Reaches (one_and (place.line + 1)) last (numbers_at key place bytes)
+pub numbers_later : (last : ℕ) (key : List ℕ) (place : NumberLine) (bytes : List ℕ) → last ≤ place.line → Reaches (one_and (place.line + 1)) last (numbers_at key place bytes)
 unfolding numbers_at
 numbers_later last key place bytes after =
     reaches_then (one_and (place.line + 1)) (one_and (place.line + 1)) last (line_at place.line bytes) (λ l. numbers_of key place (words l.0) >>= λ ns. Ok (ns, l.1)) (line_later last place.line bytes after)

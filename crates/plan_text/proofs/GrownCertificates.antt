@@ -1,13 +1,12 @@
 -- The text of a certificate up to its last line, and the same with more bytes.
-use Rattle.std.proofs.Common.{◌≡◌, ℕ, suc, zero, ◌+◌, ◌-◌, ◌^◌, ◌<◌, ◌≤◌, Bool, true, false, List, [], ◌∷◌, ◌++◌, length, Option, None, Some, Result, Ok, Err, refl, sym, ap, ◌∙◌, inl, inr, arith}
+use Rattle.std.proofs.Common.{◌≡◌, ℕ, suc, zero, ◌+◌, ◌-◌, ◌^◌, ◌<◌, ◌≤◌, List, [], ◌∷◌, ◌++◌, length, Option, None, Some, Result, Ok, refl, ap, inl, inr, arith}
 use Rattle.std.specs.Prelude.{if◌then◌else◌}
 use Rattle.ratio.specs.Rational.{ℚ}
 use Rattle.progression.specs.Plan.{Plan}
 use Rattle.named_row.specs.declared.leaves.Weight.{Weight}
 use Rattle.named_row.specs.declared.names.RowId.{RowId}
-use Rattle.search_box.specs.declared.span.At.{At}
 use Rattle.search_box.specs.declared.span.At.TheVariants.{Loop, Turn}
-use Rattle.plan_text.specs.declared.fault.TextFault.TheVariants.{Ended, Shape, Number, Order}
+use Rattle.plan_text.specs.declared.fault.TextFault.TheVariants.{Ended, Shape, Order}
 use Rattle.plan_text.specs.declared.fault.BadText.{BadText}
 use Rattle.plan_text.specs.declared.tree.Head.{Head}
 use Rattle.plan_text.specs.declared.tree.Head.TheVariants as heads
@@ -19,7 +18,7 @@ use Rattle.plan_text.specs.Fractions.{integer, exact}
 use Rattle.plan_text.specs.Lines.{◌>>=◌, fault, line_at, words_at, fixed_at, ranged}
 use Rattle.plan_text.specs.Reading.{plan_at}
 use Rattle.plan_text.specs.Families.{family_of, is_lone, is_after}
-use Rattle.plan_text.specs.Warrants.{Node, SplitAt, LeafOf}
+use Rattle.plan_text.specs.Warrants.{Node, LeafOf}
 use Rattle.plan_text.specs.CertificateText.{best_line, none_line, open_line, no_timing_line, value_key, bound_key, split_key, loop_key, turn_key, leaf_key}
 use Rattle.plan_text.specs.CertificateReading.{or_number, range_of, index_of, fraction_of, lone_of, indexed_of, in_family, weight_of, weight_after, weights_at, split_of, head_of, rest_of, node_at, owed_after, nodes_at, Opening, best_at, begins_with, found_at, missing_at, open_at, verdict_of, claim_at}
 use Rattle.plan_text.specs.FirstBad.{lines_in}

@@ -1,10 +1,10 @@
 -- The text of a timing, and the same with more bytes.
-use Rattle.std.proofs.Common.{◌≡◌, ℕ, ◌+◌, ◌-◌, ◌<◌, ◌≤◌, List, [], ◌∷◌, ◌++◌, length, Result, Ok, Err, refl, arith}
+use Rattle.std.proofs.Common.{◌≡◌, ℕ, ◌+◌, ◌-◌, ◌≤◌, List, ◌++◌, length, Result, Ok, refl, arith}
 use Rattle.std.specs.Prelude.{slice_index}
 use Rattle.progression.specs.Plan.{Plan}
 use Rattle.time_space.specs.Timing.{plan_of}
 use Rattle.plan_text.specs.declared.fault.BadText.{BadText}
-use Rattle.plan_text.specs.declared.lines.Place.{Place}
+use Rattle.plan_text.specs.declared.lines.NumberLine.{NumberLine}
 use Rattle.plan_text.specs.declared.reading.Bands.{Bands}
 use Rattle.plan_text.specs.Spelling.{grid_key, unit_key, pattern_key, red_key, run_out_key, run_in_key, first_key, band_key}
 use Rattle.plan_text.specs.Lines.{◌>>=◌, numbers_at}
@@ -20,7 +20,7 @@ record IsMade {Y : Type 0} (q : Part Y) (make : List ℕ → List ℕ → List �
   rest : (a b r : List ℕ) → q.rest (make a b r) ≡ r
   more : (a b r z : List ℕ) → q.more z (make a b r) ≡ make a b (r ++ z)
 
-module _ {Y : Type 0} (q : Part Y) (make : List ℕ → List ℕ → List ℕ → Y) (line : ℕ) (made : IsMade q make (line + 2)) (first second : List ℕ) (p : Place) (after : List ℕ → Place) (is : p.line ≡ line) (next : (ns : List ℕ) → (after ns).line ≡ line + 1) where
+module _ {Y : Type 0} (q : Part Y) (make : List ℕ → List ℕ → List ℕ → Y) (line : ℕ) (made : IsMade q make (line + 2)) (first second : List ℕ) (p : NumberLine) (after : List ℕ → NumberLine) (is : p.line ≡ line) (next : (ns : List ℕ) → (after ns).line ≡ line + 1) where
   abbrev second_line : List ℕ × List ℕ → Result Y BadText
   second_line a = numbers_at second (after a.0) a.1 >>= λ b. Ok (make a.0 b.0 b.1)
 

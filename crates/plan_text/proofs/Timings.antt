@@ -6,7 +6,7 @@ use Rattle.std.proofs.lemmas.List.Elements.{All-from_recursion, recursion_from_A
 use Rattle.progression.specs.Plan.{Plan}
 use Rattle.time_space.specs.Timing.{IsTiming, plan_of}
 use Rattle.plan_text.specs.declared.fault.TextEnd.{TextEnd}
-use Rattle.plan_text.specs.declared.lines.Place.{Place}
+use Rattle.plan_text.specs.declared.lines.NumberLine.{NumberLine}
 use Rattle.plan_text.specs.declared.reading.Bands.{Bands}
 use Rattle.plan_text.specs.Spelling.{spelled, head_line, grid_key, unit_key, pattern_key, red_key, run_out_key, run_in_key, first_key, band_key, end_line, timing_text, IsHeld}
 use Rattle.plan_text.specs.Lines.{◌>>=◌, Gives, fixed_at, nothing_at, numbers_at}
@@ -29,11 +29,11 @@ two_of line (n ∷ []) s = let f = s.fewest in absurd (omega arith)
 two_of line (n ∷ m ∷ []) s = (refl, s.each.0.limit, s.each.1.0.limit)
 two_of line (n ∷ m ∷ k ∷ ns) s = let f = s.most in absurd (omega arith)
 
-small_by : (place : Place) (ns : List ℕ) → AllByRecursion (IsWithin place) ns → AllByRecursion IsSmall ns
+small_by : (place : NumberLine) (ns : List ℕ) → AllByRecursion (IsWithin place) ns → AllByRecursion IsSmall ns
 small_by place [] fits = tt
 small_by place (n ∷ ns) fits = (fits.0.limit, small_by place ns fits.1)
 
-small_of : (place : Place) (ns : List ℕ) → Suits place ns → All IsSmall ns
+small_of : (place : NumberLine) (ns : List ℕ) → Suits place ns → All IsSmall ns
 small_of place ns s = All-from_recursion IsSmall ns (small_by place ns s.each)
 
 patterns_by : (line : ℕ) (ns : List ℕ) → AllByRecursion (IsWithin (pattern_place line)) ns → AllByRecursion (λ p. (1 ≤ p) × (p ≤ 4)) ns

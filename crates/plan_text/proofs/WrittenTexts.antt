@@ -1,7 +1,7 @@
 -- The text of a certificate, written piece by piece.
-use Rattle.std.proofs.lemmas.List.{flat_map_more, take_more, take_all, map-append, length-map, get_or-map}
+use Rattle.std.proofs.lemmas.List.{flat_map_more, take_more, map-append, length-map, get_or-map}
 use Rattle.std.proofs.lemmas.List.Elements.{All-get_or, All-same, All-push}
-use Rattle.std.proofs.Common.{◌≡◌, ℕ, ◌+◌, ◌<◌, ◌≤◌, map, length, get_or, take, All, List, [], ◌∷◌, ◌++◌, Option, None, Some, sym, ap, subst, ◌∙◌, append_assoc, arith}
+use Rattle.std.proofs.Common.{◌≡◌, ℕ, ◌+◌, ◌<◌, map, length, get_or, take, All, List, [], ◌∷◌, ◌++◌, Option, None, Some, sym, ap, subst, ◌∙◌, append_assoc, arith}
 use Rattle.std.specs.Prelude.{flat_map}
 use Rattle.ratio.specs.Rational.{ℚ}
 use Rattle.progression.specs.Plan.{Plan}
@@ -22,9 +22,6 @@ more_rows old ws i d w before after lt is e f =
     more_lines old (map weight_line (take i ws)) (weight_line w ∷ []) before after e f
     ∙ ap (λ (y : List (List ℕ)). old ++ ended y) (sym (ap (map weight_line) made ∙ map-append weight_line (take i ws) (w ∷ [])))
 
-pub all_rows : (old : List ℕ) (ws : List Weight) (i : ℕ) (now : List ℕ) → length ws ≤ i → now ≡ old ++ ended (map weight_line (take i ws)) → now ≡ old ++ ended (map weight_line ws)
-all_rows old ws i now le e = e ∙ ap (λ (y : List Weight). old ++ ended (map weight_line y)) (take_all i ws le)
-
 -- one more node
 nodes_more : (ns : List CertNode) (i : ℕ) (d n : CertNode) → i < length ns → n ≡ get_or ns i d → map node_of (take (i + 1) ns) ≡ map node_of (take i ns) ++ node_of n ∷ []
 nodes_more ns i d n lt is = ap (map node_of) (take_more ns i d lt ∙ ap (λ (y : CertNode). take i ns ++ y ∷ []) (sym is)) ∙ map-append node_of (take i ns) (n ∷ [])
@@ -36,9 +33,6 @@ more_nodes old ns i d n before after lt is e f =
 
 pub more_held : (ns : List CertNode) (i : ℕ) (d n : CertNode) → i < length ns → n ≡ get_or ns i d → All IsHeldNode (map node_of (take i ns)) → IsHeldNode (node_of n) → All IsHeldNode (map node_of (take (i + 1) ns))
 more_held ns i d n lt is before here = All-same IsHeldNode _ _ (nodes_more ns i d n lt is) (All-push IsHeldNode (map node_of (take i ns)) (node_of n) before here)
-
-pub all_nodes : (old : List ℕ) (ns : List CertNode) (i : ℕ) (now : List ℕ) → length ns ≤ i → now ≡ old ++ ended (flat_map node_lines (map node_of (take i ns))) → now ≡ old ++ ended (flat_map node_lines (map node_of ns))
-all_nodes old ns i now le e = e ∙ ap (λ (y : List CertNode). old ++ ended (flat_map node_lines (map node_of y))) (take_all i ns le)
 
 -- a node of a list is one
 pub node_here : (ns : List CertNode) (i : ℕ) (d n : CertNode) → i < length ns → n ≡ get_or ns i d → All IsNode (map node_of ns) → IsNode (node_of n)

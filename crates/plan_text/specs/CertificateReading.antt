@@ -8,7 +8,7 @@ use Rattle.search_box.specs.declared.span.At.{At}
 use Rattle.search_box.specs.declared.span.At.TheVariants.{Loop, Turn}
 use Rattle.plan_text.specs.declared.fault.TextFault.TheVariants.{Ended, Shape, Number, Order}
 use Rattle.plan_text.specs.declared.fault.BadText.{BadText}
-use Rattle.plan_text.specs.declared.lines.Place.{Place}
+use Rattle.plan_text.specs.declared.lines.NumberLine.{NumberLine}
 use Rattle.plan_text.specs.declared.tree.Head.{Head}
 use Rattle.plan_text.specs.declared.tree.Head.TheVariants as heads
 use Rattle.plan_text.specs.declared.certificate.Claim.{Claim}
@@ -29,7 +29,7 @@ or_number line None = fault line Number
 or_number line (Some x) = Ok x
 
 -- one number of a line, within a range
-abbrev pub range_of : ℕ → ℕ → ℕ → Place
+abbrev pub range_of : ℕ → ℕ → ℕ → NumberLine
 range_of line least greatest = record { line = line; fewest = 1; most = 1; least = least; greatest = greatest }
 
 -- the number of a link or signal, from 1 on

@@ -7,7 +7,7 @@ use Rattle.plan_text.specs.declared.fault.TextFault.TheVariants.{Ended, Shape, N
 use Rattle.plan_text.specs.declared.fault.BadText.{BadText}
 use Rattle.plan_text.specs.declared.fault.TextEnd.{TextEnd}
 use Rattle.plan_text.specs.declared.fault.TextEnd.TheVariants as ends
-use Rattle.plan_text.specs.declared.lines.Place.{Place}
+use Rattle.plan_text.specs.declared.lines.NumberLine.{NumberLine}
 
 infixl 10 ◌>>=◌
 abbrev pub ◌>>=◌ : {A B : Type 0} → Result A BadText → (A → Result B BadText) → Result B BadText
@@ -54,11 +54,11 @@ nothing_at line (b ∷ bs) = do
   fault line Shape
 
 -- a number in its spelling and its range
-abbrev pub ranged : Place → Option ℕ → Result ℕ BadText
+abbrev pub ranged : NumberLine → Option ℕ → Result ℕ BadText
 ranged place None = fault place.line Number
 ranged place (Some n) = if nat_le place.least n && nat_le n place.greatest then Ok n else fault place.line Number
 
-unfoldable pub numbers_in : Place → List (List ℕ) → Result (List ℕ) BadText
+unfoldable pub numbers_in : NumberLine → List (List ℕ) → Result (List ℕ) BadText
 numbers_in place [] = Ok []
 numbers_in place (w ∷ ws) = do
   n ← ranged place (number w)
@@ -66,7 +66,7 @@ numbers_in place (w ∷ ws) = do
   Ok (n ∷ ns)
 
 -- a key, and as many words after it as the place allows
-abbrev pub has_shape : List ℕ → Place → List (List ℕ) → Bool
+abbrev pub has_shape : List ℕ → NumberLine → List (List ℕ) → Bool
 has_shape key place [] = false
 has_shape key place (w ∷ ws) = is_text w key && nat_le place.fewest (length ws) && nat_le (length ws) place.most
 
@@ -75,10 +75,10 @@ after_key [] = []
 after_key (w ∷ ws) = ws
 
 -- the numbers of a line that begins with a key
-unfoldable pub numbers_of : List ℕ → Place → List (List ℕ) → Result (List ℕ) BadText
+unfoldable pub numbers_of : List ℕ → NumberLine → List (List ℕ) → Result (List ℕ) BadText
 numbers_of key place ws = if has_shape key place ws then numbers_in place (after_key ws) else fault place.line Shape
 
-unfoldable pub numbers_at : List ℕ → Place → List ℕ → Result (List ℕ × List ℕ) BadText
+unfoldable pub numbers_at : List ℕ → NumberLine → List ℕ → Result (List ℕ × List ℕ) BadText
 numbers_at key place bytes = do
   l ← line_at place.line bytes
   ns ← numbers_of key place (words l.0)

@@ -3,17 +3,17 @@ use Rattle.std.specs.Prelude.{ℕ, ◌+◌, ◌-◌, ◌^◌, List, length, Resu
 use Rattle.progression.specs.Plan.{Plan}
 use Rattle.time_space.specs.Timing.{plan_of}
 use Rattle.plan_text.specs.declared.fault.BadText.{BadText}
-use Rattle.plan_text.specs.declared.lines.Place.{Place}
+use Rattle.plan_text.specs.declared.lines.NumberLine.{NumberLine}
 use Rattle.plan_text.specs.declared.reading.Bands.{Bands}
 use Rattle.plan_text.specs.Spelling.{head_line, grid_key, unit_key, pattern_key, red_key, run_out_key, run_in_key, first_key, band_key, end_line}
 use Rattle.plan_text.specs.Lines.{◌>>=◌, fixed_at, nothing_at, numbers_at}
 
 -- so many numbers from least on
-abbrev pub place_of : ℕ → ℕ → ℕ → Place
+abbrev pub place_of : ℕ → ℕ → ℕ → NumberLine
 place_of line count least = record { line = line; fewest = count; most = count; least = least; greatest = 2 ^ 80 - 1 }
 
 -- 2 to 16 patterns of 1 to 4
-abbrev pub pattern_place : ℕ → Place
+abbrev pub pattern_place : ℕ → NumberLine
 pattern_place line = record { line = line; fewest = 2; most = 16; least = 1; greatest = 4 }
 
 -- two lines from this one on: grid and unit

@@ -55,7 +55,8 @@ fn name_at(names: &[&'static str], place: usize) -> &'static str
     }
 }
 
-/// The name of a family of rows, by its number from 1 on; past the last it is empty.
+/// The name of a family of rows, by its number from 1 on. The number 0 gives the first name too, and one past the last the
+/// empty name.
 #[tactic(auto, unfolding(crate::specs::Families::family_name, crate::specs::Families::family_names))]
 pub fn family_name(family: u8) -> &'static str
     ensures { result.now ≡ family_name family }

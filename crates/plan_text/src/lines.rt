@@ -12,7 +12,7 @@ use std::alloc::Global;
 
 /// What a line of numbers has to have.
 #[derive(Clone, Copy)]
-pub struct Place {
+pub struct NumberLine {
     /// Its number, counted from 1.
     pub line: u64,
     /// The least and the greatest count of its numbers.
@@ -76,7 +76,7 @@ pub fn nothing_at(line: u64, bytes: &[u8]) -> Result<(), TextEnd>
 }
 
 /// A number in its spelling and its range.
-pub fn ranged(place: Place, word: &[u8]) -> Result<u128, TextEnd>
+pub fn ranged(place: NumberLine, word: &[u8]) -> Result<u128, TextEnd>
     ensures exact { Gives (λ n. n) result (ranged place (number word.now)) }
     ensures most { IfOk result (λ n. n ≤ place.greatest) }
 {
@@ -86,7 +86,7 @@ pub fn ranged(place: Place, word: &[u8]) -> Result<u128, TextEnd>
     }
 }
 
-fn numbers_in(alloc: Global, place: Place, words: &[&[u8]]) -> Result<Vec<u128>, TextEnd>
+fn numbers_in(alloc: Global, place: NumberLine, words: &[&[u8]]) -> Result<Vec<u128>, TextEnd>
     ensures { Gives (λ v. v.items) result (numbers_in place (map (λ w. w.now) words.now)) }
 {
     let mut numbers = Vec::new(alloc);
@@ -98,7 +98,7 @@ fn numbers_in(alloc: Global, place: Place, words: &[&[u8]]) -> Result<Vec<u128>,
 }
 
 /// Whether the words are a key and as many more as the place allows.
-fn has_shape(key: &[u8], place: Place, words: &[&[u8]]) -> bool
+fn has_shape(key: &[u8], place: NumberLine, words: &[&[u8]]) -> bool
     ensures { result ≡ has_shape key.now place (map (λ w. w.now) words.now) }
 {
     match words {
@@ -113,7 +113,7 @@ fn has_shape(key: &[u8], place: Place, words: &[&[u8]]) -> bool
 fn numbers_of(
     alloc: Global,
     key: &[u8],
-    place: Place,
+    place: NumberLine,
     words: &[&[u8]],
 ) -> Result<Vec<u128>, TextEnd>
     ensures { Gives (λ v. v.items) result (numbers_of key.now place (map (λ w. w.now) words.now)) }
@@ -128,7 +128,7 @@ fn numbers_of(
 fn line_of_numbers<'a>(
     alloc: Global,
     key: &[u8],
-    place: Place,
+    place: NumberLine,
     bytes: &'a [u8],
 ) -> Result<(Vec<u128>, &'a [u8]), TextEnd>
     ensures { Gives (λ x. (x.0.items, x.1.now)) result (numbers_at key.now place bytes.now) }
@@ -143,7 +143,7 @@ fn line_of_numbers<'a>(
 pub fn numbers_at<'a>(
     alloc: Global,
     key: &[u8],
-    place: Place,
+    place: NumberLine,
     bytes: &'a [u8],
 ) -> Result<(Vec<u128>, &'a [u8]), TextEnd>
     ensures exact { Gives (λ x. (x.0.items, x.1.now)) result (numbers_at key.now place bytes.now) }

@@ -4,8 +4,7 @@ ghost use Rattle.std.specs.Prelude.{◌≡◌};
 ghost use Rattle.std.specs.Str.{all_ascii_digits};
 ghost use Rattle.plan_text.specs.Numbers.{number, is_numeral, is_plain};
 
-/// The limit of a number in a text: 2 to the power of 80.
-pub const LIMIT: u128 = 1 << 80;
+use time_space::LIMIT;
 
 /// The number that a word spells: digits without a leading zero, except `0` alone, below the limit.
 pub fn number(word: &[u8]) -> Option<u128>

@@ -7,10 +7,9 @@ ghost use Rattle.plan_text.specs.Spelling.{timing_text, IsHeld};
 ghost use Rattle.plan_text.specs.Reading.{place_of, pattern_place, scale_at, signals_at, runs_at, bands_at, plan_at, timing_of};
 
 use crate::fault::TextEnd;
-use crate::lines::{Place, fixed_at, nothing_at, numbers_at};
-use crate::number::LIMIT;
+use crate::lines::{NumberLine, fixed_at, nothing_at, numbers_at};
 use std::alloc::{AllocError, Global};
-use time_space::Timing;
+use time_space::{LIMIT, Timing};
 
 /// What the lines `first` and `band` have, in ticks.
 #[derive(Clone, Copy)]
@@ -22,10 +21,10 @@ struct Bands {
 }
 
 /// The place of a line with so many numbers, of which none is less than `least`.
-fn place(line: u64, count: usize, least: u128) -> Place
+fn place(line: u64, count: usize, least: u128) -> NumberLine
     ensures { result ≡ place_of line count least }
 {
-    Place {
+    NumberLine {
         line,
         fewest: count,
         most: count,
@@ -35,10 +34,10 @@ fn place(line: u64, count: usize, least: u128) -> Place
 }
 
 /// The place of a line of 2 to 16 patterns.
-fn patterns_place(line: u64) -> Place
+fn patterns_place(line: u64) -> NumberLine
     ensures { result ≡ pattern_place line }
 {
-    Place {
+    NumberLine {
         line,
         fewest: 2,
         most: 16,

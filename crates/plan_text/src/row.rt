@@ -9,15 +9,15 @@ ghost use Rattle.plan_text.specs.CertificateReading.{range_of, index_of, lone_of
 use crate::family::{family_of, is_lone};
 use crate::fault::{TextEnd, TextFault};
 use crate::fraction::fraction;
-use crate::lines::{Place, bad, ranged, words_at};
+use crate::lines::{NumberLine, bad, ranged, words_at};
 use named_row::{RowId, Weight};
 use std::alloc::Global;
 
 /// One number of a line, within a range.
-fn range(line: u64, least: u128, greatest: u128) -> Place
+fn range(line: u64, least: u128, greatest: u128) -> NumberLine
     ensures { result ≡ range_of line least greatest }
 {
-    Place {
+    NumberLine {
         line,
         fewest: 1,
         most: 1,

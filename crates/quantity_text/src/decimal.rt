@@ -7,8 +7,9 @@ ghost use Rattle.quantity_text.specs.Decimal.{decimal_spelling, last_digits};
 use narrow_fraction::{Frac, Memory};
 use std::alloc::Global;
 
-/// A fraction of at least 0 with so many decimal places: the floor of `value * 10^places`, with a point before its last
-/// `places` digits and at least one digit before the point. It is cut and never rounded: 2/3 to 3 places is `0.666`.
+/// A fraction of at least 0, with a denominator of at most `2^120`, with so many decimal places, from 1 to 9: the floor of
+/// `value * 10^places`, with a point before its last `places` digits and at least one digit before the point. It is cut and
+/// never rounded: 2/3 to 3 places is `0.666`.
 pub fn decimal_text(alloc: Global, value: Frac, places: u32) -> Result<Vec<u8>, Memory>
     requires least { pos 0 ≤ℤ value.num }
     requires denominator { value.den ≤ 2 ^ 120 }
@@ -41,10 +42,7 @@ fn quotient_text(alloc: Global, top: u128, bottom: u128, places: u32) -> Result<
 fn whole_part(alloc: Global, whole: u128) -> Result<Vec<u8>, Memory>
     ensures { IfOk result (λ text. text.items ≡ decimal whole ++ 46 ∷ []) }
 {
-    match format!(in alloc; "{whole}.") {
-        Ok(text) => Ok(text.into_bytes()),
-        Err(_) => Err(Memory),
-    }
+    Ok(format!(in alloc; "{whole}.")?.into_bytes())
 }
 
 /// The next digit of a long division.
@@ -59,8 +57,6 @@ fn next_digit(rest: u128, bottom: u128) -> u8
 fn push(text: &mut Vec<u8>, byte: u8) -> Result<(), Memory>
     ensures { OnOk result (text.new.items ≡ text.old.items ++ byte ∷ []) }
 {
-    match text.push(byte) {
-        Ok(()) => Ok(()),
-        Err(_) => Err(Memory),
-    }
+    text.push(byte)?;
+    Ok(())
 }

@@ -11,20 +11,14 @@ use std::alloc::{AllocError, Global};
 pub fn exact_text(alloc: Global, value: Frac) -> Result<Vec<u8>, Memory>
     ensures { IfOk result (λ text. text.items ≡ exact_spelling value) }
 {
-    match exact_string(alloc, value) {
-        Ok(text) => Ok(text.into_bytes()),
-        Err(_) => Err(Memory),
-    }
+    Ok(exact_string(alloc, value)?.into_bytes())
 }
 
 /// The same as a string.
-pub fn exact_string(alloc: Global, value: Frac) -> Result<String, Memory>
+pub fn exact_string(alloc: Global, value: Frac) -> Result<String, AllocError>
     ensures { IfOk result (λ text. string_bytes text ≡ exact_spelling value) }
 {
-    match spelled(alloc, value.num(), value.den().unsigned_abs()) {
-        Ok(text) => Ok(text),
-        Err(_) => Err(Memory),
-    }
+    spelled(alloc, value.num(), value.den().unsigned_abs())
 }
 
 /// The text of a numerator over a denominator.

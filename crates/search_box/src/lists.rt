@@ -9,10 +9,8 @@ pub(crate) fn copied<T: Copy>(alloc: Global, items: &[T]) -> Result<Vec<T>, Memo
     ensures { IfOk result (λ copy. copy.items ≡ items.now) }
 {
     let mut copy = Vec::new(alloc);
-    match copy.extend_from_slice(items) {
-        Ok(()) => Ok(copy),
-        Err(_) => Err(Memory),
-    }
+    copy.extend_from_slice(items)?;
+    Ok(copy)
 }
 
 /// A copy with another item at an index.
@@ -33,8 +31,6 @@ pub(crate) fn replaced<T: Copy>(
 pub(crate) fn push<T: Copy>(items: &mut Vec<T>, item: T) -> Result<(), Memory>
     ensures { OnOk result (items.new.items ≡ items.old.items ++ item ∷ []) }
 {
-    match items.push(item) {
-        Ok(()) => Ok(()),
-        Err(_) => Err(Memory),
-    }
+    items.push(item)?;
+    Ok(())
 }

@@ -276,7 +276,7 @@ fn splits(rt: HostRuntime) -> Result<(), Fail> {
 }
 
 #[test]
-fn laws() {
+fn laws_can_be_called() {
     law_valid_street();
     law_shifts_are_ranked();
 }

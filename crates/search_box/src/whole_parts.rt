@@ -9,16 +9,6 @@ use crate::shifts::{shift_at, shift_count};
 use artery_model::Artery;
 use progression::Dir;
 
-/// The common red of a signal, in parts.
-fn common_red(artery: &Artery, signal: u32) -> u32
-    requires first { 1 ≤ signal }
-    requires last { signal ≤ count artery.now }
-    ensures value { result ≡ (signal_of artery.now signal).red }
-    ensures small { result < 3600 }
-{
-    artery.red_out(signal) - artery.left_against(Dir::Outbound, signal)
-}
-
 /// The least shift of a signal, in parts.
 fn least_shift(artery: &Artery, signal: u32) -> u32
     requires first { 1 ≤ signal }
@@ -71,10 +61,10 @@ pub(crate) fn least_parts(artery: &Artery, link: u32) -> i128
     prove!(link < artery.count());
     let next = link + 1;
     let reds = artery.red_out(next) + artery.red_in(next);
-    let more = reds + least_shift(artery, link) + common_red(artery, link);
+    let more = reds + least_shift(artery, link) + artery.common_red(link);
     let less = 2 * artery.parts()
         + greatest_shift(artery, next)
-        + common_red(artery, next)
+        + artery.common_red(next)
         + clearances(artery, link);
     difference(more, less)
 }
@@ -88,11 +78,11 @@ pub(crate) fn greatest_parts(artery: &Artery, link: u32) -> i128
 {
     prove!(link < artery.count());
     let next = link + 1;
-    let more = 2 * artery.parts() + greatest_shift(artery, link) + common_red(artery, link);
+    let more = 2 * artery.parts() + greatest_shift(artery, link) + artery.common_red(link);
     let reds = artery.red_out(link) + artery.red_in(link);
     let less = reds
         + least_shift(artery, next)
-        + common_red(artery, next)
+        + artery.common_red(next)
         + clearances(artery, link);
     difference(more, less)
 }

@@ -50,8 +50,8 @@ pub fn cycle(artery: &Artery, timing: &Timing) -> u128
     u128::from(artery.parts()) * timing.unit()
 }
 
-/// Whether the red of a direction begins before the common red.
-fn is_early(dir: Dir, pattern: u32) -> bool
+/// Whether the red of a direction begins before the common red, under this pattern: the left turn against it lags.
+pub fn is_early(dir: Dir, pattern: u32) -> bool
     ensures { result ≡ is_early dir pattern }
 {
     match dir {

@@ -17,9 +17,9 @@ pub enum Failing {
     Fast { dir: Dir, link: u32 },
     /// The run on the link is slower than the least speed.
     Slow { dir: Dir, link: u32 },
-    /// The pace rises from the link to the link with the next number by more than the link allows.
+    /// The pace on the link with the next number, less the pace on this one, is above the greatest change.
     Rise { dir: Dir, link: u32 },
-    /// The pace drops from the link to the link with the next number by more than the link allows.
+    /// The pace on the link with the next number, less the pace on this one, is below the least change.
     Drop { dir: Dir, link: u32 },
     /// The bands don't keep the ratio.
     Ratio,

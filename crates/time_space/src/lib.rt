@@ -17,7 +17,7 @@ mod ticks;
 mod timing;
 mod weight;
 
-pub use diagram::cycle;
+pub use diagram::{cycle, is_early};
 pub use failing::Failing;
 pub use rules::{
     holds, law_fails_rules_out, law_finer_grids, law_one_first, law_reds_are_intervals,
@@ -25,5 +25,5 @@ pub use rules::{
 };
 pub use seen::{green, in_band};
 pub use ticks::since_start;
-pub use timing::Timing;
+pub use timing::{LIMIT, Timing};
 pub use weight::value;

@@ -44,16 +44,16 @@ pub fn is_at_most(ticks: u128, limit: Frac, grid: u128) -> bool
 
 /// The numerator of a limit on changes of pace, times the grid and both distances. The largest of these products is
 /// just below `2^127`, so that no other factor may join it.
-fn weighed(number: i128, area: u128) -> i128
+fn limit_product(number: i128, factor: u128) -> i128
     requires number { unsigned_abs number ≤ 100000 }
-    requires area { area < 2 ^ 110 }
-    ensures { result ≡ number *ℤ pos area }
+    requires factor { factor < 2 ^ 110 }
+    ensures { result ≡ number *ℤ pos factor }
 {
-    number * area as i128
+    number * factor as i128
 }
 
 /// The grid times both distances.
-fn area(grid: u128, distance: u32, next_distance: u32) -> u128
+fn grid_and_lengths(grid: u128, distance: u32, next_distance: u32) -> u128
     requires grid { grid < 2 ^ 80 }
     requires distance { distance ≤ 30000 }
     requires next_distance { next_distance ≤ 30000 }
@@ -108,7 +108,10 @@ pub fn is_change_at_least(paces: Paces, limit: Frac, grid: u128) -> bool
     requires grid { grid < 2 ^ 80 }
     ensures { IsTrue result ↔ ((limit *ℚ number grid) ≤ℚ paces_apart paces.run paces.distance paces.next_run paces.next_distance) }
 {
-    let bound = weighed(limit.num(), area(grid, paces.distance, paces.next_distance));
+    let bound = limit_product(
+        limit.num(),
+        grid_and_lengths(grid, paces.distance, paces.next_distance),
+    );
     bound <= scaled(change_of(paces), limit.den() as u128)
 }
 
@@ -126,12 +129,15 @@ pub fn is_change_at_most(paces: Paces, limit: Frac, grid: u128) -> bool
     requires grid { grid < 2 ^ 80 }
     ensures { IsTrue result ↔ (paces_apart paces.run paces.distance paces.next_run paces.next_distance ≤ℚ (limit *ℚ number grid)) }
 {
-    let bound = weighed(limit.num(), area(grid, paces.distance, paces.next_distance));
+    let bound = limit_product(
+        limit.num(),
+        grid_and_lengths(grid, paces.distance, paces.next_distance),
+    );
     scaled(change_of(paces), limit.den() as u128) <= bound
 }
 
 /// A product of two numbers of a ratio.
-fn weight(rest: i128, number: i128) -> i128
+fn ratio_product(rest: i128, number: i128) -> i128
     requires rest { unsigned_abs rest < 2 ^ 17 }
     requires number { unsigned_abs number < 2 ^ 17 }
     ensures value { result ≡ rest *ℤ number }
@@ -151,14 +157,14 @@ fn rest(ratio: Frac) -> i128
 }
 
 /// One less the ratio, times a number of the ratio and a band.
-fn weighted(ratio: Frac, number: i128, band: u128) -> i128
+fn rest_times_band(ratio: Frac, number: i128, band: u128) -> i128
     requires num { unsigned_abs ratio.num ≤ 100000 }
     requires den { ratio.den ≤ 1000 }
     requires number { unsigned_abs number < 2 ^ 17 }
     requires band { band < 2 ^ 80 }
     ensures { result ≡ ((pos ratio.den -ℤ ratio.num) *ℤ number) *ℤ pos band }
 {
-    product(weight(rest(ratio), number), band)
+    product(ratio_product(rest(ratio), number), band)
 }
 
 /// Whether two bands keep the ratio.
@@ -170,5 +176,5 @@ pub fn is_in_ratio(ratio: Frac, band_out: u128, band_in: u128) -> bool
     requires band_in { band_in < 2 ^ 80 }
     ensures { IsTrue result ↔ RatioHolds ratio band_out band_in }
 {
-    weighted(ratio, ratio.num(), band_out) <= weighted(ratio, ratio.den(), band_in)
+    rest_times_band(ratio, ratio.num(), band_out) <= rest_times_band(ratio, ratio.den(), band_in)
 }

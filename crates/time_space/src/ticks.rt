@@ -5,7 +5,8 @@ ghost use Rattle.progression.specs.Green.{since, is_open, is_green, BandIsGreen}
 ghost use Rattle.time_space.specs.FirstRed.{IsFirstShut, IsFirstRed};
 ghost use Rattle.time_space.specs.Sizes.{IsWithin};
 
-/// How many ticks ago a red started, at this tick or before. A red starts every `cycle` ticks.
+/// How many ticks before `tick` the last of the moments lies that come every `cycle` ticks, of which one is `start`: from 0
+/// to `cycle - 1`.
 pub fn since_start(cycle: u128, start: i128, tick: i128) -> u128
     requires cycle { 0 < cycle }
     requires room { cycle < 2 ^ 100 }

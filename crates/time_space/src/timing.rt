@@ -47,7 +47,8 @@ impl Model for Timing {
     ghost invariant = { λ t. IsTiming t.grid t.unit t.patterns.items t.reds.items t.run_out.items t.run_in.items t.first_out t.first_in t.band_out t.band_in };
 }
 
-const LIMIT: u128 = 1 << 80;
+/// Every number of a timing is below this.
+pub const LIMIT: u128 = 1 << 80;
 
 fn all_below_limit(numbers: &[u128]) -> bool
     ensures { IsTrue result ↔ All (λ n. n < 2 ^ 80) numbers.now }

@@ -1,7 +1,8 @@
 use Rattle.std.proofs.Common.{◌∙◌}
 use Rattle.linear_model.specs.Shifts.{shifts_of}
 use Rattle.linear_model.specs.RankedShifts.{ranked, rising_strictly, shifts_ascend}
-use Rattle.search_box.proofs.Ranked.{rank_allowed, at_most_four}
+use Rattle.linear_model.specs.ShiftSizes.{shift_count_most}
+use Rattle.search_box.proofs.Ranked.{rank_allowed}
 use Rattle.search_box.proofs.laws.law_shifts_are_ranked.Goals as goal
 
 pub returns-clause-ranked : goal.returns-clause-ranked
@@ -14,4 +15,4 @@ pub returns-clause-rising : goal.returns-clause-rising
 returns-clause-rising c a i r s h k = rising_strictly (shifts_of a i) 0 r s (shifts_ascend a i) h k
 
 pub returns-clause-few : goal.returns-clause-few
-returns-clause-few c a i = at_most_four a i
+returns-clause-few c a i = shift_count_most a i
