@@ -4,7 +4,7 @@ use Rattle.ratio.specs.Rational.{ℚ, ◌≤ℚ◌}
 use Rattle.search_box.specs.declared.span.At.{At}
 use Rattle.node_tree.specs.Lines.{Line, low_line}
 use Rattle.node_tree.specs.Matchings.{Matches, line_after-match, total-match}
-use Rattle.branch_and_bound.specs.Lineages.{Cuts}
+use Rattle.branch_and_bound.specs.Lineages.{WasRead, Cuts}
 use Rattle.branch_and_bound.specs.Rules.{Rules, IsMet}
 use Rattle.work_meter.specs.Work.{capped, IsWithin}
 use Rattle.branch_and_bound.specs.Incumbents.{IsBeaten}
@@ -50,6 +50,7 @@ low_cases r limit shown bound new before after spot NoWork units k s e = record 
   good = k.good;
   spot = k.spot_is;
   left = tt;
+  read = tt;
   needed = (k.needed, k.open_bound);
   sorted = k.sorted;
   units = ap (λ (m : Meter). m.spent) s.0 ∙ units;
@@ -62,6 +63,7 @@ low_cases r limit shown bound new before after spot WorkOut units k s e = record
   good = k.good;
   spot = k.spot_is;
   left = s.4;
+  read = tt;
   needed = (k.needed, k.open_bound);
   sorted = k.sorted;
   units = let t = s.2.spent in omega (arith, t, units);
@@ -74,6 +76,7 @@ low_cases r limit shown bound new before after spot (Refused site) units k s e =
   good = k.good;
   spot = k.spot_is;
   left = s.3;
+  read = tt;
   needed = (k.needed, k.open_bound);
   sorted = k.sorted;
   units = let t = s.2.spent in omega (arith, t, units);
@@ -83,38 +86,41 @@ low_cases r limit shown bound new before after spot (Refused site) units k s e =
 
 high_cases : {T K W : Type 0} (r : Rules T K W) (limit : Option ℕ) (shown : List TreeNode) (bound : ℚ) (new : Option (Incumbent T)) (before between after : Meter) (spot : Spot) (cause : Cause W)
     → before.spent ≡ capped (units_of r shown) → IsHalt r shown new bound spot (Some (low_of r shown spot)) → between.spent ≡ capped (before.spent + (1 + r.steps (low_of r shown spot)))
-    → Stops r (high_of r shown spot) between after cause → after.limit ≡ limit
+    → Stops r (high_of r shown spot) between after cause → WasRead (r.ending (low_of r shown spot)) → after.limit ≡ limit
     → IsStoppedAnswer r limit shown new bound after.spent (stop_of cause after.spent)
-high_cases r limit shown bound new before between after spot NoWork units k low s e = record {
+high_cases r limit shown bound new before between after spot NoWork units k low s read e = record {
   case = BeforeHigh spot;
   accepted = k.accepted;
   good = k.good;
   spot = k.spot_is;
   left = tt;
+  read = read;
   needed = (k.needed, k.open_bound);
   sorted = k.sorted;
   units = let t = ap (λ (m : Meter). m.spent) s.0 in omega (arith, t, low, units);
   within = spent_within after limit (sym e ∙ ap (λ (m : Meter). m.limit) s.0 ∙ s.1 ∙ ap (λ (m : Meter). Some m.spent) (sym s.0));
   cause = (refl, sym e ∙ ap (λ (m : Meter). m.limit) s.0 ∙ s.1 ∙ ap (λ (m : Meter). Some m.spent) (sym s.0), tt);
 }
-high_cases r limit shown bound new before between after spot WorkOut units k low s e = record {
+high_cases r limit shown bound new before between after spot WorkOut units k low s read e = record {
   case = InHigh spot s.0;
   accepted = k.accepted;
   good = k.good;
   spot = k.spot_is;
   left = s.4;
+  read = read;
   needed = (k.needed, k.open_bound);
   sorted = k.sorted;
   units = let t = s.2.spent in omega (arith, t, low, units);
   within = subst (IsWithin after.spent) e s.2.within;
   cause = (refl, sym e ∙ s.3, s.1);
 }
-high_cases r limit shown bound new before between after spot (Refused site) units k low s e = record {
+high_cases r limit shown bound new before between after spot (Refused site) units k low s read e = record {
   case = InHigh spot s.0;
   accepted = k.accepted;
   good = k.good;
   spot = k.spot_is;
   left = s.3;
+  read = read;
   needed = (k.needed, k.open_bound);
   sorted = k.sorted;
   units = let t = s.2.spent in omega (arith, t, low, units);
@@ -136,7 +142,7 @@ by_side r limit nodes shown g old new top before after High cause place h greate
     let line = line_at r shown g.index in
     let under : IsPartUnder r (Some (low_line place line)) g.bound = λ optimal. subst (λ b. r.bound (low_line place line) ≤ℚ b) w.bound_is (r.low_falls line place w.lineage end optimal) in
     let k = stopped r nodes shown g greatest.waits.node old new top before.spent (Some (low_line place line)) place h m greatest.waits.at greatest.waits.waits end (over_all nodes (Some g) greatest) beaten halts.better under in
-    high_cases r limit shown g.bound new before halts.between after (record { index = g.index; place = place }) cause units k halts.low_cost.spent halts.stops e
+    high_cases r limit shown g.bound new before halts.between after (record { index = g.index; place = place }) cause units k halts.low_cost.spent halts.stops halts.read e
 
 pub undone_answer : {T K W : Type 0} (r : Rules T K W) (limit : Option ℕ) (nodes : List (Node K)) (shown : List TreeNode) (g : Greatest) (old new : Option (Incumbent T)) (top : ℚ) (before after : Meter) (side : Side) (cause : Cause W)
     → Holds r nodes old top before.spent → IsGreatest nodes (length nodes) (Some g) → IsBeaten old g.bound

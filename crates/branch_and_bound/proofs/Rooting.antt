@@ -77,6 +77,7 @@ root_stuck r limit None before after leaf bound site sound e l f h =
       good = tt;
       spot = h.opens.end;
       left = tt;
+      read = tt;
       needed = (
         record {
           tree = (record { leaf_is = h.opens.bounds.leaf_is; reached = λ reads. let t = h.opens.end in cc }, tt);
@@ -108,6 +109,7 @@ root_left r limit None before after leaf bound WorkOut e l f start bound_is cove
   good = tt;
   spot = h.1;
   left = tt;
+  read = tt;
   needed = record { leaf = leaf; nodes_are = refl; leaf_is = start; bound_is = bound_is; best_is = refl };
   sorted = one_waits r leaf None;
   units = let s = h.3.spent in omega (arith, s, e);
@@ -120,6 +122,7 @@ root_left r limit None before after leaf bound (Refused site) e l f start bound_
   good = tt;
   spot = h.1;
   left = tt;
+  read = tt;
   needed = record { leaf = leaf; nodes_are = refl; leaf_is = start; bound_is = bound_is; best_is = refl };
   sorted = one_waits r leaf None;
   units = let s = h.3.spent in omega (arith, s, e);

@@ -7,13 +7,16 @@ use Rattle.search_box.specs.declared.span.At.{At}
 use Rattle.search_box.specs.Places.{low_part, high_part}
 use Rattle.named_row.specs.declared.leaves.Leaf.{Leaf}
 use Rattle.node_tree.specs.Lines.{Line, low_line, high_line}
-use Rattle.branch_and_bound.specs.Rules.{Rules}
+use Rattle.narrow_fraction.specs.Attempt.{some_not_none}
+use Rattle.branch_and_bound.specs.Lineages.{WasRead}
+use Rattle.branch_and_bound.specs.Rules.{Rules, IsMet}
 use Rattle.branch_and_bound.specs.Opening.{OpensTimed, IsPart}
 use Rattle.branch_and_bound.specs.Incumbents.{IsReached, IsBeaten}
-use Rattle.branch_and_bound.specs.State.{IsStuck, Stops, IsLeftBy, Settles, Ends, ended, IsCut, IsLeafNow}
+use Rattle.branch_and_bound.specs.State.{IsStuck, Stops, IsLeftBy, Settles, Ends, ended, IsCut, IsLeafNow, IsRefuted, IsRead}
 use Rattle.work_meter.specs.declared.meter.Meter.{Meter}
 use Rattle.branch_and_bound.specs.declared.incumbent.Incumbent.{Incumbent}
-use Rattle.branch_and_bound.specs.declared.node.Node.TheVariants.{Closed}
+use Rattle.branch_and_bound.specs.declared.node.Node.{Node}
+use Rattle.branch_and_bound.specs.declared.node.Node.TheVariants.{Split, Closed, Waiting}
 use Rattle.branch_and_bound.specs.declared.found.Site.{Site}
 use Rattle.branch_and_bound.specs.declared.settle.Cause.{Cause}
 use Rattle.branch_and_bound.specs.declared.settle.Cause.TheVariants.{NoWork, WorkOut, Refused}
@@ -49,6 +52,17 @@ timed_settles r line old new leaf bound timing h (inr k) =
       };
       better = inr (record { best = record { value = bound; timing = timing }; new_is = k.0; end = h.end; value = h.bounds.bound_is; good = h.good; more = k.1 });
     }
+
+-- a box that is a leaf was read to its end
+pub leaf_read : {T K W : Type 0} (r : Rules T K W) (line : Line) (old new : Option (Incumbent T)) (node : Node K) → IsMet r line → IsLeafNow r line old new node → WasRead (r.ending line)
+leaf_read r line old new (Split place point) met l = some_not_none l.whole
+leaf_read r line old new (Closed leaf) met l = by_case (l.is (r.bound line) met (λ _. ≤ℚ_refl (r.bound line))).shows
+  where
+    by_case : IsRefuted r line leaf ⊎ IsRead r new line leaf → WasRead (r.ending line)
+    by_case (inl h) = subst WasRead (sym h.end) tt
+    by_case (inr h) = subst WasRead (sym h.end) tt
+leaf_read r line old new (Waiting area leaf bound place point kept) met l =
+    subst WasRead (sym (l.is (r.bound line) met (λ _. ≤ℚ_refl (r.bound line))).end) tt
 
 -- the parts of a box that waits
 pub low_is : {T K W : Type 0} (r : Rules T K W) (line : Line) (area part : Area) (place : At) (kept : K)

@@ -9,7 +9,7 @@ use Rattle.search_box.specs.Places.{IsPlace}
 use Rattle.named_row.specs.declared.leaves.Leaf.{Leaf}
 use Rattle.named_row.specs.declared.leaves.Point.{Point}
 use Rattle.node_tree.specs.Lines.{Line, top_line, low_line, high_line, Fills, Finds, total, line_after}
-use Rattle.branch_and_bound.specs.Lineages.{Empty, Reads, Cuts, Stuck}
+use Rattle.branch_and_bound.specs.Lineages.{Empty, Reads, Cuts, Stuck, WasRead}
 use Rattle.work_meter.specs.Work.{capped, IsWithin}
 use Rattle.branch_and_bound.specs.Rules.{Rules}
 use Rattle.branch_and_bound.specs.Unfinished.{IsUnfinished, IsLeft}
@@ -101,6 +101,11 @@ abbrev pub finished_part : {T K W : Type 0} → Rules T K W → List TreeNode �
 finished_part r nodes (BeforeHigh spot) = Some (low_of r nodes spot)
 finished_part r nodes (InHigh spot k) = Some (low_of r nodes spot)
 finished_part r nodes _ = None
+
+-- the finished part was read to its end
+abbrev pub IsReadPart : {T K W : Type 0} → Rules T K W → Option Line → Type 0
+IsReadPart r None = Unit {0}
+IsReadPart r (Some line) = WasRead (r.ending line)
 
 -- the index of the undone node
 abbrev pub undone_of : StopCase → Option ℕ
@@ -286,6 +291,7 @@ pub record IsStoppedAnswer {T K W : Type 0} (r : Rules T K W) (limit : Option �
   pub good : IfSome best (λ b. r.IsGood b.timing b.value × (b.value ≤ℚ bound))
   pub spot : HasSpot r nodes case
   pub left : HasLeft r nodes case
+  pub read : IsReadPart r (finished_part r nodes case)
   pub needed : IsNeededStop r nodes best bound case
   pub sorted : IsSorted r nodes best (undone_of case)
   pub units : spent ≡ capped (spends r nodes case)

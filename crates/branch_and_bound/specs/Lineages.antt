@@ -24,6 +24,14 @@ IsOptimal Reads = Unit {0}
 IsOptimal (Cuts place) = Unit {0}
 IsOptimal Stuck = Unit {0}
 
+-- the box was read to its end: it is empty, or its vertex gave a timing or the place of a split
+abbrev pub WasRead : Ending → Type 0
+WasRead NoEnd = ⊥
+WasRead Empty = Unit {0}
+WasRead Reads = Unit {0}
+WasRead (Cuts place) = Unit {0}
+WasRead Stuck = ⊥
+
 -- the root box on top, and the parts of a line's box at the place that the line's end shows; all of it of a sound problem
 pub data IsLineage (Sound : Type 0) (root : Area) (ending : Line → Ending) : Line → Type 0 where
   at_top : Sound → IsLineage Sound root ending (top_line root)

@@ -7,7 +7,7 @@ use Rattle.named_row.specs.declared.leaves.Leaf.{Leaf}
 use Rattle.named_row.specs.declared.leaves.Point.{Point}
 use Rattle.node_tree.specs.Lines.{Line, low_line, high_line, Fills, Finds, total, line_after}
 use Rattle.node_tree.specs.Volumes.{volume}
-use Rattle.branch_and_bound.specs.Lineages.{Empty, Reads, Cuts, IsOptimal}
+use Rattle.branch_and_bound.specs.Lineages.{Empty, Reads, Cuts, IsOptimal, WasRead}
 use Rattle.work_meter.specs.Work.{capped, IsWithin, IsSpent}
 use Rattle.branch_and_bound.specs.Rules.{Rules, IsMet}
 use Rattle.branch_and_bound.specs.Unfinished.{IsUnfinished, IsLeft}
@@ -164,6 +164,7 @@ pub record IsLowHalted {T K W : Type 0} (r : Rules T K W) (line : Line) (place :
 pub record IsHighHalted {T K W : Type 0} (r : Rules T K W) (line : Line) (place : At) (old new : Option (Incumbent T)) (before after : Meter) (cause : Cause W) : Type 0 where
   pub between : Meter
   pub better : IsBetter r (low_line place line) old new
+  pub read : WasRead (r.ending (low_line place line))
   pub low_cost : Finishes r (low_line place line) before between
   pub stops : Stops r (high_line place line) between after cause
 

@@ -1,6 +1,6 @@
 //! The search.
 
-ghost use Rattle.std.specs.Prelude.{◌≡◌, ℕ, List, [], ◌∷◌, All, IfOk, IsSome};
+ghost use Rattle.std.specs.Prelude.{◌≡◌, ℕ, List, [], ◌∷◌, All, IfOk};
 ghost use Rattle.ratio.specs.Rational.{ℚ};
 ghost use Rattle.work_meter.specs.Work.{IsBelow, IsWithin};
 ghost use Rattle.branch_and_bound.specs.Greatest.{IsSettled, bound_of};
@@ -95,7 +95,6 @@ fn run<P: Relaxation>(
     mut meter: Meter,
 ) -> Result<Found<P::Timing, P::Part>, Memory>
     requires ready { P.Ready relaxation.now room.old }
-    requires limited { IsSome meter.limit }
     requires within { IsWithin meter.spent meter.limit }
     requires holds { (top : ℚ) × Holds (P.rules relaxation.now) nodes.items incumbent top meter.spent }
     ensures { IfOk result (λ found. IsAnswer (P.rules relaxation.now) meter.limit found.nodes.items found.incumbent found.bound found.spent found.verdict) }
@@ -143,7 +142,7 @@ fn alone(alloc: Global, node: TreeNode) -> Result<Vec<TreeNode>, AllocError>
 /// value, the one with the greatest bound is split and its low part and its high part are opened. A stop while two parts
 /// are opened undoes that split; a timing that the low part gave is kept.
 ///
-/// A limit of units, at least 1, has to be there. The error is want of memory.
+/// A limit of units, where there is one, is at least 1. The error is want of memory.
 pub fn search<P: Relaxation>(
     alloc: Global,
     relaxation: &P,
@@ -152,7 +151,6 @@ pub fn search<P: Relaxation>(
 ) -> Result<Found<P::Timing, P::Part>, Memory>
     requires ready { P.Ready relaxation.now room.old }
     requires sound { (P.rules relaxation.now).IsSound }
-    requires limited { IsSome limit }
     requires limit { IsBelow 0 limit }
     ensures { IfOk result (λ found. IsAnswer (P.rules relaxation.now) limit found.nodes.items found.incumbent found.bound found.spent found.verdict) }
 {

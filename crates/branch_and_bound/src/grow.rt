@@ -1,6 +1,6 @@
 //! Splits one waiting node.
 
-ghost use Rattle.std.specs.Prelude.{◌≡◌, ◌<◌, ℕ, Some, length, All, IfOk, OnOk, IsSome};
+ghost use Rattle.std.specs.Prelude.{◌≡◌, ◌<◌, ℕ, Some, length, All, IfOk, OnOk};
 ghost use Rattle.std.specs.List.{slice_get};
 ghost use Rattle.ratio.specs.Rational.{ℚ};
 ghost use Rattle.linear_model.specs.Boxes.{Area};
@@ -71,7 +71,6 @@ pub(crate) fn grow<P: Relaxation>(
     meter: &mut Meter,
 ) -> Result<Growth<P::Part>, Memory>
     requires ready { P.Ready relaxation.now room.old }
-    requires limited { IsSome meter.old.limit }
     requires within { IsWithin meter.old.spent meter.old.limit }
     requires greatest { IsGreatest nodes.old.items (length nodes.old.items) (Some greatest.now) }
     requires under { IsUnder incumbent.old greatest.now.bound }

@@ -1,6 +1,6 @@
 //! Opens the two parts of a box that is split.
 
-ghost use Rattle.std.specs.Prelude.{◌≡◌, true, false, IfOk, IsSome};
+ghost use Rattle.std.specs.Prelude.{◌≡◌, true, false, IfOk};
 ghost use Rattle.search_box.specs.Places.{IsPlace, low_part, high_part};
 ghost use Rattle.search_box.specs.declared.span.At.{At};
 ghost use Rattle.node_tree.specs.Lines.{Line};
@@ -78,7 +78,6 @@ fn open_side<P: Relaxation>(
     meter: &mut Meter,
 ) -> Result<Ended<P::Kept, P::Part>, Memory>
     requires ready { P.Ready relaxation.now room.old }
-    requires limited { IsSome meter.old.limit }
     requires within { IsWithin meter.old.spent meter.old.limit }
     requires part { (parent line : Line) × (place : At) × IsPart (P.rules relaxation.now) parent place line kept.now area }
     ensures ready { P.Ready relaxation.now room.new }
@@ -107,7 +106,6 @@ pub(crate) fn open_parts<P: Relaxation>(
     meter: &mut Meter,
 ) -> Result<Parts<P::Kept, P::Part>, Memory>
     requires ready { P.Ready relaxation.now room.old }
-    requires limited { IsSome meter.old.limit }
     requires within { IsWithin meter.old.spent meter.old.limit }
     requires cut { (line : Line) × IsCut (P.rules relaxation.now) line area.now place kept.now }
     requires inside { IsPlace area.now place }

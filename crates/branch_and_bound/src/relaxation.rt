@@ -1,6 +1,6 @@
 //! What the search asks of a relaxation.
 
-ghost use Rattle.std.specs.Prelude.{◌≡◌, IfOk, IsSome};
+ghost use Rattle.std.specs.Prelude.{◌≡◌, IfOk};
 ghost use Rattle.search_box.specs.declared.span.At.{At};
 ghost use Rattle.node_tree.specs.Lines.{Line, top_line};
 ghost use Rattle.branch_and_bound.specs.Rules.{Rules};
@@ -49,7 +49,6 @@ pub trait Relaxation {
         meter: &mut Meter,
     ) -> Result<Opened<Self::Timing, Self::Kept, Self::Part>, Memory>
         requires ready { Ready self.now room.old }
-        requires limited { IsSome meter.old.limit }
         requires work { HasWork meter.old }
         requires root { area.now ≡ (rules self.now).root }
         ensures ready { Ready self.now room.new }
@@ -66,7 +65,6 @@ pub trait Relaxation {
         meter: &mut Meter,
     ) -> Result<Opened<Self::Timing, Self::Kept, Self::Part>, Memory>
         requires ready { Ready self.now room.old }
-        requires limited { IsSome meter.old.limit }
         requires work { HasWork meter.old }
         requires part { (parent line : Line) × (place : At) × IsPart (rules self.now) parent place line kept.now area.now }
         ensures ready { Ready self.now room.new }

@@ -111,7 +111,7 @@ fn the_best_is_found(rt: HostRuntime) -> Result<(), Fail> {
 }
 
 #[test]
-fn there_is_none(rt: HostRuntime) -> Result<(), Fail> {
+fn an_infeasible_root_leaves_no_timing(rt: HostRuntime) -> Result<(), Fail> {
     let found = found(rt.alloc(), -1, 100)?;
     assert!(rt; matches!(found.verdict, Verdict::NoTiming));
     assert!(rt; has_shape(&found, b"c"));

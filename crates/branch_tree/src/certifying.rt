@@ -72,10 +72,8 @@ fn node_of(alloc: Global, node: &TreeNode) -> Result<CertNode, Memory>
 fn push(nodes: &mut Vec<CertNode>, node: CertNode) -> Result<(), Memory>
     ensures { OnOk result (nodes.new.items ≡ nodes.old.items ++ node ∷ []) }
 {
-    match nodes.push(node) {
-        Ok(()) => Ok(()),
-        Err(_) => Err(Memory),
-    }
+    nodes.push(node)?;
+    Ok(())
 }
 
 /// The nodes without their vertices.

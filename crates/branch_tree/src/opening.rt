@@ -1,6 +1,6 @@
 //! Opens one box: the steps from its opening tableau to the end, and what is read off there.
 
-ghost use Rattle.std.specs.Prelude.{◌≡◌, ℕ, IfOk, IsSome, None, map};
+ghost use Rattle.std.specs.Prelude.{◌≡◌, ℕ, IfOk, None, map};
 ghost use Rattle.linear_model.specs.Boxes.{IsBoxOf};
 ghost use Rattle.linear_model.specs.Trees.{AreWeights};
 ghost use Rattle.loop_rows.specs.Weights.{named, leaf_fault};
@@ -21,7 +21,6 @@ use crate::site::SitePart;
 use artery_model::Artery;
 use branch_and_bound::{Meter, Opened};
 use dual_leaf::{leaf_of, point_of, refuter_of};
-use dual_simplex as simplex;
 use dual_simplex::{NodeEnd, solve_node};
 use fraction_tableau::{Tableau, WideCell};
 use loop_rows::{SumFault, leaf_sum};
@@ -54,7 +53,6 @@ enum Summed {
 fn make_steps(artery: &Artery, area: &SearchBox, tableau: &mut Tableau, meter: &mut Meter) -> Run
     requires boxed { IsBoxOf artery.now area.now }
     requires opened { tableau.old ≡ opened_box artery.now area.now }
-    requires limited { IsSome meter.old.limit }
     requires work { HasWork meter.old }
     ensures made { IsMadeFor artery.now tableau.new }
     ensures limit { meter.new.limit ≡ meter.old.limit }
@@ -62,13 +60,9 @@ fn make_steps(artery: &Artery, area: &SearchBox, tableau: &mut Tableau, meter: &
 {
     // its contract says that the artery is valid
     let _ = artery.head();
-    let mut work = simplex::Meter {
-        spent: meter.spent.saturating_add(1),
-        limit: meter.limit,
-    };
+    meter.spend();
     let mut pivots = 0;
-    let end = solve_node(tableau, &mut work, &mut pivots);
-    meter.spent = work.spent;
+    let end = solve_node(tableau, meter, &mut pivots);
     // the shape of the tableau is known where it is read
     let _ = tableau.rows();
     Run { end, pivots }
@@ -247,7 +241,6 @@ pub fn open(
 ) -> Result<Opening, Memory>
     requires boxed { IsBoxOf artery.now area.now }
     requires room { IsRoomFor artery.now room.old }
-    requires limited { IsSome meter.old.limit }
     requires work { HasWork meter.old }
     ensures room { IsRoomFor artery.now room.new }
     ensures limit { meter.new.limit ≡ meter.old.limit }

@@ -1,6 +1,6 @@
 //! The search of an artery's best timing.
 
-ghost use Rattle.std.specs.Prelude.{◌≡◌, IfOk, IfSome, IsSome};
+ghost use Rattle.std.specs.Prelude.{◌≡◌, IfOk, IfSome};
 ghost use Rattle.progression.specs.Good.{Good};
 ghost use Rattle.work_meter.specs.Work.{IsBelow};
 ghost use Rattle.branch_tree.specs.Searches.{IsSearch};
@@ -43,9 +43,9 @@ fn found_of(found: engine::Found<Timing, SitePart>) -> Found
 /// than the best weighted band, the one with the greatest bound is split and its two parts are opened.
 ///
 /// A unit of work is a box that is opened or a pivot. The search stops where all units of the limit are spent and one more is
-/// wanted, or at the first number that leaves 128 bits. A limit of at least 1 has to be there. The error is want of memory.
+/// wanted, or at the first number that leaves 128 bits. A limit, where there is one, is at least 1. The error is want of
+/// memory.
 pub fn search(alloc: Global, artery: &Artery, limit: Option<u64>) -> Result<Found, Memory>
-    requires limited { IsSome limit }
     requires limit { IsBelow 0 limit }
     ensures answer { IfOk result (λ found. IsSearch artery.now limit found) }
     ensures good { IfOk result (λ found. IfSome found.timing (λ plan. Good artery.now plan)) }

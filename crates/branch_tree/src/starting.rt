@@ -20,10 +20,8 @@ fn push_row(list: &mut Vec<Weight>, family: u8, by: Frac) -> Result<(), Memory>
     ensures { OnOk result (list.new.items ≡ list.old.items ++ record { row = record { family = family; index = 1 }; by = by } ∷ []) }
 {
     let row = RowId { family, index: 1 };
-    match list.push(Weight { row, by }) {
-        Ok(()) => Ok(()),
-        Err(_) => Err(Memory),
-    }
+    list.push(Weight { row, by })?;
+    Ok(())
 }
 
 /// The same, unless its multiplier is 0.
@@ -60,7 +58,9 @@ fn first_bound(
     match leaf_sum(alloc, artery, area, leaf) {
         Ok(sum) => Ok(sum.get(Place::Bound)),
         Err(SumFault::Memory) => Err(Memory),
-        Err(_) => unreachable!(),
+        Err(SumFault::NoSuchRow { .. }) => unreachable!(),
+        Err(SumFault::Negative { .. }) => unreachable!(),
+        Err(SumFault::Wide { .. }) => unreachable!(),
     }
 }
 

@@ -13,7 +13,8 @@ use fraction_tableau::Tableau;
 /// Among the rows with a negative bound the one whose basic variable has the least number is taken; where there is none, the
 /// step is `Optimal`. Of its places with a negative cell the one with the least ratio of the goal cell to the negated cell is
 /// taken, of equal ratios the one whose variable has the least number; where there is none, the step is `Infeasible`. A ratio
-/// that leaves 128 bits is `Wide`, and the tableau is unchanged; so is a pivot, and then the tableau is spent.
+/// that leaves 128 bits is `Wide`, and the tableau is unchanged. A pivot that leaves 128 bits is `Wide` too, and the tableau is
+/// spent.
 pub fn step(tableau: &mut Tableau) -> Step
     requires dual { IsDual tableau.old.table }
     requires unspent { tableau.old.spent ≡ false }

@@ -30,15 +30,14 @@ fn is_stopped(tableau: &Tableau, meter: &Meter) -> bool
     meter.is_out() && is_due(tableau)
 }
 
-/// Steps until an end. Each pivot that was made adds one to `pivots` and one to `spent`, and both stay at `2^64 - 1` once
-/// there.
+/// Steps until an end. Each pivot that was made adds one to `pivots` and one to the units of the meter, and both stay at
+/// `2^64 - 1` once there.
 ///
-/// `WorkOut` comes where a pivot is due and `spent` equals the limit, before a ratio is looked at. The tableau is as it was
-/// at the end, and after a refused pivot it is spent.
+/// `WorkOut` comes where a pivot is due and the meter is out, before a ratio is looked at. The tableau is that after the last
+/// step; only after a refused pivot it is spent.
 pub fn solve_node(tableau: &mut Tableau, meter: &mut Meter, pivots: &mut u64) -> NodeEnd
     requires dual { IsDual tableau.old.table }
     requires unspent { tableau.old.spent ≡ false }
-    requires limited { meter.old.limit ≡ None → ⊥ }
     requires within { IsWithin meter.old.spent meter.old.limit }
     ensures solved { (k : ℕ) × Solved result tableau.old tableau.new meter.old meter.new pivots.old pivots.new k }
     ensures dual { tableau.new.spent ≡ false → IsDual tableau.new.table }

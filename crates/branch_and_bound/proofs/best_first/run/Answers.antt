@@ -1,4 +1,4 @@
-use Rattle.std.proofs.Common.{◌∙◌, sym, subst, IsSome, Some}
+use Rattle.std.proofs.Common.{◌∙◌, subst, Some}
 use Rattle.node_tree.specs.Matchings.{Matches}
 use Rattle.branch_and_bound.specs.State.{IsShown}
 use Rattle.branch_and_bound.proofs.Halting.{undone_answer}
@@ -9,7 +9,6 @@ splits-preserved g c =
     let k = rw c.in-Grown.is at c.in_ok-growth.ensures.grows in
     record {
       ready = c.in_ok-growth.ensures.ready;
-      limited = subst IsSome (sym c.in_ok-growth.ensures.limit) c.splits.invariant.limited;
       within = k.within;
       limit = c.in_ok-growth.ensures.limit ∙ c.splits.invariant.limit;
       holds = (k.top, k.holds);

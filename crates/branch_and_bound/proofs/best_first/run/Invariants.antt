@@ -1,4 +1,4 @@
-use Rattle.std.proofs.Common.{◌≡◌, IsSome}
+use Rattle.std.proofs.Common.{◌≡◌}
 use Rattle.ratio.specs.Rational.{ℚ}
 use Rattle.work_meter.specs.Work.{IsWithin}
 use Rattle.branch_and_bound.specs.State.{Holds, weights}
@@ -7,7 +7,6 @@ use Rattle.branch_and_bound.proofs.best_first.run.Given as goal
 abbrev pub invariant-splits : goal.invariant-splits
 invariant-splits g l = record {
   ready : g.P.Relaxation.Ready l.relaxation l.room;
-  limited : IsSome l.meter.limit;
   within : IsWithin l.meter.spent l.meter.limit;
   limit : l.meter.limit ≡ l.initial.meter.limit;
   holds : (top : ℚ) × Holds (g.P.Relaxation.rules l.relaxation) l.nodes.items l.incumbent top l.meter.spent;

@@ -1,7 +1,8 @@
 use Rattle.std.proofs.Common.{sym, subst}
 use Rattle.node_tree.specs.Lines.{low_line, high_line}
 use Rattle.branch_and_bound.specs.State.{IsBetter}
-use Rattle.branch_and_bound.proofs.Settling.{low_is, high_is}
+use Rattle.branch_and_bound.specs.Lineages.{at_low}
+use Rattle.branch_and_bound.proofs.Settling.{low_is, high_is, leaf_read}
 use Rattle.branch_and_bound.proofs.open.open_parts.Goals as goal
 
 pub open_side-requires-clause-part : goal.open_side-requires-clause-part
@@ -44,4 +45,6 @@ returns-in-Part-2-clause-settles g c = λ line cut.
     let k = rw c.in-Whole.is at (c.in_ok-node.ensures.ends line (low_line c.args.place line) c.args.place low_part) in
     let m = rw c.in-Part-2.is at (c.in_ok-node-2.ensures.ends line (high_line c.args.place line) c.args.place high_part) in
     let better = subst (λ b. IsBetter r (low_line c.args.place line) c.args.incumbent.now b) (sym m.0) k.0.better in
-    record { between = c.open_side.new.meter; better = better; low_cost = k.1; stops = m.1 }
+    let met = at_low line c.args.place cut.lineage cut.end in
+    let read = leaf_read r (low_line c.args.place line) _ _ _ met k.0 in
+    record { between = c.open_side.new.meter; better = better; read = read; low_cost = k.1; stops = m.1 }

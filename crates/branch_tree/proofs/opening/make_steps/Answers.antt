@@ -1,6 +1,5 @@
-use Rattle.std.proofs.Common.{◌≡◌, refl, sym, ap, subst}
+use Rattle.std.proofs.Common.{refl}
 use Rattle.program_builder.specs.OpeningLaws.{opening_dual}
-use Rattle.work_meter.specs.Work.{IsWithin}
 use Rattle.branch_tree.proofs.Running.{made_after, run_from, within_limit}
 use Rattle.branch_tree.proofs.opening.make_steps.Goals as goal
 
@@ -16,6 +15,5 @@ pub returns-clause-run : goal.returns-clause-run
 returns-clause-run c =
     let solved = c.solve_node-end.ensures.solved in
     let new = c.solve_node-end.new.meter in
-    let limit : new.limit ≡ c.args.meter.now.limit = ap (λ u. u.limit) solved.1.meter in
-    run_from c.args.artery.now c.args.area.now c.head.ensures.valid c.args.tableau.now c.solve_node-end.new.tableau _ _ _ _ solved.0 c.requires.opened _ _ c.solve_node-end.result refl c.saturating_add.ensures refl (sym limit)
-    (subst (IsWithin new.spent) limit (within_limit new.spent new.limit c.solve_node-end.ensures.within)) solved.1
+    run_from c.args.artery.now c.args.area.now c.head.ensures.valid c.args.tableau.now c.solve_node-end.new.tableau _ _ _ _ solved.0 c.requires.opened _ _ c.solve_node-end.result refl c.spend.ensures.spent refl refl
+    (within_limit new.spent new.limit c.solve_node-end.ensures.within) solved.1
