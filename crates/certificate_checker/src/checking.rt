@@ -41,12 +41,8 @@ pub fn check(alloc: Global, artery: &Artery, certificate: &Certificate) -> Resul
     check_timing(artery, &certificate.timing)?;
     check_value(artery, &certificate.timing, value_of(&certificate.claim))?;
     check_bound(&certificate.claim)?;
-    let goal = match goal_row(alloc, artery) {
-        Ok(goal) => goal,
-        Err(Memory) => return Err(Reject::Memory),
-    };
     let aim = Aim {
-        goal,
+        goal: goal_row(alloc, artery)?,
         limit: limit_of(&certificate.claim),
     };
     check_nodes(alloc, artery, &aim, certificate.nodes.as_slice())

@@ -28,20 +28,16 @@ impl Owed {
         ensures { IfOk result (λ owed. owed ≡ area ∷ []) }
     {
         let mut boxes = Vec::new(alloc);
-        match boxes.push(area) {
-            Ok(()) => Ok(Owed { boxes }),
-            Err(_) => Err(Memory),
-        }
+        boxes.push(area)?;
+        Ok(Owed { boxes })
     }
 
     /// Puts a box before all others. The error is want of memory.
     pub fn put(&mut self, area: SearchBox) -> Result<(), Memory>
         ensures { OnOk result (self.new ≡ area ∷ self.old) }
     {
-        match self.boxes.push(area) {
-            Ok(()) => Ok(()),
-            Err(_) => Err(Memory),
-        }
+        self.boxes.push(area)?;
+        Ok(())
     }
 
     /// Takes the next box, if there is one.

@@ -1,7 +1,10 @@
 //! Why a certificate is refused.
 
+ghost use Rattle.std.specs.Prelude.{◌≡◌, ◌↔◌, IsTrue};
+ghost use Rattle.certificate_checker.specs.declared.reject.Reject.TheVariants.{Memory};
+
 use named_row::{Place, RowId, WideAt};
-use narrow_fraction::Frac;
+use narrow_fraction::{Frac, Memory};
 use time_space::Failing;
 
 /// Why a certificate is not accepted. Nodes are counted from 1 in their order, and leaves from 1 among the leaves alone.
@@ -26,4 +29,31 @@ pub enum Reject {
     LeafTooWeak { leaf: u64, place: Place },
     /// Want of memory.
     Memory,
+}
+
+impl From<Memory> for Reject {
+    ghost from_gives = { λ _ reject. reject ≡ Memory };
+
+    fn from(_: Memory) -> Reject {
+        Reject::Memory
+    }
+}
+
+impl Reject {
+    /// Whether memory was wanting, so that nothing is said of the certificate.
+    pub fn is_memory(&self) -> bool
+        ensures { IsTrue result ↔ self.now ≡ Reject.Memory }
+    {
+        match self {
+            Reject::Memory => true,
+            Reject::TimingFails(_)
+            | Reject::ValueDiffers { .. }
+            | Reject::BoundBelow { .. }
+            | Reject::SplitOutside { .. }
+            | Reject::NoSuchRow { .. }
+            | Reject::Negative { .. }
+            | Reject::Wide { .. }
+            | Reject::LeafTooWeak { .. } => false,
+        }
+    }
 }

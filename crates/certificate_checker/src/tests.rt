@@ -125,7 +125,7 @@ fn best_timing(rt: HostRuntime) -> Result<(), Fail> {
 }
 
 #[test]
-fn another_value(rt: HostRuntime) -> Result<(), Fail> {
+fn another_value_is_refused(rt: HostRuntime) -> Result<(), Fail> {
     let alloc = rt.alloc();
     let claim = ["verdict best\nvalue 2/5\n", HALF_BAND];
     let answer = answer(alloc, &near(alloc)?, &claim, &WHOLE_TREE)?;
@@ -151,7 +151,7 @@ fn timing_of_another_artery(rt: HostRuntime) -> Result<(), Fail> {
 
 /// With reds of 80 the two rows of the link add up to 0 <= -1.
 #[test]
-fn no_timing(rt: HostRuntime) -> Result<(), Fail> {
+fn an_empty_root_proves_no_timing(rt: HostRuntime) -> Result<(), Fail> {
     let alloc = rt.alloc();
     let nodes = ["leaf 2\nloop_lo 1 1\nloop_hi 1 1\n"];
     let answer = answer(alloc, &artery(alloc, 80, 250)?, &["verdict none\n"], &nodes)?;
@@ -160,7 +160,7 @@ fn no_timing(rt: HostRuntime) -> Result<(), Fail> {
 }
 
 #[test]
-fn bounds(rt: HostRuntime) -> Result<(), Fail> {
+fn a_bound_below_the_value_is_refused(rt: HostRuntime) -> Result<(), Fail> {
     let alloc = rt.alloc();
     let near = near(alloc)?;
     let alone = ["verdict open\nbound 1/2\nno timing\n"];

@@ -49,17 +49,11 @@ fn split(
     ensures parts { OnOk result (owed.new ≡ low_part area.now place ∷ high_part area.now place ∷ owed.old) }
     ensures first { IfErr result (λ reject. IsFirst (split_refusal area.now number place) reject) }
 {
-    let (low, high) = match area.split(alloc, place) {
-        Ok(Some(parts)) => parts,
-        Ok(None) => return Err(Reject::SplitOutside { node: number }),
-        Err(Memory) => return Err(Reject::Memory),
+    let Some((low, high)) = area.split(alloc, place)? else {
+        return Err(Reject::SplitOutside { node: number });
     };
-    if owed.put(high).is_err() {
-        return Err(Reject::Memory);
-    }
-    if owed.put(low).is_err() {
-        return Err(Reject::Memory);
-    }
+    owed.put(high)?;
+    owed.put(low)?;
     Ok(())
 }
 
@@ -111,10 +105,7 @@ pub fn check_nodes(
     ensures first { IfErr result (λ reject. IsFirst (nodes_refusal artery.now aim.now.limit 0 0 (root_box artery.now ∷ []) (map node_of nodes.now)) reject) }
     ensures street { IsStreet artery.now }
 {
-    let mut walk = match start(alloc, artery) {
-        Ok(walk) => walk,
-        Err(Memory) => return Err(Reject::Memory),
-    };
+    let mut walk = start(alloc, artery)?;
     for (index, node) in nodes.iter().enumerate() {
         read(alloc, artery, aim, &mut walk, index as u64, node)?;
     }

@@ -16,6 +16,7 @@ mod stopped;
 
 pub use chart::diagram;
 pub use lines::report;
+pub use measures::dir_name;
 pub use names::{column_text, place_text, row_text};
 
 #[cfg(test)]

@@ -12,7 +12,7 @@ use Rattle.certificate_checker.specs.Laws.{RefusedIsNotAccepted, OneFirstRefusal
 use Rattle.certificate_checker.specs.declared.reject.Reject.{Reject}
 use Rattle.maxband.specs.Lines.{end_lines}
 use Rattle.maxband.specs.CheckLines.{accepted_line, rejected_line}
-use Rattle.maxband.specs.Turns.{certificate_limit, TurnEnds}
+use Rattle.maxband.specs.Inputs.{certificate_limit, InputEnds}
 use Rattle.maxband.specs.Check.{Accepts, Rejects}
 use Rattle.maxband.specs.Run.{CheckAnswers, IsReached}
 use Rattle.maxband.specs.declared.cause.Cause.{Cause}
@@ -27,7 +27,7 @@ module _ (held : List ℕ → Option (List ℕ)) (before after : List ℕ → �
   data Reached (c : Cause) (lines : List ℕ) : Type 0 where
     Accepted : (claim : Claim) → Accepts (held artery) (held certificate) claim → c ≡ cause.Done → lines ≡ accepted_line claim → Reached c lines
     Rejected : (signals : ℕ) (r : Reject) → Rejects (held artery) (held certificate) signals r → c ≡ cause.Rejected r → lines ≡ rejected_line signals r → Reached c lines
-    Ended : TurnEnds certificate_limit certificate_of held before after artery certificate c → lines ≡ end_lines artery certificate c → Reached c lines
+    Ended : InputEnds certificate_limit certificate_of held before after artery certificate c → lines ≡ end_lines artery certificate c → Reached c lines
 
   reached : (c : Cause) (lines : List ℕ) → CheckAnswers held before after artery certificate c lines → Reached c lines
   reached cause.Done lines h = Accepted h.0 h.1 refl h.2
@@ -45,8 +45,8 @@ module _ (held : List ℕ → Option (List ℕ)) (before after : List ℕ → �
     one_pair : (a b : Street) (v w : Warrant) → BothRead a v → BothRead b w → (a ≡ b) × (v ≡ w)
     one_pair = files.one_pair Warrant certificate_limit certificate_of reader held before after artery certificate told
 
-    turn_apart : (a : Street) (w : Warrant) (c : Cause) → IsReached c → BothRead a w → TurnEnds certificate_limit certificate_of held before after artery certificate c → ⊥
-    turn_apart = files.turn_apart Warrant certificate_limit certificate_of reader held before after artery certificate told
+    input_apart : (a : Street) (w : Warrant) (c : Cause) → IsReached c → BothRead a w → InputEnds certificate_limit certificate_of held before after artery certificate c → ⊥
+    input_apart = files.input_apart Warrant certificate_limit certificate_of reader held before after artery certificate told
 
     accepted_apart : (claim : Claim) (signals : ℕ) (r : Reject) → Accepts (held artery) (held certificate) claim → Rejects (held artery) (held certificate) signals r → ⊥
     accepted_apart claim signals r h k = let e = one_pair h.street k.street h.warrant k.warrant (accepted_both claim h) (rejected_both signals r k) in
@@ -67,15 +67,15 @@ module _ (held : List ℕ → Option (List ℕ)) (before after : List ℕ → �
     one_reached : (c d : Cause) (x y : List ℕ) → IsReached c → IsReached d → Reached c x → Reached d y → (c ≡ d) × (x ≡ y)
     one_reached c d x y n m (Accepted claim h i l) (Accepted other k j r) = (i ∙ sym j, l ∙ ap accepted_line (one_claim claim other h k) ∙ sym r)
     one_reached c d x y n m (Accepted claim h i l) (Rejected signals r k j e) = absurd (accepted_apart claim signals r h k)
-    one_reached c d x y n m (Accepted claim h i l) (Ended k r) = absurd (turn_apart h.street h.warrant d m (accepted_both claim h) k)
+    one_reached c d x y n m (Accepted claim h i l) (Ended k r) = absurd (input_apart h.street h.warrant d m (accepted_both claim h) k)
     one_reached c d x y n m (Rejected signals r k j e) (Accepted claim h i l) = absurd (accepted_apart claim signals r h k)
     one_reached c d x y n m (Rejected p r h i l) (Rejected q s k j e) = let same = one_refusal p q r s h k in let few = one_count p q r s h k in
         (i ∙ ap cause.Rejected same ∙ sym j, l ∙ (λ t. rejected_line (few t) (same t)) ∙ sym e)
-    one_reached c d x y n m (Rejected p r h i l) (Ended k e) = absurd (turn_apart h.street h.warrant d m (rejected_both p r h) k)
-    one_reached c d x y n m (Ended h l) (Accepted claim k j r) = absurd (turn_apart k.street k.warrant c n (accepted_both claim k) h)
-    one_reached c d x y n m (Ended h l) (Rejected p r k j e) = absurd (turn_apart k.street k.warrant c n (rejected_both p r k) h)
+    one_reached c d x y n m (Rejected p r h i l) (Ended k e) = absurd (input_apart h.street h.warrant d m (rejected_both p r h) k)
+    one_reached c d x y n m (Ended h l) (Accepted claim k j r) = absurd (input_apart k.street k.warrant c n (accepted_both claim k) h)
+    one_reached c d x y n m (Ended h l) (Rejected p r k j e) = absurd (input_apart k.street k.warrant c n (rejected_both p r k) h)
     one_reached c d x y n m (Ended h l) (Ended k r) =
-        let e = files.turn_once Warrant certificate_limit certificate_of reader held before after artery certificate told c d n m h k in (e, l ∙ ap (end_lines artery certificate) e ∙ sym r)
+        let e = files.input_once Warrant certificate_limit certificate_of reader held before after artery certificate told c d n m h k in (e, l ∙ ap (end_lines artery certificate) e ∙ sym r)
 
     pub checked_once : (c d : Cause) (x y : List ℕ) → IsReached c → IsReached d
         → CheckAnswers held before after artery certificate c x → CheckAnswers held before after artery certificate d y → (c ≡ d) × (x ≡ y)
@@ -92,5 +92,5 @@ module _ (held : List ℕ → Option (List ℕ)) (before after : List ℕ → �
       | Rejected signals r k i l ↦
           let e = one_pair a k.street w k.warrant b (rejected_both signals r k) in
           absurd (apart k.street k.warrant r k.first k.kept (subst (λ s. IsAccepted s k.warrant) e.0 (subst (λ v. IsAccepted a v) e.1 is)))
-      | Ended k l ↦ absurd (turn_apart a w d m b k)
+      | Ended k l ↦ absurd (input_apart a w d m b k)
     ]

@@ -1,9 +1,9 @@
--- A file's turn that ends the run, or a broken rule, is answered as it is.
+-- The reading of a file that ends the run, or a broken rule, is answered as it is.
 use Rattle.std.proofs.Common.{◌≡◌, ◌≢◌, ℕ, List, Option, None, Result, Ok, Err, inl, inr, refl, sym, ap, subst}
 use Rattle.std.specs.Prelude.{IfOk, option_map}
 use Rattle.narrow_fraction.specs.declared.memory.Memory.{Memory}
 use Rattle.maxband.specs.Lines.{end_lines}
-use Rattle.maxband.specs.Turns.{FirstEnds}
+use Rattle.maxband.specs.Inputs.{FirstEnds}
 use Rattle.maxband.specs.Hold.{HoldEnds}
 use Rattle.maxband.specs.Check.{CheckEnds}
 use Rattle.maxband.specs.Outside.{Text, text_of}

@@ -7,7 +7,7 @@ use Rattle.artery_model.specs.declared.kind.Refusal.{Refusal}
 use Rattle.description_reader.specs.Described as described
 use Rattle.description_reader.specs.Described.{RefusedAs}
 use Rattle.plan_text.specs.declared.fault.BadText.{BadText}
-use Rattle.maxband.specs.Turns.{text_limit, ReadsArtery, FirstEnds, ReadsText, SecondEnds, TurnEnds}
+use Rattle.maxband.specs.Inputs.{text_limit, ReadsArtery, FirstEnds, ReadsText, SecondEnds, InputEnds}
 use Rattle.maxband.specs.Run.{IsReached}
 use Rattle.maxband.specs.declared.cause.Cause.{Cause}
 use Rattle.maxband.specs.declared.cause.Cause.TheVariants as cause
@@ -111,16 +111,16 @@ module _ (T : Type 0) (limit : ℕ) (read : List ℕ → Result T BadText) where
   BothRead artery second a t = ReadsArtery artery a × ReadsText limit read second t
 
   module _ (reader : described.OneAnswer) (held : List ℕ → Option (List ℕ)) (before after : List ℕ → ℕ) (artery second : List ℕ) (told : IsSome (held artery) × IsSome (held second)) where
-    pub turn_once : (c d : Cause) → IsReached c → IsReached d → TurnEnds limit read held before after artery second c → TurnEnds limit read held before after artery second d → c ≡ d
-    turn_once c d n m (inl h) (inl k) = first_once reader (held artery) (before artery) (after artery) c d told.0 n m h k
-    turn_once c d n m (inl h) (inr k) = absurd (first_apart reader (held artery) (before artery) (after artery) k.0 c told.0 n k.1 h)
-    turn_once c d n m (inr h) (inl k) = absurd (first_apart reader (held artery) (before artery) (after artery) h.0 d told.0 m h.1 k)
-    turn_once c d n m (inr h) (inr k) = second_once (held second) (before second) (after second) c d told.1 n m h.2 k.2
+    pub input_once : (c d : Cause) → IsReached c → IsReached d → InputEnds limit read held before after artery second c → InputEnds limit read held before after artery second d → c ≡ d
+    input_once c d n m (inl h) (inl k) = first_once reader (held artery) (before artery) (after artery) c d told.0 n m h k
+    input_once c d n m (inl h) (inr k) = absurd (first_apart reader (held artery) (before artery) (after artery) k.0 c told.0 n k.1 h)
+    input_once c d n m (inr h) (inl k) = absurd (first_apart reader (held artery) (before artery) (after artery) h.0 d told.0 m h.1 k)
+    input_once c d n m (inr h) (inr k) = second_once (held second) (before second) (after second) c d told.1 n m h.2 k.2
 
-    -- where both files are read no turn ends the run
-    pub turn_apart : (a : Street) (t : T) (c : Cause) → IsReached c → BothRead (held artery) (held second) a t → TurnEnds limit read held before after artery second c → ⊥
-    turn_apart a t c n b (inl h) = first_apart reader (held artery) (before artery) (after artery) a c told.0 n b.0 h
-    turn_apart a t c n b (inr h) = second_apart (held second) (before second) (after second) t c told.1 n b.1 h.2
+    -- where both files are read no reading ends the run
+    pub input_apart : (a : Street) (t : T) (c : Cause) → IsReached c → BothRead (held artery) (held second) a t → InputEnds limit read held before after artery second c → ⊥
+    input_apart a t c n b (inl h) = first_apart reader (held artery) (before artery) (after artery) a c told.0 n b.0 h
+    input_apart a t c n b (inr h) = second_apart (held second) (before second) (after second) t c told.1 n b.1 h.2
 
     pub one_pair : (a b : Street) (t u : T) → BothRead (held artery) (held second) a t → BothRead (held artery) (held second) b u → (a ≡ b) × (t ≡ u)
     one_pair a b t u p q = (one_artery reader (held artery) a b told.0 p.0 q.0, one_read (held second) t u told.1 p.1 q.1)

@@ -12,7 +12,7 @@ use Rattle.time_space.specs.Failing.{FailsRulesOut}
 use Rattle.time_space.specs.FirstFailing.{OneFirst, IsFirstFailing}
 use Rattle.time_space.specs.declared.failing.Failing.{Failing}
 use Rattle.maxband.specs.Lines.{holds_lines, end_lines}
-use Rattle.maxband.specs.Turns.{text_limit, TurnEnds}
+use Rattle.maxband.specs.Inputs.{text_limit, InputEnds}
 use Rattle.maxband.specs.Run.{HoldAnswers, IsReached}
 use Rattle.maxband.specs.declared.cause.Cause.{Cause}
 use Rattle.maxband.specs.declared.cause.Cause.TheVariants as cause
@@ -26,7 +26,7 @@ module _ (held : List ℕ → Option (List ℕ)) (before after : List ℕ → �
   data Reached (c : Cause) (lines : List ℕ) : Type 0 where
     Good_one : (a : Street) (t : Plan) (v : ℚ) → BothRead a t → Good a t → v ≡ weighted_band a t → c ≡ cause.Done → lines ≡ holds_lines v → Reached c lines
     Broken : (a : Street) (t : Plan) (f : Failing) → BothRead a t → IsFirstFailing a t f → c ≡ cause.Fails f → lines ≡ end_lines artery timing c → Reached c lines
-    Ended : TurnEnds text_limit timing_of held before after artery timing c → lines ≡ end_lines artery timing c → Reached c lines
+    Ended : InputEnds text_limit timing_of held before after artery timing c → lines ≡ end_lines artery timing c → Reached c lines
 
   reached : (c : Cause) (lines : List ℕ) → HoldAnswers held before after artery timing c lines → Reached c lines
   reached cause.Done lines h = let p = h.1 in Good_one p.0 p.1 h.0 (p.2, p.3) p.4 p.5 refl h.2
@@ -38,8 +38,8 @@ module _ (held : List ℕ → Option (List ℕ)) (before after : List ℕ → �
     one_pair : (a b : Street) (t u : Plan) → BothRead a t → BothRead b u → (a ≡ b) × (t ≡ u)
     one_pair = files.one_pair Plan text_limit timing_of reader held before after artery timing told
 
-    turn_apart : (a : Street) (t : Plan) (c : Cause) → IsReached c → BothRead a t → TurnEnds text_limit timing_of held before after artery timing c → ⊥
-    turn_apart = files.turn_apart Plan text_limit timing_of reader held before after artery timing told
+    input_apart : (a : Street) (t : Plan) (c : Cause) → IsReached c → BothRead a t → InputEnds text_limit timing_of held before after artery timing c → ⊥
+    input_apart = files.input_apart Plan text_limit timing_of reader held before after artery timing told
 
     good_and_broken : (a b : Street) (t u : Plan) (f : Failing) → BothRead a t → BothRead b u → Good a t → IsFirstFailing b u f → ⊥
     good_and_broken a b t u f p q g h = let e = one_pair a b t u p q in
@@ -49,17 +49,17 @@ module _ (held : List ℕ → Option (List ℕ)) (before after : List ℕ → �
     one_reached c d x y n m (Good_one a t v p g e i l) (Good_one b u w q h f j k) = let s = one_pair a b t u p q in
         (i ∙ sym j, l ∙ ap holds_lines (e ∙ (λ r. weighted_band (s.0 r) (s.1 r)) ∙ sym f) ∙ sym k)
     one_reached c d x y n m (Good_one a t v p g e i l) (Broken b u f q h j k) = absurd (good_and_broken a b t u f p q g h)
-    one_reached c d x y n m (Good_one a t v p g e i l) (Ended h k) = absurd (turn_apart a t d m p h)
+    one_reached c d x y n m (Good_one a t v p g e i l) (Ended h k) = absurd (input_apart a t d m p h)
     one_reached c d x y n m (Broken a t f p h i l) (Good_one b u w q g e j k) = absurd (good_and_broken b a u t f q p g h)
     one_reached c d x y n m (Broken a t f p h i l) (Broken b u g q k j r) = let s = one_pair a b t u p q in
         let same = one_first b u f g (subst (λ z. IsFirstFailing z u f) s.0 (subst (λ z. IsFirstFailing a z f) s.1 h)) k in
         let e : c ≡ d = i ∙ ap cause.Fails same ∙ sym j in
         (e, l ∙ ap (end_lines artery timing) e ∙ sym r)
-    one_reached c d x y n m (Broken a t f p h i l) (Ended k r) = absurd (turn_apart a t d m p k)
-    one_reached c d x y n m (Ended h l) (Good_one b u w q g e j k) = absurd (turn_apart b u c n q h)
-    one_reached c d x y n m (Ended h l) (Broken b u f q k j r) = absurd (turn_apart b u c n q h)
+    one_reached c d x y n m (Broken a t f p h i l) (Ended k r) = absurd (input_apart a t d m p k)
+    one_reached c d x y n m (Ended h l) (Good_one b u w q g e j k) = absurd (input_apart b u c n q h)
+    one_reached c d x y n m (Ended h l) (Broken b u f q k j r) = absurd (input_apart b u c n q h)
     one_reached c d x y n m (Ended h l) (Ended k r) =
-        let e = files.turn_once Plan text_limit timing_of reader held before after artery timing told c d n m h k in (e, l ∙ ap (end_lines artery timing) e ∙ sym r)
+        let e = files.input_once Plan text_limit timing_of reader held before after artery timing told c d n m h k in (e, l ∙ ap (end_lines artery timing) e ∙ sym r)
 
     pub held_once : (c d : Cause) (x y : List ℕ) → IsReached c → IsReached d → HoldAnswers held before after artery timing c x → HoldAnswers held before after artery timing d y → (c ≡ d) × (x ≡ y)
     held_once c d x y n m h k = one_reached c d x y n m (reached c x h) (reached d y k)

@@ -1,9 +1,9 @@
--- The end of the second file's turn, said of what stood at entry.
+-- Why the second file isn't read, said of what stood at entry.
 use Rattle.std.proofs.Common.{◌≡◌, ℕ, ◌≤◌, List, Option, Result, inl, inr, subst, arith}
 use Rattle.plan_text.specs.Reading.{timing_of}
 use Rattle.plan_text.specs.declared.fault.BadText.{BadText}
 use Rattle.outer_edge.specs.Counts.{Rose}
-use Rattle.maxband.specs.Turns.{text_limit, NotRead, SecondEnds, TurnEnds}
+use Rattle.maxband.specs.Inputs.{text_limit, NotRead, SecondEnds, InputEnds}
 use Rattle.maxband.specs.Hold.{HoldEnds}
 use Rattle.maxband.specs.declared.cause.Cause.{Cause}
 use Rattle.maxband.specs.declared.cause.Cause.TheVariants as cause
@@ -40,9 +40,9 @@ second_later limit read held now a b n (cause.Rejected r) e h k = absurd k
 second_later limit read held now a b n cause.Words e h k = absurd k
 second_later limit read held now a b n cause.WriteFault e h k = absurd k
 
--- a turn that ends the run of `hold`
+-- a reading that ends the run of `hold`
 pub hold_ends : (held : List ℕ → Option (List ℕ)) (before after : List ℕ → ℕ) (artery timing : List ℕ) (c : Cause)
-    → TurnEnds text_limit timing_of held before after artery timing c → HoldEnds held before after artery timing c
+    → InputEnds text_limit timing_of held before after artery timing c → HoldEnds held before after artery timing c
 hold_ends held before after artery timing (cause.Fails f) h = absurd (elim h [ inl k ↦ k | inr k ↦ k.2 ])
 hold_ends held before after artery timing cause.Done h = h
 hold_ends held before after artery timing cause.NoTiming h = h

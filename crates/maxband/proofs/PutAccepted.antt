@@ -10,7 +10,7 @@ use Rattle.certificate_checker.specs.Laws.{RefusedIsNotAccepted, OneFirstRefusal
 use Rattle.branch_tree.specs.Certified.{warrant_of}
 use Rattle.maxband.specs.Command.{Form, Check, Solve}
 use Rattle.maxband.specs.Outside.{Outside, Text, IsPut, IsDone}
-use Rattle.maxband.specs.Turns.{certificate_limit, ReadsArtery, ReadsCertificate}
+use Rattle.maxband.specs.Inputs.{certificate_limit, ReadsArtery, ReadsCertificate}
 use Rattle.maxband.specs.Searched.{IsTextOf}
 use Rattle.maxband.specs.Run.{SolveFinds, SolveAnswers, Answers, Ends, IsReached, IsVerdict, PutIsAccepted}
 use Rattle.maxband.specs.declared.cause.Cause.{Cause}

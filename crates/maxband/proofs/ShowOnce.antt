@@ -5,7 +5,7 @@ use Rattle.progression.specs.Street.{Street}
 use Rattle.description_reader.specs.Described as described
 use Rattle.description_reader.specs.Printed.{IsPrinted, IsCanonicalText, OneText}
 use Rattle.maxband.specs.Lines.{end_lines}
-use Rattle.maxband.specs.Turns.{ReadsArtery, FirstEnds}
+use Rattle.maxband.specs.Inputs.{ReadsArtery, FirstEnds}
 use Rattle.maxband.specs.Run.{ShowAnswers, IsReached}
 use Rattle.maxband.specs.declared.cause.Cause.{Cause}
 use Rattle.maxband.specs.declared.cause.Cause.TheVariants as cause

@@ -7,7 +7,7 @@ use Rattle.outer_edge.specs.Counts.{Rose}
 use Rattle.maxband.specs.Lines.{end_lines}
 use Rattle.maxband.specs.Command.{Solve}
 use Rattle.maxband.specs.Outside.{Outside, Text, IsBroken}
-use Rattle.maxband.specs.Turns.{ReadsArtery, FirstEnds}
+use Rattle.maxband.specs.Inputs.{ReadsArtery, FirstEnds}
 use Rattle.maxband.specs.Run.{SolveAnswers, Agree, IsReached, IsVerdict, SolveIsComplete}
 use Rattle.maxband.specs.declared.cause.Cause.{Cause}
 use Rattle.maxband.specs.declared.cause.Cause.TheVariants as cause

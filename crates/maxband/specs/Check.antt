@@ -9,7 +9,7 @@ use Rattle.certificate_checker.specs.Claims as claims
 use Rattle.certificate_checker.specs.Refusals.{IsFirstRefusal}
 use Rattle.certificate_checker.specs.declared.reject.Reject.{Reject}
 use Rattle.certificate_checker.specs.declared.reject.Reject.TheVariants.{Memory}
-use Rattle.maxband.specs.Turns.{certificate_limit, ReadsArtery, ReadsCertificate, TurnEnds}
+use Rattle.maxband.specs.Inputs.{certificate_limit, ReadsArtery, ReadsCertificate, InputEnds}
 use Rattle.maxband.specs.declared.cause.Cause.{Cause}
 use Rattle.maxband.specs.declared.check.Verdict.{Verdict}
 use Rattle.maxband.specs.declared.check.Verdict.TheVariants.{Accepted, Rejected}
@@ -42,4 +42,4 @@ Finds artery certificate (Rejected signals reject) = Rejects artery certificate 
 
 -- why a run of `check` ends without that
 abbrev pub CheckEnds : (List ℕ → Option (List ℕ)) → (List ℕ → ℕ) → (List ℕ → ℕ) → List ℕ → List ℕ → Cause → Type 0
-CheckEnds held before after artery certificate c = TurnEnds certificate_limit certificate_of held before after artery certificate c
+CheckEnds held before after artery certificate c = InputEnds certificate_limit certificate_of held before after artery certificate c

@@ -7,7 +7,7 @@ use Rattle.progression.specs.Good.{Good}
 use Rattle.progression.specs.Best.{weighted_band}
 use Rattle.plan_text.specs.Reading.{timing_of}
 use Rattle.time_space.specs.FirstFailing.{IsFirstFailing}
-use Rattle.maxband.specs.Turns.{text_limit, ReadsArtery, ReadsTiming, TurnEnds}
+use Rattle.maxband.specs.Inputs.{text_limit, ReadsArtery, ReadsTiming, InputEnds}
 use Rattle.maxband.specs.declared.cause.Cause.{Cause}
 use Rattle.maxband.specs.declared.cause.Cause.TheVariants as cause
 
@@ -19,4 +19,4 @@ Holds artery timing value = (a : Street) × (t : Plan) × ReadsArtery artery a �
 abbrev pub HoldEnds : (List ℕ → Option (List ℕ)) → (List ℕ → ℕ) → (List ℕ → ℕ) → List ℕ → List ℕ → Cause → Type 0
 HoldEnds held before after artery timing (cause.Fails f) =
     (a : Street) × (t : Plan) × ReadsArtery (held artery) a × ReadsTiming (held timing) t × IsFirstFailing a t f
-HoldEnds held before after artery timing c = TurnEnds text_limit timing_of held before after artery timing c
+HoldEnds held before after artery timing c = InputEnds text_limit timing_of held before after artery timing c

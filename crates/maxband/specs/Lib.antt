@@ -4,7 +4,7 @@ pub mod Status
 pub mod Outside
 pub mod Lines
 pub mod CheckLines
-pub mod Turns
+pub mod Inputs
 pub mod Hold
 pub mod Show
 pub mod Check

@@ -4,7 +4,6 @@ use Rattle.std.specs.Fmt.{decimal, signed_decimal}
 use Rattle.ratio.specs.Rational.{ℚ}
 use Rattle.quantity_text.specs.Exact.{exact_spelling}
 use Rattle.progression.specs.declared.parts.Dir.{Dir}
-use Rattle.progression.specs.declared.parts.Dir.TheVariants.{Outbound, Inbound}
 use Rattle.artery_model.specs.declared.kind.Kind.{Kind}
 use Rattle.artery_model.specs.declared.kind.Kind.TheVariants as kind
 use Rattle.artery_model.specs.declared.kind.Refusal.{Refusal}
@@ -13,6 +12,7 @@ use Rattle.plan_text.specs.declared.fault.TextFault.TheVariants.{Ended, Shape, N
 use Rattle.plan_text.specs.declared.fault.BadText.{BadText}
 use Rattle.time_space.specs.declared.failing.Failing.{Failing}
 use Rattle.time_space.specs.declared.failing.Failing.TheVariants as failing
+use Rattle.diagram_print.specs.Measures.{dir_name}
 use Rattle.maxband.specs.declared.cause.Cause.{Cause}
 use Rattle.maxband.specs.declared.cause.Cause.TheVariants as cause
 
@@ -35,10 +35,6 @@ fault_name Ended = codes "Ended"
 fault_name Shape = codes "Shape"
 fault_name Number = codes "Number"
 fault_name Order = codes "Order"
-
-abbrev pub dir_name : Dir → List ℕ
-dir_name Outbound = codes "out"
-dir_name Inbound = codes "in"
 
 abbrev pub link_text : List ℕ → Dir → ℕ → List ℕ
 link_text rule d i = rule ++ (codes " " ++ (dir_name d ++ (codes " link " ++ decimal i)))
@@ -81,7 +77,7 @@ holds_lines value = codes "holds\nweighted " ++ (exact_spelling value ++ codes "
 abbrev pub named : ℕ → List ℕ → List ℕ → List ℕ
 named file first second = if file == 1 then first else second
 
--- the lines where a rule is broken or a file's turn ends the run
+-- the lines where a rule is broken or the reading of a file ends the run
 abbrev pub end_lines : List ℕ → List ℕ → Cause → List ℕ
 end_lines first second (cause.Refused r) = refused_line r
 end_lines first second (cause.BadText b) = bad_text_line b

@@ -11,7 +11,7 @@ use Rattle.maxband.specs.Outside.{Outside, Text, IsDone, IsUntouched, IsBroken}
 use Rattle.maxband.specs.Command.{Form, Hold, Show, Check, Solve, Make, Trial}
 use Rattle.maxband.specs.Lines.{words_line, holds_lines, end_lines}
 use Rattle.maxband.specs.CheckLines.{accepted_line, rejected_line}
-use Rattle.maxband.specs.Turns.{certificate_limit, ReadsArtery, FirstEnds}
+use Rattle.maxband.specs.Inputs.{certificate_limit, ReadsArtery, FirstEnds}
 use Rattle.maxband.specs.Hold.{Holds, HoldEnds}
 use Rattle.maxband.specs.Show.{Shows}
 use Rattle.maxband.specs.Check.{Accepts, Rejects, CheckEnds}

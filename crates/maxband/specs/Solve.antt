@@ -4,7 +4,7 @@ use Rattle.progression.specs.Street.{Street}
 use Rattle.branch_tree.specs.declared.found.Found.{Found}
 use Rattle.branch_tree.specs.Certified.{warrant_of}
 use Rattle.diagram_print.specs.Report.{report_lines}
-use Rattle.maxband.specs.Turns.{ReadsArtery}
+use Rattle.maxband.specs.Inputs.{ReadsArtery}
 use Rattle.maxband.specs.Searched.{cause_of, IsSearched, IsTextOf}
 use Rattle.maxband.specs.declared.cause.Cause.{Cause}
 

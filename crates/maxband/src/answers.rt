@@ -33,7 +33,7 @@ pub struct Answer<'a> {
     pub put: Option<Put<'a>>,
 }
 
-/// The lines where the timing breaks a rule or a file's turn ends the run.
+/// The lines where the timing breaks a rule or the reading of a file ends the run.
 fn end_lines(alloc: Global, first: &str, second: &str, cause: &Cause) -> Result<String, AllocError>
     ensures { IfOk result (λ text. string_bytes text ≡ end_lines first.now second.now cause.now) }
 {
@@ -73,8 +73,8 @@ fn told(cause: Cause, lines: Vec<u8>) -> Answer<'static>
     }
 }
 
-/// The answer where the timing breaks a rule or a file's turn ends the run. The error is want of memory, also where that is why
-/// the run ends.
+/// The answer where the timing breaks a rule or the reading of a file ends the run. The error is want of memory, also where
+/// that is why the run ends.
 fn ended(alloc: Global, first: &str, second: &str, cause: Cause) -> Result<Answer<'static>, Memory>
     ensures told { IfOk result (λ a. (a.cause ≡ cause) × (cause ≢ Cause.Memory) × (a.lines.items ≡ end_lines first.now second.now cause)) }
     ensures no_put { IfOk result (λ a. a.put ≡ None) }

@@ -1,12 +1,12 @@
 //! The command `check`.
 
-ghost use Rattle.std.specs.Prelude.{◌≡◌, ◌↔◌, IsTrue, IfOk, IfErr};
+ghost use Rattle.std.specs.Prelude.{◌≡◌, IfOk, IfErr};
 ghost use Rattle.outer_edge.specs.Counts.{NoneFell, SameCounts};
 ghost use Rattle.outer_edge.specs.Held.{SameFiles};
 ghost use Rattle.maxband.specs.Check.{Finds, CheckEnds};
 
 use crate::cause::Cause;
-use crate::turns::{artery_of, certificate_of};
+use crate::inputs::{artery_of, certificate_of};
 use certificate_checker::Reject;
 use outer_edge::Files;
 use plan_text::Claim;
@@ -19,23 +19,6 @@ pub enum Verdict {
     Accepted(Claim),
     /// It is refused on an artery with so many signals: the first refusal, which is never want of memory.
     Rejected { signals: u32, reject: Reject },
-}
-
-/// Whether memory was wanting.
-pub fn is_memory(reject: &Reject) -> bool
-    ensures { IsTrue result ↔ reject.now ≡ Reject.Memory }
-{
-    match reject {
-        Reject::Memory => true,
-        Reject::TimingFails(_)
-        | Reject::ValueDiffers { .. }
-        | Reject::BoundBelow { .. }
-        | Reject::SplitOutside { .. }
-        | Reject::NoSuchRow { .. }
-        | Reject::Negative { .. }
-        | Reject::Wide { .. }
-        | Reject::LeafTooWeak { .. } => false,
-    }
 }
 
 /// Checks the certificate of the second file for the artery of the first.
@@ -56,7 +39,7 @@ pub fn check<F: Files>(
     match certificate_checker::check(alloc, &artery, &certificate) {
         Ok(()) => Ok(Verdict::Accepted(certificate.claim)),
         Err(reject) => {
-            if is_memory(&reject) {
+            if reject.is_memory() {
                 return Err(Cause::Memory);
             }
             let signals = artery.count();

@@ -3,34 +3,35 @@
 ghost use Rattle.std.specs.Prelude.{◌≡◌, IfOk, string_bytes};
 ghost use Rattle.maxband.specs.CheckLines.{best_line, bound_line, between_line, open_line, accepted_line, leaf_line, wide_line, value_line, below_line, weak_line, timing_line, rejected_line};
 
-use crate::lines::{exact, failing_text};
+use crate::lines::failing_text;
 use certificate_checker::Reject;
 use diagram_print::{place_text, row_text};
 use named_row::{Place, RowId};
 use narrow_fraction::Frac;
 use plan_text::Claim;
+use quantity_text::exact_string;
 use std::alloc::{AllocError, Global};
 use time_space::Failing;
 
 fn best_line(alloc: Global, value: Frac) -> Result<String, AllocError>
     ensures { IfOk result (λ text. string_bytes text ≡ best_line value) }
 {
-    let value = exact(alloc, value)?;
+    let value = exact_string(alloc, value)?;
     format!(in alloc; "accepted best {value}\n")
 }
 
 fn bound_line(alloc: Global, bound: Frac) -> Result<String, AllocError>
     ensures { IfOk result (λ text. string_bytes text ≡ bound_line bound) }
 {
-    let bound = exact(alloc, bound)?;
+    let bound = exact_string(alloc, bound)?;
     format!(in alloc; "accepted open bound {bound}\n")
 }
 
 fn between_line(alloc: Global, bound: Frac, value: Frac) -> Result<String, AllocError>
     ensures { IfOk result (λ text. string_bytes text ≡ between_line bound value) }
 {
-    let bound = exact(alloc, bound)?;
-    let value = exact(alloc, value)?;
+    let bound = exact_string(alloc, bound)?;
+    let value = exact_string(alloc, value)?;
     format!(in alloc; "accepted open bound {bound} value {value}\n")
 }
 
@@ -58,16 +59,16 @@ pub fn accepted_line(alloc: Global, claim: Claim) -> Result<String, AllocError>
 fn value_line(alloc: Global, kept: Frac, claimed: Frac) -> Result<String, AllocError>
     ensures { IfOk result (λ text. string_bytes text ≡ value_line kept claimed) }
 {
-    let kept = exact(alloc, kept)?;
-    let claimed = exact(alloc, claimed)?;
+    let kept = exact_string(alloc, kept)?;
+    let claimed = exact_string(alloc, claimed)?;
     format!(in alloc; "rejected value kept {kept} claimed {claimed}\n")
 }
 
 fn below_line(alloc: Global, bound: Frac, value: Frac) -> Result<String, AllocError>
     ensures { IfOk result (λ text. string_bytes text ≡ below_line bound value) }
 {
-    let bound = exact(alloc, bound)?;
-    let value = exact(alloc, value)?;
+    let bound = exact_string(alloc, bound)?;
+    let value = exact_string(alloc, value)?;
     format!(in alloc; "rejected bound {bound} value {value}\n")
 }
 

@@ -1,4 +1,4 @@
-//! Files for tests, one of which has an end.
+//! Files for tests: those that are told, and without an end each other one.
 
 ghost use Rattle.std.specs.Prelude.{◌-◌, ◌^◌, None};
 

@@ -4,7 +4,7 @@ ghost use Rattle.std.specs.Prelude.{◌≡◌, ◌≤◌, IsErrOf, IsNone, OnOk,
 ghost use Rattle.outer_edge.specs.Counts.{SameCounts};
 ghost use Rattle.maxband.specs.Outside.{outside, text_of, IsDone, IsUntouched, IsBroken, OthersKept, PutsCounted};
 
-use outer_edge::{FileEnd, Files, Sink, write_whole};
+use outer_edge::{Failed, FileEnd, Files, Sink, write_whole};
 
 /// A text that is to be put into the file of this name.
 #[derive(Drop)]
@@ -55,6 +55,6 @@ pub fn deliver<F: Files, K: Sink>(
     }
     match write_whole(out, lines) {
         Ok(()) => Ok(()),
-        Err(_) => Err(Undelivered::Broken),
+        Err(Failed) => Err(Undelivered::Broken),
     }
 }

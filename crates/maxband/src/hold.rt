@@ -6,7 +6,7 @@ ghost use Rattle.outer_edge.specs.Held.{SameFiles};
 ghost use Rattle.maxband.specs.Hold.{Holds, HoldEnds};
 
 use crate::cause::Cause;
-use crate::turns::{artery_of, timing_of};
+use crate::inputs::{artery_of, timing_of};
 use narrow_fraction::Frac;
 use outer_edge::Files;
 use std::alloc::Global;

@@ -1,25 +1,15 @@
 //! The lines of each answer.
 
 ghost use Rattle.std.specs.Prelude.{◌≡◌, IfOk, string_bytes};
-ghost use Rattle.quantity_text.specs.Exact.{exact_spelling};
-ghost use Rattle.maxband.specs.Lines.{kind_name, fault_name, dir_name, link_text, failing_text, fails_line, refused_line, bad_text_line, words_line, cannot_read_line, too_long_line, holds_lines};
+ghost use Rattle.maxband.specs.Lines.{kind_name, fault_name, link_text, failing_text, fails_line, refused_line, bad_text_line, words_line, cannot_read_line, too_long_line, holds_lines};
 
 use artery_model::{Dir, Kind, Refusal};
+use diagram_print::dir_name;
 use narrow_fraction::Frac;
 use plan_text::{BadText, TextFault};
 use quantity_text::exact_string;
 use std::alloc::{AllocError, Global};
 use time_space::Failing;
-
-/// The exact text of a fraction.
-pub fn exact(alloc: Global, value: Frac) -> Result<String, AllocError>
-    ensures { IfOk result (λ text. string_bytes text ≡ exact_spelling value) }
-{
-    match exact_string(alloc, value) {
-        Ok(text) => Ok(text),
-        Err(_) => Err(AllocError),
-    }
-}
 
 /// The printed name of a kind of refusal.
 fn kind_name(kind: Kind) -> &'static str
@@ -50,15 +40,6 @@ fn fault_name(fault: TextFault) -> &'static str
         TextFault::Shape => "Shape",
         TextFault::Number => "Number",
         TextFault::Order => "Order",
-    }
-}
-
-fn dir_name(dir: Dir) -> &'static str
-    ensures { result.now ≡ dir_name dir }
-{
-    match dir {
-        Dir::Outbound => "out",
-        Dir::Inbound => "in",
     }
 }
 
@@ -144,6 +125,6 @@ pub fn too_long_line(alloc: Global, name: &str) -> Result<String, AllocError>
 pub fn holds_lines(alloc: Global, value: Frac) -> Result<String, AllocError>
     ensures { IfOk result (λ text. string_bytes text ≡ holds_lines value) }
 {
-    let value = exact(alloc, value)?;
+    let value = exact_string(alloc, value)?;
     format!(in alloc; "holds\nweighted {value}\n")
 }

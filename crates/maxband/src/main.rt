@@ -18,6 +18,7 @@ mod command;
 mod endless;
 mod finish;
 mod hold;
+mod inputs;
 mod lines;
 mod make;
 mod numbers;
@@ -36,7 +37,6 @@ mod top;
 mod trial;
 #[cfg(test)]
 mod trial_tests;
-mod turns;
 #[cfg(test)]
 mod width_tests;
 
@@ -54,19 +54,21 @@ pub use top::{
 const NO_WORDS: u8 = 12;
 
 /// The status for want of memory.
-const NO_MEMORY: u8 = 8;
+fn no_memory() -> u8 {
+    Cause::Memory.number()
+}
 
 /// The words after the program's name, or the status to end with.
 fn words<R: env::Env + AllocGlobal>(rt: &R) -> Result<Vec<String>, u8> {
     let args = match env::args(rt) {
         Ok(args) => args,
-        Err(error) if error.kind() == ErrorKind::OutOfMemory => return Err(NO_MEMORY),
+        Err(error) if error.kind() == ErrorKind::OutOfMemory => return Err(no_memory()),
         Err(_) => return Err(NO_WORDS),
     };
     let mut words = Vec::new(rt.alloc());
     for word in args.skip(1) {
         if words.push(word).is_err() {
-            return Err(NO_MEMORY);
+            return Err(no_memory());
         }
     }
     Ok(words)
@@ -79,7 +81,7 @@ fn main(rt: HostRuntime) -> ExitCode {
     };
     let alloc = rt.alloc();
     let (Ok(mut files), Ok(mut out)) = (RealFiles::new(&rt, alloc), RealOut::new(&rt, alloc)) else {
-        return ExitCode::from(NO_MEMORY);
+        return ExitCode::from(no_memory());
     };
     ExitCode::from(run(alloc, words.as_slice(), &mut files, &mut out).number)
 }

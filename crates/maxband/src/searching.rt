@@ -8,7 +8,6 @@ ghost use Rattle.branch_tree.specs.Certified.{warrant_of};
 ghost use Rattle.maxband.specs.Searched.{IsSearched, IsTextOf, cause_of};
 
 use crate::cause::Cause;
-use crate::check::is_memory;
 use artery_model::Artery;
 use branch_tree::{Found, Verdict, certificate_of, search};
 use certificate_checker::{check, law_accepted_or_refused};
@@ -43,7 +42,7 @@ fn confirm(alloc: Global, artery: &Artery, certificate: &Certificate) -> Result<
     match check(alloc, artery, certificate) {
         Ok(()) => Ok(()),
         Err(reject) => {
-            if !is_memory(&reject) {
+            if !reject.is_memory() {
                 law_accepted_or_refused();
                 unreachable!()
             }

@@ -3,12 +3,13 @@
 ghost use Rattle.std.specs.Prelude.{IfOk, IfErr};
 ghost use Rattle.outer_edge.specs.Counts.{NoneFell, SameCounts};
 ghost use Rattle.outer_edge.specs.Held.{SameFiles};
-ghost use Rattle.maxband.specs.Turns.{FirstEnds};
+ghost use Rattle.maxband.specs.Inputs.{FirstEnds};
 ghost use Rattle.maxband.specs.Show.{Shows};
 
 use crate::cause::Cause;
-use crate::turns::artery_of;
+use crate::inputs::artery_of;
 use description_reader::print_artery;
+use narrow_fraction::Memory;
 use outer_edge::Files;
 use std::alloc::Global;
 
@@ -23,6 +24,6 @@ pub fn show<F: Files>(alloc: Global, files: &mut F, artery: &str) -> Result<Vec<
     let artery = artery_of(alloc, files, artery)?;
     match print_artery(alloc, &artery) {
         Ok(text) => Ok(text),
-        Err(_) => Err(Cause::Memory),
+        Err(Memory) => Err(Cause::Memory),
     }
 }

@@ -3,12 +3,12 @@
 ghost use Rattle.std.specs.Prelude.{◌≤◌, IfOk, IfErr};
 ghost use Rattle.outer_edge.specs.Counts.{NoneFell, SameCounts};
 ghost use Rattle.outer_edge.specs.Held.{SameFiles};
-ghost use Rattle.maxband.specs.Turns.{FirstEnds};
+ghost use Rattle.maxband.specs.Inputs.{FirstEnds};
 ghost use Rattle.maxband.specs.Solve.{IsSolution, Solves};
 
 use crate::cause::Cause;
+use crate::inputs::artery_of;
 use crate::searching::{Searched, cause_of, search_and_check};
-use crate::turns::artery_of;
 use artery_model::Artery;
 use diagram_print::report;
 use narrow_fraction::Memory;

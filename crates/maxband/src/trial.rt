@@ -4,10 +4,10 @@ ghost use Rattle.std.specs.Prelude.{◌≡◌, ◌≤◌, IfOk, string_bytes};
 ghost use Rattle.maxband.specs.Trial.{best_lines, bound_lines, between_lines, open_lines, claim_lines, trial_lines, IsTrial};
 
 use crate::cause::Cause;
-use crate::lines::exact;
 use crate::searching::{cause_of, search_and_check};
 use narrow_fraction::{Frac, Memory};
 use plan_text::Claim;
+use quantity_text::exact_string;
 use std::alloc::{AllocError, Global};
 use workload_maker::make_artery;
 
@@ -21,22 +21,22 @@ pub struct Tried {
 fn best_lines(alloc: Global, value: Frac) -> Result<String, AllocError>
     ensures { IfOk result (λ text. string_bytes text ≡ best_lines value) }
 {
-    let value = exact(alloc, value)?;
+    let value = exact_string(alloc, value)?;
     format!(in alloc; "verdict best\nweighted {value}\n")
 }
 
 fn bound_lines(alloc: Global, bound: Frac) -> Result<String, AllocError>
     ensures { IfOk result (λ text. string_bytes text ≡ bound_lines bound) }
 {
-    let bound = exact(alloc, bound)?;
+    let bound = exact_string(alloc, bound)?;
     format!(in alloc; "verdict open\nbound {bound}\n")
 }
 
 fn between_lines(alloc: Global, bound: Frac, value: Frac) -> Result<String, AllocError>
     ensures { IfOk result (λ text. string_bytes text ≡ between_lines bound value) }
 {
-    let bound = exact(alloc, bound)?;
-    let value = exact(alloc, value)?;
+    let bound = exact_string(alloc, bound)?;
+    let value = exact_string(alloc, value)?;
     format!(in alloc; "verdict open\nweighted {value}\nbound {bound}\n")
 }
 

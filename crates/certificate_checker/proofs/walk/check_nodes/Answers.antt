@@ -7,7 +7,7 @@ use Rattle.certificate_checker.proofs.walk.check_nodes.Goals as goal
 
 pub returns-in_err-read-clause-first : goal.returns-in_err-read-clause-first
 returns-in_err-read-clause-first c =
-    let p = err_from_is_err_and c.from_residual.result c.from_residual.ensures.1 in
+    let p = err_from_is_err_and c.from_residual-in_err-read.result c.from_residual-in_err-read.ensures.1 in
     let left = node_left c.args.nodes.now c.loop-index.index c.index-nodes-index.result (omega (arith, c.loop-index-test.true)) c.index-nodes-index.is in
     rw (p.1, p.2)
     (first_moved _ _ _

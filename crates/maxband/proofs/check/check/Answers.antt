@@ -2,7 +2,7 @@ use Rattle.std.proofs.Common.{ap, subst, inr}
 use Rattle.std.proofs.lemmas.Result.{err_from_is_err_and}
 use Rattle.plan_text.specs.Warrants.{Warrant}
 use Rattle.plan_text.specs.CertificateReading.{certificate_of}
-use Rattle.maxband.specs.Turns.{certificate_limit, ReadsCertificate}
+use Rattle.maxband.specs.Inputs.{certificate_limit, ReadsCertificate}
 use Rattle.maxband.proofs.Later.{second_later}
 use Rattle.maxband.proofs.check.check.Goals as goal
 

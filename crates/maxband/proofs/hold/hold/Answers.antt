@@ -1,7 +1,7 @@
 use Rattle.std.proofs.Common.{subst, inr}
 use Rattle.std.proofs.lemmas.Result.{err_from_is_err_and}
 use Rattle.plan_text.specs.Reading.{timing_of}
-use Rattle.maxband.specs.Turns.{text_limit, ReadsTiming}
+use Rattle.maxband.specs.Inputs.{text_limit, ReadsTiming}
 use Rattle.maxband.proofs.Later.{second_later, hold_ends}
 use Rattle.maxband.proofs.hold.hold.Goals as goal
 

@@ -1,4 +1,4 @@
--- The turns of a command's files, one after the other. What a file holds is a function of its name, with the bytes where they are told.
+-- The files that a command reads, one after the other. What a file holds is a function of its name, with the bytes where they are told.
 use Rattle.std.specs.Prelude.{◌≡◌, ◌⊎◌, ℕ, ◌<◌, ◌≤◌, List, length, Option, IfSome, Result, Ok, Err}
 use Rattle.outer_edge.specs.Counts.{Rose}
 use Rattle.progression.specs.Street.{Street}
@@ -28,7 +28,7 @@ pub record IsWithinLimit (limit : ℕ) (held : Option (List ℕ)) (bytes : List 
 abbrev pub HasBytes : ℕ → Option (List ℕ) → (List ℕ → Type 0) → Type 0
 HasBytes limit held p = (bytes : List ℕ) × IsWithinLimit limit held bytes × p bytes
 
--- Why a file whose turn it is, the first or the second, isn't read. One that is too long has more bytes than the limit, where it tells them.
+-- Why a file, the first or the second, isn't read. One that is too long has more bytes than the limit, where it tells them.
 abbrev pub NotRead : ℕ → Option (List ℕ) → ℕ → ℕ → ℕ → Cause → Type 0
 NotRead limit held before after file (cause.ReadFault f) = (f ≡ file) × Rose before after
 NotRead limit held before after file (cause.TooLong f) = (f ≡ file) × IfSome held (λ x. limit < length x)
@@ -40,7 +40,7 @@ NotRead limit held before after file _ = ⊥
 abbrev pub ReadsArtery : Option (List ℕ) → Street → Type 0
 ReadsArtery held a = HasBytes text_limit held (λ bytes. Described bytes a)
 
--- why the turn of the first file ends the run
+-- why the reading of the first file ends the run
 abbrev pub FirstEnds : Option (List ℕ) → ℕ → ℕ → Cause → Type 0
 FirstEnds held before after (cause.Refused r) = HasBytes text_limit held (λ bytes. RefusedAs bytes (fault_of r))
 FirstEnds held before after c = NotRead text_limit held before after 1 c
@@ -50,7 +50,7 @@ FirstEnds held before after c = NotRead text_limit held before after 1 c
 abbrev pub ReadsText : {T : Type 0} → ℕ → (List ℕ → Result T BadText) → Option (List ℕ) → T → Type 0
 ReadsText limit read held t = HasBytes limit held (λ bytes. read bytes ≡ Ok t)
 
--- why the turn of the second file ends the run
+-- why the reading of the second file ends the run
 abbrev pub SecondEnds : {T : Type 0} → ℕ → (List ℕ → Result T BadText) → Option (List ℕ) → ℕ → ℕ → Cause → Type 0
 SecondEnds limit read held before after (cause.BadText b) = HasBytes limit held (λ bytes. read bytes ≡ Err b)
 SecondEnds limit read held before after c = NotRead limit held before after 2 c
@@ -69,8 +69,8 @@ abbrev pub CertificateEnds : Option (List ℕ) → ℕ → ℕ → Cause → Typ
 CertificateEnds held before after c = SecondEnds certificate_limit certificate_of held before after c
 
 -- ---- both files
--- the turn of the first or the second file ends the run
-abbrev pub TurnEnds : {T : Type 0} → ℕ → (List ℕ → Result T BadText) → (List ℕ → Option (List ℕ)) → (List ℕ → ℕ) → (List ℕ → ℕ) → List ℕ → List ℕ → Cause → Type 0
-TurnEnds limit read held before after artery second c =
+-- the reading of the first or the second file ends the run
+abbrev pub InputEnds : {T : Type 0} → ℕ → (List ℕ → Result T BadText) → (List ℕ → Option (List ℕ)) → (List ℕ → ℕ) → (List ℕ → ℕ) → List ℕ → List ℕ → Cause → Type 0
+InputEnds limit read held before after artery second c =
     FirstEnds (held artery) (before artery) (after artery) c
     ⊎ ((a : Street) × ReadsArtery (held artery) a × SecondEnds limit read (held second) (before second) (after second) c)

@@ -1,7 +1,7 @@
 use Rattle.std.proofs.Common.{subst}
 use Rattle.artery_model.specs.Faults.{fault_of}
 use Rattle.description_reader.specs.Described.{Described, RefusedAs, Refuses}
-use Rattle.maxband.proofs.turns.artery_of.Goals as goal
+use Rattle.maxband.proofs.inputs.artery_of.Goals as goal
 
 pub returns-in-Ok-clause-ok : goal.returns-in-Ok-clause-ok
 returns-in-Ok-clause-ok g c =

@@ -1,7 +1,7 @@
 use Rattle.std.proofs.Common.{◌≡◌, Ok, Err, subst}
 use Rattle.plan_text.specs.Lines.{Fails}
 use Rattle.plan_text.specs.CertificateReading.{certificate_of}
-use Rattle.maxband.proofs.turns.certificate_of.Goals as goal
+use Rattle.maxband.proofs.inputs.certificate_of.Goals as goal
 
 pub returns-in-Ok-clause-ok : goal.returns-in-Ok-clause-ok
 returns-in-Ok-clause-ok g c =

@@ -1,9 +1,9 @@
-//! The turns of a command's files, one after the other.
+//! The files that a command reads, one after the other.
 
 ghost use Rattle.std.specs.Prelude.{◌<◌, ◌^◌, IfOk, IfErr};
 ghost use Rattle.outer_edge.specs.Counts.{NoneFell, SameCounts};
 ghost use Rattle.outer_edge.specs.Held.{SameFiles};
-ghost use Rattle.maxband.specs.Turns.{IsWithinLimit, NotRead, ReadsArtery, FirstEnds, ReadsTiming, TimingEnds, ReadsCertificate, CertificateEnds};
+ghost use Rattle.maxband.specs.Inputs.{IsWithinLimit, NotRead, ReadsArtery, FirstEnds, ReadsTiming, TimingEnds, ReadsCertificate, CertificateEnds};
 
 use crate::cause::Cause;
 use artery_model::{Artery, Flaw};
@@ -19,7 +19,7 @@ const TEXT_LIMIT: u64 = 1_048_576;
 /// The most bytes of a certificate.
 const CERTIFICATE_LIMIT: u64 = 268_435_456;
 
-/// The bytes of a file, or why its turn ends.
+/// The bytes of a file, or why it isn't read.
 fn bytes_of<F: Files>(
     alloc: Global,
     files: &mut F,
@@ -42,7 +42,7 @@ fn bytes_of<F: Files>(
     }
 }
 
-/// The artery of the first file, or why its turn ends.
+/// The artery of the first file, or why it isn't read.
 pub fn artery_of<F: Files>(alloc: Global, files: &mut F, name: &str) -> Result<Artery, Cause>
     ensures ok { IfOk result (ReadsArtery (F.holds files.old name.now)) }
     ensures err { IfErr result (FirstEnds (F.holds files.old name.now) (F.read_faults files.old name.now) (F.read_faults files.new name.now)) }
@@ -58,7 +58,7 @@ pub fn artery_of<F: Files>(alloc: Global, files: &mut F, name: &str) -> Result<A
     }
 }
 
-/// The timing of the second file, or why its turn ends.
+/// The timing of the second file, or why it isn't read.
 pub fn timing_of<F: Files>(alloc: Global, files: &mut F, name: &str) -> Result<Timing, Cause>
     ensures ok { IfOk result (ReadsTiming (F.holds files.old name.now)) }
     ensures err { IfErr result (TimingEnds (F.holds files.old name.now) (F.read_faults files.old name.now) (F.read_faults files.new name.now)) }
@@ -74,7 +74,7 @@ pub fn timing_of<F: Files>(alloc: Global, files: &mut F, name: &str) -> Result<T
     }
 }
 
-/// The certificate of the second file, or why its turn ends.
+/// The certificate of the second file, or why it isn't read.
 pub fn certificate_of<F: Files>(
     alloc: Global,
     files: &mut F,
