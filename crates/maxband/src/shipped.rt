@@ -306,7 +306,7 @@ patterns = [2, 3]      # the inbound left turn always leads
 name = "Theatre"
 red = 38
 left_in = 6
-clear_out = 4          # the outbound band comes when the queue here has had four seconds to clear
+clear_out = 4          # outbound vehicles come four seconds after the band, when the queue here has had that time to clear
 
 [[link]]               # Harbour to Market: 32.4 to 45 seconds
 distance_out = 450
