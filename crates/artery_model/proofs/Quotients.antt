@@ -1,10 +1,10 @@
 -- Quotients of bounded numbers in lowest terms.
 use Rattle.std.proofs.Common.{◌≡◌, ℕ, zero, suc, pos, ◌≤ℤ◌, ◌*◌, ◌<◌, sym, ◌∙◌, ap, subst, arith, unsigned_abs, mul-pos}
 use Rattle.std.proofs.lemmas.Int.{ints}
-use Rattle.ratio.specs.Fractions.{first_part_pos}
-use Rattle.ratio.specs.Rational.{ℚ, whole, over, ◌*ℚ◌, ◌/ℚ◌, ◌≤ℚ◌, inverse_ℚ}
-use Rattle.ratio.specs.Laws.{IsRatio, own_ratio, same_ratio, over_ratio, product_ratio, whole_ratio, *ℚ_assoc, *ℚ_comm, *ℚ-one, ≤ℚ_out}
-use Rattle.ratio.specs.Order.{≤ℚ_refl, *ℚ-inverse, *ℚ_cancel}
+use Rattle.rational_theory.proofs.Fractions.{first_part_pos}
+use Rattle.rational_theory.specs.Rational.{ℚ, whole, over, ◌*ℚ◌, ◌/ℚ◌, ◌≤ℚ◌, inverse_ℚ}
+use Rattle.rational_theory.proofs.Arithmetic.{IsRatio, own_ratio, same_ratio, over_ratio, product_ratio, whole_ratio, *ℚ_assoc, *ℚ_comm, *ℚ-one, ≤ℚ_out}
+use Rattle.rational_theory.proofs.Order.{≤ℚ_refl, *ℚ-inverse, *ℚ_cancel}
 use Rattle.progression.specs.Speeds.{number}
 use Rattle.artery_model.specs.Valid.{IsQuantity}
 

@@ -4,8 +4,8 @@ use Rattle.std.specs.Prelude.{codes}
 use Rattle.std.proofs.lemmas.Bool.Decides.{nat_tests}
 use Rattle.std.proofs.lemmas.Int.{ints}
 use Rattle.std.proofs.lemmas.Option.{none-some}
-use Rattle.ratio.specs.Rational.{ℚ, whole, ◌≤ℚ◌}
-use Rattle.ratio.specs.Compare.{le_true}
+use Rattle.rational_theory.specs.Rational.{ℚ, whole, ◌≤ℚ◌}
+use Rattle.rational_theory.proofs.Compare.{le_true}
 use Rattle.progression.specs.Street.{Street}
 use Rattle.progression.specs.declared.parts.Signal.{Signal}
 use Rattle.progression.specs.declared.parts.Link.{Link}

@@ -3,8 +3,8 @@ use Rattle.std.specs.Prelude.{ℕ, ◌+◌, ◌-◌, ◌==◌, nat_eq, nat_le, n
 use Rattle.std.specs.List.{list_any, list_all}
 use Rattle.std.specs.Ordering.{is_le}
 use Rattle.std.specs.Cmp.Lexicographic.{pointwise}
-use Rattle.ratio.specs.Rational.{ℚ, whole}
-use Rattle.ratio.specs.Compare.{cmp_ℚ}
+use Rattle.rational_theory.specs.Rational.{ℚ, whole}
+use Rattle.rational_theory.specs.Compare.{cmp_ℚ}
 use Rattle.progression.specs.Street.{Street, count}
 use Rattle.progression.specs.Speeds.{number}
 use Rattle.progression.specs.declared.parts.Head.{Head}

@@ -1,7 +1,7 @@
 //! The type of a valid artery: how one is made, and its numbers in the model's words.
 
 ghost use Rattle.std.specs.Prelude.{◌≡◌, ◌+◌, ◌<◌, ◌≤◌, pos, ◌≤ℤ◌, unsigned_abs, IfSome, IfOk};
-ghost use Rattle.ratio.specs.Rational.{◌≤ℚ◌};
+ghost use Rattle.rational_theory.specs.Rational.{◌≤ℚ◌};
 ghost use Rattle.progression.specs.Street.{Street, count, signal_of, link_of, left_against, red_parts, clearance, allows, distance, speed, change_given};
 ghost use Rattle.progression.specs.Speeds.{run_low, run_high, change};
 ghost use Rattle.progression.specs.Columns.{pattern_shift};

@@ -2,7 +2,7 @@
 
 ghost use Rattle.std.specs.Prelude.{◌≡◌, ◌==◌, nat_le, not, ◌&&◌, length};
 ghost use Rattle.std.specs.List.{list_all};
-ghost use Rattle.ratio.specs.Rational.{whole};
+ghost use Rattle.rational_theory.specs.Rational.{whole};
 ghost use Rattle.progression.specs.Speeds.{number};
 ghost use Rattle.artery_model.specs.Faults.{first_fault, unless, each_numbered, link_place, Judges};
 ghost use Rattle.artery_model.specs.Limits.{within, in_range, is_name, is_name_if_there, pair_ranges, head_ranges, signal_ranges, change_ranges, link_ranges, range_tests};

@@ -1,7 +1,7 @@
 //! Runs in seconds, and limits of a change of pace in seconds per metre or foot.
 
 ghost use Rattle.std.specs.Prelude.{◌≡◌, ◌*◌, ◌≤◌, pos, negsuc, ◌≤ℤ◌, unsigned_abs};
-ghost use Rattle.ratio.specs.Rational.{◌*ℚ◌, ◌/ℚ◌};
+ghost use Rattle.rational_theory.specs.Rational.{◌*ℚ◌, ◌/ℚ◌};
 ghost use Rattle.progression.specs.Speeds.{number, seconds, unit_length};
 ghost use Rattle.artery_model.specs.Valid.{IsQuantity, IsPair, IsPaces};
 

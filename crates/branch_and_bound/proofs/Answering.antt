@@ -2,12 +2,12 @@
 use Rattle.std.proofs.Common.{◌≡◌, ℕ, ◌+◌, ◌⊎◌, inl, inr, List, Option, Some, None, refl, sym, subst, ap, ◌∙◌, take, drop}
 use Rattle.std.specs.Prelude.{IfSome}
 use Rattle.std.specs.List.{slice_get}
-use Rattle.ratio.specs.Rational.{ℚ, ◌≤ℚ◌}
-use Rattle.ratio.specs.Order.{≤ℚ_trans, <ℚ-≤ℚ, <ℚ_not-≤ℚ}
+use Rattle.rational_theory.specs.Rational.{ℚ, ◌≤ℚ◌}
+use Rattle.rational_theory.proofs.Order.{≤ℚ_trans, <ℚ-≤ℚ, <ℚ_not-≤ℚ}
 use Rattle.search_box.specs.declared.span.At.{At}
 use Rattle.named_row.specs.declared.leaves.Leaf.{Leaf}
-use Rattle.node_tree.specs.Lines.{Line, Fills, line_after}
-use Rattle.node_tree.specs.Walks.{Fills-at}
+use Rattle.branch_and_bound.specs.Lines.{Line, Fills, line_after}
+use Rattle.branch_and_bound.proofs.Walks.{Fills-at}
 use Rattle.branch_and_bound.specs.Lineages.{Cuts}
 use Rattle.branch_and_bound.specs.Rules.{Rules, IsMet}
 use Rattle.branch_and_bound.specs.Incumbents.{IsReached, IsUnder, IsBeaten}

@@ -1,18 +1,20 @@
 -- What opening a box of the tests' relaxation answers.
 use Rattle.std.proofs.Common.{◌≡◌, ℕ, ◌+◌, ◌≤◌, ℤ, pos, ◌-ℤ◌, ◌≤ℤ◌, ◌<ℤ◌, inl, inr, List, [], ◌∷◌, length, sym, subst, ap, ◌∙◌, arith}
 use Rattle.std.proofs.lemmas.Int.{ints}
-use Rattle.ratio.specs.Rational.{ℚ, whole, ◌≤ℚ◌}
-use Rattle.ratio.specs.Order.{whole-≤ℤ}
+use Rattle.rational_theory.specs.Rational.{ℚ, whole, ◌≤ℚ◌}
+use Rattle.rational_theory.proofs.Order.{whole-≤ℤ}
 use Rattle.progression.specs.Street.{Street}
-use Rattle.linear_model.specs.Boxes.{Area, Span, Ranks, loop_span}
+use Rattle.linear_theory.specs.Boxes.{Area, Span, Ranks, loop_span}
 use Rattle.search_box.specs.declared.span.At.TheVariants.{Loop}
 use Rattle.named_row.specs.declared.leaves.Leaf.{Leaf}
 use Rattle.named_row.specs.declared.leaves.Point.{Point}
-use Rattle.node_tree.specs.Lines.{Line}
+use Rattle.branch_and_bound.specs.Lines.{Line}
 use Rattle.branch_and_bound.specs.Lineages.{Reads, Cuts}
 use Rattle.work_meter.specs.Work.{IsWithin, capped}
 use Rattle.branch_and_bound.specs.Opening.{HasBound, OpensTimed, OpensCut, Opens}
-use Rattle.branch_and_bound.specs.Capped.{capped_rules, EndsAs, Case, is_empty, is_cut, is_read, case_of, ending_span, ending_of, bound_of, box_of, IsNumber, CoversNumbers}
+use Rattle.branch_and_bound.specs.CappedRules.{capped_rules, EndsAs}
+use Rattle.branch_and_bound.specs.laws.Capped.{Case, is_empty, is_cut, is_read, case_of, box_of}
+use Rattle.branch_and_bound.specs.Capped.{ending_span, ending_of, bound_of, IsNumber, CoversNumbers}
 use Rattle.work_meter.specs.declared.meter.Meter.{Meter}
 use Rattle.branch_and_bound.specs.declared.opened.Opened.{Opened}
 use Rattle.branch_and_bound.specs.declared.opened.Opened.TheVariants.{Infeasible, Timed, Splits, Unread, WorkOut, Wide}

@@ -3,13 +3,15 @@ use Rattle.std.proofs.Common.{◌≡◌, ℕ, ◌+◌, ◌-◌, ◌*◌, ◌<◌
 use Rattle.std.specs.Prelude.{IfSome}
 use Rattle.std.specs.List.{slice_get}
 use native.Mathlib.Nat.{mul-le-mul_right}
-use Rattle.ratio.specs.Rational.{ℚ}
+use Rattle.rational_theory.specs.Rational.{ℚ}
 use Rattle.search_box.specs.declared.span.At.{At}
 use Rattle.search_box.specs.Places.{IsPlace}
-use Rattle.node_tree.specs.Lines.{Line, top_line, low_line, high_line, Fills, total, line_after}
-use Rattle.node_tree.specs.Volumes.{volume, volume_split, volume_positive}
-use Rattle.node_tree.specs.Walks.{Fills-split, total-split}
-use Rattle.node_tree.specs.Matchings.{Matches, Matches-back, HasOther, Fills-match, total-match, line_after-match}
+use Rattle.branch_and_bound.specs.Lines.{Line, top_line, low_line, high_line, Fills, total, line_after}
+use Rattle.branch_and_bound.specs.Volumes.{volume}
+use Rattle.branch_and_bound.proofs.Volumes.{volume_split, volume_positive}
+use Rattle.branch_and_bound.proofs.Walks.{Fills-split, total-split}
+use Rattle.branch_and_bound.specs.Matchings.{Matches}
+use Rattle.branch_and_bound.proofs.Matchings.{Matches-back, HasOther, Fills-match, total-match, line_after-match}
 use Rattle.branch_and_bound.specs.Lineages.{at_top, at_low, at_high}
 use Rattle.branch_and_bound.specs.Rules.{Rules, IsMet}
 use Rattle.branch_and_bound.specs.Answer.{cut_of, lines_of, line_at, cost_of, units_of, StopCase, RootLeft, RootUnread, BeforeLow, InLow, BeforeHigh, InHigh, Spot, IsSpot, IsNeeded, IsNeededNode, HasSpot, IsNeededStop, IsWorkStop, spends, low_of, high_of}

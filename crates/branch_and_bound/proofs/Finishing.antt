@@ -2,14 +2,15 @@
 use Rattle.std.proofs.Common.{◌≡◌, ℕ, ◌⊎◌, inl, inr, List, Option, Some, None, refl, sym, subst, ap, ◌∙◌}
 use Rattle.std.specs.Prelude.{All, IfSome}
 use Rattle.std.specs.List.{slice_get}
-use Rattle.ratio.specs.Rational.{ℚ, ◌≤ℚ◌}
-use Rattle.ratio.specs.Order.{≤ℚ_refl}
+use Rattle.rational_theory.specs.Rational.{ℚ, ◌≤ℚ◌}
+use Rattle.rational_theory.proofs.Order.{≤ℚ_refl}
 use Rattle.progression.specs.Speeds.{number}
-use Rattle.linear_model.specs.Boxes.{Area}
+use Rattle.linear_theory.specs.Boxes.{Area}
 use Rattle.named_row.specs.declared.leaves.Leaf.{Leaf}
-use Rattle.node_tree.specs.Lines.{Line, Fills, Finds}
-use Rattle.node_tree.specs.Walks.{Fills-map, Fills-each}
-use Rattle.node_tree.specs.Matchings.{Matches, Fills-match, Finds-match, total-match}
+use Rattle.branch_and_bound.specs.Lines.{Line, Fills, Finds}
+use Rattle.branch_and_bound.proofs.Walks.{Fills-map, Fills-each}
+use Rattle.branch_and_bound.specs.Matchings.{Matches}
+use Rattle.branch_and_bound.proofs.Matchings.{Fills-match, Finds-match, total-match}
 use Rattle.branch_and_bound.specs.Rules.{Rules}
 use Rattle.work_meter.specs.Work.{capped, IsWithin}
 use Rattle.branch_and_bound.specs.Incumbents.{IsReached}

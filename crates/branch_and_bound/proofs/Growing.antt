@@ -1,14 +1,14 @@
 -- A waiting leaf becomes a split with two leaves.
 use Rattle.std.proofs.Common.{◌≡◌, ℕ, inl, inr, List, ◌∷◌, ◌++◌, Option, Some, None, refl, sym, subst, ◌∙◌, arith}
 use Rattle.std.specs.Prelude.{All, IfSome}
-use Rattle.ratio.specs.Rational.{ℚ, ◌≤ℚ◌}
-use Rattle.ratio.specs.Order.{≤ℚ_refl, ≤ℚ_trans, <ℚ-≤ℚ}
-use Rattle.linear_model.specs.Boxes.{Area}
+use Rattle.rational_theory.specs.Rational.{ℚ, ◌≤ℚ◌}
+use Rattle.rational_theory.proofs.Order.{≤ℚ_refl, ≤ℚ_trans, <ℚ-≤ℚ}
+use Rattle.linear_theory.specs.Boxes.{Area}
 use Rattle.search_box.specs.declared.span.At.{At}
 use Rattle.named_row.specs.declared.leaves.Leaf.{Leaf}
 use Rattle.named_row.specs.declared.leaves.Point.{Point}
-use Rattle.node_tree.specs.Lines.{Line, low_line, high_line, line_after, Fills, Finds}
-use Rattle.node_tree.specs.Walks.{Fills-map, Fills-at, Fills-split, Fills-each, Finds-split, Finds-new, total-split}
+use Rattle.branch_and_bound.specs.Lines.{Line, low_line, high_line, line_after, Fills, Finds}
+use Rattle.branch_and_bound.proofs.Walks.{Fills-map, Fills-at, Fills-split, Fills-each, Finds-split, Finds-new, total-split}
 use Rattle.branch_and_bound.specs.Lineages.{Reads, Cuts, IsOptimal, at_low, at_high}
 use Rattle.branch_and_bound.specs.Rules.{Rules}
 use Rattle.branch_and_bound.specs.Incumbents.{IsReached, IsUnder}

@@ -1,9 +1,10 @@
 -- The answer of a search that stops: one case for each place at which it can.
 use Rattle.std.proofs.Common.{◌≡◌, ℕ, ◌+◌, List, Option, Some, None, refl, sym, subst, ap, ◌∙◌, arith, length}
-use Rattle.ratio.specs.Rational.{ℚ, ◌≤ℚ◌}
+use Rattle.rational_theory.specs.Rational.{ℚ, ◌≤ℚ◌}
 use Rattle.search_box.specs.declared.span.At.{At}
-use Rattle.node_tree.specs.Lines.{Line, low_line}
-use Rattle.node_tree.specs.Matchings.{Matches, line_after-match, total-match}
+use Rattle.branch_and_bound.specs.Lines.{Line, low_line}
+use Rattle.branch_and_bound.specs.Matchings.{Matches}
+use Rattle.branch_and_bound.proofs.Matchings.{line_after-match, total-match}
 use Rattle.branch_and_bound.specs.Lineages.{WasRead, Cuts}
 use Rattle.branch_and_bound.specs.Rules.{Rules, IsMet}
 use Rattle.work_meter.specs.Work.{capped, IsWithin}

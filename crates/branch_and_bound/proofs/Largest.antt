@@ -3,8 +3,8 @@ use Rattle.std.proofs.Common.{◌≡◌, ℕ, ◌+◌, ◌<◌, ◌⊎◌, inl, 
 use Rattle.std.specs.Prelude.{All}
 use Rattle.std.proofs.lemmas.List.Elements.{All-more, All-weaker}
 use Rattle.std.proofs.lemmas.Option.{slice_get_read}
-use Rattle.ratio.specs.Rational.{ℚ, ◌≤ℚ◌, ◌<ℚ◌}
-use Rattle.ratio.specs.Order.{≤ℚ_refl, ≤ℚ_trans, <ℚ-≤ℚ, <ℚ_not-≤ℚ, not-≤ℚ}
+use Rattle.rational_theory.specs.Rational.{ℚ, ◌≤ℚ◌, ◌<ℚ◌}
+use Rattle.rational_theory.proofs.Order.{≤ℚ_refl, ≤ℚ_trans, <ℚ-≤ℚ, <ℚ_not-≤ℚ, not-≤ℚ}
 use Rattle.branch_and_bound.specs.declared.node.Node.{Node}
 use Rattle.branch_and_bound.specs.declared.greatest.Greatest.{Greatest}
 use Rattle.branch_and_bound.specs.Greatest.{IsGreatest, IsOverBound, IsOverAll, IsLess, IsSame, IsLarger, bound_of}

@@ -1,3 +1,8 @@
+pub mod Walks
+pub mod Matchings
+pub mod Volumes
+pub mod Forests
+pub mod BoxReadings
 pub mod Settling
 pub mod Largest
 pub mod Waiting
@@ -11,3 +16,4 @@ pub mod Halting
 pub mod Rooting
 pub mod Counting
 pub mod Capping
+pub mod Readings

@@ -2,10 +2,10 @@
 use Rattle.std.proofs.Common.{◌≡◌, ℕ, zero, suc, ◌+◌, inl, inr, [], ◌∷◌, Option, Some, None, refl, sym, subst, ◌∙◌, arith}
 use Rattle.std.specs.Prelude.{IfSome}
 use Rattle.std.specs.List.{slice_get}
-use Rattle.ratio.specs.Rational.{ℚ, ◌≤ℚ◌}
-use Rattle.ratio.specs.Order.{≤ℚ_refl}
+use Rattle.rational_theory.specs.Rational.{ℚ, ◌≤ℚ◌}
+use Rattle.rational_theory.proofs.Order.{≤ℚ_refl}
 use Rattle.named_row.specs.declared.leaves.Leaf.{Leaf}
-use Rattle.node_tree.specs.Lines.{Line, top_line, owed, Fills, Finds, total}
+use Rattle.branch_and_bound.specs.Lines.{Line, top_line, owed, Fills, Finds, total}
 use Rattle.branch_and_bound.specs.Lineages.{IsOptimal, at_top}
 use Rattle.branch_and_bound.specs.Rules.{Rules}
 use Rattle.work_meter.specs.Work.{IsWithin}

@@ -1,13 +1,13 @@
 -- What becomes of one box.
 use Rattle.std.proofs.Common.{◌≡◌, ◌⊎◌, inl, inr, Option, Some, refl, sym, subst, ap, ◌∙◌}
-use Rattle.linear_model.specs.Boxes.{Area}
-use Rattle.ratio.specs.Rational.{ℚ}
-use Rattle.ratio.specs.Order.{≤ℚ_refl}
+use Rattle.linear_theory.specs.Boxes.{Area}
+use Rattle.rational_theory.specs.Rational.{ℚ}
+use Rattle.rational_theory.proofs.Order.{≤ℚ_refl}
 use Rattle.search_box.specs.declared.span.At.{At}
 use Rattle.search_box.specs.Places.{low_part, high_part}
 use Rattle.named_row.specs.declared.leaves.Leaf.{Leaf}
-use Rattle.node_tree.specs.Lines.{Line, low_line, high_line}
-use Rattle.narrow_fraction.specs.Attempt.{some_not_none}
+use Rattle.branch_and_bound.specs.Lines.{Line, low_line, high_line}
+use Rattle.narrow_fraction.proofs.Attempt.{some_not_none}
 use Rattle.branch_and_bound.specs.Lineages.{WasRead}
 use Rattle.branch_and_bound.specs.Rules.{Rules, IsMet}
 use Rattle.branch_and_bound.specs.Opening.{OpensTimed, IsPart}

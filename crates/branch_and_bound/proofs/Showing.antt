@@ -1,6 +1,7 @@
 -- The nodes that are answered so far.
 use Rattle.std.proofs.Common.{◌≡◌, ◌++◌, ℕ, ◌+◌, List, [], ◌∷◌, Option, length, refl, sym, subst, ◌∙◌, ap, arith, append_assoc}
-use Rattle.node_tree.specs.Matchings.{Matches, Matches-more}
+use Rattle.branch_and_bound.specs.Matchings.{Matches}
+use Rattle.branch_and_bound.proofs.Matchings.{Matches-more}
 use Rattle.branch_and_bound.specs.State.{IsShown}
 use Rattle.branch_and_bound.specs.declared.incumbent.Incumbent.{Incumbent}
 use Rattle.branch_and_bound.specs.declared.node.Node.{Node}

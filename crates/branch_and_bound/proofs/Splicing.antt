@@ -3,15 +3,16 @@ use Rattle.std.proofs.Common.{◌≡◌, ℕ, zero, suc, ◌+◌, ◌-◌, ◌*�
 use Rattle.std.specs.Prelude.{All}
 use Rattle.std.specs.List.{slice_get, insert}
 use Rattle.std.proofs.lemmas.Option.{slice_get_read, slice_get_within}
-use Rattle.ratio.specs.Rational.{ℚ, ◌≤ℚ◌}
-use Rattle.linear_model.specs.Boxes.{Area}
+use Rattle.rational_theory.specs.Rational.{ℚ, ◌≤ℚ◌}
+use Rattle.linear_theory.specs.Boxes.{Area}
 use Rattle.search_box.specs.declared.span.At.{At}
 use Rattle.search_box.specs.Places.{IsPlace}
 use Rattle.named_row.specs.declared.leaves.Leaf.{Leaf}
 use Rattle.named_row.specs.declared.leaves.Point.{Point}
-use Rattle.node_tree.specs.Lines.{Line, low_line, high_line, Fills}
-use Rattle.node_tree.specs.Walks.{Fills-at}
-use Rattle.node_tree.specs.Volumes.{volume, volume_split, volume_positive}
+use Rattle.branch_and_bound.specs.Lines.{Line, low_line, high_line, Fills}
+use Rattle.branch_and_bound.proofs.Walks.{Fills-at}
+use Rattle.branch_and_bound.specs.Volumes.{volume}
+use Rattle.branch_and_bound.proofs.Volumes.{volume_split, volume_positive}
 use Rattle.branch_and_bound.specs.Lineages.{at_low, at_high}
 use Rattle.branch_and_bound.specs.Rules.{Rules}
 use Rattle.branch_and_bound.specs.Incumbents.{IsUnder}

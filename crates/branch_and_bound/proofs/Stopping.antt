@@ -3,16 +3,18 @@ use Rattle.std.proofs.Common.{◌≡◌, ℕ, ◌+◌, ◌⊎◌, inl, inr, List
 use Rattle.std.specs.Prelude.{All, IfSome}
 use Rattle.std.specs.List.{slice_get}
 use Rattle.std.specs.Ordering.{MatchOrdering}
-use Rattle.ratio.specs.Compare.{cmp_ℚ, ranked_ℚ}
-use Rattle.ratio.specs.Rational.{ℚ, ◌≤ℚ◌, ◌<ℚ◌}
-use Rattle.ratio.specs.Order.{≤ℚ_refl, <ℚ_not-≤ℚ}
-use Rattle.linear_model.specs.Boxes.{Area}
+use Rattle.rational_theory.specs.Compare.{cmp_ℚ}
+use Rattle.rational_theory.proofs.Compare.{ranked_ℚ}
+use Rattle.rational_theory.specs.Rational.{ℚ, ◌≤ℚ◌, ◌<ℚ◌}
+use Rattle.rational_theory.proofs.Order.{≤ℚ_refl, <ℚ_not-≤ℚ}
+use Rattle.linear_theory.specs.Boxes.{Area}
 use Rattle.search_box.specs.declared.span.At.{At}
 use Rattle.named_row.specs.declared.leaves.Leaf.{Leaf}
 use Rattle.named_row.specs.declared.leaves.Point.{Point}
-use Rattle.node_tree.specs.Lines.{Line, Fills, Finds}
-use Rattle.node_tree.specs.Walks.{Fills-map, Fills-each, Finds-at, Finds-none}
-use Rattle.node_tree.specs.Matchings.{Matches, HasMatch, HasOther, Matches-at, Matches-back, Fills-match, line_after-match}
+use Rattle.branch_and_bound.specs.Lines.{Line, Fills, Finds}
+use Rattle.branch_and_bound.proofs.Walks.{Fills-map, Fills-each, Finds-at, Finds-none}
+use Rattle.branch_and_bound.specs.Matchings.{Matches}
+use Rattle.branch_and_bound.proofs.Matchings.{HasMatch, HasOther, Matches-at, Matches-back, Fills-match, line_after-match}
 use Rattle.branch_and_bound.specs.Lineages.{Cuts, IsOptimal}
 use Rattle.branch_and_bound.specs.Rules.{Rules}
 use Rattle.branch_and_bound.specs.Incumbents.{IsReached, IsUnder, IsBeaten}

@@ -3,8 +3,8 @@ use Rattle.std.proofs.Common.{List, Option, Some, None, subst, arith, length}
 use Rattle.std.specs.Prelude.{All}
 use Rattle.std.proofs.lemmas.List.{take_all}
 use Rattle.std.proofs.lemmas.List.Elements.{All-weaker}
-use Rattle.ratio.specs.Rational.{ℚ}
-use Rattle.ratio.specs.Order.{≤ℚ_trans}
+use Rattle.rational_theory.specs.Rational.{ℚ}
+use Rattle.rational_theory.proofs.Order.{≤ℚ_trans}
 use Rattle.branch_and_bound.specs.Incumbents.{IsReached}
 use Rattle.branch_and_bound.specs.Greatest.{IsOverBound, IsGreatest, IsSettled, bound_of}
 use Rattle.branch_and_bound.specs.declared.incumbent.Incumbent.{Incumbent}

@@ -1,14 +1,14 @@
 -- What the search answers: an accepted tree that was needed, its units, and why it stopped.
 use Rattle.std.specs.Prelude.{◌≡◌, ℕ, ◌+◌, ◌⊎◌, List, [], ◌∷◌, Option, Some, None, IfSome, take}
 use Rattle.std.specs.List.{slice_get}
-use Rattle.ratio.specs.Rational.{ℚ, ◌≤ℚ◌, ◌<ℚ◌}
+use Rattle.rational_theory.specs.Rational.{ℚ, ◌≤ℚ◌, ◌<ℚ◌}
 use Rattle.progression.specs.Speeds.{number}
-use Rattle.linear_model.specs.Boxes.{Area}
+use Rattle.linear_theory.specs.Boxes.{Area}
 use Rattle.search_box.specs.declared.span.At.{At}
 use Rattle.search_box.specs.Places.{IsPlace}
 use Rattle.named_row.specs.declared.leaves.Leaf.{Leaf}
 use Rattle.named_row.specs.declared.leaves.Point.{Point}
-use Rattle.node_tree.specs.Lines.{Line, top_line, low_line, high_line, Fills, Finds, total, line_after}
+use Rattle.branch_and_bound.specs.Lines.{Line, top_line, low_line, high_line, Fills, Finds, total, line_after}
 use Rattle.branch_and_bound.specs.Lineages.{Empty, Reads, Cuts, Stuck, WasRead}
 use Rattle.work_meter.specs.Work.{capped, IsWithin}
 use Rattle.branch_and_bound.specs.Rules.{Rules}

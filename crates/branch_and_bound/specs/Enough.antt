@@ -1,8 +1,8 @@
 -- How many units are enough.
 use Rattle.std.specs.Prelude.{ℕ, ◌+◌, ◌-◌, ◌*◌, ◌<◌, ◌≤◌, List, Option, IfSome}
-use Rattle.ratio.specs.Rational.{ℚ}
-use Rattle.node_tree.specs.Lines.{Line}
-use Rattle.node_tree.specs.Volumes.{volume}
+use Rattle.rational_theory.specs.Rational.{ℚ}
+use Rattle.branch_and_bound.specs.Lines.{Line}
+use Rattle.branch_and_bound.specs.Volumes.{volume}
 use Rattle.branch_and_bound.specs.Rules.{Rules, IsMet}
 use Rattle.branch_and_bound.specs.Answer.{IsStoppedAnswer}
 use Rattle.branch_and_bound.specs.declared.incumbent.Incumbent.{Incumbent}

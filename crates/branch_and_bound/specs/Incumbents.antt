@@ -1,6 +1,6 @@
 -- The best timing so far against a value.
 use Rattle.std.specs.Prelude.{Option, Some, None}
-use Rattle.ratio.specs.Rational.{ℚ, ◌≤ℚ◌, ◌<ℚ◌}
+use Rattle.rational_theory.specs.Rational.{ℚ, ◌≤ℚ◌, ◌<ℚ◌}
 use Rattle.branch_and_bound.specs.declared.incumbent.Incumbent.{Incumbent}
 
 -- a timing stands, and its value is at least v

@@ -1,3 +1,7 @@
+pub mod Lines
+pub mod Volumes
+pub mod Matchings
+pub mod Promises
 pub mod Lineages
 pub mod Rules
 pub mod Unfinished
@@ -8,4 +12,5 @@ pub mod State
 pub mod Greatest
 pub mod Enough
 pub mod Capped
-pub mod Readings
+pub mod CappedRules
+pub mod laws

@@ -1,8 +1,8 @@
 -- How the steps of a box end, and the lines that a search can meet.
 use Rattle.std.specs.Prelude.{◌≡◌}
-use Rattle.linear_model.specs.Boxes.{Area}
+use Rattle.linear_theory.specs.Boxes.{Area}
 use Rattle.search_box.specs.declared.span.At.{At}
-use Rattle.node_tree.specs.Lines.{Line, top_line, low_line, high_line}
+use Rattle.branch_and_bound.specs.Lines.{Line, top_line, low_line, high_line}
 
 pub data Ending : Type 0 where
   -- no end is known

@@ -1,11 +1,11 @@
 -- What opening a box answers, and the units of work that it spends.
 use Rattle.std.specs.Prelude.{◌≡◌, ℕ, ◌+◌, ◌⊎◌}
-use Rattle.ratio.specs.Rational.{ℚ}
-use Rattle.linear_model.specs.Boxes.{Area}
+use Rattle.rational_theory.specs.Rational.{ℚ}
+use Rattle.linear_theory.specs.Boxes.{Area}
 use Rattle.search_box.specs.declared.span.At.{At}
 use Rattle.named_row.specs.declared.leaves.Leaf.{Leaf}
 use Rattle.named_row.specs.declared.leaves.Point.{Point}
-use Rattle.node_tree.specs.Lines.{Line, low_line, high_line}
+use Rattle.branch_and_bound.specs.Lines.{Line, low_line, high_line}
 use Rattle.branch_and_bound.specs.Lineages.{Empty, Reads, Cuts, Stuck}
 use Rattle.work_meter.specs.Work.{capped, IsWithin, IsSpent}
 use Rattle.branch_and_bound.specs.Rules.{Rules, IsMet}

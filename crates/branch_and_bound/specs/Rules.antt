@@ -1,12 +1,12 @@
 -- What the search knows of a relaxation: timings of type T, what a split node keeps for its parts of type K, refused operations of type W.
 use Rattle.std.specs.Prelude.{◌≡◌, ℕ}
-use Rattle.ratio.specs.Rational.{ℚ, ◌≤ℚ◌}
-use Rattle.linear_model.specs.Boxes.{Area}
+use Rattle.rational_theory.specs.Rational.{ℚ, ◌≤ℚ◌}
+use Rattle.linear_theory.specs.Boxes.{Area}
 use Rattle.search_box.specs.declared.span.At.{At}
 use Rattle.search_box.specs.Places.{IsPlace}
 use Rattle.named_row.specs.declared.leaves.Leaf.{Leaf}
 use Rattle.named_row.specs.declared.leaves.Point.{Point}
-use Rattle.node_tree.specs.Lines.{Line, low_line, high_line}
+use Rattle.branch_and_bound.specs.Lines.{Line, low_line, high_line}
 use Rattle.branch_and_bound.specs.Lineages.{Ending, Cuts, IsOptimal, IsLineage}
 
 pub record Rules (T K W : Type 0) : Type 1 where

@@ -1,12 +1,12 @@
 -- What the search keeps true of its nodes and of the best timing.
 use Rattle.std.specs.Prelude.{◌≡◌, ℕ, ◌+◌, ◌-◌, ◌*◌, ◌<◌, ◌⊎◌, List, [], ◌∷◌, ◌++◌, Option, Some, None, IfSome, take, drop}
-use Rattle.ratio.specs.Rational.{ℚ, ◌≤ℚ◌}
-use Rattle.linear_model.specs.Boxes.{Area}
+use Rattle.rational_theory.specs.Rational.{ℚ, ◌≤ℚ◌}
+use Rattle.linear_theory.specs.Boxes.{Area}
 use Rattle.search_box.specs.declared.span.At.{At}
 use Rattle.named_row.specs.declared.leaves.Leaf.{Leaf}
 use Rattle.named_row.specs.declared.leaves.Point.{Point}
-use Rattle.node_tree.specs.Lines.{Line, low_line, high_line, Fills, Finds, total, line_after}
-use Rattle.node_tree.specs.Volumes.{volume}
+use Rattle.branch_and_bound.specs.Lines.{Line, low_line, high_line, Fills, Finds, total, line_after}
+use Rattle.branch_and_bound.specs.Volumes.{volume}
 use Rattle.branch_and_bound.specs.Lineages.{Empty, Reads, Cuts, IsOptimal, WasRead}
 use Rattle.work_meter.specs.Work.{capped, IsWithin, IsSpent}
 use Rattle.branch_and_bound.specs.Rules.{Rules, IsMet}

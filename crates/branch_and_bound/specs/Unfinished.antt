@@ -1,7 +1,7 @@
 -- Boxes whose steps didn't come to a leaf. One of which only the vertex couldn't be read isn't such a box: its leaf stands.
 use Rattle.std.specs.Prelude.{◌≡◌, ℕ, ◌<◌, ◌⊎◌}
 use Rattle.named_row.specs.declared.leaves.Leaf.{Leaf}
-use Rattle.node_tree.specs.Lines.{Line}
+use Rattle.branch_and_bound.specs.Lines.{Line}
 use Rattle.branch_and_bound.specs.Lineages.{Stuck}
 use Rattle.branch_and_bound.specs.Rules.{Rules}
 

@@ -1,7 +1,7 @@
 //! The search.
 
 ghost use Rattle.std.specs.Prelude.{◌≡◌, ℕ, List, [], ◌∷◌, All, IfOk};
-ghost use Rattle.ratio.specs.Rational.{ℚ};
+ghost use Rattle.rational_theory.specs.Rational.{ℚ};
 ghost use Rattle.work_meter.specs.Work.{IsBelow, IsWithin};
 ghost use Rattle.branch_and_bound.specs.Greatest.{IsSettled, bound_of};
 ghost use Rattle.branch_and_bound.specs.State.{Holds, stop_of};

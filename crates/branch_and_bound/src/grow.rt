@@ -2,8 +2,8 @@
 
 ghost use Rattle.std.specs.Prelude.{◌≡◌, ◌<◌, ℕ, Some, length, All, IfOk, OnOk};
 ghost use Rattle.std.specs.List.{slice_get};
-ghost use Rattle.ratio.specs.Rational.{ℚ};
-ghost use Rattle.linear_model.specs.Boxes.{Area};
+ghost use Rattle.rational_theory.specs.Rational.{ℚ};
+ghost use Rattle.linear_theory.specs.Boxes.{Area};
 ghost use Rattle.search_box.specs.declared.span.At.{At};
 ghost use Rattle.named_row.specs.declared.leaves.Leaf.{Leaf};
 ghost use Rattle.named_row.specs.declared.leaves.Point.{Point};

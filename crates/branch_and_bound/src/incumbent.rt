@@ -1,7 +1,7 @@
 //! The best timing so far.
 
 ghost use Rattle.std.specs.Prelude.{◌≡◌, ◌⊎◌, Some, true, false};
-ghost use Rattle.ratio.specs.Rational.{◌≤ℚ◌, ◌<ℚ◌};
+ghost use Rattle.rational_theory.specs.Rational.{◌≤ℚ◌, ◌<ℚ◌};
 ghost use Rattle.branch_and_bound.specs.Incumbents.{IsReached, IsBeaten};
 
 use narrow_fraction::Frac;
@@ -14,7 +14,7 @@ pub struct Incumbent<T> {
 }
 
 /// Whether `a` is at most `b`.
-#[tactic(auto, using(ratio::specs::Compare::le_true, ratio::specs::Compare::le_false))]
+#[tactic(auto, using(rational_theory::proofs::Compare::le_true, rational_theory::proofs::Compare::le_false))]
 pub(crate) fn is_at_most(a: Frac, b: Frac) -> bool
     ensures yes { result ≡ true → a ≤ℚ b }
     ensures over { result ≡ false → b <ℚ a }

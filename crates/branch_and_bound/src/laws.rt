@@ -1,6 +1,7 @@
 //! Laws over the definitions alone.
 
 ghost use Rattle.branch_and_bound.specs.Enough.{IsEnough};
+ghost use Rattle.branch_and_bound.specs.Promises.{ChoicesAreShared};
 
 use crate::relaxation::Relaxation;
 
@@ -9,4 +10,10 @@ use crate::relaxation::Relaxation;
 /// number of choices of block sums and ranks in the root box.
 pub fn law_enough<P: Relaxation>(_relaxation: &P)
     ensures { IsEnough (P.rules _relaxation.now) }
+{}
+
+/// Each split of a box shares its choices of block sums and ranks out between the two parts.
+#[tactic(auto, using(crate::proofs::Volumes::volume_positive, crate::proofs::Volumes::volume_split))]
+pub fn law_choices_are_shared()
+    ensures { ChoicesAreShared }
 {}

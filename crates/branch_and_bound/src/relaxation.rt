@@ -2,7 +2,7 @@
 
 ghost use Rattle.std.specs.Prelude.{◌≡◌, IfOk};
 ghost use Rattle.search_box.specs.declared.span.At.{At};
-ghost use Rattle.node_tree.specs.Lines.{Line, top_line};
+ghost use Rattle.branch_and_bound.specs.Lines.{Line, top_line};
 ghost use Rattle.branch_and_bound.specs.Rules.{Rules};
 ghost use Rattle.work_meter.specs.Work.{HasWork};
 ghost use Rattle.branch_and_bound.specs.Opening.{Opens, IsPart};

@@ -1,7 +1,7 @@
 //! What becomes of a box that was opened.
 
 ghost use Rattle.std.specs.Prelude.{◌≡◌};
-ghost use Rattle.node_tree.specs.Lines.{Line};
+ghost use Rattle.branch_and_bound.specs.Lines.{Line};
 ghost use Rattle.work_meter.specs.declared.meter.Meter.{Meter};
 ghost use Rattle.branch_and_bound.specs.Opening.{Opens};
 ghost use Rattle.branch_and_bound.specs.State.{Settles};

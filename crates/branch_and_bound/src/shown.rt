@@ -1,7 +1,7 @@
 //! The nodes as they are answered.
 
 ghost use Rattle.std.specs.Prelude.{◌≡◌, ◌++◌, Some, true, false, [], ◌∷◌, IfOk, OnOk};
-ghost use Rattle.node_tree.specs.Matchings.{Matches};
+ghost use Rattle.branch_and_bound.specs.Matchings.{Matches};
 ghost use Rattle.branch_and_bound.specs.State.{IsShown};
 
 use crate::incumbent::{Incumbent, is_reached};

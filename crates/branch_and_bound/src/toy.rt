@@ -3,10 +3,10 @@
 
 ghost use Rattle.std.specs.Prelude.{◌≡◌, ◌≤◌, ◌<ℤ◌, ◌-ℤ◌, ℤ, pos, length, IfOk};
 ghost use Rattle.progression.specs.Street.{Street};
-ghost use Rattle.node_tree.specs.Lines.{Line};
+ghost use Rattle.branch_and_bound.specs.Lines.{Line};
 ghost use Rattle.work_meter.specs.Work.{HasWork};
 ghost use Rattle.branch_and_bound.specs.Opening.{Opens};
-ghost use Rattle.branch_and_bound.specs.Capped.{capped_rules, EndsAs};
+ghost use Rattle.branch_and_bound.specs.CappedRules.{capped_rules, EndsAs};
 
 use crate::opened::Opened;
 use crate::relaxation::Relaxation;

@@ -2,19 +2,19 @@
 use Rattle.std.proofs.Common.{◌≡◌, ℕ, zero, suc, ◌⊎◌, inl, inr, List, [], ◌∷◌, map, take, All, Option, Some, None, IfSome, refl, sym, ap, subst}
 use Rattle.std.specs.List.{slice_get}
 use Rattle.std.proofs.lemmas.List.Elements.{All-nil, All-cons, All-map}
-use Rattle.ratio.specs.Rational.{ℚ}
+use Rattle.rational_theory.specs.Rational.{ℚ}
 use Rattle.progression.specs.Street.{Street}
 use Rattle.progression.specs.Plan.{Plan}
 use Rattle.progression.specs.Good.{Good}
 use Rattle.progression.specs.Best.{weighted_band}
 use Rattle.artery_model.specs.Valid.{IsValid}
-use Rattle.linear_model.specs.Boxes.{Area, IsBoxOf, root_box}
+use Rattle.linear_theory.specs.Boxes.{Area, IsBoxOf, root_box}
 use Rattle.search_box.specs.declared.span.At.{At}
 use Rattle.search_box.specs.declared.span.At.TheVariants.{Loop, Turn}
 use Rattle.search_box.specs.Places.{IsPlace}
 use Rattle.named_row.specs.declared.leaves.Weight.{Weight}
-use Rattle.node_tree.specs.Lines.{Line, top_line, low_line, high_line, owed, Fills, line_after}
-use Rattle.node_tree.specs.Walks.{Fills-both}
+use Rattle.branch_and_bound.specs.Lines.{Line, top_line, low_line, high_line, owed, Fills, line_after}
+use Rattle.branch_and_bound.proofs.Walks.{Fills-both}
 use Rattle.plan_text.specs.Warrants.{IsNode, SplitAt, LeafOf}
 use Rattle.branch_and_bound.specs.Lineages.{at_top, at_low, at_high}
 use Rattle.branch_and_bound.specs.Rules.{IsMet}
@@ -29,8 +29,10 @@ use Rattle.branch_and_bound.specs.Answer.{IsAnswer, cut_of, lines_of, line_at, I
 use Rattle.branch_tree.specs.declared.site.SitePart.{SitePart}
 use Rattle.branch_tree.specs.declared.found.Found.{Found}
 use Rattle.branch_tree.specs.Ends.{end_leaf}
-use Rattle.branch_tree.specs.Lineage.{IsSearchable, boxed}
-use Rattle.branch_tree.specs.Relaxed.{rules_of, IsTiming}
+use Rattle.branch_tree.specs.Lineage.{IsSearchable}
+use Rattle.branch_tree.specs.laws.Lineage.{boxed}
+use Rattle.branch_tree.specs.ArteryRules.{rules_of}
+use Rattle.branch_tree.specs.Relaxed.{IsTiming}
 use Rattle.branch_tree.specs.Trees.{node_of}
 use Rattle.branch_tree.specs.Searches.{incumbent_of, IsSearch}
 use Rattle.branch_tree.specs.Told.{plan_of, Tells, IsTimed, IsCertifiable}

@@ -3,7 +3,7 @@
 use Rattle.std.proofs.Common.{◌≡◌, inl, None, Some}
 use Rattle.progression.specs.Street.{Street}
 use Rattle.artery_model.specs.Valid.{IsValid}
-use Rattle.linear_model.specs.Boxes.{Area, root_box}
+use Rattle.linear_theory.specs.Boxes.{Area, root_box}
 use Rattle.loop_rows.specs.Weights.{leaf_fault}
 use Rattle.certificate_checker.specs.Accepted.{IsProof}
 use Rattle.branch_and_bound.specs.Lineages.{Empty, IsOptimal}
@@ -11,7 +11,7 @@ use Rattle.branch_tree.specs.Ends.{end_bound, end_leaf, ending_of}
 use Rattle.branch_tree.specs.Starts.{start_leaf, start_bound}
 use Rattle.branch_tree.proofs.StartLaws.{start_good}
 use Rattle.branch_tree.proofs.StartFits.{start_fits}
-use Rattle.branch_tree.specs.RuleLaws.BoxLaws.{ends_optimal, ends_infeasible}
+use Rattle.branch_tree.specs.laws.BoxLaws.{ends_optimal, ends_infeasible}
 use Rattle.branch_tree.proofs.LeafFaults.{proof_of}
 
 module _ (a : Street) (box : Area) (v : IsValid a) (f : leaf_fault a box (end_leaf a box) ≡ None) where

@@ -1,10 +1,10 @@
 -- The certificate of an answer: what it keeps, and that it is accepted where a search gave the answer.
 use Rattle.std.proofs.Common.{◌≡◌, ℕ, List, [], ◌∷◌, length, map, Option, Some, None, refl, sym, subst}
-use Rattle.ratio.specs.Rational.{ℚ}
+use Rattle.rational_theory.specs.Rational.{ℚ}
 use Rattle.progression.specs.Street.{Street}
 use Rattle.progression.specs.Plan.{Plan}
 use Rattle.progression.specs.Best.{weighted_band}
-use Rattle.linear_model.specs.Boxes.{Area, root_box}
+use Rattle.linear_theory.specs.Boxes.{Area, root_box}
 use Rattle.search_box.specs.Places.{low_part, high_part}
 use Rattle.plan_text.specs.declared.certificate.Claim.{Claim}
 use Rattle.plan_text.specs.Warrants.{Node, SplitAt, LeafOf, AreTrees}
@@ -16,7 +16,8 @@ use Rattle.branch_and_bound.specs.declared.found.Verdict.TheVariants.{Best, NoTi
 use Rattle.branch_and_bound.specs.Answer.{IsAnswer}
 use Rattle.branch_tree.specs.declared.site.SitePart.{SitePart}
 use Rattle.branch_tree.specs.declared.found.Found.{Found}
-use Rattle.branch_tree.specs.Relaxed.{rules_of, IsTiming}
+use Rattle.branch_tree.specs.ArteryRules.{rules_of}
+use Rattle.branch_tree.specs.Relaxed.{IsTiming}
 use Rattle.branch_tree.specs.Trees.{node_of}
 use Rattle.branch_tree.proofs.TreeProofs.{accepted_proofs}
 use Rattle.branch_tree.specs.Searches.{incumbent_of, IsSearch}

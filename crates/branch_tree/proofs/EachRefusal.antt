@@ -1,6 +1,7 @@
 -- What holds of each refusal holds of the first that applies.
 use Rattle.std.proofs.Common.{arith, ◌≡◌, ℕ, zero, suc, ◌<◌, Bool, true, false, Option, None, Some, option_map, refl, sym, subst}
-use Rattle.narrow_fraction.specs.Attempt.{refusal_if, earlier, first_below, some_not_none}
+use Rattle.narrow_fraction.specs.Attempt.{refusal_if, earlier, first_below}
+use Rattle.narrow_fraction.proofs.Attempt.{some_not_none}
 
 pub some_same : {X : Type 0} (x y : X) → Some x ≡ Some y → x ≡ y
 some_same x y e = cc

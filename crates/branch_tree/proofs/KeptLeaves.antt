@@ -5,21 +5,21 @@ use Rattle.std.proofs.lemmas.List.{append-nil}
 use Rattle.std.proofs.lemmas.List.Elements.{All-nil, All-cons, All-append}
 use Rattle.std.specs.Prelude.{◌||◌, ◌&&◌}
 use Rattle.std.specs.Ordering.{eq_by_cmp}
-use Rattle.ratio.specs.Rational.{ℚ, whole}
-use Rattle.ratio.specs.Compare.{cmp_ℚ}
+use Rattle.rational_theory.specs.Rational.{ℚ, whole}
+use Rattle.rational_theory.specs.Compare.{cmp_ℚ}
 use Rattle.progression.specs.Street.{Street, HasSignal, HasLink}
 use Rattle.progression.specs.Speeds.{number}
 use Rattle.artery_model.specs.Valid.{IsValid}
-use Rattle.linear_model.specs.Names.{HasRow, name_of}
-use Rattle.linear_model.specs.Boxes.{Area}
+use Rattle.linear_theory.specs.Names.{HasRow, name_of}
+use Rattle.linear_theory.specs.Boxes.{Area}
 use Rattle.loop_rows.specs.Following.{IsBelow}
 use Rattle.named_row.specs.declared.names.RowId.{RowId}
 use Rattle.named_row.specs.declared.leaves.Weight.{Weight}
-use Rattle.simplex_model.specs.BlandRule.{Move, optimal, infeasible, pivoted}
+use Rattle.simplex_theory.specs.BlandRule.{Move, optimal, infeasible, pivoted}
 use Rattle.program_builder.specs.BoxRows.{rows_of, name_at}
-use Rattle.program_builder.specs.RowOrder.{rows_ascending, rows_there}
-use Rattle.program_builder.specs.NamedFamilies.{by_family}
-use Rattle.program_builder.specs.RowCounts.{rows_most}
+use Rattle.program_builder.proofs.RowOrder.{rows_ascending, rows_there}
+use Rattle.program_builder.proofs.NamedFamilies.{by_family}
+use Rattle.program_builder.proofs.RowCounts.{rows_most}
 use Rattle.dual_leaf.specs.Leaves.{multiplier, multipliers_below}
 use Rattle.plan_text.specs.Families.{IsNamed, is_lone, is_below, is_after}
 use Rattle.plan_text.specs.Warrants.{Ascend, IsNode, LeafOf}

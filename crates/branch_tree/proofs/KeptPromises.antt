@@ -1,7 +1,7 @@
 -- The ends of boxes keep what they promise.
-use Rattle.search_box.specs.Parts.{parts_of}
+use Rattle.search_box.proofs.Parts.{parts_of}
 use Rattle.branch_tree.specs.Promises.{BoxesEnd}
-use Rattle.branch_tree.specs.RuleLaws.BoxLaws as laws
+use Rattle.branch_tree.specs.laws.BoxLaws as laws
 use Rattle.branch_tree.proofs.Runs.{due_before, one_site}
 use Rattle.branch_tree.proofs.Units.{steps_few, boxes_short}
 use Rattle.branch_tree.proofs.BoxProofs.{start_covers}

@@ -1,21 +1,22 @@
 -- The sum of a leaf whose rows are there, with multipliers of at least 0, has no fault but an operation that leaves 128 bits; and
 -- where it has none, the leaf is a proof of what its sum shows.
 use Rattle.std.proofs.Common.{◌≡◌, List, [], ◌∷◌, map, Option, Some, None, refl, sym, ◌∙◌, ap, subst}
-use Rattle.ratio.specs.Rational.{ℚ}
+use Rattle.rational_theory.specs.Rational.{ℚ}
 use Rattle.progression.specs.Street.{Street, count}
-use Rattle.linear_model.specs.Places.{width}
-use Rattle.linear_model.specs.Boxes.{Area}
-use Rattle.linear_model.specs.Trees.{leaf_sum, AreWeights}
-use Rattle.narrow_fraction.specs.Attempt.{earlier, neither, some_not_none}
+use Rattle.linear_theory.specs.Places.{width}
+use Rattle.linear_theory.specs.Boxes.{Area}
+use Rattle.linear_theory.specs.Trees.{leaf_sum, AreWeights}
+use Rattle.narrow_fraction.specs.Attempt.{earlier}
+use Rattle.narrow_fraction.proofs.Attempt.{neither, some_not_none}
 use Rattle.named_row.specs.Sheets.{Sheet, blank}
 use Rattle.named_row.specs.Refusals.{sum_refusal}
 use Rattle.named_row.specs.declared.leaves.Weight.{Weight}
 use Rattle.named_row.specs.declared.wide_at.WideAt.{WideAt}
-use Rattle.loop_rows.specs.RowTests.{row_decided}
+use Rattle.loop_rows.proofs.RowTests.{row_decided}
 use Rattle.loop_rows.specs.Weights.{named, name_at, row_at, after_weight, weight_fault, weights_fault, leaf_fault}
 use Rattle.loop_rows.specs.declared.fault.SumFault.{SumFault}
 use Rattle.loop_rows.specs.declared.fault.SumFault.TheVariants.{NoSuchRow, Negative, Wide, Memory}
-use Rattle.loop_rows.specs.LeafSums.{no_fault, not_below, row_wide, fault_free, total_weights}
+use Rattle.loop_rows.proofs.LeafSums.{no_fault, not_below, row_wide, fault_free, total_weights}
 use Rattle.certificate_checker.specs.Accepted.{FitsAlong, Shows, IsProof}
 use Rattle.branch_tree.proofs.EachRefusal.{some_same}
 

@@ -1,26 +1,27 @@
 -- Where the run of a box is left: a refused step isn't the last one, and a leaf whose sum is refused is no proof.
 use Rattle.std.proofs.Common.{◌≡◌, ℕ, ◌<◌, Bool, true, false, cond, Option, Some, None, refl, sym, ◌∙◌, ap}
-use Rattle.narrow_fraction.specs.Attempt.{some_not_none}
+use Rattle.narrow_fraction.proofs.Attempt.{some_not_none}
 use Rattle.progression.specs.Street.{Street}
 use Rattle.artery_model.specs.Valid.{IsValid}
-use Rattle.linear_model.specs.Boxes.{Area}
+use Rattle.linear_theory.specs.Boxes.{Area}
 use Rattle.named_row.specs.declared.leaves.Leaf.{Leaf}
-use Rattle.simplex_model.specs.Tableau.{Tableau, cell, width}
-use Rattle.simplex_model.specs.BlandRule.{is_negative, place_before, chosen_row, chosen_place, move_in, move_by, move, on_place}
-use Rattle.simplex_model.specs.Best.{OnBest}
-use Rattle.simplex_model.specs.StepCounts.{is_pivot}
+use Rattle.simplex_theory.specs.Tableau.{Tableau, cell, width}
+use Rattle.simplex_theory.specs.BlandRule.{is_negative, place_before, chosen_row, chosen_place, move_in, move_by, move}
+use Rattle.simplex_theory.proofs.BlandRule.{on_place}
+use Rattle.simplex_theory.proofs.Best.{OnBest}
+use Rattle.simplex_theory.specs.StepCounts.{is_pivot}
 use Rattle.fraction_tableau.specs.declared.wide_cell.WideCell.{WideCell}
 use Rattle.dual_simplex.specs.Ratios.{ratio_at, ratio_refusal}
 use Rattle.dual_simplex.specs.Steps.{step_place, step_ratio, step_row, step_of}
 use Rattle.dual_simplex.specs.declared.outcome.Step.TheVariants as steps
 use Rattle.loop_rows.specs.Weights.{leaf_fault}
 use Rattle.loop_rows.specs.declared.fault.SumFault.{SumFault}
-use Rattle.node_tree.specs.Lines.{Line}
+use Rattle.branch_and_bound.specs.Lines.{Line}
 use Rattle.branch_and_bound.specs.Unfinished.{EndsUnproved}
 use Rattle.branch_tree.specs.Ends.{table_after, steps_of, end_leaf}
 use Rattle.branch_tree.specs.Sites.{step_at, IsReached}
 use Rattle.branch_tree.proofs.LeafFaults.{proof_free}
-use Rattle.branch_tree.specs.Relaxed.{rules_of}
+use Rattle.branch_tree.specs.ArteryRules.{rules_of}
 use Rattle.branch_tree.proofs.Runs.{due_at, due_before}
 use Rattle.branch_tree.proofs.EachRefusal.{Each, each_none, each_first}
 

@@ -1,19 +1,20 @@
 -- The row and the column that a refused ratio or pivot names lie in the tableau: the goal row comes after the last row, and the
 -- bound after the last column.
 use Rattle.std.proofs.Common.{arith, ◌≡◌, ℕ, suc, ◌<◌, ◌≤◌, Bool, true, false, cond, eqb, Option, None, Some, List, length, refl, subst}
-use Rattle.ratio.specs.Rational.{ℚ}
+use Rattle.rational_theory.specs.Rational.{ℚ}
 use Rattle.narrow_fraction.specs.Attempt.{first_below}
 use Rattle.narrow_fraction.specs.declared.wide.Op.{Op}
 use Rattle.narrow_fraction.specs.declared.wide.Wide.{Wide}
 use Rattle.narrow_fraction.specs.Past128.{past_wide}
 use Rattle.progression.specs.Street.{Street, count}
 use Rattle.artery_model.specs.Valid.{IsValid}
-use Rattle.linear_model.specs.Places.{width}
-use Rattle.linear_model.specs.Boxes.{Area}
-use Rattle.simplex_model.specs.Tableau as tableaus
-use Rattle.simplex_model.specs.Tableau.{Tableau, IsShaped, height, cell, line}
-use Rattle.simplex_model.specs.DualSteps.{IsChoice}
-use Rattle.simplex_model.specs.BlandRule.{is_negative, chosen_row, chosen_place, chosen_choice, chosen_row_in}
+use Rattle.linear_theory.specs.Places.{width}
+use Rattle.linear_theory.specs.Boxes.{Area}
+use Rattle.simplex_theory.specs.Tableau as tableaus
+use Rattle.simplex_theory.specs.Tableau.{Tableau, IsShaped, height, cell, line}
+use Rattle.simplex_theory.specs.DualSteps.{IsChoice}
+use Rattle.simplex_theory.specs.BlandRule.{is_negative, chosen_row, chosen_place}
+use Rattle.simplex_theory.proofs.BlandRule.{chosen_choice, chosen_row_in}
 use Rattle.fraction_tableau.specs.declared.wide_cell.WideCell.{WideCell}
 use Rattle.fraction_tableau.specs.Refusals.{at_cell, refused, turn_at, turn_refusal, clear_at, clear_refusal, line_refusal, pivot_refusal}
 use Rattle.dual_simplex.specs.Ratios.{ratio_at, ratio_refusal}
@@ -22,7 +23,7 @@ use Rattle.dual_simplex.specs.declared.outcome.Step.{Step}
 use Rattle.dual_simplex.specs.declared.outcome.Step.TheVariants as steps
 use Rattle.program_builder.specs.BoxRows.{rows_of}
 use Rattle.branch_tree.specs.Ends.{table_after}
-use Rattle.branch_tree.specs.RuleLaws.EndLaws.{run_dual, run_height, run_width}
+use Rattle.branch_tree.specs.laws.EndLaws.{run_dual, run_height, run_width}
 use Rattle.branch_tree.specs.Sites.{step_at}
 use Rattle.branch_tree.specs.SiteNames.{IsRatioOf, IsCellOf}
 use Rattle.branch_tree.proofs.EachRefusal.{Each, each_some, each_none, each_earlier, each_first}

@@ -2,9 +2,9 @@
 use Rattle.std.proofs.Common.{arith, ◌≡◌, ℕ, suc, ◌+◌, ◌-◌, ◌<◌, ◌≤◌, Bool, true, false, not, Option, None, Some, option_map, unwrap_or, List, [], ◌∷◌, length, refl, sym, ◌∙◌, ap, subst}
 use Rattle.std.proofs.lemmas.List.{length-replicate}
 use Rattle.std.specs.Ordering.{is_lt}
-use Rattle.ratio.specs.Rational.{ℚ}
-use Rattle.ratio.specs.Compare.{cmp_ℚ}
-use Rattle.ratio.specs.Rows.{add, scale}
+use Rattle.rational_theory.specs.Rational.{ℚ}
+use Rattle.rational_theory.specs.Compare.{cmp_ℚ}
+use Rattle.rational_theory.specs.Rows.{add, scale}
 use Rattle.narrow_fraction.specs.Attempt.{refusal_if, earlier, first_below}
 use Rattle.narrow_fraction.specs.Past128.{past_wide}
 use Rattle.narrow_fraction.specs.declared.wide.Op.TheVariants.{Mul}
@@ -15,10 +15,11 @@ use Rattle.progression.specs.Columns.{Column, BandOf, Frequency, WaitOf, RunOf, 
 use Rattle.progression.specs.declared.parts.Dir.{Dir}
 use Rattle.progression.specs.declared.parts.Dir.TheVariants.{Outbound, Inbound}
 use Rattle.artery_model.specs.Valid.{IsValid}
-use Rattle.linear_model.specs.Names.{HasRow, name_of, form_of}
-use Rattle.linear_model.specs.Places.{place, width, IsColumn}
-use Rattle.linear_model.specs.Points.{place_below}
-use Rattle.linear_model.specs.Boxes.{Area}
+use Rattle.linear_theory.specs.Names.{HasRow, name_of, form_of}
+use Rattle.linear_theory.specs.Places.{place, width}
+use Rattle.linear_theory.proofs.Places.{IsColumn}
+use Rattle.linear_theory.proofs.Points.{place_below}
+use Rattle.linear_theory.specs.Boxes.{Area}
 use Rattle.named_row.specs.Sheets.{Sheet, blank, with_times}
 use Rattle.named_row.specs.Refusals as sums
 use Rattle.named_row.specs.Refusals.{at, place_refusal, cell_refusal}
@@ -28,12 +29,13 @@ use Rattle.named_row.specs.declared.names.Place.TheVariants.{Cell, Bound}
 use Rattle.named_row.specs.declared.wide_at.WideAt.{WideAt}
 use Rattle.named_row.specs.declared.leaves.Weight.{Weight}
 use Rattle.loop_rows.specs.Totals.{block_wide}
-use Rattle.loop_rows.specs.RowTests.{has_row, row_decided}
-use Rattle.loop_rows.specs.Writing.{written_width}
+use Rattle.loop_rows.specs.RowTests.{has_row}
+use Rattle.loop_rows.proofs.RowTests.{row_decided}
+use Rattle.loop_rows.proofs.Writing.{written_width}
 use Rattle.loop_rows.specs.Weights.{name_at, row_at, after_weight, wide_fault, weight_fault, weights_fault, leaf_fault}
 use Rattle.loop_rows.specs.declared.fault.SumFault.{SumFault}
 use Rattle.loop_rows.specs.declared.fault.SumFault.TheVariants as fault
-use Rattle.recovery_model.specs.Placing.{timing_of}
+use Rattle.recovery_theory.specs.Placing.{timing_of}
 use Rattle.dual_simplex.specs.declared.outcome.Step.{Step}
 use Rattle.dual_simplex.specs.declared.outcome.Step.TheVariants as steps
 use Rattle.offset_recovery.specs.declared.outcome.WideTiming.TheVariants as wide

@@ -1,21 +1,21 @@
 -- What opening a box has to answer, from what the calls on its tableau said: the end was reached after k steps, the leaf was read
 -- off the tableau there, and no operation of its sum was refused.
 use Rattle.std.proofs.Common.{◌≡◌, ℕ, None, sym, ◌∙◌, ap, subst}
-use Rattle.ratio.specs.Rational.{ℚ}
+use Rattle.rational_theory.specs.Rational.{ℚ}
 use Rattle.progression.specs.Street.{Street}
 use Rattle.progression.specs.Plan.{Plan}
 use Rattle.artery_model.specs.Valid.{IsValid}
-use Rattle.linear_model.specs.Boxes.{IsBoxOf}
+use Rattle.linear_theory.specs.Boxes.{IsBoxOf}
 use Rattle.named_row.specs.declared.leaves.Leaf.{Leaf}
 use Rattle.named_row.specs.declared.leaves.Point.{Point}
-use Rattle.simplex_model.specs.BlandRule.{optimal, infeasible}
+use Rattle.simplex_theory.specs.BlandRule.{optimal, infeasible}
 use Rattle.dual_simplex.specs.declared.outcome.Step.TheVariants as steps
 use Rattle.loop_rows.specs.Weights.{leaf_fault}
 use Rattle.search_box.specs.declared.span.At.{At}
 use Rattle.offset_recovery.specs.declared.outcome.WideTiming.{WideTiming}
 use Rattle.offset_recovery.specs.Outcomes.{Outcome, Refused, Splits, Gives}
 use Rattle.offset_recovery.specs.Recovered.{recovered}
-use Rattle.node_tree.specs.Lines.{Line}
+use Rattle.branch_and_bound.specs.Lines.{Line}
 use Rattle.branch_and_bound.specs.Lineages.{IsOptimal}
 use Rattle.work_meter.specs.Work.{capped}
 use Rattle.branch_and_bound.specs.Opening.{OpensEmpty, HasBound, OpensTimed, OpensCut, OpensStuck}
@@ -23,11 +23,11 @@ use Rattle.branch_tree.specs.declared.site.SitePart.TheVariants.{Timing}
 use Rattle.branch_tree.specs.declared.kept.Kept.{Kept}
 use Rattle.branch_tree.specs.Ends.{steps_of, end_move, end_point, end_bound, end_leaf, ending_of, ending_by_outcome}
 use Rattle.branch_tree.specs.Sites.{step_at, IsReached}
-use Rattle.branch_tree.specs.RuleLaws.Endings.{ends_empty, ends_by_outcome}
+use Rattle.branch_tree.specs.laws.Endings.{ends_empty, ends_by_outcome}
 use Rattle.branch_tree.proofs.Runs.{wide_timing}
-use Rattle.branch_tree.specs.RuleLaws.BoxLaws.{reads_good}
+use Rattle.branch_tree.specs.laws.BoxLaws.{reads_good}
 use Rattle.branch_tree.proofs.BoxProofs.{end_covers, end_refutes}
-use Rattle.branch_tree.specs.Relaxed.{rules_of}
+use Rattle.branch_tree.specs.ArteryRules.{rules_of}
 
 module _ (a : Street) (line : Line) (leaf : Leaf) (v : IsValid a) (read : leaf.multipliers.items ≡ end_leaf a line.area) (f : leaf_fault a line.area (end_leaf a line.area) ≡ None) where
   pub opens_empty : (i : ℕ) → end_move a line.area ≡ infeasible i → OpensEmpty (rules_of a) line leaf

@@ -1,18 +1,18 @@
 -- What opening a box answers hangs on the box alone, and a part of a split box is a box of the artery.
 use Rattle.std.proofs.Common.{◌≡◌, ℕ, ◌⊎◌, inl, inr, Result, Ok, Err, IfOk, sym, ◌∙◌, ap, subst}
 use Rattle.progression.specs.Street.{Street}
-use Rattle.linear_model.specs.Boxes.{Area, IsBoxOf}
+use Rattle.linear_theory.specs.Boxes.{Area, IsBoxOf}
 use Rattle.search_box.specs.declared.span.At.{At}
-use Rattle.node_tree.specs.Lines.{Line, top_line, low_line, high_line}
+use Rattle.branch_and_bound.specs.Lines.{Line, top_line, low_line, high_line}
 use Rattle.branch_and_bound.specs.Lineages.{at_low, at_high}
 use Rattle.work_meter.specs.declared.meter.Meter.{Meter}
 use Rattle.branch_and_bound.specs.declared.opened.Opened.TheVariants.{Infeasible, Timed, Splits, Unread, WorkOut, Wide}
 use Rattle.branch_and_bound.specs.Unfinished.{IsUnfinished}
 use Rattle.branch_and_bound.specs.Opening.{Opens, IsPart}
 use Rattle.branch_tree.specs.declared.kept.Kept.{Kept}
-use Rattle.branch_tree.specs.Lineage.{boxed}
+use Rattle.branch_tree.specs.laws.Lineage.{boxed}
 use Rattle.branch_tree.specs.Opening.{Opening}
-use Rattle.branch_tree.specs.Relaxed.{rules_of}
+use Rattle.branch_tree.specs.ArteryRules.{rules_of}
 
 pub ok_map : {A E : Type 0} (r : Result A E) (P Q : A → Type 0) → ((x : A) → P x → Q x) → IfOk r P → IfOk r Q
 ok_map (Ok x) P Q f h = f x h

@@ -2,18 +2,19 @@
 use Rattle.std.proofs.Common.{◌≡◌, ℕ, List, sym, ◌∙◌, ap, subst, map}
 use Rattle.progression.specs.Street.{Street}
 use Rattle.artery_model.specs.Valid.{IsValid}
-use Rattle.linear_model.specs.Boxes.{Area}
-use Rattle.linear_model.specs.Trees.{AreWeights}
+use Rattle.linear_theory.specs.Boxes.{Area}
+use Rattle.linear_theory.specs.Trees.{AreWeights}
 use Rattle.loop_rows.specs.Weights.{named}
 use Rattle.named_row.specs.declared.leaves.Weight.{Weight}
-use Rattle.ratio.specs.Rational.{ℚ}
-use Rattle.simplex_model.specs.RowLists.{vertex_point}
-use Rattle.simplex_model.specs.BlandRule.{infeasible, Says, says}
+use Rattle.rational_theory.specs.Rational.{ℚ}
+use Rattle.simplex_theory.specs.RowLists.{vertex_point}
+use Rattle.simplex_theory.specs.BlandRule.{infeasible, Says}
+use Rattle.simplex_theory.proofs.BlandRule.{says}
 use Rattle.fraction_tableau.specs.NamedTableaus.{NamedTableau}
 use Rattle.dual_leaf.specs.Leaves.{goal_multipliers, row_multipliers}
-use Rattle.recovery_model.specs.Vertices.{IsVertex}
+use Rattle.recovery_theory.specs.Vertices.{IsVertex}
 use Rattle.branch_tree.specs.Ends.{named_last, last_table, end_point, end_leaf, leaf_by}
-use Rattle.branch_tree.specs.RuleLaws.EndLaws.{optimal_end, infeasible_end}
+use Rattle.branch_tree.specs.laws.EndLaws.{optimal_end, infeasible_end}
 use Rattle.branch_tree.specs.Opening.{IsOptimalRun, IsInfeasibleRun}
 
 module _ (a : Street) (box : Area) (t : NamedTableau) where

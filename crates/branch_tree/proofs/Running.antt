@@ -2,10 +2,10 @@
 use Rattle.std.proofs.Common.{arith, ◌≡◌, ℕ, ◌+◌, ◌≤◌, inl, true, false, Option, Some, None, IfSome, sym, ◌∙◌, ap, subst}
 use Rattle.progression.specs.Street.{Street}
 use Rattle.artery_model.specs.Valid.{IsValid}
-use Rattle.linear_model.specs.Boxes.{Area}
-use Rattle.simplex_model.specs.Tableau.{IsShaped}
-use Rattle.simplex_model.specs.BlandRule.{optimal, infeasible, move}
-use Rattle.simplex_model.specs.StepCounts.{after, is_pivot}
+use Rattle.linear_theory.specs.Boxes.{Area}
+use Rattle.simplex_theory.specs.Tableau.{IsShaped}
+use Rattle.simplex_theory.specs.BlandRule.{optimal, infeasible, move}
+use Rattle.simplex_theory.specs.StepCounts.{after, is_pivot}
 use Rattle.fraction_tableau.specs.NamedTableaus.{NamedTableau}
 use Rattle.dual_simplex.specs.declared.outcome.Step.TheVariants as steps
 use Rattle.work_meter.specs.declared.meter.Meter.{Meter}
@@ -13,10 +13,12 @@ use Rattle.dual_simplex.specs.declared.outcome.NodeEnd.{NodeEnd}
 use Rattle.dual_simplex.specs.declared.outcome.NodeEnd.TheVariants.{Optimal, Infeasible, WorkOut, Wide}
 use Rattle.dual_simplex.specs.Steps.{step_of}
 use Rattle.work_meter.specs.Work.{metered, is_at_limit, IsWithin, capped}
-use Rattle.dual_simplex.specs.Ends.{Solved, end_says, stepped}
-use Rattle.program_builder.specs.Building.{IsMadeFor, opened_box, made_spent}
+use Rattle.dual_simplex.specs.Ends.{Solved, stepped}
+use Rattle.dual_simplex.proofs.Ends.{end_says}
+use Rattle.program_builder.specs.Building.{IsMadeFor, opened_box}
+use Rattle.program_builder.proofs.BuildingLaws.{made_spent}
 use Rattle.branch_tree.specs.Ends.{table_after, named_after, steps_of}
-use Rattle.branch_tree.specs.RuleLaws.EndLaws.{run_dual, run_height, run_width}
+use Rattle.branch_tree.specs.laws.EndLaws.{run_dual, run_height, run_width}
 use Rattle.branch_tree.proofs.Runs.{ends_step, reached_by, table_by, end_here, due_at, due_before}
 use Rattle.branch_tree.specs.Sites.{step_at, IsReached}
 use Rattle.branch_tree.specs.Opening.{IsOptimalRun, IsInfeasibleRun, IsRunTo, IsRun}

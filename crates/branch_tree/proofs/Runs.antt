@@ -1,12 +1,14 @@
 -- From what the steps of a box's run answer to where the run stands: how many steps lead to the end, and which stop it is.
 use Rattle.std.proofs.Common.{arith, ◌≡◌, ℕ, ◌<◌, ◌⊎◌, inl, inr, Bool, true, false, true≢false, Some, None, cond, ◌&&◌, refl, sym, ◌∙◌, ap, subst}
-use Rattle.narrow_fraction.specs.Attempt.{earlier, some_not_none}
+use Rattle.narrow_fraction.specs.Attempt.{earlier}
+use Rattle.narrow_fraction.proofs.Attempt.{some_not_none}
 use Rattle.progression.specs.Street.{Street}
 use Rattle.artery_model.specs.Valid.{IsValid}
-use Rattle.linear_model.specs.Boxes.{Area}
-use Rattle.simplex_model.specs.Tableau.{Tableau}
-use Rattle.simplex_model.specs.BlandRule.{Move, move}
-use Rattle.simplex_model.specs.StepCounts.{after, is_pivot, steps_to_end, ended, pivots_to_end}
+use Rattle.linear_theory.specs.Boxes.{Area}
+use Rattle.simplex_theory.specs.Tableau.{Tableau}
+use Rattle.simplex_theory.specs.BlandRule.{Move, move}
+use Rattle.simplex_theory.specs.StepCounts.{after, is_pivot, steps_to_end}
+use Rattle.simplex_theory.proofs.StepCounts.{ended, pivots_to_end}
 use Rattle.fraction_tableau.specs.NamedTableaus.{NamedTableau}
 use Rattle.fraction_tableau.specs.declared.wide_cell.WideCell.{WideCell}
 use Rattle.dual_simplex.specs.declared.outcome.Step.{Step}
@@ -14,9 +16,11 @@ use Rattle.dual_simplex.specs.declared.outcome.Step.TheVariants as steps
 use Rattle.work_meter.specs.declared.meter.Meter.{Meter}
 use Rattle.dual_simplex.specs.declared.outcome.NodeEnd.{NodeEnd}
 use Rattle.dual_simplex.specs.declared.outcome.NodeEnd.TheVariants.{Optimal, Infeasible, WorkOut, Wide}
-use Rattle.dual_simplex.specs.Steps.{step_of, Agrees, agrees}
+use Rattle.dual_simplex.specs.Steps.{step_of}
+use Rattle.dual_simplex.proofs.Steps.{Agrees, agrees}
 use Rattle.work_meter.specs.Work.{is_out, metered}
-use Rattle.dual_simplex.specs.Ends.{Solved, end_at, end_by_step, goes_on}
+use Rattle.dual_simplex.specs.Ends.{Solved, end_at, end_by_step}
+use Rattle.dual_simplex.proofs.Ends.{goes_on}
 use Rattle.loop_rows.specs.Weights.{leaf_fault}
 use Rattle.loop_rows.specs.declared.fault.SumFault.TheVariants as fault
 use Rattle.named_row.specs.declared.names.RowId.{RowId}
@@ -25,7 +29,7 @@ use Rattle.offset_recovery.specs.declared.outcome.WideTiming.{WideTiming}
 use Rattle.offset_recovery.specs.Outcomes.{Refused}
 use Rattle.offset_recovery.specs.Recovered.{recovered}
 use Rattle.program_builder.specs.Opening.{opening}
-use Rattle.program_builder.specs.OpeningLaws.{opening_dual}
+use Rattle.program_builder.proofs.OpeningLaws.{opening_dual}
 use Rattle.branch_tree.specs.declared.site.SitePart.{SitePart}
 use Rattle.branch_tree.specs.declared.site.SitePart.TheVariants.{Ratio, Cell, LeafSum, Timing}
 use Rattle.branch_tree.specs.Ends.{table_after, steps_of, end_leaf, end_point}

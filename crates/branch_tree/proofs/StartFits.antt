@@ -1,36 +1,37 @@
 -- The sum of the start leaf stays within 128 bits, by the limits of an artery's numbers.
 use Rattle.std.proofs.Common.{◌≡◌, ℕ, zero, suc, pos, Bool, true, false, cond, Option, None, [], ◌∷◌, length, get_or, replicate, ◌*◌, ◌<◌, ◌^◌, refl, sym, ◌∙◌, ap, subst, arith}
 use Rattle.std.specs.Ordering.{eq_by_cmp}
-use Rattle.ratio.specs.Rational.{ℚ, whole, ◌+ℚ◌, ◌*ℚ◌}
-use Rattle.ratio.specs.Compare.{cmp_ℚ}
-use Rattle.ratio.specs.Rows as maths
-use Rattle.ratio.specs.Rows.{scale}
+use Rattle.rational_theory.specs.Rational.{ℚ, whole, ◌+ℚ◌, ◌*ℚ◌}
+use Rattle.rational_theory.specs.Compare.{cmp_ℚ}
+use Rattle.rational_theory.specs.Rows as maths
+use Rattle.rational_theory.specs.Rows.{scale}
 use Rattle.progression.specs.Street.{Street, count, HasSignal}
 use Rattle.progression.specs.Speeds.{number}
 use Rattle.progression.specs.declared.parts.Dir.{Dir}
 use Rattle.progression.specs.declared.parts.Dir.TheVariants.{Outbound, Inbound}
 use Rattle.artery_model.specs.Valid.{IsValid}
-use Rattle.linear_model.specs.Places.{width}
-use Rattle.linear_model.specs.Boxes.{Area}
-use Rattle.linear_model.specs.Rows.{wait_form}
+use Rattle.linear_theory.specs.Places.{width}
+use Rattle.linear_theory.specs.Boxes.{Area}
+use Rattle.linear_theory.specs.Rows.{wait_form}
 use Rattle.narrow_fraction.specs.Attempt.{first_below}
-use Rattle.narrow_fraction.specs.Past128.{past_none}
+use Rattle.narrow_fraction.proofs.Past128.{past_none}
 use Rattle.narrow_fraction.specs.declared.wide.Op.TheVariants.{Add, Mul}
 use Rattle.named_row.specs.Sheets.{Sheet, blank, with_times}
 use Rattle.named_row.specs.Refusals.{place_refusal, cell_refusal, sum_refusal}
 use Rattle.named_row.specs.declared.names.Place.{Place}
 use Rattle.named_row.specs.declared.names.Place.TheVariants.{Cell, Bound}
 use Rattle.named_row.specs.declared.leaves.Weight.{Weight}
-use Rattle.loop_rows.specs.Writing.{written, written_row}
+use Rattle.loop_rows.specs.Writing.{written}
+use Rattle.loop_rows.proofs.Writing.{written_row}
 use Rattle.loop_rows.specs.Weights.{after_weight, weights_fault, leaf_fault}
-use Rattle.loop_rows.specs.LeafSums.{fault_free}
-use Rattle.simplex_model.specs.Signs.{one_positive}
-use Rattle.simplex_model.specs.Lines.{get_or-add, get_or-scale}
-use Rattle.program_builder.specs.LineCells.{line_each}
-use Rattle.program_builder.specs.RowKinds.{IsUpTo, small_whole, small_ratio, small_zero, small_wait}
-use Rattle.program_builder.specs.Narrowing.{up_to_times, up_to_plus, up_to_times_fits, up_to_sum_fits}
+use Rattle.loop_rows.proofs.LeafSums.{fault_free}
+use Rattle.simplex_theory.proofs.Signs.{one_positive}
+use Rattle.simplex_theory.proofs.Lines.{get_or-add, get_or-scale}
+use Rattle.program_builder.proofs.LineCells.{line_each}
+use Rattle.program_builder.proofs.RowKinds.{IsUpTo, small_whole, small_ratio, small_zero, small_wait}
+use Rattle.program_builder.proofs.Narrowing.{up_to_times, up_to_plus, up_to_times_fits, up_to_sum_fits}
 use Rattle.branch_tree.specs.Starts.{first_out, first_in, start_leaf}
-use Rattle.branch_tree.specs.RuleLaws.WeakDuality.{ratio_low}
+use Rattle.branch_tree.specs.laws.WeakDuality.{ratio_low}
 
 -- every number of the row is n at most in both its numbers
 record IsSmallSheet (n : ℕ) (s : Sheet) : Type 0 where

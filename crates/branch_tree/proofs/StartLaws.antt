@@ -2,31 +2,32 @@
 use Rattle.std.proofs.Common.{◌≡◌, ℕ, zero, suc, pos, Bool, true, false, cond, List, [], ◌∷◌, set, replicate, map, ◌≤◌, refl, sym, ◌∙◌, ap, subst, arith}
 use Rattle.std.specs.Ordering.{eq_by_cmp}
 use Rattle.std.proofs.lemmas.List.{length-set, length-replicate, get_or-set_same}
-use Rattle.ratio.specs.Rational.{ℚ, ◌+ℚ◌, ◌*ℚ◌, ◌≤ℚ◌}
-use Rattle.ratio.specs.Compare.{cmp_ℚ, eq_true}
-use Rattle.ratio.specs.Order.{≤ℚ_refl}
-use Rattle.ratio.specs.Linear.{linear, sum_not_negative, product_not_negative}
-use Rattle.ratio.specs.Ring.{ring, at, lit, ◌⊕◌, ◌⊗◌}
-use Rattle.ratio.specs.Rows.{add, scale}
+use Rattle.rational_theory.specs.Rational.{ℚ, ◌+ℚ◌, ◌*ℚ◌, ◌≤ℚ◌}
+use Rattle.rational_theory.specs.Compare.{cmp_ℚ}
+use Rattle.rational_theory.proofs.Compare.{eq_true}
+use Rattle.rational_theory.proofs.Order.{≤ℚ_refl}
+use Rattle.rational_theory.proofs.Linear.{linear, sum_not_negative, product_not_negative}
+use Rattle.rational_theory.proofs.Ring.{ring, at, lit, ◌⊕◌, ◌⊗◌}
+use Rattle.rational_theory.specs.Rows.{add, scale}
 use Rattle.progression.specs.Street.{Street, count}
 use Rattle.progression.specs.Speeds.{number}
 use Rattle.progression.specs.Columns.{BandOf, WaitOf}
 use Rattle.progression.specs.declared.parts.Dir.{Dir}
 use Rattle.progression.specs.declared.parts.Dir.TheVariants.{Outbound, Inbound}
 use Rattle.artery_model.specs.Valid.{IsValid}
-use Rattle.linear_model.specs.Places.{width}
-use Rattle.linear_model.specs.Blocks.{green_part}
-use Rattle.linear_model.specs.Boxes.{root_box}
-use Rattle.linear_model.specs.Rows.{line, wait_form, goal_form}
-use Rattle.linear_model.specs.Covering.{coef, CoversGoal}
-use Rattle.linear_model.specs.Trees.{AreWeights}
+use Rattle.linear_theory.specs.Places.{width}
+use Rattle.linear_theory.specs.Blocks.{green_part}
+use Rattle.linear_theory.specs.Boxes.{root_box}
+use Rattle.linear_theory.specs.Rows.{line, wait_form, goal_form}
+use Rattle.linear_theory.specs.Covering.{coef, CoversGoal}
+use Rattle.linear_theory.specs.Trees.{AreWeights}
 use Rattle.loop_rows.specs.Weights.{named}
-use Rattle.simplex_model.specs.Signs.{one_positive}
-use Rattle.program_builder.specs.LineCells.{line_each, line_other, line_first}
-use Rattle.simplex_model.specs.Lines.{get_or-add, get_or-scale}
+use Rattle.simplex_theory.proofs.Signs.{one_positive}
+use Rattle.program_builder.proofs.LineCells.{line_each, line_other, line_first}
+use Rattle.simplex_theory.proofs.Lines.{get_or-add, get_or-scale}
 use Rattle.branch_tree.specs.LeafRows.{sum_of}
-use Rattle.branch_tree.specs.RuleLaws.LeafWeights.{weight_there}
-use Rattle.branch_tree.specs.RuleLaws.WeakDuality.{ratio_low}
+use Rattle.branch_tree.specs.laws.LeafWeights.{weight_there}
+use Rattle.branch_tree.specs.laws.WeakDuality.{ratio_low}
 use Rattle.branch_tree.specs.Starts.{first_out, first_in, start_leaf, start_bound}
 
 pub record IsGoodStart (a : Street) : Type 0 where

@@ -1,14 +1,14 @@
 -- The tree of a search is one that the checker of certificates accepts.
 use Rattle.std.proofs.Common.{inl, inr, List, [], ◌∷◌, map, Option, Some, None}
-use Rattle.ratio.specs.Rational.{ℚ}
+use Rattle.rational_theory.specs.Rational.{ℚ}
 use Rattle.progression.specs.Street.{Street}
-use Rattle.linear_model.specs.Boxes.{Area, root_box}
+use Rattle.linear_theory.specs.Boxes.{Area, root_box}
 use Rattle.named_row.specs.declared.leaves.Leaf.{Leaf}
 use Rattle.certificate_checker.specs.Accepted.{IsProof, AreProofs}
 use Rattle.branch_and_bound.specs.declared.node.TreeNode.{TreeNode}
 use Rattle.branch_and_bound.specs.Answer as engine
-use Rattle.branch_and_bound.specs.Readings.{ReadsAnswers, accepted_read}
-use Rattle.branch_tree.specs.Relaxed.{rules_of}
+use Rattle.branch_and_bound.proofs.Readings.{ReadsAnswers, accepted_read}
+use Rattle.branch_tree.specs.ArteryRules.{rules_of}
 use Rattle.branch_tree.specs.Trees.{node_of}
 
 -- a leaf of the search is a proof

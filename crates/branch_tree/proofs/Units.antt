@@ -2,16 +2,16 @@
 use Rattle.std.proofs.Common.{◌+◌, ◌<◌, ◌^◌, ◌∙◌, ap, ap₂, subst, arith}
 use Rattle.progression.specs.Street.{Street}
 use Rattle.artery_model.specs.Valid.{IsValid}
-use Rattle.linear_model.specs.Boxes.{Area}
-use Rattle.simplex_model.specs.StepCounts.{steps_low, room_is}
+use Rattle.linear_theory.specs.Boxes.{Area}
+use Rattle.simplex_theory.proofs.StepCounts.{steps_low, room_is}
 use Rattle.program_builder.specs.Opening.{opening}
-use Rattle.program_builder.specs.OpeningLaws.{opening_dual, width-opening, height-opening}
+use Rattle.program_builder.proofs.OpeningLaws.{opening_dual, width-opening, height-opening}
 use Rattle.branch_and_bound.specs.Enough.{IsShort}
 use Rattle.branch_tree.specs.Ends.{steps_of}
 use Rattle.branch_tree.proofs.Runs.{due_before}
 use Rattle.branch_tree.specs.Promises.{sets_of}
-use Rattle.branch_tree.specs.Lineage.{searchable}
-use Rattle.branch_tree.specs.Relaxed.{rules_of}
+use Rattle.branch_tree.specs.laws.Lineage.{searchable}
+use Rattle.branch_tree.specs.ArteryRules.{rules_of}
 
 pub steps_few : (a : Street) (box : Area) → IsValid a → steps_of a box < sets_of a
 unfolding steps_of

@@ -1,6 +1,6 @@
 -- The certificate of what a search found: its claim, its timing and its tree, without the vertices.
 use Rattle.std.specs.Prelude.{map, Option, Some, None}
-use Rattle.ratio.specs.Rational.{ℚ}
+use Rattle.rational_theory.specs.Rational.{ℚ}
 use Rattle.progression.specs.Street.{Street}
 use Rattle.progression.specs.Plan.{Plan}
 use Rattle.progression.specs.Best.{weighted_band}

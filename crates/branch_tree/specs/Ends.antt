@@ -1,14 +1,14 @@
 -- What becomes of a box of an artery when the dual simplex method runs from its opening tableau to its end by Bland's rule of
 -- 1977: the last tableau, its leaf, its vertex, and how the box is searched on, as in Little's mixed-integer search of 1966.
 use Rattle.std.specs.Prelude.{ℕ, false, List, []}
-use Rattle.ratio.specs.Rational.{ℚ}
+use Rattle.rational_theory.specs.Rational.{ℚ}
 use Rattle.progression.specs.Street.{Street}
-use Rattle.linear_model.specs.Boxes.{Area}
+use Rattle.linear_theory.specs.Boxes.{Area}
 use Rattle.named_row.specs.declared.leaves.Weight.{Weight}
-use Rattle.simplex_model.specs.Tableau.{Tableau, goal_bound}
-use Rattle.simplex_model.specs.BlandRule.{Move, optimal, infeasible, pivoted, move}
-use Rattle.simplex_model.specs.StepCounts.{after, steps_to_end}
-use Rattle.simplex_model.specs.RowLists.{vertex_point}
+use Rattle.simplex_theory.specs.Tableau.{Tableau, goal_bound}
+use Rattle.simplex_theory.specs.BlandRule.{Move, optimal, infeasible, pivoted, move}
+use Rattle.simplex_theory.specs.StepCounts.{after, steps_to_end}
+use Rattle.simplex_theory.specs.RowLists.{vertex_point}
 use Rattle.fraction_tableau.specs.NamedTableaus.{NamedTableau}
 use Rattle.dual_leaf.specs.Leaves.{goal_multipliers, row_multipliers}
 use Rattle.program_builder.specs.BoxRows.{rows_of}

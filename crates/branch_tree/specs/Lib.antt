@@ -2,7 +2,6 @@ pub mod Ends
 pub mod Sites
 pub mod LeafRows
 pub mod Starts
-pub mod RuleLaws
 pub mod Lineage
 pub mod Relaxed
 pub mod Trees
@@ -12,3 +11,5 @@ pub mod SiteNames
 pub mod Searches
 pub mod Certified
 pub mod Opening
+pub mod ArteryRules
+pub mod laws

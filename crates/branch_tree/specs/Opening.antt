@@ -2,9 +2,9 @@
 use Rattle.std.specs.Prelude.{◌≡◌, ℕ, List, Some, None, length}
 use Rattle.progression.specs.Street.{Street, count}
 use Rattle.progression.specs.Plan.{Plan}
-use Rattle.linear_model.specs.Places.{width}
-use Rattle.linear_model.specs.Boxes.{Area}
-use Rattle.simplex_model.specs.BlandRule.{optimal, infeasible}
+use Rattle.linear_theory.specs.Places.{width}
+use Rattle.linear_theory.specs.Boxes.{Area}
+use Rattle.simplex_theory.specs.BlandRule.{optimal, infeasible}
 use Rattle.fraction_tableau.specs.NamedTableaus.{NamedTableau}
 use Rattle.program_builder.specs.Building.{IsMadeFor}
 use Rattle.dual_simplex.specs.declared.outcome.Step.TheVariants as steps
@@ -13,7 +13,7 @@ use Rattle.dual_simplex.specs.declared.outcome.NodeEnd.TheVariants.{Optimal, Inf
 use Rattle.loop_rows.specs.Weights.{leaf_fault}
 use Rattle.loop_rows.specs.declared.fault.SumFault.TheVariants as fault
 use Rattle.named_row.specs.declared.leaves.Weight.{Weight}
-use Rattle.node_tree.specs.Lines.{top_line}
+use Rattle.branch_and_bound.specs.Lines.{top_line}
 use Rattle.work_meter.specs.declared.meter.Meter.{Meter}
 use Rattle.branch_and_bound.specs.declared.opened.Opened.{Opened}
 use Rattle.branch_and_bound.specs.declared.opened.Opened.TheVariants as opened
@@ -29,7 +29,7 @@ use Rattle.branch_tree.specs.Ends.{steps_of, end_move, named_last}
 use Rattle.branch_tree.specs.LeafRows.{sum_of}
 use Rattle.branch_tree.specs.Lineage.{IsSearchable}
 use Rattle.branch_tree.specs.Sites.{step_at, IsReached, IsDue, IsWide}
-use Rattle.branch_tree.specs.Relaxed.{rules_of}
+use Rattle.branch_tree.specs.ArteryRules.{rules_of}
 
 -- the tableau was made for the artery, and the spare row has its width
 pub record IsRoomFor (a : Street) (room : Room) : Type 0 where

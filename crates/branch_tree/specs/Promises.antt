@@ -1,17 +1,17 @@
 -- What the ends of boxes promise, as an outsider reads it.
 use Rattle.std.specs.Prelude.{◌≡◌, ℕ, ◌+◌, ◌<◌, ◌^◌, List, length, Some, map}
-use Rattle.ratio.specs.Rational.{ℚ, ◌≤ℚ◌}
+use Rattle.rational_theory.specs.Rational.{ℚ, ◌≤ℚ◌}
 use Rattle.progression.specs.Street.{Street, count}
 use Rattle.progression.specs.Plan.{Plan}
 use Rattle.progression.specs.Good.{Good}
 use Rattle.progression.specs.Best.{weighted_band}
 use Rattle.artery_model.specs.Valid.{IsValid}
-use Rattle.linear_model.specs.Places.{width}
-use Rattle.linear_model.specs.Boxes.{Area, IsBoxOf, root_box}
-use Rattle.linear_model.specs.Covering.{CoversGoal, RefutesAll}
-use Rattle.linear_model.specs.Trees.{leaf_sum, AreWeights}
+use Rattle.linear_theory.specs.Places.{width}
+use Rattle.linear_theory.specs.Boxes.{Area, IsBoxOf, root_box}
+use Rattle.linear_theory.specs.Covering.{CoversGoal, RefutesAll}
+use Rattle.linear_theory.specs.Trees.{leaf_sum, AreWeights}
 use Rattle.loop_rows.specs.Weights.{named}
-use Rattle.recovery_model.specs.Vertices.{IsVertex, goal_at}
+use Rattle.recovery_theory.specs.Vertices.{IsVertex, goal_at}
 use Rattle.search_box.specs.declared.span.At.{At}
 use Rattle.search_box.specs.Places.{IsPlace, low_part, high_part, AreParts}
 use Rattle.offset_recovery.specs.Outcomes.{Gives}
@@ -24,7 +24,7 @@ use Rattle.branch_tree.specs.Ends.{steps_of, end_point, end_bound, end_leaf, end
 use Rattle.branch_tree.specs.declared.site.SitePart.{SitePart}
 use Rattle.branch_tree.specs.Sites.{IsDue, IsWide}
 use Rattle.branch_tree.specs.Starts.{start_leaf, start_bound}
-use Rattle.branch_tree.specs.Relaxed.{rules_of}
+use Rattle.branch_tree.specs.ArteryRules.{rules_of}
 
 -- there are at most so many sets of basic variables: 2 to the power of the number of rows and columns
 abbrev pub sets_of : Street → ℕ

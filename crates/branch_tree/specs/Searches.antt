@@ -6,7 +6,7 @@ use Rattle.progression.specs.Best.{weighted_band}
 use Rattle.branch_and_bound.specs.declared.incumbent.Incumbent.{Incumbent}
 use Rattle.branch_and_bound.specs.Answer.{IsAnswer}
 use Rattle.branch_tree.specs.declared.found.Found.{Found}
-use Rattle.branch_tree.specs.Relaxed.{rules_of}
+use Rattle.branch_tree.specs.ArteryRules.{rules_of}
 -- what this tells besides, by the names that the crates above know
 pub use Rattle.branch_tree.specs.Told.{Tells, IsCertifiable}
 pub use Rattle.branch_tree.specs.SiteNames.{IsPartOf, IsStopOf, HasSite}

@@ -1,9 +1,9 @@
 -- What the site of a refused operation names: a box, a row, a column and a link of the artery.
 use Rattle.std.specs.Prelude.{◌<◌, ◌≤◌, length}
 use Rattle.progression.specs.Street.{Street, HasLink, count}
-use Rattle.linear_model.specs.Names.{HasRow, name_of}
-use Rattle.linear_model.specs.Places.{width}
-use Rattle.linear_model.specs.Boxes.{IsBoxOf}
+use Rattle.linear_theory.specs.Names.{HasRow, name_of}
+use Rattle.linear_theory.specs.Places.{width}
+use Rattle.linear_theory.specs.Boxes.{IsBoxOf}
 use Rattle.named_row.specs.declared.names.Place.{Place}
 use Rattle.named_row.specs.declared.names.Place.TheVariants.{Cell, Bound}
 use Rattle.fraction_tableau.specs.declared.wide_cell.WideCell.{WideCell}

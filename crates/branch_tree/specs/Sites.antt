@@ -2,9 +2,9 @@
 use Rattle.std.specs.Prelude.{◌≡◌, ℕ, ◌<◌, Bool, true, false, Option, Some, None}
 use Rattle.narrow_fraction.specs.Attempt.{earlier}
 use Rattle.progression.specs.Street.{Street}
-use Rattle.linear_model.specs.Boxes.{Area}
-use Rattle.simplex_model.specs.BlandRule.{move}
-use Rattle.simplex_model.specs.StepCounts.{is_pivot}
+use Rattle.linear_theory.specs.Boxes.{Area}
+use Rattle.simplex_theory.specs.BlandRule.{move}
+use Rattle.simplex_theory.specs.StepCounts.{is_pivot}
 use Rattle.dual_simplex.specs.declared.outcome.Step.{Step}
 use Rattle.dual_simplex.specs.declared.outcome.Step.TheVariants.{Optimal, Infeasible, Pivoted, Wide}
 use Rattle.dual_simplex.specs.Steps.{step_of}

@@ -1,10 +1,10 @@
 -- The leaf that bounds the root of Little's program of 1966 before any step: the rows of the waits at signal 1, the outbound one once and the inbound one so
 -- many times as the ratio is. Each wait and its band fit into the green, so together they bound the weighted band.
 use Rattle.std.specs.Prelude.{◌∷◌, List}
-use Rattle.ratio.specs.Rational.{ℚ}
+use Rattle.rational_theory.specs.Rational.{ℚ}
 use Rattle.progression.specs.Street.{Street}
 use Rattle.progression.specs.Speeds.{number}
-use Rattle.linear_model.specs.Boxes.{root_box}
+use Rattle.linear_theory.specs.Boxes.{root_box}
 use Rattle.named_row.specs.declared.names.RowId.{RowId}
 use Rattle.named_row.specs.declared.leaves.Weight.{Weight}
 use Rattle.dual_leaf.specs.Leaves.{multiplier}

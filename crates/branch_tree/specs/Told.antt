@@ -1,6 +1,6 @@
 -- What the answer of a search tells of its timing, and what a certificate keeps of it.
 use Rattle.std.specs.Prelude.{◌≡◌, All, map, Option, Some, None, IfSome, IsSome}
-use Rattle.ratio.specs.Rational.{ℚ, ◌≤ℚ◌}
+use Rattle.rational_theory.specs.Rational.{ℚ, ◌≤ℚ◌}
 use Rattle.progression.specs.Street.{Street}
 use Rattle.progression.specs.Plan.{Plan}
 use Rattle.progression.specs.Best.{weighted_band}

@@ -1,13 +1,13 @@
 //! What the ends of boxes promise, and that the search of an artery's boxes gives accepted trees.
 
 ghost use Rattle.std.specs.Prelude.{List, [], ◌∷◌, map, Option};
-ghost use Rattle.ratio.specs.Rational.{ℚ};
+ghost use Rattle.rational_theory.specs.Rational.{ℚ};
 ghost use Rattle.progression.specs.Street.{Street};
-ghost use Rattle.linear_model.specs.Boxes.{root_box};
+ghost use Rattle.linear_theory.specs.Boxes.{root_box};
 ghost use Rattle.certificate_checker.specs.Accepted.{AreProofs};
 ghost use Rattle.branch_and_bound.specs.declared.node.TreeNode.{TreeNode};
 ghost use Rattle.branch_and_bound.specs.Answer.{IsAccepted};
-ghost use Rattle.branch_tree.specs.Relaxed.{rules_of};
+ghost use Rattle.branch_tree.specs.ArteryRules.{rules_of};
 ghost use Rattle.branch_tree.specs.Trees.{node_of};
 ghost use Rattle.branch_tree.specs.Promises.{BoxesEnd};
 

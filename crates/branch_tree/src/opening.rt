@@ -1,10 +1,10 @@
 //! Opens one box: the steps from its opening tableau to the end, and what is read off there.
 
 ghost use Rattle.std.specs.Prelude.{◌≡◌, ℕ, IfOk, None, map};
-ghost use Rattle.linear_model.specs.Boxes.{IsBoxOf};
-ghost use Rattle.linear_model.specs.Trees.{AreWeights};
+ghost use Rattle.linear_theory.specs.Boxes.{IsBoxOf};
+ghost use Rattle.linear_theory.specs.Trees.{AreWeights};
 ghost use Rattle.loop_rows.specs.Weights.{named, leaf_fault};
-ghost use Rattle.node_tree.specs.Lines.{Line, top_line};
+ghost use Rattle.branch_and_bound.specs.Lines.{Line, top_line};
 ghost use Rattle.program_builder.specs.Building.{opened_box, IsMadeFor};
 ghost use Rattle.dual_simplex.specs.declared.outcome.Step.TheVariants as steps;
 ghost use Rattle.work_meter.specs.declared.meter.Meter.{Meter};
@@ -12,7 +12,7 @@ ghost use Rattle.work_meter.specs.Work.{capped, HasWork};
 ghost use Rattle.branch_and_bound.specs.Opening.{Opens};
 ghost use Rattle.branch_tree.specs.Ends.{steps_of, end_leaf, end_bound};
 ghost use Rattle.branch_tree.specs.Sites.{IsReached, step_at};
-ghost use Rattle.branch_tree.specs.Relaxed.{rules_of};
+ghost use Rattle.branch_tree.specs.ArteryRules.{rules_of};
 ghost use Rattle.branch_tree.specs.Opening.{IsRoomFor, IsLeft, IsRun, IsOptimalRun, IsInfeasibleRun, IsSummed, IsReadEnd, IsEmptyEnd, IsWideStep};
 
 use crate::kept::Kept;

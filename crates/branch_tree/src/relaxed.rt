@@ -44,7 +44,7 @@ pub struct Relaxed<'a> {
 }
 
 impl<'a> Relaxation for Relaxed<'a> {
-    ghost use Rattle.branch_tree.specs.Relaxed.{rules_of};
+    ghost use Rattle.branch_tree.specs.ArteryRules.{rules_of};
 
     type Room = Room;
 

@@ -1,7 +1,7 @@
 //! The leaf that bounds the root before any pivot.
 
 ghost use Rattle.std.specs.Prelude.{◌≡◌, ◌++◌, [], ◌∷◌, None, IfOk, OnOk};
-ghost use Rattle.linear_model.specs.Boxes.{IsBoxOf, root_box};
+ghost use Rattle.linear_theory.specs.Boxes.{IsBoxOf, root_box};
 ghost use Rattle.loop_rows.specs.Weights.{leaf_fault};
 ghost use Rattle.dual_leaf.specs.Leaves.{multiplier};
 ghost use Rattle.branch_tree.specs.LeafRows.{sum_of};

@@ -1,17 +1,19 @@
 -- A certificate is accepted exactly where nothing is refused.
 use Rattle.std.proofs.Common.{◌≡◌, not, Option, None, Some, [], ◌∷◌, refl, sym, ap, ap₂}
 use Rattle.std.specs.Ordering.{eq_by_cmp}
-use Rattle.ratio.specs.Rational.{ℚ}
-use Rattle.ratio.specs.Compare.{cmp_ℚ, lt_false, ne_false, eq_says}
+use Rattle.rational_theory.specs.Rational.{ℚ}
+use Rattle.rational_theory.specs.Compare.{cmp_ℚ}
+use Rattle.rational_theory.proofs.Compare.{lt_false, ne_false, eq_says}
 use Rattle.progression.specs.Street.{Street}
 use Rattle.progression.specs.Plan.{Plan}
 use Rattle.progression.specs.Best.{weighted_band}
-use Rattle.linear_model.specs.Boxes.{root_box}
-use Rattle.narrow_fraction.specs.Attempt.{earlier, neither, not_refused}
+use Rattle.linear_theory.specs.Boxes.{root_box}
+use Rattle.narrow_fraction.specs.Attempt.{earlier}
+use Rattle.narrow_fraction.proofs.Attempt.{neither, not_refused}
 use Rattle.plan_text.specs.declared.certificate.Claim.{Claim}
 use Rattle.plan_text.specs.declared.certificate.Claim.TheVariants.{Best, NoTiming, Stopped}
 use Rattle.plan_text.specs.Warrants.{Warrant, HasTiming, IsCertificate}
-use Rattle.loop_rows.specs.LeafSums.{not_below}
+use Rattle.loop_rows.proofs.LeafSums.{not_below}
 use Rattle.certificate_checker.specs.Accepted.{value_of, limit_of, IsTimed, IsBoundAbove, IsAccepted}
 use Rattle.certificate_checker.specs.Refusals.{value_refusal, bound_refusal, nodes_refusal, refusal_of, IsGoodIfThere, IsFirst}
 use Rattle.certificate_checker.specs.declared.reject.Reject.{Reject}

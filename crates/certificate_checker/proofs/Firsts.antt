@@ -1,6 +1,6 @@
 -- A first refusal leaves no acceptance and no other first refusal.
 use Rattle.std.proofs.Common.{◌≡◌, ◌≢◌, inl, inr, Option, None, Some, refl, sym, ◌∙◌, ap}
-use Rattle.narrow_fraction.specs.Attempt.{some_not_none}
+use Rattle.narrow_fraction.proofs.Attempt.{some_not_none}
 use Rattle.progression.specs.Street.{Street}
 use Rattle.progression.specs.Plan.{Plan}
 use Rattle.time_space.specs.Failing.{FailsRulesOut}

@@ -1,12 +1,13 @@
 -- The refusal of a leaf.
 use Rattle.std.proofs.Common.{◌≡◌, ℕ, Option, None, Some, option_map, List, [], ◌∷◌, map, refl, ap, ap₂}
-use Rattle.ratio.specs.Rational.{ℚ}
+use Rattle.rational_theory.specs.Rational.{ℚ}
 use Rattle.progression.specs.Street.{Street, count}
-use Rattle.linear_model.specs.Places.{width}
-use Rattle.linear_model.specs.Boxes.{Area}
-use Rattle.linear_model.specs.Rows.{goal_form}
-use Rattle.linear_model.specs.Trees.{AreWeights}
-use Rattle.narrow_fraction.specs.Attempt.{earlier, neither, some_not_none}
+use Rattle.linear_theory.specs.Places.{width}
+use Rattle.linear_theory.specs.Boxes.{Area}
+use Rattle.linear_theory.specs.Rows.{goal_form}
+use Rattle.linear_theory.specs.Trees.{AreWeights}
+use Rattle.narrow_fraction.specs.Attempt.{earlier}
+use Rattle.narrow_fraction.proofs.Attempt.{neither, some_not_none}
 use Rattle.named_row.specs.Sheets.{Sheet, blank}
 use Rattle.named_row.specs.declared.names.Place.{Place}
 use Rattle.named_row.specs.declared.leaves.Weight.{Weight}
@@ -14,7 +15,7 @@ use Rattle.loop_rows.specs.Writing.{written}
 use Rattle.loop_rows.specs.Weights.{named, after_weight, weights_fault, leaf_fault, leaf_total, IsFirstFault}
 use Rattle.loop_rows.specs.declared.fault.SumFault.{SumFault}
 use Rattle.loop_rows.specs.declared.fault.SumFault.TheVariants as fault
-use Rattle.loop_rows.specs.LeafSums.{no_fault, fault_free, total_weights}
+use Rattle.loop_rows.proofs.LeafSums.{no_fault, fault_free, total_weights}
 use Rattle.certificate_checker.specs.Accepted.{FitsAlong, IsProof}
 use Rattle.certificate_checker.specs.Refusals.{reject_of, weakness, leaf_refusal, IsFirst}
 use Rattle.certificate_checker.specs.declared.reject.Reject.TheVariants.{LeafTooWeak}

@@ -1,23 +1,23 @@
 -- What an accepted certificate says of every good timing.
 use Rattle.std.proofs.Common.{◌⊎◌, inl, inr, Option, None, Some, List, [], ◌∷◌, map, sym, subst}
-use Rattle.ratio.specs.Rational.{ℚ, ◌≤ℚ◌}
-use Rattle.ratio.specs.Rows as maths
-use Rattle.ratio.specs.Rows.{IsMet}
+use Rattle.rational_theory.specs.Rational.{ℚ, ◌≤ℚ◌}
+use Rattle.rational_theory.specs.Rows as maths
+use Rattle.rational_theory.specs.Rows.{IsMet}
 use Rattle.progression.specs.Street.{Street}
 use Rattle.progression.specs.Plan.{Plan}
 use Rattle.progression.specs.Good.{Good}
 use Rattle.progression.specs.Best.{weighted_band, Bounded}
 use Rattle.progression.specs.Columns.{point}
-use Rattle.linear_model.specs.Boxes.{Area, InBox, IsBoxOf, root_box}
-use Rattle.linear_model.specs.Counts.{IsStreet}
-use Rattle.linear_model.specs.Trees.{leaf_sum}
-use Rattle.linear_model.specs.TreeLaws.{leaf_met}
-use Rattle.linear_model.specs.Bounds.{covers_law, refutes_law}
-use Rattle.linear_model.specs.Roots.{root_law, shift_there}
-use Rattle.linear_model.specs.RootBoxes.{root_boxed, root_is}
-use Rattle.linear_model.specs.Splits.{loop_split}
-use Rattle.linear_model.specs.TurnSplits.{turn_split}
-use Rattle.linear_model.specs.PartBoxes.{low_loop_boxed, high_loop_boxed, low_turn_boxed, high_turn_boxed}
+use Rattle.linear_theory.specs.Boxes.{Area, InBox, IsBoxOf, root_box}
+use Rattle.linear_theory.specs.Counts.{IsStreet}
+use Rattle.linear_theory.specs.Trees.{leaf_sum}
+use Rattle.linear_theory.proofs.TreeLaws.{leaf_met}
+use Rattle.linear_theory.proofs.Bounds.{covers_law, refutes_law}
+use Rattle.linear_theory.proofs.Roots.{root_law, shift_there}
+use Rattle.linear_theory.proofs.RootBoxes.{root_boxed, root_is}
+use Rattle.linear_theory.proofs.Splits.{loop_split}
+use Rattle.linear_theory.proofs.TurnSplits.{turn_split}
+use Rattle.linear_theory.proofs.PartBoxes.{low_loop_boxed, high_loop_boxed, low_turn_boxed, high_turn_boxed}
 use Rattle.loop_rows.specs.Weights.{named}
 use Rattle.search_box.specs.Places.{IsPlace, low_part, high_part}
 use Rattle.search_box.specs.declared.span.At.{At}

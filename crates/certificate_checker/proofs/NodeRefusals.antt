@@ -1,13 +1,14 @@
 -- The nodes, one after another.
 use Rattle.std.proofs.Common.{◌≡◌, ℕ, ◌+◌, ◌<◌, Option, None, Some, List, [], ◌∷◌, length, map, drop, get_or, refl, sym, ap, ap₂, subst}
-use Rattle.ratio.specs.Rational.{ℚ}
+use Rattle.rational_theory.specs.Rational.{ℚ}
 use Rattle.progression.specs.Street.{Street}
-use Rattle.linear_model.specs.Boxes.{Area}
-use Rattle.narrow_fraction.specs.Attempt.{earlier, neither}
+use Rattle.linear_theory.specs.Boxes.{Area}
+use Rattle.narrow_fraction.specs.Attempt.{earlier}
+use Rattle.narrow_fraction.proofs.Attempt.{neither}
 use Rattle.search_box.specs.Places.{low_part, high_part}
 use Rattle.plan_text.specs.declared.certificate.CertNode.{CertNode}
 use Rattle.plan_text.specs.Warrants.{Node, SplitAt, LeafOf, node_of, AreTrees}
-use Rattle.loop_rows.specs.LeafSums.{at_left}
+use Rattle.loop_rows.proofs.LeafSums.{at_left}
 use Rattle.certificate_checker.specs.Accepted.{AreProofs}
 use Rattle.certificate_checker.specs.Refusals.{nodes_refusal, IsFirst}
 use Rattle.certificate_checker.specs.declared.reject.Reject.{Reject}

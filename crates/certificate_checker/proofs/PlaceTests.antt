@@ -6,10 +6,10 @@ use Rattle.std.proofs.lemmas.Int.{ints}
 use Rattle.std.proofs.lemmas.Bool.{leb-true, le-leb}
 use Rattle.std.proofs.lemmas.Bool.Decides.{Decides-and, Decides-ltb}
 use Rattle.std.proofs.lemmas.List.Elements.{All-cons}
-use Rattle.narrow_fraction.specs.Attempt.{not_refused}
+use Rattle.narrow_fraction.proofs.Attempt.{not_refused}
 use Rattle.progression.specs.Street.{Street}
-use Rattle.linear_model.specs.Boxes.{Area, IsBoxOf, loop_span, turn_span, low_loop, high_loop, low_turn, high_turn}
-use Rattle.linear_model.specs.PartBoxes.{low_loop_boxed, high_loop_boxed, low_turn_boxed, high_turn_boxed}
+use Rattle.linear_theory.specs.Boxes.{Area, IsBoxOf, loop_span, turn_span, low_loop, high_loop, low_turn, high_turn}
+use Rattle.linear_theory.proofs.PartBoxes.{low_loop_boxed, high_loop_boxed, low_turn_boxed, high_turn_boxed}
 use Rattle.search_box.specs.Places.{IsPlace, low_part, high_part}
 use Rattle.search_box.specs.declared.span.At.{At}
 use Rattle.search_box.specs.declared.span.At.TheVariants.{Loop, Turn}

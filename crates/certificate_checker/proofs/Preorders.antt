@@ -1,9 +1,9 @@
 -- Nodes that prove a claim for a box are the preorder of a tree that does, and the other way round.
 use Rattle.std.proofs.Common.{◌≡◌, List, [], ◌∷◌, ◌++◌, Option, refl, sym, subst, ap, ◌∙◌, append_assoc, append-nil}
-use Rattle.ratio.specs.Rational.{ℚ}
+use Rattle.rational_theory.specs.Rational.{ℚ}
 use Rattle.progression.specs.Street.{Street}
-use Rattle.linear_model.specs.Boxes.{Area}
-use Rattle.linear_model.specs.Trees as trees
+use Rattle.linear_theory.specs.Boxes.{Area}
+use Rattle.linear_theory.specs.Trees as trees
 use Rattle.search_box.specs.declared.span.At.TheVariants.{Loop, Turn}
 use Rattle.search_box.specs.declared.span.At.{At}
 use Rattle.search_box.specs.Places.{IsPlace, low_part, high_part}

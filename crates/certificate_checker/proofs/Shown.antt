@@ -1,25 +1,28 @@
 -- What a leaf's sum shows, from where it fails to, and back.
 use Rattle.std.proofs.Common.{◌≡◌, ℕ, zero, suc, ◌<◌, ◌⊎◌, inl, inr, Bool, true, false, Option, None, Some, List, length, map, refl, sym, ap, ap₂, subst, arith}
 use Rattle.std.specs.Ordering.{is_le}
-use Rattle.ratio.specs.Rational.{ℚ, ◌≤ℚ◌, ◌<ℚ◌}
-use Rattle.ratio.specs.Order.{<ℚ_not-≤ℚ}
-use Rattle.ratio.specs.Compare.{cmp_ℚ, lt_false, le_true, le_false}
-use Rattle.ratio.specs.Rows as maths
+use Rattle.rational_theory.specs.Rational.{ℚ, ◌≤ℚ◌, ◌<ℚ◌}
+use Rattle.rational_theory.proofs.Order.{<ℚ_not-≤ℚ}
+use Rattle.rational_theory.specs.Compare.{cmp_ℚ}
+use Rattle.rational_theory.proofs.Compare.{lt_false, le_true, le_false}
+use Rattle.rational_theory.specs.Rows as maths
 use Rattle.progression.specs.Street.{Street}
 use Rattle.progression.specs.Speeds.{number}
-use Rattle.linear_model.specs.Boxes.{Area}
-use Rattle.linear_model.specs.Rows.{line, goal_form}
-use Rattle.linear_model.specs.Covering.{coef, CoversGoal, RefutesAll}
-use Rattle.linear_model.specs.Trees.{leaf_sum}
-use Rattle.narrow_fraction.specs.Attempt.{refusal_if, earlier, first_below, neither, not_refused, none_each}
+use Rattle.linear_theory.specs.Boxes.{Area}
+use Rattle.linear_theory.specs.Rows.{line, goal_form}
+use Rattle.linear_theory.specs.Covering.{coef, CoversGoal, RefutesAll}
+use Rattle.linear_theory.specs.Trees.{leaf_sum}
+use Rattle.narrow_fraction.specs.Attempt.{refusal_if, earlier, first_below}
+use Rattle.narrow_fraction.proofs.Attempt.{neither, not_refused, none_each}
 use Rattle.named_row.specs.Sheets.{Sheet}
 use Rattle.named_row.specs.Covering.{Covers, Refutes, below, number_at, uncovered, unrefuted}
 use Rattle.named_row.specs.declared.names.Place.{Place}
 use Rattle.named_row.specs.declared.names.Place.TheVariants.{Cell, Bound}
 use Rattle.named_row.specs.declared.leaves.Weight.{Weight}
-use Rattle.loop_rows.specs.Writing.{written, written_row}
+use Rattle.loop_rows.specs.Writing.{written}
+use Rattle.loop_rows.proofs.Writing.{written_row}
 use Rattle.loop_rows.specs.Weights.{named, leaf_total}
-use Rattle.loop_rows.specs.LeafSums.{not_below, total_coef, total_bound, total_width}
+use Rattle.loop_rows.proofs.LeafSums.{not_below, total_coef, total_bound, total_width}
 use Rattle.certificate_checker.specs.Accepted.{Shows}
 use Rattle.certificate_checker.specs.Refusals.{where_both, weakness}
 

@@ -1,15 +1,15 @@
 -- Accepted certificates: the timing is good and has the claimed value, and the tree of boxes proves the claim, leaf by leaf.
 use Rattle.std.specs.Prelude.{◌≡◌, ◌⊎◌, List, [], ◌∷◌, map, Option, None, Some}
-use Rattle.ratio.specs.Rational.{ℚ, ◌≤ℚ◌}
-use Rattle.ratio.specs.Rows as maths
+use Rattle.rational_theory.specs.Rational.{ℚ, ◌≤ℚ◌}
+use Rattle.rational_theory.specs.Rows as maths
 use Rattle.progression.specs.Street.{Street, count}
 use Rattle.progression.specs.Plan.{Plan}
 use Rattle.progression.specs.Good.{Good}
 use Rattle.progression.specs.Best.{weighted_band}
-use Rattle.linear_model.specs.Places.{width}
-use Rattle.linear_model.specs.Boxes.{Area, root_box}
-use Rattle.linear_model.specs.Covering.{CoversGoal, RefutesAll}
-use Rattle.linear_model.specs.Trees.{leaf_sum, AreWeights}
+use Rattle.linear_theory.specs.Places.{width}
+use Rattle.linear_theory.specs.Boxes.{Area, root_box}
+use Rattle.linear_theory.specs.Covering.{CoversGoal, RefutesAll}
+use Rattle.linear_theory.specs.Trees.{leaf_sum, AreWeights}
 use Rattle.named_row.specs.Sheets.{Sheet, blank}
 use Rattle.named_row.specs.Refusals.{sum_refusal}
 use Rattle.named_row.specs.declared.leaves.Weight.{Weight}

@@ -1,6 +1,6 @@
 -- What a certificate claims of the artery, of every timing on any grid.
 use Rattle.std.specs.Prelude.{◌≡◌, Option, None, Some}
-use Rattle.ratio.specs.Rational.{ℚ}
+use Rattle.rational_theory.specs.Rational.{ℚ}
 use Rattle.progression.specs.Street.{Street}
 use Rattle.progression.specs.Plan.{Plan}
 use Rattle.progression.specs.Best as best

@@ -1,10 +1,10 @@
 -- The nodes of an accepted certificate as a tree of the linear model, in place of a list that is read with the boxes that want a tree.
 use Rattle.std.specs.Prelude.{◌≡◌, ◌↔◌, List, [], ◌∷◌, ◌++◌, map, Option}
-use Rattle.ratio.specs.Rational.{ℚ}
+use Rattle.rational_theory.specs.Rational.{ℚ}
 use Rattle.progression.specs.Street.{Street, count}
-use Rattle.linear_model.specs.Places.{width}
-use Rattle.linear_model.specs.Boxes.{Area}
-use Rattle.linear_model.specs.Trees as trees
+use Rattle.linear_theory.specs.Places.{width}
+use Rattle.linear_theory.specs.Boxes.{Area}
+use Rattle.linear_theory.specs.Trees as trees
 use Rattle.named_row.specs.Sheets.{blank}
 use Rattle.named_row.specs.declared.leaves.Weight.{Weight}
 use Rattle.loop_rows.specs.Weights.{named}

@@ -1,14 +1,14 @@
 -- The first refusal of a certificate: the timing is looked at first, then its value, the bound, and the nodes in their order.
 use Rattle.std.specs.Prelude.{◌≡◌, ◌⊎◌, ℕ, ◌+◌, nat_le, nat_lt, int_le, int_lt, ◌&&◌, not, Bool, List, [], ◌∷◌, length, Option, None, Some, option_map}
 use Rattle.std.specs.Ordering.{is_lt, eq_by_cmp}
-use Rattle.ratio.specs.Rational.{ℚ}
-use Rattle.ratio.specs.Compare.{cmp_ℚ}
+use Rattle.rational_theory.specs.Rational.{ℚ}
+use Rattle.rational_theory.specs.Compare.{cmp_ℚ}
 use Rattle.progression.specs.Street.{Street}
 use Rattle.progression.specs.Plan.{Plan}
 use Rattle.progression.specs.Good.{Good}
 use Rattle.progression.specs.Best.{weighted_band}
-use Rattle.linear_model.specs.Boxes.{Area, loop_span, turn_span, root_box}
-use Rattle.linear_model.specs.Rows.{goal_form}
+use Rattle.linear_theory.specs.Boxes.{Area, loop_span, turn_span, root_box}
+use Rattle.linear_theory.specs.Rows.{goal_form}
 use Rattle.narrow_fraction.specs.Attempt.{refusal_if, earlier}
 use Rattle.named_row.specs.Sheets.{Sheet}
 use Rattle.named_row.specs.Covering.{uncovered, unrefuted}

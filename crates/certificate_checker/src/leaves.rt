@@ -2,9 +2,9 @@
 
 ghost use Rattle.std.specs.Prelude.{◌≡◌, length, false, IfErr, OnOk, None};
 ghost use Rattle.progression.specs.Street.{count};
-ghost use Rattle.linear_model.specs.Places.{width};
-ghost use Rattle.linear_model.specs.Boxes.{IsBoxOf};
-ghost use Rattle.linear_model.specs.Rows.{goal_form};
+ghost use Rattle.linear_theory.specs.Places.{width};
+ghost use Rattle.linear_theory.specs.Boxes.{IsBoxOf};
+ghost use Rattle.linear_theory.specs.Rows.{goal_form};
 ghost use Rattle.narrow_fraction.specs.Attempt.{attempt};
 ghost use Rattle.loop_rows.specs.Writing.{written};
 ghost use Rattle.certificate_checker.specs.Refusals.{weakness, leaf_refusal, reject_of, IsFirst};

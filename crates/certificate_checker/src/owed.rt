@@ -15,7 +15,7 @@ pub struct Owed {
 
 impl Model for Owed {
     ghost use Rattle.std.specs.Prelude.{List, reverse};
-    ghost use Rattle.linear_model.specs.Boxes.{Area};
+    ghost use Rattle.linear_theory.specs.Boxes.{Area};
 
     ghost Value = { List Area };
 

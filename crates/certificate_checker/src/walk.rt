@@ -1,9 +1,9 @@
 //! The nodes of a tree, one after another.
 
 ghost use Rattle.std.specs.Prelude.{◌≡◌, ◌+◌, ◌<◌, ◌≤◌, ◌^◌, [], ◌∷◌, List, length, map, All, None, OnOk, IfOk, IfErr};
-ghost use Rattle.linear_model.specs.Boxes.{IsBoxOf, root_box};
-ghost use Rattle.linear_model.specs.Counts.{IsStreet};
-ghost use Rattle.linear_model.specs.Rows.{goal_form};
+ghost use Rattle.linear_theory.specs.Boxes.{IsBoxOf, root_box};
+ghost use Rattle.linear_theory.specs.Counts.{IsStreet};
+ghost use Rattle.linear_theory.specs.Rows.{goal_form};
 ghost use Rattle.loop_rows.specs.Writing.{written};
 ghost use Rattle.search_box.specs.Places.{low_part, high_part};
 ghost use Rattle.plan_text.specs.Warrants.{Node, node_of, AreTrees};

@@ -1,7 +1,7 @@
 -- The tests that the numbers and names of an artery without a fault have passed.
 use Rattle.std.proofs.Common.{◌≡◌, ℕ, ◌-◌, ◌==◌, ℤ, pos, negsuc, List, [], ◌∷◌, length, refl, Bool, true, false, not, Option, None, Some, nat_lt, sym}
 use Rattle.std.specs.Prelude.{codes}
-use Rattle.ratio.specs.Rational.{whole}
+use Rattle.rational_theory.specs.Rational.{whole}
 use Rattle.progression.specs.Street.{Street, count}
 use Rattle.progression.specs.declared.parts.Head.{Head}
 use Rattle.progression.specs.declared.parts.Signal.{Signal}

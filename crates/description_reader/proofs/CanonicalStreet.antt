@@ -12,7 +12,7 @@ use Rattle.progression.specs.declared.parts.Pair.{Pair}
 use Rattle.progression.specs.declared.parts.Units.{Units}
 use Rattle.progression.specs.declared.parts.Units.TheVariants.{Metric, English}
 use Rattle.artery_model.specs.Faults.{Fault, first_fault, each_numbered}
-use Rattle.ratio.specs.Rational.{whole}
+use Rattle.rational_theory.specs.Rational.{whole}
 use Rattle.artery_model.specs.Limits.{in_range, signal_ranges, link_ranges}
 use Rattle.description_reader.specs.Canonical.{pair_data, units_text, head_members, signal_data, link_data, canonical, HasFour}
 use Rattle.description_reader.specs.Checks.{limits_in}

@@ -4,10 +4,10 @@ use Rattle.std.proofs.lemmas.Bool.Decides.{nat_tests}
 use Rattle.std.proofs.lemmas.Bool.{lt-ltb}
 use Rattle.toml.specs.Data.{Data, get, array}
 use Rattle.toml.specs.View.{items_of}
-use Rattle.ratio.specs.Rational.{ℚ, whole}
+use Rattle.rational_theory.specs.Rational.{ℚ, whole}
 use Rattle.quantity_text.specs.Quantity.{quantity_of}
 use Rattle.quantity_text.specs.Exact.{exact_spelling}
-use Rattle.quantity_text.specs.ReadBack.{exact_spelling_is_quantity}
+use Rattle.quantity_text.proofs.ReadBack.{exact_spelling_is_quantity}
 use Rattle.progression.specs.declared.parts.Pair.{Pair}
 use Rattle.artery_model.specs.Faults.{first_fault, unless, each_numbered}
 use Rattle.artery_model.specs.Limits.{within, in_range}

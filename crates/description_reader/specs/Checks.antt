@@ -2,7 +2,7 @@
 use Rattle.std.specs.Prelude.{◌&&◌, ◌||◌, ◌==◌, ℕ, List, [], ◌∷◌, length, Bool, true, Option, None, Some, is_some, ℤ, int_lt, int_le, codes}
 use Rattle.toml.specs.Data.{Data, get, as_integer, as_str, as_array, as_table}
 use Rattle.artery_model.specs.Faults.{Fault, first_fault, unless, each_numbered}
-use Rattle.ratio.specs.Rational.{ℚ, whole}
+use Rattle.rational_theory.specs.Rational.{ℚ, whole}
 use Rattle.progression.specs.declared.parts.Pair.{Pair}
 use Rattle.artery_model.specs.Limits.{is_name, in_range, within}
 use Rattle.artery_model.specs.declared.kind.Kind.{Kind}

@@ -1,7 +1,7 @@
 -- Numbers in a description: TOML integers, and texts of the grammar of quantities.
 use Rattle.std.specs.Prelude.{Bool, true, false, Option, None, Some, ℤ, pos}
 use Rattle.toml.specs.Data.{Data, string, integer}
-use Rattle.ratio.specs.Rational.{ℚ, whole}
+use Rattle.rational_theory.specs.Rational.{ℚ, whole}
 use Rattle.quantity_text.specs.Quantity.{quantity_of}
 
 -- a value that may stand for a quantity

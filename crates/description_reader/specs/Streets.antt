@@ -3,7 +3,7 @@ use Rattle.std.specs.Prelude.{ℕ, List, [], ◌∷◌, map, Bool, true, Option,
 use Rattle.std.specs.List.{list_any}
 use Rattle.std.specs.Ordering.{int_eq}
 use Rattle.toml.specs.Data.{Data, get}
-use Rattle.ratio.specs.Rational.{ℚ, whole}
+use Rattle.rational_theory.specs.Rational.{ℚ, whole}
 use Rattle.progression.specs.Street.{Street, no_pair}
 use Rattle.progression.specs.declared.parts.Head.{Head}
 use Rattle.progression.specs.declared.parts.Signal.{Signal}

@@ -3,8 +3,9 @@ use Rattle.std.proofs.Common.{◌≡◌, ℕ, zero, suc, ◌+◌, ◌-◌, ◌*�
 use Rattle.std.proofs.lemmas.List.{length-map, get_or-map, get_or_past}
 use Rattle.progression.specs.Columns.{Column, Frequency, WaitOf, RunOf, ShiftOf, columns}
 use Rattle.progression.specs.declared.parts.Dir.TheVariants.{Outbound, Inbound}
-use Rattle.linear_model.specs.Places.{place, IsColumn}
-use Rattle.linear_model.specs.Points.{column_there, length-columns, place_below}
+use Rattle.linear_theory.specs.Places.{place}
+use Rattle.linear_theory.proofs.Places.{IsColumn}
+use Rattle.linear_theory.proofs.Points.{column_there, length-columns, place_below}
 use Rattle.diagram_print.specs.Names.{numbered, column_name, column_text}
 
 -- a column stands at its place

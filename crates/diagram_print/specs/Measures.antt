@@ -1,6 +1,6 @@
 -- The lines of a timing's bands and cycle.
 use Rattle.std.specs.Prelude.{ℕ, pos, List, ◌++◌, codes}
-use Rattle.ratio.specs.Rational.{ℚ, over}
+use Rattle.rational_theory.specs.Rational.{ℚ, over}
 use Rattle.quantity_text.specs.Exact.{exact_spelling}
 use Rattle.quantity_text.specs.Decimal.{decimal_spelling}
 use Rattle.progression.specs.Street.{Street}

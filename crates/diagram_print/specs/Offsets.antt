@@ -2,7 +2,7 @@
 use Rattle.std.specs.Prelude.{ℕ, pos, ◌-ℤ◌, List, ◌++◌, codes}
 use Rattle.std.specs.List.{flat_map, range_with_len}
 use Rattle.std.specs.Fmt.{decimal}
-use Rattle.ratio.specs.Rational.{ℚ, over}
+use Rattle.rational_theory.specs.Rational.{ℚ, over}
 use Rattle.progression.specs.Street.{Street, count, signal_of}
 use Rattle.progression.specs.Plan.{Plan, cycle, pattern_of, common_red}
 use Rattle.progression.specs.Green.{mod_ℤ}

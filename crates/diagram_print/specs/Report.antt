@@ -1,11 +1,11 @@
 -- The lines of what a search of an artery found.
 use Rattle.std.specs.Prelude.{ℕ, List, ◌++◌, flat_map, codes, Option, None, Some}
 use Rattle.std.specs.Fmt.{decimal, signed_decimal}
-use Rattle.ratio.specs.Rational.{ℚ}
+use Rattle.rational_theory.specs.Rational.{ℚ}
 use Rattle.quantity_text.specs.Exact.{exact_spelling}
 use Rattle.progression.specs.Street.{Street, count}
 use Rattle.progression.specs.Plan.{Plan}
-use Rattle.linear_model.specs.Boxes.{Area, Span, Ranks}
+use Rattle.linear_theory.specs.Boxes.{Area, Span, Ranks}
 use Rattle.branch_and_bound.specs.declared.found.Site.{Site}
 use Rattle.branch_and_bound.specs.declared.found.Stop.{Stop}
 use Rattle.branch_and_bound.specs.declared.found.Stop.TheVariants.{Work, Wide}

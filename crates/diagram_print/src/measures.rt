@@ -1,7 +1,7 @@
 //! Measures of a timing: each is printed exact, and cut after some decimal places.
 
 ghost use Rattle.std.specs.Prelude.{◌≡◌, ◌++◌, codes, ◌<◌, ◌≤◌, ◌^◌, pos, ◌≤ℤ◌, IfOk};
-ghost use Rattle.ratio.specs.Rational.{over};
+ghost use Rattle.rational_theory.specs.Rational.{over};
 ghost use Rattle.diagram_print.specs.Measures.{dir_name, measure_text, measure_line, weighted_line, band_line, cycle_line, measure_lines};
 
 use artery_model::{Artery, Dir};

@@ -2,7 +2,7 @@
 
 ghost use Rattle.std.specs.Prelude.{◌≡◌, ◌+◌, ◌≤◌, length, flat_map, IfOk, string_bytes};
 ghost use Rattle.search_box.specs.Seen.{span_of};
-ghost use Rattle.linear_model.specs.Boxes.{turn_span};
+ghost use Rattle.linear_theory.specs.Boxes.{turn_span};
 ghost use Rattle.progression.specs.Street.{count};
 ghost use Rattle.branch_tree.specs.Searches.{IsStopOf};
 ghost use Rattle.diagram_print.specs.Report.{span_text, ranks_text, loops_line, shifts_line, pivots_line, wide_lines, stop_lines};

@@ -2,7 +2,7 @@
 
 ghost use Rattle.std.specs.Prelude.{IfOk};
 ghost use Rattle.progression.specs.Good.{Good};
-ghost use Rattle.linear_model.specs.Boxes.{IsBoxOf};
+ghost use Rattle.linear_theory.specs.Boxes.{IsBoxOf};
 ghost use Rattle.branch_tree.specs.Searches.{IsPartOf};
 
 use crate::{column_text, diagram, place_text, report, row_text};

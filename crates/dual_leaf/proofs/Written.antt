@@ -3,16 +3,18 @@ use Rattle.std.proofs.Common.{◌≡◌, Result, Ok, Err, IfOk, ℕ, suc, pos, c
 use Rattle.std.proofs.Math.Seq.{drop-cons, drop-length}
 use Rattle.std.proofs.lemmas.List.{get_or-replicate, length-replicate, ext_get_or}
 use Rattle.std.proofs.lemmas.Bool.{cond-true, cond-false, eq-eqb, ne_eqb}
-use Rattle.ratio.specs.Rational.{ℚ, whole, neg_ℚ}
-use Rattle.ratio.specs.Laws.{neg-neg, *ℚ-one}
-use Rattle.ratio.specs.Rows.{dot}
-use Rattle.simplex_model.specs.Lines.{values}
-use Rattle.simplex_model.specs.Tableau.{Tableau, line, cell, height, width, bound, basic_at, IsShaped}
+use Rattle.rational_theory.specs.Rational.{ℚ, whole, neg_ℚ}
+use Rattle.rational_theory.proofs.Arithmetic.{neg-neg, *ℚ-one}
+use Rattle.rational_theory.specs.Rows.{dot}
+use Rattle.simplex_theory.specs.Lines.{values}
+use Rattle.simplex_theory.specs.Tableau.{Tableau, line, cell, height, width, bound, basic_at, IsShaped}
 use Rattle.fraction_tableau.specs.NamedTableaus.{number_at}
 use Rattle.dual_leaf.specs.Leaves.{row_or_goal}
-use Rattle.simplex_model.specs.Totals.{cell_of}
-use Rattle.simplex_model.specs.Vertices.{filled, fill, vertex, dot_zeros}
-use Rattle.simplex_model.specs.RowLists.{columns_from, columns_from_at, length-columns_from, vertex_point}
+use Rattle.simplex_theory.specs.Totals.{cell_of}
+use Rattle.simplex_theory.specs.Vertices.{filled, fill, vertex}
+use Rattle.simplex_theory.proofs.Vertices.{dot_zeros}
+use Rattle.simplex_theory.specs.RowLists.{columns_from, vertex_point}
+use Rattle.simplex_theory.proofs.RowLists.{columns_from_at, length-columns_from}
 
 -- ---- cells at slacks
 cell_of_nothing : (c : List ℚ) (v : ℕ) → cell_of c [] v ≡ whole (pos 0)

@@ -1,13 +1,13 @@
 -- The leaves and the point that are read off a tableau, and what they are to show.
 use Rattle.std.specs.Prelude.{◌≡◌, ℕ, zero, suc, pos, cond, eqb, List, [], ◌∷◌, ◌++◌, map, length, get_or, ◌+◌, ◌<◌}
 use Rattle.std.specs.Ordering.{eq_by_cmp}
-use Rattle.ratio.specs.Rational.{ℚ, whole, ◌≤ℚ◌, ◌<ℚ◌}
-use Rattle.ratio.specs.Compare.{cmp_ℚ}
-use Rattle.ratio.specs.Rows.{Row, combine, AllNonNegative}
-use Rattle.simplex_model.specs.Tableau.{Tableau, line, height, width, bound, goal_bound}
-use Rattle.simplex_model.specs.DualSteps.{IsDual}
-use Rattle.simplex_model.specs.Multipliers.{goal_weight, row_weight}
-use Rattle.simplex_model.specs.RowLists.{coef_at, StandsForRows, IsOptimalPoint}
+use Rattle.rational_theory.specs.Rational.{ℚ, whole, ◌≤ℚ◌, ◌<ℚ◌}
+use Rattle.rational_theory.specs.Compare.{cmp_ℚ}
+use Rattle.rational_theory.specs.Rows.{Row, combine, AllNonNegative}
+use Rattle.simplex_theory.specs.Tableau.{Tableau, line, height, width, bound, goal_bound}
+use Rattle.simplex_theory.specs.DualSteps.{IsDual}
+use Rattle.simplex_theory.specs.Multipliers.{goal_weight, row_weight}
+use Rattle.simplex_theory.specs.RowLists.{coef_at, StandsForRows, IsOptimalPoint}
 use Rattle.named_row.specs.declared.names.RowId.{RowId}
 use Rattle.named_row.specs.declared.leaves.Weight.{Weight}
 use Rattle.fraction_tableau.specs.NamedTableaus.{NamedTableau, name_in}

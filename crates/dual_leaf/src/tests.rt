@@ -1,8 +1,8 @@
 //! Leaves and vertices of tableaus that were worked by hand.
 
 ghost use Rattle.std.specs.Prelude.{◌≡◌, ℕ, ◌<◌, ◌≤◌, pos, length, IfSome, true, false};
-ghost use Rattle.ratio.specs.Rational.{whole, ◌≤ℚ◌, ◌<ℚ◌};
-ghost use Rattle.simplex_model.specs.Tableau.{cell, bound, height, width};
+ghost use Rattle.rational_theory.specs.Rational.{whole, ◌≤ℚ◌, ◌<ℚ◌};
+ghost use Rattle.simplex_theory.specs.Tableau.{cell, bound, height, width};
 
 use crate::{leaf_of, point_of, refuter_of};
 use fraction_tableau::Tableau;
@@ -89,7 +89,7 @@ fn row_cell(tableau: &Tableau, row: u32, col: u32) -> Frac
 }
 
 /// The pivot, where it may be made and fits.
-#[tactic(auto, using(ratio::specs::Compare::eq_false))]
+#[tactic(auto, using(rational_theory::proofs::Compare::eq_false))]
 fn pivot(tableau: &mut Tableau, row: u32, col: u32) -> Option<()> {
     if row >= tableau.rows() || col >= tableau.width() || tableau.is_spent() {
         return None;
@@ -101,7 +101,7 @@ fn pivot(tableau: &mut Tableau, row: u32, col: u32) -> Option<()> {
 }
 
 /// Whether no cell of a row of two columns is negative.
-#[tactic(auto, using(ratio::specs::Compare::lt_true, ratio::specs::Compare::lt_false))]
+#[tactic(auto, using(rational_theory::proofs::Compare::lt_true, rational_theory::proofs::Compare::lt_false))]
 fn has_low_cells(tableau: &Tableau, row: u32) -> bool
     requires { row < height tableau.now.table }
     ensures { result ≡ true → (k : ℕ) → k < width tableau.now.table → whole (pos 0) ≤ℚ cell tableau.now.table row k }
@@ -120,7 +120,7 @@ fn has_low_cells(tableau: &Tableau, row: u32) -> bool
 }
 
 /// Whether a row's bound is negative.
-#[tactic(auto, using(ratio::specs::Compare::lt_true, ratio::specs::Compare::lt_false))]
+#[tactic(auto, using(rational_theory::proofs::Compare::lt_true, rational_theory::proofs::Compare::lt_false))]
 fn has_negative_bound(tableau: &Tableau, row: u32) -> bool
     requires { row < height tableau.now.table }
     ensures { result ≡ true → bound tableau.now.table row <ℚ whole (pos 0) }

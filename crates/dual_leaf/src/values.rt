@@ -1,10 +1,10 @@
 //! Numbers by variables, read off a tableau.
 
 ghost use Rattle.std.specs.Prelude.{◌≡◌, ℕ, ◌<◌, ◌≤◌, ◌+◌, pos, eqb, cond, length, get_or, replicate, IfOk};
-ghost use Rattle.ratio.specs.Rational.{whole};
-ghost use Rattle.simplex_model.specs.Tableau.{height, width};
-ghost use Rattle.simplex_model.specs.Totals.{cell_of};
-ghost use Rattle.simplex_model.specs.Vertices.{vertex};
+ghost use Rattle.rational_theory.specs.Rational.{whole};
+ghost use Rattle.simplex_theory.specs.Tableau.{height, width};
+ghost use Rattle.simplex_theory.specs.Totals.{cell_of};
+ghost use Rattle.simplex_theory.specs.Vertices.{vertex};
 ghost use Rattle.dual_leaf.specs.Leaves.{row_or_goal};
 
 use fraction_tableau::Tableau;

@@ -1,16 +1,19 @@
 -- The choice of a place, with its ratio.
 use Rattle.std.proofs.Common.{◌≡◌, ℕ, suc, pos, [], Bool, true, false, cond, ltb, Option, Some, None, Ok, IfSome, ◌&&◌, add-one, ◌+◌, ◌<◌, ◌≤◌, refl, sym, ◌∙◌, ap, ap₂, subst, arith}
 use Rattle.std.proofs.lemmas.Bool.{cond-true}
-use Rattle.ratio.specs.Rational.{ℚ, whole, neg_ℚ, inverse_ℚ, ◌*ℚ◌}
-use Rattle.ratio.specs.Compare.{cmp_ℚ, lt_true}
-use Rattle.ratio.specs.Laws.{neg-neg}
-use Rattle.ratio.specs.Ring.{ring, lit, minus}
-use Rattle.simplex_model.specs.Signs.{negative_nonzero}
-use Rattle.simplex_model.specs.Tableau.{Tableau, cell, goal_cell, width, standing_at}
-use Rattle.simplex_model.specs.DualSteps.{ratio}
-use Rattle.simplex_model.specs.Best.{best, best_step, OnBest}
-use Rattle.simplex_model.specs.BlandRule.{is_negative, place_before, less_by}
-use Rattle.narrow_fraction.specs.Attempt.{attempt, earlier, first_below, first_stays}
+use Rattle.rational_theory.specs.Rational.{ℚ, whole, neg_ℚ, inverse_ℚ, ◌*ℚ◌}
+use Rattle.rational_theory.specs.Compare.{cmp_ℚ}
+use Rattle.rational_theory.proofs.Compare.{lt_true}
+use Rattle.rational_theory.proofs.Arithmetic.{neg-neg}
+use Rattle.rational_theory.proofs.Ring.{ring, lit, minus}
+use Rattle.simplex_theory.proofs.Signs.{negative_nonzero}
+use Rattle.simplex_theory.specs.Tableau.{Tableau, cell, goal_cell, width, standing_at}
+use Rattle.simplex_theory.specs.DualSteps.{ratio}
+use Rattle.simplex_theory.specs.Best.{best, best_step}
+use Rattle.simplex_theory.proofs.Best.{OnBest}
+use Rattle.simplex_theory.specs.BlandRule.{is_negative, place_before, less_by}
+use Rattle.narrow_fraction.specs.Attempt.{attempt, earlier, first_below}
+use Rattle.narrow_fraction.proofs.Attempt.{first_stays}
 use Rattle.fraction_tableau.specs.Refusals.{refused}
 use Rattle.narrow_fraction.specs.declared.wide.Op.TheVariants.{Div}
 use Rattle.fraction_tableau.specs.declared.wide_cell.WideCell.{WideCell}

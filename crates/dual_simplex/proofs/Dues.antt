@@ -1,9 +1,10 @@
 -- Whether a pivot is due.
 use Rattle.std.proofs.Common.{◌≡◌, ℕ, true, false, true≢false, Option, Some, None, is_some, ◌<◌, refl, sym, ◌∙◌, ap}
-use Rattle.simplex_model.specs.Tableau.{Tableau, cell, width}
-use Rattle.simplex_model.specs.Best.{OnBest}
-use Rattle.simplex_model.specs.BlandRule.{is_negative, place_before, chosen_row, chosen_place, on_place, move, move_by, move_in}
-use Rattle.simplex_model.specs.StepCounts.{is_pivot}
+use Rattle.simplex_theory.specs.Tableau.{Tableau, cell, width}
+use Rattle.simplex_theory.proofs.Best.{OnBest}
+use Rattle.simplex_theory.specs.BlandRule.{is_negative, place_before, chosen_row, chosen_place, move, move_by, move_in}
+use Rattle.simplex_theory.proofs.BlandRule.{on_place}
+use Rattle.simplex_theory.specs.StepCounts.{is_pivot}
 
 has_one : (t : Tableau) (r k : ℕ) (o : Option ℕ) → OnBest (λ k. is_negative (cell t r k)) (place_before t r) (width t) o → k < width t → is_negative (cell t r k) ≡ true → is_some o ≡ true
 has_one t r k None h l e = absurd (h k l e)

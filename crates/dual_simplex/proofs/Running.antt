@@ -1,9 +1,11 @@
 -- The state of the loop over the steps of a node.
 use Rattle.std.proofs.Common.{◌≡◌, ℕ, Bool, true, false, true≢false, Some, None, cond, min, add-one, ◌&&◌, ◌+◌, ◌-◌, ◌<◌, ◌^◌, ◌⊎◌, inl, inr, refl, sym, ◌∙◌, ap, ap₂, subst, arith}
-use Rattle.simplex_model.specs.Tableau.{Tableau, exchange}
-use Rattle.simplex_model.specs.DualSteps.{IsDual}
-use Rattle.simplex_model.specs.BlandRule.{move, made, next, pivoted, dual_next}
-use Rattle.simplex_model.specs.StepCounts.{after, is_pivot, steps_to_end, steps_fall, next_is}
+use Rattle.simplex_theory.specs.Tableau.{Tableau, exchange}
+use Rattle.simplex_theory.specs.DualSteps.{IsDual}
+use Rattle.simplex_theory.specs.BlandRule.{move, made, next, pivoted}
+use Rattle.simplex_theory.proofs.BlandRule.{dual_next}
+use Rattle.simplex_theory.specs.StepCounts.{after, is_pivot, steps_to_end}
+use Rattle.simplex_theory.proofs.StepCounts.{steps_fall, next_is}
 use Rattle.fraction_tableau.specs.NamedTableaus.{NamedTableau}
 use Rattle.dual_simplex.specs.declared.outcome.Step.{Step}
 use Rattle.dual_simplex.specs.declared.outcome.Step.TheVariants as steps
@@ -11,8 +13,10 @@ use Rattle.work_meter.specs.declared.meter.Meter.{Meter}
 use Rattle.dual_simplex.specs.declared.outcome.NodeEnd.{NodeEnd}
 use Rattle.fraction_tableau.specs.declared.wide_cell.WideCell.{WideCell}
 use Rattle.dual_simplex.specs.declared.outcome.NodeEnd.TheVariants.{WorkOut, Wide}
-use Rattle.dual_simplex.specs.Steps.{step_of, IsAfterStep, Agrees, agrees}
-use Rattle.work_meter.specs.Work.{capped, metered, is_out, IsWithin, below_limit, within_next, metered_none, metered_next}
+use Rattle.dual_simplex.specs.Steps.{step_of, IsAfterStep}
+use Rattle.dual_simplex.proofs.Steps.{Agrees, agrees}
+use Rattle.work_meter.specs.Work.{capped, metered, is_out, IsWithin}
+use Rattle.work_meter.proofs.Work.{below_limit, within_next, metered_none, metered_next}
 use Rattle.dual_simplex.specs.Ends.{end_by_step, end_at, stepped, IsAfterEnd, Solved}
 
 -- so many pivots were made

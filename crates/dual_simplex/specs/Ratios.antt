@@ -1,9 +1,9 @@
 -- The dual ratios with their refusals: at each place with a negative cell, the goal cell over the negated cell.
 use Rattle.std.proofs.Common.{ℕ, cond, Option, Some, None}
-use Rattle.ratio.specs.Rational.{neg_ℚ}
-use Rattle.simplex_model.specs.Tableau.{Tableau, cell, goal_cell, width}
-use Rattle.simplex_model.specs.DualSteps.{ratio}
-use Rattle.simplex_model.specs.BlandRule.{is_negative}
+use Rattle.rational_theory.specs.Rational.{neg_ℚ}
+use Rattle.simplex_theory.specs.Tableau.{Tableau, cell, goal_cell, width}
+use Rattle.simplex_theory.specs.DualSteps.{ratio}
+use Rattle.simplex_theory.specs.BlandRule.{is_negative}
 use Rattle.narrow_fraction.specs.Attempt.{first_below}
 use Rattle.narrow_fraction.specs.declared.wide.Op.TheVariants.{Div}
 use Rattle.fraction_tableau.specs.Refusals.{refused}

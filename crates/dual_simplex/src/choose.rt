@@ -1,12 +1,12 @@
 //! Which row and which place a step takes, by Bland's rule.
 
 ghost use Rattle.std.specs.Prelude.{◌≡◌, ◌<◌, ◌≤◌, IfSome, Some, None, pos, ltb, is_some};
-ghost use Rattle.ratio.specs.Rational.{whole, neg_ℚ, ◌/ℚ◌};
-ghost use Rattle.ratio.specs.Compare.{cmp_ℚ};
-ghost use Rattle.simplex_model.specs.Tableau.{height, width, bound, cell, goal_cell};
-ghost use Rattle.simplex_model.specs.DualSteps.{ratio};
-ghost use Rattle.simplex_model.specs.Best.{best_step};
-ghost use Rattle.simplex_model.specs.BlandRule.{chosen_row, chosen_place, is_negative, row_before, place_before, less_by};
+ghost use Rattle.rational_theory.specs.Rational.{whole, neg_ℚ, ◌/ℚ◌};
+ghost use Rattle.rational_theory.specs.Compare.{cmp_ℚ};
+ghost use Rattle.simplex_theory.specs.Tableau.{height, width, bound, cell, goal_cell};
+ghost use Rattle.simplex_theory.specs.DualSteps.{ratio};
+ghost use Rattle.simplex_theory.specs.Best.{best_step};
+ghost use Rattle.simplex_theory.specs.BlandRule.{chosen_row, chosen_place, is_negative, row_before, place_before, less_by};
 ghost use Rattle.narrow_fraction.specs.Attempt.{attempt};
 ghost use Rattle.narrow_fraction.specs.declared.wide.Op.TheVariants.{Div};
 ghost use Rattle.fraction_tableau.specs.Refusals.{refused};

@@ -1,7 +1,7 @@
 //! One step.
 
 ghost use Rattle.std.specs.Prelude.{◌≡◌, true, false};
-ghost use Rattle.simplex_model.specs.DualSteps.{IsDual};
+ghost use Rattle.simplex_theory.specs.DualSteps.{IsDual};
 ghost use Rattle.dual_simplex.specs.Steps.{step_of, IsAfterStep};
 
 use crate::choose::{chosen_place, chosen_row};

@@ -2,9 +2,9 @@
 //!
 //! `step` is the function `step_of` of the tableau (`specs/Steps.antt`), and `solve_node` goes on until an end
 //! (`specs/Ends.antt`): its contract names the number of pivots made, and the tableau afterwards is the function of the first
-//! one and of that number. Both keep the tableau dual feasible. Why the steps end is in `simplex_model`'s laws. Begin with
+//! one and of that number. Both keep the tableau dual feasible. Why the steps end is in `simplex_theory`'s laws. Begin with
 //! `solve_node`.
-#![tactic(auto, using(ratio::specs::Compare::lt_true, ratio::specs::Compare::lt_false))]
+#![tactic(auto, using(rational_theory::proofs::Compare::lt_true, rational_theory::proofs::Compare::lt_false))]
 
 mod choose;
 mod dual;

@@ -1,9 +1,9 @@
 //! Steps on tableaus of two columns that were worked by hand.
 
 ghost use Rattle.std.specs.Prelude.{◌≡◌, ℕ, ◌<◌, pos, length, IfSome, true, false};
-ghost use Rattle.ratio.specs.Rational.{whole, ◌≤ℚ◌};
-ghost use Rattle.simplex_model.specs.Tableau.{goal_cell, width};
-ghost use Rattle.simplex_model.specs.DualSteps.{IsDual};
+ghost use Rattle.rational_theory.specs.Rational.{whole, ◌≤ℚ◌};
+ghost use Rattle.simplex_theory.specs.Tableau.{goal_cell, width};
+ghost use Rattle.simplex_theory.specs.DualSteps.{IsDual};
 ghost use Rattle.fraction_tableau.specs.Loading.{IsUnpivoted};
 
 use crate::{Meter, NodeEnd, Step, solve_node, step};

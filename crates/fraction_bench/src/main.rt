@@ -34,7 +34,7 @@ impl Operation {
     }
 
     /// The result; a quotient by 0 counts as its dividend.
-    #[tactic(auto, using(ratio::specs::Compare::eq_false))]
+    #[tactic(auto, using(rational_theory::proofs::Compare::eq_false))]
     fn apply(self, left: Frac, right: Frac) -> Result<Frac, Wide> {
         match self {
             Operation::Plus => left.plus(right),

@@ -3,9 +3,10 @@ use Rattle.std.proofs.Common.{◌≡◌, ℕ, pos, List, length, get_or, ◌<◌
 use Rattle.std.proofs.Math.ListN.{set, length-set}
 use Rattle.std.proofs.lemmas.List.{ext_get_or, get_or-set_same, get_or-set_other}
 use Rattle.std.proofs.lemmas.Bool.{cases_eq}
-use Rattle.ratio.specs.Rational.{ℚ, whole, neg_ℚ, inverse_ℚ, ◌+ℚ◌, ◌*ℚ◌}
-use Rattle.ratio.specs.Laws.{*ℚ_comm, neg-*ℚ}
-use Rattle.simplex_model.specs.Lines.{turned, cleared, turned_at, turned_other, cleared_at, cleared_other, length-turned, length-cleared}
+use Rattle.rational_theory.specs.Rational.{ℚ, whole, neg_ℚ, inverse_ℚ, ◌+ℚ◌, ◌*ℚ◌}
+use Rattle.rational_theory.proofs.Arithmetic.{*ℚ_comm, neg-*ℚ}
+use Rattle.simplex_theory.specs.Lines.{turned, cleared}
+use Rattle.simplex_theory.proofs.Lines.{turned_at, turned_other, cleared_at, cleared_other, length-turned, length-cleared}
 
 pub turned_done : (c d : List ℚ) (j : ℕ) (v : ℚ) → length d ≡ length c → j < length c → v ≡ inverse_ℚ (get_or c j (whole (pos 0)))
     → ((m : ℕ) → m < length c → (m ≡ j → ⊥) → get_or d m (whole (pos 0)) ≡ get_or c m (whole (pos 0)) *ℚ inverse_ℚ (get_or c j (whole (pos 0))))

@@ -5,9 +5,9 @@ use Rattle.std.specs.List.{range_with_len}
 use Rattle.std.proofs.lemmas.List.{ext_get_or, get_or-set_same, get_or-set_other, get_or_append_left, get_or-append_right, get_or_past, replicate-append-replicate}
 use Rattle.std.proofs.lemmas.List.FromFn.{length-range_with_len, get_or-range_with_len}
 use Rattle.std.proofs.lemmas.Bool.{cases_eq}
-use Rattle.ratio.specs.Rational.{ℚ, whole}
+use Rattle.rational_theory.specs.Rational.{ℚ, whole}
 use Rattle.narrow_fraction.specs.Fraction.{FitsFrac}
-use Rattle.narrow_fraction.specs.Zeros.{zero_fits}
+use Rattle.narrow_fraction.proofs.Zeros.{zero_fits}
 use Rattle.fraction_tableau.specs.Narrow.{IsNarrow}
 
 -- ---- lists that grow

@@ -7,3 +7,6 @@ pub mod Pivots
 pub mod Filling
 pub mod Tableaus
 pub mod Named
+pub mod Narrow
+pub mod Refusals
+pub mod LoadingLaws

@@ -1,12 +1,15 @@
 -- The first operation of a pivot's list that leaves 128 bits is the one that is refused.
 use Rattle.std.proofs.Common.{◌≡◌, ℕ, zero, suc, pos, Bool, true, false, true≢false, cond, eqb, Option, Some, None, List, [], ◌∷◌, ◌++◌, length, get_or, refl, sym, ◌∙◌, ap, ap₂, subst}
-use Rattle.ratio.specs.Rational.{ℚ, whole, ◌*ℚ◌}
-use Rattle.simplex_model.specs.Lines.{turned}
-use Rattle.simplex_model.specs.Tableau.{Tableau, line, height, cell}
-use Rattle.narrow_fraction.specs.Attempt.{earlier, first_below, first_same, neither, some_not_none}
-use Rattle.narrow_fraction.specs.Past128.{Fits128, Past128, is_past, past_none, past_some, fits_within, within}
+use Rattle.rational_theory.specs.Rational.{ℚ, whole, ◌*ℚ◌}
+use Rattle.simplex_theory.specs.Lines.{turned}
+use Rattle.simplex_theory.specs.Tableau.{Tableau, line, height, cell}
+use Rattle.narrow_fraction.specs.Attempt.{earlier, first_below}
+use Rattle.narrow_fraction.proofs.Attempt.{first_same, neither, some_not_none}
+use Rattle.narrow_fraction.specs.Past128.{Fits128, Past128, is_past}
+use Rattle.narrow_fraction.proofs.Past128.{past_none, past_some, fits_within, within}
 use Rattle.narrow_fraction.specs.declared.wide.Op.TheVariants.{Mul, Div, Sub}
-use Rattle.fraction_tableau.specs.Refusals.{at_cell, refused, refused_none, turn_refusal, clear_refusal, pivot_refusal}
+use Rattle.fraction_tableau.specs.Refusals.{at_cell, refused, turn_refusal, clear_refusal, pivot_refusal}
+use Rattle.fraction_tableau.proofs.Refusals.{refused_none}
 use Rattle.fraction_tableau.specs.Operations.{operation, listed_below, listed_others, turn_operations, cell_operations, clear_operations, pivot_operations, AllFit, IsFirstPast, IsRefusalOf}
 use Rattle.fraction_tableau.specs.declared.wide_cell.WideCell.{WideCell}
 

@@ -3,9 +3,10 @@ use Rattle.std.proofs.Common.{◌≡◌, ℕ, Some, None, List, [], length, get_
 use Rattle.std.proofs.Math.ListN.{set, length-set}
 use Rattle.std.proofs.lemmas.List.{get_or-set_same, get_or-set_other}
 use Rattle.std.proofs.lemmas.Bool.{cases_eq, cond-true, cond-false, eq-eqb, ne_eqb}
-use Rattle.ratio.specs.Rational.{ℚ}
-use Rattle.simplex_model.specs.Lines.{cleared}
-use Rattle.narrow_fraction.specs.Attempt.{first_below, first_next, first_is}
+use Rattle.rational_theory.specs.Rational.{ℚ}
+use Rattle.simplex_theory.specs.Lines.{cleared}
+use Rattle.narrow_fraction.specs.Attempt.{first_below}
+use Rattle.narrow_fraction.proofs.Attempt.{first_next, first_is}
 use Rattle.fraction_tableau.specs.Narrow.{AreNarrow}
 use Rattle.fraction_tableau.specs.Refusals.{clear_refusal, line_refusal}
 use Rattle.fraction_tableau.specs.declared.wide_cell.WideCell.{WideCell}

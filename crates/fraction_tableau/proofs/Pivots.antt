@@ -3,9 +3,10 @@ use Rattle.std.proofs.Common.{◌≡◌, ℕ, pos, Some, None, Result, Ok, Err, 
 use Rattle.std.proofs.Math.ListN.{set, length-set}
 use Rattle.std.proofs.lemmas.List.{ext_get_or, get_or-set_same, get_or-set_other, get_or-map, length-map}
 use Rattle.std.proofs.lemmas.Bool.{cases_eq, cond-true, eq-eqb}
-use Rattle.ratio.specs.Rational.{ℚ, whole}
-use Rattle.simplex_model.specs.Lines.{turned, cleared}
-use Rattle.narrow_fraction.specs.Attempt.{earlier, first_below, first_same}
+use Rattle.rational_theory.specs.Rational.{ℚ, whole}
+use Rattle.simplex_theory.specs.Lines.{turned, cleared}
+use Rattle.narrow_fraction.specs.Attempt.{earlier, first_below}
+use Rattle.narrow_fraction.proofs.Attempt.{first_same}
 use Rattle.fraction_tableau.specs.Refusals.{turn_refusal, clear_refusal, line_refusal, pivot_refusal, exchanged_rows}
 use Rattle.fraction_tableau.specs.declared.wide_cell.WideCell.{WideCell}
 

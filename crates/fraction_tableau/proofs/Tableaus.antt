@@ -5,13 +5,15 @@ use Rattle.std.proofs.lemmas.List.{length-map, get_or-replicate, get_or_past, le
 use Rattle.std.proofs.lemmas.List.FromFn.{length-range_with_len}
 use Rattle.std.proofs.lemmas.Bool.{cases_lt, cases_eq}
 use Rattle.std.specs.List.{range_with_len}
-use Rattle.ratio.specs.Rational.{ℚ, whole, neg_ℚ}
-use Rattle.simplex_model.specs.Lines.{turned, cleared}
-use Rattle.simplex_model.specs.Tableau.{Tableau, IsShaped, line, exchange, height, width, shaped-exchange, height-exchange, width-exchange}
+use Rattle.rational_theory.specs.Rational.{ℚ, whole, neg_ℚ}
+use Rattle.simplex_theory.specs.Lines.{turned, cleared}
+use Rattle.simplex_theory.specs.Tableau.{Tableau, IsShaped, line, exchange, height, width}
+use Rattle.simplex_theory.proofs.Tableau.{shaped-exchange, height-exchange, width-exchange}
 use Rattle.named_row.specs.Sheets.{Sheet}
 use Rattle.named_row.specs.declared.names.RowId.{RowId}
-use Rattle.narrow_fraction.specs.Zeros.{zero_fits}
-use Rattle.fraction_tableau.specs.Narrow.{IsNarrow, AreNarrow, are_narrow-set}
+use Rattle.narrow_fraction.proofs.Zeros.{zero_fits}
+use Rattle.fraction_tableau.specs.Narrow.{IsNarrow, AreNarrow}
+use Rattle.fraction_tableau.proofs.Narrow.{are_narrow-set}
 use Rattle.fraction_tableau.specs.Refusals.{exchanged_rows}
 use Rattle.fraction_tableau.specs.NamedTableaus.{NamedTableau, IsSound, unnamed, blank_table, blank_tableau, row_cells, with_row, goal_cells, with_goal}
 

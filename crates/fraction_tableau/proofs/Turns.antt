@@ -3,8 +3,9 @@ use Rattle.std.proofs.Common.{◌≡◌, ℕ, pos, Some, None, List, length, get
 use Rattle.std.proofs.Math.ListN.{set, length-set}
 use Rattle.std.proofs.lemmas.List.{get_or-set_same, get_or-set_other}
 use Rattle.std.proofs.lemmas.Bool.{cases_eq, eq-eqb, ne_eqb, cond-false}
-use Rattle.ratio.specs.Rational.{ℚ, whole, neg_ℚ, inverse_ℚ, ◌+ℚ◌, ◌*ℚ◌}
-use Rattle.narrow_fraction.specs.Attempt.{earlier, first_below, first_next, first_is}
+use Rattle.rational_theory.specs.Rational.{ℚ, whole, neg_ℚ, inverse_ℚ, ◌+ℚ◌, ◌*ℚ◌}
+use Rattle.narrow_fraction.specs.Attempt.{earlier, first_below}
+use Rattle.narrow_fraction.proofs.Attempt.{first_next, first_is}
 use Rattle.narrow_fraction.specs.declared.wide.Op.TheVariants.{Div}
 use Rattle.fraction_tableau.specs.Narrow.{IsNarrow}
 use Rattle.fraction_tableau.specs.Refusals.{refused, turn_refusal, turn_cell_refusal, turn_at, clear_refusal, clear_cell_refusal, clear_at}

@@ -2,17 +2,19 @@
 use Rattle.std.proofs.Common.{◌≡◌, ℕ, pos, zero, suc, Bool, true, false, cond, eqb, Option, None, List, [], length, get_or, set, ◌<◌, ◌⊎◌, inl, inr, refl, sym, ◌∙◌, ap, ap₂, subst}
 use Rattle.std.proofs.lemmas.List.{set-get_or, ext_get_or}
 use Rattle.std.proofs.lemmas.Bool.{cases_eq, cond_both}
-use Rattle.ratio.specs.Rational.{ℚ, whole, neg_ℚ, inverse_ℚ, ◌+ℚ◌, ◌*ℚ◌}
-use Rattle.ratio.specs.Laws.{+ℚ-zero}
-use Rattle.ratio.specs.Ring.{zero-*ℚ, ring, lit, minus}
+use Rattle.rational_theory.specs.Rational.{ℚ, whole, neg_ℚ, inverse_ℚ, ◌+ℚ◌, ◌*ℚ◌}
+use Rattle.rational_theory.proofs.Arithmetic.{+ℚ-zero}
+use Rattle.rational_theory.proofs.Ring.{zero-*ℚ, ring, lit, minus}
 use Rattle.narrow_fraction.specs.Fraction.{FitsFrac}
 use Rattle.narrow_fraction.specs.Past128.{SumFits}
-use Rattle.narrow_fraction.specs.Zeros.{zero_fits, sum_with_zero}
+use Rattle.narrow_fraction.proofs.Zeros.{zero_fits, sum_with_zero}
 use Rattle.narrow_fraction.specs.Attempt.{earlier, first_below}
 use Rattle.narrow_fraction.specs.declared.wide.Op.TheVariants.{Mul, Div, Sub}
-use Rattle.simplex_model.specs.Lines.{cleared, cleared_at, cleared_other, length-cleared}
+use Rattle.simplex_theory.specs.Lines.{cleared}
+use Rattle.simplex_theory.proofs.Lines.{cleared_at, cleared_other, length-cleared}
 use Rattle.fraction_tableau.specs.Narrow.{IsNarrow}
-use Rattle.fraction_tableau.specs.Refusals.{refused, refused_none, clear_cell_refusal, clear_at, clear_refusal}
+use Rattle.fraction_tableau.specs.Refusals.{refused, clear_cell_refusal, clear_at, clear_refusal}
+use Rattle.fraction_tableau.proofs.Refusals.{refused_none}
 
 negated_zero : neg_ℚ (whole (pos 0)) ≡ whole (pos 0)
 negated_zero = ring (minus (lit (pos 0))) (lit (pos 0)) [] refl

@@ -1,8 +1,8 @@
 -- What contracts see of a `Tableau`: a tableau of rational numbers, the names of its rows, and whether it is spent.
 use Rattle.std.specs.Prelude.{◌≡◌, ℕ, Bool, true, false, List, [], ◌∷◌, ◌++◌, map, length, replicate, set, slice_index_or, pos, cond, eqb, ◌<◌, ◌+◌, ◌^◌}
 use Rattle.std.specs.List.{range_with_len}
-use Rattle.ratio.specs.Rational.{ℚ, whole, neg_ℚ}
-use Rattle.simplex_model.specs.Tableau.{Tableau, IsShaped, height, width, cell, goal_cell}
+use Rattle.rational_theory.specs.Rational.{ℚ, whole, neg_ℚ}
+use Rattle.simplex_theory.specs.Tableau.{Tableau, IsShaped, height, width, cell, goal_cell}
 use Rattle.named_row.specs.Sheets.{Sheet}
 use Rattle.named_row.specs.declared.names.RowId.{RowId}
 use Rattle.fraction_tableau.specs.Narrow.{IsNarrow, AreNarrow}

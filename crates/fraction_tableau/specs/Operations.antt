@@ -1,8 +1,8 @@
 -- The operations of a pivot as one list, in their order, and the first of a list that leaves 128 bits.
 use Rattle.std.proofs.Common.{◌≡◌, ◌↔◌, ℕ, zero, suc, pos, cond, eqb, Option, Some, None, List, [], ◌∷◌, ◌++◌, length, get_or}
-use Rattle.ratio.specs.Rational.{ℚ, whole, ◌*ℚ◌}
-use Rattle.simplex_model.specs.Lines.{turned}
-use Rattle.simplex_model.specs.Tableau.{Tableau, line, height, cell}
+use Rattle.rational_theory.specs.Rational.{ℚ, whole, ◌*ℚ◌}
+use Rattle.simplex_theory.specs.Lines.{turned}
+use Rattle.simplex_theory.specs.Tableau.{Tableau, line, height, cell}
 use Rattle.narrow_fraction.specs.Past128.{Fits128, Past128}
 use Rattle.narrow_fraction.specs.declared.wide.Op.{Op}
 use Rattle.narrow_fraction.specs.declared.wide.Op.TheVariants.{Mul, Div, Sub}

@@ -1,10 +1,10 @@
 -- The operations of a pivot in their order, and the first of them that leaves 128 bits.
-use Rattle.std.proofs.Common.{◌≡◌, ℕ, pos, cond, eqb, Option, Some, None, List, [], map, length, get_or, ap, ◌∙◌, sym}
+use Rattle.std.proofs.Common.{ℕ, pos, cond, eqb, Option, Some, None, List, [], map, length, get_or}
 use Rattle.std.proofs.Math.ListN.{set}
-use Rattle.ratio.specs.Rational.{ℚ, whole, ◌*ℚ◌}
-use Rattle.simplex_model.specs.Lines.{turned, cleared}
+use Rattle.rational_theory.specs.Rational.{ℚ, whole, ◌*ℚ◌}
+use Rattle.simplex_theory.specs.Lines.{turned, cleared}
 use Rattle.narrow_fraction.specs.Attempt.{earlier, first_below}
-use Rattle.narrow_fraction.specs.Past128.{Fits128, Past128, past_wide, past_none, past_some}
+use Rattle.narrow_fraction.specs.Past128.{past_wide}
 use Rattle.narrow_fraction.specs.declared.wide.Op.{Op}
 use Rattle.narrow_fraction.specs.declared.wide.Op.TheVariants.{Mul, Div, Sub}
 use Rattle.narrow_fraction.specs.declared.wide.Wide.{Wide}
@@ -52,12 +52,3 @@ pivot_refusal r j rows goal =
 -- the rows of the exchange
 unfoldable pub exchanged_rows : ℕ → ℕ → List (List ℚ) → List (List ℚ)
 exchanged_rows r j rows = set (map (cleared j (turned j (get_or rows r []))) rows) r (turned j (get_or rows r []))
-
--- ---- from the clauses of an operation
-pub refused_none : (op : Op) (x y : ℚ) (i k : ℕ) → Fits128 op x y → refused op x y i k ≡ None
-unfolding refused
-refused_none op x y i k h = ap (at_cell i k) (past_none op x y h)
-
-pub refused_some : (op : Op) (x y : ℚ) (i k : ℕ) (w : Wide) → (w ≡ record { op = op; left = x; right = y }) × Past128 op x y → refused op x y i k ≡ Some (record { row = i; col = k; wide = w })
-unfolding refused
-refused_some op x y i k w h = ap (at_cell i k) (past_some op x y h.1) ∙ ap (λ (t : Wide). at_cell i k (Some t)) (sym h.0)

@@ -2,7 +2,7 @@
 
 ghost use Rattle.std.specs.Prelude.{◌≡◌, ◌+◌, ◌<◌, ◌^◌, pos, replicate, map, IfOk};
 ghost use Rattle.std.specs.List.{range_with_len};
-ghost use Rattle.ratio.specs.Rational.{whole};
+ghost use Rattle.rational_theory.specs.Rational.{whole};
 ghost use Rattle.fraction_tableau.specs.NamedTableaus.{unnamed};
 
 use named_row::RowId;

@@ -1,10 +1,10 @@
 //! A tableau of fractions for the dual simplex method: rows with names, a goal row, and the exchange of a basic variable with
 //! one that stands at a place.
 //!
-//! A `Tableau` is seen as a `NamedTableau` (`specs/NamedTableaus.antt`): the `Tableau` of `simplex_model`, a list of names
+//! A `Tableau` is seen as a `NamedTableau` (`specs/NamedTableaus.antt`): the `Tableau` of `simplex_theory`, a list of names
 //! and whether it is spent. Begin with `Tableau::new`, then load each row by `Tableau::load` and a goal by
 //! `Tableau::load_goal`; `Tableau::pivot` exchanges two variables exactly, or names the first operation that leaves 128 bits
-//! (`specs/Operations.antt` lists the operations in their order). What an exchange keeps is in `simplex_model`'s laws.
+//! (`specs/Operations.antt` lists the operations in their order). What an exchange keeps is in `simplex_theory`'s laws.
 #![tactic(auto)]
 
 mod fresh;

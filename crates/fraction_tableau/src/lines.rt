@@ -1,8 +1,8 @@
 //! The cells of a whole exchange.
 
 ghost use Rattle.std.specs.Prelude.{◌≡◌, ℕ, ◌<◌, ◌^◌, pos, length, get_or, set, map, eqb, cond, IfOk, []};
-ghost use Rattle.ratio.specs.Rational.{whole, inverse_ℚ};
-ghost use Rattle.simplex_model.specs.Lines.{turned, cleared};
+ghost use Rattle.rational_theory.specs.Rational.{whole, inverse_ℚ};
+ghost use Rattle.simplex_theory.specs.Lines.{turned, cleared};
 ghost use Rattle.narrow_fraction.specs.Attempt.{attempt, first_below};
 ghost use Rattle.fraction_tableau.specs.Narrow.{IsNarrow, AreNarrow};
 ghost use Rattle.fraction_tableau.specs.Refusals.{turn_refusal, line_refusal, pivot_refusal, exchanged_rows};

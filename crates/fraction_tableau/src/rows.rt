@@ -1,8 +1,8 @@
 //! The cells of one row in an exchange: the pivot's own row turned, another row cleared.
 
 ghost use Rattle.std.specs.Prelude.{◌≡◌, ◌<◌, ◌^◌, pos, length, get_or, set, eqb, cond, IfOk};
-ghost use Rattle.ratio.specs.Rational.{whole, inverse_ℚ, neg_ℚ, ◌+ℚ◌, ◌*ℚ◌};
-ghost use Rattle.simplex_model.specs.Lines.{turned, cleared};
+ghost use Rattle.rational_theory.specs.Rational.{whole, inverse_ℚ, neg_ℚ, ◌+ℚ◌, ◌*ℚ◌};
+ghost use Rattle.simplex_theory.specs.Lines.{turned, cleared};
 ghost use Rattle.narrow_fraction.specs.Attempt.{attempt};
 ghost use Rattle.fraction_tableau.specs.Narrow.{IsNarrow};
 ghost use Rattle.fraction_tableau.specs.Refusals.{turn_cell_refusal, turn_refusal, clear_cell_refusal, clear_refusal};

@@ -1,8 +1,8 @@
 //! The tableau.
 
 ghost use Rattle.std.specs.Prelude.{◌≡◌, ◌<◌, ◌≤◌, ◌+◌, ◌^◌, pos, length, IfOk, IfErr, false};
-ghost use Rattle.ratio.specs.Rational.{whole};
-ghost use Rattle.simplex_model.specs.Tableau.{cell, basic_at, standing_at, height, width, exchange};
+ghost use Rattle.rational_theory.specs.Rational.{whole};
+ghost use Rattle.simplex_theory.specs.Tableau.{cell, basic_at, standing_at, height, width, exchange};
 ghost use Rattle.narrow_fraction.specs.Attempt.{attempt};
 ghost use Rattle.fraction_tableau.specs.Refusals.{pivot_refusal};
 ghost use Rattle.fraction_tableau.specs.NamedTableaus.{IsNamed, IsSpentFrom, blank_tableau, number_at, name_at, with_row, with_goal};

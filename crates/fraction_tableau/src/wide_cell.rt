@@ -1,7 +1,7 @@
 //! Operations of an exchange, with the place that each is for.
 
 ghost use Rattle.std.specs.Prelude.{◌≡◌, pos, IfOk};
-ghost use Rattle.ratio.specs.Rational.{whole, ◌-ℚ◌, ◌*ℚ◌, ◌/ℚ◌};
+ghost use Rattle.rational_theory.specs.Rational.{whole, ◌-ℚ◌, ◌*ℚ◌, ◌/ℚ◌};
 ghost use Rattle.narrow_fraction.specs.Fraction.{FitsFrac};
 ghost use Rattle.narrow_fraction.specs.Attempt.{attempt};
 ghost use Rattle.narrow_fraction.specs.declared.wide.Op.TheVariants.{Mul, Div, Sub};

@@ -2,11 +2,11 @@
 
 ghost use Rattle.std.specs.Prelude.{◌≡◌, ◌≢◌, length};
 ghost use Rattle.progression.specs.Street.{count};
-ghost use Rattle.linear_model.specs.Places.{width};
-ghost use Rattle.linear_model.specs.Rows.{ratio_below_form, ratio_above_form};
-ghost use Rattle.linear_model.specs.Names.{RatioRow, HasRow, form_of};
-ghost use Rattle.linear_model.specs.NamedRows.{row_law};
-ghost use Rattle.loop_rows.specs.Meeting.{at_points};
+ghost use Rattle.linear_theory.specs.Places.{width};
+ghost use Rattle.linear_theory.specs.Rows.{ratio_below_form, ratio_above_form};
+ghost use Rattle.linear_theory.specs.Names.{RatioRow, HasRow, form_of};
+ghost use Rattle.linear_theory.proofs.NamedRows.{row_law};
+ghost use Rattle.loop_rows.specs.laws.Meeting.{at_points};
 ghost use Rattle.loop_rows.specs.Writing.{written};
 
 use crate::columns::band;
@@ -55,7 +55,7 @@ impl Family for BandRatio {
         13
     }
 
-    #[tactic(auto, using(ratio::specs::Compare::ne_true, ratio::specs::Compare::ne_false))]
+    #[tactic(auto, using(rational_theory::proofs::Compare::ne_true, rational_theory::proofs::Compare::ne_false))]
     fn has(&self, artery: &Artery, index: u32) -> bool {
         index == 0 && artery.ratio() != Frac::whole(1)
     }

@@ -2,11 +2,11 @@
 
 ghost use Rattle.std.specs.Prelude.{◌≡◌, ◌↔◌, IsTrue, ◌<◌, ◌≤◌, ◌+◌, length};
 ghost use Rattle.progression.specs.Street.{count};
-ghost use Rattle.linear_model.specs.Places.{width};
-ghost use Rattle.linear_model.specs.Rows.{rise_form, drop_form};
-ghost use Rattle.linear_model.specs.Names.{RiseRow, DropRow, HasRow, HasChange, form_of};
-ghost use Rattle.linear_model.specs.NamedRows.{row_law};
-ghost use Rattle.loop_rows.specs.Meeting.{at_points};
+ghost use Rattle.linear_theory.specs.Places.{width};
+ghost use Rattle.linear_theory.specs.Rows.{rise_form, drop_form};
+ghost use Rattle.linear_theory.specs.Names.{RiseRow, DropRow, HasRow, HasChange, form_of};
+ghost use Rattle.linear_theory.proofs.NamedRows.{row_law};
+ghost use Rattle.loop_rows.specs.laws.Meeting.{at_points};
 ghost use Rattle.loop_rows.specs.Directions.{by_dir};
 ghost use Rattle.loop_rows.specs.Writing.{written};
 

@@ -1,9 +1,9 @@
 //! The rows of the cycle's limits.
 
 ghost use Rattle.std.specs.Prelude.{◌≡◌};
-ghost use Rattle.linear_model.specs.Names.{CycleLowRow, CycleHighRow, HasRow, form_of};
-ghost use Rattle.linear_model.specs.NamedRows.{row_law};
-ghost use Rattle.loop_rows.specs.Meeting.{at_points};
+ghost use Rattle.linear_theory.specs.Names.{CycleLowRow, CycleHighRow, HasRow, form_of};
+ghost use Rattle.linear_theory.proofs.NamedRows.{row_law};
+ghost use Rattle.loop_rows.specs.laws.Meeting.{at_points};
 
 use crate::columns::frequency;
 use crate::family::{Family, Progression};

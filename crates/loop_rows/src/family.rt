@@ -1,13 +1,13 @@
 //! Families of rows, each with its law.
 
 ghost use Rattle.std.specs.Prelude.{◌≡◌, ◌↔◌, IsTrue, ℕ, List, length};
-ghost use Rattle.ratio.specs.Rational.{ℚ};
-ghost use Rattle.ratio.specs.Rows.{IsMet};
+ghost use Rattle.rational_theory.specs.Rational.{ℚ};
+ghost use Rattle.rational_theory.specs.Rows.{IsMet};
 ghost use Rattle.progression.specs.Street.{Street, count};
-ghost use Rattle.linear_model.specs.Places.{width};
-ghost use Rattle.linear_model.specs.Boxes.{Area, IsBoxOf};
-ghost use Rattle.linear_model.specs.Rows.{Form, line};
-ghost use Rattle.linear_model.specs.Counts.{IsGoodPoint};
+ghost use Rattle.linear_theory.specs.Places.{width};
+ghost use Rattle.linear_theory.specs.Boxes.{Area, IsBoxOf};
+ghost use Rattle.linear_theory.specs.Rows.{Form, line};
+ghost use Rattle.linear_theory.specs.Counts.{IsGoodPoint};
 ghost use Rattle.loop_rows.specs.Writing.{written};
 
 use artery_model::Artery;

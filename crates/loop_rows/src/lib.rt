@@ -5,7 +5,7 @@
 //! box; `fill_goal` makes the weighted band and `block_sum` adds up a link's block sum at a point. None of these takes
 //! memory, and no row is refused. `leaf_sum` adds up the rows that a leaf names. A `Family` comes with the proof that every
 //! point meets its rows that counts for its `Problem`; `Progression` is the problem of the timings of one artery. Which rows
-//! there are, and what they say, is defined in `linear_model` (`specs/Rows.antt`, `specs/Names.antt`); `laws` says over
+//! there are, and what they say, is defined in `linear_theory` (`specs/Rows.antt`, `specs/Names.antt`); `laws` says over
 //! those definitions alone what they promise.
 #![tactic(auto)]
 

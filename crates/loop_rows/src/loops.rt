@@ -2,12 +2,12 @@
 
 ghost use Rattle.std.specs.Prelude.{◌≡◌, ◌<◌, ◌≤◌, length};
 ghost use Rattle.progression.specs.Street.{count};
-ghost use Rattle.linear_model.specs.Places.{width};
-ghost use Rattle.linear_model.specs.Rows.{block_entries};
-ghost use Rattle.linear_model.specs.Names.{LoopLowRow, LoopHighRow, HasRow, form_of};
-ghost use Rattle.linear_model.specs.NamedRows.{row_law};
+ghost use Rattle.linear_theory.specs.Places.{width};
+ghost use Rattle.linear_theory.specs.Rows.{block_entries};
+ghost use Rattle.linear_theory.specs.Names.{LoopLowRow, LoopHighRow, HasRow, form_of};
+ghost use Rattle.linear_theory.proofs.NamedRows.{row_law};
 ghost use Rattle.named_row.specs.Sheets.{blank};
-ghost use Rattle.loop_rows.specs.Meeting.{at_points};
+ghost use Rattle.loop_rows.specs.laws.Meeting.{at_points};
 ghost use Rattle.loop_rows.specs.Writing.{with_entries};
 
 use crate::columns::{next_of, run, shift, wait};

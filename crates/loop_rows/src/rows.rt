@@ -2,10 +2,10 @@
 
 ghost use Rattle.std.specs.Prelude.{◌≡◌, ◌↔◌, ◌+◌, IsTrue, length, true, false};
 ghost use Rattle.progression.specs.Street.{count};
-ghost use Rattle.linear_model.specs.Places.{width};
-ghost use Rattle.linear_model.specs.Boxes.{IsBoxOf};
-ghost use Rattle.linear_model.specs.Rows.{goal_form};
-ghost use Rattle.linear_model.specs.Names.{HasRow, form_of, name_of};
+ghost use Rattle.linear_theory.specs.Places.{width};
+ghost use Rattle.linear_theory.specs.Boxes.{IsBoxOf};
+ghost use Rattle.linear_theory.specs.Rows.{goal_form};
+ghost use Rattle.linear_theory.specs.Names.{HasRow, form_of, name_of};
 ghost use Rattle.loop_rows.specs.Writing.{written};
 ghost use Rattle.loop_rows.specs.Meeting.{IsFilled};
 ghost use Rattle.loop_rows.specs.Following.{IsIndexFrom, IsRowFrom, IsNextRow};

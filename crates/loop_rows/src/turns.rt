@@ -2,12 +2,12 @@
 
 ghost use Rattle.std.specs.Prelude.{◌≡◌, ◌<◌, ◌≤◌};
 ghost use Rattle.progression.specs.Street.{count};
-ghost use Rattle.linear_model.specs.Blocks.{part};
-ghost use Rattle.linear_model.specs.Boxes.{IsBoxOf, turn_span};
-ghost use Rattle.linear_model.specs.Shifts.{shift_at, shift_count};
-ghost use Rattle.linear_model.specs.Names.{TurnLowRow, TurnHighRow, HasRow, form_of};
-ghost use Rattle.linear_model.specs.NamedRows.{row_law};
-ghost use Rattle.loop_rows.specs.Meeting.{at_points};
+ghost use Rattle.linear_theory.specs.Blocks.{part};
+ghost use Rattle.linear_theory.specs.Boxes.{IsBoxOf, turn_span};
+ghost use Rattle.linear_theory.specs.Shifts.{shift_at, shift_count};
+ghost use Rattle.linear_theory.specs.Names.{TurnLowRow, TurnHighRow, HasRow, form_of};
+ghost use Rattle.linear_theory.proofs.NamedRows.{row_law};
+ghost use Rattle.loop_rows.specs.laws.Meeting.{at_points};
 
 use crate::columns::shift;
 use crate::family::{Family, Progression};

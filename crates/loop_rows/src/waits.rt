@@ -1,9 +1,9 @@
 //! The rows that keep the bands within the greens.
 
 ghost use Rattle.std.specs.Prelude.{◌≡◌};
-ghost use Rattle.linear_model.specs.Names.{WaitRow, HasRow, form_of};
-ghost use Rattle.linear_model.specs.NamedRows.{row_law};
-ghost use Rattle.loop_rows.specs.Meeting.{at_points};
+ghost use Rattle.linear_theory.specs.Names.{WaitRow, HasRow, form_of};
+ghost use Rattle.linear_theory.proofs.NamedRows.{row_law};
+ghost use Rattle.loop_rows.specs.laws.Meeting.{at_points};
 ghost use Rattle.loop_rows.specs.Directions.{by_dir};
 
 use crate::columns::{band, wait};

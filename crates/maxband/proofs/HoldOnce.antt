@@ -1,7 +1,7 @@
 -- Files that tell their bytes leave one answer of `hold`.
 use Rattle.std.proofs.Common.{◌≡◌, ℕ, List, Option, refl, sym, ◌∙◌, ap, subst}
 use Rattle.std.specs.Prelude.{IsSome}
-use Rattle.ratio.specs.Rational.{ℚ}
+use Rattle.rational_theory.specs.Rational.{ℚ}
 use Rattle.progression.specs.Street.{Street}
 use Rattle.progression.specs.Plan.{Plan}
 use Rattle.progression.specs.Good.{Good}

@@ -1,7 +1,7 @@
 -- What an accepted certificate of a search says of all timings.
 use Rattle.std.proofs.Common.{◌≡◌, Option, Some, None, subst}
 use Rattle.std.specs.Prelude.{IfSome}
-use Rattle.ratio.specs.Rational.{ℚ}
+use Rattle.rational_theory.specs.Rational.{ℚ}
 use Rattle.progression.specs.Street.{Street}
 use Rattle.progression.specs.Plan.{Plan}
 use Rattle.progression.specs.Good.{Good}

@@ -6,7 +6,7 @@ use Rattle.std.specs.Str.{all_ascii_digits}
 use Rattle.std.specs.Str.Parse.{digits_value, ParsesUnsigned}
 use Rattle.std.proofs.lemmas.Str.Parse.{parse_digits}
 use Rattle.plan_text.specs.Numbers.{is_numeral, is_plain}
-use Rattle.plan_text.specs.Digits.{digits_by_test}
+use Rattle.plan_text.proofs.Digits.{digits_by_test}
 use Rattle.maxband.specs.Numbers.{number_within}
 
 some : (w : List ℕ) → is_plain w ≡ true → 0 < length w

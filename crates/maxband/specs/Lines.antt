@@ -1,7 +1,7 @@
 -- The lines of each answer.
 use Rattle.std.specs.Prelude.{ℕ, ◌==◌, List, [], ◌++◌, codes, if◌then◌else◌}
 use Rattle.std.specs.Fmt.{decimal, signed_decimal}
-use Rattle.ratio.specs.Rational.{ℚ}
+use Rattle.rational_theory.specs.Rational.{ℚ}
 use Rattle.quantity_text.specs.Exact.{exact_spelling}
 use Rattle.progression.specs.declared.parts.Dir.{Dir}
 use Rattle.artery_model.specs.declared.kind.Kind.{Kind}

@@ -1,6 +1,6 @@
 -- What a run comes to: the cause of its status, what stands behind it, what is put, and by which lines the output grew.
 use Rattle.std.specs.Prelude.{◌≡◌, ◌≢◌, ◌⊎◌, ℕ, ◌≤◌, List, length, Option, Some, None, IsSome, IfSome}
-use Rattle.ratio.specs.Rational.{ℚ}
+use Rattle.rational_theory.specs.Rational.{ℚ}
 use Rattle.progression.specs.Street.{Street}
 use Rattle.plan_text.specs.declared.certificate.Claim.{Claim}
 use Rattle.outer_edge.specs.Counts.{Rose, NoneFell, SameCounts}

@@ -2,9 +2,10 @@
 use Rattle.std.proofs.Common.{◌≡◌, ℕ, suc, pos, None, List, [], ◌∷◌, length, get_or, ◌+◌, ◌<◌, ◌≤◌, ◌⊎◌, inl, inr, refl, ◌∙◌, ap₂, arith}
 use Rattle.std.proofs.Math.ListN.{set, length-set}
 use Rattle.std.proofs.lemmas.List.{get_or-set_same, get_or-set_other}
-use Rattle.ratio.specs.Rational.{ℚ, whole, ◌+ℚ◌, ◌*ℚ◌}
-use Rattle.ratio.specs.Rows.{add, scale}
-use Rattle.narrow_fraction.specs.Attempt.{first_below, first_next}
+use Rattle.rational_theory.specs.Rational.{ℚ, whole, ◌+ℚ◌, ◌*ℚ◌}
+use Rattle.rational_theory.specs.Rows.{add, scale}
+use Rattle.narrow_fraction.specs.Attempt.{first_below}
+use Rattle.narrow_fraction.proofs.Attempt.{first_next}
 use Rattle.named_row.specs.Refusals.{cell_refusal}
 
 -- the row c became d below k, by k times the other row s

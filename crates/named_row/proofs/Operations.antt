@@ -1,8 +1,9 @@
 -- The two operations at one place, in their order.
 use Rattle.std.proofs.Common.{◌≡◌, Option, Some, None, sym, ◌∙◌, ap, ap₂}
-use Rattle.ratio.specs.Rational.{ℚ, ◌*ℚ◌}
+use Rattle.rational_theory.specs.Rational.{ℚ, ◌*ℚ◌}
 use Rattle.narrow_fraction.specs.Attempt.{earlier}
-use Rattle.narrow_fraction.specs.Past128.{Fits128, Past128, past_wide, past_none, past_some}
+use Rattle.narrow_fraction.specs.Past128.{Fits128, Past128, past_wide}
+use Rattle.narrow_fraction.proofs.Past128.{past_none, past_some}
 use Rattle.narrow_fraction.specs.declared.wide.Op.TheVariants.{Add, Mul}
 use Rattle.narrow_fraction.specs.declared.wide.Wide.{Wide}
 use Rattle.named_row.specs.declared.names.Place.{Place}

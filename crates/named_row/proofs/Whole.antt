@@ -1,10 +1,12 @@
 -- A whole row: its columns, then its bound.
 use Rattle.std.proofs.Common.{◌≡◌, pos, Bool, true, false, Some, None, List, length, sym, ap, ap₂}
 use Rattle.std.specs.Ordering.{is_lt, is_le}
-use Rattle.ratio.specs.Rational.{ℚ, whole, ◌+ℚ◌, ◌*ℚ◌}
-use Rattle.ratio.specs.Rows.{add, scale}
-use Rattle.ratio.specs.Compare.{cmp_ℚ, lt_false, le_false}
-use Rattle.narrow_fraction.specs.Attempt.{refusal_if, earlier, first_below, not_refused, none_each}
+use Rattle.rational_theory.specs.Rational.{ℚ, whole, ◌+ℚ◌, ◌*ℚ◌}
+use Rattle.rational_theory.specs.Rows.{add, scale}
+use Rattle.rational_theory.specs.Compare.{cmp_ℚ}
+use Rattle.rational_theory.proofs.Compare.{lt_false, le_false}
+use Rattle.narrow_fraction.specs.Attempt.{refusal_if, earlier, first_below}
+use Rattle.narrow_fraction.proofs.Attempt.{not_refused, none_each}
 use Rattle.named_row.specs.declared.names.Place.{Place}
 use Rattle.named_row.specs.declared.names.Place.TheVariants.{Cell, Bound}
 use Rattle.named_row.specs.declared.wide_at.WideAt.{WideAt}

@@ -1,10 +1,10 @@
 -- Another row's 0 at a place: nothing is refused there, and the own number stays.
 use Rattle.std.proofs.Common.{◌≡◌, pos, None, sym, ◌∙◌, ap, ap₂}
-use Rattle.ratio.specs.Rational.{ℚ, whole, ◌+ℚ◌, ◌*ℚ◌}
-use Rattle.ratio.specs.Laws.{+ℚ-zero, *ℚ-zero}
+use Rattle.rational_theory.specs.Rational.{ℚ, whole, ◌+ℚ◌, ◌*ℚ◌}
+use Rattle.rational_theory.proofs.Arithmetic.{+ℚ-zero, *ℚ-zero}
 use Rattle.narrow_fraction.specs.Fraction.{FitsFrac}
 use Rattle.narrow_fraction.specs.Attempt.{earlier}
-use Rattle.narrow_fraction.specs.Zeros.{zero_product_passes, zero_sum_passes}
+use Rattle.narrow_fraction.proofs.Zeros.{zero_product_passes, zero_sum_passes}
 use Rattle.named_row.specs.declared.names.Place.{Place}
 use Rattle.named_row.specs.Refusals.{at, place_refusal}
 

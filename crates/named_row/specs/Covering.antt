@@ -1,8 +1,8 @@
 -- What a row covers or refutes, and the first place where it does not.
 use Rattle.std.specs.Prelude.{ℕ, pos, Option, List, length, slice_index_or, ◌<◌}
 use Rattle.std.specs.Ordering.{is_lt, is_le}
-use Rattle.ratio.specs.Rational.{ℚ, whole, ◌≤ℚ◌, ◌<ℚ◌}
-use Rattle.ratio.specs.Compare.{cmp_ℚ}
+use Rattle.rational_theory.specs.Rational.{ℚ, whole, ◌≤ℚ◌, ◌<ℚ◌}
+use Rattle.rational_theory.specs.Compare.{cmp_ℚ}
 use Rattle.narrow_fraction.specs.Attempt.{refusal_if, earlier, first_below}
 use Rattle.named_row.specs.declared.names.Place.{Place}
 use Rattle.named_row.specs.declared.names.Place.TheVariants.{Cell, Bound}

@@ -1,4 +1,3 @@
 pub mod Sheets
 pub mod Refusals
 pub mod Covering
-pub mod Meaning

@@ -1,6 +1,6 @@
 -- The operations of a sum of rows in their order, and the first of them that leaves 128 bits.
 use Rattle.std.specs.Prelude.{ℕ, pos, Option, Some, None, List, length, slice_index_or}
-use Rattle.ratio.specs.Rational.{ℚ, whole, ◌*ℚ◌}
+use Rattle.rational_theory.specs.Rational.{ℚ, whole, ◌*ℚ◌}
 use Rattle.narrow_fraction.specs.Attempt.{earlier, first_below}
 use Rattle.narrow_fraction.specs.Past128.{past_wide}
 use Rattle.narrow_fraction.specs.declared.wide.Op.TheVariants.{Add, Mul}

@@ -1,8 +1,8 @@
 -- A row as contracts see it: its coefficients, its bound, and whether it is spent. It means that the sum of coefficient
 -- times column is at most the bound, for columns that are at least 0.
 use Rattle.std.specs.Prelude.{ℕ, Bool, false, List, slice_set, slice_index_or, replicate, ◌<◌, pos}
-use Rattle.ratio.specs.Rational.{ℚ, whole, ◌+ℚ◌, ◌*ℚ◌}
-use Rattle.ratio.specs.Rows as maths
+use Rattle.rational_theory.specs.Rational.{ℚ, whole, ◌+ℚ◌, ◌*ℚ◌}
+use Rattle.rational_theory.specs.Rows as maths
 use Rattle.named_row.specs.declared.names.Place.{Place}
 use Rattle.named_row.specs.declared.names.Place.TheVariants.{Cell, Bound}
 

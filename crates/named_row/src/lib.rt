@@ -4,7 +4,7 @@
 //! A `Row` is seen as a `Sheet`: the list of its coefficients, its bound, and whether it is spent (`specs/Sheets.antt`).
 //! Begin with `Row::zero` and `Row::set`; `Row::add_scaled` adds a multiple of another row exactly, or names the first
 //! operation that leaves 128 bits, and `Row::covers` and `Row::refutes` read off what a sum shows.
-#![tactic(auto, using(ratio::specs::Compare::ne_false, ratio::specs::Compare::eq_true, ratio::specs::Compare::lt_true, ratio::specs::Compare::lt_false, ratio::specs::Compare::le_true, ratio::specs::Compare::le_false))]
+#![tactic(auto, using(rational_theory::proofs::Compare::ne_false, rational_theory::proofs::Compare::eq_true, rational_theory::proofs::Compare::lt_true, rational_theory::proofs::Compare::lt_false, rational_theory::proofs::Compare::le_true, rational_theory::proofs::Compare::le_false))]
 
 mod cells;
 mod leaves;

@@ -10,13 +10,15 @@ use Rattle.std.specs.Prelude.{int_div}
 use Rattle.std.specs.Int.{w128, IsGcd}
 use Rattle.std.proofs.lemmas.Nat.Gcd.{dvd_trans}
 use Rattle.narrow_fraction.proofs.Parts.{coprime_part, coprime_turn, coprime_times}
-use Rattle.ratio.specs.Gcd.{gcd}
-use Rattle.ratio.specs.Coprime.{gcd-IsGcd, Coprime-cancel}
-use Rattle.ratio.specs.Integers.{up-mul, down-mul, up-neg, down-neg, *ℤ-+ℤ}
-use Rattle.ratio.specs.Fractions.{times_part, first_part_pos, part_pos, times-int_div, parts_reduced, IsGcd-one, gcd-is, gcd_comm, gcd-one, gcd-self}
-use Rattle.ratio.specs.Rational.{ℚ, whole, over, ◌+ℚ◌}
-use Rattle.ratio.specs.Laws.{same_ratio, over_terms, own_ratio, sum_ratio, +ℚ-zero}
-use Rattle.ratio.specs.Order.{zero_num}
+use Rattle.rational_theory.specs.Gcd.{gcd}
+use Rattle.rational_theory.specs.laws.Coprime.{gcd-IsGcd}
+use Rattle.rational_theory.proofs.Coprime.{Coprime-cancel}
+use Rattle.rational_theory.proofs.Integers.{up-mul, down-mul, up-neg, down-neg, *ℤ-+ℤ}
+use Rattle.rational_theory.specs.laws.Fractions.{times_part, part_pos, parts_reduced}
+use Rattle.rational_theory.proofs.Fractions.{first_part_pos, times-int_div, IsGcd-one, gcd-is, gcd_comm, gcd-one, gcd-self}
+use Rattle.rational_theory.specs.Rational.{ℚ, whole, over, ◌+ℚ◌}
+use Rattle.rational_theory.proofs.Arithmetic.{same_ratio, over_terms, own_ratio, sum_ratio, +ℚ-zero}
+use Rattle.rational_theory.proofs.Order.{zero_num}
 use Rattle.narrow_fraction.specs.Fraction.{FitsFrac}
 use Rattle.narrow_fraction.specs.Past128.{SumFits}
 

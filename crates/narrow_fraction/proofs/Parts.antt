@@ -7,16 +7,17 @@ use Rattle.std.proofs.lemmas.Int.{ints}
 use Rattle.std.proofs.lemmas.Nat.Gcd.{dvd_trans}
 use Prim.Native.Nat.{◌∣◌}
 use native.Mathlib.Nat.{one-dvd, dvd-mul_left}
-use Rattle.ratio.specs.Gcd.{gcd}
-use Rattle.ratio.specs.Coprime.{Coprime-cancel}
-use Rattle.ratio.specs.Fractions.{IsGcd-one, gcd-is, gcd_pos, times_part, part_pos, parts_reduced}
-use Rattle.ratio.specs.Rational.{ℚ, over, whole, neg_ℚ, quotient, ◌*ℚ◌}
-use Rattle.ratio.specs.Integers.{up-neg, down-neg}
-use Rattle.ratio.specs.Laws.{same_ratio, over_ratio}
-use Rattle.ratio.specs.Order.{zero_num}
-use Rattle.ratio.specs.Lowest.{over-own, over-lowest, num_size, over-neg_ℤ, quotient-pos, quotient-negsuc}
+use Rattle.rational_theory.specs.Gcd.{gcd}
+use Rattle.rational_theory.proofs.Coprime.{Coprime-cancel}
+use Rattle.rational_theory.proofs.Fractions.{IsGcd-one, gcd-is}
+use Rattle.rational_theory.specs.laws.Fractions.{gcd_pos, times_part, part_pos, parts_reduced}
+use Rattle.rational_theory.specs.Rational.{ℚ, over, whole, neg_ℚ, quotient, ◌*ℚ◌}
+use Rattle.rational_theory.proofs.Integers.{up-neg, down-neg}
+use Rattle.rational_theory.proofs.Arithmetic.{same_ratio, over_ratio}
+use Rattle.rational_theory.proofs.Order.{zero_num}
+use Rattle.rational_theory.proofs.Lowest.{over-own, over-lowest, num_size, over-neg_ℤ, quotient-pos, quotient-negsuc}
 use Rattle.narrow_fraction.specs.Fraction.{FitsFrac, signed}
-use Rattle.narrow_fraction.specs.Zeros.{zero_fits}
+use Rattle.narrow_fraction.proofs.Zeros.{zero_fits}
 
 pub abs-signed : (b : Bool) (n : ℕ) → unsigned_abs (signed b n) ≡ n
 abs-signed true zero = refl

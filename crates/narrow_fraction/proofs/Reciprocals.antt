@@ -3,11 +3,12 @@ use Rattle.std.proofs.Common.{◌≡◌, ℕ, zero, suc, ℤ, pos, negsuc, neg_�
 use Rattle.std.specs.Prelude.{int_lt}
 use Rattle.std.proofs.lemmas.Int.{ints}
 use Rattle.std.proofs.lemmas.Nat.Gcd.{IsGcd-swap}
-use Rattle.ratio.specs.Gcd.{gcd}
-use Rattle.ratio.specs.Fractions.{gcd-is, IsGcd-one, abs-neg_ℤ}
-use Rattle.ratio.specs.Rational.{ℚ, whole, inverse_ℚ, turned}
-use Rattle.ratio.specs.Order.{zero_num}
-use Rattle.ratio.specs.Lowest.{over-lowest}
+use Rattle.rational_theory.specs.Gcd.{gcd}
+use Rattle.rational_theory.proofs.Fractions.{gcd-is, IsGcd-one}
+use Rattle.rational_theory.specs.laws.Fractions.{abs-neg_ℤ}
+use Rattle.rational_theory.specs.Rational.{ℚ, whole, inverse_ℚ, turned}
+use Rattle.rational_theory.proofs.Order.{zero_num}
+use Rattle.rational_theory.proofs.Lowest.{over-lowest}
 
 swapped : (a b : ℕ) → gcd a b ≡ 1 → gcd b a ≡ 1
 swapped a b e = gcd-is b a 1 (IsGcd-swap a b 1 (IsGcd-one a b e))

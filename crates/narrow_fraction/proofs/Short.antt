@@ -2,8 +2,8 @@
 use Rattle.std.proofs.Common.{ℕ, ℤ, pos, ◌*ℤ◌, ◌/◌, ◌<◌, ◌^◌, unsigned_abs, arith, div-le_self}
 use Rattle.std.proofs.lemmas.Int.{ints, unsigned_abs-mul}
 use Rattle.std.proofs.lemmas.Nat.{mul-lt}
-use Rattle.ratio.specs.Gcd.{gcd}
-use Rattle.ratio.specs.Rational.{ℚ}
+use Rattle.rational_theory.specs.Gcd.{gcd}
+use Rattle.rational_theory.specs.Rational.{ℚ}
 use Rattle.narrow_fraction.specs.Past128.{SumFits}
 use Rattle.narrow_fraction.specs.Short.{IsShort}
 

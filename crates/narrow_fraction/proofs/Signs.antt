@@ -3,8 +3,8 @@ use Rattle.std.specs.Prelude.{◌≡◌, ℕ, ℤ, pos, negsuc, Bool, true, IsTr
 use Rattle.std.proofs.Common.{refl, sym, ap, ◌∙◌, arith}
 use Rattle.std.proofs.lemmas.Bool.{eqb-true, ltb-true}
 use Rattle.std.proofs.lemmas.Int.{ints}
-use Rattle.ratio.specs.Rational.{ℚ, whole, ◌<ℚ◌}
-use Rattle.ratio.specs.Order.{zero_num}
+use Rattle.rational_theory.specs.Rational.{ℚ, whole, ◌<ℚ◌}
+use Rattle.rational_theory.proofs.Order.{zero_num}
 
 -- the size is 0 exactly at 0
 pub zero_by_size : (x : ℚ) (n : ℕ) (b : Bool) → n ≡ unsigned_abs x.num → b ≡ nat_eq n 0 → IsTrue b ↔ (x ≡ whole (pos 0))

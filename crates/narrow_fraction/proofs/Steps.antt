@@ -3,8 +3,8 @@ use Rattle.std.proofs.Common.{◌≡◌, ℕ, suc, ℤ, pos, negsuc, neg_ℤ, �
 use Rattle.std.specs.Prelude.{int_lt}
 use Rattle.std.specs.Ordering.{MatchOrdering}
 use Rattle.std.proofs.lemmas.Int.{ints}
-use Rattle.ratio.specs.Rational.{ℚ, ◌<ℚ◌}
-use Rattle.ratio.specs.Laws.{same_cross}
+use Rattle.rational_theory.specs.Rational.{ℚ, ◌<ℚ◌}
+use Rattle.rational_theory.proofs.Arithmetic.{same_cross}
 
 pub quotients_apart : (a b c d q p r s : ℕ) → 0 < d → a ≡ q * b + r → c ≡ p * d + s → r < b → q < p → a * d < c * b
 quotients_apart a b c d q p r s h e f k l =

@@ -1,12 +1,7 @@
 -- A fraction of two 128-bit numbers, and the rational number that it is.
 use Rattle.std.specs.Prelude.{◌≡◌, ℕ, ℤ, pos, ◌<◌, ◌<ℤ◌, ◌^◌, unsigned_abs, Bool, true, false, neg_ℤ}
-use Rattle.std.specs.Coded.{Coded, coded×, coded_ℤ, coded_ℕ, code_by}
-use Rattle.ratio.specs.Gcd.{gcd}
-use Rattle.ratio.specs.Rational.{ℚ, over}
-use Rattle.ratio.specs.Lowest.{over-own}
-
-abbrev pub ℚ_code : Coded ℚ
-ℚ_code = code_by (ℤ × ℕ) (coded× coded_ℤ coded_ℕ) (λ x. (x.num, x.den)) (λ p. over p.0 p.1) over-own
+use Rattle.rational_theory.specs.Gcd.{gcd}
+use Rattle.rational_theory.specs.Rational.{ℚ}
 
 -- both numbers fit 128 bits with a sign, on both sides of 0
 pub record FitsFrac (x : ℚ) : Type 0 where

@@ -1,6 +1,6 @@
 -- Fractions of small numbers.
 use Rattle.std.specs.Prelude.{◌<◌, ◌^◌, unsigned_abs}
-use Rattle.ratio.specs.Rational.{ℚ}
+use Rattle.rational_theory.specs.Rational.{ℚ}
 
 -- both numbers have at most 63 bits: then each product of two of them has at most 126, and a sum of two products 127
 pub record IsShort (x : ℚ) : Type 0 where

@@ -1,7 +1,7 @@
 //! The greatest common divisor, and divisions of 128 bits that are short where they can be.
 
 ghost use Rattle.std.specs.Prelude.{◌≡◌, ◌<◌, ◌≤◌, ◌/◌, ◌%◌, ◌^◌};
-ghost use Rattle.ratio.specs.Gcd.{gcd};
+ghost use Rattle.rational_theory.specs.Gcd.{gcd};
 
 /// The greatest word, which is a number of 64 bits.
 pub const WORD: u128 = u64::MAX as u128;

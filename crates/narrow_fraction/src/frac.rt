@@ -1,9 +1,9 @@
 //! The type of a fraction: how one is made, and what is read off its two numbers.
 
 ghost use Rattle.std.specs.Prelude.{◌≡◌, ◌^◌, ◌↔◌, ◌<◌, ◌≤◌, ◌≤ℤ◌, ◌*ℤ◌, IsTrue, int_lt, pos, unsigned_abs, SomeIff};
-ghost use Rattle.ratio.specs.Rational.{◌<ℚ◌, whole, abs_ℚ, inverse_ℚ, over, neg_ℚ};
-ghost use Rattle.ratio.specs.Floor.{floor_ℚ};
-ghost use Rattle.ratio.specs.Gcd.{gcd};
+ghost use Rattle.rational_theory.specs.Rational.{◌<ℚ◌, whole, abs_ℚ, inverse_ℚ, over, neg_ℚ};
+ghost use Rattle.rational_theory.specs.Floor.{floor_ℚ};
+ghost use Rattle.rational_theory.specs.Gcd.{gcd};
 ghost use Rattle.narrow_fraction.specs.Fraction.{FitsFrac, signed};
 ghost use Rattle.narrow_fraction.specs.Made.{IsMade};
 ghost use Rattle.narrow_fraction.specs.Short.{IsShort};
@@ -21,9 +21,10 @@ pub struct Frac {
 
 impl Model for Frac {
     ghost use Rattle.std.specs.Prelude.{pos, unsigned_abs};
-    ghost use Rattle.ratio.specs.Rational.{ℚ, over};
-    ghost use Rattle.narrow_fraction.specs.Fraction.{ℚ_code, IsLowest};
-    ghost use Rattle.narrow_fraction.specs.Views.{fields_back};
+    ghost use Rattle.rational_theory.specs.Rational.{ℚ, over};
+    ghost use Rattle.narrow_fraction.specs.laws.Fraction.{ℚ_code};
+    ghost use Rattle.narrow_fraction.specs.Fraction.{IsLowest};
+    ghost use Rattle.narrow_fraction.specs.laws.Views.{fields_back};
 
     ghost Value = { ℚ };
 
@@ -169,7 +170,7 @@ impl Frac {
     }
 
     /// `top / bottom` in lowest terms, of two numbers that fit. Never refused.
-    #[tactic(auto, using(ratio::specs::Lowest::num_size, ratio::specs::Lowest::den_size))]
+    #[tactic(auto, using(rational_theory::proofs::Lowest::num_size, rational_theory::proofs::Lowest::den_size))]
     pub fn reduced(top: i128, bottom: u128) -> Frac
         requires above { 0 < bottom }
         requires top { unsigned_abs top < 2 ^ 127 }

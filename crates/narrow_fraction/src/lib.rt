@@ -1,12 +1,12 @@
 //! Exact fractions of two numbers of 128 bits with a sign.
 //!
-//! A `Frac` is seen as the rational number that it is (`ratio`'s `ℚ`), always in lowest terms, with its denominator
+//! A `Frac` is seen as the rational number that it is (`rational_theory`'s `ℚ`), always in lowest terms, with its denominator
 //! from 1 to `2^127 - 1` and its numerator at most `2^127 - 1` in size. Begin with `Frac::whole`, with
 //! `Frac::reduced` for two numbers that fit, or with `Frac::new` for any two.
 //!
 //! A crate that compares two `Frac`s writes at the head of its `lib.rt`
 //!
-//! `#![tactic(auto, using(ratio::specs::Compare::ne_false, ratio::specs::Compare::eq_true, ratio::specs::Compare::lt_true, ratio::specs::Compare::lt_false, ratio::specs::Compare::le_true, ratio::specs::Compare::le_false))]`
+//! `#![tactic(auto, using(rational_theory::proofs::Compare::ne_false, rational_theory::proofs::Compare::eq_true, rational_theory::proofs::Compare::lt_true, rational_theory::proofs::Compare::lt_false, rational_theory::proofs::Compare::le_true, rational_theory::proofs::Compare::le_false))]`
 //!
 //! and then `a < b`, `a <= b` and `a == b` are `<ℚ`, `≤ℚ` and `≡` to the goals after the test. From the clause of
 //! `Frac::new`, `specs/Made.antt` has `made`: a quotient that fits is answered.

@@ -1,7 +1,7 @@
 //! Sum, difference, product and quotient: each is exact, or refused where it leaves 128 bits.
 
 ghost use Rattle.std.specs.Prelude.{◌≡◌, pos, OkIff, IfErr};
-ghost use Rattle.ratio.specs.Rational.{whole, ◌+ℚ◌, ◌-ℚ◌, ◌*ℚ◌, ◌/ℚ◌};
+ghost use Rattle.rational_theory.specs.Rational.{whole, ◌+ℚ◌, ◌-ℚ◌, ◌*ℚ◌, ◌/ℚ◌};
 ghost use Rattle.narrow_fraction.specs.Past128.{Fits128, Past128};
 
 use crate::frac::Frac;

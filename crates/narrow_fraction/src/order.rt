@@ -1,8 +1,8 @@
 //! The order of fractions, and the traits that give it to `==`, `<` and `cmp`.
 
 ghost use Rattle.std.specs.Prelude.{◌≡◌};
-ghost use Rattle.ratio.specs.Rational.{◌<ℚ◌};
-ghost use Rattle.ratio.specs.Compare.{cmp_ℚ};
+ghost use Rattle.rational_theory.specs.Rational.{◌<ℚ◌};
+ghost use Rattle.rational_theory.specs.Compare.{cmp_ℚ};
 ghost use Rattle.std.specs.Ordering.{MatchOrdering};
 
 use crate::compare::compare_sizes;
@@ -27,7 +27,8 @@ impl Frac {
 }
 
 impl PartialEq for Frac {
-    ghost use Rattle.ratio.specs.Compare.{cmp_ℚ, partial_eq_laws};
+    ghost use Rattle.rational_theory.specs.Compare.{cmp_ℚ};
+    ghost use Rattle.rational_theory.proofs.Compare.{partial_eq_laws};
     ghost use Rattle.std.specs.Ordering.{eq_by_cmp};
 
     ghost eq = { eq_by_cmp cmp_ℚ };
@@ -40,13 +41,14 @@ impl PartialEq for Frac {
 }
 
 impl Eq for Frac {
-    ghost use Rattle.ratio.specs.Compare.{eq_laws};
+    ghost use Rattle.rational_theory.proofs.Compare.{eq_laws};
 
     ghost laws = { eq_laws };
 }
 
 impl PartialOrd for Frac {
-    ghost use Rattle.ratio.specs.Compare.{cmp_ℚ, partial_laws};
+    ghost use Rattle.rational_theory.specs.Compare.{cmp_ℚ};
+    ghost use Rattle.rational_theory.proofs.Compare.{partial_laws};
     ghost use Rattle.std.specs.Ordering.{as_partial_cmp};
 
     ghost partial_cmp = { as_partial_cmp cmp_ℚ };
@@ -59,7 +61,8 @@ impl PartialOrd for Frac {
 }
 
 impl Ord for Frac {
-    ghost use Rattle.ratio.specs.Compare.{cmp_ℚ, cmp_ℚ_total};
+    ghost use Rattle.rational_theory.specs.Compare.{cmp_ℚ};
+    ghost use Rattle.rational_theory.proofs.Compare.{cmp_ℚ_total};
     ghost use Rattle.std.proofs.Common.{refl};
 
     ghost cmp = { cmp_ℚ };

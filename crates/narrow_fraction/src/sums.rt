@@ -1,7 +1,7 @@
 //! Sums over the least common denominator, with shorter ways for whole and for short numbers.
 
 ghost use Rattle.std.specs.Prelude.{◌≡◌, ◌^◌, ◌<◌, ◌*◌, ◌+ℤ◌, ◌*ℤ◌, pos, unsigned_abs, SomeIff};
-ghost use Rattle.ratio.specs.Rational.{◌+ℚ◌};
+ghost use Rattle.rational_theory.specs.Rational.{◌+ℚ◌};
 ghost use Rattle.narrow_fraction.specs.Past128.{SumFits};
 ghost use Rattle.narrow_fraction.specs.Short.{IsShort};
 

@@ -17,7 +17,7 @@ fn fraction(num: i128, den: i128) -> Frac {
 }
 
 /// The operation's answer; a quotient by 0 is not asked for.
-#[tactic(auto, using(ratio::specs::Compare::eq_false))]
+#[tactic(auto, using(rational_theory::proofs::Compare::eq_false))]
 fn answer(op: Op, left: Frac, right: Frac) -> Result<Frac, Wide> {
     match op {
         Op::Add => left.plus(right),

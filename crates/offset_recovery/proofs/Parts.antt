@@ -1,15 +1,15 @@
 -- Numerators, and one step of the least common denominator.
 use Rattle.std.proofs.Common.{◌≡◌, ℕ, zero, suc, pos, ◌+◌, ◌/◌, ◌<◌, ◌≤◌, ◌^◌, List, Option, Some, None, Result, Ok, Err, refl, sym, ◌∙◌, ap, subst, arith, add-one}
 use native.Mathlib.Nat.{div-le_self}
-use Rattle.ratio.specs.Gcd.{gcd}
+use Rattle.rational_theory.specs.Gcd.{gcd}
 use Rattle.std.specs.Prelude.{nat_le, ◌==◌, if◌then◌else◌, SomeIff, OnOk}
 use Rattle.std.proofs.lemmas.Bool.Decides.{nat_tests}
 use Rattle.std.proofs.Common.{true, false}
-use Rattle.ratio.specs.Rational.{ℚ, over}
+use Rattle.rational_theory.specs.Rational.{ℚ, over}
 use Rattle.narrow_fraction.specs.Attempt.{attempt, refusal_if}
 use Rattle.progression.specs.Street.{Street, count}
-use Rattle.linear_model.specs.Places.{width}
-use Rattle.recovery_model.specs.Ticks.{in_parts, lcm, common, unit_of}
+use Rattle.linear_theory.specs.Places.{width}
+use Rattle.recovery_theory.specs.Ticks.{in_parts, lcm, common, unit_of}
 use Rattle.offset_recovery.specs.declared.outcome.WideTiming.{WideTiming}
 use Rattle.offset_recovery.specs.declared.outcome.WideTiming.TheVariants as wide
 use Rattle.offset_recovery.specs.Tests.{unit_test}

@@ -2,16 +2,16 @@
 use Rattle.std.proofs.Common.{◌≡◌, ℕ, ℤ, pos, negsuc, ◌+◌, ◌*◌, ◌/◌, ◌<◌, ◌≤◌, ◌^◌, List, sym, ◌∙◌, ap, arith, unsigned_abs}
 use native.Mathlib.Nat.{mul-div_cancel, mul-le-mul_left}
 use borrow.Author.Differences.{up, down}
-use Rattle.ratio.specs.Rational.{ℚ, ◌≤ℚ◌}
-use Rattle.ratio.specs.Laws.{own_ratio, whole_ratio, ≤ℚ_in}
+use Rattle.rational_theory.specs.Rational.{ℚ, ◌≤ℚ◌}
+use Rattle.rational_theory.proofs.Arithmetic.{own_ratio, whole_ratio, ≤ℚ_in}
 use Rattle.progression.specs.Street.{Street, count, HasLink}
 use Rattle.progression.specs.Speeds.{number, run_high}
 use Rattle.progression.specs.Columns.{RunOf}
 use Rattle.progression.specs.declared.parts.Dir.{Dir}
-use Rattle.linear_model.specs.Places.{width}
-use Rattle.recovery_model.specs.Ticks.{in_parts, unit_of, ticks_in, ticks_of}
-use Rattle.recovery_model.specs.Multiples.{unit_multiple}
-use Rattle.recovery_model.specs.Wholes.{ticks_from_parts}
+use Rattle.linear_theory.specs.Places.{width}
+use Rattle.recovery_theory.specs.Ticks.{in_parts, unit_of, ticks_in, ticks_of}
+use Rattle.recovery_theory.proofs.Multiples.{unit_multiple}
+use Rattle.recovery_theory.proofs.Wholes.{ticks_from_parts}
 use Rattle.offset_recovery.specs.Numbers.{IsReady}
 
 divided : (u t d : ℕ) → 0 < d → u ≡ t * d → u / d ≡ t

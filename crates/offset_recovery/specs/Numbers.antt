@@ -1,17 +1,17 @@
 -- What is known of a vertex's numbers where its unit fits, and the lists of its timing.
 use Rattle.std.specs.Prelude.{◌≡◌, ℕ, ◌-◌, ◌*◌, ◌<◌, ◌≤◌, ◌^◌, List, length, None, if◌then◌else◌}
-use Rattle.ratio.specs.Rational.{ℚ, ◌≤ℚ◌}
+use Rattle.rational_theory.specs.Rational.{ℚ, ◌≤ℚ◌}
 use Rattle.progression.specs.Speeds.{number, run_high}
-use Rattle.ratio.specs.Rows.{AllNonNegative}
+use Rattle.rational_theory.specs.Rows.{AllNonNegative}
 use Rattle.progression.specs.Street.{Street, count, signal_of, red_parts, left_against, HasSignal, HasLink}
 use Rattle.progression.specs.Plan.{Plan}
 use Rattle.progression.specs.Green.{is_early}
 use Rattle.progression.specs.Columns.{BandOf, Frequency, WaitOf, RunOf, numbered}
 use Rattle.progression.specs.declared.parts.Dir.{Dir}
 use Rattle.progression.specs.declared.parts.Dir.TheVariants.{Outbound, Inbound}
-use Rattle.linear_model.specs.Places.{width}
-use Rattle.recovery_model.specs.Ticks.{unit_of, ticks_of}
-use Rattle.recovery_model.specs.Placing.{pattern_at, with_out, reds_of, with_reds}
+use Rattle.linear_theory.specs.Places.{width}
+use Rattle.recovery_theory.specs.Ticks.{unit_of, ticks_of}
+use Rattle.recovery_theory.specs.Placing.{pattern_at, with_out, reds_of, with_reds}
 use Rattle.offset_recovery.specs.Tests.{product_test}
 
 -- each product with the number of parts fits

@@ -1,15 +1,15 @@
 -- The timing of a vertex, the place where it splits its box, or the first number that does not fit: the tests in their order.
 use Rattle.std.specs.Prelude.{ℕ, ◌+◌, ◌-◌, List, Option, option_map, unwrap_or}
-use Rattle.ratio.specs.Rational.{ℚ}
+use Rattle.rational_theory.specs.Rational.{ℚ}
 use Rattle.narrow_fraction.specs.Attempt.{earlier, first_below}
 use Rattle.progression.specs.Street.{Street, count}
 use Rattle.progression.specs.Columns.{BandOf, Frequency, WaitOf, RunOf}
 use Rattle.progression.specs.declared.parts.Dir.{Dir}
 use Rattle.progression.specs.declared.parts.Dir.TheVariants.{Outbound, Inbound}
-use Rattle.linear_model.specs.Places.{place, width}
-use Rattle.linear_model.specs.Boxes.{Area}
-use Rattle.recovery_model.specs.Ticks.{unit_of, ticks_of}
-use Rattle.recovery_model.specs.Placing.{pattern_at, first_out_of, red_of, first_in_of, timing_of}
+use Rattle.linear_theory.specs.Places.{place, width}
+use Rattle.linear_theory.specs.Boxes.{Area}
+use Rattle.recovery_theory.specs.Ticks.{unit_of, ticks_of}
+use Rattle.recovery_theory.specs.Placing.{pattern_at, first_out_of, red_of, first_in_of, timing_of}
 use Rattle.offset_recovery.specs.declared.outcome.WideTiming.{WideTiming}
 use Rattle.offset_recovery.specs.Outcomes.{Outcome, Refused, Gives}
 use Rattle.offset_recovery.specs.Tests.{product_test, unit_test, number_test, column_test, link_test, signal_test}

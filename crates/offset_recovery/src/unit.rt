@@ -1,11 +1,11 @@
 //! Into how many ticks a part of the cycle is divided.
 
 ghost use Rattle.std.specs.Prelude.{◌≡◌, ◌==◌, if◌then◌else◌, ◌+◌, ◌/◌, ◌<◌, ◌≤◌, ◌^◌, ◌≤ℤ◌, nat_le, length, pos, suc, None, SomeIff, OnOk, unsigned_abs};
-ghost use Rattle.ratio.specs.Gcd.{gcd};
+ghost use Rattle.rational_theory.specs.Gcd.{gcd};
 ghost use Rattle.narrow_fraction.specs.Attempt.{attempt, refusal_if, first_below};
 ghost use Rattle.progression.specs.Street.{count};
-ghost use Rattle.linear_model.specs.Places.{width};
-ghost use Rattle.recovery_model.specs.Ticks.{lcm, common, in_parts, unit_of};
+ghost use Rattle.linear_theory.specs.Places.{width};
+ghost use Rattle.recovery_theory.specs.Ticks.{lcm, common, in_parts, unit_of};
 ghost use Rattle.offset_recovery.specs.Tests.{product_test, unit_test};
 ghost use Rattle.offset_recovery.specs.Recovered.{unit_tests};
 ghost use Rattle.offset_recovery.specs.Numbers.{ProductsFit};

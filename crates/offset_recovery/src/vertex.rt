@@ -3,11 +3,11 @@
 ghost use Rattle.std.specs.Prelude.{◌≡◌, ◌<◌, ◌≤◌, ◌^◌, None, IfOk, pos};
 ghost use Rattle.progression.specs.Plan.{common_red};
 ghost use Rattle.progression.specs.Street.{count};
-ghost use Rattle.linear_model.specs.Boxes.{IsBoxOf};
+ghost use Rattle.linear_theory.specs.Boxes.{IsBoxOf};
 ghost use Rattle.progression.specs.declared.parts.Dir.TheVariants.{Outbound, Inbound};
-ghost use Rattle.recovery_model.specs.Ticks.{unit_of};
-ghost use Rattle.recovery_model.specs.Placing.{timing_of};
-ghost use Rattle.recovery_model.specs.Vertices.{IsVertex, IsWhole};
+ghost use Rattle.recovery_theory.specs.Ticks.{unit_of};
+ghost use Rattle.recovery_theory.specs.Placing.{timing_of};
+ghost use Rattle.recovery_theory.specs.Vertices.{IsVertex, IsWhole};
 ghost use Rattle.offset_recovery.specs.Recovered.{recovered, column_tests, red_tests, placed_tests, number_tests, first_out_at, first_in_at};
 ghost use Rattle.offset_recovery.specs.Numbers.{IsReady, ProductsFit, patterns_at, runs_at, reds_at, reds_plan};
 ghost use Rattle.offset_recovery.specs.Answers.{Answers, IsOutcome, IsSound};

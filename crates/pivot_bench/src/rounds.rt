@@ -2,10 +2,10 @@
 
 ghost use Rattle.std.specs.Prelude.{◌≡◌, false, IsTrue, length};
 ghost use Rattle.progression.specs.Street.{count};
-ghost use Rattle.linear_model.specs.Places as places;
-ghost use Rattle.linear_model.specs.Boxes.{IsBoxOf};
-ghost use Rattle.simplex_model.specs.Tableau.{height, width};
-ghost use Rattle.simplex_model.specs.DualSteps.{IsDual};
+ghost use Rattle.linear_theory.specs.Places as places;
+ghost use Rattle.linear_theory.specs.Boxes.{IsBoxOf};
+ghost use Rattle.simplex_theory.specs.Tableau.{height, width};
+ghost use Rattle.simplex_theory.specs.DualSteps.{IsDual};
 ghost use Rattle.program_builder.specs.Building.{IsMadeFor};
 
 use artery_model::Artery;

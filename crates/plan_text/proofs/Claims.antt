@@ -1,7 +1,7 @@
 -- The claim that is read is the one that was written, with its timing, and what was written is read again.
 use Rattle.std.proofs.Common.{◌≡◌, ℕ, Bool, true, false, List, [], ◌∷◌, ◌++◌, Option, Some, None, Result, Ok, refl, sym, ap, subst, ◌∙◌, codes}
 use Rattle.std.specs.Prelude.{if◌then◌else◌}
-use Rattle.ratio.specs.Rational.{ℚ}
+use Rattle.rational_theory.specs.Rational.{ℚ}
 use Rattle.narrow_fraction.specs.Fraction.{FitsFrac}
 use Rattle.progression.specs.Plan.{Plan}
 use Rattle.quantity_text.specs.Exact.{exact_spelling}

@@ -10,15 +10,15 @@ use Rattle.std.proofs.lemmas.Fmt.{decimal_is_IsNumeral_wide}
 use Rattle.std.proofs.lemmas.Int.{ints}
 use Rattle.std.proofs.lemmas.Option.{option_and_then_some}
 use Rattle.std.proofs.lemmas.Str.Parse.{tells_all_ascii_digits}
-use Rattle.ratio.specs.Rational.{ℚ, over}
-use Rattle.ratio.specs.Lowest.{over-own}
+use Rattle.rational_theory.specs.Rational.{ℚ, over}
+use Rattle.rational_theory.proofs.Lowest.{over-own}
 use Rattle.narrow_fraction.specs.Fraction.{FitsFrac}
 use Rattle.quantity_text.specs.Exact.{exact_spelling, denominator_text, SpellsExactly}
 use Rattle.plan_text.specs.Words.{cut, is_text}
 use Rattle.plan_text.specs.Numbers.{number}
 use Rattle.plan_text.specs.Fractions.{from_zero, below_zero, integer, signed_value, quotient_of, is_narrow, exact_if, exact}
 use Rattle.plan_text.proofs.Spellings.{decimal-number, number-decimal}
-use Rattle.plan_text.specs.Digits.{digits_by_test}
+use Rattle.plan_text.proofs.Digits.{digits_by_test}
 use Rattle.plan_text.proofs.Pieces.{lacks, lacks_append, lacks_digits, lacks_more, other_byte, same_byte, cut_lacking, cut_again}
 use Rattle.plan_text.proofs.Fields.{same_text, text_same, IsKey}
 

@@ -21,3 +21,4 @@ pub mod GrownTimings
 pub mod GrownCertificates
 pub mod Wholes
 pub mod FirstBads
+pub mod Digits

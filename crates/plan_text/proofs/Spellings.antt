@@ -11,7 +11,7 @@ use Rattle.std.proofs.lemmas.Fmt.{decimal_digit, decimal_step_wide, decimal_is_I
 use Rattle.std.proofs.lemmas.Str.{digit_value_digit, IsUtf8-from_ascii}
 use Rattle.std.proofs.lemmas.Str.Parse.{digit_from_value, parse_digits}
 use Rattle.plan_text.specs.Numbers.{number, is_numeral, is_plain}
-use Rattle.plan_text.specs.Digits.{digits_by_test}
+use Rattle.plan_text.proofs.Digits.{digits_by_test}
 
 le_value_after : (n : ℕ) (ds : List ℕ) → n ≤ digits_value_after 10 n ds
 le_value_after n [] = omega arith

@@ -1,7 +1,7 @@
 -- Signed whole numbers and fractions as words of a line: each has one spelling, and only that is read.
 use Rattle.std.specs.Prelude.{ℕ, ℤ, pos, neg_ℤ, unsigned_abs, ◌^◌, ◌==◌, nat_lt, nat_le, ◌&&◌, List, [], ◌∷◌, Bool, Option, None, Some, option_and_then, if◌then◌else◌}
 use Rattle.std.specs.Str.Parse.{digits_value}
-use Rattle.ratio.specs.Rational.{ℚ, over}
+use Rattle.rational_theory.specs.Rational.{ℚ, over}
 use Rattle.quantity_text.specs.Exact.{exact_spelling}
 use Rattle.plan_text.specs.Words.{cut, is_text}
 use Rattle.plan_text.specs.Numbers.{number}

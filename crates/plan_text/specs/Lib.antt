@@ -1,6 +1,5 @@
 pub mod Words
 pub mod Numbers
-pub mod Digits
 pub mod Fractions
 pub mod Spelling
 pub mod Lines

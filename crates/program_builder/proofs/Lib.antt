@@ -2,3 +2,13 @@ pub mod UnitRefusals
 pub mod NeverWide
 pub mod LoadedRows
 pub mod LoadedBoxes
+pub mod RowKinds
+pub mod Narrowing
+pub mod LineCells
+pub mod UnitPivots
+pub mod RowCounts
+pub mod OpeningLaws
+pub mod BuildingLaws
+pub mod NamedFamilies
+pub mod FirstRows
+pub mod RowOrder

@@ -1,12 +1,5 @@
 pub mod BoxRows
 pub mod Opening
 pub mod Building
-pub mod NamedFamilies
 pub mod RowOrder
-pub mod FirstRows
-pub mod LineCells
-pub mod RowKinds
-pub mod UnitPivots
 pub mod OpeningLaws
-pub mod RowCounts
-pub mod Narrowing

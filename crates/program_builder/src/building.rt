@@ -2,11 +2,11 @@
 
 ghost use Rattle.std.specs.Prelude.{◌≡◌, length, IfOk, None, false};
 ghost use Rattle.progression.specs.Street.{count};
-ghost use Rattle.linear_model.specs.Places as places;
-ghost use Rattle.linear_model.specs.Boxes.{IsBoxOf};
-ghost use Rattle.simplex_model.specs.Tableau.{IsPlace, exchange};
-ghost use Rattle.simplex_model.specs.DualSteps.{IsDual};
-ghost use Rattle.simplex_model.specs.RowLists.{StandsForRows};
+ghost use Rattle.linear_theory.specs.Places as places;
+ghost use Rattle.linear_theory.specs.Boxes.{IsBoxOf};
+ghost use Rattle.simplex_theory.specs.Tableau.{IsPlace, exchange};
+ghost use Rattle.simplex_theory.specs.DualSteps.{IsDual};
+ghost use Rattle.simplex_theory.specs.RowLists.{StandsForRows};
 ghost use Rattle.fraction_tableau.specs.Refusals.{pivot_refusal};
 ghost use Rattle.program_builder.specs.Opening.{box_rows, goal_of};
 ghost use Rattle.program_builder.specs.Building.{IsMadeFor, loaded_box, opened_box};

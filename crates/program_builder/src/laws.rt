@@ -1,17 +1,17 @@
 //! What the definitions promise of the opening tableau, for arteries and boxes of any size.
 
 ghost use Rattle.std.specs.Prelude.{◌≡◌, ◌↔◌, ◌≤◌, ℕ, length, slice_index_or, Some, None};
-ghost use Rattle.ratio.specs.Rational.{◌+ℚ◌, ◌*ℚ◌};
+ghost use Rattle.rational_theory.specs.Rational.{◌+ℚ◌, ◌*ℚ◌};
 ghost use Rattle.progression.specs.Street.{Street, count};
 ghost use Rattle.progression.specs.Speeds.{number};
 ghost use Rattle.progression.specs.declared.parts.Dir.TheVariants.{Outbound, Inbound};
 ghost use Rattle.artery_model.specs.Valid.{IsValid};
-ghost use Rattle.linear_model.specs.Places.{width};
-ghost use Rattle.linear_model.specs.Boxes.{Area};
-ghost use Rattle.linear_model.specs.Names.{HasRow, name_of};
+ghost use Rattle.linear_theory.specs.Places.{width};
+ghost use Rattle.linear_theory.specs.Boxes.{Area};
+ghost use Rattle.linear_theory.specs.Names.{HasRow, name_of};
 ghost use Rattle.named_row.specs.declared.names.RowId.{RowId};
 ghost use Rattle.loop_rows.specs.Following.{IsNextRow};
-ghost use Rattle.simplex_model.specs.Tableau.{goal_cell};
+ghost use Rattle.simplex_theory.specs.Tableau.{goal_cell};
 ghost use Rattle.program_builder.specs.BoxRows.{rows_of, name_before, IsAmong};
 ghost use Rattle.program_builder.specs.RowOrder.{IsAscending, IsRowAt};
 ghost use Rattle.program_builder.specs.Opening.{opening};
@@ -28,7 +28,7 @@ pub fn law_rows_are_all()
 
 /// The goal row of the opening is the row of signal 1's outbound wait and, as many times as the ratio, that of its inbound
 /// wait.
-#[tactic(auto, using(crate::specs::OpeningLaws::opening_goal))]
+#[tactic(auto, using(crate::proofs::OpeningLaws::opening_goal))]
 pub fn law_goal_row()
     ensures { (a : Street) (box : Area) (k : ℕ) → IsValid a → k ≤ width (count a) → goal_cell (opening a box) k ≡ slice_index_or (wait_row a Outbound) k (number 0) +ℚ a.head.ratio *ℚ slice_index_or (wait_row a Inbound) k (number 0) }
 {}

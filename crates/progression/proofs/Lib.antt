@@ -1,1 +1,4 @@
 pub mod WorkedLemmas
+pub mod Fits
+pub mod Crossings
+pub mod Remainders

@@ -1,9 +1,9 @@
 -- The worked timings, computed.
 use Rattle.std.proofs.Common.{◌≡◌, ℕ, zero, suc, ◌<◌, ◌≤◌, Bool, true, false, refl, arith, ◌⊎◌, inl, inr, subst, sym}
 use Rattle.std.specs.Prelude.{IsTrue, ◌&&◌, ℤ, pos, ◌+ℤ◌}
-use Rattle.ratio.specs.Rational.{whole, over, inverse_ℚ, neg_ℚ, ◌+ℚ◌, ◌*ℚ◌, ◌/ℚ◌, ◌≤ℚ◌}
-use Rattle.ratio.specs.Gcd.{gcd}
-use Rattle.ratio.specs.Laws.{same_cross}
+use Rattle.rational_theory.specs.Rational.{whole, over, inverse_ℚ, neg_ℚ, ◌+ℚ◌, ◌*ℚ◌, ◌/ℚ◌, ◌≤ℚ◌}
+use Rattle.rational_theory.specs.Gcd.{gcd}
+use Rattle.rational_theory.proofs.Arithmetic.{same_cross}
 use Rattle.std.proofs.Common.{true≢false}
 use Rattle.std.proofs.lemmas.Int.{ints}
 use Rattle.progression.specs.Street.{Street, count, HasSignal, HasLink, allows}

@@ -1,5 +1,5 @@
 -- The weighted band of a timing, and what it means that a timing is best: no good timing on any grid has a greater one.
-use Rattle.ratio.specs.Rational.{ℚ, ◌+ℚ◌, ◌*ℚ◌, ◌/ℚ◌, ◌≤ℚ◌}
+use Rattle.rational_theory.specs.Rational.{ℚ, ◌+ℚ◌, ◌*ℚ◌, ◌/ℚ◌, ◌≤ℚ◌}
 use Rattle.progression.specs.Street.{Street}
 use Rattle.progression.specs.Speeds.{number}
 use Rattle.progression.specs.Plan.{Plan, cycle}

@@ -1,6 +1,6 @@
 -- A timing as a point of linear programming: each column is a number of whole ticks over the cycle.
 use Rattle.std.specs.Prelude.{ℕ, zero, suc, ◌+◌, ◌-◌, ◌*◌, ◌==◌, List, [], ◌∷◌, ◌++◌, map, pos, ◌+ℤ◌, ◌-ℤ◌, if◌then◌else◌}
-use Rattle.ratio.specs.Rational.{ℚ, ◌/ℚ◌}
+use Rattle.rational_theory.specs.Rational.{ℚ, ◌/ℚ◌}
 use Rattle.progression.specs.Street.{Street, count, signal_of}
 use Rattle.progression.specs.Speeds.{number}
 use Rattle.progression.specs.Plan.{Plan, cycle, pattern_of, run, band}

@@ -1,6 +1,6 @@
 -- The rules of a good timing (Little 1966; Little, Kelson and Gartner 1981), read off the time-space diagram.
 use Rattle.std.specs.Prelude.{◌≡◌, ℕ, ◌+◌, length, IsTrue, IfSome}
-use Rattle.ratio.specs.Rational.{ℚ, ◌*ℚ◌, ◌-ℚ◌, ◌/ℚ◌, ◌≤ℚ◌}
+use Rattle.rational_theory.specs.Rational.{ℚ, ◌*ℚ◌, ◌-ℚ◌, ◌/ℚ◌, ◌≤ℚ◌}
 use Rattle.progression.specs.Street.{Street, count, allows, HasSignal, HasLink, distance}
 use Rattle.progression.specs.Speeds.{number, run_low, run_high, change}
 use Rattle.progression.specs.Plan.{Plan, IsPlan, cycle, pattern_of, run}

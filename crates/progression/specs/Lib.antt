@@ -7,6 +7,3 @@ pub mod Good
 pub mod Best
 pub mod Columns
 pub mod Worked
-pub mod Remainders
-pub mod Fits
-pub mod Crossings

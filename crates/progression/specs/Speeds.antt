@@ -1,6 +1,6 @@
 -- Runs in seconds from distances and speeds, and limits on changes of pace in seconds per metre or per foot.
 use Rattle.std.specs.Prelude.{ℕ, ◌*◌, Option, option_map, pos}
-use Rattle.ratio.specs.Rational.{ℚ, whole, ◌*ℚ◌, ◌/ℚ◌}
+use Rattle.rational_theory.specs.Rational.{ℚ, whole, ◌*ℚ◌, ◌/ℚ◌}
 use Rattle.progression.specs.Street.{Street, distance, speed, change_given}
 use Rattle.progression.specs.declared.parts.Units.{Units}
 use Rattle.progression.specs.declared.parts.Units.TheVariants.{Metric, English}

@@ -1,6 +1,6 @@
 -- An artery as contracts see it. Signals and links are numbered from 1; link i joins signals i and i + 1.
 use Rattle.std.specs.Prelude.{ℕ, ◌+◌, ◌-◌, ◌<◌, ◌≤◌, nat_le, ◌&&◌, List, [], length, Bool, false, Option, None, slice_index_or, pos}
-use Rattle.ratio.specs.Rational.{whole}
+use Rattle.rational_theory.specs.Rational.{whole}
 use Rattle.progression.specs.declared.parts.Head.{Head}
 use Rattle.progression.specs.declared.parts.Signal.{Signal}
 use Rattle.progression.specs.declared.parts.Link.{Link}

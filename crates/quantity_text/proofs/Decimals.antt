@@ -3,9 +3,10 @@ use Rattle.std.proofs.Common.{◌≡◌, ℕ, ℤ, pos, negsuc, ◌+◌, ◌*◌
 use Rattle.std.proofs.lemmas.Int.{ints}
 use Rattle.std.proofs.Math.Nat.{pow-succ', add-mul-div_right, add-mul-mod_self_right, div-div-eq-div-mul, mul-div-mul_right, one-le-pow}
 use Rattle.std.specs.Fmt.{decimal}
-use Rattle.ratio.specs.Rational.{ℚ, whole, ◌*ℚ◌}
-use Rattle.ratio.specs.Floor.{floor_ℚ, floor_is}
-use Rattle.ratio.specs.Laws.{IsRatio, whole_ratio, product_ratio, ≤ℚ_in, ≤ℚ_out}
+use Rattle.rational_theory.specs.Rational.{ℚ, whole, ◌*ℚ◌}
+use Rattle.rational_theory.specs.Floor.{floor_ℚ}
+use Rattle.rational_theory.proofs.Floor.{floor_is}
+use Rattle.rational_theory.proofs.Arithmetic.{IsRatio, whole_ratio, product_ratio, ≤ℚ_in, ≤ℚ_out}
 use Rattle.quantity_text.specs.Decimal.{last_digits, scaled, decimal_spelling}
 
 -- ten times as much

@@ -4,16 +4,16 @@ use Rattle.std.specs.Prelude.{IfNone, nat_eq, if◌then◌else◌}
 use Rattle.std.specs.Fmt.{decimal, signed_decimal}
 use Rattle.std.specs.List.{position_or_len}
 use Rattle.std.specs.Str.Parse.{AllDigits}
-use Rattle.ratio.specs.Laws.{same_cross}
+use Rattle.rational_theory.proofs.Arithmetic.{same_cross}
 use Rattle.std.proofs.lemmas.Bool.{cases_eq, false≢true, eqb-true, eqb-false}
 use Rattle.std.proofs.lemmas.Str.Parse.{digit_from_value}
 use Rattle.std.proofs.lemmas.List.{take_all}
-use Rattle.ratio.specs.Rational.{ℚ}
+use Rattle.rational_theory.specs.Rational.{ℚ}
 use Rattle.narrow_fraction.specs.Fraction.{signed}
 use Rattle.quantity_text.specs.Exact.{denominator_text, SpellsExactly, SpellsSize, SpellsSigned, HasParts}
 use Rattle.quantity_text.specs.Quantity.{is_mark}
-use Rattle.quantity_text.specs.Numerals.{decimal_leads, decimal_digits, decimal_injective}
-use Rattle.quantity_text.specs.ExactParts.{wide, numerator_is, denominator_is}
+use Rattle.quantity_text.proofs.Numerals.{decimal_leads, decimal_digits, decimal_injective}
+use Rattle.quantity_text.proofs.ExactParts.{wide, numerator_is, denominator_is}
 
 -- what rules out more, where there is no value
 pub none_weaker : {A : Type 0} (o : Option A) (P Q : Type 0) → (P → Q) → IfNone o P → IfNone o Q

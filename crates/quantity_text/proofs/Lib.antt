@@ -3,3 +3,7 @@ pub mod ExactTexts
 pub mod Quotients
 pub mod Runs
 pub mod Spellings
+pub mod RunsLaws
+pub mod Numerals
+pub mod ReadBack
+pub mod ExactParts

@@ -1,10 +1,10 @@
 -- Which quotients of two natural numbers are in lowest terms.
 use Rattle.std.proofs.Common.{◌≡◌, ℕ, zero, suc, pos, neg_ℤ, true, ap₂, ◌*◌, ◌/◌, ◌<◌, ◌≤◌, ◌∙◌, sym, ap, refl, arith, unsigned_abs}
 use native.Mathlib.Nat.{mul-le-mul_right}
-use Rattle.ratio.specs.Gcd.{gcd}
-use Rattle.ratio.specs.Fractions.{times_part}
-use Rattle.ratio.specs.Rational.{ℚ, over, neg_ℚ}
-use Rattle.ratio.specs.Lowest.{over-lowest}
+use Rattle.rational_theory.specs.Gcd.{gcd}
+use Rattle.rational_theory.specs.laws.Fractions.{times_part}
+use Rattle.rational_theory.specs.Rational.{ℚ, over, neg_ℚ}
+use Rattle.rational_theory.proofs.Lowest.{over-lowest}
 use Rattle.quantity_text.specs.Exact.{HasParts}
 
 -- a quotient whose denominator stays is in lowest terms

@@ -10,7 +10,7 @@ use Rattle.std.proofs.lemmas.Int.Digits.{digits_value-lt, digits_value_more}
 use Rattle.std.proofs.lemmas.List.Sums.{prefix_len-le-length}
 use Rattle.std.proofs.Math.Nat.{pow-le-pow_right}
 use Rattle.quantity_text.specs.Quantity.{run_of}
-use Rattle.quantity_text.specs.Runs.{ascii_digits, run_found, digit_is}
+use Rattle.quantity_text.proofs.RunsLaws.{ascii_digits, run_found, digit_is}
 
 -- 18 digits or fewer write a number below 10 ^ 18
 run_below : (ds : List ℕ) → AllDigits 10 ds → length ds ≤ 18 → digits_value 10 ds < 10 ^ 18

@@ -1,8 +1,8 @@
 -- A rational number of at least 0 with so many decimal places: cut there, never rounded.
 use Rattle.std.specs.Prelude.{ℕ, zero, suc, pos, unsigned_abs, ◌+◌, ◌/◌, ◌%◌, ◌^◌, List, [], ◌∷◌, ◌++◌}
 use Rattle.std.specs.Fmt.{decimal}
-use Rattle.ratio.specs.Rational.{ℚ, whole, ◌*ℚ◌}
-use Rattle.ratio.specs.Floor.{floor_ℚ}
+use Rattle.rational_theory.specs.Rational.{ℚ, whole, ◌*ℚ◌}
+use Rattle.rational_theory.specs.Floor.{floor_ℚ}
 
 -- the last k decimal digits of n, with zeros in front where it has fewer
 abbrev pub last_digits : ℕ → ℕ → List ℕ

@@ -2,7 +2,7 @@
 -- denominator's digits unless that is 1. No number has a leading zero, and 0 has no minus.
 use Rattle.std.specs.Prelude.{◌≡◌, ℕ, Bool, true, unsigned_abs, ◌<◌, ◌^◌, List, [], ◌∷◌, ◌++◌, ◌==◌, if◌then◌else◌}
 use Rattle.std.specs.Fmt.{decimal, signed_decimal}
-use Rattle.ratio.specs.Rational.{ℚ}
+use Rattle.rational_theory.specs.Rational.{ℚ}
 use Rattle.narrow_fraction.specs.Fraction.{FitsFrac, signed}
 
 -- `/` is the byte 47

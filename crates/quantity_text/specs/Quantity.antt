@@ -5,7 +5,7 @@ use Rattle.std.specs.Option.{option_map}
 use Rattle.std.specs.List.{position_or_len}
 use Rattle.std.specs.Str.{all_ascii_digits}
 use Rattle.std.specs.Str.Parse.{digits_value}
-use Rattle.ratio.specs.Rational.{ℚ, over, neg_ℚ}
+use Rattle.rational_theory.specs.Rational.{ℚ, over, neg_ℚ}
 
 -- the number that 1 to 18 digits write
 abbrev pub run_of : List ℕ → Option ℕ

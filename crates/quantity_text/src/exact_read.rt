@@ -1,7 +1,7 @@
 //! Exact spellings, read: a text that is the spelling of no fraction is refused.
 
 ghost use Rattle.std.specs.Prelude.{◌≡◌, ◌↔◌, ◌<◌, ◌^◌, ℕ, List, pos, unsigned_abs, IsTrue, IfSome, IfNone, MatchResult, length, slice_index};
-ghost use Rattle.ratio.specs.Rational.{ℚ};
+ghost use Rattle.rational_theory.specs.Rational.{ℚ};
 ghost use Rattle.narrow_fraction.specs.Fraction.{FitsFrac};
 ghost use Rattle.quantity_text.specs.Exact.{SpellsExactly, SpellsSigned, SpellsSize, HasParts, denominator_text};
 

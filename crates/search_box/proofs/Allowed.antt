@@ -10,7 +10,7 @@ use Rattle.artery_model.specs.Faults.{Fault, first_fault, unless, each_numbered}
 use Rattle.artery_model.specs.Limits.{has_pattern, range_tests, rule_tests}
 use Rattle.artery_model.specs.Valid.{IsValid}
 use Rattle.artery_model.specs.declared.kind.Kind.{Kind}
-use Rattle.linear_model.specs.Shifts.{put_shift, with_pattern, shift_count}
+use Rattle.linear_theory.specs.Shifts.{put_shift, with_pattern, shift_count}
 
 -- ---- a signal allows a pattern
 abbrev AllNone : List (Option Fault) → Type 0

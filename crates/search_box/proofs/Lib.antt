@@ -3,3 +3,5 @@ pub mod Views
 pub mod Sums
 pub mod Numbered
 pub mod Ranked
+pub mod Parts
+pub mod Streets

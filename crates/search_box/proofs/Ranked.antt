@@ -3,7 +3,7 @@ use Rattle.std.proofs.Common.{◌≡◌, ℕ, zero, suc, ◌<◌, ◌==◌, List
 use Rattle.std.specs.Prelude.{if◌then◌else◌}
 use Rattle.progression.specs.Street.{Street, allows}
 use Rattle.progression.specs.Columns.{pattern_shift}
-use Rattle.linear_model.specs.Shifts.{put_shift, with_pattern, shifts_of, shift_count}
+use Rattle.linear_theory.specs.Shifts.{put_shift, with_pattern, shifts_of, shift_count}
 use Rattle.search_box.specs.Ranked.{IsShift}
 
 abbrev Each : (ℕ → Type 0) → List ℕ → Type 0

@@ -3,11 +3,11 @@ use Rattle.std.proofs.Common.{◌≡◌, ℕ, suc, ℤ, pos, negsuc, neg_ℤ, �
 use Rattle.std.proofs.lemmas.Int.{ints, unsigned_abs-mul}
 use Rattle.std.specs.Int.{int_div_euclid}
 use borrow.Author.Differences.{up, down}
-use Rattle.ratio.specs.Rational.{ℚ, whole, over, ◌+ℚ◌, ◌/ℚ◌, ◌<ℚ◌}
-use Rattle.ratio.specs.Floor.{floor_ℚ, ceil_ℚ}
-use Rattle.ratio.specs.Laws.{over_ratio, over_terms, sum_ratio, same_ratio}
+use Rattle.rational_theory.specs.Rational.{ℚ, whole, over, ◌+ℚ◌, ◌/ℚ◌, ◌<ℚ◌}
+use Rattle.rational_theory.specs.Floor.{floor_ℚ, ceil_ℚ}
+use Rattle.rational_theory.proofs.Arithmetic.{over_ratio, over_terms, sum_ratio, same_ratio}
 use Rattle.progression.specs.Speeds.{number}
-use Rattle.linear_model.specs.Quotients.{above_ratio, quotient_terms, floor_over, ceil_over}
+use Rattle.linear_theory.proofs.Quotients.{above_ratio, quotient_terms, floor_over, ceil_over}
 use Rattle.search_box.specs.declared.share.Share.{Share}
 use Rattle.search_box.specs.Sums.{share_of, sum_of, top_of, bottom_of}
 

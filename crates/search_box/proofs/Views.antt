@@ -3,9 +3,9 @@ use Rattle.std.proofs.Common.{◌≡◌, ◌↔◌, ℕ, ℤ, pos, ◌+ℤ◌, �
 use Rattle.std.proofs.lemmas.List.{map-set, get_or-map, length-map}
 use Rattle.std.proofs.lemmas.List.Elements.{All-map}
 use Rattle.progression.specs.Street.{Street, count, HasSignal}
-use Rattle.linear_model.specs.Shifts.{shift_count}
-use Rattle.linear_model.specs.Boxes as boxes
-use Rattle.linear_model.specs.RootBoxes.{root_is, root_boxed}
+use Rattle.linear_theory.specs.Shifts.{shift_count}
+use Rattle.linear_theory.specs.Boxes as boxes
+use Rattle.linear_theory.proofs.RootBoxes.{root_is, root_boxed}
 use Rattle.search_box.specs.declared.span.Span.{Span}
 use Rattle.search_box.specs.declared.area.RankSpan.{RankSpan}
 use Rattle.search_box.specs.Seen.{span_of, ranks_of}

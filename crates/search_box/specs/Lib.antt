@@ -2,6 +2,4 @@ pub mod Seen
 pub mod Rising
 pub mod Places
 pub mod Sums
-pub mod Streets
-pub mod Parts
 pub mod Ranked

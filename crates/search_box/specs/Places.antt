@@ -2,7 +2,7 @@
 use Rattle.std.specs.Prelude.{◌↔◌, ◌⊎◌, ◌≡◌, All}
 use Rattle.progression.specs.Street.{Street}
 use Rattle.progression.specs.Plan.{Plan}
-use Rattle.linear_model.specs.Boxes.{Area, IsBoxOf, InBox, IsLoopPlace, IsTurnPlace, low_loop, high_loop, low_turn, high_turn}
+use Rattle.linear_theory.specs.Boxes.{Area, IsBoxOf, InBox, IsLoopPlace, IsTurnPlace, low_loop, high_loop, low_turn, high_turn}
 use Rattle.search_box.specs.declared.span.At.{At}
 use Rattle.search_box.specs.declared.span.At.TheVariants.{Loop, Turn}
 

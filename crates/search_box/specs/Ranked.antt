@@ -2,7 +2,7 @@
 use Rattle.std.specs.Prelude.{◌≡◌, ℕ, ◌<◌, IsTrue}
 use Rattle.progression.specs.Street.{Street, allows}
 use Rattle.progression.specs.Columns.{pattern_shift}
-use Rattle.linear_model.specs.Shifts.{shift_at, shift_count}
+use Rattle.linear_theory.specs.Shifts.{shift_at, shift_count}
 
 -- signal i allows a pattern with this shift
 abbrev pub IsShift : Street → ℕ → ℕ → Type 0

@@ -1,6 +1,6 @@
 -- What contracts see of a box.
 use Rattle.std.specs.Prelude.{map, pos}
-use Rattle.linear_model.specs.Boxes as boxes
+use Rattle.linear_theory.specs.Boxes as boxes
 use Rattle.search_box.specs.declared.span.Span.{Span}
 use Rattle.search_box.specs.declared.area.RankSpan.{RankSpan}
 use Rattle.search_box.specs.declared.area.SearchBox.TheInside.{Inside}

@@ -1,6 +1,6 @@
 -- A number of parts of the cycle and two fractions of it as one fraction.
 use Rattle.std.specs.Prelude.{ℕ, ◌+◌, ◌*◌, ℤ, pos, ◌+ℤ◌, ◌*ℤ◌}
-use Rattle.ratio.specs.Rational.{ℚ, over, ◌+ℚ◌}
+use Rattle.rational_theory.specs.Rational.{ℚ, over, ◌+ℚ◌}
 use Rattle.search_box.specs.declared.share.Share.{Share}
 
 abbrev pub share_of : Share → ℚ

@@ -3,8 +3,8 @@
 ghost use Rattle.std.specs.Prelude.{◌≡◌, ◌↔◌, ◌≤◌, length, All, IsTrue, IfOk};
 ghost use Rattle.progression.specs.Plan.{Plan};
 ghost use Rattle.progression.specs.Good.{Good};
-ghost use Rattle.linear_model.specs.Counts.{IsStreet};
-ghost use Rattle.linear_model.specs.Boxes.{root_box, IsRoot, IsBoxOf, InBox, loop_span, turn_span, with_loop, with_turn};
+ghost use Rattle.linear_theory.specs.Counts.{IsStreet};
+ghost use Rattle.linear_theory.specs.Boxes.{root_box, IsRoot, IsBoxOf, InBox, loop_span, turn_span, with_loop, with_turn};
 
 use crate::lists::{copied, replaced};
 use crate::root::{root_loops, root_turns};
@@ -29,7 +29,7 @@ pub struct SearchBox {
 }
 
 impl Model for SearchBox {
-    ghost use Rattle.linear_model.specs.Boxes.{Area};
+    ghost use Rattle.linear_theory.specs.Boxes.{Area};
 
     ghost Value = { Area };
 
@@ -56,7 +56,7 @@ impl SearchBox {
 
     /// The box with the root's span of each link and all ranks of each signal: every good timing of the artery lies in
     /// it. The error is want of memory.
-    #[tactic(auto, using(crate::specs::Streets::street_of))]
+    #[tactic(auto, using(crate::proofs::Streets::street_of))]
     pub fn root(alloc: Global, artery: &Artery) -> Result<SearchBox, Memory>
         ensures value { IfOk result (λ area. area ≡ root_box artery.now) }
         ensures root { IfOk result (λ area. IsRoot artery.now area) }

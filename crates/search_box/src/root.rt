@@ -2,12 +2,12 @@
 
 ghost use Rattle.std.specs.Prelude.{◌≡◌, ◌+◌, ◌-◌, ◌*◌, ◌<◌, ◌≤◌, ◌^◌, ℕ, map, pos, ◌*ℤ◌, ◌≤ℤ◌, unsigned_abs, IfOk};
 ghost use Rattle.std.specs.Int.{int_div_euclid};
-ghost use Rattle.ratio.specs.Floor.{floor_ℚ, ceil_ℚ};
+ghost use Rattle.rational_theory.specs.Floor.{floor_ℚ, ceil_ℚ};
 ghost use Rattle.progression.specs.Street.{count, HasSignal};
 ghost use Rattle.progression.specs.Columns.{numbered};
-ghost use Rattle.linear_model.specs.Shifts.{shift_count};
-ghost use Rattle.linear_model.specs.Boxes.{least_sum, greatest_sum, root_span, root_ranks};
-ghost use Rattle.linear_model.specs.Spans.{least_parts, greatest_parts};
+ghost use Rattle.linear_theory.specs.Shifts.{shift_count};
+ghost use Rattle.linear_theory.specs.Boxes.{least_sum, greatest_sum, root_span, root_ranks};
+ghost use Rattle.linear_theory.specs.Spans.{least_parts, greatest_parts};
 ghost use Rattle.search_box.specs.Seen.{span_of, ranks_of};
 ghost use Rattle.search_box.specs.Sums.{share_of, sum_of, top_of, bottom_of};
 
@@ -120,7 +120,7 @@ fn ceiling(parts: i128, whole: u32, first: Share, second: Share) -> i64
 }
 
 /// The least block sum of a link, rounded up.
-#[tactic(auto, using(linear_model::specs::Spans::least_sum_is))]
+#[tactic(auto, using(linear_theory::proofs::Spans::least_sum_is))]
 fn least(artery: &Artery, link: u32) -> i64
     requires first { 1 ≤ link }
     requires last { link < count artery.now }
@@ -133,7 +133,7 @@ fn least(artery: &Artery, link: u32) -> i64
 }
 
 /// The greatest block sum of a link, rounded down.
-#[tactic(auto, using(linear_model::specs::Spans::greatest_sum_is))]
+#[tactic(auto, using(linear_theory::proofs::Spans::greatest_sum_is))]
 fn greatest(artery: &Artery, link: u32) -> i64
     requires first { 1 ≤ link }
     requires last { link < count artery.now }

@@ -1,7 +1,7 @@
 //! Runs as fractions of the cycle.
 
 ghost use Rattle.std.specs.Prelude.{◌≡◌, ◌<◌, ◌≤◌, ◌^◌, pos, ◌≤ℤ◌, unsigned_abs};
-ghost use Rattle.ratio.specs.Rational.{over, ◌/ℚ◌};
+ghost use Rattle.rational_theory.specs.Rational.{over, ◌/ℚ◌};
 
 use narrow_fraction::Frac;
 

@@ -3,7 +3,7 @@
 ghost use Rattle.std.specs.Prelude.{◌≡◌, ◌<◌, ◌≤◌, ◌+◌, IsTrue, length, slice_index};
 ghost use Rattle.std.specs.List.{list_any};
 ghost use Rattle.progression.specs.Street.{count, signal_of, allows};
-ghost use Rattle.linear_model.specs.Shifts.{put_shift, with_pattern, shifts_of, shift_at, shift_count};
+ghost use Rattle.linear_theory.specs.Shifts.{put_shift, with_pattern, shifts_of, shift_at, shift_count};
 ghost use Rattle.search_box.specs.Rising.{list_of};
 
 use artery_model::Artery;
@@ -146,7 +146,7 @@ fn at_rank(shifts: Rising, rank: u32) -> u32
 }
 
 /// The shift of a rank, in parts: less than 7200.
-#[tactic(auto, using(linear_model::specs::ShiftSizes::shift_at_most))]
+#[tactic(auto, using(linear_theory::proofs::ShiftSizes::shift_at_most))]
 pub fn shift_at(artery: &Artery, signal: u32, rank: u32) -> u32
     requires first { 1 ≤ signal }
     requires last { signal ≤ count artery.now }

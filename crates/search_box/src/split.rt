@@ -2,7 +2,7 @@
 
 ghost use Rattle.std.specs.Prelude.{◌≡◌, ◌+◌, ◌<◌, ◌≤◌, ◌↔◌, ◌+ℤ◌, ◌≤ℤ◌, pos, IsTrue, IfOk, IfNone, IfSome};
 ghost use Rattle.progression.specs.Street.{Street};
-ghost use Rattle.linear_model.specs.Boxes.{IsBoxOf, IsLoopPlace, IsTurnPlace, low_loop, high_loop, low_turn, high_turn};
+ghost use Rattle.linear_theory.specs.Boxes.{IsBoxOf, IsLoopPlace, IsTurnPlace, low_loop, high_loop, low_turn, high_turn};
 ghost use Rattle.search_box.specs.Places.{IsPlace, low_part, high_part, AreParts};
 
 use crate::area::{RankSpan, SearchBox};

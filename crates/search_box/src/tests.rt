@@ -1,7 +1,7 @@
 //! Worked boxes: two signals A and B, parts 100, unless a row says otherwise.
 
 ghost use Rattle.std.specs.Prelude.{IfOk, IfSome};
-ghost use Rattle.linear_model.specs.Boxes.{IsBoxOf};
+ghost use Rattle.linear_theory.specs.Boxes.{IsBoxOf};
 
 use crate::{
     At, SearchBox, Span, law_shifts_are_ranked, law_valid_street, root_span, shift_at, shift_count,

@@ -2,8 +2,8 @@
 
 ghost use Rattle.std.specs.Prelude.{◌≡◌, ◌+◌, ◌-◌, ◌<◌, ◌≤◌, ◌^◌, pos, ◌-ℤ◌, unsigned_abs};
 ghost use Rattle.progression.specs.Street.{count, signal_of, clearance};
-ghost use Rattle.linear_model.specs.Shifts.{shift_at, shift_count};
-ghost use Rattle.linear_model.specs.Spans.{least_parts, greatest_parts};
+ghost use Rattle.linear_theory.specs.Shifts.{shift_at, shift_count};
+ghost use Rattle.linear_theory.specs.Spans.{least_parts, greatest_parts};
 
 use crate::shifts::{shift_at, shift_count};
 use artery_model::Artery;

@@ -16,7 +16,7 @@ use Rattle.progression.specs.declared.parts.Pair.{Pair}
 use Rattle.time_space.specs.Finer.{finer}
 use Rattle.time_space.proofs.Scale.{finer_grids, minus_scale}
 use Rattle.time_space.proofs.Multiples.{times_le, limit_times, least_finer, most_finer, apart_times, ratio_finer, if_some_both}
-use Rattle.ratio.specs.Rational.{ℚ, ◌*ℚ◌, ◌≤ℚ◌, inverse_ℚ}
+use Rattle.rational_theory.specs.Rational.{ℚ, ◌*ℚ◌, ◌≤ℚ◌, inverse_ℚ}
 use Rattle.progression.specs.declared.parts.Dir.{Dir}
 use Rattle.progression.specs.declared.parts.Dir.TheVariants.{Outbound, Inbound}
 

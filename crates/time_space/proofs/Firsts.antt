@@ -2,7 +2,7 @@
 use Rattle.std.proofs.Common.{◌≡◌, ℕ, ◌+◌, ◌<◌, ◌≤◌, length, arith, inl, inr}
 use Rattle.std.specs.Prelude.{IsTrue, ℤ, false}
 use Rattle.std.proofs.lemmas.Bool.{cases_lt}
-use Rattle.ratio.specs.Rational.{◌*ℚ◌, ◌≤ℚ◌}
+use Rattle.rational_theory.specs.Rational.{◌*ℚ◌, ◌≤ℚ◌}
 use Rattle.progression.specs.Street.{Street, count, allows, HasSignal, HasLink}
 use Rattle.progression.specs.Speeds.{number}
 use Rattle.progression.specs.Plan.{Plan, cycle, pattern_of}

@@ -2,14 +2,14 @@
 use Rattle.std.proofs.Common.{◌≡◌, ℕ, ℤ, pos, ◌*ℤ◌, ◌-ℤ◌, ◌≤ℤ◌, ◌+◌, ◌*◌, ◌<◌, ◌≤◌, ◌↔◌, arith, mul-pos, refl, ap}
 use Rattle.std.proofs.lemmas.Int.{ints}
 use borrow.Author.Differences.{up, down}
-use Rattle.ratio.specs.Rational.{ℚ, whole, ◌*ℚ◌, ◌-ℚ◌, inverse_ℚ, ◌≤ℚ◌}
-use Rattle.ratio.specs.Laws.{IsRatio, own_ratio, whole_ratio, over_ratio, product_ratio, sum_ratio, neg_ratio, ≤ℚ_in, ≤ℚ_out}
-use Rattle.ratio.specs.Laws.{rebase}
-use Rattle.ratio.specs.Integers.{up-mul, down-mul}
+use Rattle.rational_theory.specs.Rational.{ℚ, whole, ◌*ℚ◌, ◌-ℚ◌, inverse_ℚ, ◌≤ℚ◌}
+use Rattle.rational_theory.proofs.Arithmetic.{IsRatio, own_ratio, whole_ratio, over_ratio, product_ratio, sum_ratio, neg_ratio, ≤ℚ_in, ≤ℚ_out}
+use Rattle.rational_theory.proofs.Arithmetic.{rebase}
+use Rattle.rational_theory.proofs.Integers.{up-mul, down-mul}
 use Rattle.progression.specs.Speeds.{number}
 use Rattle.progression.specs.Good.{RatioHolds}
 use Rattle.time_space.specs.Limits.{paces_apart}
-use Rattle.time_space.specs.GridLimits.{grid_ratio}
+use Rattle.time_space.proofs.GridLimits.{grid_ratio}
 use native.Mathlib.Nat.{le_of_mul-le-mul_right, mul-le-mul_right}
 
 -- ---- changes of pace

@@ -4,7 +4,7 @@ use Rattle.std.specs.Prelude.{ℤ, pos, negsuc, ◌+ℤ◌, ◌-ℤ◌, ◌*ℤ�
 use Rattle.std.proofs.lemmas.Bool.{cases_lt, cases_eq}
 use Rattle.std.proofs.lemmas.Int.{ints}
 use Rattle.progression.specs.Green.{mod_ℤ, since, is_open, is_green}
-use Rattle.progression.specs.Remainders.{quot_ℤ, split_ℤ, mod_below, mod_unique, open_at_start, open_at_end, shut_inside}
+use Rattle.progression.proofs.Remainders.{quot_ℤ, split_ℤ, mod_below, mod_unique, open_at_start, open_at_end, shut_inside}
 use Rattle.time_space.specs.Reds.{start_after, IsInside, RedsAreIntervals, SinceLastStart}
 
 -- whole cycles and the remainder

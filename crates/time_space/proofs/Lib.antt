@@ -7,3 +7,4 @@ pub mod Multiples
 pub mod Intervals
 pub mod FinerGrids
 pub mod OnlyFirst
+pub mod GridLimits

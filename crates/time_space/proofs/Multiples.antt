@@ -2,10 +2,10 @@
 use Rattle.std.proofs.Common.{◌≡◌, ℕ, pos, [], ◌∷◌, ◌*◌, ◌<◌, ◌↔◌, arith, refl, ap, sym, ◌∙◌, Option, None, Some}
 use Rattle.std.specs.Prelude.{IfSome}
 use native.Mathlib.Nat.{le_of_mul-le-mul_right}
-use Rattle.ratio.specs.Rational.{ℚ, whole, ◌*ℚ◌, ◌-ℚ◌, ◌≤ℚ◌}
-use Rattle.ratio.specs.Laws.{own_ratio, whole_ratio, product_ratio, ≤ℚ_in, ≤ℚ_out, *ℚ_assoc}
-use Rattle.ratio.specs.Order.{≤ℚ-*ℚ, whole-*ℤ}
-use Rattle.ratio.specs.Ring.{ring, at, minus, ◌⊕◌, ◌⊗◌}
+use Rattle.rational_theory.specs.Rational.{ℚ, whole, ◌*ℚ◌, ◌-ℚ◌, ◌≤ℚ◌}
+use Rattle.rational_theory.proofs.Arithmetic.{own_ratio, whole_ratio, product_ratio, ≤ℚ_in, ≤ℚ_out, *ℚ_assoc}
+use Rattle.rational_theory.proofs.Order.{≤ℚ-*ℚ, whole-*ℤ}
+use Rattle.rational_theory.proofs.Ring.{ring, at, minus, ◌⊕◌, ◌⊗◌}
 use Rattle.progression.specs.Speeds.{number}
 use Rattle.progression.specs.Good.{RatioHolds}
 

@@ -1,8 +1,8 @@
 -- The weighted band as one quotient of natural numbers.
 use Rattle.std.proofs.Common.{◌≡◌, ℕ, zero, suc, pos, ◌+◌, ◌*◌, ◌<◌, ◌≤ℤ◌, arith, mul-pos}
 use Rattle.std.proofs.lemmas.Int.{ints}
-use Rattle.ratio.specs.Rational.{ℚ, whole, over, ◌+ℚ◌, ◌*ℚ◌, ◌/ℚ◌}
-use Rattle.ratio.specs.Laws.{IsRatio, same_ratio, over_ratio, sum_ratio, product_ratio, whole_ratio}
+use Rattle.rational_theory.specs.Rational.{ℚ, whole, over, ◌+ℚ◌, ◌*ℚ◌, ◌/ℚ◌}
+use Rattle.rational_theory.proofs.Arithmetic.{IsRatio, same_ratio, over_ratio, sum_ratio, product_ratio, whole_ratio}
 use Rattle.progression.specs.Speeds.{number}
 use Rattle.time_space.proofs.Fractions.{inverse_ratio}
 

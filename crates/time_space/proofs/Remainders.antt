@@ -3,7 +3,7 @@ use Rattle.std.proofs.Common.{◌≡◌, ℕ, ◌+◌, ◌-◌, ◌%◌, ◌<◌
 use Rattle.std.specs.Prelude.{ℤ, IsTrue, Option, None, Some, MatchOption}
 use Rattle.std.proofs.Math.Nat.{mod-eq_of_lt}
 use Rattle.progression.specs.Green.{since, is_open, BandIsGreen}
-use Rattle.progression.specs.Remainders.{since-later, open_at_start, shut_inside, open_until_start, shut_past_start}
+use Rattle.progression.proofs.Remainders.{since-later, open_at_start, shut_inside, open_until_start, shut_past_start}
 use Rattle.time_space.specs.FirstRed.{IsFirstShut, IsFirstRed}
 
 -- the first tick of a red is green, and the second isn't

@@ -7,8 +7,8 @@ use Rattle.std.proofs.lemmas.Bool.{cases_eq}
 use Rattle.std.proofs.lemmas.Int.{ints}
 use borrow.Author.Differences.{up, down}
 use Rattle.progression.specs.Green.{mod_ℤ, since, BandIsGreen}
-use Rattle.progression.specs.Remainders.{mod_is}
-use Rattle.progression.specs.Fits.{Fits, fits_from_band, band_from_fits}
+use Rattle.progression.proofs.Remainders.{mod_is}
+use Rattle.progression.proofs.Fits.{Fits, fits_from_band, band_from_fits}
 
 pos_mul : (a b : ℕ) → 0 < a → 0 < b → 0 < a * b
 pos_mul a b p q = let h : a * 1 ≤ a * b = mul-le-mul_left a q in omega arith

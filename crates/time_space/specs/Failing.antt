@@ -1,6 +1,6 @@
 -- What it means that a failing fails, and which failing of a timing is the first.
 use Rattle.std.specs.Prelude.{◌≡◌, ◌≢◌, length, false}
-use Rattle.ratio.specs.Rational.{◌*ℚ◌, ◌≤ℚ◌}
+use Rattle.rational_theory.specs.Rational.{◌*ℚ◌, ◌≤ℚ◌}
 use Rattle.progression.specs.Street.{Street, count, HasSignal, HasLink, allows}
 use Rattle.progression.specs.Speeds.{number}
 use Rattle.progression.specs.Plan.{Plan, cycle, pattern_of}

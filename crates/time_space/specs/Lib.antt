@@ -2,7 +2,6 @@ pub mod Timing
 pub mod Sizes
 pub mod FirstRed
 pub mod Limits
-pub mod GridLimits
 pub mod Blocked
 pub mod LinkRules
 pub mod Failing

@@ -1,6 +1,6 @@
 -- Limits as rational numbers of seconds, and changes of pace.
 use Rattle.std.specs.Prelude.{ℕ}
-use Rattle.ratio.specs.Rational.{ℚ, ◌-ℚ◌, ◌/ℚ◌}
+use Rattle.rational_theory.specs.Rational.{ℚ, ◌-ℚ◌, ◌/ℚ◌}
 use Rattle.progression.specs.Speeds.{number}
 
 -- the pace of the second of two runs less that of the first

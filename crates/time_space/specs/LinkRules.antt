@@ -1,6 +1,6 @@
 -- The four limits of a run on a link: the greatest and the least speed, and how much the pace may rise and drop to the next link.
 use Rattle.std.specs.Prelude.{ℕ, ◌+◌, ◌<◌, ◌≤◌, IfSome}
-use Rattle.ratio.specs.Rational.{◌*ℚ◌, ◌≤ℚ◌}
+use Rattle.rational_theory.specs.Rational.{◌*ℚ◌, ◌≤ℚ◌}
 use Rattle.progression.specs.Street.{Street, HasLink}
 use Rattle.progression.specs.Speeds.{number, run_low, run_high, change}
 use Rattle.progression.specs.Plan.{Plan, run}

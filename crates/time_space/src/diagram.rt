@@ -127,7 +127,7 @@ fn advance(artery: &Artery, timing: &Timing, dir: Dir, place: u32) -> i128
 }
 
 /// The tick at which the line crosses the next signal.
-#[tactic(auto, using(progression::specs::Crossings::crossing_next))]
+#[tactic(auto, using(progression::proofs::Crossings::crossing_next))]
 pub fn next_line(artery: &Artery, timing: &Timing, dir: Dir, place: u32, line: i128) -> i128
     requires on_way { place + 1 < count artery.now }
     requires shape { length timing.now.patterns ≡ count artery.now }

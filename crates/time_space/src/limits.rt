@@ -1,7 +1,7 @@
 //! Comparisons of ticks with limits that are fractions, exactly and within 128 bits.
 
 ghost use Rattle.std.specs.Prelude.{◌≡◌, ◌↔◌, IsTrue, ◌+◌, ◌*◌, ◌<◌, ◌≤◌, ◌^◌, pos, ◌*ℤ◌, ◌-ℤ◌, unsigned_abs};
-ghost use Rattle.ratio.specs.Rational.{◌*ℚ◌, ◌≤ℚ◌};
+ghost use Rattle.rational_theory.specs.Rational.{◌*ℚ◌, ◌≤ℚ◌};
 ghost use Rattle.progression.specs.Speeds.{number};
 ghost use Rattle.progression.specs.Good.{RatioHolds};
 ghost use Rattle.time_space.specs.Limits.{paces_apart};
@@ -19,7 +19,7 @@ fn product(number: i128, count: u128) -> i128
 }
 
 /// Whether so many ticks are at least `limit` seconds.
-#[tactic(auto, using(crate::specs::GridLimits::least_is))]
+#[tactic(auto, using(crate::proofs::GridLimits::least_is))]
 pub fn is_at_least(ticks: u128, limit: Frac, grid: u128) -> bool
     requires ticks { ticks < 2 ^ 92 }
     requires num { unsigned_abs limit.num < 2 ^ 30 }
@@ -31,7 +31,7 @@ pub fn is_at_least(ticks: u128, limit: Frac, grid: u128) -> bool
 }
 
 /// Whether so many ticks are at most `limit` seconds.
-#[tactic(auto, using(crate::specs::GridLimits::most_is))]
+#[tactic(auto, using(crate::proofs::GridLimits::most_is))]
 pub fn is_at_most(ticks: u128, limit: Frac, grid: u128) -> bool
     requires ticks { ticks < 2 ^ 92 }
     requires num { unsigned_abs limit.num < 2 ^ 30 }

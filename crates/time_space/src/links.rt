@@ -1,7 +1,7 @@
 //! The limits of the runs on an artery's links.
 
 ghost use Rattle.std.specs.Prelude.{◌≡◌, ◌↔◌, ◌+◌, ◌<◌, ◌≤◌, ◌^◌, ℕ, length, false, IsTrue, MatchOption};
-ghost use Rattle.ratio.specs.Rational.{◌*ℚ◌, ◌≤ℚ◌};
+ghost use Rattle.rational_theory.specs.Rational.{◌*ℚ◌, ◌≤ℚ◌};
 ghost use Rattle.progression.specs.Street.{count, distance, HasLink};
 ghost use Rattle.progression.specs.Speeds.{number, run_low, run_high};
 ghost use Rattle.progression.specs.Plan.{run};

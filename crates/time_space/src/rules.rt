@@ -1,7 +1,7 @@
 //! The test of a timing against the rules of an artery, rule after rule.
 
 ghost use Rattle.std.specs.Prelude.{◌≡◌, ◌+◌, ◌<◌, ◌≤◌, ℕ, length, false, IsTrue, MatchOption, OnOk, IfErr};
-ghost use Rattle.ratio.specs.Rational.{◌*ℚ◌, ◌≤ℚ◌};
+ghost use Rattle.rational_theory.specs.Rational.{◌*ℚ◌, ◌≤ℚ◌};
 ghost use Rattle.progression.specs.Street.{count, allows, HasSignal};
 ghost use Rattle.progression.specs.Speeds.{number};
 ghost use Rattle.progression.specs.Plan.{IsPlan, cycle, pattern_of};

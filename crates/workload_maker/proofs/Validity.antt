@@ -5,8 +5,8 @@ use Rattle.std.specs.Prelude.{codes, ◌++◌}
 use Rattle.std.specs.List.{range_with_len, list_all}
 use Rattle.std.proofs.lemmas.List.FromFn.{length-map-range_with_len}
 use Rattle.std.proofs.lemmas.Option.{none-some}
-use Rattle.ratio.specs.Rational.{whole}
-use Rattle.ratio.specs.Compare.{cmp_ℚ}
+use Rattle.rational_theory.specs.Rational.{whole}
+use Rattle.rational_theory.specs.Compare.{cmp_ℚ}
 use Rattle.progression.specs.Street.{Street, count}
 use Rattle.progression.specs.declared.parts.Head.{Head}
 use Rattle.progression.specs.declared.parts.Signal.{Signal}

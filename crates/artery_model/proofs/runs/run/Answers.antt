@@ -2,8 +2,8 @@ use Rattle.std.proofs.Common.{◌≡◌, ◌∙◌, refl, ◌*◌, ◌<◌, pos,
 use Rattle.std.specs.Int.{w128}
 use Rattle.std.proofs.lemmas.Int.{to_z-of_z}
 use Rattle.std.proofs.Math.Nat.{mul-le-mul}
-use Rattle.ratio.specs.Rational.{over}
-use Rattle.ratio.specs.Lowest.{num_size}
+use Rattle.rational_theory.specs.Rational.{over}
+use Rattle.rational_theory.proofs.Lowest.{num_size}
 use Rattle.artery_model.proofs.Quotients.{over_times, over_positive, above_zero}
 use Rattle.artery_model.proofs.runs.run.Goals as goal
 

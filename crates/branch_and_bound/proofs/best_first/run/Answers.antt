@@ -1,5 +1,5 @@
 use Rattle.std.proofs.Common.{◌∙◌, subst, Some}
-use Rattle.node_tree.specs.Matchings.{Matches}
+use Rattle.branch_and_bound.specs.Matchings.{Matches}
 use Rattle.branch_and_bound.specs.State.{IsShown}
 use Rattle.branch_and_bound.proofs.Halting.{undone_answer}
 use Rattle.branch_and_bound.proofs.best_first.run.Goals as goal

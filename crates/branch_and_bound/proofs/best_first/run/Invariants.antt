@@ -1,5 +1,5 @@
 use Rattle.std.proofs.Common.{◌≡◌}
-use Rattle.ratio.specs.Rational.{ℚ}
+use Rattle.rational_theory.specs.Rational.{ℚ}
 use Rattle.work_meter.specs.Work.{IsWithin}
 use Rattle.branch_and_bound.specs.State.{Holds, weights}
 use Rattle.branch_and_bound.proofs.best_first.run.Given as goal

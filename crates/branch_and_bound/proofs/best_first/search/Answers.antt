@@ -1,5 +1,5 @@
 use Rattle.std.proofs.Common.{refl, sym, subst}
-use Rattle.node_tree.specs.Lines.{top_line}
+use Rattle.branch_and_bound.specs.Lines.{top_line}
 use Rattle.branch_and_bound.specs.Opening.{Opens}
 use Rattle.branch_and_bound.specs.State.{Holds}
 use Rattle.work_meter.specs.declared.meter.Meter.{Meter}

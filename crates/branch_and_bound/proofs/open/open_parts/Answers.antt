@@ -1,5 +1,5 @@
 use Rattle.std.proofs.Common.{sym, subst}
-use Rattle.node_tree.specs.Lines.{low_line, high_line}
+use Rattle.branch_and_bound.specs.Lines.{low_line, high_line}
 use Rattle.branch_and_bound.specs.State.{IsBetter}
 use Rattle.branch_and_bound.specs.Lineages.{at_low}
 use Rattle.branch_and_bound.proofs.Settling.{low_is, high_is, leaf_read}

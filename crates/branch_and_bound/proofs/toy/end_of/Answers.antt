@@ -1,6 +1,6 @@
 use Rattle.std.proofs.Common.{ap, ◌∙◌, arith}
 use Rattle.std.proofs.lemmas.Int.{ints}
-use Rattle.ratio.specs.Rational.{whole}
+use Rattle.rational_theory.specs.Rational.{whole}
 use Rattle.search_box.specs.Seen.{span_of}
 use Rattle.branch_and_bound.proofs.Capping.{first_is, opens_timed, opens_cut}
 use Rattle.branch_and_bound.proofs.toy.end_of.Goals as goal

@@ -1,5 +1,5 @@
 use Rattle.std.proofs.Common.{refl}
-use Rattle.program_builder.specs.OpeningLaws.{opening_dual}
+use Rattle.program_builder.proofs.OpeningLaws.{opening_dual}
 use Rattle.branch_tree.proofs.Running.{made_after, run_from, within_limit}
 use Rattle.branch_tree.proofs.opening.make_steps.Goals as goal
 

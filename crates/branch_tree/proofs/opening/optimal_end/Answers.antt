@@ -1,8 +1,8 @@
 use Rattle.std.proofs.Common.{◌≡◌, inr, refl, sym, ◌∙◌, ap, subst}
-use Rattle.node_tree.specs.Lines.{top_line}
+use Rattle.branch_and_bound.specs.Lines.{top_line}
 use Rattle.loop_rows.specs.Weights.{leaf_fault}
 use Rattle.branch_tree.specs.Ends.{end_leaf}
-use Rattle.branch_tree.specs.RuleLaws.EndLaws.{optimal_end}
+use Rattle.branch_tree.specs.laws.EndLaws.{optimal_end}
 use Rattle.branch_tree.specs.LeafRows.{sum_of}
 use Rattle.branch_tree.proofs.Runs.{wide_sum_optimal}
 use Rattle.branch_tree.specs.Opening.{IsSummed}

@@ -1,5 +1,5 @@
 use Rattle.std.proofs.Common.{◌≡◌, refl, sym, ◌∙◌, ap, subst, Ok, Err}
-use Rattle.node_tree.specs.Lines.{top_line}
+use Rattle.branch_and_bound.specs.Lines.{top_line}
 use Rattle.offset_recovery.specs.Recovered.{recovered}
 use Rattle.offset_recovery.specs.Answers.{IsOutcome}
 use Rattle.branch_tree.specs.Ends.{end_point}

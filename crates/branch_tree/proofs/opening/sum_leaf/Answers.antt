@@ -1,7 +1,7 @@
 use Rattle.std.proofs.Common.{subst, ◌∙◌, ap}
 use Rattle.named_row.specs.Sheets.{Sheet, at_place}
 use Rattle.loop_rows.specs.Weights.{leaf_fault, IsFirstFault}
-use Rattle.loop_rows.specs.LeafSums.{total_bound}
+use Rattle.loop_rows.proofs.LeafSums.{total_bound}
 use Rattle.branch_tree.proofs.LeafFaults.{only_wide}
 use Rattle.branch_tree.proofs.opening.sum_leaf.Goals as goal
 

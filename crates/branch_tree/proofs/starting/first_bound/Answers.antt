@@ -1,6 +1,6 @@
 use Rattle.std.proofs.Common.{◌∙◌, ap}
 use Rattle.named_row.specs.Sheets.{Sheet, at_place}
-use Rattle.loop_rows.specs.LeafSums.{total_bound}
+use Rattle.loop_rows.proofs.LeafSums.{total_bound}
 use Rattle.branch_tree.proofs.starting.first_bound.Goals as goal
 
 pub returns-in-Ok : goal.returns-in-Ok

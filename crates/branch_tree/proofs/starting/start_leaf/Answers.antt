@@ -1,6 +1,6 @@
 use Rattle.std.proofs.Common.{◌≡◌, Some, List, sym, ◌∙◌, ap, ap₂, subst}
 use Rattle.progression.specs.Street.{Street}
-use Rattle.linear_model.specs.Boxes.{Area, root_box}
+use Rattle.linear_theory.specs.Boxes.{Area, root_box}
 use Rattle.named_row.specs.declared.leaves.Weight.{Weight}
 use Rattle.certificate_checker.specs.Accepted.{IsProof}
 use Rattle.loop_rows.specs.Weights.{leaf_fault}

@@ -1,7 +1,7 @@
 use Rattle.std.proofs.Common.{◌≡◌, None, [], ◌∷◌, inr, map, ◌∙◌}
 use Rattle.std.proofs.lemmas.Result.{err_from_is_err_and, on_ok_weaker, MatchResult-weaker}
-use Rattle.linear_model.specs.Boxes.{root_box}
-use Rattle.narrow_fraction.specs.Attempt.{attempt_ok, attempt_err}
+use Rattle.linear_theory.specs.Boxes.{root_box}
+use Rattle.narrow_fraction.proofs.Attempt.{attempt_ok, attempt_err}
 use Rattle.plan_text.specs.Warrants.{Warrant, node_of}
 use Rattle.certificate_checker.specs.Accepted.{limit_of}
 use Rattle.certificate_checker.specs.Refusals.{nodes_refusal, IsFirst}

@@ -1,8 +1,8 @@
 use Rattle.std.proofs.Common.{length, sym, ◌∙◌, ap, ap₂}
-use Rattle.linear_model.specs.Rows.{goal_form}
-use Rattle.narrow_fraction.specs.Attempt.{attempt_ok, attempt_err}
+use Rattle.linear_theory.specs.Rows.{goal_form}
+use Rattle.narrow_fraction.proofs.Attempt.{attempt_ok, attempt_err}
 use Rattle.named_row.specs.Sheets.{Sheet}
-use Rattle.loop_rows.specs.Writing.{written_width}
+use Rattle.loop_rows.proofs.Writing.{written_width}
 use Rattle.certificate_checker.specs.Refusals.{weakness}
 use Rattle.certificate_checker.proofs.LeafRefusals.{leaf_rejected, leaf_weak, leaf_right}
 use Rattle.certificate_checker.proofs.leaves.check_leaf.Goals as goal

@@ -1,5 +1,5 @@
 use Rattle.std.proofs.Common.{◌≡◌, ◌≤◌, [], ◌∷◌, length, map, drop, All}
-use Rattle.linear_model.specs.Boxes.{IsBoxOf, root_box}
+use Rattle.linear_theory.specs.Boxes.{IsBoxOf, root_box}
 use Rattle.plan_text.specs.Warrants.{node_of, AreTrees}
 use Rattle.certificate_checker.specs.Refusals.{nodes_refusal}
 use Rattle.certificate_checker.proofs.walk.check_nodes.Given as goal

@@ -1,6 +1,6 @@
 use Rattle.std.proofs.Common.{◌+◌}
 use Rattle.std.proofs.lemmas.List.Elements.{All-head, All-tail}
-use Rattle.linear_model.specs.Boxes.{IsBoxOf}
+use Rattle.linear_theory.specs.Boxes.{IsBoxOf}
 use Rattle.certificate_checker.proofs.PlaceTests.{split_boxed}
 use Rattle.certificate_checker.proofs.walk.read.Goals as goal
 

@@ -1,6 +1,6 @@
 use Rattle.std.proofs.Common.{◌≤◌, sym, subst, pos, ◌≤ℤ◌}
-use Rattle.ratio.specs.Rational.{ℚ}
-use Rattle.time_space.specs.GridLimits.{some_ticks}
+use Rattle.rational_theory.specs.Rational.{ℚ}
+use Rattle.time_space.proofs.GridLimits.{some_ticks}
 use Rattle.diagram_print.proofs.speeds.run_ticks.Goals as goal
 
 pub returns-clause-least : goal.returns-clause-least

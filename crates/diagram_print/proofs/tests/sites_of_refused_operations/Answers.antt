@@ -1,5 +1,5 @@
 use Rattle.std.proofs.Common.{arith}
-use Rattle.program_builder.specs.FirstRows.{rows_least}
+use Rattle.program_builder.proofs.FirstRows.{rows_least}
 use Rattle.diagram_print.proofs.tests.sites_of_refused_operations.Goals as goal
 
 -- two signals have four rows at least

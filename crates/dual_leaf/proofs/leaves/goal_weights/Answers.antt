@@ -1,12 +1,12 @@
 use Rattle.std.proofs.Common.{◌≡◌, List, Vec, Global, pos, length, get_or, ◌+◌, sym, ◌∙◌, ap, arith}
 use Rattle.std.proofs.lemmas.List.{with_items_is, length-replicate}
-use Rattle.ratio.specs.Rational.{ℚ, whole}
-use Rattle.simplex_model.specs.Tableau.{width}
-use Rattle.simplex_model.specs.Totals.{cell_of}
-use Rattle.simplex_model.specs.Multipliers.{goal_weight}
+use Rattle.rational_theory.specs.Rational.{ℚ, whole}
+use Rattle.simplex_theory.specs.Tableau.{width}
+use Rattle.simplex_theory.specs.Totals.{cell_of}
+use Rattle.simplex_theory.specs.Multipliers.{goal_weight}
 use Rattle.named_row.specs.declared.leaves.Weight.{Weight}
 use Rattle.dual_leaf.specs.Leaves.{goal_multipliers, multipliers_below}
-use Rattle.dual_leaf.specs.LeafLaws.{multipliers_same}
+use Rattle.dual_leaf.proofs.LeafLaws.{multipliers_same}
 use Rattle.dual_leaf.proofs.Written.{goal_read, ok_with}
 use Rattle.dual_leaf.proofs.leaves.goal_weights.Goals as goal
 

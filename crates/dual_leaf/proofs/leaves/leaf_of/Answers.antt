@@ -1,6 +1,6 @@
 use Rattle.std.proofs.Common.{sym, subst}
 use Rattle.dual_leaf.specs.Leaves.{LeafCovers}
-use Rattle.dual_leaf.specs.LeafLaws.{goal_leaf_covers}
+use Rattle.dual_leaf.proofs.LeafLaws.{goal_leaf_covers}
 use Rattle.dual_leaf.proofs.leaves.leaf_of.Goals as goal
 
 pub returns-clause-covers : goal.returns-clause-covers

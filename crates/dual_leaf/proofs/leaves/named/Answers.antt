@@ -1,8 +1,8 @@
 use Rattle.std.proofs.Common.{pos, get_or, ◌++◌, ◌∙◌, ap₂, sym, arith}
 use Rattle.std.proofs.lemmas.List.{get_or_default}
-use Rattle.ratio.specs.Rational.{whole}
+use Rattle.rational_theory.specs.Rational.{whole}
 use Rattle.dual_leaf.specs.Leaves.{multiplier, multipliers_below}
-use Rattle.dual_leaf.specs.LeafLaws.{multipliers_next}
+use Rattle.dual_leaf.proofs.LeafLaws.{multipliers_next}
 use Rattle.dual_leaf.proofs.leaves.named.Goals as goal
 
 pub loop-row-init : goal.loop-row-init

@@ -1,5 +1,5 @@
 use Rattle.std.proofs.Common.{◌≡◌, get_or, pos}
-use Rattle.ratio.specs.Rational.{whole}
+use Rattle.rational_theory.specs.Rational.{whole}
 use Rattle.dual_leaf.specs.Leaves.{multipliers_below}
 use Rattle.dual_leaf.proofs.leaves.named.Given as goal
 

@@ -1,7 +1,8 @@
 use Rattle.std.proofs.Common.{◌≡◌, Bool, true, false, true≢false, cond, ◌++◌, ◌∷◌, [], pos, refl, sym, ◌∙◌, ap, append-nil}
 use Rattle.std.specs.Ordering.{eq_by_cmp}
-use Rattle.ratio.specs.Rational.{ℚ, whole}
-use Rattle.ratio.specs.Compare.{cmp_ℚ, eq_says}
+use Rattle.rational_theory.specs.Rational.{ℚ, whole}
+use Rattle.rational_theory.specs.Compare.{cmp_ℚ}
+use Rattle.rational_theory.proofs.Compare.{eq_says}
 use Rattle.dual_leaf.proofs.leaves.push_multiplier.Goals as goal
 
 -- both tests say whether the multiplier is 0

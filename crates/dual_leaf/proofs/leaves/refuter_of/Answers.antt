@@ -1,6 +1,6 @@
 use Rattle.std.proofs.Common.{sym, subst}
 use Rattle.dual_leaf.specs.Leaves.{LeafRefutes}
-use Rattle.dual_leaf.specs.LeafLaws.{row_leaf_refutes}
+use Rattle.dual_leaf.proofs.LeafLaws.{row_leaf_refutes}
 use Rattle.dual_leaf.proofs.leaves.refuter_of.Goals as goal
 
 pub returns-clause-refutes : goal.returns-clause-refutes

@@ -1,13 +1,13 @@
 use Rattle.std.proofs.Common.{◌≡◌, List, Vec, Global, pos, length, get_or, cond, eqb, ◌+◌, sym, ◌∙◌, ap, ap₂, arith}
 use Rattle.std.specs.Vec.{with_items}
 use Rattle.std.proofs.lemmas.List.{with_items_is, length-replicate}
-use Rattle.ratio.specs.Rational.{ℚ, whole}
-use Rattle.simplex_model.specs.Tableau.{basic_at, width}
-use Rattle.simplex_model.specs.Totals.{cell_of}
-use Rattle.simplex_model.specs.Multipliers.{row_weight}
+use Rattle.rational_theory.specs.Rational.{ℚ, whole}
+use Rattle.simplex_theory.specs.Tableau.{basic_at, width}
+use Rattle.simplex_theory.specs.Totals.{cell_of}
+use Rattle.simplex_theory.specs.Multipliers.{row_weight}
 use Rattle.named_row.specs.declared.leaves.Weight.{Weight}
 use Rattle.dual_leaf.specs.Leaves.{row_multipliers, multipliers_below}
-use Rattle.dual_leaf.specs.LeafLaws.{multipliers_same}
+use Rattle.dual_leaf.proofs.LeafLaws.{multipliers_same}
 use Rattle.dual_leaf.proofs.Written.{row_read, ok_with}
 use Rattle.dual_leaf.proofs.leaves.row_weights.Goals as goal
 

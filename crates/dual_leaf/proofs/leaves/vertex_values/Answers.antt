@@ -1,6 +1,6 @@
 use Rattle.std.proofs.Common.{length, pos, sym, ◌∙◌, ap, arith}
 use Rattle.std.proofs.lemmas.List.{with_items_is, length-replicate}
-use Rattle.ratio.specs.Rational.{whole}
+use Rattle.rational_theory.specs.Rational.{whole}
 use Rattle.dual_leaf.proofs.Written.{vertex_list}
 use Rattle.dual_leaf.proofs.leaves.vertex_values.Goals as goal
 

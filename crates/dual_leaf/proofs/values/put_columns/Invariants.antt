@@ -1,5 +1,5 @@
 use Rattle.std.proofs.Common.{length, ◌≤◌}
-use Rattle.simplex_model.specs.Tableau.{height}
+use Rattle.simplex_theory.specs.Tableau.{height}
 use Rattle.dual_leaf.proofs.Written.{Basics}
 use Rattle.dual_leaf.proofs.values.put_columns.Given as goal
 

@@ -1,5 +1,5 @@
 use Rattle.std.proofs.Common.{arith}
-use Rattle.simplex_model.specs.Tableau.{width}
+use Rattle.simplex_theory.specs.Tableau.{width}
 use Rattle.dual_leaf.specs.Leaves.{row_or_goal}
 use Rattle.dual_leaf.proofs.Written.{slacks_none}
 use Rattle.dual_leaf.proofs.values.put_slacks.Goals as goal

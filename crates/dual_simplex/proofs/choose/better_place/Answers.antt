@@ -1,7 +1,7 @@
 use Rattle.std.proofs.Common.{◌∙◌, ap₂, ltb}
-use Rattle.ratio.specs.Compare.{cmp_ℚ}
-use Rattle.simplex_model.specs.BlandRule.{less_by}
-use Rattle.narrow_fraction.specs.Attempt.{attempt_ok}
+use Rattle.rational_theory.specs.Compare.{cmp_ℚ}
+use Rattle.simplex_theory.specs.BlandRule.{less_by}
+use Rattle.narrow_fraction.proofs.Attempt.{attempt_ok}
 use Rattle.dual_simplex.proofs.Choices.{not_zero, first_place, next_place}
 use Rattle.dual_simplex.proofs.choose.better_place.Goals as goal
 

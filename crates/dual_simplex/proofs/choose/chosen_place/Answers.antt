@@ -1,8 +1,11 @@
 use Rattle.std.proofs.Common.{◌≡◌, Ok, refl, sym, ◌∙◌, ap, arith}
-use Rattle.simplex_model.specs.Tableau.{width, cell}
-use Rattle.simplex_model.specs.Best.{best, on_best}
-use Rattle.simplex_model.specs.BlandRule.{chosen_place, is_negative, place_before, place_order}
-use Rattle.narrow_fraction.specs.Attempt.{attempt, attempt_ok, attempt_err, first_below}
+use Rattle.simplex_theory.specs.Tableau.{width, cell}
+use Rattle.simplex_theory.specs.Best.{best}
+use Rattle.simplex_theory.proofs.Best.{on_best}
+use Rattle.simplex_theory.specs.BlandRule.{chosen_place, is_negative, place_before}
+use Rattle.simplex_theory.proofs.BlandRule.{place_order}
+use Rattle.narrow_fraction.specs.Attempt.{attempt, first_below}
+use Rattle.narrow_fraction.proofs.Attempt.{attempt_ok, attempt_err}
 use Rattle.dual_simplex.specs.Ratios.{ratio_at, ratio_refusal, with_ratio}
 use Rattle.dual_simplex.proofs.Choices.{kept_place, place_next, place_stop}
 use Rattle.dual_simplex.proofs.choose.chosen_place.Goals as goal

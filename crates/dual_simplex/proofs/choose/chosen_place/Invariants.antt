@@ -1,7 +1,7 @@
 use Rattle.std.proofs.Common.{◌≡◌, None}
-use Rattle.simplex_model.specs.Tableau.{cell}
-use Rattle.simplex_model.specs.Best.{best}
-use Rattle.simplex_model.specs.BlandRule.{is_negative, place_before}
+use Rattle.simplex_theory.specs.Tableau.{cell}
+use Rattle.simplex_theory.specs.Best.{best}
+use Rattle.simplex_theory.specs.BlandRule.{is_negative, place_before}
 use Rattle.dual_simplex.specs.Ratios.{with_ratio, ratio_at}
 use Rattle.narrow_fraction.specs.Attempt.{first_below}
 use Rattle.dual_simplex.proofs.choose.chosen_place.Given as goal

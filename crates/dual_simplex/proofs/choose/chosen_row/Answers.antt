@@ -1,7 +1,9 @@
 use Rattle.std.proofs.Common.{◌≡◌, ◌∙◌, ap, arith}
-use Rattle.simplex_model.specs.Tableau.{height, bound}
-use Rattle.simplex_model.specs.Best.{best, on_best, best_low}
-use Rattle.simplex_model.specs.BlandRule.{chosen_row, is_negative, row_before, row_order}
+use Rattle.simplex_theory.specs.Tableau.{height, bound}
+use Rattle.simplex_theory.specs.Best.{best}
+use Rattle.simplex_theory.proofs.Best.{on_best, best_low}
+use Rattle.simplex_theory.specs.BlandRule.{chosen_row, is_negative, row_before}
+use Rattle.simplex_theory.proofs.BlandRule.{row_order}
 use Rattle.dual_simplex.proofs.choose.chosen_row.Goals as goal
 
 pub better_row-best-requires-clause-best : goal.better_row-best-requires-clause-best

@@ -1,7 +1,7 @@
 use Rattle.std.proofs.Common.{◌≡◌}
-use Rattle.simplex_model.specs.Tableau.{bound}
-use Rattle.simplex_model.specs.Best.{best}
-use Rattle.simplex_model.specs.BlandRule.{is_negative, row_before}
+use Rattle.simplex_theory.specs.Tableau.{bound}
+use Rattle.simplex_theory.specs.Best.{best}
+use Rattle.simplex_theory.specs.BlandRule.{is_negative, row_before}
 use Rattle.dual_simplex.proofs.choose.chosen_row.Given as goal
 
 abbrev pub invariant-loop-row : goal.invariant-loop-row

@@ -1,5 +1,5 @@
 use Rattle.std.proofs.Common.{sym, ◌∙◌, ap, arith}
-use Rattle.simplex_model.specs.BlandRule.{is_negative}
+use Rattle.simplex_theory.specs.BlandRule.{is_negative}
 use Rattle.dual_simplex.proofs.Dues.{has_place, no_place}
 use Rattle.dual_simplex.proofs.choose.has_negative.Goals as goal
 

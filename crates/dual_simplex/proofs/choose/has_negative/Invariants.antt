@@ -1,6 +1,6 @@
 use Rattle.std.proofs.Common.{◌≡◌, ℕ, ◌<◌, false}
-use Rattle.simplex_model.specs.Tableau.{cell}
-use Rattle.simplex_model.specs.BlandRule.{is_negative}
+use Rattle.simplex_theory.specs.Tableau.{cell}
+use Rattle.simplex_theory.specs.BlandRule.{is_negative}
 use Rattle.dual_simplex.proofs.choose.has_negative.Given as goal
 
 abbrev pub invariant-loop-place : goal.invariant-loop-place

@@ -1,7 +1,8 @@
 use Rattle.std.proofs.Common.{◌≡◌, Bool, true, false, IsTrue, refl, sym, pos}
 use Rattle.std.specs.Ordering.{is_lt}
-use Rattle.ratio.specs.Rational.{whole}
-use Rattle.ratio.specs.Compare.{cmp_ℚ, lt_says}
+use Rattle.rational_theory.specs.Rational.{whole}
+use Rattle.rational_theory.specs.Compare.{cmp_ℚ}
+use Rattle.rational_theory.proofs.Compare.{lt_says}
 use Rattle.dual_simplex.proofs.choose.is_negative.Goals as goal
 
 same_test : (b c : Bool) → (IsTrue b → IsTrue c) → (IsTrue c → IsTrue b) → b ≡ c

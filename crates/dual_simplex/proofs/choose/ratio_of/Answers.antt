@@ -1,8 +1,9 @@
 use Rattle.std.proofs.Common.{Ok, sym, ◌∙◌, ap}
-use Rattle.ratio.specs.Rational.{neg_ℚ, ◌/ℚ◌}
+use Rattle.rational_theory.specs.Rational.{neg_ℚ, ◌/ℚ◌}
 use Rattle.narrow_fraction.specs.Attempt.{attempt}
 use Rattle.narrow_fraction.specs.declared.wide.Op.TheVariants.{Div}
-use Rattle.fraction_tableau.specs.Refusals.{refused, refused_none, refused_some}
+use Rattle.fraction_tableau.specs.Refusals.{refused}
+use Rattle.fraction_tableau.proofs.Refusals.{refused_none, refused_some}
 use Rattle.dual_simplex.proofs.Choices.{neg_not_zero}
 use Rattle.dual_simplex.proofs.choose.ratio_of.Goals as goal
 

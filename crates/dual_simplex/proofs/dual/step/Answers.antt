@@ -1,11 +1,13 @@
 use Rattle.std.proofs.Common.{sym, ◌∙◌, ap, subst}
-use Rattle.simplex_model.specs.DualSteps.{IsDual, dual-exchange}
+use Rattle.simplex_theory.specs.DualSteps.{IsDual}
+use Rattle.simplex_theory.proofs.DualSteps.{dual-exchange}
 use Rattle.fraction_tableau.specs.NamedTableaus.{NamedTableau}
-use Rattle.simplex_model.specs.Signs.{negative_nonzero}
-use Rattle.simplex_model.specs.BlandRule.{chosen_place, chosen_choice, chosen_row_in}
-use Rattle.narrow_fraction.specs.Attempt.{attempt_ok, attempt_err}
+use Rattle.simplex_theory.proofs.Signs.{negative_nonzero}
+use Rattle.simplex_theory.specs.BlandRule.{chosen_place}
+use Rattle.simplex_theory.proofs.BlandRule.{chosen_choice, chosen_row_in}
+use Rattle.narrow_fraction.proofs.Attempt.{attempt_ok, attempt_err}
 use Rattle.dual_simplex.specs.Ratios.{place_of}
-use Rattle.dual_simplex.specs.Steps.{step_optimal, step_wide_ratio, step_infeasible, step_pivoted, step_wide}
+use Rattle.dual_simplex.proofs.Steps.{step_optimal, step_wide_ratio, step_infeasible, step_pivoted, step_wide}
 use Rattle.dual_simplex.proofs.Choices.{place_with}
 use Rattle.dual_simplex.proofs.dual.step.Goals as goal
 

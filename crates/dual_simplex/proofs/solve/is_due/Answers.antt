@@ -1,5 +1,5 @@
 use Rattle.std.proofs.Common.{sym, ◌∙◌}
-use Rattle.simplex_model.specs.BlandRule.{chosen_row_in}
+use Rattle.simplex_theory.proofs.BlandRule.{chosen_row_in}
 use Rattle.dual_simplex.proofs.Dues.{due_some, due_none}
 use Rattle.dual_simplex.proofs.solve.is_due.Goals as goal
 

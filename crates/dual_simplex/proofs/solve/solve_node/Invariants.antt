@@ -1,5 +1,5 @@
 use Rattle.std.proofs.Common.{◌≡◌, false}
-use Rattle.simplex_model.specs.StepCounts.{steps_to_end}
+use Rattle.simplex_theory.specs.StepCounts.{steps_to_end}
 use Rattle.dual_simplex.proofs.Running.{Running}
 use Rattle.dual_simplex.proofs.solve.solve_node.Given as goal
 

@@ -1,5 +1,6 @@
 use Rattle.std.proofs.Common.{subst, sym, arith}
-use Rattle.fraction_tableau.specs.Loading.{IsUnpivoted, unpivoted-row}
+use Rattle.fraction_tableau.specs.Loading.{IsUnpivoted}
+use Rattle.fraction_tableau.proofs.LoadingLaws.{unpivoted-row}
 use Rattle.fraction_tableau.specs.NamedTableaus.{NamedTableau}
 use Rattle.dual_simplex.proofs.tests.load.Goals as goal
 

@@ -1,5 +1,6 @@
 use Rattle.std.proofs.Common.{subst, sym}
-use Rattle.fraction_tableau.specs.Loading.{IsUnpivoted, unpivoted-goal}
+use Rattle.fraction_tableau.specs.Loading.{IsUnpivoted}
+use Rattle.fraction_tableau.proofs.LoadingLaws.{unpivoted-goal}
 use Rattle.fraction_tableau.specs.NamedTableaus.{NamedTableau}
 use Rattle.dual_simplex.proofs.tests.load_goal.Goals as goal
 

@@ -1,6 +1,6 @@
 use Rattle.std.proofs.Common.{replicate, map, [], ◌∷◌, ◌++◌, pos, Vec, Global, ap, ◌∙◌}
 use Rattle.std.proofs.lemmas.List.{map-append}
-use Rattle.ratio.specs.Rational.{ℚ, whole}
+use Rattle.rational_theory.specs.Rational.{ℚ, whole}
 use Rattle.fraction_tableau.proofs.Filling.{replicate_more}
 use Rattle.fraction_tableau.proofs.fresh.zero_lines.Goals as goal
 

@@ -1,5 +1,5 @@
 use Rattle.std.proofs.Common.{◌≡◌, replicate, map, pos}
-use Rattle.ratio.specs.Rational.{whole}
+use Rattle.rational_theory.specs.Rational.{whole}
 use Rattle.fraction_tableau.proofs.fresh.zero_lines.Given as goal
 
 abbrev pub invariant-loop : goal.invariant-loop

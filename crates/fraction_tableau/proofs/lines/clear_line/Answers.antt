@@ -1,7 +1,7 @@
 use Rattle.std.proofs.Common.{length, get_or, sym, ◌∙◌, ap, arith}
 use Rattle.std.proofs.lemmas.List.{length-map}
-use Rattle.fraction_tableau.specs.Narrow.{are_narrow-set}
-use Rattle.simplex_model.specs.Lines.{cleared}
+use Rattle.fraction_tableau.proofs.Narrow.{are_narrow-set}
+use Rattle.simplex_theory.specs.Lines.{cleared}
 use Rattle.fraction_tableau.proofs.VecLists.{items_set, items_at, widths_set, written_at}
 use Rattle.fraction_tableau.proofs.lines.clear_line.Goals as goal
 

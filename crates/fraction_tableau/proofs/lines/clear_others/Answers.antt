@@ -1,6 +1,7 @@
 use Rattle.std.proofs.Common.{sym, ap, arith}
 use Rattle.std.proofs.lemmas.List.{length-map}
-use Rattle.narrow_fraction.specs.Attempt.{attempt, attempt_ok, attempt_err}
+use Rattle.narrow_fraction.specs.Attempt.{attempt}
+use Rattle.narrow_fraction.proofs.Attempt.{attempt_ok, attempt_err}
 use Rattle.fraction_tableau.proofs.Others.{others_none, others_next, others_stop}
 use Rattle.fraction_tableau.proofs.lines.clear_others.Goals as goal
 

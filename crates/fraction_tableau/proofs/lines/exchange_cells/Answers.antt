@@ -1,9 +1,11 @@
 use Rattle.std.proofs.Common.{◌≡◌, pos, length, get_or, map, [], sym, ◌∙◌, ap, arith}
 use Rattle.std.proofs.Math.ListN.{set}
 use Rattle.std.proofs.lemmas.List.{length-map, get_or_default}
-use Rattle.ratio.specs.Rational.{whole, inverse_ℚ}
-use Rattle.simplex_model.specs.Lines.{turned, turned_at}
-use Rattle.narrow_fraction.specs.Attempt.{attempt, attempt_ok, attempt_err}
+use Rattle.rational_theory.specs.Rational.{whole, inverse_ℚ}
+use Rattle.simplex_theory.specs.Lines.{turned}
+use Rattle.simplex_theory.proofs.Lines.{turned_at}
+use Rattle.narrow_fraction.specs.Attempt.{attempt}
+use Rattle.narrow_fraction.proofs.Attempt.{attempt_ok, attempt_err}
 use Rattle.fraction_tableau.proofs.VecLists.{items_at, item_set}
 use Rattle.fraction_tableau.proofs.Pivots.{pivot_first, pivot_second, pivot_last, rows_ok}
 use Rattle.fraction_tableau.proofs.lines.exchange_cells.Goals as goal

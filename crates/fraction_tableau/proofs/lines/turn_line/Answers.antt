@@ -1,8 +1,8 @@
 use Rattle.std.proofs.Common.{length, get_or, sym, ◌∙◌, ap, arith}
 use Rattle.std.proofs.lemmas.List.{length-map}
-use Rattle.fraction_tableau.specs.Narrow.{are_narrow-set}
+use Rattle.fraction_tableau.proofs.Narrow.{are_narrow-set}
 use Rattle.fraction_tableau.proofs.VecLists.{items_set, items_at, widths_set, turned_line}
-use Rattle.simplex_model.specs.Lines.{turned}
+use Rattle.simplex_theory.specs.Lines.{turned}
 use Rattle.fraction_tableau.proofs.lines.turn_line.Goals as goal
 
 pub returns-clause-kept : goal.returns-clause-kept

@@ -1,6 +1,6 @@
 use Rattle.std.proofs.Common.{pos, get_or, map, ◌++◌, ◌∷◌, [], sym, ◌∙◌, ap, arith}
 use Rattle.std.proofs.lemmas.List.{get_or-map, length-map}
-use Rattle.ratio.specs.Rational.{ℚ, whole, neg_ℚ}
+use Rattle.rational_theory.specs.Rational.{ℚ, whole, neg_ℚ}
 use Rattle.named_row.specs.Sheets.{at_place}
 use Rattle.fraction_tableau.proofs.Filling.{filled_next, filled_last}
 use Rattle.fraction_tableau.proofs.loading.copy_goal.Goals as goal

@@ -1,5 +1,5 @@
 use Rattle.std.proofs.Common.{pos, get_or, length}
-use Rattle.ratio.specs.Rational.{whole, neg_ℚ}
+use Rattle.rational_theory.specs.Rational.{whole, neg_ℚ}
 use Rattle.fraction_tableau.proofs.Filling.{Filled}
 use Rattle.fraction_tableau.proofs.loading.copy_goal.Given as goal
 

@@ -1,5 +1,5 @@
 use Rattle.std.proofs.Common.{pos, get_or, ◌++◌, ◌∷◌, [], refl, ◌∙◌, ap, arith}
-use Rattle.ratio.specs.Rational.{ℚ, whole}
+use Rattle.rational_theory.specs.Rational.{ℚ, whole}
 use Rattle.named_row.specs.Sheets.{at_place}
 use Rattle.fraction_tableau.proofs.Filling.{filled_next, filled_last, filled_narrow}
 use Rattle.fraction_tableau.proofs.loading.copy_row.Goals as goal

@@ -1,7 +1,8 @@
 use Rattle.std.proofs.Common.{pos, get_or, sym, ◌∙◌, ap, arith}
 use Rattle.std.proofs.lemmas.List.{get_or_default}
-use Rattle.ratio.specs.Rational.{whole, neg_ℚ, inverse_ℚ, ◌*ℚ◌, ◌+ℚ◌}
-use Rattle.narrow_fraction.specs.Attempt.{attempt, attempt_ok, attempt_err}
+use Rattle.rational_theory.specs.Rational.{whole, neg_ℚ, inverse_ℚ, ◌*ℚ◌, ◌+ℚ◌}
+use Rattle.narrow_fraction.specs.Attempt.{attempt}
+use Rattle.narrow_fraction.proofs.Attempt.{attempt_ok, attempt_err}
 use Rattle.fraction_tableau.proofs.DoneRows.{cleared_done}
 use Rattle.fraction_tableau.proofs.Zeros.{zero_row, zero_row_kept}
 use Rattle.fraction_tableau.proofs.Turns.{clears_none, clears_next, clears_stop, clears_end}

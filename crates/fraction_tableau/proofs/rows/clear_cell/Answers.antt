@@ -1,6 +1,6 @@
 use Rattle.std.proofs.Common.{◌≡◌, pos, sym, ◌∙◌, ap}
-use Rattle.ratio.specs.Rational.{whole, ◌*ℚ◌}
-use Rattle.ratio.specs.Laws.{*ℚ-zero}
+use Rattle.rational_theory.specs.Rational.{whole, ◌*ℚ◌}
+use Rattle.rational_theory.proofs.Arithmetic.{*ℚ-zero}
 use Rattle.narrow_fraction.specs.Attempt.{attempt}
 use Rattle.fraction_tableau.proofs.Zeros.{zero_cell, zero_kept}
 use Rattle.fraction_tableau.proofs.rows.clear_cell.Goals as goal

@@ -1,9 +1,10 @@
 use Rattle.std.proofs.Common.{pos, get_or, sym, ◌∙◌, ap, arith}
 use Rattle.std.proofs.lemmas.List.{get_or_default}
-use Rattle.ratio.specs.Rational.{whole, inverse_ℚ, ◌*ℚ◌}
-use Rattle.ratio.specs.Ring.{one-*ℚ}
+use Rattle.rational_theory.specs.Rational.{whole, inverse_ℚ, ◌*ℚ◌}
+use Rattle.rational_theory.proofs.Ring.{one-*ℚ}
 use Rattle.fraction_tableau.specs.Refusals.{refused}
-use Rattle.narrow_fraction.specs.Attempt.{attempt, attempt_ok, attempt_err}
+use Rattle.narrow_fraction.specs.Attempt.{attempt}
+use Rattle.narrow_fraction.proofs.Attempt.{attempt_ok, attempt_err}
 use Rattle.narrow_fraction.specs.declared.wide.Op.TheVariants.{Div}
 use Rattle.fraction_tableau.proofs.DoneRows.{turned_done}
 use Rattle.fraction_tableau.proofs.Turns.{turns_none, turns_next, turns_stop, turns_done, turns_first}

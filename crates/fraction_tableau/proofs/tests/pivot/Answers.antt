@@ -1,7 +1,7 @@
 use Rattle.std.proofs.Common.{eqb, sym, ◌∙◌, arith}
 use Rattle.std.proofs.lemmas.Bool.{cond-false, ne_eqb}
-use Rattle.ratio.specs.Compare.{eq_false}
-use Rattle.simplex_model.specs.Tableau.{height}
+use Rattle.rational_theory.proofs.Compare.{eq_false}
+use Rattle.simplex_theory.specs.Tableau.{height}
 use Rattle.fraction_tableau.proofs.tests.pivot.Goals as goal
 
 pub pivot-requires-clause-pivot : goal.pivot-requires-clause-pivot

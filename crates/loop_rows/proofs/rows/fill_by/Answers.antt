@@ -1,6 +1,6 @@
 use Rattle.std.proofs.Common.{refl, ap, ◌∙◌, length}
-use Rattle.loop_rows.specs.Meeting.{filled_form}
-use Rattle.loop_rows.specs.Writing.{written_width}
+use Rattle.loop_rows.proofs.Meeting.{filled_form}
+use Rattle.loop_rows.proofs.Writing.{written_width}
 use Rattle.named_row.specs.Sheets.{Sheet}
 use Rattle.loop_rows.proofs.rows.fill_by.Goals as goal
 

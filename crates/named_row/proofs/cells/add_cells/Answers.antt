@@ -1,7 +1,8 @@
 use Rattle.std.proofs.Common.{pos, length, sym, ◌∙◌, ap, ap₂, arith}
 use Rattle.std.proofs.lemmas.List.{get_or_default}
-use Rattle.ratio.specs.Rational.{whole}
-use Rattle.narrow_fraction.specs.Attempt.{attempt, attempt_err, first_is}
+use Rattle.rational_theory.specs.Rational.{whole}
+use Rattle.narrow_fraction.specs.Attempt.{attempt}
+use Rattle.narrow_fraction.proofs.Attempt.{attempt_err, first_is}
 use Rattle.named_row.specs.declared.names.Place.TheVariants.{Cell}
 use Rattle.named_row.specs.Refusals.{place_refusal, cell_refusal}
 use Rattle.named_row.proofs.Columns.{sum_is}

@@ -1,5 +1,5 @@
 use Rattle.std.proofs.Common.{◌≡◌, Ok, sym, ◌∙◌, ap, subst}
-use Rattle.ratio.specs.Rational.{◌+ℚ◌, ◌*ℚ◌}
+use Rattle.rational_theory.specs.Rational.{◌+ℚ◌, ◌*ℚ◌}
 use Rattle.narrow_fraction.specs.Fraction.{FitsFrac}
 use Rattle.narrow_fraction.specs.Attempt.{attempt}
 use Rattle.named_row.proofs.Zeros.{zero_passes, zero_stays}

@@ -1,7 +1,8 @@
 use Rattle.std.proofs.Common.{pos, length, sym, ◌∙◌, ap, ap₂, arith}
 use Rattle.std.proofs.lemmas.List.{get_or_default}
-use Rattle.ratio.specs.Rational.{whole}
-use Rattle.narrow_fraction.specs.Attempt.{attempt, refusal_if, first_is}
+use Rattle.rational_theory.specs.Rational.{whole}
+use Rattle.narrow_fraction.specs.Attempt.{attempt, refusal_if}
+use Rattle.narrow_fraction.proofs.Attempt.{first_is}
 use Rattle.named_row.specs.declared.names.Place.TheVariants.{Cell}
 use Rattle.named_row.specs.Covering.{below, number_at}
 use Rattle.named_row.proofs.cells.none_negative.Goals as goal

@@ -1,5 +1,5 @@
 use Rattle.std.proofs.Common.{◌≡◌, None, pos}
-use Rattle.ratio.specs.Rational.{whole}
+use Rattle.rational_theory.specs.Rational.{whole}
 use Rattle.narrow_fraction.specs.Attempt.{first_below}
 use Rattle.named_row.specs.Covering.{below, number_at}
 use Rattle.named_row.proofs.cells.none_negative.Given as goal

@@ -1,6 +1,7 @@
 use Rattle.std.proofs.Common.{◌≡◌, ℕ, ◌∙◌, sym, ◌⊎◌, inl, inr}
-use Rattle.ratio.specs.Fractions.{gcd-step, gcd-zero, gcd_pos, gcd-one, one-gcd}
-use Rattle.ratio.specs.Gcd.{gcd}
+use Rattle.rational_theory.proofs.Fractions.{gcd-step, gcd-zero, gcd-one, one-gcd}
+use Rattle.rational_theory.specs.laws.Fractions.{gcd_pos}
+use Rattle.rational_theory.specs.Gcd.{gcd}
 use Rattle.narrow_fraction.proofs.divisor.common_divisor.Goals as goal
 
 one_divides : (a b : ℕ) → (a ≡ 1) ⊎ ((a ≡ 1 → ⊥) × (b ≡ 1)) → 1 ≡ gcd a b

@@ -1,5 +1,6 @@
 use Rattle.std.proofs.Common.{arith, ◌∙◌, sym}
-use Rattle.ratio.specs.Fractions.{gcd-step, gcd-zero, gcd_pos, gcd-one, one-gcd}
+use Rattle.rational_theory.proofs.Fractions.{gcd-step, gcd-zero, gcd-one, one-gcd}
+use Rattle.rational_theory.specs.laws.Fractions.{gcd_pos}
 use Rattle.narrow_fraction.proofs.divisor.word_divisor.Goals as goal
 
 pub returns-then-a-eq1-clause-value : goal.returns-then-a-eq1-clause-value

@@ -1,5 +1,5 @@
 use Rattle.std.proofs.Common.{◌≡◌}
-use Rattle.ratio.specs.Gcd.{gcd}
+use Rattle.rational_theory.specs.Gcd.{gcd}
 use Rattle.narrow_fraction.proofs.divisor.word_divisor.Given as goal
 
 abbrev pub invariant-steps : goal.invariant-steps

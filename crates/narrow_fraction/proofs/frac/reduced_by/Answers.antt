@@ -1,7 +1,7 @@
 use Rattle.std.proofs.Common.{SFits}
 use Rattle.std.specs.Int.{w128}
 use Rattle.std.proofs.lemmas.Int.{to_z-of_z}
-use Rattle.ratio.specs.Fractions.{part_pos, parts_reduced, gcd_pos}
+use Rattle.rational_theory.specs.laws.Fractions.{part_pos, parts_reduced, gcd_pos}
 use Rattle.narrow_fraction.proofs.Parts.{over-parts}
 use Rattle.narrow_fraction.proofs.frac.reduced_by.Goals as goal
 

@@ -1,5 +1,5 @@
 use Rattle.std.proofs.Common.{arith, mul-pos}
-use Rattle.ratio.specs.Fractions.{part_pos}
+use Rattle.rational_theory.specs.laws.Fractions.{part_pos}
 use Rattle.narrow_fraction.proofs.Parts.{cross-over, cross_reduced, product_fits}
 use Rattle.narrow_fraction.proofs.products.product_of_any.Goals as goal
 

@@ -1,6 +1,6 @@
 use Rattle.std.proofs.Common.{rules, Option, Some, None, SomeIff, ◌∙◌, sym}
-use Rattle.ratio.specs.Rational.{ℚ, ◌+ℚ◌}
-use Rattle.ratio.specs.Laws.{+ℚ_comm}
+use Rattle.rational_theory.specs.Rational.{ℚ, ◌+ℚ◌}
+use Rattle.rational_theory.proofs.Arithmetic.{+ℚ_comm}
 use Rattle.narrow_fraction.specs.Past128.{SumFits}
 use Rattle.narrow_fraction.proofs.OneDenominator.{fits_comm, zero_sum}
 use Rattle.narrow_fraction.proofs.Short.{short_fits}

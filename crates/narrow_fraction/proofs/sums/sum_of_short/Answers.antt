@@ -1,7 +1,7 @@
 use Rattle.std.proofs.Common.{◌+ℤ◌, SFits, arith, mul-pos, ◌∙◌}
 use Rattle.std.specs.Int.{w128}
 use Rattle.std.proofs.lemmas.Int.{ints, to_z-of_z}
-use Rattle.ratio.specs.Fractions.{part_pos}
+use Rattle.rational_theory.specs.laws.Fractions.{part_pos}
 use Rattle.narrow_fraction.proofs.OneDenominator.{sum-over, top_gcd, fits_i128}
 use Rattle.narrow_fraction.proofs.sums.sum_of_short.Goals as goal
 

@@ -1,7 +1,7 @@
 use Rattle.std.proofs.Common.{◌+ℤ◌, ◌∙◌, sym, ap, to_z}
 use Rattle.std.specs.Int.{w128}
 use Rattle.std.proofs.lemmas.Int.{to_z-of_z}
-use Rattle.ratio.specs.Rational.{over}
+use Rattle.rational_theory.specs.Rational.{over}
 use Rattle.narrow_fraction.proofs.Parts.{zero_over}
 use Rattle.narrow_fraction.proofs.OneDenominator.{same_fits, fits_same, same_sum, fits_i128}
 use Rattle.narrow_fraction.proofs.sums.sum_over_same.Goals as goal

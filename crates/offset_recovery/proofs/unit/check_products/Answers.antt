@@ -1,8 +1,9 @@
 use Rattle.std.proofs.Common.{ap, sym, arith}
 use Rattle.std.proofs.lemmas.Result.{err_from_is_err_and}
 use Rattle.progression.specs.Street.{count}
-use Rattle.linear_model.specs.Places.{width}
-use Rattle.narrow_fraction.specs.Attempt.{attempt, attempt_err, first_is}
+use Rattle.linear_theory.specs.Places.{width}
+use Rattle.narrow_fraction.specs.Attempt.{attempt}
+use Rattle.narrow_fraction.proofs.Attempt.{attempt_err, first_is}
 use Rattle.offset_recovery.specs.Tests.{product_test}
 use Rattle.offset_recovery.proofs.unit.check_products.Goals as goal
 

@@ -1,6 +1,6 @@
 use Rattle.progression.specs.Street.{count}
-use Rattle.linear_model.specs.Places.{width}
-use Rattle.narrow_fraction.specs.Attempt.{attempt_ok, none_each}
+use Rattle.linear_theory.specs.Places.{width}
+use Rattle.narrow_fraction.proofs.Attempt.{attempt_ok, none_each}
 use Rattle.offset_recovery.specs.Tests.{product_test}
 use Rattle.offset_recovery.specs.Numbers.{ProductsFit}
 use Rattle.offset_recovery.proofs.Parts.{on_ok}

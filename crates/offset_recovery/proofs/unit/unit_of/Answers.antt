@@ -1,9 +1,10 @@
 use Rattle.std.proofs.Common.{◌≡◌, ◌<◌, ◌^◌, ◌∙◌, ap, sym, subst, arith, None, refl}
 use Rattle.std.proofs.lemmas.Result.{err_from_is_err_and}
 use Rattle.progression.specs.Street.{count}
-use Rattle.linear_model.specs.Places.{width}
-use Rattle.narrow_fraction.specs.Attempt.{attempt, attempt_err, first_below, first_is}
-use Rattle.recovery_model.specs.Ticks.{unit_of}
+use Rattle.linear_theory.specs.Places.{width}
+use Rattle.narrow_fraction.specs.Attempt.{attempt, first_below}
+use Rattle.narrow_fraction.proofs.Attempt.{attempt_err, first_is}
+use Rattle.recovery_theory.specs.Ticks.{unit_of}
 use Rattle.offset_recovery.specs.Tests.{unit_test}
 use Rattle.offset_recovery.proofs.Parts.{common_first, unit_is, two_small, unit_answered}
 use Rattle.offset_recovery.proofs.unit.unit_of.Goals as goal

@@ -1,5 +1,6 @@
 use Rattle.std.proofs.Common.{◌∙◌, ap}
-use Rattle.simplex_model.specs.Tableau.{width, width-exchange}
+use Rattle.simplex_theory.specs.Tableau.{width}
+use Rattle.simplex_theory.proofs.Tableau.{width-exchange}
 use Rattle.fraction_tableau.specs.NamedTableaus.{NamedTableau}
 use Rattle.pivot_bench.proofs.rounds.makes_pivot.Goals as goal
 

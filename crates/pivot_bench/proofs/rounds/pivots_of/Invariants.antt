@@ -1,6 +1,6 @@
 use Rattle.std.proofs.Common.{◌≡◌, length}
 use Rattle.progression.specs.Street.{count}
-use Rattle.linear_model.specs.Places as places
+use Rattle.linear_theory.specs.Places as places
 use Rattle.program_builder.specs.Building.{IsMadeFor}
 use Rattle.pivot_bench.proofs.rounds.pivots_of.Given as goal
 

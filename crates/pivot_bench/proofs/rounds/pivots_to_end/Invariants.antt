@@ -1,6 +1,6 @@
 use Rattle.std.proofs.Common.{◌≡◌, false}
-use Rattle.simplex_model.specs.Tableau.{height, width}
-use Rattle.simplex_model.specs.DualSteps.{IsDual}
+use Rattle.simplex_theory.specs.Tableau.{height, width}
+use Rattle.simplex_theory.specs.DualSteps.{IsDual}
 use Rattle.pivot_bench.proofs.rounds.pivots_to_end.Given as goal
 
 -- the tableau is ready for a step, and has its first size

@@ -2,7 +2,7 @@ use Rattle.std.proofs.Common.{◌≡◌, ◌+◌, ◌-◌, ◌^◌, ◌∙◌, a
 use Rattle.std.specs.Str.Parse.{digits_value}
 use Rattle.std.proofs.lemmas.Int.Digits.{digits_more}
 use Rattle.std.proofs.lemmas.List.{take_all}
-use Rattle.quantity_text.specs.Numerals.{no_digit, front_large}
+use Rattle.quantity_text.proofs.Numerals.{no_digit, front_large}
 use Rattle.quantity_text.proofs.Runs.{run_more}
 use Rattle.quantity_text.proofs.digits.number.Goals as goal
 

@@ -1,5 +1,5 @@
 use Rattle.std.proofs.Common.{true, drop, refl}
-use Rattle.ratio.specs.Rational.{ℚ}
+use Rattle.rational_theory.specs.Rational.{ℚ}
 use Rattle.quantity_text.specs.Exact.{SpellsExactly, SpellsSigned}
 use Rattle.quantity_text.proofs.ExactTexts.{none_weaker, minus_out, rest_all}
 use Rattle.quantity_text.proofs.exact_read.exact.Goals as goal

@@ -1,5 +1,5 @@
 use Rattle.std.proofs.Common.{◌∙◌}
-use Rattle.quantity_text.specs.ExactParts.{numerator_is, denominator_is}
+use Rattle.quantity_text.proofs.ExactParts.{numerator_is, denominator_is}
 use Rattle.quantity_text.proofs.ExactTexts.{rest_all}
 use Rattle.quantity_text.proofs.exact_read.size_of.Goals as goal
 

@@ -1,4 +1,4 @@
-use Rattle.ratio.specs.Rational.{ℚ}
+use Rattle.rational_theory.specs.Rational.{ℚ}
 use Rattle.quantity_text.specs.Exact.{HasParts, SpellsSigned}
 use Rattle.quantity_text.proofs.ExactTexts.{none_weaker, parts_agree}
 use Rattle.quantity_text.proofs.exact_read.with_sign.Goals as goal

@@ -1,6 +1,6 @@
 use Rattle.std.proofs.Common.{arith, refl}
 use Rattle.std.proofs.lemmas.Bool.{false≢true}
-use Rattle.quantity_text.specs.Numerals.{is_numeral, numeral_value, numeral_is}
+use Rattle.quantity_text.proofs.Numerals.{is_numeral, numeral_value, numeral_is}
 use Rattle.quantity_text.proofs.numeral.numeral.Goals as goal
 
 pub returns-then-not-leads-clause-none : goal.returns-then-not-leads-clause-none

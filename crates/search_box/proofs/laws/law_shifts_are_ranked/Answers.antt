@@ -1,7 +1,7 @@
 use Rattle.std.proofs.Common.{◌∙◌}
-use Rattle.linear_model.specs.Shifts.{shifts_of}
-use Rattle.linear_model.specs.RankedShifts.{ranked, rising_strictly, shifts_ascend}
-use Rattle.linear_model.specs.ShiftSizes.{shift_count_most}
+use Rattle.linear_theory.specs.Shifts.{shifts_of}
+use Rattle.linear_theory.proofs.RankedShifts.{ranked, rising_strictly, shifts_ascend}
+use Rattle.linear_theory.proofs.ShiftSizes.{shift_count_most}
 use Rattle.search_box.proofs.Ranked.{rank_allowed}
 use Rattle.search_box.proofs.laws.law_shifts_are_ranked.Goals as goal
 

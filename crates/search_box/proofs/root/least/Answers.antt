@@ -1,11 +1,12 @@
 use Rattle.std.proofs.Common.{◌≡◌, to_z, of_z, sym, ◌∙◌, ap, arith}
 use Rattle.std.specs.Int.{w64, w128}
 use Rattle.std.proofs.lemmas.Int.{ints}
-use Rattle.ratio.specs.Floor.{ceil_ℚ}
+use Rattle.rational_theory.specs.Floor.{ceil_ℚ}
 use Rattle.progression.specs.declared.parts.Pair.{Pair}
 use Rattle.progression.specs.declared.parts.Dir.TheVariants.{Outbound, Inbound}
-use Rattle.linear_model.specs.Boxes.{run_least}
-use Rattle.linear_model.specs.Spans.{least_parts, least_sum_is}
+use Rattle.linear_theory.specs.Boxes.{run_least}
+use Rattle.linear_theory.specs.Spans.{least_parts}
+use Rattle.linear_theory.proofs.Spans.{least_sum_is}
 use Rattle.search_box.specs.Sums.{share_of}
 use Rattle.search_box.proofs.Sums.{with_shares}
 use Rattle.search_box.proofs.root.least.Goals as goal

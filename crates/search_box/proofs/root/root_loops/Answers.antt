@@ -1,5 +1,5 @@
 use Rattle.std.proofs.Common.{◌∙◌, ap, map}
-use Rattle.linear_model.specs.Boxes.{root_span}
+use Rattle.linear_theory.specs.Boxes.{root_span}
 use Rattle.search_box.specs.Seen.{span_of}
 use Rattle.search_box.proofs.Numbered.{item_more}
 use Rattle.search_box.proofs.root.root_loops.Goals as goal

@@ -1,6 +1,6 @@
 use Rattle.std.proofs.Common.{◌≡◌, ◌-◌, map}
 use Rattle.progression.specs.Columns.{numbered}
-use Rattle.linear_model.specs.Boxes.{root_span}
+use Rattle.linear_theory.specs.Boxes.{root_span}
 use Rattle.search_box.specs.Seen.{span_of}
 use Rattle.search_box.proofs.root.root_loops.Given as goal
 

@@ -1,7 +1,7 @@
 use Rattle.std.proofs.Common.{◌≤◌, inl, inr, ◌∙◌, ap, sym, subst, map, arith}
 use Rattle.std.proofs.lemmas.Bool.{cases_eq}
-use Rattle.linear_model.specs.Shifts.{shift_count}
-use Rattle.linear_model.specs.Boxes.{root_ranks}
+use Rattle.linear_theory.specs.Shifts.{shift_count}
+use Rattle.linear_theory.specs.Boxes.{root_ranks}
 use Rattle.search_box.specs.Seen.{ranks_of}
 use Rattle.search_box.proofs.Numbered.{item_more}
 use Rattle.search_box.proofs.root.root_turns.Goals as goal

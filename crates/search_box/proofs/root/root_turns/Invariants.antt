@@ -1,7 +1,7 @@
 use Rattle.std.proofs.Common.{◌≡◌, ℕ, ◌-◌, ◌<◌, ◌≤◌, map}
 use Rattle.progression.specs.Columns.{numbered}
-use Rattle.linear_model.specs.Shifts.{shift_count}
-use Rattle.linear_model.specs.Boxes.{root_ranks}
+use Rattle.linear_theory.specs.Shifts.{shift_count}
+use Rattle.linear_theory.specs.Boxes.{root_ranks}
 use Rattle.search_box.specs.Seen.{ranks_of}
 use Rattle.search_box.proofs.root.root_turns.Given as goal
 

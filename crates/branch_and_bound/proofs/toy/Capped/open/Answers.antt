@@ -2,7 +2,7 @@ use Rattle.std.proofs.Common.{◌≡◌, arith, subst}
 use Rattle.std.proofs.lemmas.Int.{ints}
 use mir.Val.{to_z, of_z}
 use mir.Syntax.{w64}
-use Rattle.branch_and_bound.specs.Capped.{EndsAs}
+use Rattle.branch_and_bound.specs.CappedRules.{EndsAs}
 use Rattle.branch_and_bound.proofs.Capping.{finished}
 use Rattle.branch_and_bound.proofs.toy.Capped.open.Goals as goal
 

@@ -1,5 +1,5 @@
 use Rattle.std.proofs.Common.{refl}
-use Rattle.node_tree.specs.Lines.{top_line}
+use Rattle.branch_and_bound.specs.Lines.{top_line}
 use Rattle.branch_and_bound.proofs.toy.CappedRelaxation.open_root.Goals as goal
 
 pub returns-clause-opens : goal.returns-clause-opens

@@ -1,8 +1,8 @@
 use Rattle.std.proofs.Common.{◌∙◌, ap, sym, subst, arith}
 use Rattle.std.proofs.lemmas.Int.{ints}
-use Rattle.ratio.specs.Rational.{whole, ◌≤ℚ◌}
-use Rattle.ratio.specs.Order.{whole-≤ℤ}
-use Rattle.linear_model.specs.Boxes.{Area}
+use Rattle.rational_theory.specs.Rational.{whole, ◌≤ℚ◌}
+use Rattle.rational_theory.proofs.Order.{whole-≤ℤ}
+use Rattle.linear_theory.specs.Boxes.{Area}
 use Rattle.search_box.specs.Seen.{span_of}
 use Rattle.branch_and_bound.specs.Capped.{IsNumber}
 use Rattle.branch_and_bound.proofs.Capping.{first_is}

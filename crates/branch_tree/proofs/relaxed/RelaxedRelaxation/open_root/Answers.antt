@@ -1,5 +1,5 @@
 use Rattle.std.proofs.Common.{refl}
-use Rattle.node_tree.specs.Lines.{top_line}
+use Rattle.branch_and_bound.specs.Lines.{top_line}
 use Rattle.branch_tree.proofs.Opens.{ok_map}
 use Rattle.branch_tree.proofs.relaxed.RelaxedRelaxation.open_root.Goals as goal
 

@@ -1,7 +1,7 @@
 use Rattle.std.proofs.Common.{◌≡◌, ℕ, length, get_or, map, Vec, Global, ◌<◌, ◌≤◌, vec_len, sym, ap, subst, arith}
 use Rattle.std.proofs.lemmas.List.{length-map}
-use Rattle.ratio.specs.Rational.{ℚ}
-use Rattle.simplex_model.specs.Tableau.{height, width}
+use Rattle.rational_theory.specs.Rational.{ℚ}
+use Rattle.simplex_theory.specs.Tableau.{height, width}
 use Rattle.fraction_tableau.specs.NamedTableaus.{NamedTableau}
 use Rattle.fraction_tableau.proofs.VecLists.{items_at}
 use Rattle.fraction_tableau.proofs.tableau.Tableau.cell.Goals as goal

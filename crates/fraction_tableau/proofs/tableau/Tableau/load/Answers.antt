@@ -1,7 +1,7 @@
 use Rattle.std.proofs.Common.{◌≡◌, length, map, get_or, set, ◌<◌, [], Vec, Global, ◌+◌, refl, sym, ◌∙◌, ap, subst, arith}
 use Rattle.std.proofs.lemmas.List.{length-map}
-use Rattle.ratio.specs.Rational.{ℚ}
-use Rattle.simplex_model.specs.Tableau.{height, width}
+use Rattle.rational_theory.specs.Rational.{ℚ}
+use Rattle.simplex_theory.specs.Tableau.{height, width}
 use Rattle.fraction_tableau.specs.Narrow.{IsNarrow}
 use Rattle.fraction_tableau.specs.NamedTableaus.{NamedTableau, IsSound, with_row}
 use Rattle.fraction_tableau.proofs.VecLists.{items_at, items_set}

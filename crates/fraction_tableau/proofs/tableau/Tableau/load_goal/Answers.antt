@@ -2,8 +2,8 @@ use Rattle.std.proofs.Common.{◌≡◌, length, map, Vec, Global, sym, ◌∙�
 use Rattle.std.specs.Vec.{with_items}
 use Rattle.std.specs.List.{range_with_len}
 use Rattle.std.proofs.lemmas.List.{with_items_is}
-use Rattle.ratio.specs.Rational.{ℚ}
-use Rattle.simplex_model.specs.Tableau.{width}
+use Rattle.rational_theory.specs.Rational.{ℚ}
+use Rattle.simplex_theory.specs.Tableau.{width}
 use Rattle.fraction_tableau.specs.Narrow.{IsNarrow}
 use Rattle.fraction_tableau.specs.NamedTableaus.{NamedTableau, IsSound, goal_cells, with_goal}
 use Rattle.fraction_tableau.proofs.Tableaus.{goal_is, sound_goal}

@@ -1,6 +1,6 @@
 use Rattle.std.proofs.Common.{length, ◌+◌, pos, sym, ◌∙◌, ap, subst}
 use Rattle.std.proofs.lemmas.List.{length-replicate}
-use Rattle.ratio.specs.Rational.{whole}
+use Rattle.rational_theory.specs.Rational.{whole}
 use Rattle.fraction_tableau.specs.NamedTableaus.{NamedTableau, IsSound}
 use Rattle.fraction_tableau.proofs.Tableaus.{blank_is, sound_blank}
 use Rattle.fraction_tableau.proofs.tableau.Tableau.new.Goals as goal

@@ -2,9 +2,9 @@ use Rattle.std.proofs.Common.{◌≡◌, length, List, get_or, map, [], ◌<◌,
 use Rattle.std.proofs.Math.ListN.{set}
 use Rattle.std.specs.Vec.{with_items}
 use Rattle.std.proofs.lemmas.List.{with_items_is, get_or_default, length-map}
-use Rattle.ratio.specs.Rational.{ℚ}
-use Rattle.simplex_model.specs.Lines.{turned, cleared}
-use Rattle.simplex_model.specs.Tableau.{Tableau, exchange, height, width}
+use Rattle.rational_theory.specs.Rational.{ℚ}
+use Rattle.simplex_theory.specs.Lines.{turned, cleared}
+use Rattle.simplex_theory.specs.Tableau.{Tableau, exchange, height, width}
 use Rattle.fraction_tableau.specs.Narrow.{IsNarrow, AreNarrow}
 use Rattle.fraction_tableau.specs.Refusals.{exchanged_rows}
 use Rattle.fraction_tableau.specs.NamedTableaus.{NamedTableau}

@@ -1,5 +1,5 @@
 use Rattle.std.proofs.Common.{Ok, ap, refl, ◌∙◌}
-use Rattle.fraction_tableau.specs.Refusals.{refused_none, refused_some}
+use Rattle.fraction_tableau.proofs.Refusals.{refused_none, refused_some}
 use Rattle.fraction_tableau.proofs.wide_cell.Spot.minus.Goals as goal
 
 pub returns-in-Ok-clause-outcome : goal.returns-in-Ok-clause-outcome

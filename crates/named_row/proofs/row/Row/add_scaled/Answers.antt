@@ -1,8 +1,9 @@
 use Rattle.std.proofs.Common.{length, sym, ◌∙◌, ap, ap₂}
 use Rattle.std.proofs.lemmas.List.{with_items_is}
-use Rattle.ratio.specs.Rational.{◌+ℚ◌, ◌*ℚ◌}
-use Rattle.ratio.specs.Rows.{add, scale}
-use Rattle.narrow_fraction.specs.Attempt.{attempt, attempt_err, attempt_ok, first_below}
+use Rattle.rational_theory.specs.Rational.{◌+ℚ◌, ◌*ℚ◌}
+use Rattle.rational_theory.specs.Rows.{add, scale}
+use Rattle.narrow_fraction.specs.Attempt.{attempt, first_below}
+use Rattle.narrow_fraction.proofs.Attempt.{attempt_err, attempt_ok}
 use Rattle.named_row.specs.Sheets.{Sheet}
 use Rattle.named_row.specs.declared.names.Place.TheVariants.{Bound}
 use Rattle.named_row.specs.Refusals.{place_refusal, cell_refusal}

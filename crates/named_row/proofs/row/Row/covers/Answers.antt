@@ -1,7 +1,8 @@
 use Rattle.std.proofs.Common.{length, sym, ◌∙◌, ap, ap₂}
 use Rattle.std.specs.Ordering.{is_lt}
-use Rattle.ratio.specs.Compare.{cmp_ℚ}
-use Rattle.narrow_fraction.specs.Attempt.{attempt, attempt_err, attempt_ok, first_below}
+use Rattle.rational_theory.specs.Compare.{cmp_ℚ}
+use Rattle.narrow_fraction.specs.Attempt.{attempt, first_below}
+use Rattle.narrow_fraction.proofs.Attempt.{attempt_err, attempt_ok}
 use Rattle.named_row.specs.Sheets.{Sheet}
 use Rattle.named_row.specs.Covering.{below, number_at}
 use Rattle.named_row.proofs.Whole.{cell_uncovered, bound_uncovered, all_covered, covers}

@@ -1,8 +1,9 @@
 use Rattle.std.proofs.Common.{pos, length, sym, ◌∙◌, ap, ap₂}
 use Rattle.std.specs.Ordering.{is_le}
-use Rattle.ratio.specs.Rational.{whole}
-use Rattle.ratio.specs.Compare.{cmp_ℚ}
-use Rattle.narrow_fraction.specs.Attempt.{attempt, attempt_err, attempt_ok, first_below}
+use Rattle.rational_theory.specs.Rational.{whole}
+use Rattle.rational_theory.specs.Compare.{cmp_ℚ}
+use Rattle.narrow_fraction.specs.Attempt.{attempt, first_below}
+use Rattle.narrow_fraction.proofs.Attempt.{attempt_err, attempt_ok}
 use Rattle.named_row.specs.Sheets.{Sheet}
 use Rattle.named_row.specs.Covering.{below, number_at}
 use Rattle.named_row.proofs.Whole.{cell_unrefuted, bound_unrefuted, all_refuted, refutes}

@@ -1,8 +1,8 @@
 use Rattle.std.proofs.Common.{arith, SFits, ◌∙◌}
 use Rattle.std.specs.Int.{w128}
 use Rattle.std.proofs.lemmas.Int.{ints, to_z-of_z}
-use Rattle.ratio.specs.Rational.{abs_ℚ}
-use Rattle.narrow_fraction.specs.Views.{fields_are}
+use Rattle.rational_theory.specs.Rational.{abs_ℚ}
+use Rattle.narrow_fraction.proofs.Views.{fields_are}
 use Rattle.narrow_fraction.proofs.frac.Frac.abs.Goals as goal
 
 pub returns-then-self-lt0 : goal.returns-then-self-lt0

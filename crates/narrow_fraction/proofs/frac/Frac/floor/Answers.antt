@@ -1,8 +1,8 @@
 use Rattle.std.proofs.Common.{◌≡◌, arith, pos, SFits, ◌∙◌, to_z, of_z}
 use Rattle.std.specs.Int.{w128}
 use Rattle.std.proofs.lemmas.Int.{ints, to_z-of_z}
-use Rattle.ratio.specs.Floor.{floor_ℚ}
-use Rattle.narrow_fraction.specs.Views.{fields_are}
+use Rattle.rational_theory.specs.Floor.{floor_ℚ}
+use Rattle.narrow_fraction.proofs.Views.{fields_are}
 use Rattle.narrow_fraction.proofs.frac.Frac.floor.Goals as goal
 
 pub returns : goal.returns

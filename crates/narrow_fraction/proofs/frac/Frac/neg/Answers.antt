@@ -1,8 +1,8 @@
 use Rattle.std.proofs.Common.{arith, to_z, of_z}
 use Rattle.std.specs.Int.{w128}
 use Rattle.std.proofs.lemmas.Int.{ints}
-use Rattle.ratio.specs.Rational.{neg_ℚ}
-use Rattle.narrow_fraction.specs.Views.{fields_are, view_own}
+use Rattle.rational_theory.specs.Rational.{neg_ℚ}
+use Rattle.narrow_fraction.proofs.Views.{fields_are, view_own}
 use Rattle.narrow_fraction.proofs.frac.Frac.neg.Goals as goal
 
 pub returns : goal.returns

@@ -1,7 +1,7 @@
 use Rattle.std.proofs.Common.{arith, ◌<◌, unsigned_abs, SFits, ap, of_z}
 use Rattle.std.specs.Int.{w128}
 use Rattle.std.proofs.lemmas.Int.{ints, to_z-of_z}
-use Rattle.ratio.specs.Fractions.{part_pos, parts_reduced}
+use Rattle.rational_theory.specs.laws.Fractions.{part_pos, parts_reduced}
 use Rattle.narrow_fraction.proofs.Parts.{quotient-parts}
 use Rattle.narrow_fraction.proofs.frac.Frac.new.Goals as goal
 

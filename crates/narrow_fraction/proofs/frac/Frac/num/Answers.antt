@@ -1,7 +1,7 @@
 use Rattle.std.proofs.Common.{arith, SFits}
 use Rattle.std.specs.Int.{w128}
 use Rattle.std.proofs.lemmas.Int.{ints, to_z-of_z}
-use Rattle.narrow_fraction.specs.Views.{fields_are}
+use Rattle.narrow_fraction.proofs.Views.{fields_are}
 use Rattle.narrow_fraction.proofs.frac.Frac.num.Goals as goal
 
 pub returns-clause-value : goal.returns-clause-value

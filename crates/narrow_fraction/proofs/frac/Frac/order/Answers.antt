@@ -1,7 +1,8 @@
 use Rattle.std.proofs.Common.{sym, ◌∙◌, ◌≡◌, Ordering, Less, Greater}
 use Rattle.std.specs.Ordering.{MatchOrdering}
-use Rattle.ratio.specs.Rational.{ℚ, ◌<ℚ◌}
-use Rattle.ratio.specs.Compare.{cmp_ℚ, cmp_ℚ-is}
+use Rattle.rational_theory.specs.Rational.{ℚ, ◌<ℚ◌}
+use Rattle.rational_theory.specs.Compare.{cmp_ℚ}
+use Rattle.rational_theory.proofs.Compare.{cmp_ℚ-is}
 use Rattle.narrow_fraction.proofs.Steps.{rank_positive, rank_negative, rank_apart, rank_ℚ}
 use Rattle.narrow_fraction.proofs.frac.Frac.order.Goals as goal
 

@@ -1,8 +1,8 @@
 use Rattle.std.proofs.Common.{arith, SFits, to_z, of_z, pos, ◌-ℤ◌}
 use Rattle.std.specs.Int.{w128}
 use Rattle.std.proofs.lemmas.Int.{ints, to_z-of_z}
-use Rattle.ratio.specs.Rational.{inverse_ℚ}
-use Rattle.narrow_fraction.specs.Views.{fields_are, view_own, lowest_own}
+use Rattle.rational_theory.specs.Rational.{inverse_ℚ}
+use Rattle.narrow_fraction.proofs.Views.{fields_are, view_own, lowest_own}
 use Rattle.narrow_fraction.proofs.Reciprocals.{inverse_below, inverse_above}
 use Rattle.narrow_fraction.proofs.frac.Frac.reciprocal.Goals as goal
 

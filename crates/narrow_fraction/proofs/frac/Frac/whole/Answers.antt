@@ -1,7 +1,7 @@
 use Rattle.std.proofs.Common.{arith, refl}
 use Rattle.std.proofs.lemmas.Int.{ints}
-use Rattle.ratio.specs.Rational.{whole}
-use Rattle.narrow_fraction.specs.Views.{lowest_own, view_own}
+use Rattle.rational_theory.specs.Rational.{whole}
+use Rattle.narrow_fraction.proofs.Views.{lowest_own, view_own}
 use Rattle.narrow_fraction.proofs.frac.Frac.whole.Goals as goal
 
 pub invariant_of-result : goal.invariant_of-result

@@ -1,8 +1,8 @@
 use Rattle.std.proofs.Common.{◌≤◌, arith}
 use Rattle.progression.specs.Street.{Street, count}
 use Rattle.artery_model.specs.Valid.{IsValid}
-use Rattle.linear_model.specs.Roots.{root_law}
-use Rattle.search_box.specs.Streets.{street_of}
+use Rattle.linear_theory.proofs.Roots.{root_law}
+use Rattle.search_box.proofs.Streets.{street_of}
 use Rattle.search_box.proofs.Views.{root_of, root_boxed_of}
 use Rattle.search_box.proofs.area.SearchBox.root.Goals as goal
 

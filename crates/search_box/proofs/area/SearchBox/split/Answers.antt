@@ -1,7 +1,7 @@
 use Rattle.std.proofs.Common.{to_z, of_z}
 use Rattle.std.specs.Int.{w64}
 use Rattle.search_box.specs.declared.span.At.TheVariants.{Loop, Turn}
-use Rattle.search_box.specs.Parts.{split_parts}
+use Rattle.search_box.proofs.Parts.{split_parts}
 use Rattle.search_box.proofs.area.SearchBox.split.Goals as goal
 
 pub returns-in-Loop-clause-parts : goal.returns-in-Loop-clause-parts

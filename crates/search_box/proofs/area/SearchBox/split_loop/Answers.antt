@@ -1,7 +1,7 @@
 use Rattle.std.proofs.Common.{◌≡◌, pos, ◌+ℤ◌, to_z, of_z, SFits, ap, arith}
 use Rattle.std.specs.Int.{w64}
 use Rattle.std.proofs.lemmas.Int.{ints, to_z-of_z}
-use Rattle.linear_model.specs.Boxes as boxes
+use Rattle.linear_theory.specs.Boxes as boxes
 use Rattle.search_box.proofs.Views.{high_put}
 use Rattle.search_box.proofs.area.SearchBox.split_loop.Goals as goal
 

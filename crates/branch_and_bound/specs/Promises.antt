@@ -1,0 +1,11 @@
+-- What the words for boxes promise.
+use Rattle.std.specs.Prelude.{◌≡◌, ◌+◌, ◌<◌}
+use Rattle.linear_theory.specs.Boxes.{Area}
+use Rattle.search_box.specs.declared.span.At.{At}
+use Rattle.search_box.specs.Places.{IsPlace, low_part, high_part}
+use Rattle.branch_and_bound.specs.Volumes.{volume}
+
+-- each box has a choice, and the choices of a box are those of its two parts
+pub record ChoicesAreShared : Type 0 where
+  pub some : (box : Area) → 0 < volume box
+  pub parts : (box : Area) (place : At) → IsPlace box place → volume (low_part box place) + volume (high_part box place) ≡ volume box

@@ -1,0 +1,10 @@
+pub mod Relaxed
+pub mod Lineage
+pub mod BoxLaws
+pub mod EndLaws
+pub mod LeafWeights
+pub mod Endings
+pub mod WeakDuality
+pub mod Standing
+pub mod Tightening
+pub mod Recoveries

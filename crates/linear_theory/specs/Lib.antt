@@ -1,0 +1,13 @@
+pub mod Places
+pub mod Shifts
+pub mod Blocks
+pub mod Boxes
+pub mod Rows
+pub mod Names
+pub mod Counts
+pub mod Covering
+pub mod Trees
+pub mod Spans
+pub mod Worked
+pub mod RowNumbers
+pub mod Promises

@@ -1,0 +1,14 @@
+-- Lemmas on the definitions of `Meeting`.
+use Rattle.std.specs.Prelude.{List}
+use Rattle.std.proofs.Common.{subst, sym}
+use Rattle.rational_theory.specs.Rational.{ℚ}
+use Rattle.rational_theory.specs.Rows.{Row, IsMet}
+use Rattle.progression.specs.Street.{Street}
+use Rattle.progression.specs.Plan.{Plan}
+use Rattle.progression.specs.Columns.{point}
+use Rattle.linear_theory.specs.Boxes.{Area}
+use Rattle.linear_theory.specs.Counts.{Counts, IsGoodPoint}
+
+-- what the point of every timing meets that counts, every point meets that counts
+pub at_points : (a : Street) (box : Area) (x : List ℚ) (r : Row) → IsGoodPoint a box x → ((t : Plan) → Counts a box t → IsMet (point a t) r) → IsMet x r
+at_points a box x r h m = subst (λ y. IsMet y r) (sym h.is) (m h.timing h.counts)

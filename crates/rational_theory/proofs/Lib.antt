@@ -1,0 +1,13 @@
+pub mod Floor
+pub mod Pivot
+pub mod Compare
+pub mod Lowest
+pub mod Ring
+pub mod Arithmetic
+pub mod Shares
+pub mod Order
+pub mod Integers
+pub mod Coprime
+pub mod Linear
+pub mod Fractions
+pub mod Rows

@@ -1,0 +1,2 @@
+pub mod Coprime
+pub mod Fractions

@@ -1,0 +1,12 @@
+pub mod Fitting
+pub mod Kept
+pub mod Wholes
+pub mod WorkedLemmas
+pub mod Placed
+pub mod Sizes
+pub mod Rules
+pub mod Inside
+pub mod Shown
+pub mod Waits
+pub mod Ticked
+pub mod Multiples

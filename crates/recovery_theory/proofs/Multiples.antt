@@ -1,0 +1,65 @@
+-- The unit is a multiple of every column's denominator, in parts.
+use Rattle.std.proofs.Common.{◌≡◌, ℕ, zero, suc, ◌*◌, ◌/◌, ◌<◌, ◌≤◌, ◌⊎◌, inl, inr, List, true, false, refl, sym, ◌∙◌, ap, subst, arith, mul-pos}
+use Rattle.std.specs.Prelude.{if◌then◌else◌, ◌==◌}
+use Rattle.std.proofs.lemmas.Bool.Decides.{nat_tests}
+use Rattle.rational_theory.specs.Gcd.{gcd}
+use Rattle.rational_theory.specs.Rational.{ℚ}
+use Rattle.rational_theory.specs.laws.Fractions.{times_part}
+use Rattle.rational_theory.proofs.Fractions.{first_part_pos}
+use Rattle.progression.specs.Street.{Street, count}
+use Rattle.linear_theory.specs.Places.{width}
+use Rattle.recovery_theory.specs.Ticks.{in_parts, lcm, common, unit_of}
+
+-- n is a whole number of times d
+pub record IsMultiple (n d : ℕ) : Type 0 where
+  pub times : ℕ
+  pub is : n ≡ times * d
+
+multiple_on : {n m d : ℕ} → IsMultiple n m → IsMultiple m d → IsMultiple n d
+multiple_on {n} {m} {d} h k = record { times = h.times * k.times; is = h.is ∙ ap (λ t. h.times * t) k.is ∙ omega arith }
+
+crossed : (g p q m n : ℕ) → g * p ≡ m → g * q ≡ n → p * n ≡ q * m
+crossed g p q m n h k = ap (λ t. p * t) (sym k) ∙ omega arith ∙ ap (λ t. q * t) h
+
+-- the least common multiple is a multiple of both numbers, and above 0
+lcm_first : (m n : ℕ) → 0 < n → IsMultiple (lcm m n) m
+lcm_first m n h = let e = times_part m n h in record { times = n / gcd m n; is = crossed (gcd m n) (m / gcd m n) (n / gcd m n) m n e.0 e.1 }
+
+lcm_second : (m n : ℕ) → IsMultiple (lcm m n) n
+lcm_second m n = record { times = m / gcd m n; is = refl }
+
+lcm_above : (m n : ℕ) → 0 < m → 0 < n → 0 < lcm m n
+lcm_above m n h k = mul-pos (first_part_pos m n h k) k
+
+module _ (a : Street) (x : List ℚ) where
+  pub common_above : (k : ℕ) → 0 < common a x k
+  unfolding common
+  common_above zero = omega arith
+  common_above (suc k) = lcm_above (common a x k) (in_parts a x k).den (common_above k) (in_parts a x k).positive
+
+  last_or_before : (j k : ℕ) → j < suc k → (j ≡ k) ⊎ (j < k)
+  last_or_before j k h = grind arith
+
+  -- of each column among the first k
+  common_multiple : (j k : ℕ) → j < k → IsMultiple (common a x k) (in_parts a x j).den
+  unfolding common
+  common_multiple j zero h = absurd (omega arith)
+  common_multiple j (suc k) h = elim (last_or_before j k h) [
+    | inl e ↦ subst (λ i. IsMultiple (lcm (common a x k) (in_parts a x k).den) (in_parts a x i).den) (sym e) (lcm_second (common a x k) (in_parts a x k).den)
+    | inr l ↦ multiple_on (lcm_first (common a x k) (in_parts a x k).den (in_parts a x k).positive) (common_multiple j k l)
+  ]
+
+  -- the unit is two ticks or more, and a multiple of the least common denominator
+  two_or : (d : ℕ) → 0 < d → (2 ≤ (if d == 1 then 2 else d)) × IsMultiple (if d == 1 then 2 else d) d
+  two_or d h = elim (d == 1) as (λ b. (d == 1) ≡ b → (2 ≤ (if b then 2 else d)) × IsMultiple (if b then 2 else d) d) [
+    | true ↦ λ e. let f : d ≡ 1 = grind (arith, nat_tests) in (omega arith, record { times = 2; is = omega arith })
+    | false ↦ λ e. let f : 2 ≤ d = grind (arith, nat_tests) in (f, record { times = 1; is = omega arith })
+  ] refl
+
+  pub unit_least : 2 ≤ unit_of a x
+  unfolding unit_of
+  unit_least = (two_or (common a x (width (count a))) (common_above (width (count a)))).0
+
+  pub unit_multiple : (j : ℕ) → j < width (count a) → IsMultiple (unit_of a x) (in_parts a x j).den
+  unfolding unit_of
+  unit_multiple j h = multiple_on (two_or (common a x (width (count a))) (common_above (width (count a)))).1 (common_multiple j (width (count a)) h)

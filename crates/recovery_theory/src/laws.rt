@@ -1,0 +1,17 @@
+//! What the definitions promise, and what they decide.
+
+ghost use Rattle.recovery_theory.specs.Promises.{VerticesRecover};
+ghost use Rattle.recovery_theory.specs.Worked.{WorkedVertices};
+
+/// A vertex with whole block sums and ranked shifts becomes a good timing of its weighted band, and each other one names a
+/// place inside the box.
+#[tactic(auto, using(crate::proofs::Kept::vertices_recover))]
+pub fn law_vertices_recover()
+    ensures { VerticesRecover }
+{}
+
+/// A vertex that was worked by hand becomes the timing that it should.
+#[tactic(auto, using(crate::proofs::WorkedLemmas::worked_vertices))]
+pub fn law_worked_vertices()
+    ensures { WorkedVertices }
+{}

@@ -1,0 +1,16 @@
+pub mod BlandRule
+pub mod LoadedRows
+pub mod Tableau
+pub mod StepCounts
+pub mod Search
+pub mod Loaded
+pub mod RowLists
+pub mod Best
+pub mod DualSteps
+pub mod Lines
+pub mod Multipliers
+pub mod Paths
+pub mod Vertices
+pub mod Totals
+pub mod Signs
+pub mod Promises

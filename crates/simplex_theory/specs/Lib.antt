@@ -1,0 +1,13 @@
+pub mod Lines
+pub mod Tableau
+pub mod DualSteps
+pub mod Vertices
+pub mod Paths
+pub mod Best
+pub mod BlandRule
+pub mod StepCounts
+pub mod Totals
+pub mod Multipliers
+pub mod RowLists
+pub mod LoadedRows
+pub mod Promises
