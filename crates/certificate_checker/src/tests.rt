@@ -27,7 +27,26 @@ const HIGH_LEAF: &str =
     "leaf 7\nwout 1 1\nwin 1 1\nslow_out 1 1\nslow_in 1 1\ncycle_high 50\nloop_lo 1 1\nturn_hi 1 1\n";
 
 /// The split with its two leaves.
-const WHOLE_TREE: [&str; 3] = [SPLIT, LOW_LEAF, HIGH_LEAF];
+const WHOLE_TREE: [&str; 5] = [SPLIT, LOW_LEAF, HIGH_LEAF, "", ""];
+
+/// In column 0 the sum with the second row needs the denominator 2^100 * 3^70.
+const WIDE_LEAF: &str =
+    "leaf 2\nwout 1 1/1267650600228229401496703205376\nwout 2 1/2503155504993241601315571986085849\n";
+
+/// The second row's multiplier is below 0, and the sum with it needs that denominator.
+const NEGATIVE_WIDE: &str =
+    "leaf 2\nwout 1 1/1267650600228229401496703205376\nwout 2 -1/2503155504993241601315571986085849\n";
+
+/// A claim, its timing and nodes for two signals with these reds, so far apart, and what the check answers.
+#[derive(Clone, Copy)]
+struct Case {
+    red: u32,
+    distance: u32,
+    claim: &'static str,
+    timing: &'static str,
+    nodes: [&'static str; 5],
+    expected: Result<(), Reject>,
+}
 
 fn pair(number: i64) -> Pair {
     Pair {
@@ -73,14 +92,6 @@ fn artery(alloc: Global, red: u32, distance: u32) -> Result<Artery, Fail> {
     }
 }
 
-fn near(alloc: Global) -> Result<Artery, Fail> {
-    artery(alloc, 50, 250)
-}
-
-fn half() -> Result<Frac, Fail> {
-    fraction(1, 2)
-}
-
 fn fraction(num: i128, den: i128) -> Result<Frac, Fail> {
     Ok(Frac::new(num, den).ok().ok_or("no fraction")?)
 }
@@ -94,176 +105,200 @@ fn weak_at(place: Place) -> Result<(), Reject> {
     Err(Reject::LeafTooWeak { leaf: 1, place })
 }
 
-/// What the check answers for the certificate of this claim, its timing and these nodes.
-fn answer(
-    alloc: Global,
-    artery: &Artery,
-    claim: &[&str],
-    nodes: &[&str],
-) -> Result<Result<(), Reject>, Fail> {
+/// What the check answers for a case.
+fn answer(alloc: Global, case: &Case) -> Result<Result<(), Reject>, Fail> {
+    let artery = artery(alloc, case.red, case.distance)?;
     let mut text = Vec::new(alloc);
     text.extend_from_slice(b"maxband-certificate 1\n")?;
-    for lines in claim {
-        text.extend_from_slice(lines.as_bytes())?;
-    }
+    text.extend_from_slice(case.claim.as_bytes())?;
+    text.extend_from_slice(case.timing.as_bytes())?;
     text.extend_from_slice(b"tree\n")?;
-    for lines in nodes {
+    for lines in case.nodes {
         text.extend_from_slice(lines.as_bytes())?;
     }
     text.extend_from_slice(b"end\n")?;
     let certificate = read_certificate(alloc, text.as_slice());
-    Ok(check(alloc, artery, &certificate.ok().ok_or("no certificate")?))
+    Ok(check(alloc, &artery, &certificate.ok().ok_or("no certificate")?))
+}
+
+fn near(
+    claim: &'static str,
+    timing: &'static str,
+    nodes: [&'static str; 5],
+    expected: Result<(), Reject>,
+) -> Case {
+    Case {
+        red: 50,
+        distance: 250,
+        claim,
+        timing,
+        nodes,
+        expected,
+    }
 }
 
 #[test]
-fn best_timing(rt: HostRuntime) -> Result<(), Fail> {
+fn certificates(rt: HostRuntime) -> Result<(), Fail> {
     let alloc = rt.alloc();
-    let claim = ["verdict best\nvalue 1/2\n", HALF_BAND];
-    let answer = answer(alloc, &near(alloc)?, &claim, &WHOLE_TREE)?;
-    assert_eq!(rt; answer, Ok(()));
-    Ok(())
-}
-
-#[test]
-fn another_value_is_refused(rt: HostRuntime) -> Result<(), Fail> {
-    let alloc = rt.alloc();
-    let claim = ["verdict best\nvalue 2/5\n", HALF_BAND];
-    let answer = answer(alloc, &near(alloc)?, &claim, &WHOLE_TREE)?;
-    let kept = half()?;
-    let claimed = fraction(2, 5)?;
-    assert_eq!(rt; answer, Err(Reject::ValueDiffers { kept, claimed }));
-    Ok(())
-}
-
-/// At 500 metres the runs would have to be 50 seconds.
-#[test]
-fn timing_of_another_artery(rt: HostRuntime) -> Result<(), Fail> {
-    let alloc = rt.alloc();
-    let claim = ["verdict best\nvalue 1/2\n", HALF_BAND];
-    let answer = answer(alloc, &artery(alloc, 50, 500)?, &claim, &WHOLE_TREE)?;
-    let failing = Failing::Fast {
+    let half = fraction(1, 2)?;
+    let less = fraction(2, 5)?;
+    let best = "verdict best\nvalue 1/2\n";
+    let low_best = "verdict best\nvalue 2/5\n";
+    let open = "verdict open\nbound 1/2\nno timing\n";
+    let low_open = "verdict open\nbound 2/5\nno timing\n";
+    let high_open = "verdict open\nbound 1\nno timing\n";
+    let above = "verdict open\nbound 3/4\nvalue 1/2\n";
+    let below = "verdict open\nbound 2/5\nvalue 1/2\n";
+    let both_low = "verdict open\nbound 1/5\nvalue 2/5\n";
+    let none = "verdict none\n";
+    let value_differs = Err(Reject::ValueDiffers {
+        kept: half,
+        claimed: less,
+    });
+    let bound_below = Err(Reject::BoundBelow {
+        bound: less,
+        value: half,
+    });
+    // At 500 metres the runs would have to be 50 seconds.
+    let too_fast = Err(Reject::TimingFails(Failing::Fast {
         dir: Dir::Outbound,
         link: 1,
+    }));
+    let split_again = [SPLIT, LOW_LEAF, SPLIT, HIGH_LEAF, HIGH_LEAF];
+    let no_ratio = Reject::NoSuchRow {
+        leaf: 2,
+        row: row(13, 0),
     };
-    assert_eq!(rt; answer, Err(Reject::TimingFails(failing)));
-    Ok(())
-}
-
-/// With reds of 80 the two rows of the link add up to 0 <= -1.
-#[test]
-fn an_empty_root_proves_no_timing(rt: HostRuntime) -> Result<(), Fail> {
-    let alloc = rt.alloc();
-    let nodes = ["leaf 2\nloop_lo 1 1\nloop_hi 1 1\n"];
-    let answer = answer(alloc, &artery(alloc, 80, 250)?, &["verdict none\n"], &nodes)?;
-    assert_eq!(rt; answer, Ok(()));
-    Ok(())
-}
-
-#[test]
-fn a_bound_below_the_value_is_refused(rt: HostRuntime) -> Result<(), Fail> {
-    let alloc = rt.alloc();
-    let near = near(alloc)?;
-    let alone = ["verdict open\nbound 1/2\nno timing\n"];
-    assert_eq!(rt; answer(alloc, &near, &alone, &WHOLE_TREE)?, Ok(()));
-    let above = ["verdict open\nbound 3/4\nvalue 1/2\n", HALF_BAND];
-    assert_eq!(rt; answer(alloc, &near, &above, &WHOLE_TREE)?, Ok(()));
-    let below = ["verdict open\nbound 2/5\nvalue 1/2\n", HALF_BAND];
-    let bound = fraction(2, 5)?;
-    let value = half()?;
-    assert_eq!(rt;
-        answer(alloc, &near, &below, &WHOLE_TREE)?,
-        Err(Reject::BoundBelow { bound, value })
-    );
-    Ok(())
-}
-
-/// The third node has the block sum 1 alone.
-#[test]
-fn split_of_one_number(rt: HostRuntime) -> Result<(), Fail> {
-    let alloc = rt.alloc();
-    let claim = ["verdict open\nbound 1/2\nno timing\n"];
-    let nodes = [SPLIT, LOW_LEAF, SPLIT, HIGH_LEAF, HIGH_LEAF];
-    let answer = answer(alloc, &near(alloc)?, &claim, &nodes)?;
-    assert_eq!(rt; answer, Err(Reject::SplitOutside { node: 3 }));
-    Ok(())
-}
-
-/// Faults of the second leaf, which is the third node.
-#[test]
-fn faults_of_a_leaf(rt: HostRuntime) -> Result<(), Fail> {
-    let alloc = rt.alloc();
-    let near = near(alloc)?;
-    let claim = ["verdict open\nbound 1/2\nno timing\n"];
-    let missing = [SPLIT, LOW_LEAF, "leaf 2\nwout 1 1\nratio 1\n"];
-    assert_eq!(rt;
-        answer(alloc, &near, &claim, &missing)?,
-        Err(Reject::NoSuchRow {
-            leaf: 2,
-            row: row(13, 0)
-        })
-    );
-    let negative = [SPLIT, LOW_LEAF, "leaf 2\nwout 1 1\nwin 1 -1\n"];
-    assert_eq!(rt;
-        answer(alloc, &near, &claim, &negative)?,
-        Err(Reject::Negative {
-            leaf: 2,
-            row: row(2, 1)
-        })
-    );
-    Ok(())
-}
-
-/// In column 0 the second sum needs the denominator 2^100 * 3^70.
-#[test]
-fn sum_past_128_bits(rt: HostRuntime) -> Result<(), Fail> {
-    let alloc = rt.alloc();
-    let nodes = [
-        "leaf 2\nwout 1 1/1267650600228229401496703205376\nwout 2 1/2503155504993241601315571986085849\n",
-    ];
-    let answer = answer(alloc, &near(alloc)?, &["verdict none\n"], &nodes)?;
-    let at = WideAt {
-        place: Place::Cell(0),
-        wide: Wide {
-            op: Op::Add,
-            left: fraction(1, 1_267_650_600_228_229_401_496_703_205_376)?,
-            right: fraction(1, 2_503_155_504_993_241_601_315_571_986_085_849)?,
+    let wide = Reject::Wide {
+        leaf: 1,
+        row: row(1, 2),
+        at: WideAt {
+            place: Place::Cell(0),
+            wide: Wide {
+                op: Op::Add,
+                left: fraction(1, 1_267_650_600_228_229_401_496_703_205_376)?,
+                right: fraction(1, 2_503_155_504_993_241_601_315_571_986_085_849)?,
+            },
         },
     };
-    assert_eq!(rt;
-        answer,
-        Err(Reject::Wide {
-            leaf: 1,
-            row: row(1, 2),
-            at
-        })
-    );
-    Ok(())
-}
-
-/// A bound of 2/5 is too low for the first leaf. The row of the first outbound wait says nothing of b_in. Where no timing
-/// is claimed, the row 25 z - y_out 1 <= 0 has its first negative coefficient in column 7, and no rows have no bound below 0.
-#[test]
-fn weak_leaves(rt: HostRuntime) -> Result<(), Fail> {
-    let alloc = rt.alloc();
-    let near = near(alloc)?;
-    let low = ["verdict open\nbound 2/5\nno timing\n"];
-    let high = ["verdict open\nbound 1\nno timing\n"];
-    let none = ["verdict none\n"];
-    assert_eq!(rt;
-        answer(alloc, &near, &low, &WHOLE_TREE)?,
-        weak_at(Place::Bound)
-    );
-    let one_way = ["leaf 1\nwout 1 1\n"];
-    assert_eq!(rt;
-        answer(alloc, &near, &high, &one_way)?,
-        weak_at(Place::Cell(1))
-    );
-    let run = ["leaf 1\nfast_out 1 1\n"];
-    assert_eq!(rt; answer(alloc, &near, &none, &run)?, weak_at(Place::Cell(7)));
-    let nothing = ["leaf 0\n"];
-    assert_eq!(rt;
-        answer(alloc, &near, &none, &nothing)?,
-        weak_at(Place::Bound)
-    );
+    let cases = [
+        near(best, HALF_BAND, WHOLE_TREE, Ok(())),
+        near(low_best, HALF_BAND, WHOLE_TREE, value_differs),
+        Case {
+            distance: 500,
+            ..near(best, HALF_BAND, WHOLE_TREE, too_fast)
+        },
+        // With reds of 80 the two rows of the link add up to 0 <= -1.
+        Case {
+            red: 80,
+            ..near(
+                none,
+                "",
+                ["leaf 2\nloop_lo 1 1\nloop_hi 1 1\n", "", "", "", ""],
+                Ok(()),
+            )
+        },
+        near(open, "", WHOLE_TREE, Ok(())),
+        near(above, HALF_BAND, WHOLE_TREE, Ok(())),
+        near(below, HALF_BAND, WHOLE_TREE, bound_below),
+        // The third node has the block sum 1 alone.
+        near(open, "", split_again, Err(Reject::SplitOutside { node: 3 })),
+        // Faults of the second leaf, which is the third node.
+        near(
+            open,
+            "",
+            [SPLIT, LOW_LEAF, "leaf 2\nwout 1 1\nratio 1\n", "", ""],
+            Err(no_ratio),
+        ),
+        near(
+            open,
+            "",
+            [SPLIT, LOW_LEAF, "leaf 2\nwout 1 1\nwin 1 -1\n", "", ""],
+            Err(Reject::Negative {
+                leaf: 2,
+                row: row(2, 1),
+            }),
+        ),
+        near(none, "", [WIDE_LEAF, "", "", "", ""], Err(wide)),
+        // A bound of 2/5 is too low for the first leaf. The row of the first outbound wait says nothing of b_in. Where no
+        // timing is claimed, the row 25 z - y_out 1 <= 0 has its first negative coefficient in column 7, and no rows have
+        // no bound below 0.
+        near(low_open, "", WHOLE_TREE, weak_at(Place::Bound)),
+        near(
+            high_open,
+            "",
+            ["leaf 1\nwout 1 1\n", "", "", "", ""],
+            weak_at(Place::Cell(1)),
+        ),
+        near(
+            none,
+            "",
+            ["leaf 1\nfast_out 1 1\n", "", "", "", ""],
+            weak_at(Place::Cell(7)),
+        ),
+        near(
+            none,
+            "",
+            ["leaf 0\n", "", "", "", ""],
+            weak_at(Place::Bound),
+        ),
+        // Two faults: the timing, its value, the bound, and then the nodes in their order.
+        Case {
+            distance: 500,
+            ..near(low_best, HALF_BAND, WHOLE_TREE, too_fast)
+        },
+        near(both_low, HALF_BAND, WHOLE_TREE, value_differs),
+        near(below, HALF_BAND, split_again, bound_below),
+        near(
+            open,
+            "",
+            [SPLIT, LOW_LEAF, SPLIT, "leaf 1\nratio 1\n", HIGH_LEAF],
+            Err(Reject::SplitOutside { node: 3 }),
+        ),
+        near(
+            open,
+            "",
+            [SPLIT, "leaf 1\nratio 1\n", SPLIT, HIGH_LEAF, HIGH_LEAF],
+            Err(Reject::NoSuchRow {
+                leaf: 1,
+                row: row(13, 0),
+            }),
+        ),
+        // Of one row that it isn't there, that its multiplier is below 0, and that the sum is too wide; the rows in their
+        // order, and the whole leaf after them.
+        near(
+            open,
+            "",
+            [SPLIT, LOW_LEAF, "leaf 1\nratio -1\n", "", ""],
+            Err(no_ratio),
+        ),
+        near(
+            none,
+            "",
+            [NEGATIVE_WIDE, "", "", "", ""],
+            Err(Reject::Negative {
+                leaf: 1,
+                row: row(1, 2),
+            }),
+        ),
+        near(
+            open,
+            "",
+            [SPLIT, LOW_LEAF, "leaf 2\nwin 1 -1\nratio 1\n", "", ""],
+            Err(Reject::Negative {
+                leaf: 2,
+                row: row(2, 1),
+            }),
+        ),
+        near(
+            open,
+            "",
+            [SPLIT, "leaf 0\n", "leaf 1\nratio 1\n", "", ""],
+            weak_at(Place::Cell(0)),
+        ),
+    ];
+    for case in cases {
+        assert_eq!(rt; answer(alloc, &case)?, case.expected);
+    }
     Ok(())
 }

@@ -8,6 +8,7 @@ use Rattle.narrow_fraction.specs.declared.wide.Op.TheVariants.{Add, Mul}
 use Rattle.narrow_fraction.specs.declared.wide.Wide.{Wide}
 use Rattle.named_row.specs.declared.names.Place.{Place}
 use Rattle.named_row.specs.Refusals.{at, place_refusal}
+use Rattle.named_row.specs.declared.wide_at.WideAt.{WideAt}
 
 -- what a product's refusal is at its place
 at_some : (p : Place) (o : Option Wide) (w v : Wide) → o ≡ Some v → w ≡ v → at p o ≡ Some (record { place = p; wide = w })
@@ -29,3 +30,13 @@ pub both_fit : (p : Place) (k x c q : ℚ) → Fits128 Mul k c × (q ≡ k *ℚ 
 unfolding place_refusal
 both_fit p k x c q f h =
     ap₂ earlier (ap (at p) (past_none Mul k c f.0)) (ap (λ t. at p (past_wide Add x t)) (sym f.1) ∙ ap (at p) (past_none Add x q h))
+
+-- a refusal of one of the two names their place
+first_there : (p : Place) (o q : Option Wide) (w : WideAt) → earlier (at p o) (at p q) ≡ Some w → w.place ≡ p
+first_there p (Some a) q w e = let f : ◌≡◌ {A = WideAt} (record { place = p; wide = a }) w = cc in sym (ap (λ (t : WideAt). t.place) f)
+first_there p None (Some b) w e = let f : ◌≡◌ {A = WideAt} (record { place = p; wide = b }) w = cc in sym (ap (λ (t : WideAt). t.place) f)
+first_there p None None w e = cc
+
+pub refused_there : (p : Place) (k x c : ℚ) (w : WideAt) → place_refusal p k x c ≡ Some w → w.place ≡ p
+unfolding place_refusal
+refused_there p k x c w e = first_there p (past_wide Mul k c) (past_wide Add x (k *ℚ c)) w e

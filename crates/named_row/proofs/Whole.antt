@@ -1,5 +1,5 @@
 -- A whole row: its columns, then its bound.
-use Rattle.std.proofs.Common.{◌≡◌, pos, Bool, true, false, Some, None, List, length, sym, ap, ap₂}
+use Rattle.std.proofs.Common.{◌≡◌, ℕ, pos, Bool, true, false, Some, None, List, ◌++◌, take, drop, length, sym, ap, ap₂}
 use Rattle.std.specs.Ordering.{is_lt, is_le}
 use Rattle.rational_theory.specs.Rational.{ℚ, whole, ◌+ℚ◌, ◌*ℚ◌}
 use Rattle.rational_theory.specs.Rows.{add, scale}
@@ -10,7 +10,7 @@ use Rattle.narrow_fraction.proofs.Attempt.{not_refused, none_each}
 use Rattle.named_row.specs.declared.names.Place.{Place}
 use Rattle.named_row.specs.declared.names.Place.TheVariants.{Cell, Bound}
 use Rattle.named_row.specs.declared.wide_at.WideAt.{WideAt}
-use Rattle.named_row.specs.Sheets.{Sheet, with_times}
+use Rattle.named_row.specs.Sheets.{Sheet, with_times, coefs_left, left_at}
 use Rattle.named_row.specs.Refusals.{place_refusal, cell_refusal, sum_refusal}
 use Rattle.named_row.specs.Covering.{Covers, Refutes, below, number_at, uncovered, unrefuted}
 
@@ -31,6 +31,19 @@ pub with_times_is : (k : ℚ) (s r : Sheet) (xs : List ℚ) (b : ℚ) (t : Bool)
     → ◌≡◌ {A = Sheet} (record { coefs = xs; bound = b; spent = t }) (with_times k s r)
 unfolding with_times
 with_times_is k s r xs b t e f g = λ i. record { coefs = e i; bound = f i; spent = g i }
+
+-- what a refused sum leaves, in its columns and at its bound
+pub left_is : (p : Place) (k : ℚ) (s r : Sheet) (xs : List ℚ) (b : ℚ) → xs ≡ coefs_left p k r.coefs s.coefs → b ≡ r.bound → ◌≡◌ {A = Sheet} (record { coefs = xs; bound = b; spent = true }) (left_at p k s r)
+unfolding left_at
+left_is p k s r xs b e f = λ i. record { coefs = e i; bound = f i; spent = true }
+
+pub left_at_cell : (j : ℕ) (by : ℚ) (xs cs ds : List ℚ) (p : Place) → p ≡ Cell j → ds ≡ take j (add xs (scale by cs)) ++ drop j xs → ds ≡ coefs_left p by xs cs
+unfolding coefs_left
+left_at_cell j by xs cs ds p e f = rw e f
+
+pub left_at_bound : (by : ℚ) (xs cs ds : List ℚ) (p : Place) → p ≡ Bound → ds ≡ add xs (scale by cs) → ds ≡ coefs_left p by xs cs
+unfolding coefs_left
+left_at_bound by xs cs ds p e f = rw e f
 
 -- ---- what a row covers
 pub cell_uncovered : (r g : Sheet) (v : ℚ) (p : Place) → first_below (λ j. below (number_at r.coefs j) (number_at g.coefs j) j) (length r.coefs) ≡ Some p → uncovered r g v ≡ Some p

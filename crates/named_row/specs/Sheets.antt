@@ -1,6 +1,6 @@
 -- A row as contracts see it: its coefficients, its bound, and whether it is spent. It means that the sum of coefficient
 -- times column is at most the bound, for columns that are at least 0.
-use Rattle.std.specs.Prelude.{ℕ, Bool, false, List, slice_set, slice_index_or, replicate, ◌<◌, pos}
+use Rattle.std.specs.Prelude.{ℕ, Bool, false, List, slice_set, slice_index_or, replicate, ◌<◌, pos, true, ◌++◌, take, drop}
 use Rattle.rational_theory.specs.Rational.{ℚ, whole, ◌+ℚ◌, ◌*ℚ◌}
 use Rattle.rational_theory.specs.Rows as maths
 use Rattle.named_row.specs.declared.names.Place.{Place}
@@ -31,6 +31,14 @@ with_place Bound v r = record { coefs = r.coefs; bound = v; spent = r.spent }
 -- r with k times s added, as rows
 unfoldable pub with_times : ℚ → Sheet → Sheet → Sheet
 with_times k s r = record { coefs = maths.add r.coefs (maths.scale k s.coefs); bound = r.bound +ℚ k *ℚ s.bound; spent = r.spent }
+
+-- What a sum that is refused at a place leaves: before it the sum's coefficients, and from it on those that the row had.
+unfoldable pub coefs_left : Place → ℚ → List ℚ → List ℚ → List ℚ
+coefs_left (Cell j) k xs cs = take j (maths.add xs (maths.scale k cs)) ++ drop j xs
+coefs_left Bound k xs cs = maths.add xs (maths.scale k cs)
+
+unfoldable pub left_at : Place → ℚ → Sheet → Sheet → Sheet
+left_at p k s r = record { coefs = coefs_left p k r.coefs s.coefs; bound = r.bound; spent = true }
 
 -- a cell's column is below the width
 abbrev pub IsWithin : Place → ℕ → Type 0

@@ -1,11 +1,12 @@
 //! The columns of a row, one after another: sums, and the first that is too small.
 
-ghost use Rattle.std.specs.Prelude.{◌≡◌, ◌<◌, ◌^◌, length, IfOk, pos};
+ghost use Rattle.std.specs.Prelude.{◌≡◌, ◌<◌, ◌^◌, length, IfOk, pos, IfErr};
 ghost use Rattle.rational_theory.specs.Rational.{whole, ◌+ℚ◌, ◌*ℚ◌};
 ghost use Rattle.rational_theory.specs.Rows.{add, scale};
 ghost use Rattle.narrow_fraction.specs.Attempt.{attempt, first_below};
 ghost use Rattle.named_row.specs.Refusals.{place_refusal, cell_refusal};
 ghost use Rattle.named_row.specs.Covering.{below, number_at};
+ghost use Rattle.named_row.specs.Sheets.{coefs_left};
 
 use crate::names::Place;
 use crate::wide_at::WideAt;
@@ -29,12 +30,13 @@ pub fn add_number(number: Frac, by: Frac, other: Frac, place: Place) -> Result<F
     }
 }
 
-/// Each number and `by` times the other row's, column by column.
+/// Each number and `by` times the other row's, column by column, up to the first that is refused.
 pub fn add_cells(coefs: &mut [Frac], by: Frac, other: &[Frac]) -> Result<(), WideAt>
     requires same { length other.now ≡ length coefs.old }
     requires width { length coefs.old < 2 ^ 32 }
     ensures outcome { result ≡ attempt (first_below (cell_refusal by coefs.old other.now) (length coefs.old)) tt }
     ensures sum { IfOk result (λ _. coefs.new ≡ add coefs.old (scale by other.now)) }
+    ensures left { IfErr result (λ w. coefs.new ≡ coefs_left w.place by coefs.old other.now) }
     ensures width { length coefs.new ≡ length coefs.old }
 {
     for column in 0..coefs.len() {

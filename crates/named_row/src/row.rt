@@ -2,7 +2,7 @@
 
 ghost use Rattle.std.specs.Prelude.{◌≡◌, ◌<◌, ◌^◌, length, IfOk, IfErr, true, false};
 ghost use Rattle.narrow_fraction.specs.Attempt.{attempt};
-ghost use Rattle.named_row.specs.Sheets.{blank, IsWithin, at_place, with_place, with_times};
+ghost use Rattle.named_row.specs.Sheets.{blank, IsWithin, at_place, with_place, with_times, left_at};
 ghost use Rattle.named_row.specs.Refusals.{sum_refusal};
 ghost use Rattle.named_row.specs.Covering.{Covers, Refutes, uncovered, unrefuted};
 
@@ -99,7 +99,7 @@ impl Row {
     /// Adds `by` times the other row, exactly: for each column in order and then the bound a product and a sum.
     ///
     /// The refusal is the first of these operations that leaves 128 bits, with its place and its operands; the row is
-    /// spent from then on.
+    /// spent from then on, with the sum's numbers before that place, and from it on those that it had.
     pub fn add_scaled(&mut self, by: Frac, other: &Row) -> Result<(), WideAt>
         requires width { length other.now.coefs ≡ length self.old.coefs }
         requires unspent { self.old.spent ≡ false }
@@ -108,6 +108,7 @@ impl Row {
         ensures sum { IfOk result (λ _. self.new ≡ with_times by other.now self.old) }
         ensures unspent { IfOk result (λ _. self.new.spent ≡ false) }
         ensures spent { IfErr result (λ _. self.new.spent ≡ true) }
+        ensures left { IfErr result (λ w. self.new ≡ left_at w.place by other.now self.old) }
         ensures width { length self.new.coefs ≡ length self.old.coefs }
     {
         if let Err(wide) = add_cells(&mut self.coefs, by, &other.coefs) {

@@ -19,6 +19,17 @@ pub record ReadsFrom (file : List ℕ) (at k : ℕ) (into : List ℕ) : Type 0 w
   pub inside : k ≤ length (drop at file)
   pub ends : (k ≡ 0) ↔ (length file ≤ at)
 
+-- the file begins with these bytes
+pub record IsFront (file front : List ℕ) : Type 0 where
+  pub bytes : front ≡ take (length front) file
+  pub inside : length front ≤ length file
+
+-- there are this many bytes with which the file begins, where it is told
+pub record BeginsWith (count : ℕ) (told : Option (List ℕ)) : Type 0 where
+  pub front : List ℕ
+  pub long : length front ≡ count
+  pub begins : IfSome told (λ file. IsFront file front)
+
 -- the next k bytes of the file came after those before, and k is 0 exactly at its end
 pub record TakesMore (file before after : List ℕ) (k : ℕ) : Type 0 where
   pub after_is : after ≡ before ++ take k (drop (length before) file)

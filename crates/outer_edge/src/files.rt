@@ -1,7 +1,7 @@
 //! Files by their names: what a read and a put mean, and when a fault is counted.
 
 ghost use Rattle.std.specs.Prelude.{◌≡◌, ◌<◌, ◌≤◌, ℕ, List, Option, length, IfOk, IfSome, IsErrOf, OnOk};
-ghost use Rattle.outer_edge.specs.Counts.{Rose, NoneFell, SameCounts};
+ghost use Rattle.outer_edge.specs.Counts.{Rose, NoneFell, SameCounts, CountedAt};
 ghost use Rattle.outer_edge.specs.Held.{SameFiles, OthersSame, Holds, ReadsFrom};
 
 use thiserror::Error;
@@ -36,7 +36,9 @@ pub trait Files {
         requires { 0 < length into.old }
         ensures within { IfOk result (λ k. k ≤ length into.new) }
         ensures bytes { IfOk result (λ k. IfSome (holds self.old name.now) (λ file. ReadsFrom file at k into.new)) }
+        ensures none_failed { OnOk result (SameCounts (read_faults self.old) (read_faults self.new)) }
         ensures failed { IsErrOf result FileEnd.Failed → Rose (read_faults self.old name.now) (read_faults self.new name.now) }
+        ensures counted { IsErrOf result FileEnd.Failed → CountedAt (read_faults self.old) (read_faults self.new) name.now }
 
         // In every case.
         ensures files { SameFiles (holds self.old) (holds self.new) }
@@ -47,7 +49,9 @@ pub trait Files {
     /// Makes the file hold exactly these bytes. After `Failed` it may hold anything.
     fn put(&mut self, name: &str, bytes: &[u8]) -> Result<(), FileEnd>
         ensures put { OnOk result (Holds (holds self.new name.now) bytes.now) }
+        ensures none_failed { OnOk result (SameCounts (put_faults self.old) (put_faults self.new)) }
         ensures failed { IsErrOf result FileEnd.Failed → Rose (put_faults self.old name.now) (put_faults self.new name.now) }
+        ensures counted { IsErrOf result FileEnd.Failed → CountedAt (put_faults self.old) (put_faults self.new) name.now }
 
         // In every case.
         ensures others { OthersSame (holds self.old) (holds self.new) name.now }

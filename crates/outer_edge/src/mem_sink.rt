@@ -95,6 +95,7 @@ impl Sink for MemSink {
         ensures same_room { OnErr result (self.new.room ≡ self.old.room) }
         ensures calls { self.new.calls ≡ next_count self.old.calls }
         ensures faults { self.new.faults ≡ count_if (next_fails self.old.fail self.old.calls) self.old.faults }
+        ensures none_failed { OnOk result (self.new.faults ≡ self.old.faults) }
         ensures counted { self.old.faults ≤ self.new.faults }
         ensures fail { self.new.fail ≡ self.old.fail }
         ensures piece { self.new.piece ≡ self.old.piece }

@@ -1,8 +1,8 @@
 //! Whole files, read piece by piece up to a limit.
 
-ghost use Rattle.std.specs.Prelude.{◌≡◌, ◌+◌, ◌<◌, ◌≤◌, ◌^◌, length, vec_len, IfOk, IfSome, IsErrOf};
-ghost use Rattle.outer_edge.specs.Counts.{Rose, NoneFell, SameCounts};
-ghost use Rattle.outer_edge.specs.Held.{SameFiles, TakesMore};
+ghost use Rattle.std.specs.Prelude.{◌≡◌, ◌+◌, ◌<◌, ◌≤◌, ◌^◌, length, vec_len, IfOk, IfSome, IsErrOf, OnOk};
+ghost use Rattle.outer_edge.specs.Counts.{Rose, NoneFell, SameCounts, CountedAt};
+ghost use Rattle.outer_edge.specs.Held.{SameFiles, TakesMore, BeginsWith};
 
 use crate::files::{FileEnd, Files};
 use std::alloc::Global;
@@ -28,7 +28,8 @@ const PIECE: u64 = 4096;
 /// The whole bytes of a file that has at most `limit` of them.
 ///
 /// Where the contents are told, a file of at most `limit` bytes is never `TooLong` and a longer one
-/// is never Ok. The files stay as they are in every case.
+/// is never Ok. The files stay as they are in every case. A failed read is counted once, and ends
+/// the reading: no other end counts one.
 #[tactic(auto, using(crate::proofs::Fronts::front_after))]
 pub fn read_whole<F: Files>(
     alloc: Global,
@@ -40,7 +41,12 @@ pub fn read_whole<F: Files>(
     ensures whole { IfOk result (λ all. IfSome (F.holds files.old name.now) (λ file. all.items ≡ file)) }
     ensures within { IfOk result (λ all. vec_len all ≤ limit) }
     ensures too_long { IsErrOf result ReadEnd.TooLong → IfSome (F.holds files.old name.now) (λ file. limit < length file) }
+    ensures long_front { IsErrOf result ReadEnd.TooLong → BeginsWith (limit + 1) (F.holds files.old name.now) }
     ensures failed { IsErrOf result ReadEnd.ReadFault → Rose (F.read_faults files.old name.now) (F.read_faults files.new name.now) }
+    ensures counted { IsErrOf result ReadEnd.ReadFault → CountedAt (F.read_faults files.old) (F.read_faults files.new) name.now }
+    ensures none_failed { OnOk result (SameCounts (F.read_faults files.old) (F.read_faults files.new)) }
+    ensures long_counts { IsErrOf result ReadEnd.TooLong → SameCounts (F.read_faults files.old) (F.read_faults files.new) }
+    ensures memory_counts { IsErrOf result ReadEnd.Memory → SameCounts (F.read_faults files.old) (F.read_faults files.new) }
 
     // In every case.
     ensures files { SameFiles (F.holds files.old) (F.holds files.new) }
@@ -73,6 +79,9 @@ fn take_piece<F: Files>(
     ensures more { IfOk result (λ k. IfSome (F.holds files.old name.now) (λ file. TakesMore file all.old.items all.new.items k)) }
     ensures len { IfOk result (λ k. (vec_len all.new ≡ vec_len all.old + k) × (k ≤ length piece.old)) }
     ensures failed { IsErrOf result ReadEnd.ReadFault → Rose (F.read_faults files.old name.now) (F.read_faults files.new name.now) }
+    ensures counted { IsErrOf result ReadEnd.ReadFault → CountedAt (F.read_faults files.old) (F.read_faults files.new) name.now }
+    ensures none_failed { OnOk result (SameCounts (F.read_faults files.old) (F.read_faults files.new)) }
+    ensures memory_counts { IsErrOf result ReadEnd.Memory → SameCounts (F.read_faults files.old) (F.read_faults files.new) }
     ensures not_long { IsErrOf result ReadEnd.TooLong → ⊥ }
     ensures files { SameFiles (F.holds files.old) (F.holds files.new) }
     ensures reads { NoneFell (F.read_faults files.old) (F.read_faults files.new) }

@@ -1,7 +1,7 @@
 //! An output: what a write means, and when a fault is counted.
 
 ghost use Rattle.std.specs.Prelude.{◌≡◌, ◌+◌, ◌<◌, ◌≤◌, ℕ, List, Option, length, take, IfOk, OnOk, OnErr};
-ghost use Rattle.outer_edge.specs.Counts.{Rose};
+ghost use Rattle.outer_edge.specs.Counts.{Rose, next_count};
 ghost use Rattle.outer_edge.specs.Taken.{Appends};
 
 use narrow_fraction::Memory;
@@ -37,8 +37,11 @@ pub trait Sink {
         ensures room { IfOk result (λ k. room self.old ≤ room self.new + k) }
         ensures faults { faults self.old ≤ faults self.new }
 
-        // A failed write was counted and took nothing.
+        ensures none_failed { OnOk result (faults self.new ≡ faults self.old) }
+
+        // A failed write was counted once and took nothing.
         ensures failed { OnErr result (Rose (faults self.old) (faults self.new)) }
+        ensures once { OnErr result (faults self.new ≡ next_count (faults self.old)) }
         ensures nothing { OnErr result (taken self.new ≡ taken self.old) }
         ensures same_room { OnErr result (room self.new ≡ room self.old) };
 }

@@ -4,8 +4,40 @@ use crate::{
     Failed, FileEnd, Files, MemFiles, MemSink, ReadEnd, RealFiles, RealOut, Sink, SureFiles,
     SureSink, read_whole, write_whole,
 };
-use std::fs;
+use std::cell::Cell;
+use std::fmt::Display;
 use std::test::Fail;
+use std::{fs, io};
+
+/// A pipe that takes at most four bytes a call and sixteen in all, and tells how many it took.
+#[derive(Clone, Drop)]
+struct Narrow<'a> {
+    taken: &'a Cell<usize>,
+}
+
+impl Print for Narrow<'_> {
+    fn print<D: Display + Drop>(&self, value: D) -> io::Result<()> {
+        let _ = value;
+        Ok(())
+    }
+
+    fn println<D: Display + Drop>(&self, value: D) -> io::Result<()> {
+        let _ = value;
+        Ok(())
+    }
+
+    fn write_all(&self, bytes: &[u8]) -> io::Result<()> {
+        let _ = bytes;
+        Ok(())
+    }
+
+    fn write_some(&self, bytes: &[u8]) -> io::Result<usize> {
+        let before = self.taken.get();
+        let count = bytes.len().min(4).min(16usize.saturating_sub(before));
+        self.taken.set(before.saturating_add(count));
+        Ok(count)
+    }
+}
 
 #[test]
 fn sure_files_hold_what_was_put(rt: HostRuntime) -> Result<(), Fail> {
@@ -97,5 +129,18 @@ fn standard_output_takes_bytes(rt: HostRuntime) -> Result<(), Fail> {
     let mut out = RealOut::new(&rt, rt.alloc())?;
     out.reserve(100)?;
     assert_eq!(rt; out.write(b"three\n"), Ok(6));
+    Ok(())
+}
+
+#[test]
+fn a_narrow_pipe_takes_a_text_in_pieces(rt: HostRuntime) -> Result<(), Fail> {
+    let taken = Cell::new(0);
+    let mut out = RealOut::new(&Narrow { taken: &taken }, rt.alloc())?;
+    out.reserve(100)?;
+    assert_eq!(rt; out.write(b"three\n"), Ok(4));
+    assert!(rt; write_whole(&mut out, b"nine more").is_ok());
+    assert_eq!(rt; taken.get(), 13);
+    assert_eq!(rt; write_whole(&mut out, b"full"), Err(Failed));
+    assert_eq!(rt; taken.get(), 16);
     Ok(())
 }

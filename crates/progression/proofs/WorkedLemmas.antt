@@ -13,7 +13,7 @@ use Rattle.progression.specs.Good.{Good, RatioHolds}
 use Rattle.progression.specs.Best.{weighted_band}
 use Rattle.progression.specs.Green.{is_green, red_start, red_ticks}
 use Rattle.progression.specs.Lines.{stop, crossing, IsGreenAt, IsGreenWay}
-use Rattle.progression.specs.Worked.{two_signals, timing, with_clearance, with_lefts, one_way}
+use Rattle.progression.specs.Worked.{two_signals, timing, with_clearance, with_lefts, one_way, unequal_lefts, two_way}
 use Rattle.progression.specs.declared.parts.Dir.{Dir}
 use Rattle.progression.specs.declared.parts.Dir.TheVariants.{Outbound, Inbound}
 
@@ -160,3 +160,68 @@ leading_lefts = let p = one_way 3 in record {
 pub half_a_cycle : weighted_band with_lefts (one_way 3) ≡ number 1 /ℚ number 2
 unfolding whole over inverse_ℚ ◌+ℚ◌ ◌*ℚ◌ gcd
 half_a_cycle = same_cross _ _ refl
+
+-- a timing of the artery with unequal lefts whose bands are green
+turning : (pattern red first_out band_out first_in band_in : ℕ)
+    → IsTrue (allows unequal_lefts 2 pattern)
+    → RatioHolds (number 1) band_out band_in
+    → IsGreenWay unequal_lefts (two_way pattern red first_out band_out first_in band_in) Outbound
+    → IsGreenWay unequal_lefts (two_way pattern red first_out band_out first_in band_in) Inbound
+    → Good unequal_lefts (two_way pattern red first_out band_out first_in band_in)
+unfolding whole over inverse_ℚ ◌+ℚ◌ neg_ℚ ◌*ℚ◌ gcd
+turning pattern red first_out band_out first_in band_in allowed r out back = let p = two_way pattern red first_out band_out first_in band_in in record {
+  plan = record { grid = omega arith; unit = omega arith; reds = refl; run_out = refl; run_in = refl };
+  shape = refl;
+  patterns = at_two (λ i. IsTrue (allows unequal_lefts i (pattern_of p i))) refl allowed;
+  cycle_least = record { cross = omega (arith, ints) };
+  cycle_most = record { cross = omega (arith, ints) };
+  fast = both (λ d. (i : ℕ) → HasLink unequal_lefts i → (run_low unequal_lefts d i *ℚ number 2) ≤ℚ number (run p d i))
+      (at_one (λ i. (run_low unequal_lefts Outbound i *ℚ number 2) ≤ℚ number (run p Outbound i)) (record { cross = omega (arith, ints) }))
+      (at_one (λ i. (run_low unequal_lefts Inbound i *ℚ number 2) ≤ℚ number (run p Inbound i)) (record { cross = omega (arith, ints) }));
+  slow = both (λ d. (i : ℕ) → HasLink unequal_lefts i → number (run p d i) ≤ℚ (run_high unequal_lefts d i *ℚ number 2))
+      (at_one (λ i. number (run p Outbound i) ≤ℚ (run_high unequal_lefts Outbound i *ℚ number 2)) (record { cross = omega (arith, ints) }))
+      (at_one (λ i. number (run p Inbound i) ≤ℚ (run_high unequal_lefts Inbound i *ℚ number 2)) (record { cross = omega (arith, ints) }));
+  rise = λ d i h k. absurd (omega (arith, h.0, k.1));
+  drop = λ d i h k. absurd (omega (arith, h.0, k.1));
+  ratio = r;
+  outbound = out;
+  inbound = back;
+}
+
+pub first_pattern : Good unequal_lefts (two_way 1 50 100 80 150 100)
+unfolding whole over ◌+ℚ◌ neg_ℚ ◌*ℚ◌ gcd
+first_pattern = let p = two_way 1 50 100 80 150 100 in turning 1 50 100 80 150 100 refl (record { cross = omega (arith, ints) }) (way_by_test unequal_lefts p Outbound refl refl refl) (way_by_test unequal_lefts p Inbound refl refl refl)
+
+pub second_pattern : Good unequal_lefts (two_way 2 50 100 100 150 90)
+unfolding whole over ◌+ℚ◌ neg_ℚ ◌*ℚ◌ gcd
+second_pattern = let p = two_way 2 50 100 100 150 90 in turning 2 50 100 100 150 90 refl (record { cross = omega (arith, ints) }) (way_by_test unequal_lefts p Outbound refl refl refl) (way_by_test unequal_lefts p Inbound refl refl refl)
+
+pub third_pattern : Good unequal_lefts (two_way 3 70 120 80 160 90)
+unfolding whole over ◌+ℚ◌ neg_ℚ ◌*ℚ◌ gcd
+third_pattern = let p = two_way 3 70 120 80 160 90 in turning 3 70 120 80 160 90 refl (record { cross = omega (arith, ints) }) (way_by_test unequal_lefts p Outbound refl refl refl) (way_by_test unequal_lefts p Inbound refl refl refl)
+
+pub fourth_pattern : Good unequal_lefts (two_way 4 50 100 80 150 90)
+unfolding whole over ◌+ℚ◌ neg_ℚ ◌*ℚ◌ gcd
+fourth_pattern = let p = two_way 4 50 100 80 150 90 in turning 4 50 100 80 150 90 refl (record { cross = omega (arith, ints) }) (way_by_test unequal_lefts p Outbound refl refl refl) (way_by_test unequal_lefts p Inbound refl refl refl)
+
+-- the outbound band's tick 231 lies in the red that begins at tick 30
+pub first_pattern_wider_out : Good unequal_lefts (two_way 1 50 100 81 150 100) → ⊥
+first_pattern_wider_out g = true≢false (sym (g.outbound 1 (omega arith) 81 (omega arith)))
+
+-- the inbound band's tick 241 lies in the red that begins at tick 40
+pub second_pattern_wider_in : Good unequal_lefts (two_way 2 50 100 100 150 91) → ⊥
+second_pattern_wider_in g = true≢false (sym (g.inbound 0 (omega arith) 91 (omega arith)))
+
+-- the outbound red ends at tick 170
+pub third_pattern_sooner_out : Good unequal_lefts (two_way 3 70 119 80 160 90) → ⊥
+third_pattern_sooner_out g = true≢false (sym (g.outbound 1 (omega arith) 0 (omega arith)))
+
+-- the inbound red ends at tick 160
+pub third_pattern_sooner_in : Good unequal_lefts (two_way 3 70 120 80 159 90) → ⊥
+third_pattern_sooner_in g = true≢false (sym (g.inbound 0 (omega arith) 0 (omega arith)))
+
+pub fourth_pattern_wider_out : Good unequal_lefts (two_way 4 50 100 81 150 90) → ⊥
+fourth_pattern_wider_out g = true≢false (sym (g.outbound 1 (omega arith) 81 (omega arith)))
+
+pub fourth_pattern_wider_in : Good unequal_lefts (two_way 4 50 100 80 150 91) → ⊥
+fourth_pattern_wider_in g = true≢false (sym (g.inbound 0 (omega arith) 91 (omega arith)))

@@ -65,6 +65,30 @@ one_way pattern = record {
   band_in = 0;
 }
 
+-- The second signal has an outbound left turn of 5 parts and an inbound one of 10: its outbound red takes 100 ticks, and its inbound red 90. The way
+-- back is three times as long.
+abbrev pub unequal_lefts : Street
+unequal_lefts = record {
+  head = two_signals.head;
+  signals = half_red (codes "A") ∷ record (half_red (codes "B")) { red = 40; left_out = 5; left_in = 10 } ∷ [];
+  links = record { distance_out = 250; distance_in = 750; speed_out = exactly 36; speed_in = exactly 36; change_out = None; change_in = None } ∷ [];
+}
+
+-- a band either way, and the second signal with this left turn pattern and start of its common red
+abbrev pub two_way : (pattern red first_out band_out first_in band_in : ℕ) → Plan
+two_way pattern red first_out band_out first_in band_in = record {
+  grid = 2;
+  unit = 2;
+  patterns = 1 ∷ pattern ∷ [];
+  reds = pos 0 ∷ pos red ∷ [];
+  run_out = 50 ∷ [];
+  run_in = 150 ∷ [];
+  first_out = pos first_out;
+  first_in = pos first_in;
+  band_out = band_out;
+  band_in = band_in;
+}
+
 pub record WorkedTimings : Type 0 where
   pub whole_greens : Good two_signals (timing 2 100 (pos 100) 100 100)
   pub their_band : weighted_band two_signals (timing 2 100 (pos 100) 100 100) ≡ number 1
@@ -77,3 +101,17 @@ pub record WorkedTimings : Type 0 where
   pub lagging_left_shortens_the_green : ¬ Good with_lefts (one_way 1)
   pub leading_lefts_hold : Good with_lefts (one_way 3)
   pub half_a_cycle : weighted_band with_lefts (one_way 3) ≡ number 1 /ℚ number 2
+  -- the outbound red alone begins before the common red, by the inbound left turn's 20 ticks
+  pub first_pattern : Good unequal_lefts (two_way 1 50 100 80 150 100)
+  pub first_pattern_wider_out : ¬ Good unequal_lefts (two_way 1 50 100 81 150 100)
+  -- the inbound red alone does, by the outbound left turn's 10 ticks
+  pub second_pattern : Good unequal_lefts (two_way 2 50 100 100 150 90)
+  pub second_pattern_wider_in : ¬ Good unequal_lefts (two_way 2 50 100 100 150 91)
+  -- neither does, so each ends after the common red
+  pub third_pattern : Good unequal_lefts (two_way 3 70 120 80 160 90)
+  pub third_pattern_sooner_out : ¬ Good unequal_lefts (two_way 3 70 119 80 160 90)
+  pub third_pattern_sooner_in : ¬ Good unequal_lefts (two_way 3 70 120 80 159 90)
+  -- both do
+  pub fourth_pattern : Good unequal_lefts (two_way 4 50 100 80 150 90)
+  pub fourth_pattern_wider_out : ¬ Good unequal_lefts (two_way 4 50 100 81 150 90)
+  pub fourth_pattern_wider_in : ¬ Good unequal_lefts (two_way 4 50 100 80 150 91)

@@ -5,3 +5,4 @@ pub mod Numbered
 pub mod Ranked
 pub mod Parts
 pub mod Streets
+pub mod SharedLists

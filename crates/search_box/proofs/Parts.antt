@@ -9,6 +9,7 @@ use Rattle.linear_theory.proofs.TurnSplits.{turn_split, turn_joined, turn_once}
 use Rattle.linear_theory.proofs.PartBoxes.{low_loop_boxed, high_loop_boxed, low_turn_boxed, high_turn_boxed}
 use Rattle.search_box.specs.declared.span.At.{At}
 use Rattle.search_box.specs.declared.span.At.TheVariants.{Loop, Turn}
+use Rattle.search_box.proofs.SharedLists.{shared}
 use Rattle.search_box.specs.Places.{IsPlace, low_part, high_part, AreParts}
 
 pub parts_of : (a : Street) (box : Area) (place : At) → IsBoxOf a box → IsPlace box place → AreParts a box (low_part box place) (high_part box place)
@@ -17,12 +18,14 @@ parts_of a box (Loop i at) b p = record {
   high_box = high_loop_boxed a box b i at p;
   whole = λ t. (loop_split a box t i at b p, loop_joined a box t i at b p);
   apart = λ t. loop_once a box t i at b p;
+  lists = shared box (Loop i at) p;
 }
 parts_of a box (Turn i rank) b p = record {
   low_box = low_turn_boxed a box b i rank p;
   high_box = high_turn_boxed a box b i rank p;
   whole = λ t. (turn_split a box t i rank b p, turn_joined a box t i rank b p);
   apart = λ t. turn_once a box t i rank b p;
+  lists = shared box (Turn i rank) p;
 }
 
 -- what a split answers are such parts

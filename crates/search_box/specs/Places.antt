@@ -1,8 +1,8 @@
 -- The two parts of a box at a place.
-use Rattle.std.specs.Prelude.{◌↔◌, ◌⊎◌, ◌≡◌, All}
+use Rattle.std.specs.Prelude.{◌↔◌, ◌⊎◌, ◌≡◌, ℕ, ◌-◌, ◌≤◌, ℤ, pos, ◌≤ℤ◌, List, length, slice_index, slice_index_or, All}
 use Rattle.progression.specs.Street.{Street}
 use Rattle.progression.specs.Plan.{Plan}
-use Rattle.linear_theory.specs.Boxes.{Area, IsBoxOf, InBox, IsLoopPlace, IsTurnPlace, low_loop, high_loop, low_turn, high_turn}
+use Rattle.linear_theory.specs.Boxes.{Area, IsBoxOf, InBox, IsLoopPlace, IsTurnPlace, low_loop, high_loop, low_turn, high_turn, Span, Ranks, loop_span, turn_span}
 use Rattle.search_box.specs.declared.span.At.{At}
 use Rattle.search_box.specs.declared.span.At.TheVariants.{Loop, Turn}
 
@@ -19,12 +19,34 @@ abbrev pub high_part : Area → At → Area
 high_part box (Loop i at) = high_loop box i at
 high_part box (Turn i rank) = high_turn box i rank
 
--- Two parts hold exactly the timings that the box holds, and none is in both.
+-- a block sum within a span, and a rank within ranks
+pub record IsWithin (s : Span) (sum : ℤ) : Type 0 where
+  pub least : s.least ≤ℤ sum
+  pub most : sum ≤ℤ s.most
+
+pub record IsRanked (s : Ranks) (rank : ℕ) : Type 0 where
+  pub least : s.least ≤ rank
+  pub most : rank ≤ s.most
+
+-- The box holds this list of block sums, one for each link, and this list of ranks, one for each signal.
+pub record HoldsLists (box : Area) (sums : List ℤ) (ranks : List ℕ) : Type 0 where
+  pub sums_count : length sums ≡ length box.loops
+  pub ranks_count : length ranks ≡ length box.turns
+  pub each_sum : (i : ℕ) → 1 ≤ i → i ≤ length box.loops → IsWithin (loop_span box i) (slice_index_or sums (i - 1) (pos 0))
+  pub each_rank : (i : ℕ) → 1 ≤ i → i ≤ length box.turns → IsRanked (turn_span box i) (slice_index ranks (i - 1))
+
+-- Two parts hold exactly the lists of block sums and ranks that the box holds, and none is in both.
+pub record ShareLists (box low high : Area) : Type 0 where
+  pub whole : (sums : List ℤ) (ranks : List ℕ) → HoldsLists box sums ranks ↔ (HoldsLists low sums ranks ⊎ HoldsLists high sums ranks)
+  pub apart : (sums : List ℤ) (ranks : List ℕ) → HoldsLists low sums ranks → HoldsLists high sums ranks → ⊥
+
+-- Two parts hold exactly the timings that the box holds, and none is in both; and so with the lists.
 pub record AreParts (a : Street) (box low high : Area) : Type 0 where
   pub low_box : IsBoxOf a low
   pub high_box : IsBoxOf a high
   pub whole : (t : Plan) → InBox a box t ↔ (InBox a low t ⊎ InBox a high t)
   pub apart : (t : Plan) → InBox a low t → InBox a high t → ⊥
+  pub lists : ShareLists box low high
 
 -- every span has one number
 abbrev pub IsSingle : Area → Type 0

@@ -136,79 +136,12 @@ fn first_failing(alloc: Global, street: Street, times: Times) -> Result<Option<F
 }
 
 #[test]
-fn timings_of_one_artery(rt: HostRuntime) -> Result<(), Fail> {
+fn rules_of_two_signals(rt: HostRuntime) -> Result<(), Fail> {
+    let street = base();
     let good = whole_band();
-    let rows = [
-        (good, None),
-        (
-            Times {
-                bands: [101, 100],
-                ..good
-            },
-            Some(Failing::Outbound {
-                signal: 1,
-                tick: 201,
-            }),
-        ),
-        (
-            Times {
-                bands: [100, 101],
-                ..good
-            },
-            Some(Failing::Inbound {
-                signal: 2,
-                tick: 301,
-            }),
-        ),
-        (
-            Times {
-                firsts: [50, 200],
-                bands: [0, 0],
-                ..good
-            },
-            Some(Failing::Outbound {
-                signal: 1,
-                tick: 50,
-            }),
-        ),
-        (Times { grid: 1, ..good }, Some(Failing::CycleLong)),
-        (Times { grid: 3, ..good }, Some(Failing::CycleShort)),
-        (
-            Times {
-                runs: [99, 100],
-                ..good
-            },
-            Some(Failing::Fast {
-                dir: Dir::Outbound,
-                link: 1,
-            }),
-        ),
-        (
-            Times {
-                runs: [100, 101],
-                ..good
-            },
-            Some(Failing::Slow {
-                dir: Dir::Inbound,
-                link: 1,
-            }),
-        ),
-        (
-            Times { pattern: 2, ..good },
-            Some(Failing::Pattern { signal: 2 }),
-        ),
-    ];
-    for (times, expected) in rows {
-        assert!(rt; first_failing(rt.alloc(), base(), times)? == expected);
-    }
-    Ok(())
-}
-
-#[test]
-fn lefts_clearances_and_ratios(rt: HostRuntime) -> Result<(), Fail> {
     let near = Street {
         distance: 250,
-        ..base()
+        ..street
     };
     let lefts = Street {
         red: 40,
@@ -217,22 +150,64 @@ fn lefts_clearances_and_ratios(rt: HostRuntime) -> Result<(), Fail> {
     };
     let clears = Street {
         clear_out: 10,
-        ..base()
+        ..street
     };
     let halved = Street {
         halves: 1,
-        ..base()
+        ..street
     };
     let rows = [
-        (near, half_band(), None),
+        (street, good, None),
         (
-            lefts,
-            half_band(),
-            Some(Failing::Outbound {
-                signal: 2,
-                tick: 231,
-            }),
+            street,
+            Times {
+                bands: [101, 100],
+                ..good
+            },
+            outbound(1, 201),
         ),
+        (
+            street,
+            Times {
+                bands: [100, 101],
+                ..good
+            },
+            inbound(2, 301),
+        ),
+        (
+            street,
+            Times {
+                firsts: [50, 200],
+                bands: [0, 0],
+                ..good
+            },
+            outbound(1, 50),
+        ),
+        (street, Times { grid: 1, ..good }, Some(Failing::CycleLong)),
+        (street, Times { grid: 3, ..good }, Some(Failing::CycleShort)),
+        (
+            street,
+            Times {
+                runs: [99, 100],
+                ..good
+            },
+            fast(Dir::Outbound, 1),
+        ),
+        (
+            street,
+            Times {
+                runs: [100, 101],
+                ..good
+            },
+            slow(Dir::Inbound, 1),
+        ),
+        (
+            street,
+            Times { pattern: 2, ..good },
+            Some(Failing::Pattern { signal: 2 }),
+        ),
+        (near, half_band(), None),
+        (lefts, half_band(), outbound(2, 231)),
         (
             lefts,
             Times {
@@ -241,19 +216,12 @@ fn lefts_clearances_and_ratios(rt: HostRuntime) -> Result<(), Fail> {
             },
             None,
         ),
-        (
-            clears,
-            whole_band(),
-            Some(Failing::Outbound {
-                signal: 2,
-                tick: 180,
-            }),
-        ),
+        (clears, good, outbound(2, 180)),
         (
             halved,
             Times {
                 bands: [100, 49],
-                ..whole_band()
+                ..good
             },
             Some(Failing::Ratio),
         ),
@@ -261,7 +229,7 @@ fn lefts_clearances_and_ratios(rt: HostRuntime) -> Result<(), Fail> {
             halved,
             Times {
                 bands: [100, 50],
-                ..whole_band()
+                ..good
             },
             None,
         ),
@@ -272,7 +240,8 @@ fn lefts_clearances_and_ratios(rt: HostRuntime) -> Result<(), Fail> {
     Ok(())
 }
 
-/// Three signals, with speeds of 18 to 72 km/h, where the pace may change by 10 s/km from link 1 to link 2.
+/// Three signals, with speeds of 18 to 72 km/h, where the pace may change by 10 s/km from link 1 to link 2, and the inbound band
+/// is at least half of the outbound one.
 fn long_artery(alloc: Global) -> Result<Artery, Fail> {
     let signals = vec![in alloc;
         signal(alloc, "A", base())?,
@@ -291,59 +260,255 @@ fn long_artery(alloc: Global) -> Result<Artery, Fail> {
         })?;
     }
     Ok(
-        Artery::new(alloc, head(2)?, signals, links)
+        Artery::new(alloc, head(1)?, signals, links)
             .ok()
             .ok_or("no artery")?,
     )
 }
 
-fn long_timing(alloc: Global, runs_out: [u128; 2], runs_in: [u128; 2]) -> Result<Timing, Fail> {
+/// What differs between the timings of three signals.
+#[derive(Clone, Copy)]
+struct Long {
+    grid: u128,
+    patterns: [u32; 2],
+    runs_out: [u128; 2],
+    runs_in: [u128; 2],
+    bands: [u128; 2],
+}
+
+/// Both lines without a width, half a cycle from signal to signal.
+const LINES: Long = Long {
+    grid: 2,
+    patterns: [1, 1],
+    runs_out: [100, 100],
+    runs_in: [100, 100],
+    bands: [0, 0],
+};
+
+fn long_timing(alloc: Global, long: Long) -> Result<Timing, Fail> {
     let made = Timing::new(
+        long.grid,
         2,
-        2,
-        vec![in alloc; 1, 1, 1]?,
+        vec![in alloc; 1, long.patterns[0], long.patterns[1]]?,
         vec![in alloc; 0, 100, 0]?,
-        vec![in alloc; runs_out[0], runs_out[1]]?,
-        vec![in alloc; runs_in[0], runs_in[1]]?,
+        vec![in alloc; long.runs_out[0], long.runs_out[1]]?,
+        vec![in alloc; long.runs_in[0], long.runs_in[1]]?,
         100,
         100,
-        0,
-        0,
+        long.bands[0],
+        long.bands[1],
     );
     Ok(made.ok_or("no timing")?)
 }
 
+fn fast(dir: Dir, link: u32) -> Option<Failing> {
+    Some(Failing::Fast { dir, link })
+}
+
+fn slow(dir: Dir, link: u32) -> Option<Failing> {
+    Some(Failing::Slow { dir, link })
+}
+
+fn rise(dir: Dir) -> Option<Failing> {
+    Some(Failing::Rise { dir, link: 1 })
+}
+
+fn drop_of_pace(dir: Dir) -> Option<Failing> {
+    Some(Failing::Drop { dir, link: 1 })
+}
+
+fn outbound(signal: u32, tick: i128) -> Option<Failing> {
+    Some(Failing::Outbound { signal, tick })
+}
+
+fn inbound(signal: u32, tick: i128) -> Option<Failing> {
+    Some(Failing::Inbound { signal, tick })
+}
+
+/// The limits of three signals alone, and then two rules broken at once, or one at two places: the first is named.
 #[test]
-fn changes_of_pace(rt: HostRuntime) -> Result<(), Fail> {
+fn the_first_of_two_rules(rt: HostRuntime) -> Result<(), Fail> {
     let alloc = rt.alloc();
     let artery = long_artery(alloc)?;
-    let rise = Failing::Rise {
-        dir: Dir::Outbound,
-        link: 1,
-    };
-    let drop = Failing::Drop {
-        dir: Dir::Inbound,
-        link: 1,
-    };
+    let pattern = Some(Failing::Pattern { signal: 2 });
     let rows = [
-        ([100, 111], [100, 100], Some(rise)),
-        ([100, 100], [100, 89], Some(drop)),
+        (LINES, None),
         (
-            [100, 110],
-            [100, 90],
-            Some(Failing::Inbound {
-                signal: 2,
-                tick: 190,
-            }),
+            Long {
+                runs_out: [100, 111],
+                ..LINES
+            },
+            rise(Dir::Outbound),
         ),
-        ([100, 100], [100, 100], None),
+        (
+            Long {
+                runs_in: [100, 89],
+                ..LINES
+            },
+            drop_of_pace(Dir::Inbound),
+        ),
+        (
+            Long {
+                runs_out: [100, 110],
+                runs_in: [100, 90],
+                ..LINES
+            },
+            inbound(2, 190),
+        ),
+        // Two rules: the first of them.
+        (
+            Long {
+                patterns: [2, 1],
+                grid: 3,
+                ..LINES
+            },
+            pattern,
+        ),
+        (
+            Long {
+                grid: 3,
+                runs_out: [70, 100],
+                ..LINES
+            },
+            Some(Failing::CycleShort),
+        ),
+        (
+            Long {
+                grid: 1,
+                runs_out: [24, 100],
+                ..LINES
+            },
+            Some(Failing::CycleLong),
+        ),
+        (
+            Long {
+                runs_out: [201, 200],
+                runs_in: [50, 49],
+                ..LINES
+            },
+            fast(Dir::Inbound, 2),
+        ),
+        (
+            Long {
+                runs_out: [100, 111],
+                runs_in: [200, 201],
+                ..LINES
+            },
+            slow(Dir::Inbound, 2),
+        ),
+        (
+            Long {
+                runs_out: [100, 89],
+                runs_in: [100, 111],
+                ..LINES
+            },
+            rise(Dir::Inbound),
+        ),
+        (
+            Long {
+                runs_in: [100, 89],
+                bands: [100, 49],
+                ..LINES
+            },
+            drop_of_pace(Dir::Inbound),
+        ),
+        (
+            Long {
+                bands: [101, 50],
+                ..LINES
+            },
+            Some(Failing::Ratio),
+        ),
+        (
+            Long {
+                runs_out: [100, 101],
+                bands: [100, 101],
+                ..LINES
+            },
+            outbound(3, 401),
+        ),
+        // One rule both ways: outbound.
+        (
+            Long {
+                runs_out: [50, 49],
+                runs_in: [49, 50],
+                ..LINES
+            },
+            fast(Dir::Outbound, 2),
+        ),
+        (
+            Long {
+                runs_out: [200, 201],
+                runs_in: [201, 200],
+                ..LINES
+            },
+            slow(Dir::Outbound, 2),
+        ),
+        (
+            Long {
+                runs_out: [100, 111],
+                runs_in: [100, 111],
+                ..LINES
+            },
+            rise(Dir::Outbound),
+        ),
+        (
+            Long {
+                runs_out: [100, 89],
+                runs_in: [100, 89],
+                ..LINES
+            },
+            drop_of_pace(Dir::Outbound),
+        ),
+        // One rule at two numbers: the first that the band or the list comes to.
+        (
+            Long {
+                patterns: [2, 2],
+                ..LINES
+            },
+            pattern,
+        ),
+        (
+            Long {
+                runs_out: [49, 49],
+                ..LINES
+            },
+            fast(Dir::Outbound, 1),
+        ),
+        (
+            Long {
+                runs_in: [201, 201],
+                ..LINES
+            },
+            slow(Dir::Inbound, 1),
+        ),
+        (
+            Long {
+                runs_out: [101, 100],
+                bands: [100, 100],
+                ..LINES
+            },
+            outbound(2, 301),
+        ),
+        (
+            Long {
+                runs_in: [100, 101],
+                bands: [100, 100],
+                ..LINES
+            },
+            inbound(2, 301),
+        ),
     ];
-    for (runs_out, runs_in, expected) in rows {
-        let timing = long_timing(alloc, runs_out, runs_in)?;
+    for (long, expected) in rows {
+        let timing = long_timing(alloc, long)?;
         assert!(rt; holds(&artery, &timing).err() == expected);
     }
-    let short = timing(alloc, whole_band())?;
-    assert!(rt; holds(&artery, &short).err() == Some(Failing::Shape));
+    // A pattern that isn't allowed, and too few signals.
+    let short = Times {
+        pattern: 2,
+        ..whole_band()
+    };
+    assert!(rt; holds(&artery, &timing(alloc, short)?).err() == Some(Failing::Shape));
     Ok(())
 }
 

@@ -5,7 +5,9 @@ use Rattle.narrow_fraction.specs.Attempt.{attempt}
 use Rattle.narrow_fraction.proofs.Attempt.{attempt_err, first_is}
 use Rattle.named_row.specs.declared.names.Place.TheVariants.{Cell}
 use Rattle.named_row.specs.Refusals.{place_refusal, cell_refusal}
-use Rattle.named_row.proofs.Columns.{sum_is}
+use Rattle.named_row.proofs.Columns.{sum_is, part_is}
+use Rattle.named_row.proofs.Operations.{refused_there}
+use Rattle.named_row.proofs.Whole.{left_at_cell}
 use Rattle.named_row.proofs.cells.add_cells.Goals as goal
 
 pub returns-in-Err-clause-outcome : goal.returns-in-Err-clause-outcome
@@ -21,3 +23,10 @@ pub returns-clause-sum : goal.returns-clause-sum
 returns-clause-sum c =
     let s = c.loop-column.invariant in
     sum_is c.args.by c.args.other.now c.args.coefs.now c.loop-column.coefs c.requires.same s.kept (λ m h. s.done m (omega arith))
+
+pub returns-in-Err-clause-left : goal.returns-in-Err-clause-left
+returns-in-Err-clause-left c =
+    let k = c.loop-column.column in
+    let s = c.loop-column.invariant in
+    left_at_cell k c.args.by c.args.coefs.now c.args.other.now c.loop-column.coefs _ (refused_there _ _ _ _ _ (attempt_err _ _ _ c.in-Err.ensures))
+    (part_is c.args.by k c.args.other.now c.args.coefs.now c.loop-column.coefs c.requires.same s.kept (omega arith) s.done s.rest)

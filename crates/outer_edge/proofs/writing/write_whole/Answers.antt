@@ -13,5 +13,5 @@ loop-done-preserved g c =
       front = appends_more _ _ _ _ _ _ c.loop-done.invariant.front (rw rest at e.appended);
       within = omega (arith, e.count.1, length-take (length bytes - i) (drop i bytes), length-drop i bytes);
       room = omega (arith, e.room);
-      faults = omega (arith, e.faults);
+      faults = omega (arith, e.none_failed);
     }

@@ -4,10 +4,11 @@ use Rattle.rational_theory.specs.Rational.{◌+ℚ◌, ◌*ℚ◌}
 use Rattle.rational_theory.specs.Rows.{add, scale}
 use Rattle.narrow_fraction.specs.Attempt.{attempt, first_below}
 use Rattle.narrow_fraction.proofs.Attempt.{attempt_err, attempt_ok}
-use Rattle.named_row.specs.Sheets.{Sheet}
+use Rattle.named_row.specs.Sheets.{Sheet, coefs_left}
 use Rattle.named_row.specs.declared.names.Place.TheVariants.{Bound}
 use Rattle.named_row.specs.Refusals.{place_refusal, cell_refusal}
-use Rattle.named_row.proofs.Whole.{cells_stop, bound_stops, sum_passes, with_times_is}
+use Rattle.named_row.proofs.Operations.{refused_there}
+use Rattle.named_row.proofs.Whole.{cells_stop, bound_stops, sum_passes, with_times_is, left_is, left_at_bound}
 use Rattle.named_row.proofs.row.Row.add_scaled.Goals as goal
 
 pub returns-in-Err-clause-outcome : goal.returns-in-Err-clause-outcome
@@ -47,3 +48,21 @@ returns-in-Err-add_number-clause-outcome c =
     let e = ap₂ (λ x y. first_below (cell_refusal c.args.by x y) (length x)) (sym a) (sym b) ∙ (attempt_ok _ _ _ c.in_default.ensures.outcome).0 in
     let f = ap₂ (λ x y. place_refusal Bound c.args.by x y) (sym p) (sym q) ∙ attempt_err _ _ _ c.in-Err-add_number.ensures in
     sym (ap (λ o. attempt o tt) (bound_stops c.args.by c.args.other.now c.args.self.now c.in-Err-add_number.wide e f))
+
+pub returns-in-Err-clause-left : goal.returns-in-Err-clause-left
+returns-in-Err-clause-left c =
+    let a = c.deref_mut.ensures.value ∙ ap (λ (t : Sheet). t.coefs) c.self.view_is in
+    let b = c.deref.ensures.value ∙ ap (λ (t : Sheet). t.coefs) c.other.view_is in
+    let p = ap (λ (t : Sheet). t.bound) c.self.view_is in
+    let w = with_items_is c.self.inside.coefs c.add_cells.new.coefs (c.in-Err.ensures.width ∙ ap length c.deref_mut.ensures.value ∙ sym c.self.inside.coefs.ok.0) in
+    left_is _ c.args.by c.args.other.now c.args.self.now _ _ (w ∙ c.in-Err.ensures.left ∙ ap₂ (λ x y. coefs_left c.in-Err.wide.place c.args.by x y) a b) p
+
+pub returns-in-Err-add_number-clause-left : goal.returns-in-Err-add_number-clause-left
+returns-in-Err-add_number-clause-left c =
+    let a = c.deref_mut.ensures.value ∙ ap (λ (t : Sheet). t.coefs) c.self.view_is in
+    let b = c.deref.ensures.value ∙ ap (λ (t : Sheet). t.coefs) c.other.view_is in
+    let p = ap (λ (t : Sheet). t.bound) c.self.view_is in
+    let w = with_items_is c.self.inside.coefs c.add_cells.new.coefs (c.in_default.ensures.width ∙ ap length c.deref_mut.ensures.value ∙ sym c.self.inside.coefs.ok.0) in
+    let e = w ∙ c.in_default.ensures.sum ∙ ap₂ (λ x y. add x (scale c.args.by y)) a b in
+    let q = refused_there _ _ _ _ _ (attempt_err _ _ _ c.in-Err-add_number.ensures) in
+    left_is _ c.args.by c.args.other.now c.args.self.now _ _ (left_at_bound c.args.by c.args.self.now.coefs c.args.other.now.coefs _ _ q e) p
