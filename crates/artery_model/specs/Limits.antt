@@ -1,32 +1,32 @@
 -- The limits of an artery's numbers and the rules between them, as a list of tests: for each kind in order, and within it for each place in order.
-use Rattle.std.specs.Prelude.{ℕ, ◌+◌, ◌-◌, ◌==◌, nat_eq, nat_le, nat_lt, ◌&&◌, not, List, [], ◌∷◌, ◌++◌, length, Bool, true, Option, None, Some, codes, negsuc, unsigned_abs, if◌then◌else◌}
+use Rattle.std.specs.Prelude.{ℕ, ◌+◌, ◌-◌, ◌==◌, nat_eq, nat_le, nat_lt, ◌&&◌, not, List, [], ◌∷◌, ◌++◌, length, Bool, true, Option, None, Some, codes, unsigned_abs, if◌then◌else◌}
 use Rattle.std.specs.List.{list_any, list_all}
 use Rattle.std.specs.Ordering.{is_le}
 use Rattle.std.specs.Cmp.Lexicographic.{pointwise}
 use Rattle.rational_theory.specs.Rational.{ℚ, whole}
 use Rattle.rational_theory.specs.Compare.{cmp_ℚ}
 use Rattle.progression.specs.Street.{Street, count}
-use Rattle.progression.specs.Speeds.{number}
 use Rattle.progression.specs.declared.parts.Head.{Head}
 use Rattle.progression.specs.declared.parts.Signal.{Signal}
 use Rattle.progression.specs.declared.parts.Link.{Link}
 use Rattle.progression.specs.declared.parts.Pair.{Pair}
+use Rattle.artery_model.specs.Bounds.{least_signals, most_signals, least_parts, most_parts, least_distance, most_distance, least_speed, most_speed, least_cycle, most_cycle, least_change, most_change, least_ratio, most_ratio, most_numerator, most_denominator, least_name, most_name}
 use Rattle.artery_model.specs.Faults.{Fault, first_fault, unless, each_numbered, artery_place, signal_place, link_place}
 use Rattle.artery_model.specs.declared.kind.Kind.TheVariants as kind
 
 abbrev pub at_most : ℚ → ℚ → Bool
 at_most x y = is_le (cmp_ℚ x y)
 
--- a quantity has a numerator of at most 100,000 in size and a denominator of at most 1,000, and lies between two numbers
+-- a quantity has a numerator and a denominator of a bounded size, and lies between two numbers
 abbrev pub within : ℚ → ℚ → ℚ → Bool
-within low high q = nat_le (unsigned_abs q.num) 100000 && nat_le q.den 1000 && at_most low q && at_most q high
+within low high q = nat_le (unsigned_abs q.num) most_numerator && nat_le q.den most_denominator && at_most low q && at_most q high
 
 abbrev pub in_range : ℕ → ℕ → ℕ → Bool
 in_range low high n = nat_le low n && nat_le n high
 
--- a name has 1 to 60 bytes and no control character
+-- a name is neither empty nor long, and has no control character
 abbrev pub is_name : List ℕ → Bool
-is_name name = in_range 1 60 (length name) && list_all (λ b. nat_le 32 b && not (b == 127)) name
+is_name name = in_range least_name most_name (length name) && list_all (λ b. nat_le 32 b && not (b == 127)) name
 
 abbrev pub is_name_if_there : Option (List ℕ) → Bool
 is_name_if_there None = true
@@ -42,9 +42,9 @@ pair_ranges low high p place =
 abbrev pub head_ranges : Head → List (Option Fault)
 head_ranges h =
     unless (is_name_if_there h.name) kind.OutOfRange (artery_place (codes "name"))
-    ∷ unless (in_range 2 3600 h.parts) kind.OutOfRange (artery_place (codes "parts"))
-    ∷ first_fault (pair_ranges (number 1) (number 3600) h.cycle (artery_place (codes "cycle")))
-    ∷ unless (within (number 0) (number 100) h.ratio) kind.OutOfRange (artery_place (codes "ratio"))
+    ∷ unless (in_range least_parts most_parts h.parts) kind.OutOfRange (artery_place (codes "parts"))
+    ∷ first_fault (pair_ranges (whole least_cycle) (whole most_cycle) h.cycle (artery_place (codes "cycle")))
+    ∷ unless (within (whole least_ratio) (whole most_ratio) h.ratio) kind.OutOfRange (artery_place (codes "ratio"))
     ∷ []
 
 -- (parts - 1 is 0 for an artery of no parts, which was refused before its signals are looked at)
@@ -66,15 +66,15 @@ abbrev pub change_ranges : Bool → Option Pair → List ℕ → List (Option Fa
 change_ranges is_last None place = []
 change_ranges is_last (Some p) place =
     unless (not is_last) kind.OutOfRange place
-    ∷ first_fault (pair_ranges (whole (negsuc 999)) (number 1000) p place)
+    ∷ first_fault (pair_ranges (whole least_change) (whole most_change) p place)
     ∷ []
 
 abbrev pub link_tests : ℕ → ℕ → Link → List (Option Fault)
 link_tests n i l =
-    unless (in_range 1 30000 l.distance_out) kind.OutOfRange (link_place i (codes "distance_out"))
-    ∷ unless (in_range 1 30000 l.distance_in) kind.OutOfRange (link_place i (codes "distance_in"))
-    ∷ first_fault (pair_ranges (number 1) (number 300) l.speed_out (link_place i (codes "speed_out")))
-    ∷ first_fault (pair_ranges (number 1) (number 300) l.speed_in (link_place i (codes "speed_in")))
+    unless (in_range least_distance most_distance l.distance_out) kind.OutOfRange (link_place i (codes "distance_out"))
+    ∷ unless (in_range least_distance most_distance l.distance_in) kind.OutOfRange (link_place i (codes "distance_in"))
+    ∷ first_fault (pair_ranges (whole least_speed) (whole most_speed) l.speed_out (link_place i (codes "speed_out")))
+    ∷ first_fault (pair_ranges (whole least_speed) (whole most_speed) l.speed_in (link_place i (codes "speed_in")))
     ∷ first_fault (change_ranges (i == n) l.change_out (link_place i (codes "change_out")))
     ∷ first_fault (change_ranges (i == n) l.change_in (link_place i (codes "change_in")))
     ∷ []
@@ -126,7 +126,7 @@ link_limits i l = first_fault (limit_tests i l)
 -- ---- every test of an artery
 abbrev pub range_tests : Street → List (Option Fault)
 range_tests a =
-    unless (in_range 2 16 (count a)) kind.OutOfRange (codes "signal")
+    unless (in_range least_signals most_signals (count a)) kind.OutOfRange (codes "signal")
     ∷ first_fault (head_ranges a.head)
     ∷ first_fault (each_numbered (signal_ranges a.head.parts) 1 a.signals)
     ∷ first_fault (each_numbered (link_ranges (length a.links)) 1 a.links)

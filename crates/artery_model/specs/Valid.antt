@@ -1,16 +1,17 @@
 -- What the type of an artery keeps: that no test fails, and what follows for the sizes of the numbers.
-use Rattle.std.specs.Prelude.{◌≡◌, ℕ, ◌+◌, ◌<◌, ◌≤◌, length, All, Option, Some, None, ℤ, pos, negsuc, ◌*ℤ◌, ◌≤ℤ◌, unsigned_abs}
+use Rattle.std.specs.Prelude.{◌≡◌, ℕ, ◌+◌, ◌<◌, ◌≤◌, length, All, Option, Some, None, ℤ, pos, ◌*ℤ◌, ◌≤ℤ◌, unsigned_abs}
 use Rattle.rational_theory.specs.Rational.{ℚ, ◌≤ℚ◌}
 use Rattle.progression.specs.Street.{Street, count}
 use Rattle.progression.specs.declared.parts.Signal.{Signal}
 use Rattle.progression.specs.declared.parts.Link.{Link}
 use Rattle.progression.specs.declared.parts.Pair.{Pair}
+use Rattle.artery_model.specs.Bounds.{least_signals, most_signals, least_parts, most_parts, least_distance, most_distance, least_speed, most_speed, least_cycle, most_cycle, least_change, most_change, least_ratio, most_ratio, most_numerator, most_denominator}
 use Rattle.artery_model.specs.Limits.{artery_fault}
 
 -- a quantity between two whole numbers, its numerator and denominator of a bounded size
 pub record IsQuantity (low high : ℤ) (q : ℚ) : Type 0 where
-  pub num : unsigned_abs q.num ≤ 100000
-  pub den : q.den ≤ 1000
+  pub num : unsigned_abs q.num ≤ most_numerator
+  pub den : q.den ≤ most_denominator
   pub least : (low *ℤ pos q.den) ≤ℤ q.num
   pub most : q.num ≤ℤ (high *ℤ pos q.den)
 
@@ -21,17 +22,17 @@ pub record IsPair (low high : ℤ) (p : Pair) : Type 0 where
 
 -- limits of a speed, and of a change of pace
 abbrev pub IsSpeeds : Pair → Type 0
-IsSpeeds p = IsPair (pos 1) (pos 300) p
+IsSpeeds p = IsPair least_speed most_speed p
 
 abbrev pub IsChange : Option Pair → Type 0
 IsChange None = Unit {0}
-IsChange (Some p) = IsPair (negsuc 999) (pos 1000) p
+IsChange (Some p) = IsPair least_change most_change p
 
 -- limits of a change of pace in seconds per metre or foot
 pub record IsPaces (p : Pair) : Type 0 where
-  pub least_num : unsigned_abs p.least.num ≤ 100000
+  pub least_num : unsigned_abs p.least.num ≤ most_numerator
   pub least_den : p.least.den ≤ 5280000
-  pub most_num : unsigned_abs p.most.num ≤ 100000
+  pub most_num : unsigned_abs p.most.num ≤ most_numerator
   pub most_den : p.most.den ≤ 5280000
 
 -- each direction of the signal has some red and some green
@@ -43,23 +44,23 @@ pub record IsSignal (parts : ℕ) (s : Signal) : Type 0 where
   pub clear_in : s.clear_in < parts
 
 pub record IsLink (l : Link) : Type 0 where
-  pub least_out : 1 ≤ l.distance_out
-  pub most_out : l.distance_out ≤ 30000
-  pub least_in : 1 ≤ l.distance_in
-  pub most_in : l.distance_in ≤ 30000
+  pub least_out : least_distance ≤ l.distance_out
+  pub most_out : l.distance_out ≤ most_distance
+  pub least_in : least_distance ≤ l.distance_in
+  pub most_in : l.distance_in ≤ most_distance
   pub speed_out : IsSpeeds l.speed_out
   pub speed_in : IsSpeeds l.speed_in
   pub change_out : IsChange l.change_out
   pub change_in : IsChange l.change_in
 
 pub record IsValid (a : Street) : Type 0 where
-  pub least_parts : 2 ≤ a.head.parts
-  pub most_parts : a.head.parts ≤ 3600
-  pub few : 2 ≤ count a
-  pub many : count a ≤ 16
+  pub least_parts : least_parts ≤ a.head.parts
+  pub most_parts : a.head.parts ≤ most_parts
+  pub few : least_signals ≤ count a
+  pub many : count a ≤ most_signals
   pub one_fewer : length a.links + 1 ≡ count a
   pub each_signal : All (IsSignal a.head.parts) a.signals
   pub each_link : All IsLink a.links
-  pub cycle : IsPair (pos 1) (pos 3600) a.head.cycle
-  pub ratio : IsQuantity (pos 0) (pos 100) a.head.ratio
+  pub cycle : IsPair least_cycle most_cycle a.head.cycle
+  pub ratio : IsQuantity least_ratio most_ratio a.head.ratio
   pub no_fault : artery_fault a ≡ None

@@ -5,6 +5,7 @@ ghost use Rattle.rational_theory.specs.Rational.{◌≤ℚ◌};
 ghost use Rattle.progression.specs.Street.{Street, count, signal_of, link_of, left_against, red_parts, clearance, allows, distance, speed, change_given};
 ghost use Rattle.progression.specs.Speeds.{run_low, run_high, change};
 ghost use Rattle.progression.specs.Columns.{pattern_shift};
+ghost use Rattle.artery_model.specs.Bounds.{least_signals, most_signals, least_parts, most_parts, least_distance, most_distance, least_cycle, most_cycle, least_ratio, most_ratio};
 ghost use Rattle.artery_model.specs.Faults.{Judges};
 ghost use Rattle.artery_model.specs.Limits.{artery_fault};
 ghost use Rattle.artery_model.specs.Valid.{IsValid, IsSignal, IsLink, IsSpeeds, IsChange, IsPair, IsPaces, IsQuantity};
@@ -92,20 +93,20 @@ impl Artery {
         self.links.as_slice()
     }
 
-    /// The number of signals, from 2 to 16.
+    /// The number of signals, from `LEAST_SIGNALS` to `MOST_SIGNALS`.
     pub fn count(&self) -> u32
         ensures value { result ≡ count self.now }
-        ensures few { 2 ≤ result }
-        ensures many { result ≤ 16 }
+        ensures few { least_signals ≤ result }
+        ensures many { result ≤ most_signals }
     {
         self.signals.len() as u32
     }
 
-    /// The number of parts of the cycle, from 2 to 3600.
+    /// The number of parts of the cycle, from `LEAST_PARTS` to `MOST_PARTS`.
     pub fn parts(&self) -> u32
         ensures value { result ≡ self.now.head.parts }
-        ensures least { 2 ≤ result }
-        ensures most { result ≤ 3600 }
+        ensures least { least_parts ≤ result }
+        ensures most { result ≤ most_parts }
     {
         self.head.parts
     }
@@ -115,7 +116,7 @@ impl Artery {
         requires last { signal ≤ count self.now }
         ensures value { result.now ≡ signal_of self.now signal }
         ensures valid { IsSignal self.now.head.parts result.now }
-        ensures parts { self.now.head.parts ≤ 3600 }
+        ensures parts { self.now.head.parts ≤ most_parts }
     {
         &self.signals[signal as usize - 1]
     }
@@ -135,7 +136,7 @@ impl Artery {
         requires first { 1 ≤ signal }
         requires last { signal ≤ count self.now }
         ensures value { result ≡ left_against self.now dir signal }
-        ensures small { result < 3600 }
+        ensures small { result < most_parts }
     {
         let found = self.signal(signal);
         match dir {
@@ -149,7 +150,7 @@ impl Artery {
         requires first { 1 ≤ signal }
         requires last { signal ≤ count self.now }
         ensures value { result ≡ (signal_of self.now signal).red }
-        ensures small { result < 3600 }
+        ensures small { result < most_parts }
     {
         self.signal(signal).red
     }
@@ -162,7 +163,7 @@ impl Artery {
         ensures value { result ≡ red_parts self.now dir signal }
         ensures least { 1 ≤ result }
         ensures green { result < self.now.head.parts }
-        ensures small { result < 3600 }
+        ensures small { result < most_parts }
     {
         let found = self.signal(signal);
         match dir {
@@ -178,7 +179,7 @@ impl Artery {
         ensures value { result ≡ red_parts self.now Dir.Outbound signal }
         ensures least { 1 ≤ result }
         ensures green { result < self.now.head.parts }
-        ensures small { result < 3600 }
+        ensures small { result < most_parts }
     {
         self.red(Dir::Outbound, signal)
     }
@@ -190,7 +191,7 @@ impl Artery {
         ensures value { result ≡ red_parts self.now Dir.Inbound signal }
         ensures least { 1 ≤ result }
         ensures green { result < self.now.head.parts }
-        ensures small { result < 3600 }
+        ensures small { result < most_parts }
     {
         self.red(Dir::Inbound, signal)
     }
@@ -200,7 +201,7 @@ impl Artery {
         requires first { 1 ≤ signal }
         requires last { signal ≤ count self.now }
         ensures value { result ≡ clearance self.now dir signal }
-        ensures small { result < 3600 }
+        ensures small { result < most_parts }
     {
         let found = self.signal(signal);
         match dir {
@@ -238,13 +239,13 @@ impl Artery {
         }
     }
 
-    /// The length of a link, in metres or feet, from 1 to 30000.
+    /// The length of a link, in metres or feet, from `LEAST_DISTANCE` to `MOST_DISTANCE`.
     pub fn distance(&self, dir: Dir, link: u32) -> u32
         requires first { 1 ≤ link }
         requires last { link < count self.now }
         ensures value { result ≡ distance self.now dir link }
-        ensures least { 1 ≤ result }
-        ensures most { result ≤ 30000 }
+        ensures least { least_distance ≤ result }
+        ensures most { result ≤ most_distance }
     {
         let found = self.link(link);
         match dir {
@@ -320,21 +321,21 @@ impl Artery {
         }
     }
 
-    /// The limits of the cycle in seconds, from 1 to 3600.
+    /// The limits of the cycle in seconds, from `LEAST_CYCLE` to `MOST_CYCLE`.
     pub fn cycle(&self) -> Pair
         ensures value { result ≡ self.now.head.cycle }
-        ensures valid { IsPair (pos 1) (pos 3600) result }
+        ensures valid { IsPair least_cycle most_cycle result }
         ensures least_num { pos 1 ≤ℤ result.least.num }
         ensures most_num { pos 1 ≤ℤ result.most.num }
     {
         self.head.cycle
     }
 
-    /// How much a second of the inbound band counts against one of the outbound band, from 0 to
-    /// 100.
+    /// How much a second of the inbound band counts against one of the outbound band, from
+    /// `LEAST_RATIO` to `MOST_RATIO`.
     pub fn ratio(&self) -> Frac
         ensures value { result ≡ self.now.head.ratio }
-        ensures valid { IsQuantity (pos 0) (pos 100) result }
+        ensures valid { IsQuantity least_ratio most_ratio result }
         ensures num { pos 0 ≤ℤ result.num }
     {
         self.head.ratio

@@ -4,6 +4,7 @@
 #![tactic(auto)]
 
 mod artery;
+pub mod bounds;
 mod kind;
 mod laws;
 mod names;

@@ -3,23 +3,28 @@
 ghost use Rattle.std.specs.Prelude.{◌≡◌, ◌==◌, nat_le, not, ◌&&◌, length};
 ghost use Rattle.std.specs.List.{list_all};
 ghost use Rattle.rational_theory.specs.Rational.{whole};
-ghost use Rattle.progression.specs.Speeds.{number};
+ghost use Rattle.artery_model.specs.Bounds.{least_distance, most_distance, least_speed, most_speed};
 ghost use Rattle.artery_model.specs.Faults.{first_fault, unless, each_numbered, link_place, Judges};
 ghost use Rattle.artery_model.specs.Limits.{within, in_range, is_name, is_name_if_there, pair_ranges, head_ranges, signal_ranges, change_ranges, link_ranges, range_tests};
 
+use crate::bounds::{
+    LEAST_CHANGE, LEAST_CYCLE, LEAST_DISTANCE, LEAST_NAME, LEAST_PARTS, LEAST_RATIO, LEAST_SIGNALS,
+    LEAST_SPEED, MOST_CHANGE, MOST_CYCLE, MOST_DENOMINATOR, MOST_DISTANCE, MOST_NAME,
+    MOST_NUMERATOR, MOST_PARTS, MOST_RATIO, MOST_SIGNALS, MOST_SPEED,
+};
 use crate::kind::{Flaw, Kind};
 use crate::refusals::{check, check_item, check_signal, link_place};
 use narrow_fraction::Frac;
 use progression::{Head, Link, Pair, Signal, Text};
 use std::alloc::Global;
 
-/// Whether a quantity lies between two whole numbers, both among them, its numerator being at most 100,000 in size and its
-/// denominator at most 1,000.
+/// Whether a quantity lies between two whole numbers, both among them, its numerator being at most `MOST_NUMERATOR` in
+/// size and its denominator at most `MOST_DENOMINATOR`.
 pub fn is_within(low: i64, high: i64, value: Frac) -> bool
     ensures { result ≡ within (whole low) (whole high) value }
 {
-    value.num().unsigned_abs() <= 100_000
-        && value.den().unsigned_abs() <= 1000
+    value.num().unsigned_abs() <= MOST_NUMERATOR
+        && value.den().unsigned_abs() <= MOST_DENOMINATOR
         && Frac::whole(low) <= value
         && value <= Frac::whole(high)
 }
@@ -37,12 +42,12 @@ fn all_plain(bytes: &[u8]) -> bool
     bytes.iter().all(|byte| is_plain(*byte))
 }
 
-/// Whether a name has 1 to 60 bytes and no control character.
+/// Whether a name has `LEAST_NAME` to `MOST_NAME` bytes and no control character.
 pub fn is_name(name: &str) -> bool
     ensures { result ≡ is_name name.now }
 {
     let bytes = name.as_bytes();
-    1 <= bytes.len() && bytes.len() <= 60 && all_plain(bytes)
+    LEAST_NAME <= bytes.len() && bytes.len() <= MOST_NAME && all_plain(bytes)
 }
 
 fn is_name_if_there(name: &Option<Text>) -> bool
@@ -68,10 +73,10 @@ fn check_head(alloc: Global, head: &Head) -> Result<(), Flaw>
 {
     let named = is_name_if_there(&head.name);
     check(alloc, named, Kind::OutOfRange, "artery.name")?;
-    let parts = 2 <= head.parts && head.parts <= 3600;
+    let parts = LEAST_PARTS <= head.parts && head.parts <= MOST_PARTS;
     check(alloc, parts, Kind::OutOfRange, "artery.parts")?;
-    check_pair(alloc, 1, 3600, head.cycle, "artery.cycle")?;
-    let ratio = is_within(0, 100, head.ratio);
+    check_pair(alloc, LEAST_CYCLE, MOST_CYCLE, head.cycle, "artery.cycle")?;
+    let ratio = is_within(LEAST_RATIO, MOST_RATIO, head.ratio);
     check(alloc, ratio, Kind::OutOfRange, "artery.ratio")
 }
 
@@ -103,18 +108,18 @@ fn check_each_signal(alloc: Global, parts: u32, signals: &[Signal]) -> Result<()
 }
 
 fn check_distance(alloc: Global, distance: u32, link: usize, key: &str) -> Result<(), Flaw>
-    ensures { Judges result (unless (in_range 1 30000 distance) Kind.OutOfRange (link_place link key.now)) }
+    ensures { Judges result (unless (in_range least_distance most_distance distance) Kind.OutOfRange (link_place link key.now)) }
 {
     let place = link_place(alloc, link, key)?;
-    let passes = 1 <= distance && distance <= 30_000;
+    let passes = LEAST_DISTANCE <= distance && distance <= MOST_DISTANCE;
     check(alloc, passes, Kind::OutOfRange, place.as_str())
 }
 
 fn check_speeds(alloc: Global, speeds: Pair, link: usize, key: &str) -> Result<(), Flaw>
-    ensures { Judges result (first_fault (pair_ranges (number 1) (number 300) speeds (link_place link key.now))) }
+    ensures { Judges result (first_fault (pair_ranges (whole least_speed) (whole most_speed) speeds (link_place link key.now))) }
 {
     let place = link_place(alloc, link, key)?;
-    check_pair(alloc, 1, 300, speeds, place.as_str())
+    check_pair(alloc, LEAST_SPEED, MOST_SPEED, speeds, place.as_str())
 }
 
 fn check_change(
@@ -131,7 +136,7 @@ fn check_change(
     };
     let place = link_place(alloc, link, key)?;
     check(alloc, !is_last, Kind::OutOfRange, place.as_str())?;
-    check_pair(alloc, -1000, 1000, limits, place.as_str())
+    check_pair(alloc, LEAST_CHANGE, MOST_CHANGE, limits, place.as_str())
 }
 
 /// The limits of the numbers of a link, the last of which is that with the number `last`.
@@ -165,7 +170,7 @@ pub(crate) fn check_ranges(
 ) -> Result<(), Flaw>
     ensures { Judges result (first_fault (range_tests (record { head = head.now; signals = signals.now; links = links.now }))) }
 {
-    let count = 2 <= signals.len() && signals.len() <= 16;
+    let count = LEAST_SIGNALS <= signals.len() && signals.len() <= MOST_SIGNALS;
     check(alloc, count, Kind::OutOfRange, "signal")?;
     check_head(alloc, head)?;
     check_each_signal(alloc, head.parts, signals)?;

@@ -1,8 +1,9 @@
 //! Runs in seconds, and limits of a change of pace in seconds per metre or foot.
 
-ghost use Rattle.std.specs.Prelude.{◌≡◌, ◌*◌, ◌≤◌, pos, negsuc, ◌≤ℤ◌, unsigned_abs};
+ghost use Rattle.std.specs.Prelude.{◌≡◌, ◌*◌, ◌≤◌, pos, ◌≤ℤ◌, unsigned_abs};
 ghost use Rattle.rational_theory.specs.Rational.{◌*ℚ◌, ◌/ℚ◌};
 ghost use Rattle.progression.specs.Speeds.{number, seconds, unit_length};
+ghost use Rattle.artery_model.specs.Bounds.{least_distance, most_distance, least_speed, most_speed, least_change, most_change, most_numerator, most_denominator};
 ghost use Rattle.artery_model.specs.Valid.{IsQuantity, IsPair, IsPaces};
 
 use narrow_fraction::Frac;
@@ -14,9 +15,9 @@ fn run(top: u32, bottom: u32, distance: u32, speed: Frac) -> Frac
     requires top_most { top ≤ 18 }
     requires bottom { 1 ≤ bottom }
     requires bottom_most { bottom ≤ 22 }
-    requires least { 1 ≤ distance }
-    requires most { distance ≤ 30000 }
-    requires speed { IsQuantity (pos 1) (pos 300) speed }
+    requires least { least_distance ≤ distance }
+    requires most { distance ≤ most_distance }
+    requires speed { IsQuantity least_speed most_speed speed }
     ensures value { result ≡ number (top * distance) /ℚ (number bottom *ℚ speed) }
     ensures positive { pos 1 ≤ℤ result.num }
     ensures num { unsigned_abs result.num ≤ 540000000 }
@@ -29,9 +30,9 @@ fn run(top: u32, bottom: u32, distance: u32, speed: Frac) -> Frac
 
 /// The seconds that a distance takes at a speed.
 pub(crate) fn seconds(units: Units, distance: u32, speed: Frac) -> Frac
-    requires least { 1 ≤ distance }
-    requires most { distance ≤ 30000 }
-    requires speed { IsQuantity (pos 1) (pos 300) speed }
+    requires least { least_distance ≤ distance }
+    requires most { distance ≤ most_distance }
+    requires speed { IsQuantity least_speed most_speed speed }
     ensures value { result ≡ seconds units distance speed }
     ensures positive { pos 1 ≤ℤ result.num }
     ensures num { unsigned_abs result.num ≤ 540000000 }
@@ -56,10 +57,10 @@ fn unit_length(units: Units) -> u32
 
 /// A limit in seconds per kilometre or mile, in seconds per metre or foot.
 fn pace(units: Units, given: Frac) -> Frac
-    requires num { unsigned_abs given.num ≤ 100000 }
-    requires den { given.den ≤ 1000 }
+    requires num { unsigned_abs given.num ≤ most_numerator }
+    requires den { given.den ≤ most_denominator }
     ensures value { result ≡ given /ℚ number (unit_length units) }
-    ensures num { unsigned_abs result.num ≤ 100000 }
+    ensures num { unsigned_abs result.num ≤ most_numerator }
     ensures den { result.den ≤ 5280000 }
 {
     Frac::reduced(
@@ -70,7 +71,7 @@ fn pace(units: Units, given: Frac) -> Frac
 
 /// Limits in seconds per kilometre or mile, in seconds per metre or foot.
 pub(crate) fn paces(units: Units, given: Pair) -> Pair
-    requires { IsPair (negsuc 999) (pos 1000) given }
+    requires { IsPair least_change most_change given }
     ensures least { result.least ≡ given.least /ℚ number (unit_length units) }
     ensures most { result.most ≡ given.most /ℚ number (unit_length units) }
     ensures sizes { IsPaces result }
