@@ -7,21 +7,21 @@ use Rattle.std.specs.Prelude.{◌||◌, ◌&&◌}
 use Rattle.std.specs.Ordering.{eq_by_cmp}
 use Rattle.rational_theory.specs.Rational.{ℚ, whole}
 use Rattle.rational_theory.specs.Compare.{cmp_ℚ}
-use Rattle.progression.specs.Street.{Street, HasSignal, HasLink}
+use Rattle.progression.specs.Street.{Street}
 use Rattle.progression.specs.Speeds.{number}
 use Rattle.artery_model.specs.Valid.{IsValid}
 use Rattle.linear_theory.specs.Names.{HasRow, name_of}
 use Rattle.linear_theory.specs.Boxes.{Area}
-use Rattle.loop_rows.specs.Following.{IsBelow}
+use Rattle.linear_theory.proofs.Families.{row_index, family_least, family_most}
+use Rattle.named_row.specs.Order.{IsBelow, is_below}
 use Rattle.named_row.specs.declared.names.RowId.{RowId}
 use Rattle.named_row.specs.declared.leaves.Weight.{Weight}
 use Rattle.simplex_theory.specs.BlandRule.{Move, optimal, infeasible, pivoted}
 use Rattle.program_builder.specs.BoxRows.{rows_of, name_at}
 use Rattle.program_builder.proofs.RowOrder.{rows_ascending, rows_there}
-use Rattle.program_builder.proofs.NamedFamilies.{by_family}
 use Rattle.program_builder.proofs.RowCounts.{rows_most}
 use Rattle.dual_leaf.specs.Leaves.{multiplier, multipliers_below}
-use Rattle.plan_text.specs.Families.{IsNamed, is_lone, is_below, is_after}
+use Rattle.plan_text.specs.Families.{IsNamed, is_after}
 use Rattle.plan_text.specs.Warrants.{Ascend, IsNode, LeafOf}
 use Rattle.branch_tree.specs.Ends.{named_last, end_move, leaf_by, end_leaf}
 use Rattle.branch_tree.specs.Starts.{first_out, first_in, start_leaf}
@@ -45,25 +45,9 @@ below_test r s (inr h) = or_right _ _ (and_both _ _ (eq-eqb _ _ h.0) (lt-ltb _ _
 
 -- a row of the artery has a name
 named_row : (a : Street) (f i : ℕ) → HasRow a (name_of f i) → IsNamed (record { family = f; index = i })
-named_row a f i =
-    by_family (λ g n. HasRow a n → IsNamed (record { family = g; index = i })) f i
-    (λ h. signal 1 refl (omega arith) (omega arith) h) (λ h. signal 2 refl (omega arith) (omega arith) h) (λ h. link 3 refl (omega arith) (omega arith) h) (λ h. link 4 refl (omega arith) (omega arith) h)
-    (λ h. link 5 refl (omega arith) (omega arith) h) (λ h. link 6 refl (omega arith) (omega arith) h) (λ h. link 7 refl (omega arith) (omega arith) h.0) (λ h. link 8 refl (omega arith) (omega arith) h.0)
-    (λ h. link 9 refl (omega arith) (omega arith) h.0) (λ h. link 10 refl (omega arith) (omega arith) h.0) (λ h. lone 11 refl (omega arith) (omega arith) h) (λ h. lone 12 refl (omega arith) (omega arith) h)
-    (λ h. lone 13 refl (omega arith) (omega arith) h.0) (λ h. link 14 refl (omega arith) (omega arith) h) (λ h. link 15 refl (omega arith) (omega arith) h) (λ h. signal 16 refl (omega arith) (omega arith) h)
-    (λ h. signal 17 refl (omega arith) (omega arith) h) (λ h. absurd h)
-  where
-    indexed : (g : ℕ) → is_lone g ≡ false → 1 ≤ g → g ≤ 17 → 1 ≤ i → IsNamed (record { family = g; index = i })
-    indexed g e l m h = record { first = l; last = m; lone = λ p. absurd (true≢false (sym p ∙ e)); indexed = λ p. h }
-
-    signal : (g : ℕ) → is_lone g ≡ false → 1 ≤ g → g ≤ 17 → HasSignal a i → IsNamed (record { family = g; index = i })
-    signal g e l m h = indexed g e l m h.0
-
-    link : (g : ℕ) → is_lone g ≡ false → 1 ≤ g → g ≤ 17 → HasLink a i → IsNamed (record { family = g; index = i })
-    link g e l m h = indexed g e l m h.0
-
-    lone : (g : ℕ) → is_lone g ≡ true → 1 ≤ g → g ≤ 17 → i ≡ 0 → IsNamed (record { family = g; index = i })
-    lone g e l m h = record { first = l; last = m; lone = λ p. h; indexed = λ p. absurd (true≢false (sym e ∙ p)) }
+named_row a f i h =
+    let x = row_index a f i h in
+    record { first = family_least a f i h; last = family_most a f i h; lone = x.none; indexed = x.some }
 
 -- ---- multipliers of ascending rows
 -- each row comes before this one

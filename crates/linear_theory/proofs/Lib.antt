@@ -25,4 +25,5 @@ pub mod Splits
 pub mod Bounds
 pub mod Points
 pub mod NamedRows
+pub mod Families
 pub mod Divided

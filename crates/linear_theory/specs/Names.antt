@@ -1,5 +1,6 @@
--- The rows of an artery by name: a family's number, from 1 to 17, and the number of a signal or link, or 0.
-use Rattle.std.specs.Prelude.{◌≡◌, ◌≢◌, ℕ, ◌+◌, ◌==◌, if◌then◌else◌, [], Option, None, Some, IsSome}
+-- The rows of an artery by name: a family's number, from 1 on, and the number of a signal or link, or 0. The table `families` has all families; what a
+-- family's rows are, and where an artery has them, is its rule.
+use Rattle.std.specs.Prelude.{◌≡◌, ◌≢◌, ℕ, ◌+◌, ◌==◌, ◌||◌, if◌then◌else◌, List, [], ◌∷◌, length, codes, Bool, true, false, Option, None, Some, IsSome}
 use Rattle.progression.specs.Street.{Street, HasSignal, HasLink}
 use Rattle.progression.specs.Speeds.{number, change}
 use Rattle.progression.specs.declared.parts.Pair.{Pair}
@@ -24,38 +25,85 @@ pub data Name : Type 0 where
   TurnHighRow : ℕ → Name
   NoRow : Name
 
--- the row of a family's number and an index
+-- ---- the families by their numbers
+-- a family: its name in a text, whether it has one row alone, which has no index there, and its row of an index
+pub record Family : Type 0 where
+  pub text : List ℕ
+  pub lone : Bool
+  pub row : ℕ → Name
+
+-- a family with a row for each signal or link
+abbrev pub indexed : List ℕ → (ℕ → Name) → Family
+indexed text row = record { text = text; lone = false; row = row }
+
+-- one with one row
+abbrev pub alone : List ℕ → (ℕ → Name) → Family
+alone text row = record { text = text; lone = true; row = row }
+
+-- all families, numbered from 1 on
+abbrev pub families : List Family
+families =
+    indexed (codes "wout") (WaitRow Outbound)
+    ∷ indexed (codes "win") (WaitRow Inbound)
+    ∷ indexed (codes "fast_out") (FastRow Outbound)
+    ∷ indexed (codes "fast_in") (FastRow Inbound)
+    ∷ indexed (codes "slow_out") (SlowRow Outbound)
+    ∷ indexed (codes "slow_in") (SlowRow Inbound)
+    ∷ indexed (codes "rise_out") (RiseRow Outbound)
+    ∷ indexed (codes "rise_in") (RiseRow Inbound)
+    ∷ indexed (codes "drop_out") (DropRow Outbound)
+    ∷ indexed (codes "drop_in") (DropRow Inbound)
+    ∷ alone (codes "cycle_low") CycleLowRow
+    ∷ alone (codes "cycle_high") CycleHighRow
+    ∷ alone (codes "ratio") RatioRow
+    ∷ indexed (codes "loop_lo") LoopLowRow
+    ∷ indexed (codes "loop_hi") LoopHighRow
+    ∷ indexed (codes "turn_lo") TurnLowRow
+    ∷ indexed (codes "turn_hi") TurnHighRow
+    ∷ []
+
+-- the greatest number of a family
+abbrev pub last_family : ℕ
+last_family = length families
+
+-- the row of a family's number and an index, where these families are numbered from n on
+abbrev pub row_among : ℕ → List Family → ℕ → ℕ → Name
+row_among n [] family i = NoRow
+row_among n (f ∷ fs) family i = if family == n then f.row i else row_among (n + 1) fs family i
+
 abbrev pub name_of : ℕ → ℕ → Name
-name_of family i =
-    if family == 1 then WaitRow Outbound i else (if family == 2 then WaitRow Inbound i else (
-    if family == 3 then FastRow Outbound i else (if family == 4 then FastRow Inbound i else (
-    if family == 5 then SlowRow Outbound i else (if family == 6 then SlowRow Inbound i else (
-    if family == 7 then RiseRow Outbound i else (if family == 8 then RiseRow Inbound i else (
-    if family == 9 then DropRow Outbound i else (if family == 10 then DropRow Inbound i else (
-    if family == 11 then CycleLowRow i else (if family == 12 then CycleHighRow i else (
-    if family == 13 then RatioRow i else (if family == 14 then LoopLowRow i else (
-    if family == 15 then LoopHighRow i else (if family == 16 then TurnLowRow i else (
-    if family == 17 then TurnHighRow i else NoRow))))))))))))))))
+name_of family i = row_among 1 families family i
+
+-- the family has one row alone
+abbrev pub lone_among : ℕ → List Family → ℕ → Bool
+lone_among n [] family = false
+lone_among n (f ∷ fs) family = if f.lone then (family == n) || lone_among (n + 1) fs family else lone_among (n + 1) fs family
+
+abbrev pub is_lone : ℕ → Bool
+is_lone family = lone_among 1 families family
+
+-- ---- the rules of the families
+-- where a row stands: at a signal, at a link, between a link and the next, by itself, or nowhere; by itself also where the ratio is not 1
+pub data Site : Type 0 where
+  AtSignal : ℕ → Site
+  AtLink : ℕ → Site
+  AtChange : Dir → ℕ → Site
+  ByItself : ℕ → Site
+  AtRatio : ℕ → Site
+  Nowhere : Site
 
 -- a change of pace from link i to the next is limited in this direction
 abbrev pub HasChange : Street → Dir → ℕ → Type 0
 HasChange a d i = HasLink a i × HasLink a (i + 1) × IsSome (change a d i)
 
--- the artery has the row
-abbrev pub HasRow : Street → Name → Type 0
-HasRow a (WaitRow d i) = HasSignal a i
-HasRow a (FastRow d i) = HasLink a i
-HasRow a (SlowRow d i) = HasLink a i
-HasRow a (RiseRow d i) = HasChange a d i
-HasRow a (DropRow d i) = HasChange a d i
-HasRow a (CycleLowRow i) = i ≡ 0
-HasRow a (CycleHighRow i) = i ≡ 0
-HasRow a (RatioRow i) = (i ≡ 0) × (a.head.ratio ≢ number 1)
-HasRow a (LoopLowRow i) = HasLink a i
-HasRow a (LoopHighRow i) = HasLink a i
-HasRow a (TurnLowRow i) = HasSignal a i
-HasRow a (TurnHighRow i) = HasSignal a i
-HasRow a NoRow = ⊥
+-- the artery has it
+abbrev pub HasSite : Street → Site → Type 0
+HasSite a (AtSignal i) = HasSignal a i
+HasSite a (AtLink i) = HasLink a i
+HasSite a (AtChange d i) = HasChange a d i
+HasSite a (ByItself i) = i ≡ 0
+HasSite a (AtRatio i) = (i ≡ 0) × (a.head.ratio ≢ number 1)
+HasSite a Nowhere = ⊥
 
 -- the row that is none, and that of limits which may be missing
 abbrev pub no_form : Form
@@ -65,18 +113,30 @@ abbrev pub limits_form : (Pair → Form) → Option Pair → Form
 limits_form f None = no_form
 limits_form f (Some c) = f c
 
+-- where a row stands, and what it is for an artery and a box
+pub record Rule : Type 0 where
+  pub site : Site
+  pub form : Street → Area → Form
+
+abbrev pub rule_of : Name → Rule
+rule_of (WaitRow d i) = record { site = AtSignal i; form = λ a box. wait_form a d i }
+rule_of (FastRow d i) = record { site = AtLink i; form = λ a box. fast_form a d i }
+rule_of (SlowRow d i) = record { site = AtLink i; form = λ a box. slow_form a d i }
+rule_of (RiseRow d i) = record { site = AtChange d i; form = λ a box. limits_form (rise_form a d i) (change a d i) }
+rule_of (DropRow d i) = record { site = AtChange d i; form = λ a box. limits_form (drop_form a d i) (change a d i) }
+rule_of (CycleLowRow i) = record { site = ByItself i; form = λ a box. cycle_low_form a }
+rule_of (CycleHighRow i) = record { site = ByItself i; form = λ a box. cycle_high_form a }
+rule_of (RatioRow i) = record { site = AtRatio i; form = λ a box. ratio_form a }
+rule_of (LoopLowRow i) = record { site = AtLink i; form = λ a box. loop_low_form a box i }
+rule_of (LoopHighRow i) = record { site = AtLink i; form = λ a box. loop_high_form a box i }
+rule_of (TurnLowRow i) = record { site = AtSignal i; form = λ a box. turn_low_form a box i }
+rule_of (TurnHighRow i) = record { site = AtSignal i; form = λ a box. turn_high_form a box i }
+rule_of NoRow = record { site = Nowhere; form = λ a box. no_form }
+
+-- the artery has the row
+abbrev pub HasRow : Street → Name → Type 0
+HasRow a n = HasSite a (rule_of n).site
+
 -- the row of a name, for a box
 abbrev pub form_of : Street → Area → Name → Form
-form_of a box (WaitRow d i) = wait_form a d i
-form_of a box (FastRow d i) = fast_form a d i
-form_of a box (SlowRow d i) = slow_form a d i
-form_of a box (RiseRow d i) = limits_form (rise_form a d i) (change a d i)
-form_of a box (DropRow d i) = limits_form (drop_form a d i) (change a d i)
-form_of a box (CycleLowRow i) = cycle_low_form a
-form_of a box (CycleHighRow i) = cycle_high_form a
-form_of a box (RatioRow i) = ratio_form a
-form_of a box (LoopLowRow i) = loop_low_form a box i
-form_of a box (LoopHighRow i) = loop_high_form a box i
-form_of a box (TurnLowRow i) = turn_low_form a box i
-form_of a box (TurnHighRow i) = turn_high_form a box i
-form_of a box NoRow = no_form
+form_of a box n = (rule_of n).form a box

@@ -11,7 +11,8 @@
 //! - `Boxes`: `Span`, `Ranks`, `Area`; `root_span`, `root_ranks`, `root_box`, `IsRoot`; `IsBoxOf a box`; `LoopIn`, `TurnIn`, `InBox a box t`;
 //!   the parts `low_loop`, `high_loop`, `low_turn`, `high_turn` at an `IsLoopPlace` or `IsTurnPlace`.
 //! - `Rows`: `Entry`, `Form`, `line a f` (the row of a form), a form for each family, `goal_form`.
-//! - `Names`: `Name`, `name_of family index`, `HasRow a n`, `form_of a box n`.
+//! - `Names`: `Name`; the table `families` with each family's text and its row of an index, which `name_of family index`, `is_lone` and
+//!   `last_family` are read off; `rule_of n`, where a row stands and what it is, which `HasRow a n` and `form_of a box n` are read off.
 //! - `Counts`: `IsStreet` (what an artery's numbers keep), `Counts a box t`, `IsGoodPoint a box x`.
 //! - `Covering`: `CoversGoal a value r`, `RefutesAll a r`. `Trees`: `Tree`, `leaf_sum`, `Accepted P a box tree`.
 //! - `Promises`: `NothingIsLost`. `Worked`: boxes worked by hand, which `law_worked_boxes` decides.
@@ -26,6 +27,7 @@
 //! - Are they in range? `RankedShifts`, `Ranges`, `Divided` (a rule of a good timing over its cycle), `Roots`: `root_law`; `RootBoxes`:
 //!   `root_boxed`, `root_is`, `root_only`.
 //! - Which rows are met? `Ratios`, `RowLaws`, `BoxRowLaws`: a law for each family; `NamedRows`: `row_law`, `row_at_point`.
+//! - Which numbers and indices do rows have? `Families`: `family_least`, `family_most`, `row_index`.
 //! - What does a split lose? `Splits`, `TurnSplits`: `loop_split`, `loop_joined`, `loop_once`; `PartBoxes`: `low_loop_boxed`.
 //! - What does a sum of rows prove? `Bounds`: `covers_law`, `refutes_law`; `TreeLaws`: `tree_law`, `bounded`, `no_timing`.
 //! - How is it computed? `Quotients` and `Spans`: `root_least_is` and `root_most_is`, one integer division each, `seconds_is`; `ShiftSizes`;

@@ -11,8 +11,8 @@ use Rattle.rational_theory.proofs.Compare.{eq_says}
 use Rattle.progression.specs.Street.{Street, count, HasSignal, HasLink}
 use Rattle.progression.specs.Speeds.{number, change}
 use Rattle.progression.specs.declared.parts.Dir.{Dir}
-use Rattle.linear_theory.specs.Names.{Name, WaitRow, FastRow, SlowRow, RiseRow, DropRow, CycleLowRow, CycleHighRow, RatioRow, LoopLowRow, LoopHighRow, TurnLowRow, TurnHighRow, NoRow, HasRow, HasChange}
-use Rattle.loop_rows.specs.RowTests.{has_signal, has_link, has_change, has_row}
+use Rattle.linear_theory.specs.Names.{Name, Site, AtSignal, AtLink, AtChange, ByItself, AtRatio, Nowhere, HasSite, rule_of, HasRow, HasChange}
+use Rattle.loop_rows.specs.RowTests.{has_signal, has_link, has_change, has_site, has_row}
 
 -- ---- the tests say what they are for
 link_decided : (a : Street) (i : ℕ) → Decides (has_link a i) (HasLink a i)
@@ -30,19 +30,15 @@ change_decided a d i =
 other_decided : (x y : ℚ) → Decides (not (eq_by_cmp cmp_ℚ x y)) (x ≢ y)
 other_decided x y = Decides-not (eq_by_cmp cmp_ℚ x y) (eq_says x y (eq_by_cmp cmp_ℚ x y) refl)
 
+site_decided : (a : Street) (s : Site) → Decides (has_site a s) (HasSite a s)
+site_decided a (AtSignal i) = signal_decided a i
+site_decided a (AtLink i) = link_decided a i
+site_decided a (AtChange d i) = change_decided a d i
+site_decided a (ByItself i) = Decides-eqb i 0
+site_decided a (AtRatio i) = Decides-and (i == 0) (not (eq_by_cmp cmp_ℚ a.head.ratio (number 1))) (Decides-eqb i 0) (other_decided a.head.ratio (number 1))
+site_decided a Nowhere = (λ e. true≢false (sym e), λ h. absurd h)
+
 -- an artery has a row exactly where the test is true
 pub row_decided : (a : Street) (n : Name) → Decides (has_row a n) (HasRow a n)
 unfolding has_row
-row_decided a (WaitRow d i) = signal_decided a i
-row_decided a (FastRow d i) = link_decided a i
-row_decided a (SlowRow d i) = link_decided a i
-row_decided a (RiseRow d i) = change_decided a d i
-row_decided a (DropRow d i) = change_decided a d i
-row_decided a (CycleLowRow i) = Decides-eqb i 0
-row_decided a (CycleHighRow i) = Decides-eqb i 0
-row_decided a (RatioRow i) = Decides-and (i == 0) (not (eq_by_cmp cmp_ℚ a.head.ratio (number 1))) (Decides-eqb i 0) (other_decided a.head.ratio (number 1))
-row_decided a (LoopLowRow i) = link_decided a i
-row_decided a (LoopHighRow i) = link_decided a i
-row_decided a (TurnLowRow i) = signal_decided a i
-row_decided a (TurnHighRow i) = signal_decided a i
-row_decided a NoRow = (λ e. true≢false (sym e), λ h. absurd h)
+row_decided a n = site_decided a (rule_of n).site

@@ -4,7 +4,8 @@ ghost use Rattle.std.specs.Prelude.{◌≡◌, ◌≢◌, length};
 ghost use Rattle.progression.specs.Street.{count};
 ghost use Rattle.linear_theory.specs.Places.{width};
 ghost use Rattle.linear_theory.specs.Rows.{ratio_below_form, ratio_above_form};
-ghost use Rattle.linear_theory.specs.Names.{RatioRow, HasRow, form_of};
+ghost use Rattle.linear_theory.specs.Names as names;
+ghost use Rattle.linear_theory.specs.Names.{HasRow, form_of};
 ghost use Rattle.linear_theory.proofs.NamedRows.{row_law};
 ghost use Rattle.loop_rows.specs.laws.Meeting.{at_points};
 ghost use Rattle.loop_rows.specs.Writing.{written};
@@ -40,16 +41,16 @@ fn fill_above(artery: &Artery, into: &mut Row)
 
 /// The bands keep the ratio.
 #[derive(Drop)]
-pub struct BandRatio;
+pub struct RatioRow;
 
-impl Family for BandRatio {
+impl Family for RatioRow {
     type Of = Progression;
 
     ghost family = { λ f. 13 };
 
-    ghost exists = { λ f a i. HasRow a (RatioRow i) };
+    ghost exists = { λ f a i. HasRow a (names.RatioRow i) };
 
-    ghost form = { λ f a box i. form_of a box (RatioRow i) };
+    ghost form = { λ f a box i. form_of a box (names.RatioRow i) };
 
     fn number(&self) -> u8 {
         13
@@ -68,5 +69,5 @@ impl Family for BandRatio {
         }
     }
 
-    ghost law = { λ f a box i x e h. at_points a box x _ h (λ t c. row_law a box t c (RatioRow i) e) };
+    ghost law = { λ f a box i x e h. at_points a box x _ h (λ t c. row_law a box t c (names.RatioRow i) e) };
 }

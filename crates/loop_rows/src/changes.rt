@@ -4,7 +4,8 @@ ghost use Rattle.std.specs.Prelude.{◌≡◌, ◌↔◌, IsTrue, ◌<◌, ◌�
 ghost use Rattle.progression.specs.Street.{count};
 ghost use Rattle.linear_theory.specs.Places.{width};
 ghost use Rattle.linear_theory.specs.Rows.{rise_form, drop_form};
-ghost use Rattle.linear_theory.specs.Names.{RiseRow, DropRow, HasRow, HasChange, form_of};
+ghost use Rattle.linear_theory.specs.Names as names;
+ghost use Rattle.linear_theory.specs.Names.{HasRow, HasChange, form_of};
 ghost use Rattle.linear_theory.proofs.NamedRows.{row_law};
 ghost use Rattle.loop_rows.specs.laws.Meeting.{at_points};
 ghost use Rattle.loop_rows.specs.Directions.{by_dir};
@@ -41,7 +42,7 @@ fn fill_rise(artery: &Artery, dir: Dir, link: u32, limits: Pair, into: &mut Row)
 }
 
 /// The row of the least change.
-fn fill_fall(artery: &Artery, dir: Dir, link: u32, limits: Pair, into: &mut Row)
+fn fill_drop(artery: &Artery, dir: Dir, link: u32, limits: Pair, into: &mut Row)
     requires first { 1 ≤ link }
     requires last { link + 1 < count artery.now }
     requires columns { length into.old.coefs ≡ width (count artery.now) }
@@ -57,18 +58,18 @@ fn fill_fall(artery: &Artery, dir: Dir, link: u32, limits: Pair, into: &mut Row)
 
 /// From a link to the next the pace rises by no more than the greatest change.
 #[derive(Drop)]
-pub struct Rise {
+pub struct RiseRow {
     pub dir: Dir,
 }
 
-impl Family for Rise {
+impl Family for RiseRow {
     type Of = Progression;
 
     ghost family = { λ f. by_dir f.dir 7 8 };
 
-    ghost exists = { λ f a i. HasRow a (RiseRow f.dir i) };
+    ghost exists = { λ f a i. HasRow a (names.RiseRow f.dir i) };
 
-    ghost form = { λ f a box i. form_of a box (RiseRow f.dir i) };
+    ghost form = { λ f a box i. form_of a box (names.RiseRow f.dir i) };
 
     fn number(&self) -> u8 {
         match self.dir {
@@ -87,23 +88,23 @@ impl Family for Rise {
         }
     }
 
-    ghost law = { λ f a box i x e h. at_points a box x _ h (λ t c. row_law a box t c (RiseRow f.dir i) e) };
+    ghost law = { λ f a box i x e h. at_points a box x _ h (λ t c. row_law a box t c (names.RiseRow f.dir i) e) };
 }
 
 /// From a link to the next the pace changes by no less than the least change.
 #[derive(Drop)]
-pub struct Fall {
+pub struct DropRow {
     pub dir: Dir,
 }
 
-impl Family for Fall {
+impl Family for DropRow {
     type Of = Progression;
 
     ghost family = { λ f. by_dir f.dir 9 10 };
 
-    ghost exists = { λ f a i. HasRow a (DropRow f.dir i) };
+    ghost exists = { λ f a i. HasRow a (names.DropRow f.dir i) };
 
-    ghost form = { λ f a box i. form_of a box (DropRow f.dir i) };
+    ghost form = { λ f a box i. form_of a box (names.DropRow f.dir i) };
 
     fn number(&self) -> u8 {
         match self.dir {
@@ -118,9 +119,9 @@ impl Family for Fall {
 
     fn fill(&self, artery: &Artery, area: &SearchBox, index: u32, into: &mut Row) {
         if let Some(limits) = artery.change(self.dir, index) {
-            fill_fall(artery, self.dir, index, limits, into);
+            fill_drop(artery, self.dir, index, limits, into);
         }
     }
 
-    ghost law = { λ f a box i x e h. at_points a box x _ h (λ t c. row_law a box t c (DropRow f.dir i) e) };
+    ghost law = { λ f a box i x e h. at_points a box x _ h (λ t c. row_law a box t c (names.DropRow f.dir i) e) };
 }

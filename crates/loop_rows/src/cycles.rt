@@ -1,7 +1,8 @@
 //! The rows of the cycle's limits.
 
 ghost use Rattle.std.specs.Prelude.{◌≡◌};
-ghost use Rattle.linear_theory.specs.Names.{CycleLowRow, CycleHighRow, HasRow, form_of};
+ghost use Rattle.linear_theory.specs.Names as names;
+ghost use Rattle.linear_theory.specs.Names.{HasRow, form_of};
 ghost use Rattle.linear_theory.proofs.NamedRows.{row_law};
 ghost use Rattle.loop_rows.specs.laws.Meeting.{at_points};
 
@@ -15,16 +16,16 @@ use search_box::SearchBox;
 
 /// The frequency is at least that of the greatest cycle.
 #[derive(Drop)]
-pub struct CycleLow;
+pub struct CycleLowRow;
 
-impl Family for CycleLow {
+impl Family for CycleLowRow {
     type Of = Progression;
 
     ghost family = { λ f. 11 };
 
-    ghost exists = { λ f a i. HasRow a (CycleLowRow i) };
+    ghost exists = { λ f a i. HasRow a (names.CycleLowRow i) };
 
-    ghost form = { λ f a box i. form_of a box (CycleLowRow i) };
+    ghost form = { λ f a box i. form_of a box (names.CycleLowRow i) };
 
     fn number(&self) -> u8 {
         11
@@ -40,21 +41,21 @@ impl Family for CycleLow {
         into.set(Place::Bound, reciprocal(artery.cycle().most).neg());
     }
 
-    ghost law = { λ f a box i x e h. at_points a box x _ h (λ t c. row_law a box t c (CycleLowRow i) e) };
+    ghost law = { λ f a box i x e h. at_points a box x _ h (λ t c. row_law a box t c (names.CycleLowRow i) e) };
 }
 
 /// The frequency is at most that of the least cycle.
 #[derive(Drop)]
-pub struct CycleHigh;
+pub struct CycleHighRow;
 
-impl Family for CycleHigh {
+impl Family for CycleHighRow {
     type Of = Progression;
 
     ghost family = { λ f. 12 };
 
-    ghost exists = { λ f a i. HasRow a (CycleHighRow i) };
+    ghost exists = { λ f a i. HasRow a (names.CycleHighRow i) };
 
-    ghost form = { λ f a box i. form_of a box (CycleHighRow i) };
+    ghost form = { λ f a box i. form_of a box (names.CycleHighRow i) };
 
     fn number(&self) -> u8 {
         12
@@ -70,5 +71,5 @@ impl Family for CycleHigh {
         into.set(Place::Bound, reciprocal(artery.cycle().least));
     }
 
-    ghost law = { λ f a box i x e h. at_points a box x _ h (λ t c. row_law a box t c (CycleHighRow i) e) };
+    ghost law = { λ f a box i x e h. at_points a box x _ h (λ t c. row_law a box t c (names.CycleHighRow i) e) };
 }

@@ -6,7 +6,8 @@
 //! memory, and no row is refused. `leaf_sum` adds up the rows that a leaf names. A `Family` comes with the proof that every
 //! point meets its rows that counts for its `Problem`; `Progression` is the problem of the timings of one artery. Which rows
 //! there are, and what they say, is defined in `linear_theory` (`specs/Rows.antt`, `specs/Names.antt`); `laws` says over
-//! those definitions alone what they promise.
+//! those definitions alone what they promise. Each family has one name, here and there, and a new one is a type of this
+//! crate with an arm of `with_family`.
 #![tactic(auto)]
 
 mod bands;
@@ -31,18 +32,18 @@ mod tests;
 mod turns;
 mod waits;
 
-pub use bands::BandRatio;
-pub use changes::{Fall, Rise};
+pub use bands::RatioRow;
+pub use changes::{DropRow, RiseRow};
 pub use columns::{
     band_column, column_count, frequency_column, run_column, shift_column, wait_column,
 };
-pub use cycles::{CycleHigh, CycleLow};
+pub use cycles::{CycleHighRow, CycleLowRow};
 pub use family::{Family, Problem, Progression};
 pub use fault::SumFault;
 pub use leaves::leaf_sum;
-pub use loops::{LoopHigh, LoopLow};
+pub use loops::{LoopHighRow, LoopLowRow};
 pub use rows::{fill_goal, fill_row, next_row};
-pub use runs::{Fast, Slow};
+pub use runs::{FastRow, SlowRow};
 pub use sums::block_sum;
-pub use turns::{TurnHigh, TurnLow};
-pub use waits::Waits;
+pub use turns::{TurnHighRow, TurnLowRow};
+pub use waits::WaitRow;

@@ -4,7 +4,8 @@ ghost use Rattle.std.specs.Prelude.{◌≡◌, ◌<◌, ◌≤◌, length};
 ghost use Rattle.progression.specs.Street.{count};
 ghost use Rattle.linear_theory.specs.Places.{width};
 ghost use Rattle.linear_theory.specs.Rows.{block_entries};
-ghost use Rattle.linear_theory.specs.Names.{LoopLowRow, LoopHighRow, HasRow, form_of};
+ghost use Rattle.linear_theory.specs.Names as names;
+ghost use Rattle.linear_theory.specs.Names.{HasRow, form_of};
 ghost use Rattle.linear_theory.proofs.NamedRows.{row_law};
 ghost use Rattle.named_row.specs.Sheets.{blank};
 ghost use Rattle.loop_rows.specs.laws.Meeting.{at_points};
@@ -40,16 +41,16 @@ fn fill_block(artery: &Artery, link: u32, added: Frac, taken: Frac, into: &mut R
 
 /// A link's block sum is at least the least number of its span.
 #[derive(Drop)]
-pub struct LoopLow;
+pub struct LoopLowRow;
 
-impl Family for LoopLow {
+impl Family for LoopLowRow {
     type Of = Progression;
 
     ghost family = { λ f. 14 };
 
-    ghost exists = { λ f a i. HasRow a (LoopLowRow i) };
+    ghost exists = { λ f a i. HasRow a (names.LoopLowRow i) };
 
-    ghost form = { λ f a box i. form_of a box (LoopLowRow i) };
+    ghost form = { λ f a box i. form_of a box (names.LoopLowRow i) };
 
     fn number(&self) -> u8 {
         14
@@ -67,21 +68,21 @@ impl Family for LoopLow {
         );
     }
 
-    ghost law = { λ f a box i x e h. at_points a box x _ h (λ t c. row_law a box t c (LoopLowRow i) e) };
+    ghost law = { λ f a box i x e h. at_points a box x _ h (λ t c. row_law a box t c (names.LoopLowRow i) e) };
 }
 
 /// A link's block sum is at most the greatest number of its span.
 #[derive(Drop)]
-pub struct LoopHigh;
+pub struct LoopHighRow;
 
-impl Family for LoopHigh {
+impl Family for LoopHighRow {
     type Of = Progression;
 
     ghost family = { λ f. 15 };
 
-    ghost exists = { λ f a i. HasRow a (LoopHighRow i) };
+    ghost exists = { λ f a i. HasRow a (names.LoopHighRow i) };
 
-    ghost form = { λ f a box i. form_of a box (LoopHighRow i) };
+    ghost form = { λ f a box i. form_of a box (names.LoopHighRow i) };
 
     fn number(&self) -> u8 {
         15
@@ -99,5 +100,5 @@ impl Family for LoopHigh {
         );
     }
 
-    ghost law = { λ f a box i x e h. at_points a box x _ h (λ t c. row_law a box t c (LoopHighRow i) e) };
+    ghost law = { λ f a box i x e h. at_points a box x _ h (λ t c. row_law a box t c (names.LoopHighRow i) e) };
 }

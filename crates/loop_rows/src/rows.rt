@@ -10,15 +10,15 @@ ghost use Rattle.loop_rows.specs.Writing.{written};
 ghost use Rattle.loop_rows.specs.Meeting.{IsFilled};
 ghost use Rattle.loop_rows.specs.Following.{IsIndexFrom, IsRowFrom, IsNextRow};
 
-use crate::bands::BandRatio;
-use crate::changes::{Fall, Rise};
+use crate::bands::RatioRow;
+use crate::changes::{DropRow, RiseRow};
 use crate::columns::band;
-use crate::cycles::{CycleHigh, CycleLow};
+use crate::cycles::{CycleHighRow, CycleLowRow};
 use crate::family::{Family, Progression};
-use crate::loops::{LoopHigh, LoopLow};
-use crate::runs::{Fast, Slow};
-use crate::turns::{TurnHigh, TurnLow};
-use crate::waits::Waits;
+use crate::loops::{LoopHighRow, LoopLowRow};
+use crate::runs::{FastRow, SlowRow};
+use crate::turns::{TurnHighRow, TurnLowRow};
+use crate::waits::WaitRow;
 use artery_model::{Artery, Dir};
 use named_row::{Place, Row, RowId};
 use narrow_fraction::Frac;
@@ -26,6 +26,33 @@ use search_box::SearchBox;
 
 /// The greatest number of a family.
 const LAST_FAMILY: u8 = 17;
+
+/// What a call gives for the family of a number, which is its first argument. Where no family has the number, the call isn't
+/// made, and the last expression stands in its place.
+macro_rules! with_family {
+    ($number:expr, $call:ident($($given:expr),*), $none:expr) => {
+        match $number {
+            1 => $call(&WaitRow { dir: Dir::Outbound }, $($given),*),
+            2 => $call(&WaitRow { dir: Dir::Inbound }, $($given),*),
+            3 => $call(&FastRow { dir: Dir::Outbound }, $($given),*),
+            4 => $call(&FastRow { dir: Dir::Inbound }, $($given),*),
+            5 => $call(&SlowRow { dir: Dir::Outbound }, $($given),*),
+            6 => $call(&SlowRow { dir: Dir::Inbound }, $($given),*),
+            7 => $call(&RiseRow { dir: Dir::Outbound }, $($given),*),
+            8 => $call(&RiseRow { dir: Dir::Inbound }, $($given),*),
+            9 => $call(&DropRow { dir: Dir::Outbound }, $($given),*),
+            10 => $call(&DropRow { dir: Dir::Inbound }, $($given),*),
+            11 => $call(&CycleLowRow, $($given),*),
+            12 => $call(&CycleHighRow, $($given),*),
+            13 => $call(&RatioRow, $($given),*),
+            14 => $call(&LoopLowRow, $($given),*),
+            15 => $call(&LoopHighRow, $($given),*),
+            16 => $call(&TurnLowRow, $($given),*),
+            17 => $call(&TurnHighRow, $($given),*),
+            _ => $none,
+        }
+    };
+}
 
 /// Fills the row of this index, where the artery has it, and answers whether it has.
 fn fill_by<F: Family<Of = Progression>>(
@@ -62,27 +89,7 @@ pub fn fill_row(artery: &Artery, area: &SearchBox, row: RowId, into: &mut Row) -
     ensures same { result ≡ false → into.new ≡ into.old }
     ensures width { length into.new.coefs ≡ width (count artery.now) }
 {
-    let (out, back) = (Dir::Outbound, Dir::Inbound);
-    match row.family {
-        1 => fill_by(&Waits { dir: out }, artery, area, row, into),
-        2 => fill_by(&Waits { dir: back }, artery, area, row, into),
-        3 => fill_by(&Fast { dir: out }, artery, area, row, into),
-        4 => fill_by(&Fast { dir: back }, artery, area, row, into),
-        5 => fill_by(&Slow { dir: out }, artery, area, row, into),
-        6 => fill_by(&Slow { dir: back }, artery, area, row, into),
-        7 => fill_by(&Rise { dir: out }, artery, area, row, into),
-        8 => fill_by(&Rise { dir: back }, artery, area, row, into),
-        9 => fill_by(&Fall { dir: out }, artery, area, row, into),
-        10 => fill_by(&Fall { dir: back }, artery, area, row, into),
-        11 => fill_by(&CycleLow, artery, area, row, into),
-        12 => fill_by(&CycleHigh, artery, area, row, into),
-        13 => fill_by(&BandRatio, artery, area, row, into),
-        14 => fill_by(&LoopLow, artery, area, row, into),
-        15 => fill_by(&LoopHigh, artery, area, row, into),
-        16 => fill_by(&TurnLow, artery, area, row, into),
-        17 => fill_by(&TurnHigh, artery, area, row, into),
-        _ => false,
-    }
+    with_family!(row.family, fill_by(artery, area, row, into), false)
 }
 
 /// The weighted band: 1 at the outbound band, the ratio at the inbound one, and 0 elsewhere.
@@ -98,31 +105,18 @@ pub fn fill_goal(artery: &Artery, into: &mut Row)
     into.set(Place::Bound, Frac::whole(0));
 }
 
+/// Whether the artery has the row of this index.
+fn has_by<F: Family<Of = Progression>>(family: &F, artery: &Artery, index: u32) -> bool
+    ensures { IsTrue result ↔ F.exists family.now artery.now index }
+{
+    family.has(artery, index)
+}
+
 /// Whether the artery has the row of this name.
 fn has_row(artery: &Artery, family: u8, index: u32) -> bool
     ensures { IsTrue result ↔ HasRow artery.now (name_of family index) }
 {
-    let (out, back) = (Dir::Outbound, Dir::Inbound);
-    match family {
-        1 => Waits { dir: out }.has(artery, index),
-        2 => Waits { dir: back }.has(artery, index),
-        3 => Fast { dir: out }.has(artery, index),
-        4 => Fast { dir: back }.has(artery, index),
-        5 => Slow { dir: out }.has(artery, index),
-        6 => Slow { dir: back }.has(artery, index),
-        7 => Rise { dir: out }.has(artery, index),
-        8 => Rise { dir: back }.has(artery, index),
-        9 => Fall { dir: out }.has(artery, index),
-        10 => Fall { dir: back }.has(artery, index),
-        11 => CycleLow.has(artery, index),
-        12 => CycleHigh.has(artery, index),
-        13 => BandRatio.has(artery, index),
-        14 => LoopLow.has(artery, index),
-        15 => LoopHigh.has(artery, index),
-        16 => TurnLow.has(artery, index),
-        17 => TurnHigh.has(artery, index),
-        _ => false,
-    }
+    with_family!(family, has_by(artery, index), false)
 }
 
 /// The least index from this number on at which the artery has a row of the family.

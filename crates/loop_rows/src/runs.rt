@@ -1,7 +1,8 @@
 //! The rows that keep the runs within the limits of the speeds.
 
 ghost use Rattle.std.specs.Prelude.{◌≡◌};
-ghost use Rattle.linear_theory.specs.Names.{FastRow, SlowRow, HasRow, form_of};
+ghost use Rattle.linear_theory.specs.Names as names;
+ghost use Rattle.linear_theory.specs.Names.{HasRow, form_of};
 ghost use Rattle.linear_theory.proofs.NamedRows.{row_law};
 ghost use Rattle.loop_rows.specs.laws.Meeting.{at_points};
 ghost use Rattle.loop_rows.specs.Directions.{by_dir};
@@ -15,18 +16,18 @@ use search_box::SearchBox;
 
 /// No run is shorter than at the greatest speed.
 #[derive(Drop)]
-pub struct Fast {
+pub struct FastRow {
     pub dir: Dir,
 }
 
-impl Family for Fast {
+impl Family for FastRow {
     type Of = Progression;
 
     ghost family = { λ f. by_dir f.dir 3 4 };
 
-    ghost exists = { λ f a i. HasRow a (FastRow f.dir i) };
+    ghost exists = { λ f a i. HasRow a (names.FastRow f.dir i) };
 
-    ghost form = { λ f a box i. form_of a box (FastRow f.dir i) };
+    ghost form = { λ f a box i. form_of a box (names.FastRow f.dir i) };
 
     fn number(&self) -> u8 {
         match self.dir {
@@ -46,23 +47,23 @@ impl Family for Fast {
         into.set(Place::Bound, Frac::whole(0));
     }
 
-    ghost law = { λ f a box i x e h. at_points a box x _ h (λ t c. row_law a box t c (FastRow f.dir i) e) };
+    ghost law = { λ f a box i x e h. at_points a box x _ h (λ t c. row_law a box t c (names.FastRow f.dir i) e) };
 }
 
 /// No run is longer than at the least speed.
 #[derive(Drop)]
-pub struct Slow {
+pub struct SlowRow {
     pub dir: Dir,
 }
 
-impl Family for Slow {
+impl Family for SlowRow {
     type Of = Progression;
 
     ghost family = { λ f. by_dir f.dir 5 6 };
 
-    ghost exists = { λ f a i. HasRow a (SlowRow f.dir i) };
+    ghost exists = { λ f a i. HasRow a (names.SlowRow f.dir i) };
 
-    ghost form = { λ f a box i. form_of a box (SlowRow f.dir i) };
+    ghost form = { λ f a box i. form_of a box (names.SlowRow f.dir i) };
 
     fn number(&self) -> u8 {
         match self.dir {
@@ -82,5 +83,5 @@ impl Family for Slow {
         into.set(Place::Bound, Frac::whole(0));
     }
 
-    ghost law = { λ f a box i x e h. at_points a box x _ h (λ t c. row_law a box t c (SlowRow f.dir i) e) };
+    ghost law = { λ f a box i x e h. at_points a box x _ h (λ t c. row_law a box t c (names.SlowRow f.dir i) e) };
 }

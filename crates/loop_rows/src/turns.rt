@@ -5,7 +5,8 @@ ghost use Rattle.progression.specs.Street.{count};
 ghost use Rattle.linear_theory.specs.Blocks.{part};
 ghost use Rattle.linear_theory.specs.Boxes.{IsBoxOf, turn_span};
 ghost use Rattle.linear_theory.specs.Shifts.{shift_at, shift_count};
-ghost use Rattle.linear_theory.specs.Names.{TurnLowRow, TurnHighRow, HasRow, form_of};
+ghost use Rattle.linear_theory.specs.Names as names;
+ghost use Rattle.linear_theory.specs.Names.{HasRow, form_of};
 ghost use Rattle.linear_theory.proofs.NamedRows.{row_law};
 ghost use Rattle.loop_rows.specs.laws.Meeting.{at_points};
 
@@ -53,16 +54,16 @@ fn shift_part(artery: &Artery, signal: u32, rank: u32) -> Frac
 
 /// A signal's shift is at least that of the least rank.
 #[derive(Drop)]
-pub struct TurnLow;
+pub struct TurnLowRow;
 
-impl Family for TurnLow {
+impl Family for TurnLowRow {
     type Of = Progression;
 
     ghost family = { λ f. 16 };
 
-    ghost exists = { λ f a i. HasRow a (TurnLowRow i) };
+    ghost exists = { λ f a i. HasRow a (names.TurnLowRow i) };
 
-    ghost form = { λ f a box i. form_of a box (TurnLowRow i) };
+    ghost form = { λ f a box i. form_of a box (names.TurnLowRow i) };
 
     fn number(&self) -> u8 {
         16
@@ -79,21 +80,21 @@ impl Family for TurnLow {
         into.set(Place::Bound, shift_part(artery, index, rank).neg());
     }
 
-    ghost law = { λ f a box i x e h. at_points a box x _ h (λ t c. row_law a box t c (TurnLowRow i) e) };
+    ghost law = { λ f a box i x e h. at_points a box x _ h (λ t c. row_law a box t c (names.TurnLowRow i) e) };
 }
 
 /// A signal's shift is at most that of the greatest rank.
 #[derive(Drop)]
-pub struct TurnHigh;
+pub struct TurnHighRow;
 
-impl Family for TurnHigh {
+impl Family for TurnHighRow {
     type Of = Progression;
 
     ghost family = { λ f. 17 };
 
-    ghost exists = { λ f a i. HasRow a (TurnHighRow i) };
+    ghost exists = { λ f a i. HasRow a (names.TurnHighRow i) };
 
-    ghost form = { λ f a box i. form_of a box (TurnHighRow i) };
+    ghost form = { λ f a box i. form_of a box (names.TurnHighRow i) };
 
     fn number(&self) -> u8 {
         17
@@ -110,5 +111,5 @@ impl Family for TurnHigh {
         into.set(Place::Bound, shift_part(artery, index, rank));
     }
 
-    ghost law = { λ f a box i x e h. at_points a box x _ h (λ t c. row_law a box t c (TurnHighRow i) e) };
+    ghost law = { λ f a box i x e h. at_points a box x _ h (λ t c. row_law a box t c (names.TurnHighRow i) e) };
 }

@@ -1,7 +1,8 @@
 //! The rows that keep the bands within the greens.
 
 ghost use Rattle.std.specs.Prelude.{◌≡◌};
-ghost use Rattle.linear_theory.specs.Names.{WaitRow, HasRow, form_of};
+ghost use Rattle.linear_theory.specs.Names as names;
+ghost use Rattle.linear_theory.specs.Names.{HasRow, form_of};
 ghost use Rattle.linear_theory.proofs.NamedRows.{row_law};
 ghost use Rattle.loop_rows.specs.laws.Meeting.{at_points};
 ghost use Rattle.loop_rows.specs.Directions.{by_dir};
@@ -16,18 +17,18 @@ use search_box::SearchBox;
 
 /// A signal's wait and the band fit into the green.
 #[derive(Drop)]
-pub struct Waits {
+pub struct WaitRow {
     pub dir: Dir,
 }
 
-impl Family for Waits {
+impl Family for WaitRow {
     type Of = Progression;
 
     ghost family = { λ f. by_dir f.dir 1 2 };
 
-    ghost exists = { λ f a i. HasRow a (WaitRow f.dir i) };
+    ghost exists = { λ f a i. HasRow a (names.WaitRow f.dir i) };
 
-    ghost form = { λ f a box i. form_of a box (WaitRow f.dir i) };
+    ghost form = { λ f a box i. form_of a box (names.WaitRow f.dir i) };
 
     fn number(&self) -> u8 {
         match self.dir {
@@ -47,5 +48,5 @@ impl Family for Waits {
         into.set(Place::Bound, green(artery, self.dir, index));
     }
 
-    ghost law = { λ f a box i x e h. at_points a box x _ h (λ t c. row_law a box t c (WaitRow f.dir i) e) };
+    ghost law = { λ f a box i x e h. at_points a box x _ h (λ t c. row_law a box t c (names.WaitRow f.dir i) e) };
 }

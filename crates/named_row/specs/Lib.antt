@@ -1,3 +1,4 @@
 pub mod Sheets
 pub mod Refusals
 pub mod Covering
+pub mod Order

@@ -1,96 +1,48 @@
 -- Each family has one name, and each name is of one family.
 use Rattle.std.proofs.lemmas.List.{drop_more, drop_all}
-use Rattle.std.proofs.Common.{◌≡◌, ℕ, zero, suc, ◌+◌, ◌-◌, ◌<◌, ◌≤◌, Bor, Bool, true, false, List, [], ◌∷◌, map, drop, get_or, length, Option, Some, None, refl, sym, ap, ◌∙◌, subst, arith}
-use Rattle.std.specs.Prelude.{if◌then◌else◌, slice_index_or}
+use Rattle.std.proofs.lemmas.Bool.{and_parts, eqb-true, true≢false}
+use Rattle.std.proofs.Common.{◌≡◌, ℕ, zero, suc, ◌+◌, ◌-◌, ◌<◌, ◌≤◌, ◌⊎◌, inl, inr, Bor, Bool, true, false, List, [], ◌∷◌, map, drop, get_or, length, Option, Some, None, refl, sym, ap, ◌∙◌, subst, arith}
+use Rattle.std.specs.Prelude.{if◌then◌else◌, slice_index_or, ◌==◌, ◌&&◌}
+use Rattle.linear_theory.specs.Names.{last_family}
 use Rattle.plan_text.specs.Words.{is_text}
 use Rattle.plan_text.specs.Families.{family_names, family_name, number_in, family_of}
+use Rattle.plan_text.proofs.Pieces.{lacks}
 use Rattle.plan_text.proofs.Fields.{same_text, IsKey}
 
--- what is so of each number from 1 to 17
-pub record Each (P : ℕ → Type 0) : Type 0 where
-  one : P 1
-  two : P 2
-  three : P 3
-  four : P 4
-  five : P 5
-  six : P 6
-  seven : P 7
-  eight : P 8
-  nine : P 9
-  ten : P 10
-  eleven : P 11
-  twelve : P 12
-  thirteen : P 13
-  fourteen : P 14
-  fifteen : P 15
-  sixteen : P 16
-  seventeen : P 17
+-- a test that is true of each number up to n
+abbrev holds_to : ℕ → (ℕ → Bool) → Bool
+holds_to zero test = true
+holds_to (suc n) test = test (suc n) && holds_to n test
 
-each_is : (P : ℕ → Type 0) → Each P → (f : ℕ) → 1 ≤ f → f ≤ 17 → P f
-each_is P e zero l m = absurd (omega arith)
-each_is P e (suc zero) l m = e.one
-each_is P e (suc (suc zero)) l m = e.two
-each_is P e (suc (suc (suc zero))) l m = e.three
-each_is P e (suc (suc (suc (suc zero)))) l m = e.four
-each_is P e (suc (suc (suc (suc (suc zero))))) l m = e.five
-each_is P e (suc (suc (suc (suc (suc (suc zero)))))) l m = e.six
-each_is P e (suc (suc (suc (suc (suc (suc (suc zero))))))) l m = e.seven
-each_is P e (suc (suc (suc (suc (suc (suc (suc (suc zero)))))))) l m = e.eight
-each_is P e (suc (suc (suc (suc (suc (suc (suc (suc (suc zero))))))))) l m = e.nine
-each_is P e (suc (suc (suc (suc (suc (suc (suc (suc (suc (suc zero)))))))))) l m = e.ten
-each_is P e (suc (suc (suc (suc (suc (suc (suc (suc (suc (suc (suc zero))))))))))) l m = e.eleven
-each_is P e (suc (suc (suc (suc (suc (suc (suc (suc (suc (suc (suc (suc zero)))))))))))) l m = e.twelve
-each_is P e (suc (suc (suc (suc (suc (suc (suc (suc (suc (suc (suc (suc (suc zero))))))))))))) l m = e.thirteen
-each_is P e (suc (suc (suc (suc (suc (suc (suc (suc (suc (suc (suc (suc (suc (suc zero)))))))))))))) l m = e.fourteen
-each_is P e (suc (suc (suc (suc (suc (suc (suc (suc (suc (suc (suc (suc (suc (suc (suc zero))))))))))))))) l m = e.fifteen
-each_is P e (suc (suc (suc (suc (suc (suc (suc (suc (suc (suc (suc (suc (suc (suc (suc (suc zero)))))))))))))))) l m = e.sixteen
-each_is P e (suc (suc (suc (suc (suc (suc (suc (suc (suc (suc (suc (suc (suc (suc (suc (suc (suc zero))))))))))))))))) l m = e.seventeen
-each_is P e (suc (suc (suc (suc (suc (suc (suc (suc (suc (suc (suc (suc (suc (suc (suc (suc (suc (suc n)))))))))))))))))) l m = absurd (omega arith)
+test_is : (n : ℕ) (test : ℕ → Bool) → holds_to n test ≡ true → (f : ℕ) → 1 ≤ f → f ≤ n → test f ≡ true
+test_is zero test e f l m = absurd (omega arith)
+test_is (suc n) test e f l m = last_or_before (cases f n m) (test_is n test (and_parts (test (suc n)) (holds_to n test) e).1 f l)
+  where
+    cases : (f n : ℕ) → f ≤ suc n → (f ≡ suc n) ⊎ (f ≤ n)
+    cases f n m = grind arith
 
-pub family_again : (f : ℕ) → 1 ≤ f → f ≤ 17 → family_of (family_name f) ≡ Some f
+    last_or_before : (f ≡ suc n) ⊎ (f ≤ n) → (f ≤ n → test f ≡ true) → test f ≡ true
+    last_or_before (inl q) before = subst (λ k. test k ≡ true) (sym q) (and_parts (test (suc n)) (holds_to n test) e).0
+    last_or_before (inr k) before = before k
+
+-- a number is this one
+abbrev is_some_of : ℕ → Option ℕ → Bool
+is_some_of n None = false
+is_some_of n (Some m) = m == n
+
+some_of : (n : ℕ) (o : Option ℕ) → is_some_of n o ≡ true → o ≡ Some n
+some_of n None e = absurd (true≢false (sym e))
+some_of n (Some m) e = ap Some (eqb-true m n e)
+
+pub family_again : (f : ℕ) → 1 ≤ f → f ≤ last_family → family_of (family_name f) ≡ Some f
 unfolding family_of family_name family_names
-family_again = each_is (λ f. family_of (family_name f) ≡ Some f) (record {
-  one = refl;
-  two = refl;
-  three = refl;
-  four = refl;
-  five = refl;
-  six = refl;
-  seven = refl;
-  eight = refl;
-  nine = refl;
-  ten = refl;
-  eleven = refl;
-  twelve = refl;
-  thirteen = refl;
-  fourteen = refl;
-  fifteen = refl;
-  sixteen = refl;
-  seventeen = refl;
-})
+family_again f l m = some_of f (family_of (family_name f)) (test_is last_family (λ n. is_some_of n (family_of (family_name n))) refl f l m)
 
 -- a family's name is one word
-pub family_word : (f : ℕ) → 1 ≤ f → f ≤ 17 → IsKey (family_name f)
+pub family_word : (f : ℕ) → 1 ≤ f → f ≤ last_family → IsKey (family_name f)
 unfolding family_name family_names
-family_word = each_is (λ f. IsKey (family_name f)) (record {
-  one = record { spaces = refl; feeds = refl };
-  two = record { spaces = refl; feeds = refl };
-  three = record { spaces = refl; feeds = refl };
-  four = record { spaces = refl; feeds = refl };
-  five = record { spaces = refl; feeds = refl };
-  six = record { spaces = refl; feeds = refl };
-  seven = record { spaces = refl; feeds = refl };
-  eight = record { spaces = refl; feeds = refl };
-  nine = record { spaces = refl; feeds = refl };
-  ten = record { spaces = refl; feeds = refl };
-  eleven = record { spaces = refl; feeds = refl };
-  twelve = record { spaces = refl; feeds = refl };
-  thirteen = record { spaces = refl; feeds = refl };
-  fourteen = record { spaces = refl; feeds = refl };
-  fifteen = record { spaces = refl; feeds = refl };
-  sixteen = record { spaces = refl; feeds = refl };
-  seventeen = record { spaces = refl; feeds = refl };
-})
+family_word f l m =
+    record { spaces = test_is last_family (λ n. lacks 32 (family_name n)) refl f l m; feeds = test_is last_family (λ n. lacks 10 (family_name n)) refl f l m }
 
 -- a number that is found stands where its name does
 pub record IsFound (n : ℕ) (names : List (List ℕ)) (w : List ℕ) (f : ℕ) : Type 0 where
@@ -123,7 +75,7 @@ number_takes n (name ∷ names) w f e = found_by n name names w f (is_text name 
 -- a word that names a family is its name
 pub record Names (w : List ℕ) (f : ℕ) : Type 0 where
   pub first : 1 ≤ f
-  pub last : f ≤ 17
+  pub last : f ≤ last_family
   pub name : w ≡ family_name f
 
 pub family_takes : (w : List ℕ) (f : ℕ) → family_of w ≡ Some f → Names w f

@@ -4,6 +4,7 @@ use Rattle.std.specs.Prelude.{if◌then◌else◌}
 use Rattle.std.specs.Fmt.{decimal}
 use Rattle.std.specs.List.{AllByRecursion}
 use Rattle.std.proofs.lemmas.Bool.{true≢false}
+use Rattle.linear_theory.specs.Names.{last_family}
 use Rattle.named_row.specs.declared.leaves.Weight.{Weight}
 use Rattle.named_row.specs.declared.names.RowId.{RowId}
 use Rattle.quantity_text.specs.Exact.{exact_spelling}
@@ -46,7 +47,7 @@ pub record WeightOf (ws : List (List ℕ)) (w : Weight) : Type 0 where
   pub named : IsNamed w.row
   pub held : IsHeldWeight w
 
-lone_takes : (line f : ℕ) (ws : List (List ℕ)) (w : Weight) → is_lone f ≡ true → 1 ≤ f → f ≤ 17 → lone_of line f ws ≡ Ok w → WeightOf (family_name f ∷ ws) w
+lone_takes : (line f : ℕ) (ws : List (List ℕ)) (w : Weight) → is_lone f ≡ true → 1 ≤ f → f ≤ last_family → lone_of line f ws ≡ Ok w → WeightOf (family_name f ∷ ws) w
 unfolding lone_of
 lone_takes line f [] w l first last e = absurd cc
 lone_takes line f (x ∷ []) w l first last e =
@@ -59,7 +60,7 @@ lone_takes line f (x ∷ []) w l first last e =
     })
 lone_takes line f (x ∷ y ∷ ws) w l first last e = absurd cc
 
-indexed_takes : (line f : ℕ) (ws : List (List ℕ)) (w : Weight) → is_lone f ≡ false → 1 ≤ f → f ≤ 17 → indexed_of line f ws ≡ Ok w → WeightOf (family_name f ∷ ws) w
+indexed_takes : (line f : ℕ) (ws : List (List ℕ)) (w : Weight) → is_lone f ≡ false → 1 ≤ f → f ≤ last_family → indexed_of line f ws ≡ Ok w → WeightOf (family_name f ∷ ws) w
 unfolding indexed_of
 indexed_takes line f [] w l first last e = absurd cc
 indexed_takes line f (i ∷ []) w l first last e = absurd cc
@@ -75,7 +76,7 @@ indexed_takes line f (i ∷ x ∷ []) w l first last e =
     })
 indexed_takes line f (i ∷ x ∷ y ∷ ws) w l first last e = absurd cc
 
-family_by : (line f : ℕ) (ws : List (List ℕ)) (w : Weight) (b : Bool) → is_lone f ≡ b → 1 ≤ f → f ≤ 17 → (if b then lone_of line f ws else indexed_of line f ws) ≡ Ok w → WeightOf (family_name f ∷ ws) w
+family_by : (line f : ℕ) (ws : List (List ℕ)) (w : Weight) (b : Bool) → is_lone f ≡ b → 1 ≤ f → f ≤ last_family → (if b then lone_of line f ws else indexed_of line f ws) ≡ Ok w → WeightOf (family_name f ∷ ws) w
 family_by line f ws w true l first last e = lone_takes line f ws w l first last e
 family_by line f ws w false l first last e = indexed_takes line f ws w l first last e
 

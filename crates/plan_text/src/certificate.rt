@@ -30,7 +30,7 @@ pub enum CertNode {
 ///
 /// A timing stands exactly where the claim has a value. The nodes are one whole tree in preorder. Links and signals of
 /// splits are at least 1. A leaf has at most 10,000 multipliers, and its rows ascend by family and index: families are
-/// 1 to 17, and the index is 0 in families 11 to 13 and at least 1 in all others.
+/// those of the linear model's table, and the index is 0 in those of one row and at least 1 in all others.
 #[derive(Debug, Drop)]
 pub struct Certificate {
     pub claim: Claim,

@@ -3,7 +3,7 @@
 ghost use Rattle.std.specs.Prelude.{◌≡◌, ◌+◌, ◌≤◌, ◌<◌, ◌^◌, map, option_map, length, IfOk, Ok, None};
 ghost use Rattle.plan_text.specs.Lines.{Gives, ranged};
 ghost use Rattle.plan_text.specs.Numbers.{number};
-ghost use Rattle.plan_text.specs.Families.{is_below, is_after};
+ghost use Rattle.plan_text.specs.Families.{is_after};
 ghost use Rattle.plan_text.specs.CertificateReading.{range_of, index_of, lone_of, indexed_of, weight_of, weight_after, weights_at};
 
 use crate::family::{family_of, is_lone};
@@ -86,18 +86,12 @@ fn weight_of(line: u64, words: &[&[u8]]) -> Result<Weight, TextEnd>
     }
 }
 
-fn is_below(first: RowId, second: RowId) -> bool
-    ensures { result ≡ is_below first second }
-{
-    first.family < second.family || first.family == second.family && first.index < second.index
-}
-
 /// Whether a row comes after the last one, if there is one.
 fn is_after(last: Option<RowId>, row: RowId) -> bool
     ensures { result ≡ is_after last row }
 {
     match last {
-        Some(last) => is_below(last, row),
+        Some(last) => last.is_before(row),
         None => true,
     }
 }

@@ -2,7 +2,7 @@
 use Rattle.std.proofs.Common.{◌≡◌, ◌↔◌, ℕ, zero, suc, List, [], ◌∷◌, ◌++◌, length, Bool, true, false, ◌+◌, ◌<◌, ◌≤◌, ◌⊎◌, inl, inr, refl, sym, ◌∙◌, ap, ap₂, subst, arith, length-append, if◌then◌else◌}
 use Rattle.std.proofs.lemmas.List.{get_or_append_left, get_or-append_right, get_or_push}
 use Rattle.progression.specs.Street.{Street, count, HasSignal}
-use Rattle.linear_theory.specs.Names.{HasRow, name_of}
+use Rattle.linear_theory.specs.Names.{HasRow, name_of, last_family}
 use Rattle.loop_rows.specs.RowTests.{has_row}
 use Rattle.loop_rows.proofs.RowTests.{row_decided}
 use Rattle.named_row.specs.declared.names.RowId.{RowId}
@@ -77,14 +77,14 @@ length-first_two a =
 -- there are two rows at least for each signal
 pub rows_least : (a : Street) (k : ℕ) → k < count a + count a → k < length (rows_of a)
 unfolding rows_of
-rows_least a k h = (stays_first a 2 17 k (omega arith) (let e = length-first_two a in omega arith)).0
+rows_least a k h = (stays_first a 2 last_family k (omega arith) (let e = length-first_two a in omega arith)).0
 
 pub outbound_waits : (a : Street) (k : ℕ) → k < count a → name_at (rows_of a) k ≡ record { family = 1; index = suc k }
 unfolding rows_of
 outbound_waits a k h =
     let e = length-first_two a in
     let f = length-signals_to 1 (count a) in
-    (stays_first a 2 17 k (omega arith) (omega arith)).1 ∙ ap (λ xs. name_at xs k) (first_two a)
+    (stays_first a 2 last_family k (omega arith) (omega arith)).1 ∙ ap (λ xs. name_at xs k) (first_two a)
     ∙ get_or_append_left (signals_to 1 (count a)) (signals_to 2 (count a)) unnamed k (omega arith) ∙ at-signals_to 1 (count a) k h
 
 pub inbound_waits : (a : Street) (k : ℕ) → k < count a → name_at (rows_of a) (count a + k) ≡ record { family = 2; index = suc k }
@@ -92,6 +92,6 @@ unfolding rows_of
 inbound_waits a k h =
     let e = length-first_two a in
     let f = length-signals_to 1 (count a) in
-    (stays_first a 2 17 (count a + k) (omega arith) (omega arith)).1 ∙ ap (λ xs. name_at xs (count a + k)) (first_two a)
+    (stays_first a 2 last_family (count a + k) (omega arith) (omega arith)).1 ∙ ap (λ xs. name_at xs (count a + k)) (first_two a)
     ∙ get_or-append_right (signals_to 1 (count a)) (signals_to 2 (count a)) (count a) (count a + k) unnamed f (omega arith)
     ∙ ap (name_at (signals_to 2 (count a))) (omega arith) ∙ at-signals_to 2 (count a) k h

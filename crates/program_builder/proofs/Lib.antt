@@ -9,6 +9,5 @@ pub mod UnitPivots
 pub mod RowCounts
 pub mod OpeningLaws
 pub mod BuildingLaws
-pub mod NamedFamilies
 pub mod FirstRows
 pub mod RowOrder

@@ -17,8 +17,7 @@ use Rattle.linear_theory.specs.Blocks.{green_part}
 use Rattle.linear_theory.specs.Boxes.{Area}
 use Rattle.linear_theory.specs.Rows.{Form, wait_form, ratio_form, ratio_below_form, ratio_above_form, rise_form, drop_form, goal_form}
 use Rattle.linear_theory.proofs.RowNumbers.{green_part_is}
-use Rattle.linear_theory.specs.Names.{HasRow, name_of, form_of, limits_form}
-use Rattle.program_builder.proofs.NamedFamilies.{by_family}
+use Rattle.linear_theory.specs.Names.{Name, WaitRow, FastRow, SlowRow, RiseRow, DropRow, CycleLowRow, CycleHighRow, RatioRow, LoopLowRow, LoopHighRow, TurnLowRow, TurnHighRow, NoRow, HasRow, name_of, form_of, limits_form}
 use Rattle.program_builder.proofs.LineCells.{AllEntries}
 
 -- a fraction whose two numbers are n at most
@@ -100,18 +99,24 @@ module _ (a : Street) (v : IsValid a) where
   no_band_drop Outbound i c = (omega arith, (omega arith, (omega arith, tt)))
   no_band_drop Inbound i c = let n = v.few in (omega arith, (omega arith, (omega arith, tt)))
 
+  kind_of_name : (box : Area) (n : Name) → HasRow a n → HasNoBand (count a) (form_of a box n) ⊎ IsSmallForm (form_of a box n)
+  kind_of_name box (WaitRow d i) h = inr (small_wait d i h)
+  kind_of_name box (FastRow Outbound i) h = inl (omega arith, (omega arith, tt))
+  kind_of_name box (FastRow Inbound i) h = let n = v.few in inl (omega arith, (omega arith, tt))
+  kind_of_name box (SlowRow Outbound i) h = inl (omega arith, (omega arith, tt))
+  kind_of_name box (SlowRow Inbound i) h = let n = v.few in inl (omega arith, (omega arith, tt))
+  kind_of_name box (RiseRow d i) h = inl (no_band_limits (rise_form a d i) (change a d i) (no_band_rise d i))
+  kind_of_name box (DropRow d i) h = inl (no_band_limits (drop_form a d i) (change a d i) (no_band_drop d i))
+  kind_of_name box (CycleLowRow i) h = inl (omega arith, tt)
+  kind_of_name box (CycleHighRow i) h = inl (omega arith, tt)
+  kind_of_name box (RatioRow i) h = inr small_ratio_form
+  kind_of_name box (LoopLowRow i) h =
+      let n = v.few in inl (omega arith, (omega arith, (omega arith, (omega arith, (omega arith, (omega arith, (omega arith, (omega arith, tt))))))))
+  kind_of_name box (LoopHighRow i) h =
+      let n = v.few in inl (omega arith, (omega arith, (omega arith, (omega arith, (omega arith, (omega arith, (omega arith, (omega arith, tt))))))))
+  kind_of_name box (TurnLowRow i) h = inl (omega arith, tt)
+  kind_of_name box (TurnHighRow i) h = inl (omega arith, tt)
+  kind_of_name box NoRow h = absurd h
+
   pub kind_of_row : (box : Area) (f i : ℕ) → HasRow a (name_of f i) → HasNoBand (count a) (form_of a box (name_of f i)) ⊎ IsSmallForm (form_of a box (name_of f i))
-  kind_of_row box f i =
-      let n = v.few in
-      by_family (λ g name. HasRow a name → HasNoBand (count a) (form_of a box name) ⊎ IsSmallForm (form_of a box name)) f i
-      (λ h. inr (small_wait Outbound i h)) (λ h. inr (small_wait Inbound i h))
-      (λ h. inl (omega arith, (omega arith, tt))) (λ h. inl (omega arith, (omega arith, tt)))
-      (λ h. inl (omega arith, (omega arith, tt))) (λ h. inl (omega arith, (omega arith, tt)))
-      (λ h. inl (no_band_limits (rise_form a Outbound i) (change a Outbound i) (no_band_rise Outbound i)))
-      (λ h. inl (no_band_limits (rise_form a Inbound i) (change a Inbound i) (no_band_rise Inbound i)))
-      (λ h. inl (no_band_limits (drop_form a Outbound i) (change a Outbound i) (no_band_drop Outbound i)))
-      (λ h. inl (no_band_limits (drop_form a Inbound i) (change a Inbound i) (no_band_drop Inbound i)))
-      (λ h. inl (omega arith, tt)) (λ h. inl (omega arith, tt)) (λ h. inr small_ratio_form)
-      (λ h. inl (omega arith, (omega arith, (omega arith, (omega arith, (omega arith, (omega arith, (omega arith, (omega arith, tt)))))))))
-      (λ h. inl (omega arith, (omega arith, (omega arith, (omega arith, (omega arith, (omega arith, (omega arith, (omega arith, tt)))))))))
-      (λ h. inl (omega arith, tt)) (λ h. inl (omega arith, tt)) (λ h. absurd h)
+  kind_of_row box f i h = kind_of_name box (name_of f i) h

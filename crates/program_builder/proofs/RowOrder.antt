@@ -2,14 +2,15 @@
 use Rattle.std.proofs.Common.{◌≡◌, ◌↔◌, ℕ, zero, suc, List, [], ◌∷◌, ◌++◌, length, Bool, true, false, None, Some, ◌+◌, ◌-◌, ◌<◌, ◌≤◌, ◌⊎◌, inl, inr, refl, sym, ◌∙◌, ap, subst, arith, length-append, if◌then◌else◌}
 use Rattle.std.proofs.lemmas.List.{get_or_append_left, get_or-append_right}
 use Rattle.progression.specs.Street.{Street, count}
-use Rattle.linear_theory.specs.Names.{HasRow, name_of}
+use Rattle.linear_theory.specs.Names.{HasRow, name_of, last_family}
 use Rattle.loop_rows.specs.RowTests.{has_row}
 use Rattle.loop_rows.proofs.RowTests.{row_decided}
-use Rattle.loop_rows.specs.Following.{IsBelow, IsAfter, IsNextRow}
+use Rattle.loop_rows.specs.Following.{IsAfter, IsNextRow}
+use Rattle.named_row.specs.Order.{IsBelow}
 use Rattle.named_row.specs.declared.names.RowId.{RowId}
 use Rattle.fraction_tableau.specs.NamedTableaus.{unnamed}
 use Rattle.program_builder.specs.BoxRows.{if_there, names_below, names_through, rows_of, name_at, name_before, IsAmong}
-use Rattle.program_builder.proofs.NamedFamilies.{index_most, family_least, family_most}
+use Rattle.linear_theory.proofs.Families.{index_most, family_least, family_most}
 use Rattle.program_builder.specs.RowOrder.{IsAscending, IsRowAt}
 
 -- what is true of each name of a list
@@ -135,16 +136,16 @@ among_through a g i (suc f) h l m = pick (below_or_not g (suc f)) (λ k. among_t
 -- ---- the laws
 pub rows_ascending : (a : Street) → IsAscending (rows_of a)
 unfolding rows_of
-rows_ascending a = through_ascending a 17
+rows_ascending a = through_ascending a last_family
 
 -- a row is in the list exactly where the artery has it
 pub rows_there : (a : Street) (k : ℕ) → k < length (rows_of a) → HasRow a (name_of (name_at (rows_of a) k).family (name_at (rows_of a) k).index)
 unfolding rows_of
-rows_there a k h = (through_of a 17 k h).there
+rows_there a k h = (through_of a last_family k h).there
 
 pub among_rows : (a : Street) (r : RowId) → HasRow a (name_of r.family r.index) → IsAmong (rows_of a) r
 unfolding rows_of
-among_rows a r h = among_through a r.family r.index 17 h (family_least a r.family r.index h) (family_most a r.family r.index h)
+among_rows a r h = among_through a r.family r.index last_family h (family_least a r.family r.index h) (family_most a r.family r.index h)
 
 pub among_there_is : (a : Street) (r : RowId) → IsAmong (rows_of a) r ↔ HasRow a (name_of r.family r.index)
 among_there_is a r = (λ m. subst (λ s. HasRow a (name_of s.family s.index)) m.is (rows_there a m.place m.within), λ h. among_rows a r h)
