@@ -79,6 +79,13 @@ impl Artery {
         &self.head
     }
 
+    /// That the artery is valid, as its type keeps it: a fact for proofs, and nothing is done.
+    pub fn known_valid(&self)
+        ensures { IsValid self.now }
+    {
+        prove!(2 <= self.head.parts);
+    }
+
     /// The signals, the first at signal 1.
     pub fn signals(&self) -> &[Signal]
         ensures { result.now ≡ self.now.signals }

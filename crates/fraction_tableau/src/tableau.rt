@@ -69,6 +69,14 @@ impl Tableau {
         })
     }
 
+    /// That each row has a name and a basic variable, and that all numbers fit, as the type keeps it: a fact for proofs, and
+    /// nothing is done.
+    pub fn known_named(&self)
+        ensures { IsNamed self.now }
+    {
+        prove!(self.names.len() == self.lines.len());
+    }
+
     /// The number of rows.
     pub fn rows(&self) -> u32
         ensures count { result ≡ height self.now.table }

@@ -55,9 +55,8 @@ fn enter_bands(tableau: &mut Tableau, artery: &Artery, area: &SearchBox)
     requires loaded { tableau.old ≡ loaded_box artery.now area.now }
     ensures { tableau.new ≡ opened_box artery.now area.now }
 {
-    // their contracts say that the artery is valid and that every number fits
-    let _ = artery.head();
-    let _ = tableau.rows();
+    artery.known_valid();
+    tableau.known_named();
     pivot(tableau, 0, 0);
     pivot(tableau, artery.count(), 1);
 }
@@ -75,8 +74,7 @@ pub fn reset(tableau: &mut Tableau, artery: &Artery, area: &SearchBox, room: &mu
     ensures room { length room.new.coefs ≡ places.width (count artery.now) }
     ensures unspent { room.new.spent ≡ false }
 {
-    // its contract says that the artery is valid
-    let _ = artery.head();
+    artery.known_valid();
     load(tableau, artery, area, room);
     enter_bands(tableau, artery, area);
 }
