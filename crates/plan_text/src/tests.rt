@@ -6,9 +6,6 @@ use std::alloc::{AllocError, Global};
 use std::test::*;
 
 /// The timing of a base artery: two signals with reds of half the cycle, and bands of the other half.
-const TEXT: &[u8] =
-    b"maxband-timing 1\ngrid 2\nunit 2\npattern 1 1\nred 0 100\nrun_out 100\nrun_in 100\nfirst 100 200\nband 100 100\nend\n";
-
 const LINES: [&[u8]; 10] = [
     b"maxband-timing 1",
     b"grid 2",
@@ -34,6 +31,17 @@ fn replaced(alloc: Global, line: u64, other: &[u8]) -> Result<Vec<u8>, AllocErro
     Ok(text)
 }
 
+/// Whether a text is read, and written again as it was.
+fn is_same(alloc: Global, text: &[u8]) -> bool {
+    let Ok(timing) = read_timing(alloc, text) else {
+        return false;
+    };
+    match write_timing(alloc, &timing) {
+        Ok(written) => written.as_slice() == text,
+        Err(_) => false,
+    }
+}
+
 fn fault_of(alloc: Global, text: &[u8]) -> Option<BadText> {
     match read_timing(alloc, text) {
         Err(TextEnd::Bad(bad)) => Some(bad),
@@ -42,21 +50,12 @@ fn fault_of(alloc: Global, text: &[u8]) -> Option<BadText> {
 }
 
 #[test]
-fn the_base_text_is_read_and_written_again(rt: HostRuntime) -> Result<(), Fail> {
-    let timing = read_timing(rt.alloc(), TEXT)
-        .ok()
-        .ok_or("the base text is a timing")?;
-    let text = write_timing(rt.alloc(), &timing)
-        .ok()
-        .ok_or("there is memory")?;
-    assert_eq!(rt; text.as_slice(), TEXT);
-    Ok(())
-}
-
-#[test]
-fn each_number_goes_to_its_place(rt: HostRuntime) -> Result<(), Fail> {
+fn texts_are_read_and_written_again(rt: HostRuntime) -> Result<(), Fail> {
     let text =
         b"maxband-timing 1\ngrid 1208925819614629174706175\nunit 21\npattern 1 2 4\nred 0 7 9\nrun_out 31 32\nrun_in 33 34\nfirst 41 42\nband 43 44\nend\n";
+    let base = replaced(rt.alloc(), 0, b"")?;
+    assert!(rt; is_same(rt.alloc(), base.as_slice()));
+    assert!(rt; is_same(rt.alloc(), text));
     let timing = read_timing(rt.alloc(), text)
         .ok()
         .ok_or("the text is a timing")?;
@@ -141,25 +140,6 @@ const REFUSED: [(u64, &[u8], u64, TextFault); 44] = [
     (10, b"end\nend", 11, TextFault::Shape),
 ];
 
-#[test]
-fn the_first_bad_line_is_named(rt: HostRuntime) -> Result<(), Fail> {
-    for (line, other, bad, kind) in REFUSED.iter() {
-        let text = replaced(rt.alloc(), *line, other)
-            .ok()
-            .ok_or("there is memory")?;
-        let found = fault_of(rt.alloc(), text.as_slice());
-        assert_eq!(rt;
-            found,
-            Some(BadText {
-                line: *bad,
-                kind: *kind
-            }),
-            "in place of line {line}"
-        );
-    }
-    Ok(())
-}
-
 /// Texts without the line feed of this line.
 const ENDED: [(&[u8], u64); 9] = [
     (b"", 1),
@@ -183,16 +163,22 @@ const ENDED: [(&[u8], u64); 9] = [
 ];
 
 #[test]
-fn a_line_without_its_feed_is_named(rt: HostRuntime) {
-    for (text, line) in ENDED.iter() {
-        let found = fault_of(rt.alloc(), text);
-        assert_eq!(rt;
-            found,
-            Some(BadText {
-                line: *line,
-                kind: TextFault::Ended
-            }),
-            "line {line}"
-        );
+fn the_first_bad_line_is_named(rt: HostRuntime) -> Result<(), Fail> {
+    for (line, other, bad, kind) in REFUSED.iter() {
+        let text = replaced(rt.alloc(), *line, other)?;
+        let found = fault_of(rt.alloc(), text.as_slice());
+        let expected = BadText {
+            line: *bad,
+            kind: *kind,
+        };
+        assert_eq!(rt; found, Some(expected), "in place of line {line}");
     }
+    for (text, line) in ENDED.iter() {
+        let expected = BadText {
+            line: *line,
+            kind: TextFault::Ended,
+        };
+        assert_eq!(rt; fault_of(rt.alloc(), text), Some(expected), "line {line}");
+    }
+    Ok(())
 }
