@@ -1,5 +1,5 @@
 -- Numbers in a description: TOML integers, and texts of the grammar of quantities.
-use Rattle.std.specs.Prelude.{Bool, true, false, Option, None, Some, ℤ, pos}
+use Rattle.std.specs.Prelude.{Bool, true, false, Option, None, Some, unwrap_or, ℤ, pos}
 use Rattle.toml.specs.Data.{Data, string, integer}
 use Rattle.rational_theory.specs.Rational.{ℚ, whole}
 use Rattle.quantity_text.specs.Quantity.{quantity_of}
@@ -20,3 +20,7 @@ quantity_in _ = None
 abbrev pub integer_in : Data → ℤ
 integer_in (integer z) = z
 integer_in _ = pos 0
+
+-- the number that a quantity writes, 0 of any other value
+abbrev pub number_in : Data → ℚ
+number_in d = unwrap_or (quantity_in d) (whole (pos 0))

@@ -2,7 +2,7 @@
 
 ghost use Rattle.std.specs.Prelude.{◌≡◌};
 ghost use Rattle.toml.specs.View.{view};
-ghost use Rattle.description_reader.specs.Quantity.{is_quantity, quantity_in, integer_in};
+ghost use Rattle.description_reader.specs.Quantity.{is_quantity, quantity_in, number_in, integer_in};
 
 use narrow_fraction::Frac;
 use quantity_text::parse_quantity;
@@ -27,6 +27,13 @@ pub fn quantity_in(value: &Value) -> Option<Frac>
         Some(text) => parse_quantity(text).ok(),
         None => None,
     }
+}
+
+/// The number that a quantity writes, 0 of any other value.
+pub fn number_in(value: &Value) -> Frac
+    ensures { result ≡ number_in (view value.now) }
+{
+    quantity_in(value).unwrap_or(Frac::whole(0))
 }
 
 /// The number of an integer, 0 of any other value.
