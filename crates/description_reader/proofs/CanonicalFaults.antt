@@ -18,7 +18,7 @@ use Rattle.artery_model.specs.Faults.{first_fault, each_numbered}
 use Rattle.artery_model.specs.Limits.{in_range, is_name_if_there, signal_ranges, link_ranges, artery_fault}
 use Rattle.description_reader.specs.Canonical.{number_data, pair_data, units_text, head_members, signal_members, signal_data, link_members, link_data, canonical, HasFour}
 use Rattle.description_reader.specs.Checks.{meets}
-use Rattle.description_reader.specs.Judgement.{key_fault, in_table, signal_fault, link_fault, stage_tests, facts_of, value_tests}
+use Rattle.description_reader.specs.Judgement.{key_fault, in_table, stage_tests, facts_of, value_tests}
 use Rattle.description_reader.specs.Keys.{unknown_key}
 use Rattle.description_reader.specs.KeyTable.{key, alone, items, two_quantities, keys_of}
 use Rattle.description_reader.specs.Quantity.{integer_in}
@@ -80,7 +80,7 @@ signal_keys_pass parts i s four fits stage =
       ),
     )
 
-signal_passes : (stage : Stage) (links parts i : ℕ) (s : Signal) → HasFour s → SignalFits parts s → signal_fault stage (known links parts) i (signal_data s) ≡ None
+signal_passes : (stage : Stage) (links parts i : ℕ) (s : Signal) → HasFour s → SignalFits parts s → in_table stage (known links parts) (SignalTable i) (signal_data s) ≡ None
 signal_passes stage links parts i s four fits = table_passes (known links parts) (SignalTable i) (signal_members s) (signal_known links i s) (signal_keys_pass parts i s four fits) stage
 
 -- ---- a link
@@ -125,7 +125,7 @@ link_keys_pass links i parts l fits stage =
       ),
     )
 
-link_passes : (stage : Stage) (links parts i : ℕ) (l : Link) → LinkFits (i == links) l → link_fault stage (known links parts) i (link_data l) ≡ None
+link_passes : (stage : Stage) (links parts i : ℕ) (l : Link) → LinkFits (i == links) l → in_table stage (known links parts) (LinkTable i) (link_data l) ≡ None
 link_passes stage links parts i l fits =
     table_passes (known links parts) (LinkTable i) (link_members l) (known_with links i l.change_out l.change_in l fits.change_out fits.change_in) (link_keys_pass links i (pos parts) l fits) stage
 
@@ -214,10 +214,10 @@ stage_passes stage a four fits =
     let parts = a.head.parts in
     let facts = known n parts in
     let root = table_passes facts Root (canonical a) (root_known n a) (root_keys_pass (pos parts) a fits) stage in
-    let signals = ap (λ ds. first_fault (each_numbered (signal_fault stage facts) 1 ds)) (list_of_items (map signal_data a.signals))
-    ∙ each_made HasFour (signal_ranges parts) (signal_fault stage facts) signal_data (λ i s h e. signal_passes stage n parts i s h (signal_fits parts i s e)) 1 a.signals four fits.signals in
-    let links = ap (λ ds. first_fault (each_numbered (link_fault stage facts) 1 ds)) (list_of_items (map link_data a.links))
-    ∙ each_made (λ l. Unit {0}) (link_ranges n) (link_fault stage facts) link_data (λ i l h e. link_passes stage n parts i l (link_fits n i l e)) 1 a.links (λ k l h. tt) fits.links in
+    let signals = ap (λ ds. first_fault (each_numbered (λ i. in_table stage facts (SignalTable i)) 1 ds)) (list_of_items (map signal_data a.signals))
+    ∙ each_made HasFour (signal_ranges parts) (λ i. in_table stage facts (SignalTable i)) signal_data (λ i s h e. signal_passes stage n parts i s h (signal_fits parts i s e)) 1 a.signals four fits.signals in
+    let links = ap (λ ds. first_fault (each_numbered (λ i. in_table stage facts (LinkTable i)) 1 ds)) (list_of_items (map link_data a.links))
+    ∙ each_made (λ l. Unit {0}) (link_ranges n) (λ i. in_table stage facts (LinkTable i)) link_data (λ i l h e. link_passes stage n parts i l (link_fits n i l e)) 1 a.links (λ k l h. tt) fits.links in
     ap (λ f. first_fault (stage_tests stage f (table (canonical a)))) (facts_known a)
     ∙ none_of (stage_tests stage facts (table (canonical a))) (root, (head_passes stage facts a.head fits.head, (signals, (links, tt))))
 

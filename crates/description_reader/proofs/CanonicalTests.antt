@@ -1,6 +1,6 @@
 -- Tests of a table's values that pass.
 use Rattle.std.proofs.Common.{◌≡◌, ℕ, ◌+◌, ℤ, List, [], ◌∷◌, map, Bool, true, false, Option, None, Some, is_some, ◌&&◌, refl, sym, ◌∙◌, ap}
-use Rattle.std.specs.Prelude.{unwrap_or}
+use Rattle.std.specs.Prelude.{unwrap_or, option_map}
 use Rattle.std.specs.List.{All, list_all}
 use Rattle.std.proofs.lemmas.Bool.{true≢false}
 use Rattle.std.proofs.lemmas.List.Elements.{All-head, All-tail}
@@ -14,7 +14,7 @@ use Rattle.description_reader.specs.Judgement.{key_fault, in_table}
 use Rattle.description_reader.specs.Keys.{unknown_key}
 use Rattle.description_reader.specs.KeyTable.{Key, keys_of}
 use Rattle.description_reader.specs.Places.{key_place, item_place}
-use Rattle.description_reader.specs.Values.{if_there, items_in}
+use Rattle.description_reader.specs.Values.{items_in}
 use Rattle.description_reader.specs.declared.demand.Demand.{Demand}
 use Rattle.description_reader.specs.declared.judge.Facts.{Facts}
 use Rattle.description_reader.specs.declared.judge.Stage.{Stage}
@@ -69,7 +69,7 @@ Stands _ o = Unit {0}
 
 -- the value at a key, and each of its items, is what it must be
 pub record Meet (parts : ℤ) (demands : Demands) (o : Option Data) : Type 0 where
-  pub value : if_there (meets parts demands.value) o ≡ true
+  pub value : unwrap_or (option_map (meets parts demands.value) o) true ≡ true
   pub items : list_all (meets parts demands.item) (items_in (unwrap_or o (array no_items))) ≡ true
 
 -- what stands at a key passes each of its tests
@@ -92,7 +92,7 @@ module _ (parts : ℤ) (section : Section) (d : Data) (name : List ℕ) (o : Opt
   unfolding value_fault items_fault
   demands_pass kind demands m =
       none_of (value_fault kind parts section demands.value name d ∷ items_fault kind parts section demands.item name d ∷ []) (
-        ap (λ v. unless (if_there (meets parts demands.value) v) kind (key_place section name)) is ∙ ap (λ b. unless b kind (key_place section name)) m.value,
+        ap (λ v. unless (unwrap_or (option_map (meets parts demands.value) v) true) kind (key_place section name)) is ∙ ap (λ b. unless b kind (key_place section name)) m.value,
         (
           ap (λ v. first_fault (each_numbered (item_fault kind parts section demands.item name) 1 (items_in (unwrap_or v (array no_items))))) is
               ∙ items_pass kind demands.item 1 (items_in (unwrap_or o (array no_items))) m.items,

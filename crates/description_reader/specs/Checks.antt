@@ -1,13 +1,13 @@
 -- What a value of a description must be, and the faults of values that aren't.
-use Rattle.std.specs.Prelude.{◌&&◌, ◌||◌, ℕ, List, [], ◌∷◌, length, Bool, true, Option, None, is_some, ℤ, int_lt, int_le, codes}
+use Rattle.std.specs.Prelude.{◌&&◌, ◌||◌, ℕ, List, [], ◌∷◌, length, Bool, true, Option, None, is_some, unwrap_or, option_map, ℤ, int_lt, int_le, codes}
 use Rattle.toml.specs.Data.{Data, get, as_integer, as_str, as_array, as_table}
 use Rattle.rational_theory.specs.Rational.{whole}
 use Rattle.artery_model.specs.Faults.{Fault, first_fault, unless, each_numbered}
 use Rattle.artery_model.specs.Limits.{is_name, in_range, is_text, within}
 use Rattle.artery_model.specs.declared.kind.Kind.{Kind}
 use Rattle.artery_model.specs.declared.kind.Kind.TheVariants as kind
-use Rattle.description_reader.specs.Quantity.{is_quantity, quantity_in, number_in, integer_in}
-use Rattle.description_reader.specs.Values.{has, at, if_there, items_in, text_in}
+use Rattle.description_reader.specs.Quantity.{quantity_in, number_in, integer_in}
+use Rattle.description_reader.specs.Values.{has, at_key, items_in, text_in}
 use Rattle.description_reader.specs.KeyTable.{both}
 use Rattle.description_reader.specs.Places.{key_place, item_place}
 use Rattle.description_reader.specs.declared.place.Section.{Section}
@@ -25,7 +25,7 @@ meets parts demand.Array d = is_some (as_array d)
 meets parts (demand.Length least most) d = in_range least most (length (items_in d))
 meets parts demand.Integer d = is_some (as_integer d)
 meets parts demand.Text d = is_some (as_str d)
-meets parts demand.Quantity d = is_quantity d
+meets parts demand.Quantity d = is_some (as_integer d) || is_some (as_str d)
 meets parts demand.Number d = is_some (quantity_in d)
 meets parts demand.Units d = is_text (text_in d) (codes "metric") || is_text (text_in d) (codes "english")
 meets parts demand.Name d = is_name (text_in d)
@@ -49,14 +49,14 @@ missing _ section name d = None
 module _ (kind : Kind) (parts : ℤ) (section : Section) where
   -- the value at a key, where there is one, isn't what it must be
   unfoldable pub value_fault : Demand → List ℕ → Data → Option Fault
-  value_fault demand name d = unless (if_there (meets parts demand) (get name d)) kind (key_place section name)
+  value_fault demand name d = unless (unwrap_or (option_map (meets parts demand) (get name d)) true) kind (key_place section name)
 
   abbrev pub item_fault : Demand → List ℕ → ℕ → Data → Option Fault
   item_fault demand name i d = unless (meets parts demand d) kind (item_place section name i)
 
   -- the first item of the array at a key that isn't what it must be
   unfoldable pub items_fault : Demand → List ℕ → Data → Option Fault
-  items_fault demand name d = first_fault (each_numbered (item_fault demand name) 1 (items_in (at d name)))
+  items_fault demand name d = first_fault (each_numbered (item_fault demand name) 1 (items_in (at_key d name)))
 
   -- the value at a key, and then its items
   abbrev pub demands_fault : Demands → List ℕ → Data → Option Fault

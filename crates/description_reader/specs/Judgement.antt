@@ -1,9 +1,9 @@
 -- What is wrong with the values of a description: a list of tests, for each kind in order, and within it for each place in order.
-use Rattle.std.specs.Prelude.{ℕ, List, [], ◌∷◌, length, map, Option, None, is_some, ℤ, codes, if◌then◌else◌}
+use Rattle.std.specs.Prelude.{List, [], ◌∷◌, length, map, Option, None, is_some, ℤ, codes, if◌then◌else◌}
 use Rattle.toml.specs.Data.{Data, as_table}
 use Rattle.artery_model.specs.Faults.{Fault, first_fault, each_numbered}
 use Rattle.artery_model.specs.declared.kind.Kind.TheVariants.{WrongType, BadNumber, OutOfRange}
-use Rattle.description_reader.specs.Values.{at, items_in}
+use Rattle.description_reader.specs.Values.{at_key, items_in}
 use Rattle.description_reader.specs.Quantity.{integer_in}
 use Rattle.description_reader.specs.KeyTable.{Key, keys_of}
 use Rattle.description_reader.specs.Checks.{missing, numbers_of, demands_fault}
@@ -31,24 +31,18 @@ table_fault stage facts section d = first_fault (map (key_fault stage facts.part
 abbrev pub in_table : Stage → Facts → Section → Data → Option Fault
 in_table stage facts section d = if is_some (as_table d) then table_fault stage facts section d else None
 
-abbrev pub signal_fault : Stage → Facts → ℕ → Data → Option Fault
-signal_fault stage facts i d = in_table stage facts (Signal i) d
-
-abbrev pub link_fault : Stage → Facts → ℕ → Data → Option Fault
-link_fault stage facts i d = in_table stage facts (Link i) d
-
 -- ---- one kind over a whole description: the root, the artery, the signals in order, the links in order
 abbrev pub stage_tests : Stage → Facts → Data → List (Option Fault)
 stage_tests stage facts root =
     in_table stage facts Root root
-    ∷ in_table stage facts Artery (at root (codes "artery"))
-    ∷ first_fault (each_numbered (signal_fault stage facts) 1 (items_in (at root (codes "signal"))))
-    ∷ first_fault (each_numbered (link_fault stage facts) 1 (items_in (at root (codes "link"))))
+    ∷ in_table stage facts Artery (at_key root (codes "artery"))
+    ∷ first_fault (each_numbered (λ i. in_table stage facts (Signal i)) 1 (items_in (at_key root (codes "signal"))))
+    ∷ first_fault (each_numbered (λ i. in_table stage facts (Link i)) 1 (items_in (at_key root (codes "link"))))
     ∷ []
 
 -- ---- every test of the values
 abbrev pub facts_of : Data → Facts
-facts_of root = record { links = length (items_in (at root (codes "link"))); parts = integer_in (at (at root (codes "artery")) (codes "parts")) }
+facts_of root = record { links = length (items_in (at_key root (codes "link"))); parts = integer_in (at_key (at_key root (codes "artery")) (codes "parts")) }
 
 abbrev pub value_tests : Data → List (Option Fault)
 value_tests root =

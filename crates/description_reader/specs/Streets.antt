@@ -13,7 +13,7 @@ use Rattle.progression.specs.declared.parts.Units.TheVariants.{Metric, English}
 use Rattle.artery_model.specs.Faults.{Fault, first_fault}
 use Rattle.artery_model.specs.Limits.{artery_fault, is_text}
 use Rattle.description_reader.specs.Quantity.{number_in, integer_in}
-use Rattle.description_reader.specs.Values.{at, items_in, text_in}
+use Rattle.description_reader.specs.Values.{at_key, items_in, text_in}
 use Rattle.description_reader.specs.Judgement.{value_tests}
 
 -- a number of 32 bits, 0 for any other, which is a fault of the description
@@ -22,7 +22,7 @@ u32_or_zero (pos n) = if nat_lt n 4294967296 then n else 0
 u32_or_zero (negsuc n) = 0
 
 abbrev pub u32_at : Data → List ℕ → ℕ
-u32_at d name = u32_or_zero (integer_in (at d name))
+u32_at d name = u32_or_zero (integer_in (at_key d name))
 
 -- two limits, 0 and 0 where there aren't two, which is a fault of the description
 abbrev pub pair_of : List Data → Pair
@@ -30,7 +30,7 @@ pair_of (least ∷ most ∷ []) = record { least = number_in least; most = numbe
 pair_of _ = no_pair
 
 abbrev pub pair_at : Data → List ℕ → Pair
-pair_at d name = pair_of (items_in (at d name))
+pair_at d name = pair_of (items_in (at_key d name))
 
 -- one of the numbers at a key is this one
 abbrev pub has_number : List Data → ℕ → Bool
@@ -47,7 +47,7 @@ change_at d name = option_map (λ v. pair_of (items_in v)) (get name d)
 
 abbrev pub signal_in : Data → Signal
 signal_in d = record {
-  name = text_in (at d (codes "name"));
+  name = text_in (at_key d (codes "name"));
   red = u32_at d (codes "red");
   left_out = u32_at d (codes "left_out");
   left_in = u32_at d (codes "left_in");
@@ -73,17 +73,17 @@ units_of text = if is_text text (codes "english") then English else Metric
 abbrev pub head_in : Data → Head
 head_in d = record {
   name = option_map text_in (get (codes "name") d);
-  units = units_of (text_in (at d (codes "units")));
+  units = units_of (text_in (at_key d (codes "units")));
   parts = u32_at d (codes "parts");
   cycle = pair_at d (codes "cycle");
-  ratio = number_in (at d (codes "ratio"));
+  ratio = number_in (at_key d (codes "ratio"));
 }
 
 abbrev pub street_in : Data → Street
 street_in root = record {
-  head = head_in (at root (codes "artery"));
-  signals = map signal_in (items_in (at root (codes "signal")));
-  links = map link_in (items_in (at root (codes "link")));
+  head = head_in (at_key root (codes "artery"));
+  signals = map signal_in (items_in (at_key root (codes "signal")));
+  links = map link_in (items_in (at_key root (codes "link")));
 }
 
 -- the first fault of a description: of its values, and then of the artery that they make

@@ -6,7 +6,7 @@ ghost use Rattle.toml.specs.View.{view};
 ghost use Rattle.progression.specs.Street.{no_pair};
 ghost use Rattle.description_reader.specs.Quantity.{number_in};
 ghost use Rattle.description_reader.specs.Streets.{u32_or_zero, u32_at, pair_of, pair_at, has_number, patterns_of, change_at, units_of, head_in, signal_in, link_in};
-ghost use Rattle.description_reader.specs.Values.{at, text_in};
+ghost use Rattle.description_reader.specs.Values.{at_key, text_in};
 
 use crate::quantity::{integer_in, number_in};
 use crate::values::{items_at, items_in, number_at, text_at, text_in, value_at};
@@ -101,7 +101,7 @@ fn patterns_of(table: &Value) -> [bool; 4]
 
 /// The number at a key, 0 where there is none.
 fn number_of(table: &Value, key: &str) -> Frac
-    ensures { result ≡ number_in (at (view table.now) key.now) }
+    ensures { result ≡ number_in (at_key (view table.now) key.now) }
 {
     match value_at(table, key) {
         Some(found) => number_in(found),
@@ -158,7 +158,7 @@ fn head_of(alloc: Global, table: &Value) -> Result<Head, AllocError>
 
 /// What holds of the whole artery.
 pub fn head_in(alloc: Global, root: &Value) -> Result<Head, AllocError>
-    ensures { IfOk result (λ h. h ≡ head_in (at (view root.now) (codes "artery"))) }
+    ensures { IfOk result (λ h. h ≡ head_in (at_key (view root.now) (codes "artery"))) }
 {
     match value_at(root, "artery") {
         Some(artery) => head_of(alloc, artery),

@@ -1,10 +1,9 @@
 //! One check of a value of a description.
 
-ghost use Rattle.std.specs.Prelude.{◌≡◌, Some, string_bytes, codes};
+ghost use Rattle.std.specs.Prelude.{◌≡◌, Some, true, unwrap_or, option_map, string_bytes, codes};
 ghost use Rattle.toml.specs.Data.{get};
 ghost use Rattle.toml.specs.View.{view};
 ghost use Rattle.artery_model.specs.Faults.{Judges, Names, unless};
-ghost use Rattle.description_reader.specs.Values.{if_there};
 ghost use Rattle.description_reader.specs.Places.{key_place, item_place};
 ghost use Rattle.description_reader.specs.Checks.{meets, missing, value_fault, items_fault, demands_fault};
 
@@ -88,7 +87,7 @@ pub fn check_needed(
 
 /// Whether the value at a key, where there is one, is what it must be.
 fn meets_at(parts: i64, demand: Demand, name: &str, table: &Value) -> bool
-    ensures { result ≡ if_there (meets parts demand) (get name.now (view table.now)) }
+    ensures { result ≡ unwrap_or (option_map (meets parts demand) (get name.now (view table.now))) true }
 {
     match value_at(table, name) {
         Some(found) => meets(parts, demand, found),

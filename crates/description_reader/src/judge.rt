@@ -4,10 +4,10 @@ ghost use Rattle.std.specs.Prelude.{◌≡◌, map, codes};
 ghost use Rattle.toml.specs.View.{view};
 ghost use Rattle.artery_model.specs.Faults.{Judges, first_fault, each_numbered};
 ghost use Rattle.description_reader.specs.Checks.{number_of, numbers_of};
-ghost use Rattle.description_reader.specs.Judgement.{key_fault, table_fault, in_table, signal_fault, link_fault, stage_tests, facts_of, value_tests};
+ghost use Rattle.description_reader.specs.Judgement.{key_fault, table_fault, in_table, stage_tests, facts_of, value_tests};
 ghost use Rattle.description_reader.specs.KeyTable.{key_of, keys_of};
 ghost use Rattle.description_reader.specs.Quantity.{integer_in};
-ghost use Rattle.description_reader.specs.Values.{at};
+ghost use Rattle.description_reader.specs.Values.{at_key};
 
 use crate::check::{TableCheck, check_needed};
 use crate::demand::Demand;
@@ -139,7 +139,7 @@ fn look_into(
 }
 
 fn look_into_artery(alloc: Global, stage: Stage, facts: Facts, root: &Value) -> Result<(), Flaw>
-    ensures { Judges result (in_table stage facts Section.Artery (at (view root.now) (codes "artery"))) }
+    ensures { Judges result (in_table stage facts Section.Artery (at_key (view root.now) (codes "artery"))) }
 {
     match value_at(root, "artery") {
         Some(artery) => look_into(alloc, stage, facts, Section::Artery, artery),
@@ -153,7 +153,7 @@ fn look_into_signals(
     facts: Facts,
     signals: &[Value],
 ) -> Result<(), Flaw>
-    ensures { Judges result (first_fault (each_numbered (signal_fault stage facts) 1 (map view signals.now))) }
+    ensures { Judges result (first_fault (each_numbered (λ i. in_table stage facts (Section.Signal i)) 1 (map view signals.now))) }
 {
     for (index, signal) in signals.iter().enumerate() {
         look_into(alloc, stage, facts, Section::Signal(index + 1), signal)?;
@@ -162,7 +162,7 @@ fn look_into_signals(
 }
 
 fn look_into_links(alloc: Global, stage: Stage, facts: Facts, links: &[Value]) -> Result<(), Flaw>
-    ensures { Judges result (first_fault (each_numbered (link_fault stage facts) 1 (map view links.now))) }
+    ensures { Judges result (first_fault (each_numbered (λ i. in_table stage facts (Section.Link i)) 1 (map view links.now))) }
 {
     for (index, link) in links.iter().enumerate() {
         look_into(alloc, stage, facts, Section::Link(index + 1), link)?;
@@ -181,7 +181,7 @@ fn check_stage(alloc: Global, stage: Stage, facts: Facts, root: &Value) -> Resul
 }
 
 fn parts_of(root: &Value) -> i64
-    ensures { result ≡ integer_in (at (at (view root.now) (codes "artery")) (codes "parts")) }
+    ensures { result ≡ integer_in (at_key (at_key (view root.now) (codes "artery")) (codes "parts")) }
 {
     match value_at(root, "artery") {
         Some(artery) => number_at(artery, "parts"),

@@ -4,7 +4,7 @@ ghost use Rattle.std.specs.Prelude.{◌≡◌, option_map, map};
 ghost use Rattle.toml.specs.Data.{get};
 ghost use Rattle.toml.specs.View.{view};
 ghost use Rattle.description_reader.specs.Quantity.{integer_in};
-ghost use Rattle.description_reader.specs.Values.{has, at, items_in, text_in};
+ghost use Rattle.description_reader.specs.Values.{has, at_key, items_in, text_in};
 
 use crate::quantity::integer_in;
 use toml::Value;
@@ -36,7 +36,7 @@ pub fn items_in(value: &Value) -> &[Value]
 
 /// The items of an array at a key, none where there is no array.
 pub fn items_at<'a>(value: &'a Value, key: &str) -> &'a [Value]
-    ensures { map view result.now ≡ items_in (at (view value.now) key.now) }
+    ensures { map view result.now ≡ items_in (at_key (view value.now) key.now) }
 {
     match value_at(value, key) {
         Some(found) => items_in(found),
@@ -56,7 +56,7 @@ pub fn text_in(value: &Value) -> &str
 
 /// The text at a key, empty where there is none.
 pub fn text_at<'a>(value: &'a Value, key: &str) -> &'a str
-    ensures { result.now ≡ text_in (at (view value.now) key.now) }
+    ensures { result.now ≡ text_in (at_key (view value.now) key.now) }
 {
     match value_at(value, key) {
         Some(found) => text_in(found),
@@ -66,7 +66,7 @@ pub fn text_at<'a>(value: &'a Value, key: &str) -> &'a str
 
 /// The integer at a key, 0 where there is none.
 pub fn number_at(value: &Value, key: &str) -> i64
-    ensures { result ≡ integer_in (at (view value.now) key.now) }
+    ensures { result ≡ integer_in (at_key (view value.now) key.now) }
 {
     match value_at(value, key) {
         Some(found) => integer_in(found),
