@@ -1,5 +1,5 @@
 -- The tests that the numbers and names of an artery without a fault have passed.
-use Rattle.std.proofs.Common.{◌≡◌, ℕ, ◌-◌, ◌==◌, ℤ, pos, negsuc, List, [], ◌∷◌, length, refl, Bool, true, false, not, Option, None, Some, nat_lt, sym}
+use Rattle.std.proofs.Common.{◌≡◌, ℕ, ◌-◌, ◌==◌, ℤ, List, [], ◌∷◌, length, refl, Bool, true, false, not, Option, None, Some, nat_lt, sym}
 use Rattle.std.specs.Prelude.{codes}
 use Rattle.rational_theory.specs.Rational.{whole}
 use Rattle.progression.specs.Street.{Street, count}
@@ -7,6 +7,7 @@ use Rattle.progression.specs.declared.parts.Head.{Head}
 use Rattle.progression.specs.declared.parts.Signal.{Signal}
 use Rattle.progression.specs.declared.parts.Link.{Link}
 use Rattle.progression.specs.declared.parts.Pair.{Pair}
+use Rattle.artery_model.specs.Bounds.{least_signals, most_signals, least_parts, most_parts, least_distance, most_distance, least_speed, most_speed, least_cycle, most_cycle, least_change, most_change, least_ratio, most_ratio}
 use Rattle.artery_model.specs.Faults.{first_fault, each_numbered, artery_place, link_place}
 use Rattle.artery_model.specs.Limits.{within, in_range, is_name, is_name_if_there, pair_ranges, head_ranges, signal_tests, signal_ranges, change_ranges, link_tests, link_ranges, range_tests, rule_tests, artery_fault}
 use Rattle.description_reader.proofs.CanonicalTests.{each_none, passed}
@@ -24,7 +25,7 @@ are_within low high p place e =
 -- limits of a change lie within theirs where they are given, and aren't given on the last link
 abbrev pub IsChangeWithin : Bool → Option Pair → Type 0
 IsChangeWithin is_last None = Unit {0}
-IsChangeWithin is_last (Some p) = (is_last ≡ false) × AreWithin (negsuc 999) (pos 1000) p
+IsChangeWithin is_last (Some p) = (is_last ≡ false) × AreWithin least_change most_change p
 
 not_out : (b : Bool) → not b ≡ true → b ≡ false
 not_out true e = sym e
@@ -34,13 +35,13 @@ change_within : (is_last : Bool) (o : Option Pair) (place : List ℕ) → first_
 change_within is_last None place e = tt
 change_within is_last (Some p) place e =
     let tests = each_none (change_ranges is_last (Some p) place) e in
-    (not_out is_last (passed _ _ _ tests.0), are_within (negsuc 999) (pos 1000) p place tests.1.0)
+    (not_out is_last (passed _ _ _ tests.0), are_within least_change most_change p place tests.1.0)
 
 pub record HeadFits (h : Head) : Type 0 where
   pub name : is_name_if_there h.name ≡ true
-  pub parts : in_range 2 3600 h.parts ≡ true
-  pub cycle : AreWithin (pos 1) (pos 3600) h.cycle
-  pub ratio : within (whole (pos 0)) (whole (pos 100)) h.ratio ≡ true
+  pub parts : in_range least_parts most_parts h.parts ≡ true
+  pub cycle : AreWithin least_cycle most_cycle h.cycle
+  pub ratio : within (whole least_ratio) (whole most_ratio) h.ratio ≡ true
 
 head_fits : (h : Head) → first_fault (head_ranges h) ≡ None → HeadFits h
 head_fits h e =
@@ -48,7 +49,7 @@ head_fits h e =
     record {
       name = passed _ _ _ tests.0;
       parts = passed _ _ _ tests.1.0;
-      cycle = are_within (pos 1) (pos 3600) h.cycle (artery_place (codes "cycle")) tests.1.1.0;
+      cycle = are_within least_cycle most_cycle h.cycle (artery_place (codes "cycle")) tests.1.1.0;
       ratio = passed _ _ _ tests.1.1.1.0;
     }
 
@@ -73,10 +74,10 @@ signal_fits parts i s e =
     }
 
 pub record LinkFits (is_last : Bool) (l : Link) : Type 0 where
-  pub distance_out : in_range 1 30000 l.distance_out ≡ true
-  pub distance_in : in_range 1 30000 l.distance_in ≡ true
-  pub speed_out : AreWithin (pos 1) (pos 300) l.speed_out
-  pub speed_in : AreWithin (pos 1) (pos 300) l.speed_in
+  pub distance_out : in_range least_distance most_distance l.distance_out ≡ true
+  pub distance_in : in_range least_distance most_distance l.distance_in ≡ true
+  pub speed_out : AreWithin least_speed most_speed l.speed_out
+  pub speed_in : AreWithin least_speed most_speed l.speed_in
   pub change_out : IsChangeWithin is_last l.change_out
   pub change_in : IsChangeWithin is_last l.change_in
 
@@ -86,14 +87,14 @@ link_fits n i l e =
     record {
       distance_out = passed _ _ _ tests.0;
       distance_in = passed _ _ _ tests.1.0;
-      speed_out = are_within (pos 1) (pos 300) l.speed_out (link_place i (codes "speed_out")) tests.1.1.0;
-      speed_in = are_within (pos 1) (pos 300) l.speed_in (link_place i (codes "speed_in")) tests.1.1.1.0;
+      speed_out = are_within least_speed most_speed l.speed_out (link_place i (codes "speed_out")) tests.1.1.0;
+      speed_in = are_within least_speed most_speed l.speed_in (link_place i (codes "speed_in")) tests.1.1.1.0;
       change_out = change_within (i == n) l.change_out (link_place i (codes "change_out")) tests.1.1.1.1.0;
       change_in = change_within (i == n) l.change_in (link_place i (codes "change_in")) tests.1.1.1.1.1.0;
     }
 
 pub record StreetFits (a : Street) : Type 0 where
-  pub count : in_range 2 16 (count a) ≡ true
+  pub count : in_range least_signals most_signals (count a) ≡ true
   pub head : HeadFits a.head
   pub signals : first_fault (each_numbered (signal_ranges a.head.parts) 1 a.signals) ≡ None
   pub links : first_fault (each_numbered (link_ranges (length a.links)) 1 a.links) ≡ None

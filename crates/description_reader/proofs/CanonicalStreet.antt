@@ -1,9 +1,10 @@
 -- The artery that the values of a canonical description make is the one that it was made of.
-use Rattle.std.proofs.Common.{◌≡◌, ℕ, ◌+◌, ◌-◌, ◌==◌, ◌<◌, ◌≤◌, pos, negsuc, List, [], ◌∷◌, length, map, Bool, true, Option, None, Some, option_map, nat_le, nat_lt, refl, ◌∙◌, ap, ap₂, arith}
+use Rattle.std.proofs.Common.{◌≡◌, ℕ, ◌+◌, ◌-◌, ◌==◌, ◌<◌, ◌≤◌, List, [], ◌∷◌, length, map, Bool, true, Option, None, Some, option_map, nat_le, nat_lt, refl, ◌∙◌, ap, ap₂, arith}
+use Rattle.std.specs.Prelude.{unwrap_or}
 use Rattle.std.specs.List.{All}
 use Rattle.std.proofs.lemmas.Bool.Decides.{nat_tests}
 use Rattle.std.proofs.lemmas.List.Elements.{All-head, All-tail}
-use Rattle.toml.specs.Data.{Data, string, table}
+use Rattle.toml.specs.Data.{Data, string, array, no_items, table}
 use Rattle.progression.specs.Street.{Street}
 use Rattle.progression.specs.declared.parts.Head.{Head}
 use Rattle.progression.specs.declared.parts.Signal.{Signal}
@@ -11,16 +12,17 @@ use Rattle.progression.specs.declared.parts.Link.{Link}
 use Rattle.progression.specs.declared.parts.Pair.{Pair}
 use Rattle.progression.specs.declared.parts.Units.{Units}
 use Rattle.progression.specs.declared.parts.Units.TheVariants.{Metric, English}
+use Rattle.artery_model.specs.Bounds.{least_parts, most_parts, least_distance, most_distance, least_speed, most_speed, least_cycle, most_cycle, least_change, most_change, least_ratio, most_ratio}
 use Rattle.artery_model.specs.Faults.{Fault, first_fault, each_numbered}
 use Rattle.rational_theory.specs.Rational.{whole}
 use Rattle.artery_model.specs.Limits.{in_range, signal_ranges, link_ranges}
 use Rattle.description_reader.specs.Canonical.{pair_data, units_text, head_members, signal_data, link_data, canonical, HasFour}
-use Rattle.description_reader.specs.Checks.{limits_in}
-use Rattle.description_reader.specs.Values.{items_in, items_or_none, text_in, text_or_none, number_or_zero}
-use Rattle.description_reader.specs.Streets.{u32_or_zero, pair_of, units_of, quantity_or_zero, ratio_of, head_of, signal_in, link_in, street_in}
+use Rattle.description_reader.specs.Quantity.{integer_in, number_in}
+use Rattle.description_reader.specs.Values.{items_in, text_in}
+use Rattle.description_reader.specs.Streets.{u32_or_zero, pair_of, units_of, head_in, signal_in, link_in, street_in}
 use Rattle.description_reader.proofs.Views.{list_of_items}
 use Rattle.description_reader.proofs.CanonicalTests.{each_none, none_of, both_of}
-use Rattle.description_reader.proofs.CanonicalValues.{quantity_back, pair_back, u32_back, patterns_back}
+use Rattle.description_reader.proofs.CanonicalValues.{number_back, pair_back, u32_back, patterns_back}
 use Rattle.description_reader.proofs.CanonicalLimits.{IsChangeWithin, HeadFits, SignalFits, signal_fits, LinkFits, link_fits, StreetFits}
 use Rattle.description_reader.proofs.CanonicalKeys.{head_keys, link_keys}
 
@@ -31,10 +33,10 @@ le_of n m e = grind (arith, nat_tests)
 at_most : (low most n : ℕ) → in_range low most n ≡ true → n ≤ most
 at_most low most n e = le_of n most (both_of _ _ e).1
 
-in_range_fits : (low most n : ℕ) → most ≤ 30000 → in_range low most n ≡ true → n < 4294967296
+in_range_fits : (low most n : ℕ) → most ≤ most_distance → in_range low most n ≡ true → n < 4294967296
 in_range_fits low most n h e = omega (arith, at_most low most n e)
 
-below_fits : (limit n : ℕ) → limit ≤ 30000 → nat_lt n limit ≡ true → n < 4294967296
+below_fits : (limit n : ℕ) → limit ≤ most_distance → nat_lt n limit ≡ true → n < 4294967296
 below_fits limit n h e = grind (arith, nat_tests)
 
 -- ---- the artery
@@ -46,18 +48,18 @@ name_back : (name : Option (List ℕ)) → option_map text_in (option_map string
 name_back None = refl
 name_back (Some name) = refl
 
-pub head_back : (h : Head) → HeadFits h → head_of (table (head_members h)) ≡ h
+pub head_back : (h : Head) → HeadFits h → head_in (table (head_members h)) ≡ h
 head_back h fits =
     let keys = head_keys h in
     let name = ap (option_map text_in) keys.name ∙ name_back h.name in
-    let units = ap (λ o. units_of (text_or_none o)) keys.units ∙ units_back h.units in
-    let parts = ap (λ o. u32_or_zero (number_or_zero o)) keys.parts ∙ u32_back h.parts (in_range_fits 2 3600 h.parts (omega arith) fits.parts) in
-    let cycle = ap (λ o. pair_of (limits_in (items_or_none o))) keys.cycle ∙ pair_back (pos 1) (pos 3600) h.cycle fits.cycle in
-    let ratio = ap ratio_of keys.ratio ∙ ap quantity_or_zero (quantity_back (whole (pos 0)) (whole (pos 100)) h.ratio fits.ratio) in
+    let units = ap (λ o. units_of (text_in (unwrap_or o (array no_items)))) keys.units ∙ units_back h.units in
+    let parts = ap (λ o. u32_or_zero (integer_in (unwrap_or o (array no_items)))) keys.parts ∙ u32_back h.parts (in_range_fits least_parts most_parts h.parts (omega arith) fits.parts) in
+    let cycle = ap (λ o. pair_of (items_in (unwrap_or o (array no_items)))) keys.cycle ∙ pair_back least_cycle most_cycle h.cycle fits.cycle in
+    let ratio = ap (λ o. number_in (unwrap_or o (array no_items))) keys.ratio ∙ number_back (whole least_ratio) (whole most_ratio) h.ratio fits.ratio in
     λ k. record { name = name k; units = units k; parts = parts k; cycle = cycle k; ratio = ratio k }
 
 -- ---- a signal
-signal_back : (parts : ℕ) (s : Signal) → parts ≤ 3600 → HasFour s → SignalFits parts s → signal_in (signal_data s) ≡ s
+signal_back : (parts : ℕ) (s : Signal) → parts ≤ most_parts → HasFour s → SignalFits parts s → signal_in (signal_data s) ≡ s
 signal_back parts s most four fits =
     let red = u32_back s.red (in_range_fits 1 (parts - 1) s.red (omega arith) fits.red) in
     let left_out = u32_back s.left_out (below_fits parts s.left_out (omega arith) fits.left_out) in
@@ -68,20 +70,20 @@ signal_back parts s most four fits =
     λ k. record { name = s.name; red = red k; left_out = left_out k; left_in = left_in k; patterns = patterns k; clear_out = clear_out k; clear_in = clear_in k }
 
 -- ---- a link
-change_back : (is_last : Bool) (o : Option Pair) → IsChangeWithin is_last o → option_map (λ v. pair_of (limits_in (items_in v))) (option_map pair_data o) ≡ o
+change_back : (is_last : Bool) (o : Option Pair) → IsChangeWithin is_last o → option_map (λ v. pair_of (items_in v)) (option_map pair_data o) ≡ o
 change_back is_last None h = refl
-change_back is_last (Some p) h = ap Some (pair_back (negsuc 999) (pos 1000) p h.1)
+change_back is_last (Some p) h = ap Some (pair_back least_change most_change p h.1)
 
 link_back : (is_last : Bool) (l : Link) → LinkFits is_last l → link_in (link_data l) ≡ l
 link_back is_last l fits =
     let keys = link_keys l in
-    let number = λ (o : Option Data). u32_or_zero (number_or_zero o) in
-    let limits = λ (o : Option Data). pair_of (limits_in (items_or_none o)) in
-    let change = λ (o : Option Data). option_map (λ v. pair_of (limits_in (items_in v))) o in
-    let distance_out = ap number keys.distance_out ∙ u32_back l.distance_out (in_range_fits 1 30000 l.distance_out (omega arith) fits.distance_out) in
-    let distance_in = ap number keys.distance_in ∙ u32_back l.distance_in (in_range_fits 1 30000 l.distance_in (omega arith) fits.distance_in) in
-    let speed_out = ap limits keys.speed_out ∙ pair_back (pos 1) (pos 300) l.speed_out fits.speed_out in
-    let speed_in = ap limits keys.speed_in ∙ pair_back (pos 1) (pos 300) l.speed_in fits.speed_in in
+    let number = λ (o : Option Data). u32_or_zero (integer_in (unwrap_or o (array no_items))) in
+    let limits = λ (o : Option Data). pair_of (items_in (unwrap_or o (array no_items))) in
+    let change = λ (o : Option Data). option_map (λ v. pair_of (items_in v)) o in
+    let distance_out = ap number keys.distance_out ∙ u32_back l.distance_out (in_range_fits least_distance most_distance l.distance_out (omega arith) fits.distance_out) in
+    let distance_in = ap number keys.distance_in ∙ u32_back l.distance_in (in_range_fits least_distance most_distance l.distance_in (omega arith) fits.distance_in) in
+    let speed_out = ap limits keys.speed_out ∙ pair_back least_speed most_speed l.speed_out fits.speed_out in
+    let speed_in = ap limits keys.speed_in ∙ pair_back least_speed most_speed l.speed_in fits.speed_in in
     let change_out = ap change keys.change_out ∙ change_back is_last l.change_out fits.change_out in
     let change_in = ap change keys.change_in ∙ change_back is_last l.change_in fits.change_in in
     λ k. record { distance_out = distance_out k; distance_in = distance_in k; speed_out = speed_out k; speed_in = speed_in k; change_out = change_out k; change_in = change_in k }
@@ -96,7 +98,7 @@ each_back P old f g step i (x ∷ xs) all e =
 
 pub street_back : (a : Street) → All HasFour a.signals → StreetFits a → street_in (table (canonical a)) ≡ a
 street_back a four fits =
-    let most : a.head.parts ≤ 3600 = at_most 2 3600 a.head.parts fits.head.parts in
+    let most : a.head.parts ≤ most_parts = at_most least_parts most_parts a.head.parts fits.head.parts in
     let head = head_back a.head fits.head in
     let signals = ap (map signal_in) (list_of_items (map signal_data a.signals))
     ∙ each_back HasFour (signal_ranges a.head.parts) signal_data signal_in (λ i s h e. signal_back a.head.parts s most h (signal_fits a.head.parts i s e)) 1 a.signals four fits.signals in

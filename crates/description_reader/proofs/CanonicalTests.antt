@@ -1,20 +1,28 @@
 -- Tests of a table's values that pass.
-use Rattle.std.proofs.Common.{◌≡◌, ℕ, ◌+◌, List, [], ◌∷◌, map, Bool, true, false, Option, None, Some, option_map, is_some, ◌&&◌, refl, sym, ◌∙◌, ap}
-use Rattle.std.specs.List.{All}
+use Rattle.std.proofs.Common.{◌≡◌, ℕ, ◌+◌, ℤ, List, [], ◌∷◌, map, Bool, true, false, Option, None, Some, is_some, ◌&&◌, refl, sym, ◌∙◌, ap}
+use Rattle.std.specs.Prelude.{unwrap_or, option_map}
+use Rattle.std.specs.List.{All, list_all}
 use Rattle.std.proofs.lemmas.Bool.{true≢false}
 use Rattle.std.proofs.lemmas.List.Elements.{All-head, All-tail}
 use Rattle.std.proofs.lemmas.Option.{none-some}
-use Rattle.toml.specs.Data.{Data, get}
-use Rattle.progression.specs.declared.parts.Pair.{Pair}
+use Rattle.toml.specs.Data.{Data, array, no_items, Members, table, get}
 use Rattle.artery_model.specs.Faults.{Fault, first_fault, unless, each_numbered}
 use Rattle.artery_model.specs.declared.kind.Kind.{Kind}
-use Rattle.artery_model.specs.declared.kind.Kind.TheVariants.{Missing}
-use Rattle.description_reader.specs.Canonical.{quantity_data, pair_data}
-use Rattle.description_reader.specs.Checks.{meets, missing, value_fault, item_fault, items_fault}
+use Rattle.artery_model.specs.declared.kind.Kind.TheVariants.{Missing, WrongType, BadNumber, OutOfRange}
+use Rattle.description_reader.specs.Checks.{meets, numbers_of, missing, value_fault, item_fault, items_fault, demands_fault}
+use Rattle.description_reader.specs.Judgement.{key_fault, in_table}
+use Rattle.description_reader.specs.Keys.{unknown_key}
+use Rattle.description_reader.specs.KeyTable.{Key, keys_of}
 use Rattle.description_reader.specs.Places.{key_place, item_place}
-use Rattle.description_reader.specs.Values.{if_there, items_in, items_or_none}
-use Rattle.description_reader.specs.declared.place.Section.{Section}
+use Rattle.description_reader.specs.Values.{items_in}
 use Rattle.description_reader.specs.declared.demand.Demand.{Demand}
+use Rattle.description_reader.specs.declared.judge.Facts.{Facts}
+use Rattle.description_reader.specs.declared.judge.Stage.{Stage}
+use Rattle.description_reader.specs.declared.judge.Stage.TheVariants.{Keys, Needed as NeededKeys, Types, Numbers, Ranges}
+use Rattle.description_reader.specs.declared.key_table.Demands.{Demands}
+use Rattle.description_reader.specs.declared.key_table.Presence.{Presence}
+use Rattle.description_reader.specs.declared.key_table.Presence.TheVariants.{Needed, Optional, NotLast}
+use Rattle.description_reader.specs.declared.place.Section.{Section}
 
 -- ---- lists of tests
 none_some : (f : Fault) → Some f ≡ None → ⊥
@@ -53,46 +61,63 @@ each_made P old new f step i (x ∷ xs) all e =
     ap (λ o. first_fault (o ∷ each_numbered new (i + 1) (map f xs))) (step i x (All-head P x xs all) tests.0)
     ∙ each_made P old new f step (i + 1) xs (All-tail P x xs all) (none_of (each_numbered old (i + 1) xs) tests.1)
 
--- each item of a list passes a test that all pass
-pub each_passes : {X : Type 0} (new : ℕ → Data → Option Fault) (f : X → Data) → ((i : ℕ) (x : X) → new i (f x) ≡ None)
-    → (i : ℕ) (xs : List X) → first_fault (each_numbered new i (map f xs)) ≡ None
-each_passes new f step i [] = refl
-each_passes new f step i (x ∷ xs) = ap (λ o. first_fault (o ∷ each_numbered new (i + 1) (map f xs))) (step i x) ∙ each_passes new f step (i + 1) xs
+-- ---- keys
+-- a needed key has a value
+abbrev pub Stands : Presence → Option Data → Type 0
+Stands Needed o = is_some o ≡ true
+Stands _ o = Unit {0}
 
--- ---- values at keys
--- both limits pass a test, where they are given
-abbrev pub BothMeet : Demand → Option Pair → Type 0
-BothMeet demand None = Unit {0}
-BothMeet demand (Some p) = (meets demand (quantity_data p.least) ≡ true) × (meets demand (quantity_data p.most) ≡ true)
+-- the value at a key, and each of its items, is what it must be
+pub record Meet (parts : ℤ) (demands : Demands) (o : Option Data) : Type 0 where
+  pub value : unwrap_or (option_map (meets parts demands.value) o) true ≡ true
+  pub items : list_all (meets parts demands.item) (items_in (unwrap_or o (array no_items))) ≡ true
 
-module _ (section : Section) (key : List ℕ) (d : Data) where
-  pub is_there : (v : Data) → get key d ≡ Some v → missing section key d ≡ None
-  unfolding missing
-  is_there v e = ap (λ o. unless (is_some o) Missing (key_place section key)) e
+-- what stands at a key passes each of its tests
+pub record Passes (parts : ℤ) (k : Key) (o : Option Data) : Type 0 where
+  pub stands : Stands k.presence o
+  pub types : Meet parts k.types o
+  pub numbers : Meet parts (numbers_of k.types) o
+  pub ranges : Meet parts k.ranges o
 
-  module _ (kind : Kind) (demand : Demand) where
-    pub value_if_passes : (o : Option Data) → get key d ≡ o → if_there (meets demand) o ≡ true → value_fault kind demand section key d ≡ None
-    unfolding value_fault
-    value_if_passes o e m = ap (λ v. unless (if_there (meets demand) v) kind (key_place section key)) e ∙ ap (λ b. unless b kind (key_place section key)) m
+module _ (parts : ℤ) (section : Section) (d : Data) (name : List ℕ) (o : Option Data) (is : get name d ≡ o) where
+  items_pass : (kind : Kind) (demand : Demand) (i : ℕ) (ds : List Data) → list_all (meets parts demand) ds ≡ true
+      → first_fault (each_numbered (item_fault kind parts section demand name) i ds) ≡ None
+  items_pass kind demand i [] e = refl
+  items_pass kind demand i (x ∷ xs) e =
+      let both = both_of (meets parts demand x) (list_all (meets parts demand) xs) e in
+      ap (λ b. first_fault (unless b kind (item_place section name i) ∷ each_numbered (item_fault kind parts section demand name) (i + 1) xs)) both.0
+      ∙ items_pass kind demand (i + 1) xs both.1
 
-    pub value_passes : (v : Data) → get key d ≡ Some v → meets demand v ≡ true → value_fault kind demand section key d ≡ None
-    value_passes v e m = value_if_passes (Some v) e m
+  demands_pass : (kind : Kind) (demands : Demands) → Meet parts demands o → demands_fault kind parts section demands name d ≡ None
+  unfolding value_fault items_fault
+  demands_pass kind demands m =
+      none_of (value_fault kind parts section demands.value name d ∷ items_fault kind parts section demands.item name d ∷ []) (
+        ap (λ v. unless (unwrap_or (option_map (meets parts demands.value) v) true) kind (key_place section name)) is ∙ ap (λ b. unless b kind (key_place section name)) m.value,
+        (
+          ap (λ v. first_fault (each_numbered (item_fault kind parts section demands.item name) 1 (items_in (unwrap_or v (array no_items))))) is
+              ∙ items_pass kind demands.item 1 (items_in (unwrap_or o (array no_items))) m.items,
+          tt,
+        ),
+      )
 
-    pub items_pass : (v : Data) → get key d ≡ Some v → first_fault (each_numbered (item_fault kind demand section key) 1 (items_in v)) ≡ None → items_fault kind demand section key d ≡ None
-    unfolding items_fault
-    items_pass v e m = ap (λ o. first_fault (each_numbered (item_fault kind demand section key) 1 (items_or_none o))) e ∙ m
+  is_there : (presence : Presence) → Stands presence o → missing presence section name d ≡ None
+  is_there Needed s = ap (λ v. unless (is_some v) Missing (key_place section name)) is ∙ ap (λ b. unless b Missing (key_place section name)) s
+  is_there Optional s = refl
+  is_there NotLast s = refl
 
-    pub pair_passes : (p : Pair) → get key d ≡ Some (pair_data p) → meets demand (quantity_data p.least) ≡ true → meets demand (quantity_data p.most) ≡ true
-        → items_fault kind demand section key d ≡ None
-    pair_passes p e least most =
-        items_pass (pair_data p) e
-        (none_of (item_fault kind demand section key 1 (quantity_data p.least) ∷ item_fault kind demand section key 2 (quantity_data p.most) ∷ []) (
-          ap (λ b. unless b kind (item_place section key 1)) least,
-          (ap (λ b. unless b kind (item_place section key 2)) most, tt),
-        ))
+pub key_passes : (stage : Stage) (parts : ℤ) (section : Section) (d : Data) (k : Key) (o : Option Data) → Passes parts k o → get k.name d ≡ o → key_fault stage parts section d k ≡ None
+key_passes Keys parts section d k o p is = refl
+key_passes NeededKeys parts section d k o p is = is_there parts section d k.name o is k.presence p.stands
+key_passes Types parts section d k o p is = demands_pass parts section d k.name o is WrongType k.types p.types
+key_passes Numbers parts section d k o p is = demands_pass parts section d k.name o is BadNumber (numbers_of k.types) p.numbers
+key_passes Ranges parts section d k o p is = demands_pass parts section d k.name o is OutOfRange k.ranges p.ranges
 
-    -- both limits pass, where they are given
-    pub pair_if_passes : (o : Option Pair) → get key d ≡ option_map pair_data o → BothMeet demand o → items_fault kind demand section key d ≡ None
-    unfolding items_fault
-    pair_if_passes None e h = ap (λ o. first_fault (each_numbered (item_fault kind demand section key) 1 (items_or_none o))) e
-    pair_if_passes (Some p) e h = pair_passes p e h.0 h.1
+-- a table passes where its keys are known and the tests of each key pass
+pub table_passes : (facts : Facts) (section : Section) (ms : Members) → unknown_key facts.links section (table ms) ≡ None
+    → ((stage : Stage) → first_fault (map (key_fault stage facts.parts section (table ms)) (keys_of section)) ≡ None)
+    → (stage : Stage) → in_table stage facts section (table ms) ≡ None
+table_passes facts section ms known each Keys = known
+table_passes facts section ms known each NeededKeys = each NeededKeys
+table_passes facts section ms known each Types = each Types
+table_passes facts section ms known each Numbers = each Numbers
+table_passes facts section ms known each Ranges = each Ranges

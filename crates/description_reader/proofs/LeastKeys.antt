@@ -1,20 +1,20 @@
 -- The first unknown key of a table whose keys ascend is the least.
-use Rattle.std.proofs.Common.{◌≡◌, ◌⊎◌, inl, inr, ℕ, List, Bool, true, false, ◌&&◌, None, Some, Ordering, Less, Equal, Greater, nat_cmp, is_eq, refl, sym, ap, ◌∙◌}
+use Rattle.std.proofs.Common.{◌≡◌, ◌⊎◌, inl, inr, ℕ, List, ◌∷◌, map, Bool, true, false, ◌&&◌, None, Some, Ordering, Less, Equal, Greater, nat_cmp, is_eq, refl, sym, ap, ◌∙◌}
 use Rattle.std.proofs.lemmas.Bool.{and_parts, false≢true}
 use Rattle.std.proofs.lemmas.Cmp.{nat_list_cmp_total, tied_itself}
 use Rattle.std.proofs.lemmas.Map.Text.{is_eq-slice_cmp}
 use Rattle.std.proofs.lemmas.Option.{none-some, same_Some}
 use Rattle.std.proofs.lemmas.Slice.Eq.{bytes_eq-Decides}
-use Rattle.std.specs.Prelude.{is_some, if◌then◌else◌}
+use Rattle.std.specs.Prelude.{is_some}
 use Rattle.std.specs.Ordering.{is_le, match_ordering}
 use Rattle.std.specs.Cmp.Lexicographic.{slice_cmp}
 use Rattle.toml.specs.Data.{Data, Members, member, no_members, table, get_member, is_before, is_sorted, members_are_sorted}
 use Rattle.toml.proofs.Blanks.{below_from}
-use Rattle.artery_model.specs.Faults.{Fault}
+use Rattle.artery_model.specs.Faults.{Fault, first_fault, unless}
 use Rattle.artery_model.specs.declared.kind.Kind.TheVariants.{UnknownKey}
 use Rattle.description_reader.specs.Values.{has, keys_of_members}
 use Rattle.description_reader.specs.Places.{key_place}
-use Rattle.description_reader.specs.Keys.{is_known, printed, first_unknown}
+use Rattle.description_reader.specs.Keys.{is_known, printed, unknown_fault}
 use Rattle.description_reader.specs.LeastKey.{IsLeastUnknown, IsOfLeast, KeysAreJudged}
 use Rattle.description_reader.specs.declared.place.Section.{Section}
 
@@ -64,10 +64,10 @@ module _ (links : ℕ) (section : Section) where
   known_by l key ms known rest (inr h) = rest h
 
   abbrev AllKnown : Members → Type 0
-  AllKnown ms = first_unknown links section (keys_of_members ms) ≡ None → (key : List ℕ) → has (table ms) key ≡ true → is_known links section key ≡ true
+  AllKnown ms = first_fault (map (unknown_fault links section) (keys_of_members ms)) ≡ None → (key : List ℕ) → has (table ms) key ≡ true → is_known links section key ≡ true
 
   known_from : (known : Bool) (l : List ℕ) (d : Data) (ms : Members) → is_known links section l ≡ known → AllKnown ms
-      → (if known then first_unknown links section (keys_of_members ms) else Some (record { kind = UnknownKey; place = key_place section (printed l) })) ≡ None
+      → first_fault (unless known UnknownKey (key_place section (printed l)) ∷ map (unknown_fault links section) (keys_of_members ms)) ≡ None
       → (key : List ℕ) → has (table (member l d ms)) key ≡ true → is_known links section key ≡ true
   known_from true l d ms k rest e key h = known_by l key ms k (rest e key) (first_or_later key l d ms h)
   known_from false l d ms k rest e key h = absurd (none-some _ (sym e))
@@ -87,11 +87,11 @@ module _ (links : ℕ) (section : Section) where
   passed_by l key other ms known r unknown (inr h) = r.least other h unknown
 
   abbrev NamesLeast : Members → Fault → Type 0
-  NamesLeast ms f = first_unknown links section (keys_of_members ms) ≡ Some f → IsOfLeast links section (table ms) f
+  NamesLeast ms f = first_fault (map (unknown_fault links section) (keys_of_members ms)) ≡ Some f → IsOfLeast links section (table ms) f
 
   least_from : (known : Bool) (l : List ℕ) (d : Data) (ms : Members) (f : Fault) → is_known links section l ≡ known → is_before l ms ≡ true → members_are_sorted ms ≡ true
       → NamesLeast ms f
-      → (if known then first_unknown links section (keys_of_members ms) else Some (record { kind = UnknownKey; place = key_place section (printed l) })) ≡ Some f
+      → first_fault (unless known UnknownKey (key_place section (printed l)) ∷ map (unknown_fault links section) (keys_of_members ms)) ≡ Some f
       → IsOfLeast links section (table (member l d ms)) f
   least_from true l d ms f k before sorted rest e =
       let r = rest e in (

@@ -2,6 +2,7 @@ pub mod Canonical
 pub mod Checks
 pub mod Described
 pub mod Judgement
+pub mod KeyTable
 pub mod Keys
 pub mod LeastKey
 pub mod Members

@@ -3,7 +3,6 @@ use Rattle.std.specs.Prelude.{ℕ, List, [], ◌∷◌, map, Bool, true, Option,
 use Rattle.std.specs.List.{list_any}
 use Rattle.std.specs.Ordering.{int_eq}
 use Rattle.toml.specs.Data.{Data, get}
-use Rattle.rational_theory.specs.Rational.{ℚ, whole}
 use Rattle.progression.specs.Street.{Street, no_pair}
 use Rattle.progression.specs.declared.parts.Head.{Head}
 use Rattle.progression.specs.declared.parts.Signal.{Signal}
@@ -12,10 +11,9 @@ use Rattle.progression.specs.declared.parts.Pair.{Pair}
 use Rattle.progression.specs.declared.parts.Units.{Units}
 use Rattle.progression.specs.declared.parts.Units.TheVariants.{Metric, English}
 use Rattle.artery_model.specs.Faults.{Fault, first_fault}
-use Rattle.artery_model.specs.Limits.{artery_fault}
-use Rattle.description_reader.specs.Quantity.{quantity_in, integer_in}
-use Rattle.description_reader.specs.Values.{is_text, items_in, items_at, text_in, text_at, number_at}
-use Rattle.description_reader.specs.Checks.{limits_in}
+use Rattle.artery_model.specs.Limits.{artery_fault, is_text}
+use Rattle.description_reader.specs.Quantity.{number_in, integer_in}
+use Rattle.description_reader.specs.Values.{at_key, items_in, text_in}
 use Rattle.description_reader.specs.Judgement.{value_tests}
 
 -- a number of 32 bits, 0 for any other, which is a fault of the description
@@ -23,13 +21,16 @@ abbrev pub u32_or_zero : ℤ → ℕ
 u32_or_zero (pos n) = if nat_lt n 4294967296 then n else 0
 u32_or_zero (negsuc n) = 0
 
-abbrev pub pair_of : Option Pair → Pair
-pair_of None = no_pair
-pair_of (Some limits) = limits
+abbrev pub u32_at : Data → List ℕ → ℕ
+u32_at d name = u32_or_zero (integer_in (at_key d name))
 
--- the two limits at a key, 0 and 0 where they aren't two numbers, which is a fault of the description
+-- two limits, 0 and 0 where there aren't two, which is a fault of the description
+abbrev pub pair_of : List Data → Pair
+pair_of (least ∷ most ∷ []) = record { least = number_in least; most = number_in most }
+pair_of _ = no_pair
+
 abbrev pub pair_at : Data → List ℕ → Pair
-pair_at d key = pair_of (limits_in (items_at d key))
+pair_at d name = pair_of (items_in (at_key d name))
 
 -- one of the numbers at a key is this one
 abbrev pub has_number : List Data → ℕ → Bool
@@ -38,71 +39,51 @@ has_number ds p = list_any (λ d. int_eq (integer_in d) (pos p)) ds
 -- the left turn patterns 1 to 4 that are named, all four where the key is absent
 abbrev pub patterns_of : Option Data → List Bool
 patterns_of None = true ∷ true ∷ true ∷ true ∷ []
-patterns_of (Some d) = has_number (items_in d) 1 ∷ has_number (items_in d) 2 ∷ has_number (items_in d) 3 ∷ has_number (items_in d) 4 ∷ []
+patterns_of (Some d) = map (has_number (items_in d)) (1 ∷ 2 ∷ 3 ∷ 4 ∷ [])
 
 -- the limits of a change of pace, where they are given
 abbrev pub change_at : Data → List ℕ → Option Pair
-change_at d key = option_map (λ v. pair_of (limits_in (items_in v))) (get key d)
+change_at d name = option_map (λ v. pair_of (items_in v)) (get name d)
 
 abbrev pub signal_in : Data → Signal
 signal_in d = record {
-  name = text_at d (codes "name");
-  red = u32_or_zero (number_at d (codes "red"));
-  left_out = u32_or_zero (number_at d (codes "left_out"));
-  left_in = u32_or_zero (number_at d (codes "left_in"));
+  name = text_in (at_key d (codes "name"));
+  red = u32_at d (codes "red");
+  left_out = u32_at d (codes "left_out");
+  left_in = u32_at d (codes "left_in");
   patterns = patterns_of (get (codes "patterns") d);
-  clear_out = u32_or_zero (number_at d (codes "clear_out"));
-  clear_in = u32_or_zero (number_at d (codes "clear_in"));
+  clear_out = u32_at d (codes "clear_out");
+  clear_in = u32_at d (codes "clear_in");
 }
 
 abbrev pub link_in : Data → Link
 link_in d = record {
-  distance_out = u32_or_zero (number_at d (codes "distance_out"));
-  distance_in = u32_or_zero (number_at d (codes "distance_in"));
+  distance_out = u32_at d (codes "distance_out");
+  distance_in = u32_at d (codes "distance_in");
   speed_out = pair_at d (codes "speed_out");
   speed_in = pair_at d (codes "speed_in");
   change_out = change_at d (codes "change_out");
   change_in = change_at d (codes "change_in");
 }
 
--- the number at a key, 0 where there is none, which is a fault of the description
-abbrev pub quantity_or_zero : Option ℚ → ℚ
-quantity_or_zero None = whole (pos 0)
-quantity_or_zero (Some q) = q
-
-abbrev pub ratio_of : Option Data → ℚ
-ratio_of None = whole (pos 0)
-ratio_of (Some d) = quantity_or_zero (quantity_in d)
-
--- a name, where one is given
-abbrev pub name_at : Data → Option (List ℕ)
-name_at d = option_map text_in (get (codes "name") d)
-
 -- any other text than the two is a fault of the description
 abbrev pub units_of : List ℕ → Units
 units_of text = if is_text text (codes "english") then English else Metric
 
-abbrev pub no_head : Head
-no_head = record { name = None; units = Metric; parts = 0; cycle = no_pair; ratio = whole (pos 0) }
-
-abbrev pub head_of : Data → Head
-head_of d = record {
-  name = name_at d;
-  units = units_of (text_at d (codes "units"));
-  parts = u32_or_zero (number_at d (codes "parts"));
+abbrev pub head_in : Data → Head
+head_in d = record {
+  name = option_map text_in (get (codes "name") d);
+  units = units_of (text_in (at_key d (codes "units")));
+  parts = u32_at d (codes "parts");
   cycle = pair_at d (codes "cycle");
-  ratio = ratio_of (get (codes "ratio") d);
+  ratio = number_in (at_key d (codes "ratio"));
 }
-
-abbrev pub head_in : Option Data → Head
-head_in None = no_head
-head_in (Some artery) = head_of artery
 
 abbrev pub street_in : Data → Street
 street_in root = record {
-  head = head_in (get (codes "artery") root);
-  signals = map signal_in (items_at root (codes "signal"));
-  links = map link_in (items_at root (codes "link"));
+  head = head_in (at_key root (codes "artery"));
+  signals = map signal_in (items_in (at_key root (codes "signal")));
+  links = map link_in (items_in (at_key root (codes "link")));
 }
 
 -- the first fault of a description: of its values, and then of the artery that they make

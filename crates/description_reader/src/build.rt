@@ -1,13 +1,15 @@
 //! The artery that the values of a description make.
 
 ghost use Rattle.std.specs.Prelude.{◌≡◌, map, option_map, codes, IfOk};
-ghost use Rattle.toml.specs.Data.{get};
+ghost use Rattle.toml.specs.Data.{get, array, no_items};
 ghost use Rattle.toml.specs.View.{view};
 ghost use Rattle.progression.specs.Street.{no_pair};
-ghost use Rattle.description_reader.specs.Streets.{u32_or_zero, pair_of, pair_at, has_number, patterns_of, change_at, quantity_or_zero, ratio_of, name_at, units_of, no_head, head_of, head_in, signal_in, link_in};
+ghost use Rattle.description_reader.specs.Quantity.{number_in};
+ghost use Rattle.description_reader.specs.Streets.{u32_or_zero, u32_at, pair_of, pair_at, has_number, patterns_of, change_at, units_of, head_in, signal_in, link_in};
+ghost use Rattle.description_reader.specs.Values.{at_key, text_in};
 
-use crate::quantity::{integer_in, quantity_in};
-use crate::values::{items_at, items_in, limits_in, number_at, text_at, text_in, value_at};
+use crate::quantity::{integer_in, number_in};
+use crate::values::{items_at, items_in, number_at, text_at, text_in, value_at};
 use artery_model::{Head, Link, Pair, Signal, Text, Units};
 use narrow_fraction::Frac;
 use std::alloc::{AllocError, Global};
@@ -24,6 +26,13 @@ fn u32_or_zero(number: i64) -> u32
     }
 }
 
+/// The number of 32 bits at a key, 0 where there is none.
+fn u32_at(table: &Value, key: &str) -> u32
+    ensures { result ≡ u32_at (view table.now) key.now }
+{
+    u32_or_zero(number_at(table, key))
+}
+
 fn no_pair() -> Pair
     ensures { result ≡ no_pair }
 {
@@ -33,13 +42,16 @@ fn no_pair() -> Pair
     }
 }
 
-/// Two limits, 0 and 0 where there are none.
-fn pair_of(limits: Option<Pair>) -> Pair
-    ensures { result ≡ pair_of limits }
+/// Two limits, 0 and 0 where there aren't two.
+fn pair_of(items: &[Value]) -> Pair
+    ensures { result ≡ pair_of (map view items.now) }
 {
-    match limits {
-        Some(limits) => limits,
-        None => no_pair(),
+    match items {
+        [least, most] => Pair {
+            least: number_in(least),
+            most: number_in(most),
+        },
+        _ => no_pair(),
     }
 }
 
@@ -47,7 +59,7 @@ fn pair_of(limits: Option<Pair>) -> Pair
 fn pair_at(table: &Value, key: &str) -> Pair
     ensures { result ≡ pair_at (view table.now) key.now }
 {
-    pair_of(limits_in(items_at(table, key)))
+    pair_of(items_at(table, key))
 }
 
 /// The limits of a change of pace, where they are given.
@@ -55,7 +67,7 @@ fn change_at(table: &Value, key: &str) -> Option<Pair>
     ensures { result ≡ change_at (view table.now) key.now }
 {
     match value_at(table, key) {
-        Some(found) => Some(pair_of(limits_in(items_in(found)))),
+        Some(found) => Some(pair_of(items_in(found))),
         None => None,
     }
 }
@@ -87,19 +99,19 @@ fn patterns_of(table: &Value) -> [bool; 4]
     }
 }
 
-/// The weight of the inbound band.
-fn ratio_of(table: &Value) -> Frac
-    ensures { result ≡ ratio_of (get (codes "ratio") (view table.now)) }
+/// The number at a key, 0 where there is none.
+fn number_of(table: &Value, key: &str) -> Frac
+    ensures { result ≡ number_in (at_key (view table.now) key.now) }
 {
-    match value_at(table, "ratio") {
-        Some(found) => quantity_in(found).unwrap_or(Frac::whole(0)),
+    match value_at(table, key) {
+        Some(found) => number_in(found),
         None => Frac::whole(0),
     }
 }
 
 /// The name in a table, where there is one.
 fn name_at(alloc: Global, table: &Value) -> Result<Option<Text>, AllocError>
-    ensures { IfOk result (λ n. n ≡ name_at (view table.now)) }
+    ensures { IfOk result (λ n. n ≡ option_map text_in (get (codes "name") (view table.now))) }
 {
     match value_at(table, "name") {
         Some(found) => {
@@ -121,7 +133,7 @@ fn units_of(text: &str) -> Units
 }
 
 fn no_head() -> Head
-    ensures { result ≡ no_head }
+    ensures { result ≡ head_in (array no_items) }
 {
     Head {
         name: None,
@@ -133,20 +145,20 @@ fn no_head() -> Head
 }
 
 fn head_of(alloc: Global, table: &Value) -> Result<Head, AllocError>
-    ensures { IfOk result (λ h. h ≡ head_of (view table.now)) }
+    ensures { IfOk result (λ h. h ≡ head_in (view table.now)) }
 {
     Ok(Head {
         name: name_at(alloc, table)?,
         units: units_of(text_at(table, "units")),
-        parts: u32_or_zero(number_at(table, "parts")),
+        parts: u32_at(table, "parts"),
         cycle: pair_at(table, "cycle"),
-        ratio: ratio_of(table),
+        ratio: number_of(table, "ratio"),
     })
 }
 
 /// What holds of the whole artery.
 pub fn head_in(alloc: Global, root: &Value) -> Result<Head, AllocError>
-    ensures { IfOk result (λ h. h ≡ head_in (get (codes "artery") (view root.now))) }
+    ensures { IfOk result (λ h. h ≡ head_in (at_key (view root.now) (codes "artery"))) }
 {
     match value_at(root, "artery") {
         Some(artery) => head_of(alloc, artery),
@@ -160,12 +172,12 @@ fn signal_in(alloc: Global, table: &Value) -> Result<Signal, AllocError>
     let name = String::from_str(alloc, text_at(table, "name"))?;
     Ok(Signal {
         name: Text::from(name),
-        red: u32_or_zero(number_at(table, "red")),
-        left_out: u32_or_zero(number_at(table, "left_out")),
-        left_in: u32_or_zero(number_at(table, "left_in")),
+        red: u32_at(table, "red"),
+        left_out: u32_at(table, "left_out"),
+        left_in: u32_at(table, "left_in"),
         patterns: patterns_of(table),
-        clear_out: u32_or_zero(number_at(table, "clear_out")),
-        clear_in: u32_or_zero(number_at(table, "clear_in")),
+        clear_out: u32_at(table, "clear_out"),
+        clear_in: u32_at(table, "clear_in"),
     })
 }
 
@@ -185,8 +197,8 @@ fn link_of(table: &Value, speed_out: Pair, speed_in: Pair) -> Link
     ensures { result ≡ record (link_in (view table.now)) { speed_out = speed_out; speed_in = speed_in } }
 {
     Link {
-        distance_out: u32_or_zero(number_at(table, "distance_out")),
-        distance_in: u32_or_zero(number_at(table, "distance_in")),
+        distance_out: u32_at(table, "distance_out"),
+        distance_in: u32_at(table, "distance_in"),
         speed_out,
         speed_in,
         change_out: change_at(table, "change_out"),

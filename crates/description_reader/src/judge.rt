@@ -1,19 +1,21 @@
 //! The values of a description, judged by one kind of fault after the other.
 
-ghost use Rattle.std.specs.Prelude.{◌≡◌, option_map, map, codes};
-ghost use Rattle.toml.specs.Data.{get};
+ghost use Rattle.std.specs.Prelude.{◌≡◌, map, codes};
 ghost use Rattle.toml.specs.View.{view};
 ghost use Rattle.artery_model.specs.Faults.{Judges, first_fault, each_numbered};
-ghost use Rattle.description_reader.specs.Judgement.{table_fault, in_table, artery_fault_in, signal_fault, link_fault, stage_tests, parts_in, facts_of, value_tests};
+ghost use Rattle.description_reader.specs.Checks.{number_of, numbers_of};
+ghost use Rattle.description_reader.specs.Judgement.{key_fault, table_fault, in_table, stage_tests, facts_of, value_tests};
+ghost use Rattle.description_reader.specs.KeyTable.{key_of, keys_of};
+ghost use Rattle.description_reader.specs.Quantity.{integer_in};
+ghost use Rattle.description_reader.specs.Values.{at_key};
 
+use crate::check::{TableCheck, check_needed};
+use crate::demand::Demand;
+use crate::key_table::{Demands, Entry, entries};
 use crate::keys::check_keys;
-use crate::needed::check_table_needed;
-use crate::numbers::check_numbers;
 use crate::place::Section;
-use crate::ranges::check_ranges;
-use crate::types::check_types;
 use crate::values::{items_at, number_at, value_at};
-use artery_model::Flaw;
+use artery_model::{Flaw, Kind};
 use std::alloc::Global;
 use toml::Value;
 
@@ -41,6 +43,69 @@ pub struct Facts {
     pub parts: i64,
 }
 
+/// What a value of a type must be so that its quantities are numbers.
+fn number_of(demand: Demand) -> Demand
+    ensures { result ≡ number_of demand }
+{
+    match demand {
+        Demand::Quantity => Demand::Number,
+        _ => Demand::Anything,
+    }
+}
+
+fn numbers_of(types: Demands) -> Demands
+    ensures { result ≡ numbers_of types }
+{
+    Demands {
+        value: number_of(types.value),
+        item: number_of(types.item),
+    }
+}
+
+/// Refuses a table for one kind of fault of the value at a key.
+fn check_key(
+    alloc: Global,
+    stage: Stage,
+    parts: i64,
+    section: Section,
+    entry: &Entry,
+    table: &Value,
+) -> Result<(), Flaw>
+    ensures { Judges result (key_fault stage parts section (view table.now) (key_of entry.now)) }
+{
+    match stage {
+        Stage::Keys => Ok(()),
+        Stage::Needed => check_needed(alloc, entry.presence, section, entry.name, table),
+        Stage::Types => TableCheck::new(alloc, Kind::WrongType, parts, section, table).demands(
+            entry.types,
+            entry.name,
+        ),
+        Stage::Numbers => TableCheck::new(alloc, Kind::BadNumber, parts, section, table).demands(
+            numbers_of(entry.types),
+            entry.name,
+        ),
+        Stage::Ranges => TableCheck::new(alloc, Kind::OutOfRange, parts, section, table).demands(
+            entry.ranges,
+            entry.name,
+        ),
+    }
+}
+
+fn check_each_key(
+    alloc: Global,
+    stage: Stage,
+    parts: i64,
+    section: Section,
+    table: &Value,
+) -> Result<(), Flaw>
+    ensures { Judges result (first_fault (map (key_fault stage parts section (view table.now)) (keys_of section))) }
+{
+    for entry in entries(section) {
+        check_key(alloc, stage, parts, section, entry, table)?;
+    }
+    Ok(())
+}
+
 fn check_table(
     alloc: Global,
     stage: Stage,
@@ -52,10 +117,7 @@ fn check_table(
 {
     match stage {
         Stage::Keys => check_keys(alloc, facts.links, section, table),
-        Stage::Needed => check_table_needed(alloc, section, table),
-        Stage::Types => check_types(alloc, section, table),
-        Stage::Numbers => check_numbers(alloc, section, table),
-        Stage::Ranges => check_ranges(alloc, facts.parts, section, table),
+        _ => check_each_key(alloc, stage, facts.parts, section, table),
     }
 }
 
@@ -77,7 +139,7 @@ fn look_into(
 }
 
 fn look_into_artery(alloc: Global, stage: Stage, facts: Facts, root: &Value) -> Result<(), Flaw>
-    ensures { Judges result (artery_fault_in stage facts (get (codes "artery") (view root.now))) }
+    ensures { Judges result (in_table stage facts Section.Artery (at_key (view root.now) (codes "artery"))) }
 {
     match value_at(root, "artery") {
         Some(artery) => look_into(alloc, stage, facts, Section::Artery, artery),
@@ -91,7 +153,7 @@ fn look_into_signals(
     facts: Facts,
     signals: &[Value],
 ) -> Result<(), Flaw>
-    ensures { Judges result (first_fault (each_numbered (signal_fault stage facts) 1 (map view signals.now))) }
+    ensures { Judges result (first_fault (each_numbered (λ i. in_table stage facts (Section.Signal i)) 1 (map view signals.now))) }
 {
     for (index, signal) in signals.iter().enumerate() {
         look_into(alloc, stage, facts, Section::Signal(index + 1), signal)?;
@@ -100,7 +162,7 @@ fn look_into_signals(
 }
 
 fn look_into_links(alloc: Global, stage: Stage, facts: Facts, links: &[Value]) -> Result<(), Flaw>
-    ensures { Judges result (first_fault (each_numbered (link_fault stage facts) 1 (map view links.now))) }
+    ensures { Judges result (first_fault (each_numbered (λ i. in_table stage facts (Section.Link i)) 1 (map view links.now))) }
 {
     for (index, link) in links.iter().enumerate() {
         look_into(alloc, stage, facts, Section::Link(index + 1), link)?;
@@ -119,7 +181,7 @@ fn check_stage(alloc: Global, stage: Stage, facts: Facts, root: &Value) -> Resul
 }
 
 fn parts_of(root: &Value) -> i64
-    ensures { result ≡ parts_in (get (codes "artery") (view root.now)) }
+    ensures { result ≡ integer_in (at_key (at_key (view root.now) (codes "artery")) (codes "parts")) }
 {
     match value_at(root, "artery") {
         Some(artery) => number_at(artery, "parts"),

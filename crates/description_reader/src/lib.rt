@@ -1,7 +1,8 @@
 //! Reads the description of an artery, a TOML document, and names what is wrong with a document that
 //! describes none. The specification is a list of tests of the document's values, kind by kind and
-//! of each kind place by place: `specs/Judgement.antt` has the tests, `specs/Streets.antt` the artery
-//! that the values make, and `specs/Described.antt` joins them. Start with `read_artery`. The way back
+//! of each kind place by place: `specs/KeyTable.antt` has the keys and what each value must be,
+//! `specs/Judgement.antt` the tests, `specs/Streets.antt` the artery that the values make, and
+//! `specs/Described.antt` joins them. Start with `read_artery`. The way back
 //! is `print_artery`: `specs/Canonical.antt` has the table that it prints.
 #![tactic(auto)]
 
@@ -13,13 +14,12 @@ mod build;
 mod check;
 mod demand;
 mod judge;
+mod key_table;
 #[cfg(test)]
 mod key_tests;
 mod keys;
 #[cfg(test)]
 mod limit_tests;
-mod needed;
-mod numbers;
 #[cfg(test)]
 mod order_tests;
 mod place;
@@ -27,7 +27,6 @@ mod print;
 #[cfg(test)]
 mod print_tests;
 mod quantity;
-mod ranges;
 mod read;
 #[cfg(test)]
 mod reading_tests;
@@ -39,7 +38,6 @@ mod samples;
 mod table_tests;
 #[cfg(test)]
 mod type_tests;
-mod types;
 mod values;
 
 pub use artery_model::{Artery, Flaw, Kind, Refusal};

@@ -1,8 +1,9 @@
 //! Numbers in a description: TOML integers, and texts of the grammar of quantities.
 
-ghost use Rattle.std.specs.Prelude.{◌≡◌};
+ghost use Rattle.std.specs.Prelude.{◌≡◌, ◌||◌, is_some};
+ghost use Rattle.toml.specs.Data.{as_integer, as_str};
 ghost use Rattle.toml.specs.View.{view};
-ghost use Rattle.description_reader.specs.Quantity.{is_quantity, quantity_in, integer_in};
+ghost use Rattle.description_reader.specs.Quantity.{quantity_in, number_in, integer_in};
 
 use narrow_fraction::Frac;
 use quantity_text::parse_quantity;
@@ -10,7 +11,7 @@ use toml::Value;
 
 /// Whether a value may stand for a quantity.
 pub fn is_quantity(value: &Value) -> bool
-    ensures { result ≡ is_quantity (view value.now) }
+    ensures { result ≡ (is_some (as_integer (view value.now)) || is_some (as_str (view value.now))) }
 {
     value.is_integer() || value.is_str()
 }
@@ -27,6 +28,13 @@ pub fn quantity_in(value: &Value) -> Option<Frac>
         Some(text) => parse_quantity(text).ok(),
         None => None,
     }
+}
+
+/// The number that a quantity writes, 0 of any other value.
+pub fn number_in(value: &Value) -> Frac
+    ensures { result ≡ number_in (view value.now) }
+{
+    quantity_in(value).unwrap_or(Frac::whole(0))
 }
 
 /// The number of an integer, 0 of any other value.

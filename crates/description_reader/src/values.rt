@@ -1,14 +1,12 @@
 //! Looking into a TOML value.
 
-ghost use Rattle.std.specs.Prelude.{◌≡◌, option_map, map, codes};
+ghost use Rattle.std.specs.Prelude.{◌≡◌, option_map, map};
 ghost use Rattle.toml.specs.Data.{get};
 ghost use Rattle.toml.specs.View.{view};
-ghost use Rattle.description_reader.specs.Checks.{limits_of, limits_in};
-ghost use Rattle.description_reader.specs.Values.{has, items_in, items_at, text_in, text_at, number_at};
+ghost use Rattle.description_reader.specs.Quantity.{integer_in};
+ghost use Rattle.description_reader.specs.Values.{has, at_key, items_in, text_in};
 
-use crate::quantity::{integer_in, quantity_in};
-use artery_model::Pair;
-use narrow_fraction::Frac;
+use crate::quantity::integer_in;
 use toml::Value;
 
 /// The value at a key.
@@ -38,7 +36,7 @@ pub fn items_in(value: &Value) -> &[Value]
 
 /// The items of an array at a key, none where there is no array.
 pub fn items_at<'a>(value: &'a Value, key: &str) -> &'a [Value]
-    ensures { map view result.now ≡ items_at (view value.now) key.now }
+    ensures { map view result.now ≡ items_in (at_key (view value.now) key.now) }
 {
     match value_at(value, key) {
         Some(found) => items_in(found),
@@ -58,7 +56,7 @@ pub fn text_in(value: &Value) -> &str
 
 /// The text at a key, empty where there is none.
 pub fn text_at<'a>(value: &'a Value, key: &str) -> &'a str
-    ensures { result.now ≡ text_at (view value.now) key.now }
+    ensures { result.now ≡ text_in (at_key (view value.now) key.now) }
 {
     match value_at(value, key) {
         Some(found) => text_in(found),
@@ -68,30 +66,10 @@ pub fn text_at<'a>(value: &'a Value, key: &str) -> &'a str
 
 /// The integer at a key, 0 where there is none.
 pub fn number_at(value: &Value, key: &str) -> i64
-    ensures { result ≡ number_at (view value.now) key.now }
+    ensures { result ≡ integer_in (at_key (view value.now) key.now) }
 {
     match value_at(value, key) {
         Some(found) => integer_in(found),
         None => 0,
-    }
-}
-
-/// Two limits, where both are numbers.
-fn limits_of(least: Option<Frac>, most: Option<Frac>) -> Option<Pair>
-    ensures { result ≡ limits_of least most }
-{
-    match (least, most) {
-        (Some(least), Some(most)) => Some(Pair { least, most }),
-        _ => None,
-    }
-}
-
-/// The two limits in an array of two numbers, none where it holds anything else.
-pub fn limits_in(items: &[Value]) -> Option<Pair>
-    ensures { result ≡ limits_in (map view items.now) }
-{
-    match items {
-        [least, most] => limits_of(quantity_in(least), quantity_in(most)),
-        _ => None,
     }
 }

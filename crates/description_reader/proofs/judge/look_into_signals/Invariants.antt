@@ -1,11 +1,12 @@
 use Rattle.std.proofs.Common.{◌≡◌, ◌+◌, map, drop}
 use Rattle.toml.specs.View.{view}
 use Rattle.artery_model.specs.Faults.{first_fault, each_numbered}
-use Rattle.description_reader.specs.Judgement.{signal_fault}
+use Rattle.description_reader.specs.Judgement.{in_table}
+use Rattle.description_reader.specs.declared.place.Section.TheVariants.{Signal}
 use Rattle.description_reader.proofs.judge.look_into_signals.Given as goal
 
 -- the signals so far have no fault of the kind
 abbrev pub invariant-loop-index : goal.invariant-loop-index
 invariant-loop-index l =
-    first_fault (each_numbered (signal_fault l.stage l.facts) 1 (map view l.signals))
-    ≡ first_fault (each_numbered (signal_fault l.stage l.facts) (l.index + 1) (map view (drop l.index l.signals)))
+    first_fault (each_numbered (λ i. in_table l.stage l.facts (Signal i)) 1 (map view l.signals))
+    ≡ first_fault (each_numbered (λ i. in_table l.stage l.facts (Signal i)) (l.index + 1) (map view (drop l.index l.signals)))
