@@ -84,26 +84,26 @@ is_lone family = lone_among 1 families family
 
 -- ---- the rules of the families
 -- where a row stands: at a signal, at a link, between a link and the next, by itself, or nowhere; by itself also where the ratio is not 1
-pub data Site : Type 0 where
-  AtSignal : ℕ → Site
-  AtLink : ℕ → Site
-  AtChange : Dir → ℕ → Site
-  ByItself : ℕ → Site
-  AtRatio : ℕ → Site
-  Nowhere : Site
+pub data Seat : Type 0 where
+  AtSignal : ℕ → Seat
+  AtLink : ℕ → Seat
+  AtChange : Dir → ℕ → Seat
+  ByItself : ℕ → Seat
+  AtRatio : ℕ → Seat
+  Nowhere : Seat
 
 -- a change of pace from link i to the next is limited in this direction
 abbrev pub HasChange : Street → Dir → ℕ → Type 0
 HasChange a d i = HasLink a i × HasLink a (i + 1) × IsSome (change a d i)
 
 -- the artery has it
-abbrev pub HasSite : Street → Site → Type 0
-HasSite a (AtSignal i) = HasSignal a i
-HasSite a (AtLink i) = HasLink a i
-HasSite a (AtChange d i) = HasChange a d i
-HasSite a (ByItself i) = i ≡ 0
-HasSite a (AtRatio i) = (i ≡ 0) × (a.head.ratio ≢ number 1)
-HasSite a Nowhere = ⊥
+abbrev pub HasSeat : Street → Seat → Type 0
+HasSeat a (AtSignal i) = HasSignal a i
+HasSeat a (AtLink i) = HasLink a i
+HasSeat a (AtChange d i) = HasChange a d i
+HasSeat a (ByItself i) = i ≡ 0
+HasSeat a (AtRatio i) = (i ≡ 0) × (a.head.ratio ≢ number 1)
+HasSeat a Nowhere = ⊥
 
 -- the row that is none, and that of limits which may be missing
 abbrev pub no_form : Form
@@ -115,27 +115,27 @@ limits_form f (Some c) = f c
 
 -- where a row stands, and what it is for an artery and a box
 pub record Rule : Type 0 where
-  pub site : Site
+  pub seat : Seat
   pub form : Street → Area → Form
 
 abbrev pub rule_of : Name → Rule
-rule_of (WaitRow d i) = record { site = AtSignal i; form = λ a box. wait_form a d i }
-rule_of (FastRow d i) = record { site = AtLink i; form = λ a box. fast_form a d i }
-rule_of (SlowRow d i) = record { site = AtLink i; form = λ a box. slow_form a d i }
-rule_of (RiseRow d i) = record { site = AtChange d i; form = λ a box. limits_form (rise_form a d i) (change a d i) }
-rule_of (DropRow d i) = record { site = AtChange d i; form = λ a box. limits_form (drop_form a d i) (change a d i) }
-rule_of (CycleLowRow i) = record { site = ByItself i; form = λ a box. cycle_low_form a }
-rule_of (CycleHighRow i) = record { site = ByItself i; form = λ a box. cycle_high_form a }
-rule_of (RatioRow i) = record { site = AtRatio i; form = λ a box. ratio_form a }
-rule_of (LoopLowRow i) = record { site = AtLink i; form = λ a box. loop_low_form a box i }
-rule_of (LoopHighRow i) = record { site = AtLink i; form = λ a box. loop_high_form a box i }
-rule_of (TurnLowRow i) = record { site = AtSignal i; form = λ a box. turn_low_form a box i }
-rule_of (TurnHighRow i) = record { site = AtSignal i; form = λ a box. turn_high_form a box i }
-rule_of NoRow = record { site = Nowhere; form = λ a box. no_form }
+rule_of (WaitRow d i) = record { seat = AtSignal i; form = λ a box. wait_form a d i }
+rule_of (FastRow d i) = record { seat = AtLink i; form = λ a box. fast_form a d i }
+rule_of (SlowRow d i) = record { seat = AtLink i; form = λ a box. slow_form a d i }
+rule_of (RiseRow d i) = record { seat = AtChange d i; form = λ a box. limits_form (rise_form a d i) (change a d i) }
+rule_of (DropRow d i) = record { seat = AtChange d i; form = λ a box. limits_form (drop_form a d i) (change a d i) }
+rule_of (CycleLowRow i) = record { seat = ByItself i; form = λ a box. cycle_low_form a }
+rule_of (CycleHighRow i) = record { seat = ByItself i; form = λ a box. cycle_high_form a }
+rule_of (RatioRow i) = record { seat = AtRatio i; form = λ a box. ratio_form a }
+rule_of (LoopLowRow i) = record { seat = AtLink i; form = λ a box. loop_low_form a box i }
+rule_of (LoopHighRow i) = record { seat = AtLink i; form = λ a box. loop_high_form a box i }
+rule_of (TurnLowRow i) = record { seat = AtSignal i; form = λ a box. turn_low_form a box i }
+rule_of (TurnHighRow i) = record { seat = AtSignal i; form = λ a box. turn_high_form a box i }
+rule_of NoRow = record { seat = Nowhere; form = λ a box. no_form }
 
 -- the artery has the row
 abbrev pub HasRow : Street → Name → Type 0
-HasRow a n = HasSite a (rule_of n).site
+HasRow a n = HasSeat a (rule_of n).seat
 
 -- the row of a name, for a box
 abbrev pub form_of : Street → Area → Name → Form

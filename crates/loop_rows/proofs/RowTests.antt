@@ -11,8 +11,8 @@ use Rattle.rational_theory.proofs.Compare.{eq_says}
 use Rattle.progression.specs.Street.{Street, count, HasSignal, HasLink}
 use Rattle.progression.specs.Speeds.{number, change}
 use Rattle.progression.specs.declared.parts.Dir.{Dir}
-use Rattle.linear_theory.specs.Names.{Name, Site, AtSignal, AtLink, AtChange, ByItself, AtRatio, Nowhere, HasSite, rule_of, HasRow, HasChange}
-use Rattle.loop_rows.specs.RowTests.{has_signal, has_link, has_change, has_site, has_row}
+use Rattle.linear_theory.specs.Names.{Name, Seat, AtSignal, AtLink, AtChange, ByItself, AtRatio, Nowhere, HasSeat, rule_of, HasRow, HasChange}
+use Rattle.loop_rows.specs.RowTests.{has_signal, has_link, has_change, has_seat, has_row}
 
 -- ---- the tests say what they are for
 link_decided : (a : Street) (i : ℕ) → Decides (has_link a i) (HasLink a i)
@@ -30,15 +30,15 @@ change_decided a d i =
 other_decided : (x y : ℚ) → Decides (not (eq_by_cmp cmp_ℚ x y)) (x ≢ y)
 other_decided x y = Decides-not (eq_by_cmp cmp_ℚ x y) (eq_says x y (eq_by_cmp cmp_ℚ x y) refl)
 
-site_decided : (a : Street) (s : Site) → Decides (has_site a s) (HasSite a s)
-site_decided a (AtSignal i) = signal_decided a i
-site_decided a (AtLink i) = link_decided a i
-site_decided a (AtChange d i) = change_decided a d i
-site_decided a (ByItself i) = Decides-eqb i 0
-site_decided a (AtRatio i) = Decides-and (i == 0) (not (eq_by_cmp cmp_ℚ a.head.ratio (number 1))) (Decides-eqb i 0) (other_decided a.head.ratio (number 1))
-site_decided a Nowhere = (λ e. true≢false (sym e), λ h. absurd h)
+seat_decided : (a : Street) (s : Seat) → Decides (has_seat a s) (HasSeat a s)
+seat_decided a (AtSignal i) = signal_decided a i
+seat_decided a (AtLink i) = link_decided a i
+seat_decided a (AtChange d i) = change_decided a d i
+seat_decided a (ByItself i) = Decides-eqb i 0
+seat_decided a (AtRatio i) = Decides-and (i == 0) (not (eq_by_cmp cmp_ℚ a.head.ratio (number 1))) (Decides-eqb i 0) (other_decided a.head.ratio (number 1))
+seat_decided a Nowhere = (λ e. true≢false (sym e), λ h. absurd h)
 
 -- an artery has a row exactly where the test is true
 pub row_decided : (a : Street) (n : Name) → Decides (has_row a n) (HasRow a n)
 unfolding has_row
-row_decided a n = site_decided a (rule_of n).site
+row_decided a n = seat_decided a (rule_of n).seat
