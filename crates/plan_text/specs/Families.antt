@@ -1,6 +1,6 @@
 -- The names of rows as texts spell them: a family's number, from 1 on, and the number of a signal or link, or 0 in a family of one row. Which families there
 -- are, by which texts they go, and which of them have one row, is in the table of the linear model.
-use Rattle.std.specs.Prelude.{◌≡◌, ℕ, ◌+◌, ◌-◌, ◌≤◌, ◌==◌, ◌||◌, ◌&&◌, nat_lt, List, [], ◌∷◌, map, Bool, true, false, Option, None, Some, slice_index_or, if◌then◌else◌}
+use Rattle.std.specs.Prelude.{◌≡◌, ℕ, ◌+◌, ◌-◌, ◌≤◌, List, [], ◌∷◌, map, Bool, true, false, Option, None, Some, slice_index_or, if◌then◌else◌}
 use Rattle.linear_theory.specs.Names as rows
 use Rattle.named_row.specs.Order.{is_below}
 use Rattle.named_row.specs.declared.names.RowId.{RowId}
@@ -14,7 +14,7 @@ unfoldable pub family_name : ℕ → List ℕ
 family_name family = slice_index_or family_names (family - 1) []
 
 -- the families of one row: the limits of the cycle and the ratio
-abbrev pub is_lone : ℕ → Bool
+unfoldable pub is_lone : ℕ → Bool
 is_lone family = rows.is_lone family
 
 -- the number of the first of these names that is the word, the first name having this number

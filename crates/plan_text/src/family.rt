@@ -65,6 +65,7 @@ pub fn family_name(family: u8) -> &'static str
 }
 
 /// Whether a family has one row alone, which needs no index: the limits of the cycle and the ratio.
+#[tactic(auto, unfolding(crate::specs::Families::is_lone))]
 pub fn is_lone(family: u8) -> bool
     ensures { result ≡ is_lone family }
 {
