@@ -36,4 +36,6 @@ pub use writing::write_timing;
 #[cfg(test)]
 mod cert_tests;
 #[cfg(test)]
+mod limit_tests;
+#[cfg(test)]
 mod tests;
