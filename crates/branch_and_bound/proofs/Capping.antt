@@ -11,7 +11,7 @@ use Rattle.named_row.specs.declared.leaves.Point.{Point}
 use Rattle.branch_and_bound.specs.Lines.{Line}
 use Rattle.branch_and_bound.specs.Lineages.{Reads, Cuts}
 use Rattle.work_meter.specs.Work.{IsWithin, capped}
-use Rattle.branch_and_bound.specs.Opening.{HasBound, OpensTimed, OpensCut, Opens}
+use Rattle.branch_and_bound.specs.OpenedNodes.{HasBound, OpensTimed, OpensCut, Opens}
 use Rattle.branch_and_bound.specs.CappedRules.{capped_rules, EndsAs}
 use Rattle.branch_and_bound.specs.laws.Capped.{Case, is_empty, is_cut, is_read, case_of, box_of}
 use Rattle.branch_and_bound.specs.Capped.{ending_span, ending_of, bound_of, IsNumber, CoversNumbers}

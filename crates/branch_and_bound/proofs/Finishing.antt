@@ -16,7 +16,7 @@ use Rattle.work_meter.specs.Work.{capped, IsWithin}
 use Rattle.branch_and_bound.specs.Incumbents.{IsReached}
 use Rattle.branch_and_bound.specs.Greatest.{IsSettled, bound_of}
 use Rattle.branch_and_bound.specs.Answer.{cut_of, lines_of, cost_of, IsProof, IsAcceptedNode, GivesValue, IsPartValue, IsBestLeaf, IsFinished, IsBestAnswer, IsNoneAnswer}
-use Rattle.branch_and_bound.specs.State.{place_of, IsNode, IsShown, Holds}
+use Rattle.branch_and_bound.specs.State.{place_of, IsNode, IsShown, IsSearchState}
 use Rattle.branch_and_bound.specs.declared.incumbent.Incumbent.{Incumbent}
 use Rattle.branch_and_bound.specs.declared.node.Node.{Node}
 use Rattle.branch_and_bound.specs.declared.node.Node.TheVariants.{Split, Closed, Waiting}
@@ -82,7 +82,7 @@ found_shown r nodes shown new spared (Some b) m h =
 
 -- ---- the answers
 finished : {T K W : Type 0} (r : Rules T K W) (limit : Option ℕ) (nodes : List (Node K)) (shown : List TreeNode) (best : Option (Incumbent T)) (top : ℚ) (spent : ℕ)
-    → IsWithin spent limit → Holds r nodes best top spent → All (λ node. IsSettled best (bound_of node)) nodes → Matches (IsShown best None) 0 nodes shown → IsFinished r limit shown best (value_of best) spent
+    → IsWithin spent limit → IsSearchState r nodes best top spent → All (λ node. IsSettled best (bound_of node)) nodes → Matches (IsShown best None) 0 nodes shown → IsFinished r limit shown best (value_of best) spent
 finished r limit nodes shown best top spent within h all m =
     let lines = lines_of r in
     let whole : Fills cut_of (λ line other. IsTreeNode r best best top line other × IsNotWaiting other) lines shown =
@@ -109,9 +109,9 @@ finished r limit nodes shown best top spent within h all m =
     }
 
 pub best_answer : {T K W : Type 0} (r : Rules T K W) (limit : Option ℕ) (nodes : List (Node K)) (shown : List TreeNode) (best : Incumbent T) (top : ℚ) (spent : ℕ)
-    → IsWithin spent limit → Holds r nodes (Some best) top spent → All (λ node. IsSettled (Some best) (bound_of node)) nodes → Matches (IsShown (Some best) None) 0 nodes shown → IsBestAnswer r limit shown (Some best) best.value spent
+    → IsWithin spent limit → IsSearchState r nodes (Some best) top spent → All (λ node. IsSettled (Some best) (bound_of node)) nodes → Matches (IsShown (Some best) None) 0 nodes shown → IsBestAnswer r limit shown (Some best) best.value spent
 best_answer r limit nodes shown best top spent within h all m = record { timing = best.timing; best_is = refl; good = h.good; finished = finished r limit nodes shown (Some best) top spent within h all m }
 
 pub none_answer : {T K W : Type 0} (r : Rules T K W) (limit : Option ℕ) (nodes : List (Node K)) (shown : List TreeNode) (top bound : ℚ) (spent : ℕ)
-    → IsWithin spent limit → Holds r nodes None top spent → All (λ node. IsSettled {T = T} None (bound_of node)) nodes → Matches (IsShown {T = T} None None) 0 nodes shown → bound ≡ number 0 → IsNoneAnswer r limit shown None bound spent
+    → IsWithin spent limit → IsSearchState r nodes None top spent → All (λ node. IsSettled {T = T} None (bound_of node)) nodes → Matches (IsShown {T = T} None None) 0 nodes shown → bound ≡ number 0 → IsNoneAnswer r limit shown None bound spent
 none_answer r limit nodes shown top bound spent within h all m e = record { best_is = refl; bound_is = e; finished = finished r limit nodes shown None top spent within h all m }

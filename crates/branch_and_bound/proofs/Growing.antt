@@ -14,7 +14,7 @@ use Rattle.branch_and_bound.specs.Rules.{Rules}
 use Rattle.branch_and_bound.specs.Incumbents.{IsReached, IsUnder}
 use Rattle.branch_and_bound.specs.Greatest.{IsOverBound, bound_of}
 use Rattle.branch_and_bound.specs.Answer.{lines_of, cost_of, IsBestLeaf}
-use Rattle.branch_and_bound.specs.State.{place_of, IsNode, IsClosed, IsSplit, IsWaiting, IsBetter, IsBoth, Holds}
+use Rattle.branch_and_bound.specs.State.{place_of, IsNode, IsClosed, IsSplit, IsWaiting, IsBetter, IsBoth, IsSearchState}
 use Rattle.work_meter.specs.declared.meter.Meter.{Meter}
 use Rattle.branch_and_bound.specs.declared.incumbent.Incumbent.{Incumbent}
 use Rattle.branch_and_bound.specs.declared.node.Node.{Node}
@@ -106,11 +106,11 @@ found_still r (Some b) middle new top place point leaf low high front rest e g h
 -- ---- all nodes
 pub grown : {T K W : Type 0} (r : Rules T K W) (front rest : List (Node K)) (area : Area) (leaf : Leaf) (bound : ℚ) (place : At) (point : Point) (kept : K) (index : ℕ)
     (best new : Option (Incumbent T)) (top : ℚ) (before after : Meter) (low high : Node K)
-    → Holds r (front ++ Waiting area leaf bound place point kept ∷ rest) best top before.spent
+    → IsSearchState r (front ++ Waiting area leaf bound place point kept ∷ rest) best top before.spent
     → All (λ node. IsOverBound (Some (record { index = index; bound = bound })) (bound_of node)) (front ++ Waiting area leaf bound place point kept ∷ rest)
     → IsUnder best bound
     → IsBoth r (line_after place_of (lines_of r) front) place best new before after low high
-    → Holds r (front ++ Split place point ∷ low ∷ high ∷ rest) new bound after.spent
+    → IsSearchState r (front ++ Split place point ∷ low ∷ high ∷ rest) new bound after.spent
 grown r front rest area leaf bound place point kept index best new top before after low high h over best_under both =
     let node = Waiting area leaf bound place point kept in
     let lines = lines_of r in

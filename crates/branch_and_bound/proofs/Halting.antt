@@ -11,7 +11,7 @@ use Rattle.work_meter.specs.Work.{capped, IsWithin}
 use Rattle.branch_and_bound.specs.Incumbents.{IsBeaten}
 use Rattle.branch_and_bound.specs.Greatest.{IsGreatest, bound_of}
 use Rattle.branch_and_bound.specs.Answer.{cut_of, lines_of, line_at, cost_of, units_of, BeforeLow, InLow, BeforeHigh, InHigh, IsStoppedAnswer, Spot, low_of, high_of}
-use Rattle.branch_and_bound.specs.State.{place_of, line_there, IsNode, IsShown, Stops, Halts, Holds, IsUndone, stop_of}
+use Rattle.branch_and_bound.specs.State.{place_of, line_there, IsNode, IsShown, Stops, Halts, IsSearchState, IsUndone, stop_of}
 use Rattle.work_meter.specs.declared.meter.Meter.{Meter}
 use Rattle.branch_and_bound.specs.declared.incumbent.Incumbent.{Incumbent}
 use Rattle.branch_and_bound.specs.declared.node.Node.{Node}
@@ -130,7 +130,7 @@ high_cases r limit shown bound new before between after spot (Refused site) unit
 }
 
 by_side : {T K W : Type 0} (r : Rules T K W) (limit : Option ℕ) (nodes : List (Node K)) (shown : List TreeNode) (g : Greatest) (old new : Option (Incumbent T)) (top : ℚ) (before after : Meter) (side : Side) (cause : Cause W) (place : At)
-    → Holds r nodes old top before.spent → IsGreatest nodes (length nodes) (Some g) → IsBeaten old g.bound
+    → IsSearchState r nodes old top before.spent → IsGreatest nodes (length nodes) (Some g) → IsBeaten old g.bound
     → Matches (IsShown new (Some g.index)) 0 nodes shown
     → WaitsThere r (line_at r shown g.index) g.bound → before.spent ≡ capped (units_of r shown)
     → r.ending (line_at r shown g.index) ≡ Cuts place
@@ -146,7 +146,7 @@ by_side r limit nodes shown g old new top before after High cause place h greate
     high_cases r limit shown g.bound new before halts.between after (record { index = g.index; place = place }) cause units k halts.low_cost.spent halts.stops halts.read e
 
 pub undone_answer : {T K W : Type 0} (r : Rules T K W) (limit : Option ℕ) (nodes : List (Node K)) (shown : List TreeNode) (g : Greatest) (old new : Option (Incumbent T)) (top : ℚ) (before after : Meter) (side : Side) (cause : Cause W)
-    → Holds r nodes old top before.spent → IsGreatest nodes (length nodes) (Some g) → IsBeaten old g.bound
+    → IsSearchState r nodes old top before.spent → IsGreatest nodes (length nodes) (Some g) → IsBeaten old g.bound
     → Matches (IsShown new (Some g.index)) 0 nodes shown
     → IsUndone r nodes g.index old new before after side cause → after.limit ≡ limit
     → IsStoppedAnswer r limit shown new g.bound after.spent (stop_of cause after.spent)

@@ -9,9 +9,9 @@ use Rattle.branch_and_bound.specs.Lines.{Line, top_line, owed, Fills, Finds, tot
 use Rattle.branch_and_bound.specs.Lineages.{IsOptimal, at_top}
 use Rattle.branch_and_bound.specs.Rules.{Rules}
 use Rattle.work_meter.specs.Work.{IsWithin}
-use Rattle.branch_and_bound.specs.Opening.{Finishes}
+use Rattle.branch_and_bound.specs.OpenedNodes.{Finishes}
 use Rattle.branch_and_bound.specs.Answer.{lines_of, cost_of, IsBestLeaf, IsSorted, RootLeft, RootUnread, IsStoppedAnswer}
-use Rattle.branch_and_bound.specs.State.{place_of, IsNode, IsBetter, IsLeafNow, IsStuck, IsLeftBy, Holds, stop_of}
+use Rattle.branch_and_bound.specs.State.{place_of, IsNode, IsBetter, IsLeafNow, IsStuck, IsLeftBy, IsSearchState, stop_of}
 use Rattle.work_meter.specs.declared.meter.Meter.{Meter}
 use Rattle.branch_and_bound.specs.declared.incumbent.Incumbent.{Incumbent}
 use Rattle.branch_and_bound.specs.declared.node.Node.{Node}
@@ -45,7 +45,7 @@ one_cost r node = omega arith
 
 pub root_holds : {T K W : Type 0} (r : Rules T K W) (new : Option (Incumbent T)) (before after : Meter) (node : Node K)
     → r.IsSound → before.spent ≡ 0 → IsLeafNow r (top_line r.root) None new node → Finishes r (top_line r.root) before after
-    → Holds r (node ∷ []) new (r.bound (top_line r.root)) after.spent
+    → IsSearchState r (node ∷ []) new (r.bound (top_line r.root)) after.spent
 root_holds r new before after node sound e h k = record {
   tree = one_node r (IsNode r new (r.bound (top_line r.root))) node h.whole (h.is (r.bound (top_line r.root)) (at_top sound) (λ o. ≤ℚ_refl (r.bound (top_line r.root))));
   good = good_still r (top_line r.root) None new h.better tt;

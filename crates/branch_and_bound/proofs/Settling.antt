@@ -10,7 +10,7 @@ use Rattle.branch_and_bound.specs.Lines.{Line, low_line, high_line}
 use Rattle.narrow_fraction.proofs.Attempt.{some_not_none}
 use Rattle.branch_and_bound.specs.Lineages.{WasRead}
 use Rattle.branch_and_bound.specs.Rules.{Rules, IsMet}
-use Rattle.branch_and_bound.specs.Opening.{OpensTimed, IsPart}
+use Rattle.branch_and_bound.specs.OpenedNodes.{OpensTimed, IsPart}
 use Rattle.branch_and_bound.specs.Incumbents.{IsReached, IsBeaten}
 use Rattle.branch_and_bound.specs.State.{IsStuck, Stops, IsLeftBy, Settles, Ends, ended, IsCut, IsLeafNow, IsRefuted, IsRead}
 use Rattle.work_meter.specs.declared.meter.Meter.{Meter}

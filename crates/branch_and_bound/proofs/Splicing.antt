@@ -18,7 +18,7 @@ use Rattle.branch_and_bound.specs.Rules.{Rules}
 use Rattle.branch_and_bound.specs.Incumbents.{IsUnder}
 use Rattle.branch_and_bound.specs.Greatest.{IsOverBound, bound_of, Waits}
 use Rattle.branch_and_bound.specs.Answer.{lines_of}
-use Rattle.branch_and_bound.specs.State.{place_of, IsNode, IsWaiting, IsCut, IsBoth, Holds, IsGrown, line_there, spliced, split_from, weight, weights}
+use Rattle.branch_and_bound.specs.State.{place_of, IsNode, IsWaiting, IsCut, IsBoth, IsSearchState, IsGrown, line_there, spliced, split_from, weight, weights}
 use Rattle.work_meter.specs.declared.meter.Meter.{Meter}
 use Rattle.branch_and_bound.specs.declared.incumbent.Incumbent.{Incumbent}
 use Rattle.branch_and_bound.specs.declared.node.Node.{Node}
@@ -88,7 +88,7 @@ lighter_by a b p e h k = omega arith
 -- ---- the split
 is_grown : {T K W : Type 0} (r : Rules T K W) (nodes : List (Node K)) (index : ℕ) (area : Area) (leaf : Leaf) (bound : ℚ) (place : At) (point : Point) (kept : K)
     (best new : Option (Incumbent T)) (top : ℚ) (before after : Meter) (low high : Node K)
-    → Holds r nodes best top before.spent
+    → IsSearchState r nodes best top before.spent
     → slice_get nodes index ≡ Some (Waiting area leaf bound place point kept)
     → All (λ node. IsOverBound (Some (record { index = index; bound = bound })) (bound_of node)) nodes
     → IsUnder best bound
@@ -99,7 +99,7 @@ is_grown r nodes index area leaf bound place point kept best new top before afte
     let whole = cut_here nodes index node e in
     let line = line_there r nodes index in
     let w : IsWaiting r top line area leaf bound place point kept = node_at r nodes best top index node h.tree e in
-    let again : Holds r (take index nodes ++ node ∷ drop (index + 1) nodes) best top before.spent = subst (λ ns. Holds r ns best top before.spent) (sym whole) h in
+    let again : IsSearchState r (take index nodes ++ node ∷ drop (index + 1) nodes) best top before.spent = subst (λ ns. IsSearchState r ns best top before.spent) (sym whole) h in
     let over_again : All (λ n. IsOverBound (Some (record { index = index; bound = bound })) (bound_of n)) (take index nodes ++ node ∷ drop (index + 1) nodes) =
     subst (λ ns. All (λ n. IsOverBound (Some (record { index = index; bound = bound })) (bound_of n)) ns) (sym whole) over in
     let low_weight = weight_of r both.middle bound (low_line place line) low (both.low_is.is bound (at_low line place w.lineage w.end) (λ o. subst (λ b. r.bound (low_line place line) ≤ℚ b) (sym w.bounds.bound_is) (r.low_falls line place w.lineage w.end o))) in
@@ -124,7 +124,7 @@ is_grown r nodes index area leaf bound place point kept best new top before afte
 -- the nodes after the code's splice, with the greatest bound as it was found
 pub now_grown : {T K W : Type 0} (r : Rules T K W) (nodes new_nodes : List (Node K)) (index : ℕ) (area : Area) (leaf : Leaf) (b bound : ℚ) (place : At) (point : Point) (kept : K)
     (best new : Option (Incumbent T)) (top : ℚ) (before after : Meter) (low high : Node K)
-    → Holds r nodes best top before.spent
+    → IsSearchState r nodes best top before.spent
     → slice_get nodes index ≡ Some (Waiting area leaf b place point kept) → b ≡ bound
     → All (λ node. IsOverBound (Some (record { index = index; bound = bound })) (bound_of node)) nodes
     → IsUnder best bound

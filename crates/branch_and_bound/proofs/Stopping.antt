@@ -20,7 +20,7 @@ use Rattle.branch_and_bound.specs.Rules.{Rules}
 use Rattle.branch_and_bound.specs.Incumbents.{IsReached, IsUnder, IsBeaten}
 use Rattle.branch_and_bound.specs.Greatest.{IsOverBound, bound_of}
 use Rattle.branch_and_bound.specs.Answer.{cut_of, lines_of, line_at, IsAcceptedNode, IsAccepted, IsSorted, Spot, IsSpot, IsNodeUnder, IsNeededNode, IsNeeded, IsBestLeaf, GivesValue, IsReachedPart, IsPartValue, IsPartAlone, IsOpenNode, IsOpenBound}
-use Rattle.branch_and_bound.specs.State.{place_of, line_there, IsNode, IsWaiting, IsShown, IsBetter, Holds}
+use Rattle.branch_and_bound.specs.State.{place_of, line_there, IsNode, IsWaiting, IsShown, IsBetter, IsSearchState}
 use Rattle.branch_and_bound.specs.declared.incumbent.Incumbent.{Incumbent}
 use Rattle.branch_and_bound.specs.declared.node.Node.{Node}
 use Rattle.branch_and_bound.specs.declared.node.Node.TheVariants.{Split, Closed, Waiting}
@@ -179,7 +179,7 @@ pub record IsHalt {T K W : Type 0} (r : Rules T K W) (nodes : List TreeNode) (ne
 
 -- the nodes as they are answered, with the best timing that the finished part may have changed
 pub stopped : {T K W : Type 0} (r : Rules T K W) (nodes : List (Node K)) (shown : List TreeNode) (g : Greatest) (node : Node K) (old new : Option (Incumbent T)) (top : ℚ) (spent : ℕ) (part : Option Line) (place : At)
-    → Holds r nodes old top spent
+    → IsSearchState r nodes old top spent
     → Matches (IsShown new (Some g.index)) 0 nodes shown
     → slice_get nodes g.index ≡ Some node → bound_of node ≡ Some g.bound
     → r.ending (line_at r shown g.index) ≡ Cuts place

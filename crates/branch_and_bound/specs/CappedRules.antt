@@ -7,7 +7,7 @@ use Rattle.progression.specs.Street.{Street}
 use Rattle.linear_theory.specs.Boxes.{root_box}
 use Rattle.branch_and_bound.specs.Lines.{Line}
 use Rattle.branch_and_bound.specs.Rules.{Rules}
-use Rattle.branch_and_bound.specs.Opening.{OpensEmpty, OpensTimed, OpensCut}
+use Rattle.branch_and_bound.specs.OpenedNodes.{OpensEmpty, OpensTimed, OpensCut}
 use Rattle.branch_and_bound.specs.declared.opened.Opened.{Opened}
 use Rattle.branch_and_bound.specs.declared.opened.Opened.TheVariants.{Infeasible, Timed, Splits}
 use Rattle.branch_and_bound.specs.Capped.{ending_of, bound_of, CoversNumbers, HasNone}

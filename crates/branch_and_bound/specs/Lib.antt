@@ -5,7 +5,7 @@ pub mod Promises
 pub mod Lineages
 pub mod Rules
 pub mod Unfinished
-pub mod Opening
+pub mod OpenedNodes
 pub mod Incumbents
 pub mod Answer
 pub mod State

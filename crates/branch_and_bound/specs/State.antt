@@ -11,7 +11,7 @@ use Rattle.branch_and_bound.specs.Lineages.{Empty, Reads, Cuts, IsOptimal, WasRe
 use Rattle.work_meter.specs.Work.{capped, IsWithin, IsSpent}
 use Rattle.branch_and_bound.specs.Rules.{Rules, IsMet}
 use Rattle.branch_and_bound.specs.Unfinished.{IsUnfinished, IsLeft}
-use Rattle.branch_and_bound.specs.Opening.{HasBound, OpensStuck, Finishes, Leaves}
+use Rattle.branch_and_bound.specs.OpenedNodes.{HasBound, OpensStuck, Finishes, Leaves}
 use Rattle.branch_and_bound.specs.Incumbents.{IsReached, IsUnder, IsBeaten}
 use Rattle.branch_and_bound.specs.Answer.{lines_of, cost_of, IsBestLeaf, IsSite}
 use Rattle.work_meter.specs.declared.meter.Meter.{Meter}
@@ -179,7 +179,7 @@ SettlesBoth r line place old new before after (Halted side cause) = Halts r line
 
 -- ---- all nodes
 -- what the search keeps true between two splits
-pub record Holds {T K W : Type 0} (r : Rules T K W) (nodes : List (Node K)) (best : Option (Incumbent T)) (top : ℚ) (spent : ℕ) : Type 0 where
+pub record IsSearchState {T K W : Type 0} (r : Rules T K W) (nodes : List (Node K)) (best : Option (Incumbent T)) (top : ℚ) (spent : ℕ) : Type 0 where
   pub tree : Fills place_of (IsNode r best top) (lines_of r) nodes
   pub good : IfSome best (λ b. r.IsGood b.timing b.value)
   pub under : IsUnder best top
@@ -213,7 +213,7 @@ spliced nodes index place point low high = take index nodes ++ Split place point
 -- the tree grew by two leaves
 pub record IsGrown {T K W : Type 0} (r : Rules T K W) (old new : List (Node K)) (best : Option (Incumbent T)) (after : Meter) : Type 0 where
   pub top : ℚ
-  pub holds : Holds r new best top after.spent
+  pub holds : IsSearchState r new best top after.spent
   pub within : IsWithin after.spent after.limit
   pub lighter : weights new < weights old
 

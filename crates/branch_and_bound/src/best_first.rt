@@ -4,7 +4,7 @@ ghost use Rattle.std.specs.Prelude.{◌≡◌, ℕ, List, [], ◌∷◌, All, If
 ghost use Rattle.rational_theory.specs.Rational.{ℚ};
 ghost use Rattle.work_meter.specs.Work.{IsBelow, IsWithin};
 ghost use Rattle.branch_and_bound.specs.Greatest.{IsSettled, bound_of};
-ghost use Rattle.branch_and_bound.specs.State.{Holds, stop_of};
+ghost use Rattle.branch_and_bound.specs.State.{IsSearchState, stop_of};
 ghost use Rattle.branch_and_bound.specs.Answer.{IsAnswer};
 
 use crate::found::{Found, Stop, Verdict};
@@ -40,7 +40,7 @@ fn finish<P: Relaxation>(
 ) -> Result<Found<P::Timing, P::Part>, Memory>
     requires within { IsWithin meter.spent meter.limit }
     requires settled { All (λ node. IsSettled incumbent (bound_of node)) nodes.items }
-    requires holds { (top : ℚ) × Holds (P.rules _relaxation.now) nodes.items incumbent top meter.spent }
+    requires holds { (top : ℚ) × IsSearchState (P.rules _relaxation.now) nodes.items incumbent top meter.spent }
     ensures { IfOk result (λ found. IsAnswer (P.rules _relaxation.now) meter.limit found.nodes.items found.incumbent found.bound found.spent found.verdict) }
 {
     let tree = shown(alloc, nodes, &incumbent, None)?;
@@ -96,7 +96,7 @@ fn run<P: Relaxation>(
 ) -> Result<Found<P::Timing, P::Part>, Memory>
     requires ready { P.Ready relaxation.now room.old }
     requires within { IsWithin meter.spent meter.limit }
-    requires holds { (top : ℚ) × Holds (P.rules relaxation.now) nodes.items incumbent top meter.spent }
+    requires holds { (top : ℚ) × IsSearchState (P.rules relaxation.now) nodes.items incumbent top meter.spent }
     ensures { IfOk result (λ found. IsAnswer (P.rules relaxation.now) meter.limit found.nodes.items found.incumbent found.bound found.spent found.verdict) }
 {
     'splits: while let Some(greatest) = next_waiting(nodes.as_slice(), &incumbent) {

@@ -11,7 +11,7 @@ ghost use Rattle.branch_and_bound.specs.declared.node.Node.TheVariants.{Waiting}
 ghost use Rattle.work_meter.specs.Work.{IsWithin};
 ghost use Rattle.branch_and_bound.specs.Greatest.{IsGreatest};
 ghost use Rattle.branch_and_bound.specs.Incumbents.{IsUnder};
-ghost use Rattle.branch_and_bound.specs.State.{Holds, Grows, spliced, split_from};
+ghost use Rattle.branch_and_bound.specs.State.{IsSearchState, Grows, spliced, split_from};
 
 use crate::greatest::Greatest;
 use crate::incumbent::Incumbent;
@@ -74,7 +74,7 @@ pub(crate) fn grow<P: Relaxation>(
     requires within { IsWithin meter.old.spent meter.old.limit }
     requires greatest { IsGreatest nodes.old.items (length nodes.old.items) (Some greatest.now) }
     requires under { IsUnder incumbent.old greatest.now.bound }
-    requires holds { (top : ℚ) × Holds (P.rules relaxation.now) nodes.old.items incumbent.old top meter.old.spent }
+    requires holds { (top : ℚ) × IsSearchState (P.rules relaxation.now) nodes.old.items incumbent.old top meter.old.spent }
     ensures ready { P.Ready relaxation.now room.new }
     ensures limit { meter.new.limit ≡ meter.old.limit }
     ensures grows { IfOk result (λ growth. Grows (P.rules relaxation.now) nodes.old.items nodes.new.items greatest.now.index incumbent.old incumbent.new meter.old meter.new growth) }

@@ -5,7 +5,7 @@ ghost use Rattle.search_box.specs.Places.{IsPlace, low_part, high_part};
 ghost use Rattle.search_box.specs.declared.span.At.{At};
 ghost use Rattle.branch_and_bound.specs.Lines.{Line};
 ghost use Rattle.work_meter.specs.Work.{IsWithin};
-ghost use Rattle.branch_and_bound.specs.Opening.{IsPart};
+ghost use Rattle.branch_and_bound.specs.OpenedNodes.{IsPart};
 ghost use Rattle.branch_and_bound.specs.State.{IsCut, Ends, SettlesBoth, ended};
 
 use crate::incumbent::Incumbent;

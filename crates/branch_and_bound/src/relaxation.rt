@@ -5,7 +5,7 @@ ghost use Rattle.search_box.specs.declared.span.At.{At};
 ghost use Rattle.branch_and_bound.specs.Lines.{Line, top_line};
 ghost use Rattle.branch_and_bound.specs.Rules.{Rules};
 ghost use Rattle.work_meter.specs.Work.{HasWork};
-ghost use Rattle.branch_and_bound.specs.Opening.{Opens, IsPart};
+ghost use Rattle.branch_and_bound.specs.OpenedNodes.{Opens, IsPart};
 
 use crate::opened::Opened;
 use named_row::Leaf;

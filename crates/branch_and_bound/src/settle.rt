@@ -3,7 +3,7 @@
 ghost use Rattle.std.specs.Prelude.{◌≡◌};
 ghost use Rattle.branch_and_bound.specs.Lines.{Line};
 ghost use Rattle.work_meter.specs.declared.meter.Meter.{Meter};
-ghost use Rattle.branch_and_bound.specs.Opening.{Opens};
+ghost use Rattle.branch_and_bound.specs.OpenedNodes.{Opens};
 ghost use Rattle.branch_and_bound.specs.State.{Settles};
 
 use crate::found::Site;

@@ -5,7 +5,7 @@ ghost use Rattle.std.specs.Prelude.{◌≡◌, ◌≤◌, ◌<ℤ◌, ◌-ℤ◌
 ghost use Rattle.progression.specs.Street.{Street};
 ghost use Rattle.branch_and_bound.specs.Lines.{Line};
 ghost use Rattle.work_meter.specs.Work.{HasWork};
-ghost use Rattle.branch_and_bound.specs.Opening.{Opens};
+ghost use Rattle.branch_and_bound.specs.OpenedNodes.{Opens};
 ghost use Rattle.branch_and_bound.specs.CappedRules.{capped_rules, EndsAs};
 
 use crate::opened::Opened;

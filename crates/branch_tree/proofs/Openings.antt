@@ -18,7 +18,7 @@ use Rattle.offset_recovery.specs.Recovered.{recovered}
 use Rattle.branch_and_bound.specs.Lines.{Line}
 use Rattle.branch_and_bound.specs.Lineages.{IsOptimal}
 use Rattle.work_meter.specs.Work.{capped}
-use Rattle.branch_and_bound.specs.Opening.{OpensEmpty, HasBound, OpensTimed, OpensCut, OpensStuck}
+use Rattle.branch_and_bound.specs.OpenedNodes.{OpensEmpty, HasBound, OpensTimed, OpensCut, OpensStuck}
 use Rattle.branch_tree.specs.declared.site.SitePart.TheVariants.{Timing}
 use Rattle.branch_tree.specs.declared.kept.Kept.{Kept}
 use Rattle.branch_tree.specs.Ends.{steps_of, end_move, end_point, end_bound, end_leaf, ending_of, ending_by_outcome}

@@ -8,10 +8,10 @@ use Rattle.branch_and_bound.specs.Lineages.{at_low, at_high}
 use Rattle.work_meter.specs.declared.meter.Meter.{Meter}
 use Rattle.branch_and_bound.specs.declared.opened.Opened.TheVariants.{Infeasible, Timed, Splits, Unread, WorkOut, Wide}
 use Rattle.branch_and_bound.specs.Unfinished.{IsUnfinished}
-use Rattle.branch_and_bound.specs.Opening.{Opens, IsPart}
+use Rattle.branch_and_bound.specs.OpenedNodes.{Opens, IsPart}
 use Rattle.branch_tree.specs.declared.kept.Kept.{Kept}
 use Rattle.branch_tree.specs.laws.Lineage.{boxed}
-use Rattle.branch_tree.specs.Opening.{Opening}
+use Rattle.branch_tree.specs.BoxRuns.{OpenedBox}
 use Rattle.branch_tree.specs.ArteryRules.{rules_of}
 
 pub ok_map : {A E : Type 0} (r : Result A E) (P Q : A → Type 0) → ((x : A) → P x → Q x) → IfOk r P → IfOk r Q
@@ -23,7 +23,7 @@ left_on : (a : Street) (line : Line) (k : ℕ) → IsUnfinished (rules_of a) (to
 left_on a line k (inl l) = inl l
 left_on a line k (inr (e, u)) = inr (e, record { leaf = u.leaf; leaf_is = u.leaf_is; not_refuted = u.not_refuted; not_covered = u.not_covered })
 
-on_line : (a : Street) (line : Line) (before after : Meter) (o : Opening) → Opens (rules_of a) (top_line line.area) before after o → Opens (rules_of a) line before after o
+on_line : (a : Street) (line : Line) (before after : Meter) (o : OpenedBox) → Opens (rules_of a) (top_line line.area) before after o → Opens (rules_of a) line before after o
 on_line a line before after (Infeasible leaf) (h, f) = (record { end = h.end; leaf_is = h.leaf_is; refutes = h.refutes }, record { spent = f.spent; within = f.within })
 on_line a line before after (Timed leaf bound timing) (h, f) =
     (record { end = h.end; bounds = record { leaf_is = h.bounds.leaf_is; bound_is = h.bounds.bound_is; covers = h.bounds.covers }; good = h.good }, record { spent = f.spent; within = f.within })
@@ -38,7 +38,7 @@ on_line a line before after (Unread leaf bound pivots part) (h, f) = (
 on_line a line before after WorkOut (k, left, due, leaves, spent) = (k, left_on a line k left, due, leaves, spent)
 on_line a line before after (Wide pivots part) (k, left, is, leaves, told) = (k, left_on a line k left, is, leaves, told)
 
-pub opens_on : (a : Street) (box : Area) (line : Line) (before after : Meter) (o : Opening) → line.area ≡ box → Opens (rules_of a) (top_line box) before after o → Opens (rules_of a) line before after o
+pub opens_on : (a : Street) (box : Area) (line : Line) (before after : Meter) (o : OpenedBox) → line.area ≡ box → Opens (rules_of a) (top_line box) before after o → Opens (rules_of a) line before after o
 opens_on a box line before after o e h = on_line a line before after o (subst (λ b. Opens (rules_of a) (top_line b) before after o) (sym e) h)
 
 -- a part's box

@@ -15,7 +15,7 @@ use Rattle.dual_leaf.specs.Leaves.{goal_multipliers, row_multipliers}
 use Rattle.recovery_theory.specs.Vertices.{IsVertex}
 use Rattle.branch_tree.specs.Ends.{named_last, last_table, end_point, end_leaf, leaf_by}
 use Rattle.branch_tree.specs.laws.EndLaws.{optimal_end, infeasible_end}
-use Rattle.branch_tree.specs.Opening.{IsOptimalRun, IsInfeasibleRun}
+use Rattle.branch_tree.specs.BoxRuns.{IsOptimalRun, IsInfeasibleRun}
 
 module _ (a : Street) (box : Area) (t : NamedTableau) where
   -- ---- at an optimal end

@@ -21,7 +21,7 @@ use Rattle.branch_tree.specs.Ends.{table_after, named_after, steps_of}
 use Rattle.branch_tree.specs.laws.EndLaws.{run_dual, run_height, run_width}
 use Rattle.branch_tree.proofs.Runs.{ends_step, reached_by, table_by, end_here, due_at, due_before}
 use Rattle.branch_tree.specs.Sites.{step_at, IsReached}
-use Rattle.branch_tree.specs.Opening.{IsOptimalRun, IsInfeasibleRun, IsRunTo, IsRun}
+use Rattle.branch_tree.specs.BoxRuns.{IsOptimalRun, IsInfeasibleRun, IsRunTo, IsRun}
 use Rattle.branch_tree.proofs.Leaving.{wide_before}
 use Rattle.std.proofs.lemmas.Bool.{eqb-true}
 

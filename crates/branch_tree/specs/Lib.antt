@@ -10,6 +10,6 @@ pub mod Told
 pub mod SiteNames
 pub mod Searches
 pub mod Certified
-pub mod Opening
+pub mod BoxRuns
 pub mod ArteryRules
 pub mod laws

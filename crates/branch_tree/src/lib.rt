@@ -11,7 +11,7 @@
 //!   `SitePart` names it. `specs/Starts.antt`: the leaf that bounds the root before any step.
 //! - `specs/Relaxed.antt`: `rules_of`, an artery as a relaxation for `branch_and_bound`. `specs/Trees.antt`: its trees are those
 //!   that `certificate_checker` accepts.
-//! - What is promised of boxes stands in `specs/Promises.antt`, and `law_boxes_end` keeps it. `specs/Opening.antt` has what the
+//! - What is promised of boxes stands in `specs/Promises.antt`, and `law_boxes_end` keeps it. `specs/BoxRuns.antt` has what the
 //!   steps of one box come to. The files of `specs/RuleLaws` are lemmas alone, which `rules_of` carries.
 #![tactic(auto)]
 

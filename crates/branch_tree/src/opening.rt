@@ -9,11 +9,11 @@ ghost use Rattle.program_builder.specs.Building.{opened_box, IsMadeFor};
 ghost use Rattle.dual_simplex.specs.declared.outcome.Step.TheVariants as steps;
 ghost use Rattle.work_meter.specs.declared.meter.Meter.{Meter};
 ghost use Rattle.work_meter.specs.Work.{capped, HasWork};
-ghost use Rattle.branch_and_bound.specs.Opening.{Opens};
+ghost use Rattle.branch_and_bound.specs.OpenedNodes.{Opens};
 ghost use Rattle.branch_tree.specs.Ends.{steps_of, end_leaf, end_bound};
 ghost use Rattle.branch_tree.specs.Sites.{IsReached, step_at};
 ghost use Rattle.branch_tree.specs.ArteryRules.{rules_of};
-ghost use Rattle.branch_tree.specs.Opening.{IsRoomFor, IsLeft, IsRun, IsOptimalRun, IsInfeasibleRun, IsSummed, IsReadEnd, IsEmptyEnd, IsWideStep};
+ghost use Rattle.branch_tree.specs.BoxRuns.{IsRoomFor, IsLeft, IsRun, IsOptimalRun, IsInfeasibleRun, IsSummed, IsReadEnd, IsEmptyEnd, IsWideStep};
 
 use crate::kept::Kept;
 use crate::relaxed::Room;
@@ -33,7 +33,7 @@ use std::alloc::Global;
 use time_space::Timing;
 
 /// What opening a box of an artery answers.
-pub type Opening = Opened<Timing, Kept, SitePart>;
+pub type OpenedBox = Opened<Timing, Kept, SitePart>;
 
 /// How the steps of a box ended, and how many pivots were made.
 #[derive(Clone, Copy)]
@@ -84,7 +84,7 @@ fn sum_leaf(alloc: Global, artery: &Artery, area: &SearchBox, leaf: &Leaf) -> Re
 }
 
 /// The answer at a vertex that shows where its box is split.
-fn split_end(leaf: Leaf, bound: Frac, place: At, point: Point) -> Opening
+fn split_end(leaf: Leaf, bound: Frac, place: At, point: Point) -> OpenedBox
     ensures { result ≡ Opened.Splits leaf bound place point (record {}) }
 {
     Opened::Splits {
@@ -105,7 +105,7 @@ fn read_end(
     leaf: Leaf,
     bound: Frac,
     pivots: u64,
-) -> Result<Opening, Memory>
+) -> Result<OpenedBox, Memory>
     requires boxed { IsBoxOf artery.now area.now }
     requires run { IsOptimalRun artery.now area.now tableau.now }
     requires leaf { leaf.multipliers.items ≡ end_leaf artery.now area.now }
@@ -141,7 +141,7 @@ fn optimal_end(
     area: &SearchBox,
     tableau: &Tableau,
     pivots: u64,
-) -> Result<Opening, Memory>
+) -> Result<OpenedBox, Memory>
     requires boxed { IsBoxOf artery.now area.now }
     requires run { IsOptimalRun artery.now area.now tableau.now }
     requires pivots { pivots ≡ capped (steps_of artery.now area.now) }
@@ -167,7 +167,7 @@ fn infeasible_end(
     tableau: &Tableau,
     row: u32,
     pivots: u64,
-) -> Result<Opening, Memory>
+) -> Result<OpenedBox, Memory>
     requires boxed { IsBoxOf artery.now area.now }
     requires run { IsInfeasibleRun artery.now area.now tableau.now row }
     ensures { IfOk result (λ opened. IsEmptyEnd artery.now area.now pivots opened) }
@@ -191,7 +191,7 @@ fn wide_step(
     ratio: bool,
     cell: WideCell,
     pivots: u64,
-) -> Opening
+) -> OpenedBox
     ensures { (k : ℕ) → IsLeft _artery.now _area.now k → IsReached _artery.now _area.now k → step_at _artery.now _area.now k ≡ steps.Wide ratio cell → IsWideStep _artery.now _area.now k pivots result }
 {
     if ratio {
@@ -214,7 +214,7 @@ fn ended(
     area: &SearchBox,
     tableau: &Tableau,
     run: &Run,
-) -> Result<Opening, Memory>
+) -> Result<OpenedBox, Memory>
     requires boxed { IsBoxOf artery.now area.now }
     requires run { (before after : Meter) × IsRun artery.now area.now tableau.now before after run.now.end run.now.pivots }
     ensures { IfOk result (λ opened. (before after : Meter) → IsRun artery.now area.now tableau.now before after run.now.end run.now.pivots
@@ -238,7 +238,7 @@ pub fn open(
     room: &mut Room,
     area: &SearchBox,
     meter: &mut Meter,
-) -> Result<Opening, Memory>
+) -> Result<OpenedBox, Memory>
     requires boxed { IsBoxOf artery.now area.now }
     requires room { IsRoomFor artery.now room.old }
     requires work { HasWork meter.old }

@@ -1,10 +1,10 @@
 //! An artery as a relaxation that is solved over one box at a time.
 
 ghost use Rattle.std.specs.Prelude.{IfOk};
-ghost use Rattle.branch_tree.specs.Opening.{IsRoomFor};
+ghost use Rattle.branch_tree.specs.BoxRuns.{IsRoomFor};
 
 use crate::kept::Kept;
-use crate::opening::{Opening, open};
+use crate::opening::{OpenedBox, open};
 use crate::site::SitePart;
 use crate::starting::start_leaf;
 use artery_model::Artery;
@@ -72,7 +72,7 @@ impl<'a> Relaxation for Relaxed<'a> {
         room: &mut Room,
         area: &SearchBox,
         meter: &mut Meter,
-    ) -> Result<Opening, Memory> {
+    ) -> Result<OpenedBox, Memory> {
         open(alloc, self.artery, room, area, meter)
     }
 
@@ -83,7 +83,7 @@ impl<'a> Relaxation for Relaxed<'a> {
         _kept: &Kept,
         area: &SearchBox,
         meter: &mut Meter,
-    ) -> Result<Opening, Memory> {
+    ) -> Result<OpenedBox, Memory> {
         open(alloc, self.artery, room, area, meter)
     }
 }

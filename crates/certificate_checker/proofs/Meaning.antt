@@ -26,7 +26,7 @@ use Rattle.plan_text.specs.declared.certificate.Claim.{Claim}
 use Rattle.plan_text.specs.declared.certificate.Claim.TheVariants.{Best, NoTiming, Stopped}
 use Rattle.plan_text.specs.Warrants.{Warrant, Node, SplitAt, LeafOf}
 use Rattle.certificate_checker.specs.Accepted.{IsTimed, Shows, AreProofs, IsAccepted, limit_of, value_of}
-use Rattle.certificate_checker.specs.Claims.{IsBest, Holds}
+use Rattle.certificate_checker.specs.Claims.{IsBest, ClaimHolds}
 
 -- a value is at most the limit; where there is no limit, there is no value
 abbrev IsWithin : Option ℚ → ℚ → Type 0
@@ -82,10 +82,10 @@ best_timed a value None b h = h
 best_timed a value (Some t) b h = (record { good = h.0; greatest = subst (Bounded a) (sym h.1) b }, h.1)
 
 -- what an accepted certificate claims holds
-claim_holds : (a : Street) (claim : Claim) (timing : Option Plan) (ns : List Node) → IsStreet a → IsTimed a timing (value_of claim) → AreProofs a (limit_of claim) (root_box a ∷ []) ns → Holds a claim timing
+claim_holds : (a : Street) (claim : Claim) (timing : Option Plan) (ns : List Node) → IsStreet a → IsTimed a timing (value_of claim) → AreProofs a (limit_of claim) (root_box a ∷ []) ns → ClaimHolds a claim timing
 claim_holds a (Best value) timing ns h i c = best_timed a value timing (λ t g. root_says a t h g (Some value) ns c) i
 claim_holds a NoTiming timing ns h i c = λ t g. root_says a t h g None ns c
 claim_holds a (Stopped bound value) timing ns h i c = (λ t g. root_says a t h g (Some bound) ns c, i)
 
-pub accepted_holds : (a : Street) (c : Warrant) → IsStreet a → IsAccepted a c → Holds a c.claim c.timing
+pub accepted_holds : (a : Street) (c : Warrant) → IsStreet a → IsAccepted a c → ClaimHolds a c.claim c.timing
 accepted_holds a c h k = claim_holds a c.claim c.timing c.nodes h k.timing k.tree

@@ -15,7 +15,7 @@ IsBest a None value = ⊥
 IsBest a (Some t) value = best.Best a t × (weighted_band a t ≡ value)
 
 -- the timing is best; or no timing is good; or no good timing has a value above the bound, and the timing is good with its value
-abbrev pub Holds : Street → Claim → Option Plan → Type 0
-Holds a (Best value) timing = IsBest a timing value
-Holds a NoTiming timing = best.NoTiming a
-Holds a (Stopped bound value) timing = Bounded a bound × IsTimed a timing value
+abbrev pub ClaimHolds : Street → Claim → Option Plan → Type 0
+ClaimHolds a (Best value) timing = IsBest a timing value
+ClaimHolds a NoTiming timing = best.NoTiming a
+ClaimHolds a (Stopped bound value) timing = Bounded a bound × IsTimed a timing value

@@ -6,7 +6,7 @@ ghost use Rattle.linear_theory.specs.Rows.{goal_form};
 ghost use Rattle.loop_rows.specs.Writing.{written};
 ghost use Rattle.certificate_checker.specs.Accepted.{IsAccepted};
 ghost use Rattle.certificate_checker.specs.Refusals.{IsFirstRefusal};
-ghost use Rattle.certificate_checker.specs.Claims.{Holds};
+ghost use Rattle.certificate_checker.specs.Claims.{ClaimHolds};
 
 use crate::claims::{check_bound, check_timing, check_value, limit_of, value_of};
 use crate::leaves::Aim;
@@ -35,7 +35,7 @@ fn goal_row(alloc: Global, artery: &Artery) -> Result<Row, Memory>
 /// of memory may come in place of any answer.
 pub fn check(alloc: Global, artery: &Artery, certificate: &Certificate) -> Result<(), Reject>
     ensures accepted { OnOk result (IsAccepted artery.now certificate.now) }
-    ensures holds { OnOk result (Holds artery.now certificate.now.claim certificate.now.timing) }
+    ensures holds { OnOk result (ClaimHolds artery.now certificate.now.claim certificate.now.timing) }
     ensures first { IfErr result (λ reject. IsFirstRefusal artery.now certificate.now reject) }
 {
     check_timing(artery, &certificate.timing)?;

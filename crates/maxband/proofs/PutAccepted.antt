@@ -2,7 +2,7 @@
 use Rattle.std.proofs.Common.{◌≡◌, ℕ, ◌≤◌, List, length, Option, Some, None, Ok, sym, ◌∙◌, ap, subst}
 use Rattle.std.specs.Prelude.{IsSome, IfSome}
 use Rattle.description_reader.specs.Described as described
-use Rattle.outer_edge.specs.Held.{Holds}
+use Rattle.outer_edge.specs.Held.{HoldsExactly}
 use Rattle.outer_edge.specs.Taken.{Appends}
 use Rattle.plan_text.specs.Warrants.{Warrant}
 use Rattle.plan_text.specs.CertificateReading.{certificate_of}
@@ -38,7 +38,7 @@ verdict_finds held before after artery certificate work (cause.Stopped stop) lin
 verdict_finds held before after artery certificate work c lines put v h = absurd v
 
 -- a file that holds a text of a certificate is read as it
-reads_text : (o : Option (List ℕ)) (text : List ℕ) (w : Warrant) → IsSome o → IfSome o (λ bytes. length bytes ≤ certificate_limit) → Holds o text → IsTextOf text w → ReadsCertificate o w
+reads_text : (o : Option (List ℕ)) (text : List ℕ) (w : Warrant) → IsSome o → IfSome o (λ bytes. length bytes ≤ certificate_limit) → HoldsExactly o text → IsTextOf text w → ReadsCertificate o w
 reads_text None text w told few h t = absurd cc
 reads_text (Some x) text w told few h t = told_has certificate_limit x (λ y. certificate_of y ≡ Ok w) (few, ap certificate_of h ∙ t.read_back)
 

@@ -22,7 +22,7 @@ pub record Accepts (artery certificate : Option (List ℕ)) (claim : Claim) : Ty
   pub description : ReadsArtery artery street
   pub text : ReadsCertificate certificate warrant
   pub accepted : IsAccepted street warrant
-  pub holds : claims.Holds street warrant.claim warrant.timing
+  pub holds : claims.ClaimHolds street warrant.claim warrant.timing
   pub claimed : claim ≡ warrant.claim
 
 -- the certificate of the one file is refused on the artery of the other, which has so many signals, and this is the first refusal

@@ -1,7 +1,7 @@
 -- The outside, as the program sees it at a moment, and what an answer leaves there.
 use Rattle.std.specs.Prelude.{◌≡◌, ◌⊎◌, ℕ, List, Option, Some, None}
 use Rattle.outer_edge.specs.Counts.{Rose, NoneFell, SameCounts}
-use Rattle.outer_edge.specs.Held.{SameFiles, OthersSame, Holds}
+use Rattle.outer_edge.specs.Held.{SameFiles, OthersSame, HoldsExactly}
 use Rattle.outer_edge.specs.Taken.{Appends, AppendsFront}
 use Rattle.maxband.specs.declared.finish.Put.{Put}
 
@@ -28,7 +28,7 @@ text_of put = record { name = put.name.now; bytes = put.bytes.items }
 -- the file that is put holds these bytes, where it is told, and every other file is as before
 abbrev pub IsPut : Option Text → (List ℕ → Option (List ℕ)) → (List ℕ → Option (List ℕ)) → Type 0
 IsPut None before now = SameFiles before now
-IsPut (Some text) before now = Holds (now text.name) text.bytes × OthersSame before now text.name
+IsPut (Some text) before now = HoldsExactly (now text.name) text.bytes × OthersSame before now text.name
 
 -- what is put was put, and the output grew by exactly the lines
 pub record IsDone (before now : Outside) (lines : List ℕ) (put : Option Text) : Type 0 where

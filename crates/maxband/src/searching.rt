@@ -3,7 +3,7 @@
 ghost use Rattle.std.specs.Prelude.{◌≡◌, ◌≤◌, IfOk, IfSome, OnOk};
 ghost use Rattle.progression.specs.Good.{Good};
 ghost use Rattle.certificate_checker.specs.Accepted.{IsAccepted};
-ghost use Rattle.certificate_checker.specs.Claims.{Holds};
+ghost use Rattle.certificate_checker.specs.Claims.{ClaimHolds};
 ghost use Rattle.branch_tree.specs.Certified.{warrant_of};
 ghost use Rattle.maxband.specs.Searched.{IsSearched, IsTextOf, cause_of};
 
@@ -37,7 +37,7 @@ pub fn cause_of(verdict: Verdict) -> Cause
 /// Checks a certificate that can't be refused.
 fn confirm(alloc: Global, artery: &Artery, certificate: &Certificate) -> Result<(), Memory>
     requires { IsAccepted artery.now certificate.now }
-    ensures { OnOk result (Holds artery.now certificate.now.claim certificate.now.timing) }
+    ensures { OnOk result (ClaimHolds artery.now certificate.now.claim certificate.now.timing) }
 {
     match check(alloc, artery, certificate) {
         Ok(()) => Ok(()),

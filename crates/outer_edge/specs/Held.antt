@@ -10,8 +10,8 @@ abbrev pub OthersSame : (List ℕ → Option (List ℕ)) → (List ℕ → Optio
 OthersSame before now name = (other : List ℕ) → other ≢ name → now other ≡ before other
 
 -- the file holds these bytes, where it is told
-abbrev pub Holds : Option (List ℕ) → List ℕ → Type 0
-Holds told bytes = IfSome told (λ file. file ≡ bytes)
+abbrev pub HoldsExactly : Option (List ℕ) → List ℕ → Type 0
+HoldsExactly told bytes = IfSome told (λ file. file ≡ bytes)
 
 -- the first k places of a buffer hold the file's bytes from `at` on, and k is 0 exactly at its end
 pub record ReadsFrom (file : List ℕ) (at k : ℕ) (into : List ℕ) : Type 0 where

@@ -2,7 +2,7 @@
 
 ghost use Rattle.std.specs.Prelude.{◌≡◌, ◌<◌, ◌≤◌, ℕ, List, Option, length, IfOk, IfSome, IsErrOf, OnOk};
 ghost use Rattle.outer_edge.specs.Counts.{Rose, NoneFell, SameCounts, CountedAt};
-ghost use Rattle.outer_edge.specs.Held.{SameFiles, OthersSame, Holds, ReadsFrom};
+ghost use Rattle.outer_edge.specs.Held.{SameFiles, OthersSame, HoldsExactly, ReadsFrom};
 
 use thiserror::Error;
 
@@ -48,7 +48,7 @@ pub trait Files {
 
     /// Makes the file hold exactly these bytes. After `Failed` it may hold anything.
     fn put(&mut self, name: &str, bytes: &[u8]) -> Result<(), FileEnd>
-        ensures put { OnOk result (Holds (holds self.new name.now) bytes.now) }
+        ensures put { OnOk result (HoldsExactly (holds self.new name.now) bytes.now) }
         ensures none_failed { OnOk result (SameCounts (put_faults self.old) (put_faults self.new)) }
         ensures failed { IsErrOf result FileEnd.Failed → Rose (put_faults self.old name.now) (put_faults self.new name.now) }
         ensures counted { IsErrOf result FileEnd.Failed → CountedAt (put_faults self.old) (put_faults self.new) name.now }

@@ -7,7 +7,7 @@ use Rattle.plan_text.specs.Spelling.{end_line}
 use Rattle.plan_text.specs.Lines.{◌>>=◌, Gives, fixed_at, nothing_at}
 use Rattle.plan_text.specs.Warrants.{Node, Warrant, AreTrees, IsNode, IsCertificate}
 use Rattle.plan_text.specs.CertificateText.{certificate_line, tree_line, claim_lines, node_lines, certificate_lines, certificate_text, IsHeldNode, IsHeldWarrant}
-use Rattle.plan_text.specs.CertificateReading.{nodes_at, Opening, claim_at, tree_at, certificate_of}
+use Rattle.plan_text.specs.CertificateReading.{nodes_at, Beginning, claim_at, tree_at, certificate_of}
 use Rattle.plan_text.proofs.Fields.{bind_ok, moved, fixed_takes, fixed_again, nothing_takes}
 use Rattle.plan_text.proofs.WordLines.{ended_and, ended_is, ended_more}
 use Rattle.plan_text.proofs.NodeLines.{nodes_take, nodes_again, enough, line_after_all}
@@ -61,7 +61,7 @@ text_is c =
     ∙ ended_is (certificate_lines c)
 
 -- what was read keeps what each certificate keeps
-pub is_kept : (line : ℕ) (first second : List ℕ) (x : Opening) (ns : List Node) → claim_at first ≡ Ok x → tree_at line second ≡ Ok ns → IsCertificate (record { claim = x.0; timing = x.1; nodes = ns })
+pub is_kept : (line : ℕ) (first second : List ℕ) (x : Beginning) (ns : List Node) → claim_at first ≡ Ok x → tree_at line second ≡ Ok ns → IsCertificate (record { claim = x.0; timing = x.1; nodes = ns })
 is_kept line first second x ns e f =
     let t = tree_takes line second ns f in
     record { timing = (claim_takes first x e).timing; tree = t.trees; nodes = t.kept }
@@ -99,6 +99,6 @@ is_found bytes (Ok c) given = (certificate_takes bytes c given).parts
 is_found bytes (Err e) given = tt
 
 -- what the code read
-pub is_read : (bytes rest : List ℕ) (x : Opening) (ns : List Node) → fixed_at 1 certificate_line bytes ≡ Ok rest → claim_at rest ≡ Ok x → tree_at x.2 x.3 ≡ Ok ns → certificate_of bytes ≡ Ok (record { claim = x.0; timing = x.1; nodes = ns })
+pub is_read : (bytes rest : List ℕ) (x : Beginning) (ns : List Node) → fixed_at 1 certificate_line bytes ≡ Ok rest → claim_at rest ≡ Ok x → tree_at x.2 x.3 ≡ Ok ns → certificate_of bytes ≡ Ok (record { claim = x.0; timing = x.1; nodes = ns })
 unfolding certificate_of
 is_read bytes rest x ns e f g = rw (e, f, g) refl

@@ -16,7 +16,7 @@ use Rattle.plan_text.specs.Lines.{◌>>=◌, fault, line_at, words_at, fixed_at}
 use Rattle.plan_text.specs.Reading.{plan_at}
 use Rattle.plan_text.specs.Warrants.{HasTiming}
 use Rattle.plan_text.specs.CertificateText.{best_line, none_line, open_line, no_timing_line, value_key, bound_key, fraction_words, claim_lines, IsHeldClaim, IsHeldTiming}
-use Rattle.plan_text.specs.CertificateReading.{or_number, fraction_of, Opening, best_at, begins_with, found_at, missing_at, open_at, verdict_of, claim_at}
+use Rattle.plan_text.specs.CertificateReading.{or_number, fraction_of, Beginning, best_at, begins_with, found_at, missing_at, open_at, verdict_of, claim_at}
 use Rattle.plan_text.proofs.Fields.{bind_ok, guard_ok, moved, same_text, text_same, line_takes, line_again, fixed_takes, fixed_again, IsKey}
 use Rattle.plan_text.proofs.ExactWords.{exact_takes, exact_again, exact_word}
 use Rattle.plan_text.proofs.WordLines.{number_ok, words_take, words_again, ended_and}
@@ -48,13 +48,13 @@ fraction_line key line x rest is f = words_again line key (exact_spelling x ∷ 
 
 -- ---- a claim
 
-pub record ClaimOf (bytes : List ℕ) (x : Opening) : Type 0 where
+pub record ClaimOf (bytes : List ℕ) (x : Beginning) : Type 0 where
   pub parts : bytes ≡ ended_and (claim_lines x.0 x.1) x.3
   pub timing : HasTiming x.0 x.1
   pub claim : IsHeldClaim x.0
   pub held : IsHeldTiming x.1
 
-best_takes : (bytes : List ℕ) (x : Opening) → best_at bytes ≡ Ok x → ClaimOf (best_line ++ 10 ∷ bytes) x
+best_takes : (bytes : List ℕ) (x : Beginning) → best_at bytes ≡ Ok x → ClaimOf (best_line ++ 10 ∷ bytes) x
 unfolding best_at claim_lines
 best_takes bytes x e =
     let a = bind_ok (words_at 3 bytes) (λ l. fraction_of value_key 3 l.0 >>= λ value. plan_at 4 l.1 >>= λ timing. Ok (Best value, Some timing.0, 12, timing.1)) x e in
@@ -62,7 +62,7 @@ best_takes bytes x e =
     let d = bind_ok (plan_at 4 a.0.1) (λ timing. Ok (Best b.0, Some timing.0, 12, timing.1)) x b.2 in
     let f = fraction_takes value_key 3 a.0.0 b.0 b.1 in
     let p = plan_takes 4 a.0.1 d.0 d.1 in
-    let made : Opening = (Best b.0, Some d.0.0, 12, d.0.1) in
+    let made : Beginning = (Best b.0, Some d.0.0, 12, d.0.1) in
     moved (ClaimOf (best_line ++ 10 ∷ bytes)) made x d.2 (record {
       parts = ap (λ (y : List ℕ). best_line ++ 10 ∷ y) (words_take 3 bytes a.0 a.1 ∙ (λ i. line_of (f.spelled i) ++ 10 ∷ p.parts i));
       timing = tt;
@@ -74,14 +74,14 @@ best_takes bytes x e =
 abbrev bounded : ℚ → List ℕ → List ℕ
 bounded bound bytes = open_line ++ 10 ∷ (line_of (fraction_words bound_key bound) ++ 10 ∷ bytes)
 
-found_takes : (bound : ℚ) (ws : List (List ℕ)) (bytes : List ℕ) (x : Opening) → FitsFrac bound → found_at bound ws bytes ≡ Ok x → ClaimOf (bounded bound (line_of ws ++ 10 ∷ bytes)) x
+found_takes : (bound : ℚ) (ws : List (List ℕ)) (bytes : List ℕ) (x : Beginning) → FitsFrac bound → found_at bound ws bytes ≡ Ok x → ClaimOf (bounded bound (line_of ws ++ 10 ∷ bytes)) x
 unfolding found_at claim_lines
 found_takes bound ws bytes x fits e =
     let b = bind_ok (fraction_of value_key 4 ws) (λ value. plan_at 5 bytes >>= λ timing. Ok (Stopped bound (Some value), Some timing.0, 13, timing.1)) x e in
     let d = bind_ok (plan_at 5 bytes) (λ timing. Ok (Stopped bound (Some b.0), Some timing.0, 13, timing.1)) x b.2 in
     let f = fraction_takes value_key 4 ws b.0 b.1 in
     let p = plan_takes 5 bytes d.0 d.1 in
-    let made : Opening = (Stopped bound (Some b.0), Some d.0.0, 13, d.0.1) in
+    let made : Beginning = (Stopped bound (Some b.0), Some d.0.0, 13, d.0.1) in
     moved (ClaimOf (bounded bound (line_of ws ++ 10 ∷ bytes))) made x d.2 (record {
       parts = λ i. open_line ++ 10 ∷ (line_of (fraction_words bound_key bound) ++ 10 ∷ (line_of (f.spelled i) ++ 10 ∷ p.parts i));
       timing = tt;
@@ -89,11 +89,11 @@ found_takes bound ws bytes x fits e =
       held = p.held;
     })
 
-missing_takes : (bound : ℚ) (bytes : List ℕ) (x : Opening) → FitsFrac bound → missing_at bound bytes ≡ Ok x → ClaimOf (bounded bound bytes) x
+missing_takes : (bound : ℚ) (bytes : List ℕ) (x : Beginning) → FitsFrac bound → missing_at bound bytes ≡ Ok x → ClaimOf (bounded bound bytes) x
 unfolding missing_at claim_lines
 missing_takes bound bytes x fits e =
     let a = bind_ok (fixed_at 4 no_timing_line bytes) (λ rest. Ok (Stopped bound None, None, 5, rest)) x e in
-    let made : Opening = (Stopped bound None, None, 5, a.0) in
+    let made : Beginning = (Stopped bound None, None, 5, a.0) in
     let line = fixed_takes 4 no_timing_line bytes a.0 a.1 in
     moved (ClaimOf (bounded bound bytes)) made x a.2 (record {
       parts = ap (λ (y : List ℕ). open_line ++ 10 ∷ (line_of (fraction_words bound_key bound) ++ 10 ∷ y)) line;
@@ -102,11 +102,11 @@ missing_takes bound bytes x fits e =
       held = tt;
     })
 
-open_by : (bound : ℚ) (ws : List (List ℕ)) (after bytes : List ℕ) (x : Opening) (b : Bool) → FitsFrac bound → bytes ≡ line_of ws ++ 10 ∷ after → (if b then found_at bound ws after else missing_at bound bytes) ≡ Ok x → ClaimOf (bounded bound bytes) x
+open_by : (bound : ℚ) (ws : List (List ℕ)) (after bytes : List ℕ) (x : Beginning) (b : Bool) → FitsFrac bound → bytes ≡ line_of ws ++ 10 ∷ after → (if b then found_at bound ws after else missing_at bound bytes) ≡ Ok x → ClaimOf (bounded bound bytes) x
 open_by bound ws after bytes x true fits parts e = subst (λ (y : List ℕ). ClaimOf (bounded bound y) x) (sym parts) (found_takes bound ws after x fits e)
 open_by bound ws after bytes x false fits parts e = missing_takes bound bytes x fits e
 
-open_takes : (bytes : List ℕ) (x : Opening) → open_at bytes ≡ Ok x → ClaimOf (open_line ++ 10 ∷ bytes) x
+open_takes : (bytes : List ℕ) (x : Beginning) → open_at bytes ≡ Ok x → ClaimOf (open_line ++ 10 ∷ bytes) x
 unfolding open_at
 open_takes bytes x e =
     let a = bind_ok (words_at 3 bytes) (λ l. fraction_of bound_key 3 l.0 >>= λ bound. words_at 4 l.1 >>= λ m. if begins_with value_key m.0 then found_at bound m.0 m.1 else missing_at bound l.1) x e in
@@ -118,30 +118,30 @@ open_takes bytes x e =
     (open_by b.0 d.0.0 d.0.1 a.0.1 x (begins_with value_key d.0.0) f.fits (words_take 4 a.0.1 d.0 d.1) d.2)
 
 -- the verdict's line and what follows
-verdict_open : (text bytes : List ℕ) (x : Opening) (b : Bool) → (b ≡ true → text ≡ open_line) → (if b then open_at bytes else fault 2 Shape) ≡ Ok x → ClaimOf (text ++ 10 ∷ bytes) x
+verdict_open : (text bytes : List ℕ) (x : Beginning) (b : Bool) → (b ≡ true → text ≡ open_line) → (if b then open_at bytes else fault 2 Shape) ≡ Ok x → ClaimOf (text ++ 10 ∷ bytes) x
 verdict_open text bytes x true is e = subst (λ (y : List ℕ). ClaimOf (y ++ 10 ∷ bytes) x) (sym (is refl)) (open_takes bytes x e)
 verdict_open text bytes x false is e = absurd cc
 
-none_takes : (bytes : List ℕ) (x : Opening) → ◌≡◌ {A = Result Opening BadText} (Ok (NoTiming, None, 3, bytes)) (Ok x) → ClaimOf (none_line ++ 10 ∷ bytes) x
+none_takes : (bytes : List ℕ) (x : Beginning) → ◌≡◌ {A = Result Beginning BadText} (Ok (NoTiming, None, 3, bytes)) (Ok x) → ClaimOf (none_line ++ 10 ∷ bytes) x
 unfolding claim_lines
 none_takes bytes x e =
-    let made : Opening = (NoTiming, None, 3, bytes) in
+    let made : Beginning = (NoTiming, None, 3, bytes) in
     moved (ClaimOf (none_line ++ 10 ∷ bytes)) made x e (record { parts = refl; timing = tt; claim = tt; held = tt })
 
-verdict_none : (text bytes : List ℕ) (x : Opening) (b : Bool) → (b ≡ true → text ≡ none_line) → (if b then Ok (NoTiming, None, 3, bytes) else (if is_text text open_line then open_at bytes else fault 2 Shape)) ≡ Ok x → ClaimOf (text ++ 10 ∷ bytes) x
+verdict_none : (text bytes : List ℕ) (x : Beginning) (b : Bool) → (b ≡ true → text ≡ none_line) → (if b then Ok (NoTiming, None, 3, bytes) else (if is_text text open_line then open_at bytes else fault 2 Shape)) ≡ Ok x → ClaimOf (text ++ 10 ∷ bytes) x
 verdict_none text bytes x true is e = subst (λ (y : List ℕ). ClaimOf (y ++ 10 ∷ bytes) x) (sym (is refl)) (none_takes bytes x e)
 verdict_none text bytes x false is e = verdict_open text bytes x (is_text text open_line) (same_text text open_line) e
 
-verdict_best : (text bytes : List ℕ) (x : Opening) (b : Bool) → (b ≡ true → text ≡ best_line)
+verdict_best : (text bytes : List ℕ) (x : Beginning) (b : Bool) → (b ≡ true → text ≡ best_line)
     → (if b then best_at bytes else (if is_text text none_line then Ok (NoTiming, None, 3, bytes) else (if is_text text open_line then open_at bytes else fault 2 Shape))) ≡ Ok x → ClaimOf (text ++ 10 ∷ bytes) x
 verdict_best text bytes x true is e = subst (λ (y : List ℕ). ClaimOf (y ++ 10 ∷ bytes) x) (sym (is refl)) (best_takes bytes x e)
 verdict_best text bytes x false is e = verdict_none text bytes x (is_text text none_line) (same_text text none_line) e
 
-verdict_takes : (text bytes : List ℕ) (x : Opening) → verdict_of text bytes ≡ Ok x → ClaimOf (text ++ 10 ∷ bytes) x
+verdict_takes : (text bytes : List ℕ) (x : Beginning) → verdict_of text bytes ≡ Ok x → ClaimOf (text ++ 10 ∷ bytes) x
 unfolding verdict_of
 verdict_takes text bytes x e = verdict_best text bytes x (is_text text best_line) (same_text text best_line) e
 
-pub claim_takes : (bytes : List ℕ) (x : Opening) → claim_at bytes ≡ Ok x → ClaimOf bytes x
+pub claim_takes : (bytes : List ℕ) (x : Beginning) → claim_at bytes ≡ Ok x → ClaimOf bytes x
 unfolding claim_at
 claim_takes bytes x e =
     let a = bind_ok (line_at 2 bytes) (λ l. verdict_of l.0 l.1) x e in

@@ -8,7 +8,7 @@ use Rattle.plan_text.specs.Lines.{◌>>=◌, line_at, fixed_at}
 use Rattle.plan_text.specs.Reading.{plan_at, timing_of}
 use Rattle.plan_text.specs.Warrants.{Node, Warrant}
 use Rattle.plan_text.specs.CertificateText.{certificate_line, tree_line}
-use Rattle.plan_text.specs.CertificateReading.{nodes_at, Opening, claim_at, tree_at, certificate_of}
+use Rattle.plan_text.specs.CertificateReading.{nodes_at, Beginning, claim_at, tree_at, certificate_of}
 use Rattle.plan_text.specs.FirstBad.{lines_in, NamesFirstBad, FirstBad}
 use Rattle.plan_text.proofs.Timings.{timing_again}
 use Rattle.plan_text.proofs.Certificates.{certificate_again}
@@ -71,10 +71,10 @@ unfolding tree_at
 tree_later last line bytes before =
     not_before (after_line (line + 1)) last (fixed_at line tree_line bytes) (tree_then line) (fixed_later last line tree_line bytes before) (λ rest here. tree_then_later last line rest here)
 
-abbrev make_warrant : Opening → List Node → Warrant
+abbrev make_warrant : Beginning → List Node → Warrant
 make_warrant opening nodes = record { claim = opening.0; timing = opening.1; nodes = nodes }
 
-abbrev opening_then : Opening → Result Warrant BadText
+abbrev opening_then : Beginning → Result Warrant BadText
 opening_then opening = tree_at opening.2 opening.3 >>= λ nodes. Ok (make_warrant opening nodes)
 
 certificate_whole : (bytes z : List ℕ) → Whole (lines_in bytes + 1) (certificate_of bytes) (certificate_of (bytes ++ z))

@@ -20,7 +20,7 @@ use Rattle.plan_text.specs.Reading.{plan_at}
 use Rattle.plan_text.specs.Families.{family_of, is_lone, is_after}
 use Rattle.plan_text.specs.Warrants.{Node, LeafOf}
 use Rattle.plan_text.specs.CertificateText.{best_line, none_line, open_line, no_timing_line, value_key, bound_key, split_key, loop_key, turn_key, leaf_key}
-use Rattle.plan_text.specs.CertificateReading.{or_number, range_of, index_of, fraction_of, lone_of, indexed_of, in_family, weight_of, weight_after, weights_at, split_of, head_of, rest_of, node_at, owed_after, nodes_at, Opening, best_at, begins_with, found_at, missing_at, open_at, verdict_of, claim_at}
+use Rattle.plan_text.specs.CertificateReading.{or_number, range_of, index_of, fraction_of, lone_of, indexed_of, in_family, weight_of, weight_after, weights_at, split_of, head_of, rest_of, node_at, owed_after, nodes_at, Beginning, best_at, begins_with, found_at, missing_at, open_at, verdict_of, claim_at}
 use Rattle.plan_text.specs.FirstBad.{lines_in}
 use Rattle.plan_text.proofs.NodeLines.{node_takes}
 use Rattle.plan_text.proofs.Grown.{Part, Grows, Reaches, IsAt, grows_by, grows_then, reaches_then, at_then, at_if, at_choice, tested, tested_later, chosen, chosen_later, after_line, one_and, numbered, line_grows, line_later, words_grow, words_later, fixed_grows, fixed_later, ranged_here}
@@ -193,13 +193,13 @@ nodes_grow (suc steps) (suc others) last line bytes z few e =
 
 -- ---- the claim
 
-abbrev pub opened : Part Opening
+abbrev pub opened : Part Beginning
 opened = record { next = λ x. x.2; rest = λ x. x.3; more = λ z x. (x.0, x.1, x.2, x.3 ++ z) }
 
-abbrev with_timing : Claim → ℕ → Plan × List ℕ → Result Opening BadText
+abbrev with_timing : Claim → ℕ → Plan × List ℕ → Result Beginning BadText
 with_timing claim line timing = Ok (claim, Some timing.0, line, timing.1)
 
-abbrev best_then : List (List ℕ) × List ℕ → Result Opening BadText
+abbrev best_then : List (List ℕ) × List ℕ → Result Beginning BadText
 best_then l = fraction_of value_key 3 l.0 >>= λ value. plan_at 4 l.1 >>= with_timing (Best value) 12
 
 timing_grows : (claim : Claim) (last line : ℕ) (bytes z : List ℕ) → line + lines_in bytes ≡ last → Grows opened last z (plan_at line bytes >>= with_timing claim (line + 8)) (plan_at line (bytes ++ z) >>= with_timing claim (line + 8))
@@ -231,7 +231,7 @@ unfolding found_at
 found_later bound ws last bytes before =
     tested_later opened last 4 (fraction_of value_key 4 ws) (λ value. plan_at 5 bytes >>= with_timing (Stopped bound (Some value)) 13) (fraction_here value_key 4 ws) before (λ value. timing_later (Stopped bound (Some value)) last 5 bytes (omega arith))
 
-abbrev as_missing : ℚ → List ℕ → Result Opening BadText
+abbrev as_missing : ℚ → List ℕ → Result Beginning BadText
 as_missing bound rest = Ok (Stopped bound None, None, 5, rest)
 
 missing_grows : (bound : ℚ) (last : ℕ) (bytes z : List ℕ) → 4 + lines_in bytes ≡ last → Grows opened last z (missing_at bound bytes) (missing_at bound (bytes ++ z))
@@ -242,10 +242,10 @@ missing_later : (bound : ℚ) (last : ℕ) (bytes : List ℕ) → last ≤ 4 →
 unfolding missing_at
 missing_later bound last bytes before = reaches_then (after_line 5) opened last (fixed_at 4 no_timing_line bytes) (as_missing bound) (fixed_later last 4 no_timing_line bytes before) (λ r here. here)
 
-abbrev value_or_not : ℚ → List ℕ → List (List ℕ) × List ℕ → Result Opening BadText
+abbrev value_or_not : ℚ → List ℕ → List (List ℕ) × List ℕ → Result Beginning BadText
 value_or_not bound bytes m = if begins_with value_key m.0 then found_at bound m.0 m.1 else missing_at bound bytes
 
-abbrev bound_then : List ℕ → ℚ → Result Opening BadText
+abbrev bound_then : List ℕ → ℚ → Result Beginning BadText
 bound_then bytes bound = words_at 4 bytes >>= value_or_not bound bytes
 
 value_later : (bound : ℚ) (last : ℕ) (bytes : List ℕ) (m : List (List ℕ) × List ℕ) → last ≤ 4 → Reaches opened last (value_or_not bound bytes m)
@@ -273,7 +273,7 @@ open_later last bytes before =
     reaches_then (one_and 4) opened last (words_at 3 bytes) (λ l. fraction_of bound_key 3 l.0 >>= bound_then l.1) (words_later last 3 bytes before)
     (λ l here. tested_later opened last 3 (fraction_of bound_key 3 l.0) (bound_then l.1) (fraction_here bound_key 3 l.0) before (λ bound. bound_later bound last l.1 (omega arith)))
 
-abbrev none_at : List ℕ → Result Opening BadText
+abbrev none_at : List ℕ → Result Beginning BadText
 none_at bytes = Ok (NoTiming, None, 3, bytes)
 
 verdict_grows : (text : List ℕ) (last : ℕ) (bytes z : List ℕ) → 3 + lines_in bytes ≡ last → Grows opened last z (verdict_of text bytes) (verdict_of text (bytes ++ z))

@@ -124,10 +124,10 @@ nodes_at (suc steps) (suc others) line bytes = do
 -- ---- the claim
 
 -- a claim and its timing, the number of the line after them, and what follows
-abbrev pub Opening : Type 0
-Opening = Claim × Option Plan × ℕ × List ℕ
+abbrev pub Beginning : Type 0
+Beginning = Claim × Option Plan × ℕ × List ℕ
 
-unfoldable pub best_at : List ℕ → Result Opening BadText
+unfoldable pub best_at : List ℕ → Result Beginning BadText
 best_at bytes = do
   l ← words_at 3 bytes
   value ← fraction_of value_key 3 l.0
@@ -139,30 +139,30 @@ abbrev pub begins_with : List ℕ → List (List ℕ) → Bool
 begins_with key [] = false
 begins_with key (w ∷ ws) = is_text w key
 
-unfoldable pub found_at : ℚ → List (List ℕ) → List ℕ → Result Opening BadText
+unfoldable pub found_at : ℚ → List (List ℕ) → List ℕ → Result Beginning BadText
 found_at bound ws bytes = do
   value ← fraction_of value_key 4 ws
   timing ← plan_at 5 bytes
   Ok (Stopped bound (Some value), Some timing.0, 13, timing.1)
 
-unfoldable pub missing_at : ℚ → List ℕ → Result Opening BadText
+unfoldable pub missing_at : ℚ → List ℕ → Result Beginning BadText
 missing_at bound bytes = do
   rest ← fixed_at 4 no_timing_line bytes
   Ok (Stopped bound None, None, 5, rest)
 
-unfoldable pub open_at : List ℕ → Result Opening BadText
+unfoldable pub open_at : List ℕ → Result Beginning BadText
 open_at bytes = do
   l ← words_at 3 bytes
   bound ← fraction_of bound_key 3 l.0
   m ← words_at 4 l.1
   if begins_with value_key m.0 then found_at bound m.0 m.1 else missing_at bound l.1
 
-unfoldable pub verdict_of : List ℕ → List ℕ → Result Opening BadText
+unfoldable pub verdict_of : List ℕ → List ℕ → Result Beginning BadText
 verdict_of text bytes =
     if is_text text best_line then best_at bytes
     else (if is_text text none_line then Ok (NoTiming, None, 3, bytes) else (if is_text text open_line then open_at bytes else fault 2 Shape))
 
-unfoldable pub claim_at : List ℕ → Result Opening BadText
+unfoldable pub claim_at : List ℕ → Result Beginning BadText
 claim_at bytes = do
   l ← line_at 2 bytes
   verdict_of l.0 l.1

@@ -15,7 +15,7 @@ use time_space::Timing;
 
 /// A claim with its timing, the number of the line after them, and what follows.
 #[derive(Drop)]
-pub struct Opening<'a> {
+pub struct Beginning<'a> {
     pub claim: Claim,
     pub timing: Option<Timing>,
     pub line: u64,
@@ -24,14 +24,14 @@ pub struct Opening<'a> {
 
 /// What follows `verdict best`.
 #[tactic(auto, unfolding(crate::specs::CertificateReading::best_at))]
-fn best_at(alloc: Global, bytes: &[u8]) -> Result<Opening, TextEnd>
+fn best_at(alloc: Global, bytes: &[u8]) -> Result<Beginning, TextEnd>
     ensures exact { Gives (λ x. (x.claim, x.timing, x.line, x.rest.now)) result (best_at bytes.now) }
     ensures line { IfOk result (λ x. x.line ≤ 13) }
 {
     let (words, rest) = words_at(alloc, 3, bytes)?;
     let value = fraction_of(b"value", 3, words.as_slice())?;
     let (timing, rest) = plan_at(alloc, 4, rest)?;
-    Ok(Opening {
+    Ok(Beginning {
         claim: Claim::Best { value },
         timing: Some(timing),
         line: 12,
@@ -55,14 +55,14 @@ fn found_at<'a>(
     bound: Frac,
     words: &[&[u8]],
     bytes: &'a [u8],
-) -> Result<Opening<'a>, TextEnd>
+) -> Result<Beginning<'a>, TextEnd>
     ensures exact { Gives (λ x. (x.claim, x.timing, x.line, x.rest.now)) result (found_at bound (map (λ w. w.now) words.now) bytes.now) }
     ensures line { IfOk result (λ x. x.line ≤ 13) }
 {
     let value = fraction_of(b"value", 4, words)?;
     let (timing, rest) = plan_at(alloc, 5, bytes)?;
     let value = Some(value);
-    Ok(Opening {
+    Ok(Beginning {
         claim: Claim::Stopped { bound, value },
         timing: Some(timing),
         line: 13,
@@ -72,13 +72,13 @@ fn found_at<'a>(
 
 /// What follows the bound where none was found.
 #[tactic(auto, unfolding(crate::specs::CertificateReading::missing_at))]
-fn missing_at(bound: Frac, bytes: &[u8]) -> Result<Opening, TextEnd>
+fn missing_at(bound: Frac, bytes: &[u8]) -> Result<Beginning, TextEnd>
     ensures exact { Gives (λ x. (x.claim, x.timing, x.line, x.rest.now)) result (missing_at bound bytes.now) }
     ensures line { IfOk result (λ x. x.line ≤ 13) }
 {
     let rest = fixed_at(4, b"no timing", bytes)?;
     let value = None;
-    Ok(Opening {
+    Ok(Beginning {
         claim: Claim::Stopped { bound, value },
         timing: None,
         line: 5,
@@ -88,7 +88,7 @@ fn missing_at(bound: Frac, bytes: &[u8]) -> Result<Opening, TextEnd>
 
 /// What follows `verdict open`.
 #[tactic(auto, unfolding(crate::specs::CertificateReading::open_at))]
-fn open_at(alloc: Global, bytes: &[u8]) -> Result<Opening, TextEnd>
+fn open_at(alloc: Global, bytes: &[u8]) -> Result<Beginning, TextEnd>
     ensures exact { Gives (λ x. (x.claim, x.timing, x.line, x.rest.now)) result (open_at bytes.now) }
     ensures line { IfOk result (λ x. x.line ≤ 13) }
 {
@@ -104,14 +104,14 @@ fn open_at(alloc: Global, bytes: &[u8]) -> Result<Opening, TextEnd>
 
 /// What follows the verdict.
 #[tactic(auto, unfolding(crate::specs::CertificateReading::verdict_of))]
-fn verdict_of<'a>(alloc: Global, text: &[u8], bytes: &'a [u8]) -> Result<Opening<'a>, TextEnd>
+fn verdict_of<'a>(alloc: Global, text: &[u8], bytes: &'a [u8]) -> Result<Beginning<'a>, TextEnd>
     ensures exact { Gives (λ x. (x.claim, x.timing, x.line, x.rest.now)) result (verdict_of text.now bytes.now) }
     ensures line { IfOk result (λ x. x.line ≤ 13) }
 {
     if text == b"verdict best".as_slice() {
         best_at(alloc, bytes)
     } else if text == b"verdict none".as_slice() {
-        Ok(Opening {
+        Ok(Beginning {
             claim: Claim::NoTiming,
             timing: None,
             line: 3,
@@ -126,7 +126,7 @@ fn verdict_of<'a>(alloc: Global, text: &[u8], bytes: &'a [u8]) -> Result<Opening
 
 /// The claim and its timing, from the second line on.
 #[tactic(auto, unfolding(crate::specs::CertificateReading::claim_at))]
-pub fn claim_at(alloc: Global, bytes: &[u8]) -> Result<Opening, TextEnd>
+pub fn claim_at(alloc: Global, bytes: &[u8]) -> Result<Beginning, TextEnd>
     ensures exact { Gives (λ x. (x.claim, x.timing, x.line, x.rest.now)) result (claim_at bytes.now) }
     ensures line { IfOk result (λ x. x.line ≤ 13) }
 {

@@ -1,7 +1,7 @@
 use Rattle.std.proofs.Common.{refl, sym, subst}
 use Rattle.branch_and_bound.specs.Lines.{top_line}
-use Rattle.branch_and_bound.specs.Opening.{Opens}
-use Rattle.branch_and_bound.specs.State.{Holds}
+use Rattle.branch_and_bound.specs.OpenedNodes.{Opens}
+use Rattle.branch_and_bound.specs.State.{IsSearchState}
 use Rattle.work_meter.specs.declared.meter.Meter.{Meter}
 use Rattle.branch_and_bound.proofs.Rooting.{root_holds, root_stuck, root_left}
 use Rattle.branch_and_bound.proofs.best_first.search.Goals as goal
@@ -13,7 +13,7 @@ run-requires-clause-holds g c =
     let opens = subst (λ a. Opens r (top_line a) before c.open_root.new.meter c.in_ok-opened.opened) c.in_ok-area.ensures c.in_ok-opened.ensures.opens in
     let s = c.in-Done.ensures (top_line r.root) before c.open_root.new.meter c.in_ok-area.ensures opens in
     let h = root_holds r c.settle.new.incumbent before c.open_root.new.meter c.in-Done.node c.requires.sound refl s.0 s.1 in
-    (r.bound (top_line r.root), subst (λ ns. Holds r ns c.settle.new.incumbent (r.bound (top_line r.root)) c.open_root.new.meter.spent) (sym c.in_ok-nodes-in-Done.ensures) h)
+    (r.bound (top_line r.root), subst (λ ns. IsSearchState r ns c.settle.new.incumbent (r.bound (top_line r.root)) c.open_root.new.meter.spent) (sym c.in_ok-nodes-in-Done.ensures) h)
 
 pub returns-in_ok-tree-in-Stuck : goal.returns-in_ok-tree-in-Stuck
 returns-in_ok-tree-in-Stuck g c =

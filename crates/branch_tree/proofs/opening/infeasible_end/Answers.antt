@@ -3,7 +3,7 @@ use Rattle.branch_and_bound.specs.Lines.{top_line}
 use Rattle.loop_rows.specs.Weights.{leaf_fault}
 use Rattle.branch_tree.specs.Ends.{end_leaf}
 use Rattle.branch_tree.proofs.Runs.{wide_sum_infeasible}
-use Rattle.branch_tree.specs.Opening.{IsSummed}
+use Rattle.branch_tree.specs.BoxRuns.{IsSummed}
 use Rattle.branch_tree.proofs.Openings.{opens_empty}
 use Rattle.branch_tree.proofs.Leaving.{ends_unproved}
 use Rattle.branch_tree.proofs.Reading.{row_said, refuter_read, refuter_rows}

@@ -5,7 +5,7 @@ use Rattle.branch_tree.specs.Ends.{end_leaf}
 use Rattle.branch_tree.specs.laws.EndLaws.{optimal_end}
 use Rattle.branch_tree.specs.LeafRows.{sum_of}
 use Rattle.branch_tree.proofs.Runs.{wide_sum_optimal}
-use Rattle.branch_tree.specs.Opening.{IsSummed}
+use Rattle.branch_tree.specs.BoxRuns.{IsSummed}
 use Rattle.branch_tree.proofs.Leaving.{ends_unproved}
 use Rattle.branch_tree.proofs.Reading.{leaf_read, leaf_rows}
 use Rattle.branch_tree.proofs.opening.optimal_end.Goals as goal

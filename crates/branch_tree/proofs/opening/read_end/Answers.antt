@@ -4,7 +4,7 @@ use Rattle.offset_recovery.specs.Recovered.{recovered}
 use Rattle.offset_recovery.specs.Answers.{IsOutcome}
 use Rattle.branch_tree.specs.Ends.{end_point}
 use Rattle.branch_tree.proofs.Openings.{opens_timed, opens_cut, opens_stuck}
-use Rattle.branch_tree.specs.Opening.{IsReadEnd}
+use Rattle.branch_tree.specs.BoxRuns.{IsReadEnd}
 use Rattle.branch_tree.proofs.Reading.{point_read, vertex_there}
 use Rattle.branch_tree.proofs.opening.read_end.Goals as goal
 

@@ -19,7 +19,7 @@ use Rattle.branch_and_bound.specs.declared.opened.Opened.{Opened}
 use Rattle.branch_and_bound.specs.declared.opened.Opened.TheVariants as opened
 use Rattle.work_meter.specs.Work.{capped, IsSpent}
 use Rattle.branch_and_bound.specs.Unfinished.{IsUnfinished}
-use Rattle.branch_and_bound.specs.Opening.{OpensEmpty, OpensTimed, OpensCut, OpensStuck, Leaves}
+use Rattle.branch_and_bound.specs.OpenedNodes.{OpensEmpty, OpensTimed, OpensCut, OpensStuck, Leaves}
 use Rattle.branch_tree.specs.declared.site.SitePart.{SitePart}
 use Rattle.branch_tree.specs.declared.kept.Kept.{Kept}
 use Rattle.branch_tree.specs.declared.relaxed.Room.{Room}
@@ -76,15 +76,15 @@ IsSummed a box ws (summed.Bound bound) = (leaf_fault a box ws ≡ None) × (boun
 IsSummed a box ws (summed.Wide row at) = leaf_fault a box ws ≡ Some (fault.Wide row at)
 
 -- ---- what is answered
-abbrev pub Opening : Type 0
-Opening = Opened Plan Kept SitePart
+abbrev pub OpenedBox : Type 0
+OpenedBox = Opened Plan Kept SitePart
 
 -- a refused operation of the end's leaf; one of the vertex alone isn't told in this way
 abbrev pub IsWideEnd : Street → Area → ℕ → ℕ → SitePart → Type 0
 IsWideEnd a box pivots told part = IsLeft a box (steps_of a box) × IsWide a box (steps_of a box) part × (told ≡ pivots)
 
 -- at a last vertex
-abbrev pub IsReadEnd : Street → Area → ℕ → Opening → Type 0
+abbrev pub IsReadEnd : Street → Area → ℕ → OpenedBox → Type 0
 IsReadEnd a box pivots (opened.Infeasible leaf) = ⊥
 IsReadEnd a box pivots (opened.Timed leaf bound timing) = OpensTimed (rules_of a) (top_line box) leaf bound timing
 IsReadEnd a box pivots (opened.Splits leaf bound place point kept) = OpensCut (rules_of a) (top_line box) leaf bound place point kept
@@ -93,7 +93,7 @@ IsReadEnd a box pivots opened.WorkOut = ⊥
 IsReadEnd a box pivots (opened.Wide told part) = IsWideEnd a box pivots told part
 
 -- where the box is empty
-abbrev pub IsEmptyEnd : Street → Area → ℕ → Opening → Type 0
+abbrev pub IsEmptyEnd : Street → Area → ℕ → OpenedBox → Type 0
 IsEmptyEnd a box pivots (opened.Infeasible leaf) = OpensEmpty (rules_of a) (top_line box) leaf
 IsEmptyEnd a box pivots (opened.Timed leaf bound timing) = ⊥
 IsEmptyEnd a box pivots (opened.Splits leaf bound place point kept) = ⊥
@@ -102,6 +102,6 @@ IsEmptyEnd a box pivots opened.WorkOut = ⊥
 IsEmptyEnd a box pivots (opened.Wide told part) = IsWideEnd a box pivots told part
 
 -- where a step's operation was refused
-abbrev pub IsWideStep : Street → Area → ℕ → ℕ → Opening → Type 0
+abbrev pub IsWideStep : Street → Area → ℕ → ℕ → OpenedBox → Type 0
 IsWideStep a box k pivots (opened.Wide told part) = IsLeft a box k × IsWide a box k part × (told ≡ pivots)
 IsWideStep a box k pivots _ = ⊥
