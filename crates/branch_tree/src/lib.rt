@@ -9,10 +9,10 @@
 //!   (`end_leaf`), vertex (`end_point`) and bound (`end_bound`), and how the box is searched on (`ending_of`).
 //! - `specs/Sites.antt`: where a run may stop, as a pivot that is due or as the first operation that leaves 128 bits; a
 //!   `SitePart` names it. `specs/Starts.antt`: the leaf that bounds the root before any step.
-//! - `specs/Relaxed.antt`: `rules_of`, an artery as a relaxation for `branch_and_bound`. `specs/Trees.antt`: its trees are those
+//! - `specs/ArteryRules.antt`: `rules_of`, an artery as a relaxation for `branch_and_bound`, over the words of `specs/Relaxed.antt`. `specs/Trees.antt`: its trees are those
 //!   that `certificate_checker` accepts.
 //! - What is promised of boxes stands in `specs/Promises.antt`, and `law_boxes_end` keeps it. `specs/BoxRuns.antt` has what the
-//!   steps of one box come to. The files of `specs/RuleLaws` are lemmas alone, which `rules_of` carries.
+//!   steps of one box come to. The files of `specs/laws` are lemmas alone, which `rules_of` carries.
 #![tactic(auto)]
 
 mod certifying;

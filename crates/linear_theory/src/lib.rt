@@ -17,7 +17,7 @@
 //! - `Covering`: `CoversGoal a value r`, `RefutesAll a r`. `Trees`: `Tree`, `leaf_sum`, `Accepted P a box tree`.
 //! - `Promises`: `NothingIsLost`. `Worked`: boxes worked by hand, which `law_worked_boxes` decides.
 //!
-//! Lemmas, by what one asks:
+//! Lemmas, by what one asks, in `proofs/`:
 //!
 //! - When is a band green? `Remainders` and `Fits` of `progression`, and `Windows`: `window_after` and `window_before`,
 //!   from green to `wait + band ≤ cycle - red` and back.

@@ -9,7 +9,7 @@
 //! `#![tactic(auto, using(rational_theory::proofs::Compare::ne_false, rational_theory::proofs::Compare::eq_true, rational_theory::proofs::Compare::lt_true, rational_theory::proofs::Compare::lt_false, rational_theory::proofs::Compare::le_true, rational_theory::proofs::Compare::le_false))]`
 //!
 //! and then `a < b`, `a <= b` and `a == b` are `<ℚ`, `≤ℚ` and `≡` to the goals after the test. From the clause of
-//! `Frac::new`, `specs/Made.antt` has `made`: a quotient that fits is answered.
+//! `Frac::new`, `proofs/Made.antt` has `made`: a quotient that fits is answered.
 #![tactic(auto)]
 
 mod compare;

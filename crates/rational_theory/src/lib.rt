@@ -3,11 +3,12 @@
 //! A number is a `ℚ`: a numerator `x.num : ℤ` and a denominator `x.den : ℕ` above 0 with no common divisor, so that `≡` is
 //! equality of rational numbers and each law is a plain equation for `rw`, `simp`, `cc` and `search`. The operations
 //! are opaque: work with the laws, and name an operation on an `unfolding` line only where its two numbers are meant.
-//! Begin with `specs/Rational.antt`. Import each by its file, as `use Rattle.rational_theory.specs.Laws.{*ℚ-+ℚ}`.
+//! Begin with `specs/Rational.antt`. Definitions stand in `specs/`, laws in the file of the same name in `proofs/`, but for those few
+//! that the definitions need, in `specs/laws/`. Import each by its file, as `use Rattle.rational_theory.proofs.Arithmetic.{*ℚ-+ℚ}`.
 //!
 //! - `Rational`: `ℚ`, `whole z`, `over z d` (lowest terms; `quotient n d` for two signs), `◌+ℚ◌`, `◌-ℚ◌`, `◌*ℚ◌`, `◌/ℚ◌`,
 //!   `neg_ℚ`, `inverse_ℚ`, `abs_ℚ`, `◌≤ℚ◌`, `◌<ℚ◌`. As over the naturals, `a +ℚ b *ℚ c ≤ℚ d` needs no parentheses.
-//! - `Laws`: equality and the ring laws. `same_cross x y e` is `x ≡ y` from equal cross products; `rw (+ℚ_comm x y) p`;
+//! - `Arithmetic`: equality and the ring laws. `same_cross x y e` is `x ≡ y` from equal cross products; `rw (+ℚ_comm x y) p`;
 //!   a law of one's own by `IsRatio` (a number in any terms): `same_ratio _ _ _ _ _ _ _ _ (sum_ratio ..) (own_ratio x) (omega arith)`.
 //! - `Order`: `≤ℚ_trans x y z h k`, `≤ℚ-+ℚ x y z h` (`x +ℚ z ≤ℚ y +ℚ z`), `not-≤ℚ`, `*ℚ_cancel x y z n e` (by a `z` that is not 0),
 //!   whole numbers (`whole-+ℤ a b`, `≤ℤ_whole a b h`), cross products (`(over_≤ℚ a b d e h k).1 cross`), `num_not_zero x n`.

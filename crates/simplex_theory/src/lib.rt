@@ -14,9 +14,9 @@
 //! - `BlandRule`: `chosen_row`, `chosen_place`, `move t` (`optimal`, `infeasible r`, `pivoted r j`), `next t`. `StepCounts`: `after t k`,
 //!   `steps_to_end t`, `is_pivot`. `Paths`: `HaveSameBasics`.
 //! - `Vertices`: `vertex t`. `Multipliers`: `System` (named rows and a goal), `StandsFor t s`, `goal_weight t v`, `row_weight t i v`.
-//!   `RowLists`: the same for lists of `rational_theory`'s rows, `StandsForRows t rows goal`, and `vertex_point t`. `Loaded`: `IsLoaded`.
+//!   `RowLists`: the same for lists of `rational_theory`'s rows, `StandsForRows t rows goal`, and `vertex_point t`.
 //!
-//! Lemmas, by what one asks:
+//! Lemmas, by what one asks, each in the file of `proofs/` that has the name of its definition's:
 //!
 //! - What is where after an exchange? `Tableau`: `line-exchange_same`, `line-exchange_other`, `basic_same` and so on; `Lines`: the cells.
 //! - What does an exchange keep? `meets-exchange`, `goal-exchange_same`; `dual-exchange` (`DualSteps`); `stands-exchange` (`Multipliers`),
