@@ -1,6 +1,5 @@
 -- The numbers of the rows, each as one fraction.
 use Rattle.std.proofs.Common.{ℕ, ℤ, pos, ◌-ℤ◌, ◌+◌}
-use borrow.Author.Differences.{up, down}
 use Rattle.progression.specs.Street.{Street, signal_of, clearance}
 use Rattle.progression.specs.declared.parts.Dir.TheVariants.{Outbound, Inbound}
 

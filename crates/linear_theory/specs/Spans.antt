@@ -1,6 +1,5 @@
 -- The root's span of a link by one integer division at each end.
 use Rattle.std.proofs.Common.{ℕ, ℤ, pos, ◌-ℤ◌, ◌+◌, ◌-◌, ◌*◌}
-use borrow.Author.Differences.{up, down}
 use Rattle.progression.specs.Street.{Street, signal_of, red_parts, clearance}
 use Rattle.progression.specs.declared.parts.Dir.TheVariants.{Outbound, Inbound}
 use Rattle.linear_theory.specs.Shifts.{shift_at, shift_count}

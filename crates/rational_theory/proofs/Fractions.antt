@@ -4,7 +4,7 @@ use Rattle.std.specs.Int.{IsGcd}
 use Rattle.std.specs.Prelude.{int_div}
 use Rattle.std.proofs.lemmas.Nat.Gcd.{same_from_IsGcd, IsGcd-from_mod, IsGcd-from_zero, IsGcd-swap}
 use Prim.Native.Nat.{◌∣◌}
-use native.Mathlib.Nat.{mul-div_cancel', dvd-mul_left, dvd_of_mul-dvd-mul_left, mul-dvd-mul_left, eq-one_of_dvd-one, pos_of_dvd_of_pos, one-dvd, dvd_refl}
+use native.Mathlib.Nat.{dvd-mul_left, pos_of_dvd_of_pos, one-dvd, dvd_refl}
 use Rattle.rational_theory.specs.Gcd.{gcd}
 use Rattle.rational_theory.specs.laws.Coprime.{gcd-IsGcd}
 use Rattle.rational_theory.proofs.Integers.{neg_ℤ-*ℤ}

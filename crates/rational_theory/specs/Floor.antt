@@ -1,7 +1,6 @@
 -- The whole numbers next to a rational number.
 use Rattle.std.proofs.Common.{ℤ, pos, neg_ℤ}
 use Rattle.std.specs.Int.{int_div_euclid}
-use borrow.Author.Differences.{up, down}
 use Rattle.rational_theory.specs.Rational.{ℚ, neg_ℚ}
 
 unfoldable pub floor_ℚ : ℚ → ℤ

@@ -2,7 +2,7 @@
 use Rattle.std.proofs.Common.{◌≡◌, ℕ, zero, suc, pos, List, [], ◌∷◌, length, get_or, ◌<◌, ◌≤◌}
 use Rattle.rational_theory.specs.Rational.{ℚ, whole}
 use Rattle.rational_theory.specs.Rows.{Row, dot, AllMet, AllNonNegative}
-use Rattle.simplex_theory.specs.Tableau.{Tableau, height, width, bound, goal_bound}
+use Rattle.simplex_theory.specs.Tableau.{Tableau, height, width, goal_bound}
 use Rattle.simplex_theory.specs.Vertices.{vertex}
 use Rattle.simplex_theory.specs.Multipliers.{System, StandsFor}
 

@@ -2,8 +2,6 @@
 use Rattle.std.proofs.Common.{ℕ, zero, suc, ◌%◌, ◌≤◌, refl, arith, mod-lt, zero-lt-suc}
 use Rattle.std.specs.Int.{IsGcd}
 use Rattle.std.proofs.lemmas.Nat.Gcd.{IsGcd-from_zero, IsGcd-from_mod}
-use Prim.Native.Nat.{◌∣◌}
-use native.Mathlib.Nat.{dvd-add_iff_right, dvd-mul_right, dvd-mul_left_of_dvd}
 use Rattle.rational_theory.specs.Gcd.{gcd, gcd_steps}
 
 -- Euclid's steps find the greatest common divisor
