@@ -1,5 +1,0 @@
-use Rattle.maxband.proofs.SolveOnce.{complete}
-use Rattle.maxband.proofs.top.law_solve_is_complete.Goals as goal
-
-pub returns : goal.returns
-returns c = complete c.law_one_answer.ensures

@@ -1,0 +1,66 @@
+-- The numbers of each form are in their limits.
+use Rattle.std.proofs.Common.{◌≡◌, ℕ, ◌-◌, ◌^◌, ◌≤◌, Bool, true, false, List, [], ◌∷◌, Option, Some, None, codes, refl, arith}
+use Rattle.std.specs.Prelude.{option_map, option_and_then, if◌then◌else◌}
+use Rattle.std.specs.Str.{bytes_eq}
+use Rattle.maxband_run.specs.Numbers.{usual_work, signals_of, seed_of, work_of}
+use Rattle.maxband_run.specs.Command.{Form, Hold, Show, Check, Solve, Make, Trial, make_of, trial_of, with_two, with_three, command_of}
+use Rattle.maxband_run.proofs.Spelled.{in_limits}
+
+-- a search has work to spend, and 2 to 16 signals are made
+abbrev pub InLimits : Option Form → Type 0
+InLimits None = Unit {0}
+InLimits (Some (Hold artery timing)) = Unit {0}
+InLimits (Some (Show artery)) = Unit {0}
+InLimits (Some (Check artery certificate)) = Unit {0}
+InLimits (Some (Solve artery certificate work)) = 1 ≤ work
+InLimits (Some (Make signals seed)) = (2 ≤ signals) × (signals ≤ 16)
+InLimits (Some (Trial signals seed work)) = ((2 ≤ signals) × (signals ≤ 16)) × (1 ≤ work)
+
+either : (b : Bool) (x y : Option Form) → InLimits x → InLimits y → InLimits (if b then x else y)
+either true x y h k = h
+either false x y h k = k
+
+-- ---- each command
+some_work : (w : List ℕ) (n : ℕ) → work_of w ≡ Some n → 1 ≤ n
+some_work w n e = (in_limits 1 (2 ^ 64 - 1) w n e).0
+
+usual : 1 ≤ usual_work
+usual = omega arith
+
+solve_limits : (artery certificate : List ℕ) (o : Option ℕ) → ((n : ℕ) → o ≡ Some n → 1 ≤ n) → InLimits (option_map (Solve artery certificate) o)
+solve_limits artery certificate None h = tt
+solve_limits artery certificate (Some n) h = h n refl
+
+make_limits : (o s : Option ℕ) → ((n : ℕ) → o ≡ Some n → (2 ≤ n) × (n ≤ 16)) → InLimits (option_and_then (λ n. option_map (Make n) s) o)
+make_limits None s h = tt
+make_limits (Some n) None h = tt
+make_limits (Some n) (Some seed) h = h n refl
+
+trial_limits : (o s w : Option ℕ) → ((n : ℕ) → o ≡ Some n → (2 ≤ n) × (n ≤ 16)) → ((n : ℕ) → w ≡ Some n → 1 ≤ n)
+    → InLimits (option_and_then (λ n. option_and_then (λ seed. option_map (Trial n seed) w) s) o)
+trial_limits None s w h k = tt
+trial_limits (Some n) None w h k = tt
+trial_limits (Some n) (Some seed) None h k = tt
+trial_limits (Some n) (Some seed) (Some work) h k = (h n refl, k work refl)
+
+-- ---- the words
+two_limits : (word first second : List ℕ) → InLimits (with_two word first second)
+two_limits word first second =
+    either (bytes_eq word (codes "hold")) (Some (Hold first second)) _ tt
+    (either (bytes_eq word (codes "check")) (Some (Check first second)) _ tt
+    (either (bytes_eq word (codes "solve")) (Some (Solve first second usual_work)) _ usual
+    (either (bytes_eq word (codes "make")) (make_of first second) None (make_limits (signals_of first) (seed_of second) (in_limits 2 16 first)) tt)))
+
+three_limits : (word first second third : List ℕ) → InLimits (with_three word first second third)
+three_limits word first second third =
+    either (bytes_eq word (codes "solve")) (option_map (Solve first second) (work_of third)) _ (solve_limits first second (work_of third) (some_work third))
+    (either (bytes_eq word (codes "trial")) (trial_of first second third) None
+    (trial_limits (signals_of first) (seed_of second) (work_of third) (in_limits 2 16 first) (some_work third)) tt)
+
+pub command_limits : (words : List (List ℕ)) → InLimits (command_of words)
+command_limits [] = tt
+command_limits (word ∷ []) = tt
+command_limits (word ∷ first ∷ []) = either (bytes_eq word (codes "show")) (Some (Show first)) None tt tt
+command_limits (word ∷ first ∷ second ∷ []) = two_limits word first second
+command_limits (word ∷ first ∷ second ∷ third ∷ []) = three_limits word first second third
+command_limits (word ∷ first ∷ second ∷ third ∷ more ∷ rest) = tt

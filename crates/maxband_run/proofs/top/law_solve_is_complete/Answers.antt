@@ -1,0 +1,5 @@
+use Rattle.maxband_run.proofs.SolveOnce.{complete}
+use Rattle.maxband_run.proofs.top.law_solve_is_complete.Goals as goal
+
+pub returns : goal.returns
+returns c = complete c.law_one_answer.ensures

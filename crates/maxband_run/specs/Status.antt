@@ -1,0 +1,18 @@
+-- The number of each cause.
+use Rattle.std.specs.Prelude.{ℕ}
+use Rattle.maxband_run.specs.declared.cause.Cause.{Cause}
+use Rattle.maxband_run.specs.declared.cause.Cause.TheVariants as cause
+
+abbrev pub number_of : Cause → ℕ
+number_of cause.Done = 0
+number_of cause.NoTiming = 1
+number_of (cause.Stopped stop) = 2
+number_of (cause.Refused r) = 3
+number_of (cause.BadText b) = 3
+number_of (cause.Fails f) = 4
+number_of (cause.Rejected r) = 4
+number_of cause.Words = 5
+number_of (cause.ReadFault file) = 6
+number_of cause.WriteFault = 7
+number_of cause.Memory = 8
+number_of (cause.TooLong file) = 9

@@ -1,0 +1,86 @@
+//! How a run ends.
+
+ghost use Rattle.std.specs.Prelude.{◌≡◌, ◌↔◌, IsTrue};
+ghost use Rattle.maxband_run.specs.Status.{number_of};
+
+use artery_model::Refusal;
+use branch_tree::Stop;
+use certificate_checker::Reject;
+use plan_text::BadText;
+use time_space::Failing;
+
+/// Why a run ends with its status. `file` is 1 or 2: the first or the second file that the command
+/// reads.
+#[derive(Debug, Drop)]
+pub enum Cause {
+    /// The work was done. For `solve` and `trial`: the timing that was found is a best one.
+    Done,
+    /// There is no good timing, on any grid.
+    NoTiming,
+    /// The search stopped, by work or because a number left 128 bits: no weighted band is above the bound that was found.
+    Stopped(Stop),
+    /// The first file doesn't describe an artery: what is wrong first, and where.
+    Refused(Refusal),
+    /// The second file isn't the text of a timing or certificate: its first bad line.
+    BadText(BadText),
+    /// The timing breaks a rule: the first that it breaks.
+    Fails(Failing),
+    /// The certificate is refused: the first refusal, which is never want of memory.
+    Rejected(Reject),
+    /// The words are none of the forms.
+    Words,
+    /// A read of this file failed, and was counted.
+    ReadFault { file: u8 },
+    /// The put of the certificate or a write failed, and was counted.
+    WriteFault,
+    /// Memory was wanting.
+    Memory,
+    /// This file has more bytes than its limit.
+    TooLong { file: u8 },
+}
+
+/// How a run ends: a number for the system, and the cause.
+#[derive(Debug, Drop)]
+pub struct Status {
+    pub number: u8,
+    pub cause: Cause,
+}
+
+impl Cause {
+    /// The number of the status with this cause.
+    pub fn number(&self) -> u8
+        ensures { result ≡ number_of self.now }
+    {
+        match self {
+            Cause::Done => 0,
+            Cause::NoTiming => 1,
+            Cause::Stopped(_) => 2,
+            Cause::Refused(_) | Cause::BadText(_) => 3,
+            Cause::Fails(_) | Cause::Rejected(_) => 4,
+            Cause::Words => 5,
+            Cause::ReadFault { .. } => 6,
+            Cause::WriteFault => 7,
+            Cause::Memory => 8,
+            Cause::TooLong { .. } => 9,
+        }
+    }
+    /// Whether memory was wanting.
+    pub fn is_memory(&self) -> bool
+        ensures { IsTrue result ↔ self.now ≡ Cause.Memory }
+    {
+        match self {
+            Cause::Memory => true,
+            Cause::Done
+            | Cause::NoTiming
+            | Cause::Stopped(_)
+            | Cause::Refused(_)
+            | Cause::BadText(_)
+            | Cause::Fails(_)
+            | Cause::Rejected(_)
+            | Cause::Words
+            | Cause::ReadFault { .. }
+            | Cause::WriteFault
+            | Cause::TooLong { .. } => false,
+        }
+    }
+}

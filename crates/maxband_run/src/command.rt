@@ -1,0 +1,134 @@
+//! The words of a command.
+
+ghost use Rattle.std.specs.Prelude.{◌≡◌, map, option_map, string_bytes};
+ghost use Rattle.maxband_run.specs.Command.{command_of, make_of, trial_of, with_two, with_three, view};
+
+use crate::numbers::{USUAL_WORK, seed_in, signals_in, work_in};
+
+/// What the words ask for.
+#[derive(Clone, Copy)]
+pub enum Command<'a> {
+    /// Test the timing of the second file on the artery of the first.
+    Hold {
+        artery: &'a str,
+        timing: &'a str,
+    },
+    /// Write the canonical description of the artery of the file.
+    Show {
+        artery: &'a str,
+    },
+    /// Check the certificate of the second file for the artery of the first.
+    Check {
+        artery: &'a str,
+        certificate: &'a str,
+    },
+    /// Search for a best timing of the artery of the first file with so many units of work, and put the certificate in the
+    /// second.
+    Solve {
+        artery: &'a str,
+        certificate: &'a str,
+        work: u64,
+    },
+    /// Write the canonical description of the artery that is made with so many signals from the seed.
+    Make {
+        signals: u32,
+        seed: u64,
+    },
+    /// Make that artery, search for a best timing of it with so many units of work, and check the certificate.
+    Trial {
+        signals: u32,
+        seed: u64,
+        work: u64,
+    },
+}
+
+/// The command `make` with these words.
+fn make_of(signals: &str, seed: &str) -> Option<Command<'static>>
+    ensures { option_map view result ≡ make_of signals.now seed.now }
+{
+    let signals = signals_in(signals)?;
+    let seed = seed_in(seed)?;
+    Some(Command::Make { signals, seed })
+}
+
+/// The command `trial` with these words.
+fn trial_of(signals: &str, seed: &str, work: &str) -> Option<Command<'static>>
+    ensures { option_map view result ≡ trial_of signals.now seed.now work.now }
+{
+    let signals = signals_in(signals)?;
+    let seed = seed_in(seed)?;
+    let work = work_in(work)?;
+    Some(Command::Trial {
+        signals,
+        seed,
+        work,
+    })
+}
+
+/// The command of a word with two more.
+fn with_two<'a>(word: &str, first: &'a str, second: &'a str) -> Option<Command<'a>>
+    ensures { option_map view result ≡ with_two word.now first.now second.now }
+{
+    if word == "hold" {
+        Some(Command::Hold {
+            artery: first,
+            timing: second,
+        })
+    } else if word == "check" {
+        Some(Command::Check {
+            artery: first,
+            certificate: second,
+        })
+    } else if word == "solve" {
+        Some(Command::Solve {
+            artery: first,
+            certificate: second,
+            work: USUAL_WORK,
+        })
+    } else if word == "make" {
+        make_of(first, second)
+    } else {
+        None
+    }
+}
+
+/// The command of a word with three more.
+fn with_three<'a>(word: &str, first: &'a str, second: &'a str, third: &str) -> Option<Command<'a>>
+    ensures { option_map view result ≡ with_three word.now first.now second.now third.now }
+{
+    if word == "solve" {
+        let work = work_in(third)?;
+        Some(Command::Solve {
+            artery: first,
+            certificate: second,
+            work,
+        })
+    } else if word == "trial" {
+        trial_of(first, second, third)
+    } else {
+        None
+    }
+}
+
+/// The command of these words, where they are one of the forms.
+pub fn command_in(words: &[String]) -> Option<Command<'_>>
+    ensures { option_map view result ≡ command_of (map string_bytes words.now) }
+{
+    match words {
+        [word, artery] => if word.as_str() == "show" {
+            Some(Command::Show {
+                artery: artery.as_str(),
+            })
+        } else {
+            None
+        },
+        [word, first, second] => with_two(word.as_str(), first.as_str(), second.as_str()),
+        [word, first, second, third] => with_three(
+            word.as_str(),
+            first.as_str(),
+            second.as_str(),
+            third.as_str(),
+        ),
+        _ => None,
+    }
+}

@@ -1,0 +1,60 @@
+//! The end of every run: a text is put, and the lines go out.
+
+ghost use Rattle.std.specs.Prelude.{◌≡◌, ◌≤◌, IsErrOf, IsNone, OnOk, option_map};
+ghost use Rattle.outer_edge.specs.Counts.{SameCounts};
+ghost use Rattle.maxband_run.specs.Outside.{outside, text_of, IsDone, IsUntouched, IsBroken, OthersKept, PutsCounted};
+
+use outer_edge::{Failed, FileEnd, Files, Sink, write_whole};
+
+/// A text that is to be put into the file of this name.
+#[derive(Drop)]
+pub struct Put<'a> {
+    pub name: &'a str,
+    pub bytes: Vec<u8>,
+}
+
+/// Why an answer isn't delivered.
+#[derive(Clone, Copy, Debug, PartialEq, Eq)]
+pub enum Undelivered {
+    /// The put or a write failed, and was counted.
+    Broken,
+    /// Memory was wanting: no file changed, and nothing was written.
+    Memory,
+}
+
+/// Puts the text where there is one, and then writes the whole of the lines, for which room is made before the put.
+///
+/// After a put that failed nothing was written, and its file may hold anything. After a write that failed the text was put,
+/// and a front of the lines went out.
+pub fn deliver<F: Files, K: Sink>(
+    files: &mut F,
+    out: &mut K,
+    put: &Option<Put<'_>>,
+    lines: &[u8],
+) -> Result<(), Undelivered>
+    ensures done { OnOk result (IsDone (outside (F.holds files.old) (F.read_faults files.old) (F.put_faults files.old) (K.taken out.old) (K.faults out.old)) (outside (F.holds files.new) (F.read_faults files.new) (F.put_faults files.new) (K.taken out.new) (K.faults out.new)) lines.now (option_map text_of put.now)) }
+    ensures untouched { IsErrOf result Undelivered.Memory → IsUntouched (outside (F.holds files.old) (F.read_faults files.old) (F.put_faults files.old) (K.taken out.old) (K.faults out.old)) (outside (F.holds files.new) (F.read_faults files.new) (F.put_faults files.new) (K.taken out.new) (K.faults out.new)) }
+    ensures broken { IsErrOf result Undelivered.Broken → IsBroken (outside (F.holds files.old) (F.read_faults files.old) (F.put_faults files.old) (K.taken out.old) (K.faults out.old)) (outside (F.holds files.new) (F.read_faults files.new) (F.put_faults files.new) (K.taken out.new) (K.faults out.new)) lines.now (option_map text_of put.now) }
+
+    // In every case.
+    ensures others { OthersKept (option_map text_of put.now) (F.holds files.old) (F.holds files.new) }
+    ensures reads { SameCounts (F.read_faults files.old) (F.read_faults files.new) }
+    ensures puts { PutsCounted (option_map text_of put.now) (F.put_faults files.old) (F.put_faults files.new) }
+    ensures writes { K.faults out.old ≤ K.faults out.new }
+    ensures alone { IsNone put.now → files.new ≡ files.old }
+{
+    if out.reserve(lines.len() as u64).is_err() {
+        return Err(Undelivered::Memory);
+    }
+    if let Some(put) = put {
+        match files.put(put.name, put.bytes.as_slice()) {
+            Ok(()) => {}
+            Err(FileEnd::Failed) => return Err(Undelivered::Broken),
+            Err(FileEnd::Memory) => return Err(Undelivered::Memory),
+        }
+    }
+    match write_whole(out, lines) {
+        Ok(()) => Ok(()),
+        Err(Failed) => Err(Undelivered::Broken),
+    }
+}

@@ -1,0 +1,30 @@
+//! The run of the program `maxband`: it finds best timings of the signals of one artery (`solve`), with certificates of what
+//! is claimed of all its good timings (`check`), tests timings against its time-space diagram (`hold`), writes the canonical
+//! description of an artery (`show`), and makes arteries from a seed, to be described (`make`) or searched (`trial`).
+//!
+//! Start with `run`, which is the program over any files and any output. Its contract is the program's theorem: each status
+//! has its cause, and the output grows by exactly that answer's lines.
+#![tactic(auto)]
+
+mod answers;
+mod cause;
+mod check;
+mod check_lines;
+mod command;
+mod finish;
+mod hold;
+mod inputs;
+mod lines;
+mod make;
+mod numbers;
+mod searching;
+mod show;
+mod solve;
+mod top;
+mod trial;
+
+pub use cause::{Cause, Status};
+pub use top::{
+    law_make_is_complete, law_one_answer, law_put_is_accepted, law_solve_is_complete,
+    law_trial_is_complete, run,
+};

@@ -1,0 +1,95 @@
+//! The command `trial`.
+
+ghost use Rattle.std.specs.Prelude.{◌≡◌, ◌≤◌, IfOk, string_bytes};
+ghost use Rattle.maxband_run.specs.Trial.{best_lines, bound_lines, between_lines, open_lines, claim_lines, trial_lines, IsTrial};
+
+use crate::cause::Cause;
+use crate::searching::{cause_of, search_and_check};
+use narrow_fraction::{Frac, Memory};
+use plan_text::Claim;
+use quantity_text::exact_string;
+use std::alloc::{AllocError, Global};
+use workload_maker::make_artery;
+
+/// What a search of a made artery comes to: its cause and its lines.
+#[derive(Drop)]
+pub struct Tried {
+    pub cause: Cause,
+    pub lines: Vec<u8>,
+}
+
+fn best_lines(alloc: Global, value: Frac) -> Result<String, AllocError>
+    ensures { IfOk result (λ text. string_bytes text ≡ best_lines value) }
+{
+    let value = exact_string(alloc, value)?;
+    format!(in alloc; "verdict best\nweighted {value}\n")
+}
+
+fn bound_lines(alloc: Global, bound: Frac) -> Result<String, AllocError>
+    ensures { IfOk result (λ text. string_bytes text ≡ bound_lines bound) }
+{
+    let bound = exact_string(alloc, bound)?;
+    format!(in alloc; "verdict open\nbound {bound}\n")
+}
+
+fn between_lines(alloc: Global, bound: Frac, value: Frac) -> Result<String, AllocError>
+    ensures { IfOk result (λ text. string_bytes text ≡ between_lines bound value) }
+{
+    let bound = exact_string(alloc, bound)?;
+    let value = exact_string(alloc, value)?;
+    format!(in alloc; "verdict open\nweighted {value}\nbound {bound}\n")
+}
+
+/// The lines of a stopped search, with its bound and the value where a timing was found.
+fn open_lines(alloc: Global, bound: Frac, value: Option<Frac>) -> Result<String, AllocError>
+    ensures { IfOk result (λ text. string_bytes text ≡ open_lines bound value) }
+{
+    match value {
+        Some(value) => between_lines(alloc, bound, value),
+        None => bound_lines(alloc, bound),
+    }
+}
+
+/// The lines of what a certificate claims.
+fn claim_lines(alloc: Global, claim: Claim) -> Result<String, AllocError>
+    ensures { IfOk result (λ text. string_bytes text ≡ claim_lines claim) }
+{
+    match claim {
+        Claim::Best { value } => best_lines(alloc, value),
+        Claim::NoTiming => String::from_str(alloc, "verdict none\n"),
+        Claim::Stopped { bound, value } => open_lines(alloc, bound, value),
+    }
+}
+
+/// The lines of a trial whose certificate makes this claim and has a text of so many bytes.
+fn trial_lines(
+    alloc: Global,
+    signals: u32,
+    seed: u64,
+    claim: Claim,
+    bytes: usize,
+) -> Result<String, AllocError>
+    ensures { IfOk result (λ text. string_bytes text ≡ trial_lines signals seed claim bytes) }
+{
+    let claim = claim_lines(alloc, claim)?;
+    format!(in alloc;
+        "signals {signals}\nseed {seed}\n{claim}certificate {bytes}\ncheck accepted\n"
+    )
+}
+
+/// Makes the artery with so many signals, 2 to 16, from the seed, searches for a best timing of it with so many units of work,
+/// and checks the certificate. The error is want of memory.
+pub fn trial(alloc: Global, signals: u32, seed: u64, work: u64) -> Result<Tried, Memory>
+    requires least { 2 ≤ signals }
+    requires most { signals ≤ 16 }
+    requires work { 1 ≤ work }
+    ensures { IfOk result (λ t. IsTrial signals seed work t.cause t.lines.items) }
+{
+    let artery = make_artery(alloc, signals, seed)?;
+    let searched = search_and_check(alloc, &artery, work)?;
+    let lines = trial_lines(alloc, signals, seed, searched.claim, searched.text.len())?;
+    Ok(Tried {
+        cause: cause_of(searched.found.verdict),
+        lines: lines.into_bytes(),
+    })
+}
