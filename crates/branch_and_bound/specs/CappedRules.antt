@@ -1,6 +1,5 @@
 -- The relaxation for the tests as the rules that a search relies on.
 use Rattle.std.specs.Prelude.{◌≡◌, ℕ, ℤ, ◌≤ℤ◌}
-use lib.Signed.{lt_z}
 use Rattle.rational_theory.specs.Rational.{whole}
 use Rattle.rational_theory.proofs.Order.{≤ℚ_trans}
 use Rattle.progression.specs.Street.{Street}

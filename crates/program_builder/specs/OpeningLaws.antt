@@ -4,7 +4,6 @@ use Rattle.rational_theory.specs.Rational.{ℚ}
 use Rattle.progression.specs.Street.{Street}
 use Rattle.progression.specs.declared.parts.Dir.{Dir}
 use Rattle.linear_theory.specs.Rows as rows
-use Rattle.simplex_theory.specs.Tableau.{line}
 use Rattle.program_builder.specs.Opening.{cells_of}
 
 -- the row of signal 1's wait
