@@ -1,11 +1,9 @@
-//! Bytes that are no document, keys that no description has, and needed keys that are absent.
+//! Texts that are no document, keys that no description has, and needed keys that are absent.
 
-use crate::samples::{BASE, EVERY_KEY, Row, answer, first_wrong};
-use std::rt::HostRuntime;
-use std::test::Fail;
+use crate::samples::Row;
 
 /// Texts that are no documents, unknown keys, and needed keys that are absent.
-const KEYS: [Row; 26] = [
+pub static KEYS: [Row; 26] = [
     // Not a document: a bracket is left open, a number beyond 64 bits, a key twice.
     (&[(1, "[artery")], "NotToml file"),
     (&[(9, "red = 99999999999999999999")], "NotToml file"),
@@ -68,7 +66,7 @@ const KEYS: [Row; 26] = [
 ];
 
 /// Keys that stand where they have no meaning.
-const PLACES: [Row; 5] = [
+pub static PLACES: [Row; 5] = [
     // Nothing is wrong.
     (&[], "described"),
     // Keys of other tables, and a change after the last link.
@@ -84,23 +82,43 @@ const PLACES: [Row; 5] = [
     ),
 ];
 
-#[test]
-fn keys_are_judged(rt: HostRuntime) -> Result<(), Fail> {
-    assert_eq!(rt; first_wrong(rt.alloc(), BASE, &KEYS)?, 0);
-    Ok(())
-}
-
-#[test]
-fn keys_of_other_tables_are_unknown(rt: HostRuntime) -> Result<(), Fail> {
-    assert_eq!(rt; first_wrong(rt.alloc(), EVERY_KEY, &PLACES)?, 0);
-    Ok(())
-}
-
-#[test]
-fn bytes_without_tables(rt: HostRuntime) -> Result<(), Fail> {
-    let empty = answer(rt.alloc(), b"")?;
-    assert_eq!(rt; empty.as_str(), "Missing artery");
-    let other = answer(rt.alloc(), &[91, 255])?;
-    assert_eq!(rt; other.as_str(), "NotUtf8 file");
-    Ok(())
-}
+/// Two keys that no description has: the least by its bytes is named.
+pub static TWO_UNKNOWN: [Row; 11] = [
+    // Digits before capitals before `_` before small letters before letters of two bytes.
+    (&[(3, "parts = 100\n9 = 1\n10 = 2")], "UnknownKey artery.10"),
+    (&[(3, "parts = 100\nA = 1\n9 = 2")], "UnknownKey artery.9"),
+    (&[(3, "parts = 100\n_ = 1\nB = 2")], "UnknownKey artery.B"),
+    (&[(3, "parts = 100\na = 1\n_ = 2")], "UnknownKey artery._"),
+    (
+        &[(3, "parts = 100\n'\u{e9}' = 1\nz = 2")],
+        "UnknownKey artery.z",
+    ),
+    // A key before those that it begins, and `-` before `_`.
+    (&[(9, "red = 50\naa = 1\na = 2")], "UnknownKey signal[1].a"),
+    (
+        &[(9, "red = 50\nred_ = 1\nred- = 2")],
+        "UnknownKey signal[1].red-",
+    ),
+    // A known key that comes before is passed over.
+    (
+        &[(13, "red = 50\nzz = 1\nrod = 2")],
+        "UnknownKey signal[2].rod",
+    ),
+    (
+        &[(19, "speed_in = [36, 36]\nspeed = 1\ndistance = 2")],
+        "UnknownKey link[1].distance",
+    ),
+    // On the last link both limits of a change are unknown.
+    (
+        &[(
+            19,
+            "speed_in = [36, 36]\nchange_out = [0, 1]\nchange_in = [0, 1]",
+        )],
+        "UnknownKey link[1].change_in",
+    ),
+    // The one that is named is printed as `?`.
+    (
+        &[(3, "parts = 100\n'a b' = 1\nab = 2")],
+        "UnknownKey artery.?",
+    ),
+];

@@ -14,6 +14,8 @@ mod build;
 mod check;
 mod demand;
 mod judge;
+#[cfg(test)]
+mod judged_tests;
 mod key_table;
 #[cfg(test)]
 mod key_tests;

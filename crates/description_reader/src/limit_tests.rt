@@ -1,11 +1,9 @@
 //! Texts that are no numbers, and values outside their limits.
 
-use crate::samples::{BASE, EVERY_KEY, Row, first_wrong};
-use std::rt::HostRuntime;
-use std::test::Fail;
+use crate::samples::Row;
 
 /// Texts that are no numbers.
-const NUMBERS: [Row; 9] = [
+pub static NUMBERS: [Row; 9] = [
     (&[(4, "cycle = ['1/0', 100]")], "BadNumber artery.cycle[1]"),
     (&[(4, "cycle = [100, '+1']")], "BadNumber artery.cycle[2]"),
     (&[(5, "ratio = '1.'")], "BadNumber artery.ratio"),
@@ -30,7 +28,7 @@ const NUMBERS: [Row; 9] = [
 ];
 
 /// The same in changes of pace.
-const CHANGE_NUMBERS: [Row; 4] = [
+pub static CHANGE_NUMBERS: [Row; 4] = [
     (&[(8, "ratio = '3/-4'")], "BadNumber artery.ratio"),
     (
         &[(37, "change_out = ['--1', 1]")],
@@ -47,7 +45,7 @@ const CHANGE_NUMBERS: [Row; 4] = [
 ];
 
 /// Values outside their limits, and one just inside.
-const LIMITS: [Row; 27] = [
+pub static LIMITS: [Row; 27] = [
     // Those of a quantity are on its lowest terms.
     (&[(5, "ratio = '-1'")], "OutOfRange artery.ratio"),
     (&[(5, "ratio = '101'")], "OutOfRange artery.ratio"),
@@ -109,7 +107,7 @@ const LIMITS: [Row; 27] = [
 ];
 
 /// Values at the ends of their limits, and names of letters that have two bytes.
-const ENDS: [Row; 15] = [
+pub static ENDS: [Row; 15] = [
     (
         &[(3, "parts = 2"), (9, "red = 1"), (13, "red = 1")],
         "described",
@@ -140,7 +138,7 @@ const ENDS: [Row; 15] = [
 ];
 
 /// The same of left turns, clearances, patterns and changes of pace.
-const TURN_LIMITS: [Row; 19] = [
+pub static TURN_LIMITS: [Row; 19] = [
     // Left turns and clearances from 0 to one part less than all.
     (&[(13, "left_out = -1")], "OutOfRange signal[1].left_out"),
     (&[(13, "left_out = 100")], "OutOfRange signal[1].left_out"),
@@ -191,33 +189,3 @@ const TURN_LIMITS: [Row; 19] = [
     ),
     (&[(37, "change_out = [-1000, 1000]")], "described"),
 ];
-
-#[test]
-fn numbers_are_judged(rt: HostRuntime) -> Result<(), Fail> {
-    assert_eq!(rt; first_wrong(rt.alloc(), BASE, &NUMBERS)?, 0);
-    Ok(())
-}
-
-#[test]
-fn numbers_of_changes_are_judged(rt: HostRuntime) -> Result<(), Fail> {
-    assert_eq!(rt; first_wrong(rt.alloc(), EVERY_KEY, &CHANGE_NUMBERS)?, 0);
-    Ok(())
-}
-
-#[test]
-fn limits_are_judged(rt: HostRuntime) -> Result<(), Fail> {
-    assert_eq!(rt; first_wrong(rt.alloc(), BASE, &LIMITS)?, 0);
-    Ok(())
-}
-
-#[test]
-fn ends_of_limits_are_judged(rt: HostRuntime) -> Result<(), Fail> {
-    assert_eq!(rt; first_wrong(rt.alloc(), BASE, &ENDS)?, 0);
-    Ok(())
-}
-
-#[test]
-fn limits_of_turns_are_judged(rt: HostRuntime) -> Result<(), Fail> {
-    assert_eq!(rt; first_wrong(rt.alloc(), EVERY_KEY, &TURN_LIMITS)?, 0);
-    Ok(())
-}

@@ -1,11 +1,9 @@
 //! Rules between the values of a description.
 
-use crate::samples::{BASE, EVERY_KEY, Row, first_wrong};
-use std::rt::HostRuntime;
-use std::test::Fail;
+use crate::samples::Row;
 
 /// A link too few, a name twice, and a greatest cycle below the least.
-const RULES: [Row; 3] = [
+pub static RULES: [Row; 3] = [
     (
         &[(14, "[[signal]]\nname = 'C'\nred = 50")],
         "CountMismatch link",
@@ -18,7 +16,7 @@ const RULES: [Row; 3] = [
 ];
 
 /// Signals without a pattern or without green, and limits that cross.
-const TURN_RULES: [Row; 9] = [
+pub static TURN_RULES: [Row; 9] = [
     // A signal without a pattern.
     (&[(15, "patterns = []")], "NoPattern signal[1].patterns"),
     (&[(28, "patterns = []")], "NoPattern signal[3].patterns"),
@@ -38,15 +36,3 @@ const TURN_RULES: [Row; 9] = [
     ),
     (&[(38, "change_in = ['3.0', 3]")], "described"),
 ];
-
-#[test]
-fn rules_are_judged(rt: HostRuntime) -> Result<(), Fail> {
-    assert_eq!(rt; first_wrong(rt.alloc(), BASE, &RULES)?, 0);
-    Ok(())
-}
-
-#[test]
-fn rules_of_turns_are_judged(rt: HostRuntime) -> Result<(), Fail> {
-    assert_eq!(rt; first_wrong(rt.alloc(), EVERY_KEY, &TURN_RULES)?, 0);
-    Ok(())
-}

@@ -1,5 +1,7 @@
 //! Descriptions that tests change line by line, and what is answered for them.
 
+ghost use Rattle.std.specs.Prelude.{◌<◌, length};
+
 use crate::{Flaw, Kind, read_artery};
 use std::alloc::{AllocError, Global};
 
@@ -72,7 +74,7 @@ speed_out = [25, 25]
 speed_in = [20, 45]
 ";
 
-/// A description with some of its lines, counted from 1, replaced.
+/// A description with some of its lines, counted from 1, replaced, by the last text where a line has two.
 pub fn with_lines(
     alloc: Global,
     base: &str,
@@ -137,6 +139,34 @@ fn is_wrong(alloc: Global, base: &str, row: &Row) -> Result<bool, AllocError> {
 pub fn first_wrong(alloc: Global, base: &str, rows: &[Row]) -> Result<usize, AllocError> {
     for (index, row) in rows.iter().enumerate() {
         if is_wrong(alloc, base, row)? {
+            return Ok(index + 1);
+        }
+    }
+    Ok(0)
+}
+
+/// A line of `EVERY_KEY`, counted from 1, what stands in its place, and the kind and the place of the fault.
+pub type Fault = (usize, &'static str, &'static str);
+
+/// What is answered for `EVERY_KEY` with a fault at a place of a list, and the next one behind it, where there is one.
+fn answer_of_two(alloc: Global, faults: &[Fault], index: usize) -> Result<String, AllocError>
+    requires { index < length faults.now }
+{
+    let (line, text, _) = faults[index];
+    let (later, other, _) = match faults.get(index + 1) {
+        Some(fault) => *fault,
+        None => (0, "", ""),
+    };
+    let description = with_lines(alloc, EVERY_KEY, &[(later, other), (line, text)])?;
+    answer(alloc, description.as_bytes())
+}
+
+/// The number of the first fault, counted from 1, that is not named where the next one of the list is there too, or 0.
+pub fn first_hidden(alloc: Global, faults: &[Fault]) -> Result<usize, AllocError> {
+    for (index, fault) in faults.iter().enumerate() {
+        let (_, _, want) = fault;
+        let got = answer_of_two(alloc, faults, index)?;
+        if got.as_str() != *want {
             return Ok(index + 1);
         }
     }

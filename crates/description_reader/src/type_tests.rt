@@ -1,11 +1,9 @@
 //! Values of another type.
 
-use crate::samples::{BASE, EVERY_KEY, Row, first_wrong};
-use std::rt::HostRuntime;
-use std::test::Fail;
+use crate::samples::Row;
 
 /// Values of another type.
-const TYPES: [Row; 31] = [
+pub static TYPES: [Row; 31] = [
     // Floats, dates and truth values are no numbers.
     (&[(1, "version = '1'\n[artery]")], "WrongType version"),
     (&[(1, "version = 1.0\n[artery]")], "WrongType version"),
@@ -87,7 +85,7 @@ const TYPES: [Row; 31] = [
 ];
 
 /// The same of left turns, patterns and changes of pace.
-const TURN_TYPES: [Row; 6] = [
+pub static TURN_TYPES: [Row; 6] = [
     // An empty array of patterns has a right type, one of limits has not.
     (&[(27, "left_in = 0.0")], "WrongType signal[3].left_in"),
     (&[(15, "patterns = '1'")], "WrongType signal[1].patterns"),
@@ -105,15 +103,3 @@ const TURN_TYPES: [Row; 6] = [
         "WrongType link[1].change_in",
     ),
 ];
-
-#[test]
-fn types_are_judged(rt: HostRuntime) -> Result<(), Fail> {
-    assert_eq!(rt; first_wrong(rt.alloc(), BASE, &TYPES)?, 0);
-    Ok(())
-}
-
-#[test]
-fn types_of_turns_are_judged(rt: HostRuntime) -> Result<(), Fail> {
-    assert_eq!(rt; first_wrong(rt.alloc(), EVERY_KEY, &TURN_TYPES)?, 0);
-    Ok(())
-}
