@@ -2,7 +2,7 @@
 use Rattle.search_box.proofs.Parts.{parts_of}
 use Rattle.branch_tree.specs.Promises.{BoxesEnd}
 use Rattle.branch_tree.specs.laws.BoxLaws as laws
-use Rattle.branch_tree.proofs.Runs.{due_before, one_site}
+use Rattle.branch_tree.proofs.Runs.{due_before, one_site, wide_sum_optimal, wide_timing}
 use Rattle.branch_tree.proofs.Units.{steps_few, boxes_short}
 use Rattle.branch_tree.proofs.BoxProofs.{start_covers}
 
@@ -19,6 +19,8 @@ boxes_end = record {
       record { inside = p; parts = parts_of a box place b p; low = laws.low_falls a box v b place e; high = laws.high_falls a box v b place e };
   due = λ a box k v d. due_before a box v k d;
   stops = λ a box k m p q g h. one_site a box k m p q g h;
+  sum = λ a box k row at r e f. wide_sum_optimal a box k row at r e f;
+  vertex = λ a box k wide r e f g. wide_timing a box k wide r e f g;
   short = boxes_short;
   start = start_covers;
 }

@@ -1,5 +1,5 @@
 -- What the ends of boxes promise, as an outsider reads it.
-use Rattle.std.specs.Prelude.{◌≡◌, ℕ, ◌+◌, ◌<◌, ◌^◌, List, length, Some, map}
+use Rattle.std.specs.Prelude.{◌≡◌, ℕ, ◌+◌, ◌<◌, ◌^◌, List, length, None, Some, map}
 use Rattle.rational_theory.specs.Rational.{ℚ, ◌≤ℚ◌}
 use Rattle.progression.specs.Street.{Street, count}
 use Rattle.progression.specs.Plan.{Plan}
@@ -10,11 +10,16 @@ use Rattle.linear_theory.specs.Places.{width}
 use Rattle.linear_theory.specs.Boxes.{Area, IsBoxOf, root_box}
 use Rattle.linear_theory.specs.Covering.{CoversGoal, RefutesAll}
 use Rattle.linear_theory.specs.Trees.{leaf_sum, AreWeights}
-use Rattle.loop_rows.specs.Weights.{named}
+use Rattle.named_row.specs.declared.names.RowId.{RowId}
+use Rattle.named_row.specs.declared.wide_at.WideAt.{WideAt}
+use Rattle.loop_rows.specs.Weights.{named, leaf_fault}
+use Rattle.loop_rows.specs.declared.fault.SumFault.TheVariants as fault
+use Rattle.dual_simplex.specs.declared.outcome.Step.TheVariants as steps
 use Rattle.recovery_theory.specs.Vertices.{IsVertex, goal_at}
 use Rattle.search_box.specs.declared.span.At.{At}
 use Rattle.search_box.specs.Places.{IsPlace, low_part, high_part, AreParts}
-use Rattle.offset_recovery.specs.Outcomes.{Gives}
+use Rattle.offset_recovery.specs.declared.outcome.WideTiming.{WideTiming}
+use Rattle.offset_recovery.specs.Outcomes.{Refused, Gives}
 use Rattle.offset_recovery.specs.Recovered.{recovered}
 use Rattle.certificate_checker.specs.Accepted.{IsProof}
 use Rattle.program_builder.specs.BoxRows.{rows_of}
@@ -22,7 +27,8 @@ use Rattle.branch_and_bound.specs.Enough.{IsShort}
 use Rattle.branch_and_bound.specs.Lineages.{NoEnd, Empty, Reads, Cuts, IsOptimal}
 use Rattle.branch_tree.specs.Ends.{steps_of, end_point, end_bound, end_leaf, ending_of}
 use Rattle.branch_tree.specs.declared.site.SitePart.{SitePart}
-use Rattle.branch_tree.specs.Sites.{IsDue, IsWide}
+use Rattle.branch_tree.specs.declared.site.SitePart.TheVariants.{LeafSum, Timing}
+use Rattle.branch_tree.specs.Sites.{step_at, IsReached, IsDue, IsWide}
 use Rattle.branch_tree.specs.Starts.{start_leaf, start_bound}
 use Rattle.branch_tree.specs.ArteryRules.{rules_of}
 
@@ -66,6 +72,11 @@ pub record BoxesEnd : Type 0 where
   -- a run stops before its end where a step is due, and at one first refused operation at most
   pub due : (a : Street) (box : Area) (k : ℕ) → IsValid a → IsDue a box k → k < steps_of a box
   pub stops : (a : Street) (box : Area) (k m : ℕ) (p q : SitePart) → IsWide a box k p → IsWide a box m q → (k ≡ m) × (p ≡ q)
+  -- at a last vertex the leaf is summed before the vertex is read: where both leave 128 bits the sum is the site
+  pub sum : (a : Street) (box : Area) (k : ℕ) (row : RowId) (at : WideAt) → IsReached a box k → step_at a box k ≡ steps.Optimal
+      → leaf_fault a box (end_leaf a box) ≡ Some (fault.Wide row at) → IsWide a box k (LeafSum row at)
+  pub vertex : (a : Street) (box : Area) (k : ℕ) (wide : WideTiming) → IsReached a box k → step_at a box k ≡ steps.Optimal
+      → leaf_fault a box (end_leaf a box) ≡ None → recovered a box (end_point a box) ≡ Refused wide → IsWide a box k (Timing wide)
   -- so the units that a search of the artery needs are bounded, as `IsEnough` of the engine says
   pub short : (a : Street) → IsShort (rules_of a) (sets_of a)
   -- before any step the start leaf is a proof of its bound

@@ -13,7 +13,8 @@ ghost use Rattle.branch_tree.specs.Promises.{BoxesEnd};
 
 /// Each box of an artery comes to an end. An empty one has a leaf that refutes; any other has a leaf that covers the weighted
 /// band with its vertex's own. A vertex that gives a timing gives a good one with that band, and one that splits its box shows
-/// a place inside it, whose parts have no greater bounds. A box takes fewer steps than there are sets of basic variables, which
+/// a place inside it, whose parts have no greater bounds. Where both the leaf's sum and the vertex leave 128 bits, the sum is the
+/// site. A box takes fewer steps than there are sets of basic variables, which
 /// bounds the units that a search needs.
 #[tactic(auto, using(crate::proofs::KeptPromises::boxes_end))]
 pub fn law_boxes_end()

@@ -2,10 +2,11 @@
 //! reds of 50 and 250 metres the block sum is 0 or 1, and no weighted band is above 1/2.
 
 use crate::{Reject, check};
-use artery_model::{Artery, Dir, Head, Link, Pair, Signal, Text, Units};
+use artery_model::{Artery, Dir};
 use named_row::{Place, RowId, WideAt};
 use narrow_fraction::{Frac, Op, Wide};
 use plan_text::read_certificate;
+use sample_streets::{plain_head, plain_link, plain_signal, two_signals};
 use std::alloc::Global;
 use std::rt::HostRuntime;
 use std::test::Fail;
@@ -29,6 +30,9 @@ const HIGH_LEAF: &str =
 /// The split with its two leaves.
 const WHOLE_TREE: [&str; 5] = [SPLIT, LOW_LEAF, HIGH_LEAF, "", ""];
 
+/// The third node has the block sum 1 alone.
+const SPLIT_AGAIN: [&str; 5] = [SPLIT, LOW_LEAF, SPLIT, HIGH_LEAF, HIGH_LEAF];
+
 /// In column 0 the sum with the second row needs the denominator 2^100 * 3^70.
 const WIDE_LEAF: &str =
     "leaf 2\nwout 1 1/1267650600228229401496703205376\nwout 2 1/2503155504993241601315571986085849\n";
@@ -38,7 +42,7 @@ const NEGATIVE_WIDE: &str =
     "leaf 2\nwout 1 1/1267650600228229401496703205376\nwout 2 -1/2503155504993241601315571986085849\n";
 
 /// A claim, its timing and nodes for two signals with these reds, so far apart, and what the check answers.
-#[derive(Clone, Copy)]
+#[derive(Drop)]
 struct Case {
     red: u32,
     distance: u32,
@@ -48,45 +52,10 @@ struct Case {
     expected: Result<(), Reject>,
 }
 
-fn pair(number: i64) -> Pair {
-    Pair {
-        least: Frac::whole(number),
-        most: Frac::whole(number),
-    }
-}
-
-fn signal(alloc: Global, name: &str, red: u32) -> Result<Signal, Fail> {
-    Ok(Signal {
-        name: Text::new(alloc, name).ok().ok_or("no memory")?,
-        red,
-        left_out: 0,
-        left_in: 0,
-        patterns: [true, false, false, false],
-        clear_out: 0,
-        clear_in: 0,
-    })
-}
-
 fn artery(alloc: Global, red: u32, distance: u32) -> Result<Artery, Fail> {
-    let head = Head {
-        name: None,
-        units: Units::Metric,
-        parts: 100,
-        cycle: pair(100),
-        ratio: Frac::whole(1),
-    };
-    let signals = vec![in alloc; signal(alloc, "A", red)?, signal(alloc, "B", red)?]?;
-    let links = vec![in alloc;
-        Link {
-            distance_out: distance,
-            distance_in: distance,
-            speed_out: pair(36),
-            speed_in: pair(36),
-            change_out: None,
-            change_in: None,
-        },
-    ]?;
-    match Artery::new(alloc, head, signals, links) {
+    let first = plain_signal("A", red);
+    let second = plain_signal("B", red);
+    match two_signals(alloc, plain_head(), first, second, plain_link(distance)) {
         Ok(artery) => Ok(artery),
         Err(_) => Err("no artery".into()),
     }
@@ -121,20 +90,75 @@ fn answer(alloc: Global, case: &Case) -> Result<Result<(), Reject>, Fail> {
     Ok(check(alloc, &artery, &certificate.ok().ok_or("no certificate")?))
 }
 
-fn near(
+/// At 500 metres the runs would have to be 50 seconds.
+fn too_fast() -> Result<(), Reject> {
+    let failing = Failing::Fast {
+        dir: Dir::Outbound,
+        link: 1,
+    };
+    Err(Reject::TimingFails(failing))
+}
+
+fn value_differs(kept: Frac, claimed: Frac) -> Result<(), Reject> {
+    Err(Reject::ValueDiffers { kept, claimed })
+}
+
+fn bound_below(bound: Frac, value: Frac) -> Result<(), Reject> {
+    Err(Reject::BoundBelow { bound, value })
+}
+
+/// The leaf names the row of the ratio, which isn't there where both bands count alike.
+fn no_ratio(leaf: u64) -> Result<(), Reject> {
+    Err(Reject::NoSuchRow {
+        leaf,
+        row: row(13, 0),
+    })
+}
+
+fn too_wide() -> Result<Result<(), Reject>, Fail> {
+    let left = fraction(1, 1_267_650_600_228_229_401_496_703_205_376)?;
+    let right = fraction(1, 2_503_155_504_993_241_601_315_571_986_085_849)?;
+    let wide = Wide {
+        op: Op::Add,
+        left,
+        right,
+    };
+    let at = WideAt {
+        place: Place::Cell(0),
+        wide,
+    };
+    Ok(Err(Reject::Wide {
+        leaf: 1,
+        row: row(1, 2),
+        at,
+    }))
+}
+
+fn a_case(
+    red: u32,
+    distance: u32,
     claim: &'static str,
     timing: &'static str,
     nodes: [&'static str; 5],
     expected: Result<(), Reject>,
 ) -> Case {
     Case {
-        red: 50,
-        distance: 250,
+        red,
+        distance,
         claim,
         timing,
         nodes,
         expected,
     }
+}
+
+fn near(
+    claim: &'static str,
+    timing: &'static str,
+    nodes: [&'static str; 5],
+    expected: Result<(), Reject>,
+) -> Case {
+    a_case(50, 250, claim, timing, nodes, expected)
 }
 
 #[test]
@@ -151,64 +175,29 @@ fn certificates(rt: HostRuntime) -> Result<(), Fail> {
     let below = "verdict open\nbound 2/5\nvalue 1/2\n";
     let both_low = "verdict open\nbound 1/5\nvalue 2/5\n";
     let none = "verdict none\n";
-    let value_differs = Err(Reject::ValueDiffers {
-        kept: half,
-        claimed: less,
-    });
-    let bound_below = Err(Reject::BoundBelow {
-        bound: less,
-        value: half,
-    });
-    // At 500 metres the runs would have to be 50 seconds.
-    let too_fast = Err(Reject::TimingFails(Failing::Fast {
-        dir: Dir::Outbound,
-        link: 1,
-    }));
-    let split_again = [SPLIT, LOW_LEAF, SPLIT, HIGH_LEAF, HIGH_LEAF];
-    let no_ratio = Reject::NoSuchRow {
-        leaf: 2,
-        row: row(13, 0),
-    };
-    let wide = Reject::Wide {
-        leaf: 1,
-        row: row(1, 2),
-        at: WideAt {
-            place: Place::Cell(0),
-            wide: Wide {
-                op: Op::Add,
-                left: fraction(1, 1_267_650_600_228_229_401_496_703_205_376)?,
-                right: fraction(1, 2_503_155_504_993_241_601_315_571_986_085_849)?,
-            },
-        },
-    };
     let cases = [
         near(best, HALF_BAND, WHOLE_TREE, Ok(())),
-        near(low_best, HALF_BAND, WHOLE_TREE, value_differs),
-        Case {
-            distance: 500,
-            ..near(best, HALF_BAND, WHOLE_TREE, too_fast)
-        },
+        near(low_best, HALF_BAND, WHOLE_TREE, value_differs(half, less)),
+        a_case(50, 500, best, HALF_BAND, WHOLE_TREE, too_fast()),
         // With reds of 80 the two rows of the link add up to 0 <= -1.
-        Case {
-            red: 80,
-            ..near(
-                none,
-                "",
-                ["leaf 2\nloop_lo 1 1\nloop_hi 1 1\n", "", "", "", ""],
-                Ok(()),
-            )
-        },
+        a_case(
+            80,
+            250,
+            none,
+            "",
+            ["leaf 2\nloop_lo 1 1\nloop_hi 1 1\n", "", "", "", ""],
+            Ok(()),
+        ),
         near(open, "", WHOLE_TREE, Ok(())),
         near(above, HALF_BAND, WHOLE_TREE, Ok(())),
-        near(below, HALF_BAND, WHOLE_TREE, bound_below),
-        // The third node has the block sum 1 alone.
-        near(open, "", split_again, Err(Reject::SplitOutside { node: 3 })),
+        near(below, HALF_BAND, WHOLE_TREE, bound_below(less, half)),
+        near(open, "", SPLIT_AGAIN, Err(Reject::SplitOutside { node: 3 })),
         // Faults of the second leaf, which is the third node.
         near(
             open,
             "",
             [SPLIT, LOW_LEAF, "leaf 2\nwout 1 1\nratio 1\n", "", ""],
-            Err(no_ratio),
+            no_ratio(2),
         ),
         near(
             open,
@@ -219,7 +208,7 @@ fn certificates(rt: HostRuntime) -> Result<(), Fail> {
                 row: row(2, 1),
             }),
         ),
-        near(none, "", [WIDE_LEAF, "", "", "", ""], Err(wide)),
+        near(none, "", [WIDE_LEAF, "", "", "", ""], too_wide()?),
         // A bound of 2/5 is too low for the first leaf. The row of the first outbound wait says nothing of b_in. Where no
         // timing is claimed, the row 25 z - y_out 1 <= 0 has its first negative coefficient in column 7, and no rows have
         // no bound below 0.
@@ -243,12 +232,9 @@ fn certificates(rt: HostRuntime) -> Result<(), Fail> {
             weak_at(Place::Bound),
         ),
         // Two faults: the timing, its value, the bound, and then the nodes in their order.
-        Case {
-            distance: 500,
-            ..near(low_best, HALF_BAND, WHOLE_TREE, too_fast)
-        },
-        near(both_low, HALF_BAND, WHOLE_TREE, value_differs),
-        near(below, HALF_BAND, split_again, bound_below),
+        a_case(50, 500, low_best, HALF_BAND, WHOLE_TREE, too_fast()),
+        near(both_low, HALF_BAND, WHOLE_TREE, value_differs(half, less)),
+        near(below, HALF_BAND, SPLIT_AGAIN, bound_below(less, half)),
         near(
             open,
             "",
@@ -259,10 +245,7 @@ fn certificates(rt: HostRuntime) -> Result<(), Fail> {
             open,
             "",
             [SPLIT, "leaf 1\nratio 1\n", SPLIT, HIGH_LEAF, HIGH_LEAF],
-            Err(Reject::NoSuchRow {
-                leaf: 1,
-                row: row(13, 0),
-            }),
+            no_ratio(1),
         ),
         // Of one row that it isn't there, that its multiplier is below 0, and that the sum is too wide; the rows in their
         // order, and the whole leaf after them.
@@ -270,7 +253,7 @@ fn certificates(rt: HostRuntime) -> Result<(), Fail> {
             open,
             "",
             [SPLIT, LOW_LEAF, "leaf 1\nratio -1\n", "", ""],
-            Err(no_ratio),
+            no_ratio(2),
         ),
         near(
             none,
@@ -297,8 +280,8 @@ fn certificates(rt: HostRuntime) -> Result<(), Fail> {
             weak_at(Place::Cell(0)),
         ),
     ];
-    for case in cases {
-        assert_eq!(rt; answer(alloc, &case)?, case.expected);
+    for case in &cases {
+        assert_eq!(rt; answer(alloc, case)?, case.expected);
     }
     Ok(())
 }
