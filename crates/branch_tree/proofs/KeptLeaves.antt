@@ -1,5 +1,5 @@
 -- The leaf of a box's end, and the start leaf, are leaves that a certificate keeps: their rows have names and ascend, and are few.
-use Rattle.std.proofs.Common.{arith, ◌≡◌, ℕ, pos, zero, suc, ◌<◌, ◌≤◌, inl, inr, Bool, true, false, true≢false, cond, Option, None, Some, List, [], ◌∷◌, ◌++◌, length, All, refl, sym, ◌∙◌, subst, length-append}
+use Rattle.std.proofs.Common.{arith, ◌≡◌, ℕ, pos, zero, suc, ◌<◌, ◌≤◌, inl, inr, Bool, true, false, true≢false, cond, Option, None, Some, List, [], ◌∷◌, ◌++◌, length, All, refl, sym, subst, length-append}
 use Rattle.std.proofs.lemmas.Bool.{lt-ltb, eq-eqb}
 use Rattle.std.proofs.lemmas.List.{append-nil}
 use Rattle.std.proofs.lemmas.List.Elements.{All-nil, All-cons, All-append}

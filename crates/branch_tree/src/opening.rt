@@ -59,12 +59,12 @@ fn make_steps(artery: &Artery, area: &SearchBox, tableau: &mut Tableau, meter: &
     ensures run { IsRun artery.now area.now tableau.new meter.old meter.new result.end result.pivots }
 {
     // its contract says that the artery is valid
-    let _ = artery.head();
+    artery.known_valid();
     meter.spend();
     let mut pivots = 0;
     let end = solve_node(tableau, meter, &mut pivots);
     // the shape of the tableau is known where it is read
-    let _ = tableau.rows();
+    tableau.known_named();
     Run { end, pivots }
 }
 
@@ -115,7 +115,7 @@ fn read_end(
     ensures { IfOk result (λ opened. IsReadEnd artery.now area.now pivots opened) }
 {
     // its contract says that the artery is valid
-    let _ = artery.head();
+    artery.known_valid();
     let point = point_of(alloc, tableau)?;
     match recover(alloc, artery, area, &point) {
         Ok(Recovered::Timing(timing)) => Ok(Opened::Timed {
@@ -148,7 +148,7 @@ fn optimal_end(
     ensures { IfOk result (λ opened. IsReadEnd artery.now area.now pivots opened) }
 {
     // its contract says that the artery is valid
-    let _ = artery.head();
+    artery.known_valid();
     let leaf = leaf_of(alloc, tableau)?;
     match sum_leaf(alloc, artery, area, &leaf)? {
         Summed::Bound(bound) => read_end(alloc, artery, area, tableau, leaf, bound, pivots),
@@ -173,7 +173,7 @@ fn infeasible_end(
     ensures { IfOk result (λ opened. IsEmptyEnd artery.now area.now pivots opened) }
 {
     // its contract says that the artery is valid
-    let _ = artery.head();
+    artery.known_valid();
     let leaf = refuter_of(alloc, tableau, row)?;
     match sum_leaf(alloc, artery, area, &leaf)? {
         Summed::Bound(_) => Ok(Opened::Infeasible { leaf }),

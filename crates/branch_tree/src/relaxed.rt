@@ -30,7 +30,7 @@ pub fn make_room(alloc: Global, artery: &Artery) -> Result<Room, Memory>
     ensures { IfOk result (λ room. IsRoomFor artery.now room) }
 {
     // its contract says that the artery is valid
-    let _ = artery.head();
+    artery.known_valid();
     let area = SearchBox::root(alloc, artery)?;
     let tableau = start(alloc, artery, &area)?;
     let row = Row::zero(alloc, column_count(artery))?;

@@ -72,7 +72,7 @@ pub fn start_leaf(alloc: Global, artery: &Artery) -> Result<(Leaf, Frac), Memory
     ensures covers { IfOk result (λ start. CoversBox artery.now (root_box artery.now) start.0 start.1) }
 {
     // its contract says that the artery is valid
-    let _ = artery.head();
+    artery.known_valid();
     let area = SearchBox::root(alloc, artery)?;
     let leaf = first_waits(alloc, artery)?;
     let bound = first_bound(alloc, artery, &area, &leaf)?;

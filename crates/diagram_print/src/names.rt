@@ -14,7 +14,7 @@ fn numbered(alloc: Global, name: &str, number: u64) -> Result<String, AllocError
     format!(in alloc; "{name} {number}")
 }
 
-/// A row's name, as certificates spell it: that of its family, one of 17, and the row's index where the family has several
+/// A row's name, as certificates spell it: that of its family, and the row's index where the family has several
 /// rows. The error is want of memory.
 pub fn row_text(alloc: Global, row: RowId) -> Result<String, AllocError>
     ensures { IfOk result (λ text. string_bytes text ≡ row_text row) }

@@ -33,7 +33,7 @@ fn ready(artery: &Artery, area: &SearchBox, point: &Point)
     ensures { IsReady artery.now point.now.values.items }
 {
     // its contract says that the artery is valid
-    let _ = artery.head();
+    artery.known_valid();
     law_valid_street();
 }
 
@@ -143,7 +143,7 @@ pub fn recover(
     ensures sound { IfOk result (λ found. IsSound artery.now area.now point.now.values.items found) }
 {
     // its contract says that the artery is valid
-    let _ = artery.head();
+    artery.known_valid();
     law_valid_street();
     if let Some(place) = split_place(artery, area, point)? {
         return Ok(Recovered::SplitAt(place));

@@ -31,9 +31,9 @@ fn makes_pivot(tableau: &mut Tableau) -> bool
     ensures unspent { IsTrue result → tableau.new.spent ≡ false }
 {
     // its contract says that each row has a basic variable
-    let _ = tableau.rows();
+    tableau.known_named();
     let outcome = step(tableau);
-    let _ = tableau.rows();
+    tableau.known_named();
     matches!(outcome, Step::Pivoted { .. })
 }
 

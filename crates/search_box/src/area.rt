@@ -65,7 +65,7 @@ impl SearchBox {
         ensures holds { IfOk result (λ area. (t : Plan) → Good artery.now t → InBox artery.now area t) }
     {
         // its contract says that the artery is valid
-        let _ = artery.head();
+        artery.known_valid();
         let loops = root_loops(alloc, artery)?;
         let turns = root_turns(alloc, artery)?;
         Ok(SearchBox { loops, turns })

@@ -103,7 +103,7 @@ fn has_pattern(artery: &Artery, signal: u32) -> bool
     ensures least { 1 ≤ shift_count artery.now signal }
 {
     // its contract says that the artery is valid
-    let _ = artery.head();
+    artery.known_valid();
     allows_one(&artery.signals()[signal as usize - 1].patterns)
 }
 

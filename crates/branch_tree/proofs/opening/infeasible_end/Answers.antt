@@ -23,7 +23,7 @@ sum_leaf-requires-clause-rows c =
     let a = c.args.artery.now in
     let box = c.args.area.now in
     let ws = c.in_ok-leaf.leaf.multipliers.items in
-    refuter_rows a box c.args.tableau.now c.head.ensures.valid c.args.row ws c.requires.run (refuter_read a box c.args.tableau.now c.args.row ws c.requires.run c.in_ok-leaf.ensures.list)
+    refuter_rows a box c.args.tableau.now c.known_valid.ensures c.args.row ws c.requires.run (refuter_read a box c.args.tableau.now c.args.row ws c.requires.run c.in_ok-leaf.ensures.list)
 
 pub returns-in-Bound : goal.returns-in-Bound
 returns-in-Bound c =
@@ -32,7 +32,7 @@ returns-in-Bound c =
     let ws = c.in_ok-leaf.leaf.multipliers.items in
     let e : ws ≡ end_leaf a box = refuter_read a box c.args.tableau.now c.args.row ws c.requires.run c.in_ok-leaf.ensures.list in
     let s = subst (IsSummed a box ws) c.in-Bound.is c.in_ok-sum_leaf.ensures in
-    opens_empty a (top_line box) c.in_ok-leaf.leaf c.head.ensures.valid e (ap (leaf_fault a box) (sym e) ∙ s.0) c.args.row c.requires.run.move_is
+    opens_empty a (top_line box) c.in_ok-leaf.leaf c.known_valid.ensures e (ap (leaf_fault a box) (sym e) ∙ s.0) c.args.row c.requires.run.move_is
 
 pub returns-in-Wide : goal.returns-in-Wide
 returns-in-Wide c =

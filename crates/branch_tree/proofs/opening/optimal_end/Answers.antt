@@ -15,7 +15,7 @@ sum_leaf-requires-clause-rows c =
     let a = c.args.artery.now in
     let box = c.args.area.now in
     let ws = c.in_ok-leaf.leaf.multipliers.items in
-    leaf_rows a box c.args.tableau.now c.head.ensures.valid ws c.requires.run (leaf_read a box c.args.tableau.now ws c.requires.run c.in_ok-leaf.ensures.list)
+    leaf_rows a box c.args.tableau.now c.known_valid.ensures ws c.requires.run (leaf_read a box c.args.tableau.now ws c.requires.run c.in_ok-leaf.ensures.list)
 
 pub read_end-requires-clause-leaf : goal.read_end-requires-clause-leaf
 read_end-requires-clause-leaf c = leaf_read c.args.artery.now c.args.area.now c.args.tableau.now _ c.requires.run c.in_ok-leaf.ensures.list
@@ -36,7 +36,7 @@ read_end-requires-clause-bound c =
     let ws = c.in_ok-leaf.leaf.multipliers.items in
     let e : ws ≡ end_leaf a box = leaf_read a box c.args.tableau.now ws c.requires.run c.in_ok-leaf.ensures.list in
     let s = subst (IsSummed a box ws) c.in-Bound.is c.in_ok-bound.ensures in
-    s.1 ∙ ap (λ us. (sum_of a box us).bound) e ∙ (optimal_end a box c.head.ensures.valid c.requires.run.move_is).bound
+    s.1 ∙ ap (λ us. (sum_of a box us).bound) e ∙ (optimal_end a box c.known_valid.ensures c.requires.run.move_is).bound
 
 pub returns-in-Wide : goal.returns-in-Wide
 returns-in-Wide c =

@@ -11,7 +11,7 @@ use Rattle.branch_tree.proofs.BoxProofs.{start_covers}
 use Rattle.branch_tree.proofs.starting.start_leaf.Goals as goal
 
 pub first_bound-requires-clause-fits : goal.first_bound-requires-clause-fits
-first_bound-requires-clause-fits c = ap (leaf_fault c.args.artery.now c.in_ok-area.area) c.in_ok-leaf.ensures ∙ start_fits c.args.artery.now c.head.ensures.valid c.in_ok-area.area
+first_bound-requires-clause-fits c = ap (leaf_fault c.args.artery.now c.in_ok-area.area) c.in_ok-leaf.ensures ∙ start_fits c.args.artery.now c.known_valid.ensures c.in_ok-area.area
 
 bound_is : (a : Street) (box : Area) (ws : List Weight) → box ≡ root_box a → ws ≡ start_leaf a → (sum_of a box ws).bound ≡ start_bound a
 unfolding start_bound
@@ -25,4 +25,4 @@ returns-clause-covers c =
     let a = c.args.artery.now in
     let bound : c.in_ok-bound.bound ≡ start_bound a = c.in_ok-bound.ensures ∙ bound_is a c.in_ok-area.area c.in_ok-leaf.leaf.multipliers.items c.in_ok-area.ensures.value c.in_ok-leaf.ensures in
     subst (λ x. IsProof a (Some x) (root_box a) c.in_ok-leaf.leaf.multipliers.items) (sym bound)
-    (subst (λ ws. IsProof a (Some (start_bound a)) (root_box a) ws) (sym c.in_ok-leaf.ensures) (start_covers a c.head.ensures.valid))
+    (subst (λ ws. IsProof a (Some (start_bound a)) (root_box a) ws) (sym c.in_ok-leaf.ensures) (start_covers a c.known_valid.ensures))

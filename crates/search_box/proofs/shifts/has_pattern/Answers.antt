@@ -13,4 +13,4 @@ returns-clause-some c =
     let is = rw c.signals.ensures at was in
     let e = get_or_read a.signals (c.args.signal - 1) c.index-signals-signal.result (omega arith) is no_signal in
     let f : slice_index_or c.signals.result.now (c.args.signal - 1) c.index-signals-signal.result ≡ slice_index_or a.signals (c.args.signal - 1) no_signal = rw c.signals.ensures (sym is ∙ e) in
-    c.allows_one.ensures.one ∙ ap (λ (x : Signal). list_any (λ b. b) x.patterns) f ∙ allows_some a c.args.signal c.head.ensures.valid (omega arith) (omega arith)
+    c.allows_one.ensures.one ∙ ap (λ (x : Signal). list_any (λ b. b) x.patterns) f ∙ allows_some a c.args.signal c.known_valid.ensures (omega arith) (omega arith)

@@ -10,13 +10,13 @@ some : (a : Street) → IsValid a → 1 ≤ count a
 some a v = let n = v.few in omega arith
 
 pub returns-clause-root : goal.returns-clause-root
-returns-clause-root c = root_of c.args.artery.now c.in_ok-loops.loops.items c.in_ok-turns.turns.items c.in_ok-loops.ensures c.in_ok-turns.ensures.value (some c.args.artery.now c.head.ensures.valid)
+returns-clause-root c = root_of c.args.artery.now c.in_ok-loops.loops.items c.in_ok-turns.turns.items c.in_ok-loops.ensures c.in_ok-turns.ensures.value (some c.args.artery.now c.known_valid.ensures)
 
 pub returns-clause-boxed : goal.returns-clause-boxed
-returns-clause-boxed c = root_boxed_of c.args.artery.now c.in_ok-loops.loops.items c.in_ok-turns.turns.items c.in_ok-loops.ensures c.in_ok-turns.ensures.value (some c.args.artery.now c.head.ensures.valid) c.in_ok-turns.ensures.some
+returns-clause-boxed c = root_boxed_of c.args.artery.now c.in_ok-loops.loops.items c.in_ok-turns.turns.items c.in_ok-loops.ensures c.in_ok-turns.ensures.value (some c.args.artery.now c.known_valid.ensures) c.in_ok-turns.ensures.some
 
 pub returns-clause-holds : goal.returns-clause-holds
 returns-clause-holds c =
     let a = c.args.artery.now in
-    let v = c.head.ensures.valid in
+    let v = c.known_valid.ensures in
     λ t g. root_law a t (street_of a v) g _ (root_of a c.in_ok-loops.loops.items c.in_ok-turns.turns.items c.in_ok-loops.ensures c.in_ok-turns.ensures.value (some a v))
