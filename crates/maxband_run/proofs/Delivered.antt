@@ -1,58 +1,34 @@
 -- An answer with what became of it is how the run ended.
-use Rattle.std.proofs.Common.{◌≡◌, ℕ, List, Option, Some, None, ◌⊎◌, inl, inr, refl, sym, ◌∙◌, subst, arith}
-use Rattle.std.specs.Prelude.{option_map, IsNone}
-use Rattle.outer_edge.specs.Counts.{Rose, NoneFell, SameCounts}
+use Rattle.std.proofs.Common.{◌≡◌, ℕ, ◌<◌, List, [], ◌∷◌, length, Option, Some, None, ◌⊎◌, inl, inr, refl, sym, ◌∙◌, ap, subst, arith}
+use Rattle.std.specs.Prelude.{option_map, IsNone, IsSome}
+use Rattle.outer_edge.specs.Counts.{next_count, NoneFell, SameCounts, CountedAt}
 use Rattle.outer_edge.specs.Held.{SameFiles}
 use Rattle.outer_edge.specs.Taken.{Appends, AppendsFront}
-use Rattle.maxband_run.specs.Command.{Form, Hold, Show, Check, Solve, Make, Trial}
-use Rattle.maxband_run.specs.declared.finish.Put.{Put}
-use Rattle.maxband_run.specs.Outside.{Outside, Text, text_of, IsPut, IsDone, IsUntouched, PutFailed, WriteFailed, IsBroken, OthersKept, PutsCounted}
-use Rattle.branch_and_bound.specs.declared.found.Verdict.{Verdict}
-use Rattle.branch_and_bound.specs.declared.found.Verdict.TheVariants.{Best, NoTiming, Stopped}
-use Rattle.branch_tree.specs.declared.site.SitePart.{SitePart}
-use Rattle.maxband_run.specs.Searched.{cause_of}
-use Rattle.maxband_run.specs.Run.{SolveAnswers, Answers, IsVerdict, Ends, FilesKept, PutsKept, LeavesAlone}
+use Rattle.maxband_run.specs.Command.{Request, shape}
+use Rattle.maxband_run.specs.Reading.{Input, IsRoomForFaults}
+use Rattle.maxband_run.specs.declared.answer.Put.{Put}
+use Rattle.maxband_run.specs.Outside.{Outside, NamedBytes, named, view, IsPut, IsDone, IsUntouched, PutFailed, WriteFailed, IsBroken, OthersKept, PutsCounted}
+use Rattle.maxband_run.specs.Run.{Answers, Ends, LeavesAlone}
+use Rattle.maxband_run.specs.Laws.{IsReached}
 use Rattle.maxband_run.specs.declared.cause.Cause.{Cause}
 use Rattle.maxband_run.specs.declared.cause.Cause.TheVariants as cause
+use Rattle.maxband_run.proofs.Stopped.{same_at, IsStop, stops_stop, stops_room}
+use Rattle.maxband_run.proofs.Once.{finds_reached}
 
 -- ---- answers
--- a search gives a verdict
-pub verdict_cause : (c : Cause) (v : Verdict SitePart) → c ≡ cause_of v → IsVerdict c
-verdict_cause c Best e = subst (λ (d : Cause). IsVerdict d) (sym e) tt
-verdict_cause c NoTiming e = subst (λ (d : Cause). IsVerdict d) (sym e) tt
-verdict_cause c (Stopped stop) e = subst (λ (d : Cause). IsVerdict d) (sym e) tt
+-- none is a failed write or want of memory
+answer_cause : (held : List ℕ → Option (List ℕ)) (before after : List ℕ → ℕ) (asked : Option Request) (c : Cause) (lines : List ℕ) (put : Option NamedBytes)
+    → Answers held before after asked c lines put → IsStop c ⊎ IsReached c
+answer_cause held before after asked c lines put (inl h) = inl (stops_stop held before after (shape asked).inputs 1 c lines h.stops)
+answer_cause held before after asked c lines put (inr h) = inr (finds_reached asked h.values c lines h.bytes h.finds)
 
--- none is a failed write
-no_write_fault : (held : List ℕ → Option (List ℕ)) (before after : List ℕ → ℕ) (form : Option Form) (lines : List ℕ) (put : Option Text) → Answers held before after form cause.WriteFault lines put → ⊥
-no_write_fault held before after None lines put h = let e : cause.WriteFault ≡ cause.Words = h.0 in absurd cc
-no_write_fault held before after (Some (Hold artery timing)) lines put h = elim h.0.0 [ inl k ↦ k | inr k ↦ k.2 ]
-no_write_fault held before after (Some (Show artery)) lines put h = h.0.0
-no_write_fault held before after (Some (Check artery certificate)) lines put h = elim h.0.0 [ inl k ↦ k | inr k ↦ k.2 ]
-no_write_fault held before after (Some (Solve artery certificate work)) lines put h = h.0
-no_write_fault held before after (Some (Make signals seed)) lines put h = h.0
-no_write_fault held before after (Some (Trial signals seed work)) lines put h = verdict_cause cause.WriteFault h.0.found.verdict h.0.cause_is
-
--- none is want of memory
-no_memory : (held : List ℕ → Option (List ℕ)) (before after : List ℕ → ℕ) (form : Option Form) (lines : List ℕ) (put : Option Text) → Answers held before after form cause.Memory lines put → ⊥
-no_memory held before after None lines put h = let e : cause.Memory ≡ cause.Words = h.0 in absurd cc
-no_memory held before after (Some (Hold artery timing)) lines put h = h.0
-no_memory held before after (Some (Show artery)) lines put h = h.0
-no_memory held before after (Some (Check artery certificate)) lines put h = h.0
-no_memory held before after (Some (Solve artery certificate work)) lines put h = h
-no_memory held before after (Some (Make signals seed)) lines put h = h.0
-no_memory held before after (Some (Trial signals seed work)) lines put h = verdict_cause cause.Memory h.0.found.verdict h.0.cause_is
-
-pub done_ends : (before now : Outside) (form : Option Form) (c : Cause) (lines : List ℕ) (put : Option Text)
-    → Answers before.holds before.reads now.reads form c lines put → IsDone before now lines put → Ends before now form c
-done_ends before now form cause.WriteFault lines put h d = absurd (no_write_fault before.holds before.reads now.reads form lines put h)
-done_ends before now form cause.Memory lines put h d = absurd (no_memory before.holds before.reads now.reads form lines put h)
-done_ends before now form c lines put h d = (lines, put, h, d)
+pub done_ends : (before now : Outside) (asked : Option Request) (c : Cause) (lines : List ℕ) (put : Option NamedBytes)
+    → Answers before.holds before.reads now.reads asked c lines put → IsDone before now lines put → Ends before now asked c
+done_ends before now asked cause.WriteFault lines put h d = absurd (elim (answer_cause before.holds before.reads now.reads asked cause.WriteFault lines put h) [ inl k ↦ k | inr k ↦ k ])
+done_ends before now asked cause.Memory lines put h d = absurd (elim (answer_cause before.holds before.reads now.reads asked cause.Memory lines put h) [ inl k ↦ k | inr k ↦ k ])
+done_ends before now asked c lines put h d = (lines, put, h, d)
 
 -- ---- from the end of the reading on
--- two functions of names are equal where their values are
-same_at : {A : Type 0} (f g : List ℕ → A) → ((name : List ℕ) → g name ≡ f name) → g ≡ f
-same_at f g h = λ i name. h name i
-
 -- what reading leaves
 pub record IsRead (before mid : Outside) : Type 0 where
   pub files : SameFiles before.holds mid.holds
@@ -68,107 +44,123 @@ module _ (before mid now : Outside) (read : IsRead before mid) where
   same_puts : mid.puts ≡ before.puts
   same_puts = same_at before.puts mid.puts read.puts
 
-  is_put : (put : Option Text) → IsPut put mid.holds now.holds → IsPut put before.holds now.holds
+  is_put : (put : Option NamedBytes) → IsPut put mid.holds now.holds → IsPut put before.holds now.holds
   is_put put h = subst (λ f. IsPut put f now.holds) same_holds h
 
-  pub done_since : (lines : List ℕ) (put : Option Text) → IsDone mid now lines put → IsDone before now lines put
-  done_since lines put d = record { files = is_put put d.files; written = subst (λ t. Appends t now.taken lines) read.taken d.written }
+  puts_since : SameCounts mid.puts now.puts → SameCounts before.puts now.puts
+  puts_since h name = h name ∙ read.puts name
 
-  pub untouched_since : IsUntouched mid now → IsUntouched before now
-  untouched_since u = record { files = subst (λ f. SameFiles f now.holds) same_holds u.files; nothing = u.nothing ∙ read.taken }
+  pub done_since : (lines : List ℕ) (put : Option NamedBytes) → IsDone mid now lines put → IsDone before now lines put
+  done_since lines put d = record {
+    files = is_put put d.files;
+    written = subst (λ t. Appends t now.taken lines) read.taken d.written;
+    puts = puts_since d.puts;
+    writes = d.writes ∙ read.writes;
+  }
 
-  write_failed : (lines : List ℕ) (put : Option Text) → WriteFailed mid now lines put → WriteFailed before now lines put
+  pub untouched_since : SameCounts before.reads mid.reads → IsUntouched mid now → IsUntouched before now
+  untouched_since same u = record {
+    files = subst (λ f. SameFiles f now.holds) same_holds u.files;
+    nothing = u.nothing ∙ read.taken;
+    reads = λ name. u.reads name ∙ same name;
+    puts = puts_since u.puts;
+    writes = u.writes ∙ read.writes;
+  }
+
+  write_failed : (lines : List ℕ) (put : Option NamedBytes) → WriteFailed mid now lines put → WriteFailed before now lines put
   write_failed lines put w = record {
-    counted = subst (λ n. Rose n now.writes) read.writes w.counted;
+    counted = w.counted ∙ ap next_count read.writes;
+    puts = puts_since w.puts;
     files = is_put put w.files;
     front = subst (λ t. AppendsFront t now.taken lines) read.taken w.front;
   }
 
-  put_failed : (text : Text) → PutFailed mid now text → PutFailed before now text
-  put_failed text p = record {
-    counted = subst (λ n. Rose n (now.puts text.name)) (read.puts text.name) p.counted;
-    others = subst (λ f. (other : List ℕ) → (other ≡ text.name → ⊥) → now.holds other ≡ f other) same_holds p.others;
+  put_failed : (put : NamedBytes) → PutFailed mid now put → PutFailed before now put
+  put_failed put p = record {
+    counted = subst (λ f. CountedAt f now.puts put.name) same_puts p.counted;
+    others = subst (λ f. (other : List ℕ) → (other ≡ put.name → ⊥) → now.holds other ≡ f other) same_holds p.others;
     nothing = p.nothing ∙ read.taken;
+    writes = p.writes ∙ read.writes;
   }
 
-  pub broken_since : (lines : List ℕ) (put : Option Text) → IsBroken mid now lines put → IsBroken before now lines put
+  pub broken_since : (lines : List ℕ) (put : Option NamedBytes) → IsBroken mid now lines put → IsBroken before now lines put
   broken_since lines None b = write_failed lines None b
-  broken_since lines (Some text) (inl p) = inl (put_failed text p)
-  broken_since lines (Some text) (inr w) = inr (write_failed lines (Some text) w)
+  broken_since lines (Some put) (inl p) = inl (put_failed put p)
+  broken_since lines (Some put) (inr w) = inr (write_failed lines (Some put) w)
 
-  pub others_since : (put : Option Text) → OthersKept put mid.holds now.holds → OthersKept put before.holds now.holds
-  others_since put k = subst (λ f. OthersKept put f now.holds) same_holds k
+  pub others_since : (name : Option (List ℕ)) → OthersKept name mid.holds now.holds → OthersKept name before.holds now.holds
+  others_since name k = subst (λ f. OthersKept name f now.holds) same_holds k
 
-  pub counted_since : (put : Option Text) → PutsCounted put mid.puts now.puts → PutsCounted put before.puts now.puts
-  counted_since put k = subst (λ f. PutsCounted put f now.puts) same_puts k
+  pub counted_since : (name : Option (List ℕ)) → PutsCounted name mid.puts now.puts → PutsCounted name before.puts now.puts
+  counted_since name k = subst (λ f. PutsCounted name f now.puts) same_puts k
 
   module _ (same : SameCounts mid.reads now.reads) where
-    pub answered_since : (form : Option Form) (c : Cause) (lines : List ℕ) (put : Option Text) → Answers before.holds before.reads mid.reads form c lines put → Answers before.holds before.reads now.reads form c lines put
-    answered_since form c lines put h = subst (λ f. Answers before.holds before.reads f form c lines put) (sym (same_at mid.reads now.reads same)) h
+    pub answered_since : (asked : Option Request) (c : Cause) (lines : List ℕ) (put : Option NamedBytes)
+        → Answers before.holds before.reads mid.reads asked c lines put → Answers before.holds before.reads now.reads asked c lines put
+    answered_since asked c lines put h = subst (λ f. Answers before.holds before.reads f asked c lines put) (sym (same_at mid.reads now.reads same)) h
 
     pub reads_since : NoneFell before.reads now.reads
     reads_since name = omega (arith, read.reads name, same name)
 
 -- ---- in every case
-pub untouched_files : (form : Option Form) (x y : List ℕ → Option (List ℕ)) → SameFiles x y → FilesKept form x y
+pub untouched_files : (name : Option (List ℕ)) (x y : List ℕ → Option (List ℕ)) → SameFiles x y → OthersKept name x y
 untouched_files None x y h = h
-untouched_files (Some (Hold artery timing)) x y h = h
-untouched_files (Some (Show artery)) x y h = h
-untouched_files (Some (Check artery certificate)) x y h = h
-untouched_files (Some (Solve artery certificate work)) x y h = λ other _. h other
-untouched_files (Some (Make signals seed)) x y h = h
-untouched_files (Some (Trial signals seed work)) x y h = h
+untouched_files (Some name) x y h = λ other _. h other
 
-pub untouched_puts : (form : Option Form) (x y : List ℕ → ℕ) → SameCounts x y → PutsKept form x y
+pub untouched_puts : (name : Option (List ℕ)) (x y : List ℕ → ℕ) → SameCounts x y → PutsCounted name x y
 untouched_puts None x y h = h
-untouched_puts (Some (Hold artery timing)) x y h = h
-untouched_puts (Some (Show artery)) x y h = h
-untouched_puts (Some (Check artery certificate)) x y h = h
-untouched_puts (Some (Solve artery certificate work)) x y h = λ name. omega (arith, h name)
-untouched_puts (Some (Make signals seed)) x y h = h
-untouched_puts (Some (Trial signals seed work)) x y h = h
+untouched_puts (Some name) x y h = λ other. omega (arith, h other)
 
--- what `solve` puts is put in its second file
-pub solve_puts : (held : List ℕ → Option (List ℕ)) (before after : List ℕ → ℕ) (artery certificate : List ℕ) (work : ℕ) (c : Cause) (lines : List ℕ) (put : Option Text)
-    → SolveAnswers held before after artery certificate work c lines put → (put ≡ None) ⊎ ((bytes : List ℕ) × (put ≡ Some (record { name = certificate; bytes = bytes })))
-solve_puts held before after artery certificate work cause.Done lines put h = inr (h.0, h.2)
-solve_puts held before after artery certificate work cause.NoTiming lines put h = inr (h.0, h.2)
-solve_puts held before after artery certificate work (cause.Stopped stop) lines put h = inr (h.0, h.2)
-solve_puts held before after artery certificate work cause.Memory lines put h = absurd h
-solve_puts held before after artery certificate work c lines put h = inl h.2
+-- the name of what is put
+abbrev pub name_of : Option Put → Option (List ℕ)
+name_of put = option_map (λ p. p.name.now) put
 
-module _ (held : List ℕ → Option (List ℕ)) (before after : List ℕ → ℕ) (c : Cause) (lines : List ℕ) (put : Option Text) where
-  pub answer_files : (form : Option Form) (x y : List ℕ → Option (List ℕ)) → Answers held before after form c lines put → OthersKept put x y → FilesKept form x y
-  answer_files None x y h k = subst (λ p. OthersKept p x y) h.2 k
-  answer_files (Some (Hold artery timing)) x y h k = subst (λ p. OthersKept p x y) h.1 k
-  answer_files (Some (Show artery)) x y h k = subst (λ p. OthersKept p x y) h.1 k
-  answer_files (Some (Check artery certificate)) x y h k = subst (λ p. OthersKept p x y) h.1 k
-  answer_files (Some (Make signals seed)) x y h k = subst (λ p. OthersKept p x y) h.1 k
-  answer_files (Some (Trial signals seed work)) x y h k = subst (λ p. OthersKept p x y) h.1 k
-  answer_files (Some (Solve artery certificate work)) x y h k = elim (solve_puts held before after artery certificate work c lines put h) [
-    | inl e ↦ untouched_files (Some (Solve artery certificate work)) x y (subst (λ p. OthersKept p x y) e k)
-    | inr e ↦ subst (λ p. OthersKept p x y) e.1 k
+put_name : (put : Option Put) (output : Option (List ℕ)) (bytes : List ℕ) → option_map view put ≡ option_map (λ name. named name bytes) output → name_of put ≡ output
+put_name None None bytes e = refl
+put_name None (Some name) bytes e = absurd cc
+put_name (Some put) None bytes e = absurd cc
+put_name (Some put) (Some name) bytes e = let same : view put ≡ named name bytes = cc in ap (λ (n : NamedBytes). Some n.name) same
+
+put_none : (put : Option Put) → option_map view put ≡ None → name_of put ≡ None
+put_none None e = refl
+put_none (Some put) e = absurd cc
+
+is_none : (put : Option Put) → option_map view put ≡ None → IsNone put
+is_none None e = refl
+is_none (Some put) e = absurd cc
+
+some_put : (put : Option Put) → IsSome put → option_map view put ≡ None → ⊥
+some_put None s e = absurd cc
+some_put (Some put) s e = absurd cc
+
+alone_since : {F : Type 0} (is : List Input) (output : Option (List ℕ)) (x y z : F) → (output ≡ None → z ≡ y) → LeavesAlone is output x y → LeavesAlone is output x z
+alone_since [] None x y z k e = k refl ∙ e
+alone_since [] (Some name) x y z k e = tt
+alone_since (i ∷ is) output x y z k e = tt
+
+module _ (held : List ℕ → Option (List ℕ)) (before after : List ℕ → ℕ) (asked : Option Request) (c : Cause) (lines : List ℕ) (put : Option Put) where
+  pub answer_files : (x y : List ℕ → Option (List ℕ)) → Answers held before after asked c lines (option_map view put) → OthersKept (name_of put) x y → OthersKept (shape asked).output x y
+  answer_files x y (inl h) k = untouched_files (shape asked).output x y (subst (λ (n : Option (List ℕ)). OthersKept n x y) (put_none put h.no_put) k)
+  answer_files x y (inr h) k = subst (λ (n : Option (List ℕ)). OthersKept n x y) (put_name put (shape asked).output h.bytes h.put_is) k
+
+  pub answer_puts : (x y : List ℕ → ℕ) → Answers held before after asked c lines (option_map view put) → PutsCounted (name_of put) x y → PutsCounted (shape asked).output x y
+  answer_puts x y (inl h) k = untouched_puts (shape asked).output x y (subst (λ (n : Option (List ℕ)). PutsCounted n x y) (put_none put h.no_put) k)
+  answer_puts x y (inr h) k = subst (λ (n : Option (List ℕ)). PutsCounted n x y) (put_name put (shape asked).output h.bytes h.put_is) k
+
+  none_put : Answers held before after asked c lines (option_map view put) → (shape asked).output ≡ None → IsNone put
+  none_put (inl h) e = is_none put h.no_put
+  none_put (inr h) e = is_none put (h.put_is ∙ ap (option_map (λ name. named name h.bytes)) e)
+
+  -- what neither reads nor puts leaves the files alone
+  pub answer_alone : {F : Type 0} (x y z : F) → Answers held before after asked c lines (option_map view put)
+      → LeavesAlone (shape asked).inputs (shape asked).output x y → (IsNone put → z ≡ y) → LeavesAlone (shape asked).inputs (shape asked).output x z
+  answer_alone x y z h e k = alone_since (shape asked).inputs (shape asked).output x y z (λ none. k (none_put h none)) e
+
+  -- where memory was wanting no read had failed
+  pub wanted_counts : (room : ℕ) → Answers held before after asked c lines (option_map view put) → IsRoomForFaults (shape asked).inputs room → (room < length lines) ⊎ IsSome put → SameCounts before after
+  wanted_counts room (inr h) few w = h.counts
+  wanted_counts room (inl h) few (inr some) = absurd (some_put put some h.no_put)
+  wanted_counts room (inl h) few (inl more) = elim (stops_room held before after (shape asked).inputs 1 room c lines few h.stops) [
+    | inl fits ↦ absurd (omega (arith, fits, more))
+    | inr same ↦ same
   ]
-
-  pub answer_puts : (form : Option Form) (x y : List ℕ → ℕ) → Answers held before after form c lines put → PutsCounted put x y → PutsKept form x y
-  answer_puts None x y h k = subst (λ p. PutsCounted p x y) h.2 k
-  answer_puts (Some (Hold artery timing)) x y h k = subst (λ p. PutsCounted p x y) h.1 k
-  answer_puts (Some (Show artery)) x y h k = subst (λ p. PutsCounted p x y) h.1 k
-  answer_puts (Some (Check artery certificate)) x y h k = subst (λ p. PutsCounted p x y) h.1 k
-  answer_puts (Some (Make signals seed)) x y h k = subst (λ p. PutsCounted p x y) h.1 k
-  answer_puts (Some (Trial signals seed work)) x y h k = subst (λ p. PutsCounted p x y) h.1 k
-  answer_puts (Some (Solve artery certificate work)) x y h k = elim (solve_puts held before after artery certificate work c lines put h) [
-    | inl e ↦ untouched_puts (Some (Solve artery certificate work)) x y (subst (λ p. PutsCounted p x y) e k)
-    | inr e ↦ subst (λ p. PutsCounted p x y) e.1 k
-  ]
-
-  -- what isn't put leaves the files alone
-  pub answer_alone : {F : Type 0} (form : Option Form) (x y z : F) → Answers held before after form c lines put → LeavesAlone form x y → (put ≡ None → z ≡ y) → LeavesAlone form x z
-  answer_alone None x y z h e k = k h.2 ∙ e
-  answer_alone (Some (Make signals seed)) x y z h e k = k h.1 ∙ e
-  answer_alone (Some (Trial signals seed work)) x y z h e k = k h.1 ∙ e
-  answer_alone (Some form) x y z h e k = tt
-
-pub no_text : (put : Option Put) → option_map text_of put ≡ None → IsNone put
-no_text None e = refl
-no_text (Some put) e = absurd cc

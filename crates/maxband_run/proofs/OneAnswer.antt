@@ -1,27 +1,31 @@
 -- Files that tell their bytes, and the words, leave one answer.
-use Rattle.std.proofs.Common.{Some, None, sym, ◌∙◌}
+use Rattle.std.proofs.Common.{◌≡◌, ℕ, List, [], ◌∷◌, Option, inl, inr, subst}
 use Rattle.description_reader.specs.Described as described
 use Rattle.description_reader.specs.Printed.{OneText}
 use Rattle.time_space.specs.Failing.{FailsRulesOut}
 use Rattle.time_space.specs.FirstFailing.{OneFirst}
 use Rattle.certificate_checker.specs.Laws.{RefusedIsNotAccepted, OneFirstRefusal}
-use Rattle.maxband_run.specs.Command.{Hold, Show, Check, Solve, Make, Trial}
-use Rattle.maxband_run.specs.Run.{OneAnswer}
-use Rattle.maxband_run.proofs.HoldOnce.{held_once}
-use Rattle.maxband_run.proofs.ShowOnce.{shown_once}
-use Rattle.maxband_run.proofs.CheckOnce.{checked_once}
-use Rattle.maxband_run.proofs.SolveOnce.{solved_once}
-use Rattle.maxband_run.proofs.MadeOnce.{made_once, tried_once}
+use Rattle.maxband_run.specs.Command.{shape}
+use Rattle.maxband_run.specs.Reading.{Input, Values, StopsReading}
+use Rattle.maxband_run.specs.Run.{Finds}
+use Rattle.maxband_run.specs.Laws.{OneAnswer}
+use Rattle.maxband_run.specs.declared.cause.Cause.{Cause}
+use Rattle.maxband_run.proofs.Readers.{one_stop, all_apart, same_values}
+use Rattle.maxband_run.proofs.Once.{found_once, stops_agree}
+
+-- where there is no file no reading stops
+some_file : (held : List ℕ → Option (List ℕ)) (before after : List ℕ → ℕ) (is : List Input) (c : Cause) (l : List ℕ) → StopsReading is 1 held before after c l → is ≡ [] → ⊥
+some_file held before after [] c l h e = h
+some_file held before after (i ∷ is) c l h e = absurd cc
 
 pub one_answer : described.OneAnswer → OneText → OneFirst → FailsRulesOut → RefusedIsNotAccepted → OneFirstRefusal → OneAnswer
-one_answer reader one_text one_first rules apart refusals held before after None c d x y p q told n m h k = (h.0 ∙ sym k.0, h.1 ∙ sym k.1)
-one_answer reader one_text one_first rules apart refusals held before after (Some (Hold artery timing)) c d x y p q told n m h k =
-    held_once held before after artery timing reader one_first rules told c d x y n m h.0 k.0
-one_answer reader one_text one_first rules apart refusals held before after (Some (Show artery)) c d x y p q told n m h k =
-    shown_once held before after artery reader one_text told c d x y n m h.0 k.0
-one_answer reader one_text one_first rules apart refusals held before after (Some (Check artery certificate)) c d x y p q told n m h k =
-    checked_once held before after artery certificate reader apart refusals told c d x y n m h.0 k.0
-one_answer reader one_text one_first rules apart refusals held before after (Some (Solve artery certificate work)) c d x y p q told n m h k =
-    solved_once held before after artery certificate work reader told c d x y p q n m h k
-one_answer reader one_text one_first rules apart refusals held before after (Some (Make signals seed)) c d x y p q told n m h k = made_once one_text signals seed c d x y h.0 k.0
-one_answer reader one_text one_first rules apart refusals held before after (Some (Trial signals seed work)) c d x y p q told n m h k = tried_once signals seed work c d x y h.0 k.0
+one_answer reader one_text one_first rules apart once held before after asked c d x y p q told n m (inl h) (inl k) =
+    stops_agree (shape asked).searches (shape asked).inputs c d x y (some_file held before after (shape asked).inputs c x h.stops)
+    (one_stop reader held before after (shape asked).inputs 1 c d x y told n m h.stops k.stops)
+one_answer reader one_text one_first rules apart once held before after asked c d x y p q told n m (inl h) (inr k) =
+    absurd (all_apart reader held before after (shape asked).inputs 1 k.values c x told n k.read h.stops)
+one_answer reader one_text one_first rules apart once held before after asked c d x y p q told n m (inr h) (inl k) =
+    absurd (all_apart reader held before after (shape asked).inputs 1 h.values d y told m h.read k.stops)
+one_answer reader one_text one_first rules apart once held before after asked c d x y p q told n m (inr h) (inr k) =
+    let e = same_values reader held before after (shape asked).inputs h.values k.values told h.read k.read in
+    found_once one_text one_first rules apart once asked k.values c d x y h.bytes k.bytes (subst (λ (v : Values (shape asked).inputs). Finds asked v c x h.bytes) e h.finds) k.finds

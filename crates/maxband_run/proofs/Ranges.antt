@@ -3,20 +3,10 @@ use Rattle.std.proofs.Common.{◌≡◌, ℕ, ◌-◌, ◌^◌, ◌≤◌, Bool,
 use Rattle.std.specs.Prelude.{option_map, option_and_then, if◌then◌else◌}
 use Rattle.std.specs.Str.{bytes_eq}
 use Rattle.maxband_run.specs.Numbers.{usual_work, signals_of, seed_of, work_of}
-use Rattle.maxband_run.specs.Command.{Form, Hold, Show, Check, Solve, Make, Trial, make_of, trial_of, with_two, with_three, command_of}
+use Rattle.maxband_run.specs.Command.{Request, Hold, Show, Check, Solve, Make, Trial, make_of, trial_of, with_two, with_three, request_of, InLimits}
 use Rattle.maxband_run.proofs.Spelled.{in_limits}
 
--- a search has work to spend, and 2 to 16 signals are made
-abbrev pub InLimits : Option Form → Type 0
-InLimits None = Unit {0}
-InLimits (Some (Hold artery timing)) = Unit {0}
-InLimits (Some (Show artery)) = Unit {0}
-InLimits (Some (Check artery certificate)) = Unit {0}
-InLimits (Some (Solve artery certificate work)) = 1 ≤ work
-InLimits (Some (Make signals seed)) = (2 ≤ signals) × (signals ≤ 16)
-InLimits (Some (Trial signals seed work)) = ((2 ≤ signals) × (signals ≤ 16)) × (1 ≤ work)
-
-either : (b : Bool) (x y : Option Form) → InLimits x → InLimits y → InLimits (if b then x else y)
+either : (b : Bool) (x y : Option Request) → InLimits x → InLimits y → InLimits (if b then x else y)
 either true x y h k = h
 either false x y h k = k
 
@@ -57,7 +47,7 @@ three_limits word first second third =
     (either (bytes_eq word (codes "trial")) (trial_of first second third) None
     (trial_limits (signals_of first) (seed_of second) (work_of third) (in_limits 2 16 first) (some_work third)) tt)
 
-pub command_limits : (words : List (List ℕ)) → InLimits (command_of words)
+pub command_limits : (words : List (List ℕ)) → InLimits (request_of words)
 command_limits [] = tt
 command_limits (word ∷ []) = tt
 command_limits (word ∷ first ∷ []) = either (bytes_eq word (codes "show")) (Some (Show first)) None tt tt

@@ -1,22 +1,16 @@
--- What `hold` finds in its two files.
-use Rattle.std.specs.Prelude.{◌≡◌, ℕ, List, Option}
-use Rattle.rational_theory.specs.Rational.{ℚ}
+-- What `hold` finds of an artery and a timing.
+use Rattle.std.specs.Prelude.{◌≡◌, ℕ, List}
 use Rattle.progression.specs.Street.{Street}
 use Rattle.progression.specs.Plan.{Plan}
 use Rattle.progression.specs.Good.{Good}
 use Rattle.progression.specs.Best.{weighted_band}
-use Rattle.plan_text.specs.Reading.{timing_of}
 use Rattle.time_space.specs.FirstFailing.{IsFirstFailing}
-use Rattle.maxband_run.specs.Inputs.{text_limit, ReadsArtery, ReadsTiming, InputEnds}
+use Rattle.maxband_run.specs.Lines.{holds_lines, fails_line}
 use Rattle.maxband_run.specs.declared.cause.Cause.{Cause}
 use Rattle.maxband_run.specs.declared.cause.Cause.TheVariants as cause
 
--- the timing of the one file is good on the artery of the other, and this is its weighted band
-abbrev pub Holds : Option (List ℕ) → Option (List ℕ) → ℚ → Type 0
-Holds artery timing value = (a : Street) × (t : Plan) × ReadsArtery artery a × ReadsTiming timing t × Good a t × (value ≡ weighted_band a t)
-
--- why a run of `hold` ends without that
-abbrev pub HoldEnds : (List ℕ → Option (List ℕ)) → (List ℕ → ℕ) → (List ℕ → ℕ) → List ℕ → List ℕ → Cause → Type 0
-HoldEnds held before after artery timing (cause.Fails f) =
-    (a : Street) × (t : Plan) × ReadsArtery (held artery) a × ReadsTiming (held timing) t × IsFirstFailing a t f
-HoldEnds held before after artery timing c = InputEnds text_limit timing_of held before after artery timing c
+-- the timing is good on the artery, and its weighted band is printed; or this is the first rule that it breaks
+abbrev pub HoldFinds : Street → Plan → Cause → List ℕ → Type 0
+HoldFinds a t cause.Done lines = Good a t × (lines ≡ holds_lines (weighted_band a t))
+HoldFinds a t (cause.Fails f) lines = IsFirstFailing a t f × (lines ≡ fails_line f)
+HoldFinds a t c lines = ⊥

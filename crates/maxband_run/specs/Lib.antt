@@ -4,7 +4,7 @@ pub mod Status
 pub mod Outside
 pub mod Lines
 pub mod CheckLines
-pub mod Inputs
+pub mod Reading
 pub mod Hold
 pub mod Show
 pub mod Check
@@ -13,3 +13,4 @@ pub mod Solve
 pub mod Make
 pub mod Trial
 pub mod Run
+pub mod Laws

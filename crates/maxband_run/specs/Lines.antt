@@ -1,5 +1,5 @@
 -- The lines of each answer.
-use Rattle.std.specs.Prelude.{ℕ, ◌==◌, List, [], ◌++◌, codes, if◌then◌else◌}
+use Rattle.std.specs.Prelude.{ℕ, List, ◌++◌, codes}
 use Rattle.std.specs.Fmt.{decimal, signed_decimal}
 use Rattle.rational_theory.specs.Rational.{ℚ}
 use Rattle.quantity_text.specs.Exact.{exact_spelling}
@@ -13,8 +13,6 @@ use Rattle.plan_text.specs.declared.fault.BadText.{BadText}
 use Rattle.time_space.specs.declared.failing.Failing.{Failing}
 use Rattle.time_space.specs.declared.failing.Failing.TheVariants as failing
 use Rattle.diagram_print.specs.Measures.{dir_name}
-use Rattle.maxband_run.specs.declared.cause.Cause.{Cause}
-use Rattle.maxband_run.specs.declared.cause.Cause.TheVariants as cause
 
 abbrev pub kind_name : Kind → List ℕ
 kind_name kind.NotUtf8 = codes "NotUtf8"
@@ -72,16 +70,3 @@ too_long_line name = codes "too long " ++ (name ++ codes "\n")
 
 abbrev pub holds_lines : ℚ → List ℕ
 holds_lines value = codes "holds\nweighted " ++ (exact_spelling value ++ codes "\n")
-
--- the word that names the first or the second file
-abbrev pub named : ℕ → List ℕ → List ℕ → List ℕ
-named file first second = if file == 1 then first else second
-
--- the lines where a rule is broken or the reading of a file ends the run
-abbrev pub end_lines : List ℕ → List ℕ → Cause → List ℕ
-end_lines first second (cause.Refused r) = refused_line r
-end_lines first second (cause.BadText b) = bad_text_line b
-end_lines first second (cause.Fails f) = fails_line f
-end_lines first second (cause.ReadFault file) = cannot_read_line (named file first second)
-end_lines first second (cause.TooLong file) = too_long_line (named file first second)
-end_lines first second _ = []

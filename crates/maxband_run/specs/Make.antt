@@ -1,8 +1,8 @@
--- What `make` writes.
+-- What `make` finds: the artery that is made with so many signals from this seed, as `show` does.
 use Rattle.std.specs.Prelude.{ℕ, List}
-use Rattle.description_reader.specs.Printed.{IsCanonicalText}
 use Rattle.workload_maker.specs.Made.{made_street}
+use Rattle.maxband_run.specs.Show.{Shows}
+use Rattle.maxband_run.specs.declared.cause.Cause.{Cause}
 
--- these lines are the canonical description of the artery that is made with so many signals from this seed
-abbrev pub Makes : ℕ → ℕ → List ℕ → Type 0
-Makes signals seed lines = IsCanonicalText (made_street signals seed) lines
+abbrev pub Makes : ℕ → ℕ → Cause → List ℕ → Type 0
+Makes signals seed c lines = Shows (made_street signals seed) c lines

@@ -1,9 +1,11 @@
--- What `show` finds in its file.
-use Rattle.std.specs.Prelude.{ℕ, List, Option}
+-- What `show` finds of an artery.
+use Rattle.std.specs.Prelude.{ℕ, List}
 use Rattle.progression.specs.Street.{Street}
 use Rattle.description_reader.specs.Printed.{IsCanonicalText}
-use Rattle.maxband_run.specs.Inputs.{ReadsArtery}
+use Rattle.maxband_run.specs.declared.cause.Cause.{Cause}
+use Rattle.maxband_run.specs.declared.cause.Cause.TheVariants as cause
 
--- these lines are the canonical description of the artery that the file describes
-abbrev pub Shows : Option (List ℕ) → List ℕ → Type 0
-Shows held lines = (a : Street) × ReadsArtery held a × IsCanonicalText a lines
+-- these lines are the canonical description of the artery
+abbrev pub Shows : Street → Cause → List ℕ → Type 0
+Shows a cause.Done lines = IsCanonicalText a lines
+Shows a c lines = ⊥

@@ -1,10 +1,9 @@
--- What `solve` finds in its file, and what it writes and puts.
-use Rattle.std.specs.Prelude.{◌≡◌, ℕ, List, Option}
+-- What `solve` finds of an artery, what it writes, and what it puts.
+use Rattle.std.specs.Prelude.{◌≡◌, ℕ, List}
 use Rattle.progression.specs.Street.{Street}
 use Rattle.branch_tree.specs.declared.found.Found.{Found}
 use Rattle.branch_tree.specs.Certified.{warrant_of}
 use Rattle.diagram_print.specs.Report.{report_lines}
-use Rattle.maxband_run.specs.Inputs.{ReadsArtery}
 use Rattle.maxband_run.specs.Searched.{cause_of, IsSearched, IsTextOf}
 use Rattle.maxband_run.specs.declared.cause.Cause.{Cause}
 
@@ -15,7 +14,3 @@ pub record IsSolution (a : Street) (work : ℕ) (c : Cause) (lines certificate :
   pub cause_is : c ≡ cause_of found.verdict
   pub lines_are : lines ≡ report_lines a found
   pub certificate_is : IsTextOf certificate (warrant_of a found)
-
--- the same of the artery that the file describes
-abbrev pub Solves : Option (List ℕ) → ℕ → Cause → List ℕ → List ℕ → Type 0
-Solves held work c lines certificate = (a : Street) × ReadsArtery held a × IsSolution a work c lines certificate

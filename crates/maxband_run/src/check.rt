@@ -1,49 +1,36 @@
 //! The command `check`.
 
-ghost use Rattle.std.specs.Prelude.{◌≡◌, IfOk, IfErr};
-ghost use Rattle.outer_edge.specs.Counts.{NoneFell, SameCounts};
-ghost use Rattle.outer_edge.specs.Held.{SameFiles};
-ghost use Rattle.maxband_run.specs.Check.{Finds, CheckEnds};
+ghost use Rattle.std.specs.Prelude.{◌≡◌, None, IfOk};
+ghost use Rattle.maxband_run.specs.Check.{CheckFinds};
 
+use crate::answer::{Answer, told};
 use crate::cause::Cause;
-use crate::inputs::{artery_of, certificate_of};
-use certificate_checker::Reject;
-use outer_edge::Files;
-use plan_text::Claim;
+use crate::check_lines::{accepted_line, rejected_line};
+use artery_model::Artery;
+use narrow_fraction::Memory;
+use plan_text::Certificate;
 use std::alloc::Global;
 
-/// What the check of a certificate comes to.
-#[derive(Debug, Drop)]
-pub enum Verdict {
-    /// It is accepted, and so this holds of the artery.
-    Accepted(Claim),
-    /// It is refused on an artery with so many signals: the first refusal, which is never want of memory.
-    Rejected { signals: u32, reject: Reject },
-}
-
-/// Checks the certificate of the second file for the artery of the first.
-pub fn check<F: Files>(
+/// Checks the certificate for the artery: the answer has what is claimed where it is accepted, else the first refusal.
+pub fn check(
     alloc: Global,
-    files: &mut F,
-    artery: &str,
-    certificate: &str,
-) -> Result<Verdict, Cause>
-    ensures ok { IfOk result (Finds (F.holds files.old artery.now) (F.holds files.old certificate.now)) }
-    ensures err { IfErr result (CheckEnds (F.holds files.old) (F.read_faults files.old) (F.read_faults files.new) artery.now certificate.now) }
-    ensures files { SameFiles (F.holds files.old) (F.holds files.new) }
-    ensures reads { NoneFell (F.read_faults files.old) (F.read_faults files.new) }
-    ensures puts { SameCounts (F.put_faults files.old) (F.put_faults files.new) }
+    artery: &Artery,
+    certificate: &Certificate,
+) -> Result<Answer<'static>, Memory>
+    ensures finds { IfOk result (λ a. CheckFinds artery.now certificate.now a.cause a.lines.items) }
+    ensures no_put { IfOk result (λ a. a.put ≡ None) }
 {
-    let artery = artery_of(alloc, files, artery)?;
-    let certificate = certificate_of(alloc, files, certificate)?;
-    match certificate_checker::check(alloc, &artery, &certificate) {
-        Ok(()) => Ok(Verdict::Accepted(certificate.claim)),
+    match certificate_checker::check(alloc, artery, certificate) {
+        Ok(()) => {
+            let lines = accepted_line(alloc, certificate.claim)?.into_bytes();
+            Ok(told(Cause::Done, lines))
+        }
         Err(reject) => {
             if reject.is_memory() {
-                return Err(Cause::Memory);
+                return Err(Memory);
             }
-            let signals = artery.count();
-            Ok(Verdict::Rejected { signals, reject })
+            let lines = rejected_line(alloc, artery.count(), &reject)?.into_bytes();
+            Ok(told(Cause::Rejected(reject), lines))
         }
     }
 }

@@ -1,7 +1,9 @@
 //! The words of a command.
 
-ghost use Rattle.std.specs.Prelude.{◌≡◌, map, option_map, string_bytes};
-ghost use Rattle.maxband_run.specs.Command.{command_of, make_of, trial_of, with_two, with_three, view};
+ghost use Rattle.std.specs.Prelude.{◌≡◌, length, map, option_map, string_bytes};
+ghost use Rattle.maxband_run.specs.Command.{request_of, make_of, trial_of, with_two, with_three, view, shape};
+ghost use Rattle.maxband_run.specs.Lines.{cannot_read_line};
+ghost use Rattle.maxband_run.specs.Reading.{IsRoomForFaults};
 
 use crate::numbers::{USUAL_WORK, seed_in, signals_in, work_in};
 
@@ -112,7 +114,7 @@ fn with_three<'a>(word: &str, first: &'a str, second: &'a str, third: &str) -> O
 
 /// The command of these words, where they are one of the forms.
 pub fn command_in(words: &[String]) -> Option<Command<'_>>
-    ensures { option_map view result ≡ command_of (map string_bytes words.now) }
+    ensures { option_map view result ≡ request_of (map string_bytes words.now) }
 {
     match words {
         [word, artery] => if word.as_str() == "show" {
@@ -130,5 +132,32 @@ pub fn command_in(words: &[String]) -> Option<Command<'_>>
             third.as_str(),
         ),
         _ => None,
+    }
+}
+
+/// How many bytes the line of a file has that couldn't be read.
+fn fault_bytes(name: &str) -> u64
+    ensures { result ≡ length (cannot_read_line name.now) }
+{
+    13 + name.len() as u64
+}
+
+/// Room for the line of each file that the command reads, in case that it can't be read.
+pub fn room_for_faults(command: Option<Command<'_>>) -> u64
+    ensures { IsRoomForFaults (shape (option_map view command.entry)).inputs result }
+{
+    match command {
+        Some(Command::Show { artery } | Command::Solve { artery, .. }) => fault_bytes(artery),
+        Some(
+            Command::Hold {
+                artery,
+                timing: second,
+            }
+            | Command::Check {
+                artery,
+                certificate: second,
+            },
+        ) => fault_bytes(artery).max(fault_bytes(second)),
+        Some(Command::Make { .. } | Command::Trial { .. }) | None => 0,
     }
 }

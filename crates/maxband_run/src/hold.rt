@@ -1,35 +1,29 @@
 //! The command `hold`.
 
-ghost use Rattle.std.specs.Prelude.{IfOk, IfErr};
-ghost use Rattle.outer_edge.specs.Counts.{NoneFell, SameCounts};
-ghost use Rattle.outer_edge.specs.Held.{SameFiles};
-ghost use Rattle.maxband_run.specs.Hold.{Holds, HoldEnds};
+ghost use Rattle.std.specs.Prelude.{◌≡◌, None, IfOk};
+ghost use Rattle.maxband_run.specs.Hold.{HoldFinds};
 
+use crate::answer::{Answer, told};
 use crate::cause::Cause;
-use crate::inputs::{artery_of, timing_of};
-use narrow_fraction::Frac;
-use outer_edge::Files;
+use crate::lines::{fails_line, holds_lines};
+use artery_model::Artery;
+use narrow_fraction::Memory;
 use std::alloc::Global;
-use time_space::{holds, value};
+use time_space::{Timing, holds, value};
 
-/// Tests the timing of the second file on the artery of the first: its weighted band where it
-/// holds, else why not.
-pub fn hold<F: Files>(
-    alloc: Global,
-    files: &mut F,
-    artery: &str,
-    timing: &str,
-) -> Result<Frac, Cause>
-    ensures ok { IfOk result (Holds (F.holds files.old artery.now) (F.holds files.old timing.now)) }
-    ensures err { IfErr result (HoldEnds (F.holds files.old) (F.read_faults files.old) (F.read_faults files.new) artery.now timing.now) }
-    ensures files { SameFiles (F.holds files.old) (F.holds files.new) }
-    ensures reads { NoneFell (F.read_faults files.old) (F.read_faults files.new) }
-    ensures puts { SameCounts (F.put_faults files.old) (F.put_faults files.new) }
+/// Tests the timing on the artery: the answer has its weighted band where it holds, else the first rule that it breaks.
+pub fn hold(alloc: Global, artery: &Artery, timing: &Timing) -> Result<Answer<'static>, Memory>
+    ensures finds { IfOk result (λ a. HoldFinds artery.now timing.now a.cause a.lines.items) }
+    ensures no_put { IfOk result (λ a. a.put ≡ None) }
 {
-    let artery = artery_of(alloc, files, artery)?;
-    let timing = timing_of(alloc, files, timing)?;
-    match holds(&artery, &timing) {
-        Ok(()) => Ok(value(&artery, &timing)),
-        Err(failing) => Err(Cause::Fails(failing)),
+    match holds(artery, timing) {
+        Ok(()) => {
+            let lines = holds_lines(alloc, value(artery, timing))?.into_bytes();
+            Ok(told(Cause::Done, lines))
+        }
+        Err(failing) => {
+            let lines = fails_line(alloc, failing)?.into_bytes();
+            Ok(told(Cause::Fails(failing), lines))
+        }
     }
 }

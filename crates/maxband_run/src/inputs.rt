@@ -1,95 +1,170 @@
 //! The files that a command reads, one after the other.
 
-ghost use Rattle.std.specs.Prelude.{◌<◌, ◌^◌, IfOk, IfErr};
+ghost use Rattle.std.specs.Prelude.{◌≡◌, None, IfOk, IfErr, OnOk, OnErr};
 ghost use Rattle.outer_edge.specs.Counts.{NoneFell, SameCounts};
 ghost use Rattle.outer_edge.specs.Held.{SameFiles};
-ghost use Rattle.maxband_run.specs.Inputs.{IsWithinLimit, NotRead, ReadsArtery, FirstEnds, ReadsTiming, TimingEnds, ReadsCertificate, CertificateEnds};
+ghost use Rattle.maxband_run.specs.Reading.{input, most_bytes, IsWithinLimit, Reads, IsUnread};
+ghost use Rattle.maxband_run.specs.Lines.{refused_line, bad_text_line, too_long_line};
 
+use crate::answer::{Unread, told};
 use crate::cause::Cause;
-use artery_model::{Artery, Flaw};
+use crate::lines::{bad_text_line, cannot_read_line, refused_line, too_long_line};
+use crate::reader::Reader;
+use artery_model::{Artery, Flaw, Refusal};
 use description_reader::read_artery;
+use narrow_fraction::Memory;
 use outer_edge::{Files, ReadEnd, read_whole};
-use plan_text::{Certificate, TextEnd, read_certificate, read_timing};
+use plan_text::{BadText, Certificate, TextEnd, read_certificate, read_timing};
 use std::alloc::Global;
 use time_space::Timing;
 
-/// The most bytes of a description or a timing.
-const TEXT_LIMIT: u64 = 1_048_576;
-
-/// The most bytes of a certificate.
-const CERTIFICATE_LIMIT: u64 = 268_435_456;
-
-/// The bytes of a file, or why it isn't read.
+/// The bytes of the file that is read at this place, or why it isn't read. The line of a read that fails is made before the
+/// read, so that want of memory can't hide a fault that was counted.
 fn bytes_of<F: Files>(
     alloc: Global,
     files: &mut F,
     name: &str,
-    limit: u64,
-    file: u8,
-) -> Result<Vec<u8>, Cause>
-    requires { limit < 2 ^ 63 }
-    ensures ok { IfOk result (λ bytes. IsWithinLimit limit (F.holds files.old name.now) bytes.items) }
-    ensures err { IfErr result (λ c. NotRead limit (F.holds files.old name.now) (F.read_faults files.old name.now) (F.read_faults files.new name.now) file c) }
+    reader: Reader,
+    place: u8,
+) -> Result<Vec<u8>, Unread>
+    ensures ok { IfOk result (λ bytes. IsWithinLimit (most_bytes reader) (F.holds files.old name.now) bytes.items) }
+    ensures none_failed { OnOk result (SameCounts (F.read_faults files.old) (F.read_faults files.new)) }
+    ensures unread { IfErr result (λ end. IfOk end (λ a. IsUnread (input reader name.now) place (F.holds files.old) (F.read_faults files.old) (F.read_faults files.new) a.cause a.lines.items)) }
+    ensures no_put { IfErr result (λ end. IfOk end (λ a. a.put ≡ None)) }
+    ensures memory { IfErr result (λ end. OnErr end (SameCounts (F.read_faults files.old) (F.read_faults files.new))) }
+
+    // In every case.
     ensures files { SameFiles (F.holds files.old) (F.holds files.new) }
     ensures reads { NoneFell (F.read_faults files.old) (F.read_faults files.new) }
     ensures puts { SameCounts (F.put_faults files.old) (F.put_faults files.new) }
 {
-    match read_whole(alloc, files, name, limit) {
+    let line = match cannot_read_line(alloc, name) {
+        Ok(line) => line,
+        Err(_) => return Err(Err(Memory)),
+    };
+    match read_whole(alloc, files, name, reader.most_bytes()) {
         Ok(bytes) => Ok(bytes),
-        Err(ReadEnd::ReadFault) => Err(Cause::ReadFault { file }),
-        Err(ReadEnd::TooLong) => Err(Cause::TooLong { file }),
-        Err(ReadEnd::Memory) => Err(Cause::Memory),
+        Err(ReadEnd::ReadFault) => {
+            Err(Ok(told(Cause::ReadFault { file: place }, line.into_bytes())))
+        }
+        Err(ReadEnd::TooLong) => Err(too_long(alloc, name, place)),
+        Err(ReadEnd::Memory) => Err(Err(Memory)),
     }
 }
 
-/// The artery of the first file, or why it isn't read.
-pub fn artery_of<F: Files>(alloc: Global, files: &mut F, name: &str) -> Result<Artery, Cause>
-    ensures ok { IfOk result (ReadsArtery (F.holds files.old name.now)) }
-    ensures err { IfErr result (FirstEnds (F.holds files.old name.now) (F.read_faults files.old name.now) (F.read_faults files.new name.now)) }
+/// The answer where a file has more bytes than its limit.
+fn too_long(alloc: Global, name: &str, place: u8) -> Unread
+    ensures cause { IfOk result (λ a. a.cause ≡ Cause.TooLong place) }
+    ensures lines { IfOk result (λ a. a.lines.items ≡ too_long_line name.now) }
+    ensures no_put { IfOk result (λ a. a.put ≡ None) }
+{
+    let line = too_long_line(alloc, name)?;
+    Ok(told(Cause::TooLong { file: place }, line.into_bytes()))
+}
+
+/// The answer where a description is refused.
+fn refused(alloc: Global, refusal: Refusal) -> Unread
+    ensures cause { IfOk result (λ a. a.cause ≡ Cause.Refused refusal) }
+    ensures lines { IfOk result (λ a. a.lines.items ≡ refused_line refusal) }
+    ensures no_put { IfOk result (λ a. a.put ≡ None) }
+{
+    let line = refused_line(alloc, &refusal)?;
+    Ok(told(Cause::Refused(refusal), line.into_bytes()))
+}
+
+/// The answer where a text has a bad line.
+fn bad_text(alloc: Global, bad: BadText) -> Unread
+    ensures cause { IfOk result (λ a. a.cause ≡ Cause.BadText bad) }
+    ensures lines { IfOk result (λ a. a.lines.items ≡ bad_text_line bad) }
+    ensures no_put { IfOk result (λ a. a.put ≡ None) }
+{
+    let line = bad_text_line(alloc, bad)?;
+    Ok(told(Cause::BadText(bad), line.into_bytes()))
+}
+
+/// The artery of the file that is read at this place, or why it isn't read.
+pub fn artery_of<F: Files>(
+    alloc: Global,
+    files: &mut F,
+    name: &str,
+    place: u8,
+) -> Result<Artery, Unread>
+    ensures ok { IfOk result (Reads Reader.Description (F.holds files.old name.now)) }
+    ensures none_failed { OnOk result (SameCounts (F.read_faults files.old) (F.read_faults files.new)) }
+    ensures unread { IfErr result (λ end. IfOk end (λ a. IsUnread (input Reader.Description name.now) place (F.holds files.old) (F.read_faults files.old) (F.read_faults files.new) a.cause a.lines.items)) }
+    ensures no_put { IfErr result (λ end. IfOk end (λ a. a.put ≡ None)) }
+    ensures memory { IfErr result (λ end. OnErr end (SameCounts (F.read_faults files.old) (F.read_faults files.new))) }
+
+    // In every case.
     ensures files { SameFiles (F.holds files.old) (F.holds files.new) }
     ensures reads { NoneFell (F.read_faults files.old) (F.read_faults files.new) }
     ensures puts { SameCounts (F.put_faults files.old) (F.put_faults files.new) }
 {
-    let bytes = bytes_of(alloc, files, name, TEXT_LIMIT, 1)?;
+    let bytes = match bytes_of(alloc, files, name, Reader::Description, place) {
+        Ok(bytes) => bytes,
+        Err(end) => return Err(end),
+    };
     match read_artery(alloc, bytes.as_slice()) {
         Ok(artery) => Ok(artery),
-        Err(Flaw::Refused(refusal)) => Err(Cause::Refused(refusal)),
-        Err(Flaw::Memory) => Err(Cause::Memory),
+        Err(Flaw::Refused(refusal)) => Err(refused(alloc, refusal)),
+        Err(Flaw::Memory) => Err(Err(Memory)),
     }
 }
 
-/// The timing of the second file, or why it isn't read.
-pub fn timing_of<F: Files>(alloc: Global, files: &mut F, name: &str) -> Result<Timing, Cause>
-    ensures ok { IfOk result (ReadsTiming (F.holds files.old name.now)) }
-    ensures err { IfErr result (TimingEnds (F.holds files.old name.now) (F.read_faults files.old name.now) (F.read_faults files.new name.now)) }
+/// The timing of the file that is read at this place, or why it isn't read.
+pub fn timing_of<F: Files>(
+    alloc: Global,
+    files: &mut F,
+    name: &str,
+    place: u8,
+) -> Result<Timing, Unread>
+    ensures ok { IfOk result (Reads Reader.Timing (F.holds files.old name.now)) }
+    ensures none_failed { OnOk result (SameCounts (F.read_faults files.old) (F.read_faults files.new)) }
+    ensures unread { IfErr result (λ end. IfOk end (λ a. IsUnread (input Reader.Timing name.now) place (F.holds files.old) (F.read_faults files.old) (F.read_faults files.new) a.cause a.lines.items)) }
+    ensures no_put { IfErr result (λ end. IfOk end (λ a. a.put ≡ None)) }
+    ensures memory { IfErr result (λ end. OnErr end (SameCounts (F.read_faults files.old) (F.read_faults files.new))) }
+
+    // In every case.
     ensures files { SameFiles (F.holds files.old) (F.holds files.new) }
     ensures reads { NoneFell (F.read_faults files.old) (F.read_faults files.new) }
     ensures puts { SameCounts (F.put_faults files.old) (F.put_faults files.new) }
 {
-    let bytes = bytes_of(alloc, files, name, TEXT_LIMIT, 2)?;
+    let bytes = match bytes_of(alloc, files, name, Reader::Timing, place) {
+        Ok(bytes) => bytes,
+        Err(end) => return Err(end),
+    };
     match read_timing(alloc, bytes.as_slice()) {
         Ok(timing) => Ok(timing),
-        Err(TextEnd::Bad(bad)) => Err(Cause::BadText(bad)),
-        Err(TextEnd::Memory) => Err(Cause::Memory),
+        Err(TextEnd::Bad(bad)) => Err(bad_text(alloc, bad)),
+        Err(TextEnd::Memory) => Err(Err(Memory)),
     }
 }
 
-/// The certificate of the second file, or why it isn't read.
+/// The certificate of the file that is read at this place, or why it isn't read.
 pub fn certificate_of<F: Files>(
     alloc: Global,
     files: &mut F,
     name: &str,
-) -> Result<Certificate, Cause>
-    ensures ok { IfOk result (ReadsCertificate (F.holds files.old name.now)) }
-    ensures err { IfErr result (CertificateEnds (F.holds files.old name.now) (F.read_faults files.old name.now) (F.read_faults files.new name.now)) }
+    place: u8,
+) -> Result<Certificate, Unread>
+    ensures ok { IfOk result (Reads Reader.Certificate (F.holds files.old name.now)) }
+    ensures none_failed { OnOk result (SameCounts (F.read_faults files.old) (F.read_faults files.new)) }
+    ensures unread { IfErr result (λ end. IfOk end (λ a. IsUnread (input Reader.Certificate name.now) place (F.holds files.old) (F.read_faults files.old) (F.read_faults files.new) a.cause a.lines.items)) }
+    ensures no_put { IfErr result (λ end. IfOk end (λ a. a.put ≡ None)) }
+    ensures memory { IfErr result (λ end. OnErr end (SameCounts (F.read_faults files.old) (F.read_faults files.new))) }
+
+    // In every case.
     ensures files { SameFiles (F.holds files.old) (F.holds files.new) }
     ensures reads { NoneFell (F.read_faults files.old) (F.read_faults files.new) }
     ensures puts { SameCounts (F.put_faults files.old) (F.put_faults files.new) }
 {
-    let bytes = bytes_of(alloc, files, name, CERTIFICATE_LIMIT, 2)?;
+    let bytes = match bytes_of(alloc, files, name, Reader::Certificate, place) {
+        Ok(bytes) => bytes,
+        Err(end) => return Err(end),
+    };
     match read_certificate(alloc, bytes.as_slice()) {
         Ok(certificate) => Ok(certificate),
-        Err(TextEnd::Bad(bad)) => Err(Cause::BadText(bad)),
-        Err(TextEnd::Memory) => Err(Cause::Memory),
+        Err(TextEnd::Bad(bad)) => Err(bad_text(alloc, bad)),
+        Err(TextEnd::Memory) => Err(Err(Memory)),
     }
 }

@@ -6,6 +6,7 @@
 //! has its cause, and the output grows by exactly that answer's lines.
 #![tactic(auto)]
 
+mod answer;
 mod answers;
 mod cause;
 mod check;
@@ -17,6 +18,7 @@ mod inputs;
 mod lines;
 mod make;
 mod numbers;
+mod reader;
 mod searching;
 mod show;
 mod solve;
@@ -25,6 +27,6 @@ mod trial;
 
 pub use cause::{Cause, Status};
 pub use top::{
-    law_make_is_complete, law_one_answer, law_put_is_accepted, law_solve_is_complete,
-    law_trial_is_complete, run,
+    law_check_says, law_faults_are_told, law_hold_says, law_make_is_complete, law_one_answer,
+    law_put_is_accepted, law_solve_is_complete, law_solve_says, law_trial_is_complete, run,
 };

@@ -1,37 +1,43 @@
 //! The top call.
 
-ghost use Rattle.std.specs.Prelude.{◌≡◌, ◌≤◌, map, option_map, string_bytes, IfOk};
+ghost use Rattle.std.specs.Prelude.{◌≡◌, ◌≤◌, map, option_map, string_bytes, IfOk, OnErr};
 ghost use Rattle.outer_edge.specs.Counts.{NoneFell, SameCounts};
 ghost use Rattle.outer_edge.specs.Held.{SameFiles};
 ghost use Rattle.maxband_run.specs.Status.{number_of};
-ghost use Rattle.maxband_run.specs.Command.{command_of};
-ghost use Rattle.maxband_run.specs.Outside.{outside, text_of};
-ghost use Rattle.maxband_run.specs.Run.{Answers, Ends, FilesKept, PutsKept, LeavesAlone, OneAnswer, SolveIsComplete, MakeIsComplete, TrialIsComplete, PutIsAccepted};
+ghost use Rattle.maxband_run.specs.Command as commands;
+ghost use Rattle.maxband_run.specs.Command.{request_of, shape, InLimits};
+ghost use Rattle.maxband_run.specs.Outside.{outside, view, OthersKept, PutsCounted};
+ghost use Rattle.maxband_run.specs.Run.{Answers, Ends, LeavesAlone};
+ghost use Rattle.maxband_run.specs.Laws.{OneAnswer, FaultsAreTold, SolveIsComplete, MakeIsComplete, TrialIsComplete, PutIsAccepted, SolveSays, HoldSays, CheckSays};
 
-use crate::answers::{
-    Answer, check_answer, hold_answer, make_answer, show_answer, solve_answer, trial_answer,
-    words_answer,
-};
+use crate::answer::Answer;
+use crate::answers::{check_answer, hold_answer, show_answer, solve_answer, words_answer};
 use crate::cause::{Cause, Status};
-use crate::command::{Command, command_in};
+use crate::command::{Command, command_in, room_for_faults};
 use crate::finish::{Undelivered, deliver};
+use crate::make::make;
+use crate::trial::trial;
 use narrow_fraction::Memory;
 use outer_edge::{Files, Sink};
 use std::alloc::Global;
 
-/// The answer of the words.
+/// The answer to what the words ask for.
 fn answer_to<'a, F: Files>(
     alloc: Global,
-    words: &'a [String],
+    command: Option<Command<'a>>,
     files: &mut F,
 ) -> Result<Answer<'a>, Memory>
-    ensures told { IfOk result (λ a. Answers (F.holds files.old) (F.read_faults files.old) (F.read_faults files.new) (command_of (map string_bytes words.now)) a.cause a.lines.items (option_map text_of a.put)) }
+    requires { InLimits (option_map commands.view command) }
+    ensures told { IfOk result (λ a. Answers (F.holds files.old) (F.read_faults files.old) (F.read_faults files.new) (option_map commands.view command.entry) a.cause a.lines.items (option_map view a.put)) }
+    ensures memory { OnErr result (SameCounts (F.read_faults files.old) (F.read_faults files.new)) }
+
+    // In every case.
     ensures files { SameFiles (F.holds files.old) (F.holds files.new) }
     ensures reads { NoneFell (F.read_faults files.old) (F.read_faults files.new) }
     ensures puts { SameCounts (F.put_faults files.old) (F.put_faults files.new) }
-    ensures alone { LeavesAlone (command_of (map string_bytes words.now)) files.old files.new }
+    ensures alone { LeavesAlone (shape (option_map commands.view command.entry)).inputs (shape (option_map commands.view command.entry)).output files.old files.new }
 {
-    match command_in(words) {
+    match command {
         Some(Command::Hold { artery, timing }) => hold_answer(alloc, files, artery, timing),
         Some(Command::Show { artery }) => show_answer(alloc, files, artery),
         Some(
@@ -47,14 +53,14 @@ fn answer_to<'a, F: Files>(
                 work,
             },
         ) => solve_answer(alloc, files, artery, certificate, work),
-        Some(Command::Make { signals, seed }) => make_answer(alloc, signals, seed),
+        Some(Command::Make { signals, seed }) => make(alloc, signals, seed),
         Some(
             Command::Trial {
                 signals,
                 seed,
                 work,
             },
-        ) => trial_answer(alloc, signals, seed, work),
+        ) => trial(alloc, signals, seed, work),
         None => words_answer(alloc),
     }
 }
@@ -72,27 +78,33 @@ fn status(cause: Cause) -> Status
 /// The program over any files and any output. `words` are those after the program's name.
 ///
 /// The status has its cause: what the bytes of the files are, which are those that they held at entry where they tell them, what
-/// is made from a seed, or which count of faults rose. The output grew by exactly that answer's lines, and no file changed but
-/// that `solve` put the text of its certificate, which is read back as the very certificate that was accepted. `hold` and
-/// `check` read two files, `show` and `solve` one, and `make` and `trial` none. After `Memory` no file changed and nothing was
-/// written; after `WriteFault` either the put failed and nothing was written, or a front of the lines of the answer that was
-/// reached went out.
+/// is made from a seed, or which failed call was counted. The output grew by exactly that answer's lines, and no file changed but
+/// that `solve` put the text of its certificate, which is read back as the very certificate that was accepted. What a command
+/// reads and puts is a table, `shape`. Each call that failed and was counted is told by the status: after any other no count has
+/// changed. After `Memory` no file changed and nothing was written; after `WriteFault` either the put failed and nothing was
+/// written, or a front of the lines of the answer that was reached went out.
 pub fn run<F: Files, K: Sink>(alloc: Global, words: &[String], files: &mut F, out: &mut K) -> Status
     ensures number { result.number ≡ number_of result.cause }
-    ensures ends { Ends (outside (F.holds files.old) (F.read_faults files.old) (F.put_faults files.old) (K.taken out.old) (K.faults out.old)) (outside (F.holds files.new) (F.read_faults files.new) (F.put_faults files.new) (K.taken out.new) (K.faults out.new)) (command_of (map string_bytes words.now)) result.cause }
+    ensures ends { Ends (outside (F.holds files.old) (F.read_faults files.old) (F.put_faults files.old) (K.taken out.old) (K.faults out.old)) (outside (F.holds files.new) (F.read_faults files.new) (F.put_faults files.new) (K.taken out.new) (K.faults out.new)) (request_of (map string_bytes words.now)) result.cause }
 
     // In every case.
-    ensures files { FilesKept (command_of (map string_bytes words.now)) (F.holds files.old) (F.holds files.new) }
+    ensures files { OthersKept (shape (request_of (map string_bytes words.now))).output (F.holds files.old) (F.holds files.new) }
     ensures reads { NoneFell (F.read_faults files.old) (F.read_faults files.new) }
-    ensures puts { PutsKept (command_of (map string_bytes words.now)) (F.put_faults files.old) (F.put_faults files.new) }
+    ensures puts { PutsCounted (shape (request_of (map string_bytes words.now))).output (F.put_faults files.old) (F.put_faults files.new) }
     ensures writes { K.faults out.old ≤ K.faults out.new }
-    ensures alone { LeavesAlone (command_of (map string_bytes words.now)) files.old files.new }
+    ensures alone { LeavesAlone (shape (request_of (map string_bytes words.now))).inputs (shape (request_of (map string_bytes words.now))).output files.old files.new }
 {
-    let answer = match answer_to(alloc, words, files) {
+    let command = command_in(words);
+    // Room for the line of a read that fails is made before any read, so that want of memory can't hide a fault that was counted.
+    let room = room_for_faults(command);
+    if out.reserve(room).is_err() {
+        return status(Cause::Memory);
+    }
+    let answer = match answer_to(alloc, command, files) {
         Ok(answer) => answer,
         Err(Memory) => return status(Cause::Memory),
     };
-    match deliver(files, out, &answer.put, answer.lines.as_slice()) {
+    match deliver(files, out, &answer.put, answer.lines.as_slice(), room) {
         Ok(()) => status(answer.cause),
         Err(Undelivered::Broken) => status(Cause::WriteFault),
         Err(Undelivered::Memory) => status(Cause::Memory),
@@ -134,5 +146,32 @@ pub fn law_put_is_accepted()
     ensures { PutIsAccepted }
 {
     description_reader::law_one_answer();
+    certificate_checker::law_accepted_or_refused();
+}
+
+/// A law over the definitions: unless a run ends by a fault no count has changed, so that no failed call is hidden.
+pub fn law_faults_are_told()
+    ensures { FaultsAreTold }
+{}
+
+/// A law over the definitions: after status 0 of `solve` the file that it put has a best timing of the described artery, after 1
+/// none is good, and after 2 none is above the bound that the file has, and the cause is why the search stopped.
+pub fn law_solve_says()
+    ensures { SolveSays }
+{}
+
+/// A law over the definitions: after status 0 of `hold` the timing is good and its weighted band was printed, and after 4 the rule
+/// that the cause names fails.
+pub fn law_hold_says()
+    ensures { HoldSays }
+{
+    time_space::law_fails_rules_out();
+}
+
+/// A law over the definitions: after status 0 of `check` what the certificate claims holds of the artery and was printed, and after
+/// 4 it isn't accepted, and the cause is its first refusal.
+pub fn law_check_says()
+    ensures { CheckSays }
+{
     certificate_checker::law_accepted_or_refused();
 }

@@ -1,22 +1,15 @@
 //! The command `trial`.
 
-ghost use Rattle.std.specs.Prelude.{◌≡◌, ◌≤◌, IfOk, string_bytes};
+ghost use Rattle.std.specs.Prelude.{◌≡◌, ◌≤◌, None, IfOk, string_bytes};
 ghost use Rattle.maxband_run.specs.Trial.{best_lines, bound_lines, between_lines, open_lines, claim_lines, trial_lines, IsTrial};
 
-use crate::cause::Cause;
+use crate::answer::{Answer, told};
 use crate::searching::{cause_of, search_and_check};
 use narrow_fraction::{Frac, Memory};
 use plan_text::Claim;
 use quantity_text::exact_string;
 use std::alloc::{AllocError, Global};
 use workload_maker::make_artery;
-
-/// What a search of a made artery comes to: its cause and its lines.
-#[derive(Drop)]
-pub struct Tried {
-    pub cause: Cause,
-    pub lines: Vec<u8>,
-}
 
 fn best_lines(alloc: Global, value: Frac) -> Result<String, AllocError>
     ensures { IfOk result (λ text. string_bytes text ≡ best_lines value) }
@@ -78,18 +71,16 @@ fn trial_lines(
 }
 
 /// Makes the artery with so many signals, 2 to 16, from the seed, searches for a best timing of it with so many units of work,
-/// and checks the certificate. The error is want of memory.
-pub fn trial(alloc: Global, signals: u32, seed: u64, work: u64) -> Result<Tried, Memory>
+/// and checks the certificate.
+pub fn trial(alloc: Global, signals: u32, seed: u64, work: u64) -> Result<Answer<'static>, Memory>
     requires least { 2 ≤ signals }
     requires most { signals ≤ 16 }
     requires work { 1 ≤ work }
-    ensures { IfOk result (λ t. IsTrial signals seed work t.cause t.lines.items) }
+    ensures finds { IfOk result (λ a. IsTrial signals seed work a.cause a.lines.items) }
+    ensures no_put { IfOk result (λ a. a.put ≡ None) }
 {
     let artery = make_artery(alloc, signals, seed)?;
     let searched = search_and_check(alloc, &artery, work)?;
     let lines = trial_lines(alloc, signals, seed, searched.claim, searched.text.len())?;
-    Ok(Tried {
-        cause: cause_of(searched.found.verdict),
-        lines: lines.into_bytes(),
-    })
+    Ok(told(cause_of(searched.found.verdict), lines.into_bytes()))
 }

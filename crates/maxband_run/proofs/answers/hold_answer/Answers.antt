@@ -1,11 +1,19 @@
-use Rattle.maxband_run.proofs.Ended.{hold_ended}
+use Rattle.std.proofs.Common.{[], Some, refl}
+use Rattle.maxband_run.specs.Command.{Hold}
+use Rattle.maxband_run.specs.Reading.{input}
+use Rattle.maxband_run.specs.declared.reader.Reader.TheVariants.{Description, Timing}
+use Rattle.maxband_run.proofs.Stopped.{reads_later}
+use Rattle.maxband_run.proofs.Told.{second_stops, finds, same_twice}
 use Rattle.maxband_run.proofs.answers.hold_answer.Goals as goal
 
-pub returns-in-Err-clause-told : goal.returns-in-Err-clause-told
-returns-in-Err-clause-told g c =
-    hold_ended (g.F.Files.holds c.args.files.now) (g.F.Files.read_faults c.args.files.now) (g.F.Files.read_faults c.hold.new.files) c.args.artery.now c.args.timing.now c.in-Err.cause c.ended.result
-    c.in-Err.ensures.err c.ended.ensures.told
+pub returns-in-Err-timing_of-clause-told : goal.returns-in-Err-timing_of-clause-told
+returns-in-Err-timing_of-clause-told g c =
+    second_stops (Some (Hold c.args.artery.now c.args.timing.now)) (g.F.Files.holds c.args.files.now) (g.F.Files.read_faults c.args.files.now) (g.F.Files.read_faults c.timing_of.new.files) c.in-Err-timing_of.end
+    (g.F.Files.holds c.artery_of.new.files) (g.F.Files.read_faults c.artery_of.new.files) (input Description c.args.artery.now) (input Timing c.args.timing.now) [] c.in-Ok.street refl
+    c.in-Ok.ensures.files c.in-Ok.ensures.none_failed c.in-Ok.ensures.ok c.in-Err-timing_of.ensures.unread c.in-Err-timing_of.ensures.no_put
 
-pub returns-in_ok-holds_lines-in-Ok-clause-told : goal.returns-in_ok-holds_lines-in-Ok-clause-told
-returns-in_ok-holds_lines-in-Ok-clause-told g c =
-    rw (c.told.ensures.cause, c.told.ensures.lines) (c.in-Ok.value, c.in-Ok.ensures.ok, rw c.into_bytes-lines.ensures.value c.in_ok-holds_lines-in-Ok.ensures)
+pub returns-clause-told : goal.returns-clause-told
+returns-clause-told g c =
+    let second = reads_later Timing c.args.timing.now (g.F.Files.holds c.args.files.now) (g.F.Files.holds c.artery_of.new.files) c.in-Ok-timing_of.plan c.in-Ok.ensures.files c.in-Ok-timing_of.ensures.ok in
+    finds (Some (Hold c.args.artery.now c.args.timing.now)) (g.F.Files.holds c.args.files.now) (g.F.Files.read_faults c.args.files.now) (g.F.Files.read_faults c.timing_of.new.files) c.hold.result (c.in-Ok.street, (c.in-Ok-timing_of.plan, tt))
+    (c.in-Ok.ensures.ok, (second, tt)) (same_twice _ _ _ c.in-Ok.ensures.none_failed c.in-Ok-timing_of.ensures.none_failed) refl c.hold.ensures.finds c.hold.ensures.no_put

@@ -1,4 +1,4 @@
-use Rattle.maxband_run.proofs.SolveOnce.{complete}
+use Rattle.maxband_run.proofs.Complete.{complete}
 use Rattle.maxband_run.proofs.top.law_solve_is_complete.Goals as goal
 
 pub returns : goal.returns

@@ -3,9 +3,9 @@ use Rattle.maxband_run.specs.Trial.{trial_lines}
 use Rattle.maxband_run.proofs.Tried.{tried}
 use Rattle.maxband_run.proofs.trial.trial.Goals as goal
 
-pub returns : goal.returns
-returns c =
+pub returns-clause-finds : goal.returns-clause-finds
+returns-clause-finds c =
     let bytes = c.len.ensures ∙ c.in_ok-searched.searched.text.ok.0 in
-    tried c.args.signals c.args.seed c.args.work c.in_ok-artery.artery c.in_ok-searched.searched.found c.cause_of.result c.in_ok-searched.searched.text.items c.into_bytes.result.items
-    c.in_ok-artery.ensures c.in_ok-searched.ensures.searched c.cause_of.ensures c.in_ok-searched.ensures.text
-    (rw c.into_bytes.ensures.value (c.in_ok-lines.ensures ∙ (λ i. trial_lines c.args.signals c.args.seed (c.in_ok-searched.ensures.claim i) (bytes i))))
+    tried c.args.signals c.args.seed c.args.work c.in_ok-artery.artery c.in_ok-searched.searched.found c.told.result.cause c.in_ok-searched.searched.text.items c.told.result.lines.items
+    c.in_ok-artery.ensures c.in_ok-searched.ensures.searched (c.told.ensures.cause ∙ c.cause_of.ensures) c.in_ok-searched.ensures.text
+    (rw (c.told.ensures.lines, c.into_bytes.ensures.value) (c.in_ok-lines.ensures ∙ (λ i. trial_lines c.args.signals c.args.seed (c.in_ok-searched.ensures.claim i) (bytes i))))

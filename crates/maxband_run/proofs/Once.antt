@@ -1,0 +1,124 @@
+-- What a command finds of the same values is one thing, or a verdict of a search; it is neither a fault nor want of memory.
+use Rattle.std.proofs.Common.{◌≡◌, ℕ, Bool, true, false, List, [], ◌∷◌, Option, Some, None, inl, inr, refl, sym, ◌∙◌, ap, subst}
+use Rattle.progression.specs.Street.{Street, count}
+use Rattle.progression.specs.Plan.{Plan}
+use Rattle.description_reader.specs.Printed.{OneText}
+use Rattle.plan_text.specs.Warrants.{Warrant}
+use Rattle.time_space.specs.Failing.{FailsRulesOut}
+use Rattle.time_space.specs.FirstFailing.{OneFirst}
+use Rattle.certificate_checker.specs.Laws.{RefusedIsNotAccepted, OneFirstRefusal}
+use Rattle.branch_and_bound.specs.declared.found.Verdict.{Verdict}
+use Rattle.branch_and_bound.specs.declared.found.Verdict.TheVariants.{Best, NoTiming, Stopped}
+use Rattle.branch_tree.specs.declared.site.SitePart.{SitePart}
+use Rattle.workload_maker.specs.Made.{made_street}
+use Rattle.maxband_run.specs.Lines.{fails_line}
+use Rattle.maxband_run.specs.CheckLines.{rejected_line}
+use Rattle.maxband_run.specs.Command.{Request, Hold, Show, Check, Solve, Make, Trial, shape}
+use Rattle.maxband_run.specs.Reading.{Input, Values}
+use Rattle.maxband_run.specs.Searched.{cause_of}
+use Rattle.maxband_run.specs.Hold.{HoldFinds}
+use Rattle.maxband_run.specs.Show.{Shows}
+use Rattle.maxband_run.specs.Check.{CheckFinds}
+use Rattle.maxband_run.specs.Run.{Finds}
+use Rattle.maxband_run.specs.Laws.{IsReached, IsVerdict, Agree}
+use Rattle.maxband_run.specs.declared.cause.Cause.{Cause}
+use Rattle.maxband_run.specs.declared.cause.Cause.TheVariants as cause
+
+-- a search gives a verdict
+pub verdict_cause : (c : Cause) (v : Verdict SitePart) → c ≡ cause_of v → IsVerdict c
+verdict_cause c Best e = subst (λ (d : Cause). IsVerdict d) (sym e) tt
+verdict_cause c NoTiming e = subst (λ (d : Cause). IsVerdict d) (sym e) tt
+verdict_cause c (Stopped stop) e = subst (λ (d : Cause). IsVerdict d) (sym e) tt
+
+pub verdict_reached : (c : Cause) → IsVerdict c → IsReached c
+verdict_reached cause.Done v = tt
+verdict_reached cause.NoTiming v = tt
+verdict_reached (cause.Stopped stop) v = tt
+verdict_reached c v = absurd v
+
+-- ---- each command
+hold_reached : (a : Street) (t : Plan) (c : Cause) (l : List ℕ) → HoldFinds a t c l → IsReached c
+hold_reached a t cause.Done l h = tt
+hold_reached a t (cause.Fails f) l h = tt
+hold_reached a t c l h = absurd h
+
+show_reached : (a : Street) (c : Cause) (l : List ℕ) → Shows a c l → IsReached c
+show_reached a cause.Done l h = tt
+show_reached a c l h = absurd h
+
+pub show_done : (a : Street) (c : Cause) (l : List ℕ) → Shows a c l → c ≡ cause.Done
+show_done a cause.Done l h = refl
+show_done a c l h = absurd h
+
+check_reached : (a : Street) (w : Warrant) (c : Cause) (l : List ℕ) → CheckFinds a w c l → IsReached c
+check_reached a w cause.Done l h = tt
+check_reached a w (cause.Rejected r) l h = tt
+check_reached a w c l h = absurd h
+
+pub finds_reached : (asked : Option Request) (v : Values (shape asked).inputs) (c : Cause) (l bytes : List ℕ) → Finds asked v c l bytes → IsReached c
+finds_reached None v c l bytes h = subst (λ (d : Cause). IsReached d) (sym h.0) tt
+finds_reached (Some (Hold artery timing)) v c l bytes h = hold_reached v.0 v.1.0 c l h
+finds_reached (Some (Show artery)) v c l bytes h = show_reached v.0 c l h
+finds_reached (Some (Check artery certificate)) v c l bytes h = check_reached v.0 v.1.0 c l h
+finds_reached (Some (Solve artery certificate work)) v c l bytes h = verdict_reached c (verdict_cause c h.found.verdict h.cause_is)
+finds_reached (Some (Make signals seed)) v c l bytes h = show_reached (made_street signals seed) c l h
+finds_reached (Some (Trial signals seed work)) v c l bytes h = verdict_reached c (verdict_cause c h.found.verdict h.cause_is)
+
+hold_once : OneFirst → FailsRulesOut → (a : Street) (t : Plan) (c d : Cause) (x y : List ℕ) → HoldFinds a t c x → HoldFinds a t d y → (c ≡ d) × (x ≡ y)
+hold_once one_first rules a t cause.Done cause.Done x y h k = (refl, h.1 ∙ sym k.1)
+hold_once one_first rules a t cause.Done (cause.Fails f) x y h k = absurd (rules a t f k.0.fails h.0)
+hold_once one_first rules a t cause.Done d x y h k = absurd k
+hold_once one_first rules a t (cause.Fails f) cause.Done x y h k = absurd (rules a t f h.0.fails k.0)
+hold_once one_first rules a t (cause.Fails f) (cause.Fails g) x y h k = let e = one_first a t f g h.0 k.0 in (ap cause.Fails e, h.1 ∙ ap fails_line e ∙ sym k.1)
+hold_once one_first rules a t (cause.Fails f) d x y h k = absurd k
+hold_once one_first rules a t c d x y h k = absurd h
+
+show_once : OneText → (a : Street) (c d : Cause) (x y : List ℕ) → Shows a c x → Shows a d y → (c ≡ d) × (x ≡ y)
+show_once one_text a cause.Done cause.Done x y h k = (refl, one_text.same a x y h.printed k.printed)
+show_once one_text a cause.Done d x y h k = absurd k
+show_once one_text a c d x y h k = absurd h
+
+check_once : RefusedIsNotAccepted → OneFirstRefusal → (a : Street) (w : Warrant) (c d : Cause) (x y : List ℕ) → CheckFinds a w c x → CheckFinds a w d y → (c ≡ d) × (x ≡ y)
+check_once apart once a w cause.Done cause.Done x y h k = (refl, h.lines_are ∙ sym k.lines_are)
+check_once apart once a w cause.Done (cause.Rejected r) x y h k = absurd (apart a w r k.first k.kept h.accepted)
+check_once apart once a w cause.Done d x y h k = absurd k
+check_once apart once a w (cause.Rejected r) cause.Done x y h k = absurd (apart a w r h.first h.kept k.accepted)
+check_once apart once a w (cause.Rejected r) (cause.Rejected s) x y h k = let e = once a w r s h.first k.first h.kept k.kept in
+    (ap cause.Rejected e, h.lines_are ∙ ap (rejected_line (count a)) e ∙ sym k.lines_are)
+check_once apart once a w (cause.Rejected r) d x y h k = absurd k
+check_once apart once a w c d x y h k = absurd h
+
+-- ---- every command
+-- one answer, or where a search is made two verdicts
+abbrev FoundAgree : Bool → Cause → List ℕ → Cause → List ℕ → Type 0
+FoundAgree false c x d y = (c ≡ d) × (x ≡ y)
+FoundAgree true c x d y = IsVerdict c × IsVerdict d
+
+finds_once : OneText → OneFirst → FailsRulesOut → RefusedIsNotAccepted → OneFirstRefusal
+    → (asked : Option Request) (v : Values (shape asked).inputs) (c d : Cause) (x y s t : List ℕ) → Finds asked v c x s → Finds asked v d y t → FoundAgree (shape asked).searches c x d y
+finds_once one_text one_first rules apart once None v c d x y s t h k = (h.0 ∙ sym k.0, h.1 ∙ sym k.1)
+finds_once one_text one_first rules apart once (Some (Hold artery timing)) v c d x y s t h k = hold_once one_first rules v.0 v.1.0 c d x y h k
+finds_once one_text one_first rules apart once (Some (Show artery)) v c d x y s t h k = show_once one_text v.0 c d x y h k
+finds_once one_text one_first rules apart once (Some (Check artery certificate)) v c d x y s t h k = check_once apart once v.0 v.1.0 c d x y h k
+finds_once one_text one_first rules apart once (Some (Solve artery certificate work)) v c d x y s t h k =
+    (verdict_cause c h.found.verdict h.cause_is, verdict_cause d k.found.verdict k.cause_is)
+finds_once one_text one_first rules apart once (Some (Make signals seed)) v c d x y s t h k = show_once one_text (made_street signals seed) c d x y h k
+finds_once one_text one_first rules apart once (Some (Trial signals seed work)) v c d x y s t h k =
+    (verdict_cause c h.found.verdict h.cause_is, verdict_cause d k.found.verdict k.cause_is)
+
+found_agree : (searches : Bool) (is : List Input) (c d : Cause) (x y : List ℕ) → FoundAgree searches c x d y → Agree searches is c x d y
+found_agree false is c d x y h = h
+found_agree true [] c d x y h = h
+found_agree true (i ∷ is) c d x y h = inr h
+
+pub found_once : OneText → OneFirst → FailsRulesOut → RefusedIsNotAccepted → OneFirstRefusal
+    → (asked : Option Request) (v : Values (shape asked).inputs) (c d : Cause) (x y s t : List ℕ) → Finds asked v c x s → Finds asked v d y t
+    → Agree (shape asked).searches (shape asked).inputs c x d y
+found_once one_text one_first rules apart once asked v c d x y s t h k =
+    found_agree (shape asked).searches (shape asked).inputs c d x y (finds_once one_text one_first rules apart once asked v c d x y s t h k)
+
+-- files that stop the reading in one way
+pub stops_agree : (searches : Bool) (is : List Input) (c d : Cause) (x y : List ℕ) → (is ≡ [] → ⊥) → (c ≡ d) × (x ≡ y) → Agree searches is c x d y
+stops_agree false is c d x y n e = e
+stops_agree true [] c d x y n e = absurd (n refl)
+stops_agree true (i ∷ is) c d x y n e = inl e

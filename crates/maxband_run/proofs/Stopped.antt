@@ -1,0 +1,75 @@
+-- What ends a run at a file: the causes, and what they leave of the counts of failed reads.
+use Rattle.std.proofs.Common.{◌≡◌, ℕ, ◌+◌, ◌≤◌, List, [], ◌∷◌, length, Option, ◌⊎◌, inl, inr, subst, sym}
+use Rattle.outer_edge.specs.Counts.{SameCounts}
+use Rattle.outer_edge.specs.Held.{SameFiles}
+use Rattle.maxband_run.specs.Lines.{cannot_read_line}
+use Rattle.maxband_run.specs.Reading.{Value, IsRefusedFor, Input, Reads, IsUnread, StopsReading, IsRoomForFaults}
+use Rattle.maxband_run.specs.Laws.{IsFault}
+use Rattle.maxband_run.specs.declared.reader.Reader.{Reader}
+use Rattle.maxband_run.specs.declared.reader.Reader.TheVariants.{Description, Timing, Certificate}
+use Rattle.maxband_run.specs.declared.cause.Cause.{Cause}
+use Rattle.maxband_run.specs.declared.cause.Cause.TheVariants as cause
+
+-- two functions of names are equal where their values are
+pub same_at : {A : Type 0} (f g : List ℕ → A) → ((name : List ℕ) → g name ≡ f name) → g ≡ f
+same_at f g h = λ i name. h name i
+
+-- a cause that a file may give
+abbrev pub IsStop : Cause → Type 0
+IsStop (cause.ReadFault file) = Unit {0}
+IsStop (cause.TooLong file) = Unit {0}
+IsStop (cause.Refused r) = Unit {0}
+IsStop (cause.BadText b) = Unit {0}
+IsStop _ = ⊥
+
+refused_stop : (r : Reader) (x : List ℕ) (c : Cause) (l : List ℕ) → IsRefusedFor r x c l → IsStop c
+refused_stop Description x (cause.Refused f) l h = tt
+refused_stop Description x c l h = absurd h
+refused_stop Timing x (cause.BadText b) l h = tt
+refused_stop Timing x c l h = absurd h
+refused_stop Certificate x (cause.BadText b) l h = tt
+refused_stop Certificate x c l h = absurd h
+
+module _ (held : List ℕ → Option (List ℕ)) (before after : List ℕ → ℕ) where
+  unread_stop : (i : Input) (place : ℕ) (c : Cause) (l : List ℕ) → IsUnread i place held before after c l → IsStop c
+  unread_stop i place (cause.ReadFault f) l h = tt
+  unread_stop i place (cause.TooLong f) l h = tt
+  unread_stop i place c l h = refused_stop i.reader h.1.0 c l h.1.2
+
+  pub stops_stop : (is : List Input) (place : ℕ) (c : Cause) (l : List ℕ) → StopsReading is place held before after c l → IsStop c
+  stops_stop [] place c l h = absurd h
+  stops_stop (i ∷ is) place c l (inl h) = unread_stop i place c l h
+  stops_stop (i ∷ is) place c l (inr h) = stops_stop is (place + 1) c l h.2
+
+  -- unless a read failed no count of reads has changed
+  unread_same : (i : Input) (place : ℕ) (c : Cause) (l : List ℕ) → ¬ IsFault c → IsUnread i place held before after c l → SameCounts before after
+  unread_same i place (cause.ReadFault f) l n h = absurd (n tt)
+  unread_same i place (cause.TooLong f) l n h = h.1
+  unread_same i place c l n h = h.0
+
+  pub stops_same : (is : List Input) (place : ℕ) (c : Cause) (l : List ℕ) → ¬ IsFault c → StopsReading is place held before after c l → SameCounts before after
+  stops_same [] place c l n h = absurd h
+  stops_same (i ∷ is) place c l n (inl h) = unread_same i place c l n h
+  stops_same (i ∷ is) place c l n (inr h) = stops_same is (place + 1) c l n h.2
+
+  -- or there was room for the line
+  unread_room : (i : Input) (place room : ℕ) (c : Cause) (l : List ℕ) → length (cannot_read_line i.name) ≤ room → IsUnread i place held before after c l
+      → (length l ≤ room) ⊎ SameCounts before after
+  unread_room i place room (cause.ReadFault f) l few h = inl (subst (λ x. length x ≤ room) (sym h.2) few)
+  unread_room i place room (cause.TooLong f) l few h = inr h.1
+  unread_room i place room c l few h = inr h.0
+
+  pub stops_room : (is : List Input) (place room : ℕ) (c : Cause) (l : List ℕ) → IsRoomForFaults is room → StopsReading is place held before after c l
+      → (length l ≤ room) ⊎ SameCounts before after
+  stops_room [] place room c l few h = absurd h
+  stops_room (i ∷ is) place room c l few (inl h) = unread_room i place room c l few.0 h
+  stops_room (i ∷ is) place room c l few (inr h) = stops_room is (place + 1) room c l few.1 h.2
+
+-- ---- what a later reading says of the files at entry
+pub unread_later : (i : Input) (place : ℕ) (held now : List ℕ → Option (List ℕ)) (before mid after : List ℕ → ℕ) (c : Cause) (l : List ℕ)
+    → SameFiles held now → SameCounts before mid → IsUnread i place now mid after c l → IsUnread i place held before after c l
+unread_later i place held now before mid after c l s k h =
+    subst (λ f. IsUnread i place f before after c l) (same_at held now s) (subst (λ b. IsUnread i place now b after c l) (same_at before mid k) h)
+
+pub reads_later : (r : Reader) (name : List ℕ) (held now : List ℕ → Option (List ℕ)) (v : Value r) → SameFiles held now → Reads r (now name) v → Reads r (held name) v
+reads_later r name held now v s h = subst (λ o. Reads r o v) (s name) h

@@ -1,0 +1,86 @@
+-- From the readings of a command's files, and what it finds of them, to its answer.
+use Rattle.std.proofs.Common.{◌≡◌, ℕ, List, [], ◌∷◌, Option, Some, None, Result, Ok, Err, inl, inr, refl, sym, ◌∙◌, ap, subst}
+use Rattle.std.specs.Prelude.{IfOk, option_map}
+use Rattle.narrow_fraction.specs.declared.memory.Memory.{Memory}
+use Rattle.outer_edge.specs.Counts.{SameCounts}
+use Rattle.outer_edge.specs.Held.{SameFiles}
+use Rattle.maxband_run.specs.Outside.{NamedBytes, named, view}
+use Rattle.maxband_run.specs.Command.{Request, shape}
+use Rattle.maxband_run.specs.Reading.{Input, Value, Values, AreRead, Reads, IsUnread, StopsReading}
+use Rattle.maxband_run.specs.Run.{Finds, Answers}
+use Rattle.maxband_run.specs.declared.answer.Answer.{Answer}
+use Rattle.maxband_run.specs.declared.cause.Cause.{Cause}
+use Rattle.maxband_run.proofs.Stopped.{unread_later}
+
+-- what is said of an answer that puts nothing
+put_nothing : (p : Cause → List ℕ → Type 0) (q : Cause → List ℕ → Option NamedBytes → Type 0) (r : Result Answer Memory)
+    → ((c : Cause) (lines : List ℕ) → p c lines → q c lines None)
+    → IfOk r (λ a. p a.cause a.lines.items) → IfOk r (λ a. a.put ≡ None) → IfOk r (λ a. q a.cause a.lines.items (option_map view a.put))
+put_nothing p q (Ok a) k h n = subst (λ (o : Option NamedBytes). q a.cause a.lines.items o) (sym (ap (option_map view) n)) (k a.cause a.lines.items h)
+put_nothing p q (Err m) k h n = tt
+
+module _ (asked : Option Request) (held : List ℕ → Option (List ℕ)) (before after : List ℕ → ℕ) (r : Result Answer Memory) where
+  -- the first file isn't read
+  pub first_stops : (i : Input) (is : List Input) → (shape asked).inputs ≡ i ∷ is
+      → IfOk r (λ a. IsUnread i 1 held before after a.cause a.lines.items) → IfOk r (λ a. a.put ≡ None)
+      → IfOk r (λ a. Answers held before after asked a.cause a.lines.items (option_map view a.put))
+  first_stops i is e h n = put_nothing (IsUnread i 1 held before after) (Answers held before after asked) r
+      (λ c lines k. inl (record { stops = subst (λ (js : List Input). StopsReading js 1 held before after c lines) (sym e) (inl k); no_put = refl })) h n
+
+  -- the second file isn't read
+  pub second_stops : (now : List ℕ → Option (List ℕ)) (mid : List ℕ → ℕ) (i j : Input) (is : List Input) (v : Value i.reader) → (shape asked).inputs ≡ i ∷ j ∷ is
+      → SameFiles held now → SameCounts before mid → Reads i.reader (held i.name) v
+      → IfOk r (λ a. IsUnread j 2 now mid after a.cause a.lines.items) → IfOk r (λ a. a.put ≡ None)
+      → IfOk r (λ a. Answers held before after asked a.cause a.lines.items (option_map view a.put))
+  second_stops now mid i j is v e same counts first h n = put_nothing (IsUnread j 2 now mid after) (Answers held before after asked) r
+      (λ c lines k. inl (record {
+        stops = subst (λ (js : List Input). StopsReading js 1 held before after c lines) (sym e) (inr (v, first, inl (unread_later j 2 held now before mid after c lines same counts k)));
+        no_put = refl;
+      })) h n
+
+  -- all files are read
+  module _ (values : Values (shape asked).inputs) (read : AreRead (shape asked).inputs held values) (counts : SameCounts before after) where
+    pub finds : (shape asked).output ≡ None → IfOk r (λ a. Finds asked values a.cause a.lines.items []) → IfOk r (λ a. a.put ≡ None)
+        → IfOk r (λ a. Answers held before after asked a.cause a.lines.items (option_map view a.put))
+    finds none h n = put_nothing (λ c lines. Finds asked values c lines []) (Answers held before after asked) r
+        (λ c lines k. inr (record {
+          values = values;
+          read = read;
+          counts = counts;
+          bytes = [];
+          finds = k;
+          put_is = sym (ap (option_map (λ name. named name [])) none);
+        })) h n
+
+-- what is found is put
+found_puts : (asked : Option Request) (held : List ℕ → Option (List ℕ)) (before after : List ℕ → ℕ) (name : List ℕ) (values : Values (shape asked).inputs)
+    → AreRead (shape asked).inputs held values → SameCounts before after → (shape asked).output ≡ Some name → (a : Answer) (bytes : List ℕ)
+    → Finds asked values a.cause a.lines.items bytes → option_map view a.put ≡ Some (named name bytes)
+    → Answers held before after asked a.cause a.lines.items (option_map view a.put)
+found_puts asked held before after name values read counts e a bytes f p =
+    inr (record {
+      values = values;
+      read = read;
+      counts = counts;
+      bytes = bytes;
+      finds = f;
+      put_is = p ∙ sym (ap (option_map (λ n. named n bytes)) e);
+    })
+
+pub finds_put : (asked : Option Request) (held : List ℕ → Option (List ℕ)) (before after : List ℕ → ℕ) (name : List ℕ) (values : Values (shape asked).inputs) (r : Result Answer Memory)
+    → AreRead (shape asked).inputs held values → SameCounts before after → (shape asked).output ≡ Some name
+    → IfOk r (λ a. (bytes : List ℕ) × Finds asked values a.cause a.lines.items bytes × (option_map view a.put ≡ Some (named name bytes)))
+    → IfOk r (λ a. Answers held before after asked a.cause a.lines.items (option_map view a.put))
+finds_put asked held before after name values (Ok a) read counts e h = found_puts asked held before after name values read counts e a h.0 h.1 h.2
+finds_put asked held before after name values (Err m) read counts e h = tt
+
+-- two steps leave the counts
+pub same_twice : (before mid after : List ℕ → ℕ) → SameCounts before mid → SameCounts mid after → SameCounts before after
+same_twice before mid after h k = λ name. k name ∙ h name
+
+-- a refusal tells why a file isn't read
+pub refused_unread : (i : Input) (place : ℕ) (held : List ℕ → Option (List ℕ)) (before after : List ℕ → ℕ) (c : Cause) (text : List ℕ) (r : Result Answer Memory)
+    → ((l : List ℕ) → l ≡ text → IsUnread i place held before after c l) → IfOk r (λ a. a.cause ≡ c) → IfOk r (λ a. a.lines.items ≡ text)
+    → IfOk r (λ a. IsUnread i place held before after a.cause a.lines.items)
+refused_unread i place held before after c text (Ok a) k h l = subst (λ (d : Cause). IsUnread i place held before after d a.lines.items) (sym h) (k a.lines.items l)
+refused_unread i place held before after c text (Err m) k h l = tt

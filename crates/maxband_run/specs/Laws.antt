@@ -1,0 +1,203 @@
+-- Statements about the definitions of a run, each of which a public call proves.
+use Rattle.std.specs.Prelude.{◌≡◌, ◌≢◌, ◌⊎◌, ℕ, ◌≤◌, Bool, true, false, List, [], ◌∷◌, length, Option, Some, None, Ok, IsSome, IfSome}
+use Rattle.rational_theory.specs.Rational.{ℚ, ◌≤ℚ◌}
+use Rattle.outer_edge.specs.Counts.{Rose, SameCounts}
+use Rattle.outer_edge.specs.Held.{HoldsExactly}
+use Rattle.outer_edge.specs.Taken.{Appends}
+use Rattle.progression.specs.Street.{Street}
+use Rattle.progression.specs.Plan.{Plan}
+use Rattle.progression.specs.Good.{Good}
+use Rattle.progression.specs.Best.{Best, NoTiming, Bounded, weighted_band}
+use Rattle.time_space.specs.Failing.{Fails}
+use Rattle.time_space.specs.declared.failing.Failing.{Failing}
+use Rattle.plan_text.specs.Warrants.{Warrant}
+use Rattle.plan_text.specs.CertificateReading.{certificate_of}
+use Rattle.plan_text.specs.declared.certificate.Claim.{Claim}
+use Rattle.plan_text.specs.declared.certificate.Claim.TheVariants as claim
+use Rattle.certificate_checker.specs.Claims as claims
+use Rattle.certificate_checker.specs.Accepted.{IsAccepted}
+use Rattle.certificate_checker.specs.Refusals.{IsFirstRefusal}
+use Rattle.certificate_checker.specs.declared.reject.Reject.{Reject}
+use Rattle.branch_and_bound.specs.declared.found.Stop.{Stop}
+use Rattle.branch_tree.specs.declared.site.SitePart.{SitePart}
+use Rattle.branch_tree.specs.Certified.{value_of, warrant_of}
+use Rattle.maxband_run.specs.CheckLines.{accepted_line}
+use Rattle.maxband_run.specs.Lines.{holds_lines}
+use Rattle.maxband_run.specs.Outside.{Outside, NamedBytes}
+use Rattle.maxband_run.specs.Command.{Request, Hold, Check, Solve, Make, Trial, shape}
+use Rattle.maxband_run.specs.Reading.{Input, most_bytes, Reads, AreTold}
+use Rattle.maxband_run.specs.declared.reader.Reader.TheVariants.{Description, Timing, Certificate}
+use Rattle.maxband_run.specs.Solve.{IsSolution}
+use Rattle.maxband_run.specs.Run.{Answers, Ends}
+use Rattle.maxband_run.specs.Status.{number_of}
+use Rattle.maxband_run.specs.declared.cause.Cause.{Cause}
+use Rattle.maxband_run.specs.declared.cause.Cause.TheVariants as cause
+
+-- an answer that neither a fault nor want of memory gave
+abbrev pub IsReached : Cause → Type 0
+IsReached (cause.ReadFault file) = ⊥
+IsReached cause.WriteFault = ⊥
+IsReached cause.Memory = ⊥
+IsReached _ = Unit {0}
+
+-- a read, a put or a write failed
+abbrev pub IsFault : Cause → Type 0
+IsFault (cause.ReadFault file) = Unit {0}
+IsFault cause.WriteFault = Unit {0}
+IsFault _ = ⊥
+
+-- an answer that a search gave
+abbrev pub IsVerdict : Cause → Type 0
+IsVerdict cause.Done = Unit {0}
+IsVerdict cause.NoTiming = Unit {0}
+IsVerdict (cause.Stopped stop) = Unit {0}
+IsVerdict _ = ⊥
+
+-- ---- one answer
+-- Two answers to the same words are one. Two of a command that searches may both be verdicts, since of several best timings a search may find any; where it
+-- reads no file they are.
+abbrev pub Agree : Bool → List Input → Cause → List ℕ → Cause → List ℕ → Type 0
+Agree false inputs c x d y = (c ≡ d) × (x ≡ y)
+Agree true [] c x d y = IsVerdict c × IsVerdict d
+Agree true (i ∷ is) c x d y = ((c ≡ d) × (x ≡ y)) ⊎ (IsVerdict c × IsVerdict d)
+
+-- What files that tell their bytes hold, and the words, leave one answer: so each status but 0, 1 and 2 of `solve` and `trial`, that of a fault and that of want of
+-- memory comes exactly by its cause.
+abbrev pub OneAnswer : Type 0
+OneAnswer = (held : List ℕ → Option (List ℕ)) (before after : List ℕ → ℕ) (asked : Option Request) (c d : Cause) (x y : List ℕ) (p q : Option NamedBytes)
+    → AreTold held (shape asked).inputs → IsReached c → IsReached d
+    → Answers held before after asked c x p → Answers held before after asked d y q → Agree (shape asked).searches (shape asked).inputs c x d y
+
+-- ---- faults
+-- Unless the run ends by a fault no count has changed: each failed read, put and write is told.
+abbrev pub FaultsAreTold : Type 0
+FaultsAreTold = (before now : Outside) (asked : Option Request) (c : Cause)
+    → Ends before now asked c → ¬ IsFault c
+    → SameCounts before.reads now.reads × SameCounts before.puts now.puts × (now.writes ≡ before.writes)
+
+-- ---- whole runs
+-- Where the file tells bytes that describe an artery, and no read of it, no put of the certificate and no write failed, `solve` ends with a verdict or by
+-- want of memory.
+abbrev pub SolveIsComplete : Type 0
+SolveIsComplete = (before now : Outside) (artery certificate : List ℕ) (work : ℕ) (a : Street) (c : Cause)
+    → IsSome (before.holds artery) → Reads Description (before.holds artery) a
+    → ¬ Rose (before.reads artery) (now.reads artery) → ¬ Rose (before.puts certificate) (now.puts certificate) → ¬ Rose before.writes now.writes
+    → Ends before now (Some (Solve artery certificate work)) c → IsVerdict c ⊎ (c ≡ cause.Memory)
+
+-- Where no write failed, `make` is done or ends by want of memory.
+abbrev pub MakeIsComplete : Type 0
+MakeIsComplete = (before now : Outside) (signals seed : ℕ) (c : Cause) → ¬ Rose before.writes now.writes → Ends before now (Some (Make signals seed)) c → (c ≡ cause.Done) ⊎ (c ≡ cause.Memory)
+
+-- Where no write failed, `trial` ends with a verdict or by want of memory.
+abbrev pub TrialIsComplete : Type 0
+TrialIsComplete = (before now : Outside) (signals seed work : ℕ) (c : Cause)
+    → ¬ Rose before.writes now.writes → Ends before now (Some (Trial signals seed work)) c → IsVerdict c ⊎ (c ≡ cause.Memory)
+
+-- What `solve` found, of the artery that the file described, and that `check` accepts the file that was put with just the claim of that.
+pub record IsConfirmed (before between now : Outside) (artery certificate : List ℕ) (work : ℕ) (c d : Cause) : Type 0 where
+  pub street : Street
+  pub lines : List ℕ
+  pub text : List ℕ
+  pub description : Reads Description (before.holds artery) street
+  pub solution : IsSolution street work c lines text
+  pub done : d ≡ cause.Done
+  pub certificate_is : Reads Certificate (between.holds certificate) (warrant_of street solution.found)
+  pub accepted : IsAccepted street (warrant_of street solution.found)
+  pub proves : claims.ClaimHolds street (warrant_of street solution.found).claim (warrant_of street solution.found).timing
+  pub told : Appends between.taken now.taken (accepted_line (warrant_of street solution.found).claim)
+
+-- After a verdict of `solve` a run of `check` over the same description and the file that was put accepts what was found, unless a fault or want of memory ends
+-- it: where these are two files that tell their bytes, and the certificate isn't too long to be read.
+abbrev pub PutIsAccepted : Type 0
+PutIsAccepted = (before between now : Outside) (artery certificate : List ℕ) (work : ℕ) (c d : Cause)
+    → artery ≢ certificate → IsSome (before.holds artery) → IsSome (between.holds certificate) → IfSome (between.holds certificate) (λ bytes. length bytes ≤ most_bytes Certificate)
+    → IsVerdict c → Ends before between (Some (Solve artery certificate work)) c
+    → IsReached d → Ends between now (Some (Check artery certificate)) d → IsConfirmed before between now artery certificate work c d
+
+-- ---- what the numbers of the statuses say of the model
+-- the file holds, where it is told, a text that is read as a certificate with this claim and this timing
+abbrev pub HoldsCertificate : Option (List ℕ) → Claim → Option Plan → Type 0
+HoldsCertificate held claimed timing =
+    (text : List ℕ) × HoldsExactly held text × (w : Warrant) × (certificate_of text ≡ Ok w) × (w.claim ≡ claimed) × (w.timing ≡ timing)
+
+-- `solve` with status 0: this timing is best on the described artery, and the file that is put has it, with its weighted band
+pub record PutsBest (before now : Outside) (artery certificate : List ℕ) : Type 0 where
+  pub street : Street
+  pub plan : Plan
+  pub description : Reads Description (before.holds artery) street
+  pub best : Best street plan
+  pub put : HoldsCertificate (now.holds certificate) (claim.Best (weighted_band street plan)) (Some plan)
+
+-- `solve` with status 1: no timing is good on the described artery, and the file that is put claims it
+pub record PutsNone (before now : Outside) (artery certificate : List ℕ) : Type 0 where
+  pub street : Street
+  pub description : Reads Description (before.holds artery) street
+  pub none : NoTiming street
+  pub put : HoldsCertificate (now.holds certificate) claim.NoTiming None
+
+-- `solve` with status 2: no good timing of the described artery has a weighted band above the bound, a timing that stands is good and no better than that, the file
+-- that is put has both, and the cause is why the search stopped
+pub record PutsBound (before now : Outside) (artery certificate : List ℕ) (c : Cause) : Type 0 where
+  pub street : Street
+  pub bound : ℚ
+  pub timing : Option Plan
+  pub stop : Stop SitePart
+  pub description : Reads Description (before.holds artery) street
+  pub bounded : Bounded street bound
+  pub good : IfSome timing (λ plan. Good street plan × (weighted_band street plan ≤ℚ bound))
+  pub put : HoldsCertificate (now.holds certificate) (claim.Stopped bound (value_of street timing)) timing
+  pub cause_is : c ≡ cause.Stopped stop
+
+abbrev pub SolveSays : Type 0
+SolveSays = (before now : Outside) (artery certificate : List ℕ) (work : ℕ) (c : Cause) → Ends before now (Some (Solve artery certificate work)) c
+    → (number_of c ≡ 0 → PutsBest before now artery certificate)
+    × (number_of c ≡ 1 → PutsNone before now artery certificate)
+    × (number_of c ≡ 2 → PutsBound before now artery certificate c)
+
+-- `hold` with status 0: the timing of the second file is good on the artery of the first, and its weighted band is printed
+pub record SaysGood (before now : Outside) (artery timing : List ℕ) : Type 0 where
+  pub street : Street
+  pub plan : Plan
+  pub description : Reads Description (before.holds artery) street
+  pub text : Reads Timing (before.holds timing) plan
+  pub good : Good street plan
+  pub told : Appends before.taken now.taken (holds_lines (weighted_band street plan))
+
+-- `hold` with status 4: this rule fails, so that the timing isn't good
+pub record SaysBroken (before : Outside) (artery timing : List ℕ) (c : Cause) : Type 0 where
+  pub street : Street
+  pub plan : Plan
+  pub failing : Failing
+  pub description : Reads Description (before.holds artery) street
+  pub text : Reads Timing (before.holds timing) plan
+  pub fails : Fails street plan failing
+  pub not_good : ¬ Good street plan
+  pub cause_is : c ≡ cause.Fails failing
+
+abbrev pub HoldSays : Type 0
+HoldSays = (before now : Outside) (artery timing : List ℕ) (c : Cause) → Ends before now (Some (Hold artery timing)) c
+    → (number_of c ≡ 0 → SaysGood before now artery timing) × (number_of c ≡ 4 → SaysBroken before artery timing c)
+
+-- `check` with status 0: what the certificate of the second file claims holds of every timing of the artery of the first, and the claim is printed
+pub record SaysAccepted (before now : Outside) (artery certificate : List ℕ) : Type 0 where
+  pub street : Street
+  pub warrant : Warrant
+  pub description : Reads Description (before.holds artery) street
+  pub text : Reads Certificate (before.holds certificate) warrant
+  pub proves : claims.ClaimHolds street warrant.claim warrant.timing
+  pub told : Appends before.taken now.taken (accepted_line warrant.claim)
+
+-- `check` with status 4: the certificate isn't accepted, and this is its first refusal
+pub record SaysRejected (before : Outside) (artery certificate : List ℕ) (c : Cause) : Type 0 where
+  pub street : Street
+  pub warrant : Warrant
+  pub reject : Reject
+  pub description : Reads Description (before.holds artery) street
+  pub text : Reads Certificate (before.holds certificate) warrant
+  pub first : IsFirstRefusal street warrant reject
+  pub not_accepted : ¬ IsAccepted street warrant
+  pub cause_is : c ≡ cause.Rejected reject
+
+abbrev pub CheckSays : Type 0
+CheckSays = (before now : Outside) (artery certificate : List ℕ) (c : Cause) → Ends before now (Some (Check artery certificate)) c
+    → (number_of c ≡ 0 → SaysAccepted before now artery certificate) × (number_of c ≡ 4 → SaysRejected before artery certificate c)

@@ -1,0 +1,98 @@
+-- The files that a command reads, one after the other. What a file holds is a function of its name, with the bytes where they are told.
+use Rattle.std.specs.Prelude.{◌≡◌, ◌⊎◌, ℕ, ◌+◌, ◌≤◌, List, [], ◌∷◌, length, Option, IfSome, IsSome, Ok, Err}
+use Rattle.outer_edge.specs.Counts.{SameCounts, CountedAt}
+use Rattle.outer_edge.specs.Held.{BeginsWith}
+use Rattle.progression.specs.Street.{Street}
+use Rattle.progression.specs.Plan.{Plan}
+use Rattle.artery_model.specs.Faults.{fault_of}
+use Rattle.description_reader.specs.Described.{Described, RefusedAs}
+use Rattle.plan_text.specs.Reading.{timing_of}
+use Rattle.plan_text.specs.Warrants.{Warrant}
+use Rattle.plan_text.specs.CertificateReading.{certificate_of}
+use Rattle.maxband_run.specs.Lines.{refused_line, bad_text_line, cannot_read_line, too_long_line}
+use Rattle.maxband_run.specs.declared.reader.Reader.{Reader}
+use Rattle.maxband_run.specs.declared.reader.Reader.TheVariants.{Description, Timing, Certificate}
+use Rattle.maxband_run.specs.declared.cause.Cause.{Cause}
+use Rattle.maxband_run.specs.declared.cause.Cause.TheVariants as cause
+
+-- ---- readers
+-- what a file is read as
+abbrev pub Value : Reader → Type 0
+Value Description = Street
+Value Timing = Plan
+Value Certificate = Warrant
+
+-- the most bytes of such a file
+abbrev pub most_bytes : Reader → ℕ
+most_bytes Description = 1048576
+most_bytes Timing = 1048576
+most_bytes Certificate = 268435456
+
+-- the bytes are read as this
+abbrev pub IsReadAs : (r : Reader) → List ℕ → Value r → Type 0
+IsReadAs Description bytes a = Described bytes a
+IsReadAs Timing bytes t = timing_of bytes ≡ Ok t
+IsReadAs Certificate bytes w = certificate_of bytes ≡ Ok w
+
+-- the bytes are refused for this, with this line
+abbrev pub IsRefusedFor : Reader → List ℕ → Cause → List ℕ → Type 0
+IsRefusedFor Description bytes (cause.Refused r) lines = RefusedAs bytes (fault_of r) × (lines ≡ refused_line r)
+IsRefusedFor Timing bytes (cause.BadText b) lines = (timing_of bytes ≡ Err b) × (lines ≡ bad_text_line b)
+IsRefusedFor Certificate bytes (cause.BadText b) lines = (certificate_of bytes ≡ Err b) × (lines ≡ bad_text_line b)
+IsRefusedFor r bytes c lines = ⊥
+
+-- ---- one file
+pub record Input : Type 0 where
+  pub reader : Reader
+  pub name : List ℕ
+
+abbrev pub input : Reader → List ℕ → Input
+input r n = record { reader = r; name = n }
+
+-- these are the file's bytes, where it tells them, and no more than the limit
+pub record IsWithinLimit (most : ℕ) (held : Option (List ℕ)) (bytes : List ℕ) : Type 0 where
+  pub few : length bytes ≤ most
+  pub told : IfSome held (λ x. bytes ≡ x)
+
+-- The file has bytes within the limit of which this holds: those that it tells, and also where it tells none there are such bytes.
+abbrev pub HasBytes : ℕ → Option (List ℕ) → (List ℕ → Type 0) → Type 0
+HasBytes most held p = (bytes : List ℕ) × IsWithinLimit most held bytes × p bytes
+
+-- the file is within its limit and is read as this
+abbrev pub Reads : (r : Reader) → Option (List ℕ) → Value r → Type 0
+Reads r held v = HasBytes (most_bytes r) held (λ bytes. IsReadAs r bytes v)
+
+-- Why the file that a command reads at this place isn't read, and the line of that. A read failed and was counted; or one more byte than the limit was
+-- taken; or the bytes are refused. `before` and `after` count the failed reads of each name.
+abbrev pub IsUnread : Input → ℕ → (List ℕ → Option (List ℕ)) → (List ℕ → ℕ) → (List ℕ → ℕ) → Cause → List ℕ → Type 0
+IsUnread i place held before after (cause.ReadFault file) lines = (file ≡ place) × CountedAt before after i.name × (lines ≡ cannot_read_line i.name)
+IsUnread i place held before after (cause.TooLong file) lines =
+    (file ≡ place) × SameCounts before after × BeginsWith (most_bytes i.reader + 1) (held i.name) × (lines ≡ too_long_line i.name)
+IsUnread i place held before after c lines = SameCounts before after × HasBytes (most_bytes i.reader) (held i.name) (λ bytes. IsRefusedFor i.reader bytes c lines)
+
+-- ---- all files
+-- a value for each file
+abbrev pub Values : List Input → Type 0
+Values [] = Unit {0}
+Values (i ∷ is) = Value i.reader × Values is
+
+-- every file is read as its value
+abbrev pub AreRead : (is : List Input) → (List ℕ → Option (List ℕ)) → Values is → Type 0
+AreRead [] held v = Unit {0}
+AreRead (i ∷ is) held v = Reads i.reader (held i.name) v.0 × AreRead is held v.1
+
+-- so many bytes are room for the line of each file that couldn't be read
+abbrev pub IsRoomForFaults : List Input → ℕ → Type 0
+IsRoomForFaults [] room = Unit {0}
+IsRoomForFaults (i ∷ is) room = (length (cannot_read_line i.name) ≤ room) × IsRoomForFaults is room
+
+-- one of the files, of which the first is read at this place, isn't read, and those before it are
+abbrev pub StopsReading : List Input → ℕ → (List ℕ → Option (List ℕ)) → (List ℕ → ℕ) → (List ℕ → ℕ) → Cause → List ℕ → Type 0
+StopsReading [] place held before after c lines = ⊥
+StopsReading (i ∷ is) place held before after c lines =
+    IsUnread i place held before after c lines ⊎ ((v : Value i.reader) × Reads i.reader (held i.name) v × StopsReading is (place + 1) held before after c lines)
+
+-- the files tell their bytes
+abbrev pub AreTold : (List ℕ → Option (List ℕ)) → List Input → Type 0
+AreTold held [] = Unit {0}
+AreTold held (i ∷ is) = IsSome (held i.name) × AreTold held is
