@@ -127,6 +127,35 @@ fn refused_pivot_names_its_operation(rt: HostRuntime) {
     assert!(rt; !tableau.is_spent());
 }
 
+/// Four times 2^126 leaves 128 bits in the goal row, which has the number after the last row, and in the second row.
+#[test]
+fn the_goal_row_comes_before_the_other_rows(rt: HostRuntime) {
+    let alloc = rt.alloc();
+    let zero = fraction(0, 1);
+    let one = fraction(1, 1);
+    let four = fraction(4, 1);
+    let wide = fraction(TWO_126, 1);
+    for (of_goal, number, left) in [(four, 2, fraction(-4, 1)), (zero, 1, four)] {
+        let mut tableau = Tableau::new(alloc, 2, 2).expect(&rt, "memory");
+        let own = row(alloc, one, wide, zero).expect(&rt, "memory");
+        let other = row(alloc, four, zero, zero).expect(&rt, "memory");
+        let goal = row(alloc, of_goal, zero, zero).expect(&rt, "memory");
+        load(&mut tableau, 0, &own).expect(&rt, "row");
+        load(&mut tableau, 1, &other).expect(&rt, "row");
+        load_goal(&mut tableau, &goal).expect(&rt, "goal");
+        let refused = WideCell {
+            row: number,
+            col: 1,
+            wide: Wide {
+                op: Op::Mul,
+                left,
+                right: wide,
+            },
+        };
+        assert_eq!(rt; pivot(&mut tableau, 0, 0), Some(Err(refused)));
+    }
+}
+
 #[test]
 fn cells_of_a_pivot(rt: HostRuntime) {
     let alloc = rt.alloc();
