@@ -1,9 +1,12 @@
 //! Worked rows: two signals, parts 100, unless a row says otherwise.
 
 use crate::{Failing, Timing, green, holds, in_band, value};
-use artery_model::{Artery, Head, Link, Pair, Signal, Text, Units};
+use artery_model::Artery;
 use narrow_fraction::Frac;
 use progression::Dir;
+use sample_streets::{
+    SampleHead, SampleLink, SampleSignal, plain_head, plain_link, range, three_signals, two_signals,
+};
 use std::alloc::Global;
 use std::test::Fail;
 
@@ -62,52 +65,38 @@ fn half_band() -> Times {
     }
 }
 
-fn pair(least: i64, most: i64) -> Pair {
-    Pair {
-        least: Frac::whole(least),
-        most: Frac::whole(most),
+/// The inbound band counts so many halves.
+fn head(halves: i128) -> Result<SampleHead, Fail> {
+    Ok(SampleHead {
+        ratio: Frac::new(halves, 2).ok().ok_or("no ratio")?,
+        ..plain_head()
+    })
+}
+
+fn signal(name: &'static str, street: Street) -> SampleSignal {
+    let Street {
+        red,
+        left,
+        clear_out,
+        patterns,
+        ..
+    } = street;
+    SampleSignal {
+        name,
+        red,
+        left,
+        patterns,
+        clear_out,
     }
 }
 
-fn signal(alloc: Global, name: &str, street: Street) -> Result<Signal, Fail> {
-    Ok(Signal {
-        name: Text::new(alloc, name).ok().ok_or("no memory")?,
-        red: street.red,
-        left_out: street.left,
-        left_in: street.left,
-        patterns: street.patterns,
-        clear_out: street.clear_out,
-        clear_in: 0,
-    })
-}
-
-fn head(halves: i128) -> Result<Head, Fail> {
-    Ok(Head {
-        name: None,
-        units: Units::Metric,
-        parts: 100,
-        cycle: pair(100, 100),
-        ratio: Frac::new(halves, 2).ok().ok_or("no ratio")?,
-    })
-}
-
 fn artery(alloc: Global, street: Street) -> Result<Artery, Fail> {
-    let signals = vec![in alloc; signal(alloc, "A", base())?, signal(alloc, "B", street)?]?;
-    let links = vec![in alloc;
-        Link {
-            distance_out: street.distance,
-            distance_in: street.distance,
-            speed_out: pair(36, 36),
-            speed_in: pair(36, 36),
-            change_out: None,
-            change_in: None,
-        },
-    ]?;
-    Ok(
-        Artery::new(alloc, head(street.halves)?, signals, links)
-            .ok()
-            .ok_or("no artery")?,
-    )
+    let head = head(street.halves)?;
+    let link = plain_link(street.distance);
+    match two_signals(alloc, head, signal("A", base()), signal("B", street), link) {
+        Ok(artery) => Ok(artery),
+        Err(_) => Err("no artery".into()),
+    }
 }
 
 fn make_timing(alloc: Global, times: Times) -> Result<Option<Timing>, Fail> {
@@ -243,27 +232,32 @@ fn rules_of_two_signals(rt: HostRuntime) -> Result<(), Fail> {
 /// Three signals, with speeds of 18 to 72 km/h, where the pace may change by 10 s/km from link 1 to link 2, and the inbound band
 /// is at least half of the outbound one.
 fn long_artery(alloc: Global) -> Result<Artery, Fail> {
-    let signals = vec![in alloc;
-        signal(alloc, "A", base())?,
-        signal(alloc, "B", base())?,
-        signal(alloc, "C", base())?,
-    ]?;
-    let mut links = Vec::new(alloc);
-    for change in [Some(pair(-10, 10)), None] {
-        links.push(Link {
-            distance_out: 500,
-            distance_in: 500,
-            speed_out: pair(18, 72),
-            speed_in: pair(18, 72),
-            change_out: change,
-            change_in: change,
-        })?;
+    let after = SampleLink {
+        speed_out: range(18, 72),
+        speed_in: range(18, 72),
+        ..plain_link(500)
+    };
+    let before = SampleLink {
+        change: Some(range(-10, 10)),
+        ..after
+    };
+    let signals = [
+        signal("A", base()),
+        signal("B", base()),
+        signal("C", base()),
+    ];
+    match three_signals(
+        alloc,
+        head(1)?,
+        signals[0],
+        signals[1],
+        signals[2],
+        before,
+        after,
+    ) {
+        Ok(artery) => Ok(artery),
+        Err(_) => Err("no artery".into()),
     }
-    Ok(
-        Artery::new(alloc, head(1)?, signals, links)
-            .ok()
-            .ok_or("no artery")?,
-    )
 }
 
 /// What differs between the timings of three signals.
