@@ -7,6 +7,7 @@ use crate::read_artery;
 use crate::samples::{BASE, EVERY_KEY, with_lines};
 use artery_model::{Artery, Dir, Pair, Units};
 use narrow_fraction::Frac;
+use std::process::Abort;
 use std::rt::HostRuntime;
 use std::test::Fail;
 
@@ -124,9 +125,7 @@ fn english_street_is_read(rt: HostRuntime) -> Result<(), Fail> {
     Ok(())
 }
 
-#[test]
-fn every_key_of_the_artery_is_read(rt: HostRuntime) -> Result<(), Fail> {
-    let artery = read_artery(rt.alloc(), EVERY_KEY.as_bytes())?;
+fn expect_head(rt: &impl Abort, artery: &Artery) -> Result<(), Fail> {
     let Some(name) = &artery.head().name else {
         return Err(Fail::from("a name"));
     };
@@ -138,27 +137,23 @@ fn every_key_of_the_artery_is_read(rt: HostRuntime) -> Result<(), Fail> {
     Ok(())
 }
 
-#[test]
-fn every_key_of_signals_is_read(rt: HostRuntime) -> Result<(), Fail> {
-    let artery = read_artery(rt.alloc(), EVERY_KEY.as_bytes())?;
+fn expect_signals(rt: &impl Abort, artery: &Artery) -> Result<(), Fail> {
     assert_eq!(rt; artery.count(), 3);
     // An outbound left turn adds to the inbound red.
     assert_eq!(rt; artery.red_out(1), 52);
     assert_eq!(rt; artery.red_in(1), 50);
-    assert_eq!(rt; turns_at(&artery, 1), [10, 12, 5, 7]);
-    assert_eq!(rt; patterns_at(&artery, 1), [false, true, false, true]);
+    assert_eq!(rt; turns_at(artery, 1), [10, 12, 5, 7]);
+    assert_eq!(rt; patterns_at(artery, 1), [false, true, false, true]);
     assert_eq!(rt; artery.red_in(2), 45);
-    assert_eq!(rt; turns_at(&artery, 2), [0, 0, 0, 0]);
-    assert_eq!(rt; patterns_at(&artery, 2), [true, true, true, true]);
+    assert_eq!(rt; turns_at(artery, 2), [0, 0, 0, 0]);
+    assert_eq!(rt; patterns_at(artery, 2), [true, true, true, true]);
     assert_eq!(rt; artery.red_in(3), 99);
-    assert_eq!(rt; turns_at(&artery, 3), [69, 0, 0, 99]);
-    assert_eq!(rt; patterns_at(&artery, 3), [true, false, false, false]);
+    assert_eq!(rt; turns_at(artery, 3), [69, 0, 0, 99]);
+    assert_eq!(rt; patterns_at(artery, 3), [true, false, false, false]);
     Ok(())
 }
 
-#[test]
-fn every_key_of_links_is_read(rt: HostRuntime) -> Result<(), Fail> {
-    let artery = read_artery(rt.alloc(), EVERY_KEY.as_bytes())?;
+fn expect_links(rt: &impl Abort, artery: &Artery) -> Result<(), Fail> {
     assert_eq!(rt; artery.count(), 3);
     let [first, second] = artery.links() else {
         return Err(Fail::from("two links"));
@@ -168,8 +163,8 @@ fn every_key_of_links_is_read(rt: HostRuntime) -> Result<(), Fail> {
     assert!(rt; are(second.speed_out, (25, 1), (25, 1)));
     assert!(rt; are(second.speed_in, (20, 1), (45, 1)));
     // Thirty miles an hour are 44 feet a second.
-    assert!(rt; are(runs_at(&artery, Dir::Outbound, 1), (525, 22), (350, 11)));
-    assert!(rt; are(runs_at(&artery, Dir::Inbound, 1), (2250, 77), (4500, 121)));
+    assert!(rt; are(runs_at(artery, Dir::Outbound, 1), (525, 22), (350, 11)));
+    assert!(rt; are(runs_at(artery, Dir::Inbound, 1), (2250, 77), (4500, 121)));
     assert_eq!(rt; artery.distance(Dir::Outbound, 2), 900);
     assert_eq!(rt; artery.distance(Dir::Inbound, 2), 800);
     // Seconds for a foot, of which a mile has 5280.
@@ -184,4 +179,12 @@ fn every_key_of_links_is_read(rt: HostRuntime) -> Result<(), Fail> {
     assert!(rt; artery.change(Dir::Outbound, 2).is_none());
     assert!(rt; artery.change(Dir::Inbound, 2).is_none());
     Ok(())
+}
+
+#[test]
+fn every_key_is_read(rt: HostRuntime) -> Result<(), Fail> {
+    let artery = read_artery(rt.alloc(), EVERY_KEY.as_bytes())?;
+    expect_head(&rt, &artery)?;
+    expect_signals(&rt, &artery)?;
+    expect_links(&rt, &artery)
 }
