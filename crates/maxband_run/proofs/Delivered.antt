@@ -1,14 +1,14 @@
 -- An answer with what became of it is how the run ended.
-use Rattle.std.proofs.Common.{◌≡◌, ℕ, ◌<◌, List, [], ◌∷◌, length, Option, Some, None, ◌⊎◌, inl, inr, refl, sym, ◌∙◌, ap, subst, arith}
-use Rattle.std.specs.Prelude.{option_map, IsNone, IsSome}
+use Rattle.std.proofs.Common.{◌≡◌, ℕ, ◌<◌, List, length, Option, Some, None, ◌⊎◌, inl, inr, sym, ◌∙◌, ap, subst, arith}
+use Rattle.std.specs.Prelude.{option_map, IsSome}
 use Rattle.outer_edge.specs.Counts.{next_count, NoneFell, SameCounts, CountedAt}
 use Rattle.outer_edge.specs.Held.{SameFiles}
 use Rattle.outer_edge.specs.Taken.{Appends, AppendsFront}
 use Rattle.maxband_run.specs.Command.{Request, shape}
-use Rattle.maxband_run.specs.Reading.{Input, IsRoomForFaults}
+use Rattle.maxband_run.specs.Reading.{IsRoomForFaults}
 use Rattle.maxband_run.specs.declared.answer.Put.{Put}
-use Rattle.maxband_run.specs.Outside.{Outside, NamedBytes, named, view, IsPut, IsDone, IsUntouched, PutFailed, WriteFailed, IsBroken, OthersKept, PutsCounted}
-use Rattle.maxband_run.specs.Run.{Answers, Ends, LeavesAlone}
+use Rattle.maxband_run.specs.Outside.{Outside, NamedBytes, view, IsPut, IsDone, IsUntouched, PutFailed, WriteFailed, IsBroken}
+use Rattle.maxband_run.specs.Run.{Answers, Ends}
 use Rattle.maxband_run.specs.Laws.{IsReached}
 use Rattle.maxband_run.specs.declared.cause.Cause.{Cause}
 use Rattle.maxband_run.specs.declared.cause.Cause.TheVariants as cause
@@ -88,74 +88,17 @@ module _ (before mid now : Outside) (read : IsRead before mid) where
   broken_since lines (Some put) (inl p) = inl (put_failed put p)
   broken_since lines (Some put) (inr w) = inr (write_failed lines (Some put) w)
 
-  pub others_since : (name : Option (List ℕ)) → OthersKept name mid.holds now.holds → OthersKept name before.holds now.holds
-  others_since name k = subst (λ f. OthersKept name f now.holds) same_holds k
-
-  pub counted_since : (name : Option (List ℕ)) → PutsCounted name mid.puts now.puts → PutsCounted name before.puts now.puts
-  counted_since name k = subst (λ f. PutsCounted name f now.puts) same_puts k
-
   module _ (same : SameCounts mid.reads now.reads) where
     pub answered_since : (asked : Option Request) (c : Cause) (lines : List ℕ) (put : Option NamedBytes)
         → Answers before.holds before.reads mid.reads asked c lines put → Answers before.holds before.reads now.reads asked c lines put
     answered_since asked c lines put h = subst (λ f. Answers before.holds before.reads f asked c lines put) (sym (same_at mid.reads now.reads same)) h
 
-    pub reads_since : NoneFell before.reads now.reads
-    reads_since name = omega (arith, read.reads name, same name)
-
--- ---- in every case
-pub untouched_files : (name : Option (List ℕ)) (x y : List ℕ → Option (List ℕ)) → SameFiles x y → OthersKept name x y
-untouched_files None x y h = h
-untouched_files (Some name) x y h = λ other _. h other
-
-pub untouched_puts : (name : Option (List ℕ)) (x y : List ℕ → ℕ) → SameCounts x y → PutsCounted name x y
-untouched_puts None x y h = h
-untouched_puts (Some name) x y h = λ other. omega (arith, h other)
-
--- the name of what is put
-abbrev pub name_of : Option Put → Option (List ℕ)
-name_of put = option_map (λ p. p.name.now) put
-
-put_name : (put : Option Put) (output : Option (List ℕ)) (bytes : List ℕ) → option_map view put ≡ option_map (λ name. named name bytes) output → name_of put ≡ output
-put_name None None bytes e = refl
-put_name None (Some name) bytes e = absurd cc
-put_name (Some put) None bytes e = absurd cc
-put_name (Some put) (Some name) bytes e = let same : view put ≡ named name bytes = cc in ap (λ (n : NamedBytes). Some n.name) same
-
-put_none : (put : Option Put) → option_map view put ≡ None → name_of put ≡ None
-put_none None e = refl
-put_none (Some put) e = absurd cc
-
-is_none : (put : Option Put) → option_map view put ≡ None → IsNone put
-is_none None e = refl
-is_none (Some put) e = absurd cc
-
+-- ---- want of memory
 some_put : (put : Option Put) → IsSome put → option_map view put ≡ None → ⊥
 some_put None s e = absurd cc
 some_put (Some put) s e = absurd cc
 
-alone_since : {F : Type 0} (is : List Input) (output : Option (List ℕ)) (x y z : F) → (output ≡ None → z ≡ y) → LeavesAlone is output x y → LeavesAlone is output x z
-alone_since [] None x y z k e = k refl ∙ e
-alone_since [] (Some name) x y z k e = tt
-alone_since (i ∷ is) output x y z k e = tt
-
 module _ (held : List ℕ → Option (List ℕ)) (before after : List ℕ → ℕ) (asked : Option Request) (c : Cause) (lines : List ℕ) (put : Option Put) where
-  pub answer_files : (x y : List ℕ → Option (List ℕ)) → Answers held before after asked c lines (option_map view put) → OthersKept (name_of put) x y → OthersKept (shape asked).output x y
-  answer_files x y (inl h) k = untouched_files (shape asked).output x y (subst (λ (n : Option (List ℕ)). OthersKept n x y) (put_none put h.no_put) k)
-  answer_files x y (inr h) k = subst (λ (n : Option (List ℕ)). OthersKept n x y) (put_name put (shape asked).output h.bytes h.put_is) k
-
-  pub answer_puts : (x y : List ℕ → ℕ) → Answers held before after asked c lines (option_map view put) → PutsCounted (name_of put) x y → PutsCounted (shape asked).output x y
-  answer_puts x y (inl h) k = untouched_puts (shape asked).output x y (subst (λ (n : Option (List ℕ)). PutsCounted n x y) (put_none put h.no_put) k)
-  answer_puts x y (inr h) k = subst (λ (n : Option (List ℕ)). PutsCounted n x y) (put_name put (shape asked).output h.bytes h.put_is) k
-
-  none_put : Answers held before after asked c lines (option_map view put) → (shape asked).output ≡ None → IsNone put
-  none_put (inl h) e = is_none put h.no_put
-  none_put (inr h) e = is_none put (h.put_is ∙ ap (option_map (λ name. named name h.bytes)) e)
-
-  -- what neither reads nor puts leaves the files alone
-  pub answer_alone : {F : Type 0} (x y z : F) → Answers held before after asked c lines (option_map view put)
-      → LeavesAlone (shape asked).inputs (shape asked).output x y → (IsNone put → z ≡ y) → LeavesAlone (shape asked).inputs (shape asked).output x z
-  answer_alone x y z h e k = alone_since (shape asked).inputs (shape asked).output x y z (λ none. k (none_put h none)) e
-
   -- where memory was wanting no read had failed
   pub wanted_counts : (room : ℕ) → Answers held before after asked c lines (option_map view put) → IsRoomForFaults (shape asked).inputs room → (room < length lines) ⊎ IsSome put → SameCounts before after
   wanted_counts room (inr h) few w = h.counts
