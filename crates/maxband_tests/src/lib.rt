@@ -1,19 +1,30 @@
-//! Tests of whole runs of `maxband`, over files and outputs in memory. Each uses `run` and its `Status` alone.
+//! Tests of whole runs of `maxband`, over files and outputs in memory. Each uses `run` and its `Status` alone. Cases are
+//! data: a new one is an entry of a table, in the module that is named by what it shows.
 #![tactic(auto)]
 
 #[cfg(test)]
-mod check_tests;
+mod check_cases;
 #[cfg(test)]
-mod endless;
+mod fault_cases;
+#[cfg(test)]
+mod hold_cases;
+#[cfg(test)]
+mod length_cases;
+#[cfg(test)]
+mod long_files;
+#[cfg(test)]
+mod made_cases;
+#[cfg(test)]
+mod running;
 #[cfg(test)]
 mod shipped;
 #[cfg(test)]
-mod shipped_tests;
-#[cfg(test)]
-mod solve_tests;
+mod solve_cases;
 #[cfg(test)]
 mod tests;
 #[cfg(test)]
-mod trial_tests;
+mod texts;
 #[cfg(test)]
-mod width_tests;
+mod width_streets;
+#[cfg(test)]
+mod word_cases;

@@ -1,17 +1,18 @@
-//! Files for tests: those that are told, and without an end each other one.
+//! Files for tests: those that are told, and each other one has a given length.
 
 ghost use Rattle.std.specs.Prelude.{◌-◌, ◌^◌, None};
 
 use outer_edge::{FileEnd, Files, SureFiles};
 
-/// The files of `told`, and every other name is a file that never ends. What they hold isn't told, and each count of faults
-/// stands at its end.
+/// The files of `told`, and every other name is a file of `length` line feeds. What they hold isn't told, and each count of
+/// faults stands at its end.
 #[derive(Drop)]
-pub struct Endless {
+pub struct LongFiles {
     pub told: SureFiles,
+    pub length: u64,
 }
 
-impl Files for Endless {
+impl Files for LongFiles {
     ghost holds = { λ f name. None };
 
     ghost read_faults = { λ f name. 2 ^ 64 - 1 };
@@ -21,7 +22,11 @@ impl Files for Endless {
     fn read(&mut self, name: &str, into: &mut [u8], at: u64) -> Result<usize, FileEnd> {
         match self.told.bytes(name) {
             Some(_) => self.told.read(name, into, at),
-            None => Ok(into.len()),
+            None => {
+                into.fill(b'\n');
+                let left = self.length.saturating_sub(at);
+                Ok(left.min(into.len() as u64) as usize)
+            }
         }
     }
 

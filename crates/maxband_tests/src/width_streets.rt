@@ -1,18 +1,11 @@
 //! Runs of `solve` that stop because a number doesn't fit. The expected reports come from outside: from a second program in
 //! Python, with fractions of any size, that follows the stated rules and tests each operation.
 
-use crate::tests::{owned, run_surely};
-use outer_edge::{SureFiles, SureSink};
-use std::test::Fail;
-
-/// A street, and what `solve` writes of it.
-struct Stopped {
-    street: &'static str,
-    report: &'static str,
-}
+use crate::shipped::Shipped;
 
 /// It stops at a cell of a pivot in the root box.
-const CELL_IN_ROOT: Stopped = Stopped {
+const CELL_IN_ROOT: Shipped = Shipped {
+    name: "cell in root",
     street: r#"[artery]
 units = "metric"
 parts = 100
@@ -46,6 +39,7 @@ distance_in = 419
 speed_out = ["40.868", "45.686"]
 speed_in = ["40.354", "47.570"]
 "#,
+    status: 2,
     report: r#"verdict open
 stopped wide
 loops 1:2 1:1
@@ -59,7 +53,8 @@ no timing
 };
 
 /// It stops at a cell of a pivot in the box of a part, after a timing was found.
-const CELL_IN_PART: Stopped = Stopped {
+const CELL_IN_PART: Shipped = Shipped {
+    name: "cell in part",
     street: r#"[artery]
 units = "metric"
 parts = 120
@@ -95,6 +90,7 @@ distance_in = 293
 speed_out = ["40.529", "48.125"]
 speed_in = ["31.738", "55.242"]
 "#,
+    status: 2,
     report: r#"verdict open
 stopped wide
 loops 1:2 2:2
@@ -125,7 +121,8 @@ diagram
 };
 
 /// It stops at the bound of a leaf's sum.
-const BOUND_OF_LEAF: Stopped = Stopped {
+const BOUND_OF_LEAF: Shipped = Shipped {
+    name: "bound of leaf",
     street: r#"[artery]
 units = "metric"
 parts = 240
@@ -178,6 +175,7 @@ distance_in = 4243
 speed_out = ["12953/359", "46411/919"]
 speed_in = ["40099/997", "47309/769"]
 "#,
+    status: 2,
     report: r#"verdict open
 stopped wide
 loops 7:8 3:4 5:5
@@ -191,7 +189,8 @@ no timing
 };
 
 /// It stops at the common denominator of a vertex.
-const COMMON_DENOMINATOR: Stopped = Stopped {
+const COMMON_DENOMINATOR: Shipped = Shipped {
+    name: "common denominator",
     street: r#"[artery]
 units = "metric"
 parts = 100
@@ -230,6 +229,7 @@ distance_in = 239
 speed_out = ["42.020", "45.884"]
 speed_in = ["42.939", "46.423"]
 "#,
+    status: 2,
     report: r#"verdict open
 stopped wide
 loops 0:0 0:1
@@ -243,7 +243,8 @@ no timing
 };
 
 /// It stops at a number of ticks of a run.
-const TICKS_OF_RUN: Stopped = Stopped {
+const TICKS_OF_RUN: Shipped = Shipped {
+    name: "ticks of run",
     street: r#"[artery]
 units = "metric"
 parts = 90
@@ -280,6 +281,7 @@ distance_in = 353
 speed_out = ["38.998", "46.702"]
 speed_in = ["39.470", "51.073"]
 "#,
+    status: 2,
     report: r#"verdict open
 stopped wide
 loops 0:0 0:1
@@ -293,7 +295,8 @@ no timing
 };
 
 /// It stops at a ratio of a step, before a pivot is chosen.
-const RATIO_OF_STEP: Stopped = Stopped {
+const RATIO_OF_STEP: Shipped = Shipped {
+    name: "ratio of step",
     street: r#"[artery]
 units = "metric"
 parts = 100
@@ -344,6 +347,7 @@ distance_in = 14000
 speed_out = [50, "5991/100"]
 speed_in = [50, "5449/97"]
 "#,
+    status: 2,
     report: r#"verdict open
 stopped wide
 loops 6:15 8:9 22:23 14:14
@@ -357,7 +361,8 @@ no timing
 };
 
 /// It stops at the product of a run and the parts.
-const PRODUCT_OF_RUN: Stopped = Stopped {
+const PRODUCT_OF_RUN: Shipped = Shipped {
+    name: "product of run",
     street: r#"[artery]
 units = "metric"
 parts = 3593
@@ -408,6 +413,7 @@ distance_in = 500
 speed_out = [70, "69113/835"]
 speed_in = [40, "55673/885"]
 "#,
+    status: 2,
     report: r#"verdict open
 stopped wide
 loops 311:2360 5:5 3:4 12:12
@@ -420,7 +426,7 @@ no timing
 "#,
 };
 
-const STREETS: &[Stopped] = &[
+pub const STREETS: &[Shipped] = &[
     CELL_IN_ROOT,
     CELL_IN_PART,
     BOUND_OF_LEAF,
@@ -429,22 +435,3 @@ const STREETS: &[Stopped] = &[
     RATIO_OF_STEP,
     PRODUCT_OF_RUN,
 ];
-
-#[test]
-fn reports_of_stops_by_width(rt: HostRuntime) -> Result<(), Fail> {
-    let words = owned(rt.alloc(), &["solve", "street.toml", "certificate.txt"])?;
-    for stopped in STREETS {
-        let mut files = SureFiles::new(rt.alloc());
-        files.add("street.toml", stopped.street.as_bytes())?;
-        let mut out = SureSink::new(rt.alloc());
-        let status = run_surely(rt.alloc(), words.as_slice(), &mut files, &mut out);
-        assert_eq!(rt; status.number, 2);
-        assert_eq!(rt;
-            out.bytes(),
-            stopped.report.as_bytes(),
-            "{}",
-            stopped.report
-        );
-    }
-    Ok(())
-}

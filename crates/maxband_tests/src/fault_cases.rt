@@ -1,0 +1,178 @@
+//! Runs of which a read, a put or a write fails.
+
+use crate::running::Fault;
+use crate::running::Wanted::{Absent, Front};
+
+const HOLD: &[&str] = &["hold", "a.toml", "b.txt"];
+
+const CHECK: &[&str] = &["check", "near.toml", "best.txt"];
+
+const SOLVE: &[&str] = &["solve", "a.toml", "new.txt"];
+
+/// The first and the second call read a description to its end, the third and the fourth the other file, or the third
+/// puts the certificate.
+pub const FAULTS: &[Fault] = &[
+    Fault {
+        name: "hold without a fault",
+        words: HOLD,
+        fail_files: &[],
+        fail_writes: &[],
+        number: 0,
+        written: b"holds\nweighted 1\n",
+        kept: Absent,
+    },
+    Fault {
+        name: "hold, first file",
+        words: HOLD,
+        fail_files: &[1],
+        fail_writes: &[],
+        number: 6,
+        written: b"cannot read a.toml\n",
+        kept: Absent,
+    },
+    Fault {
+        name: "hold, second file",
+        words: HOLD,
+        fail_files: &[3],
+        fail_writes: &[],
+        number: 6,
+        written: b"cannot read b.txt\n",
+        kept: Absent,
+    },
+    Fault {
+        name: "hold, absent file",
+        words: &["hold", "a.toml", "absent.txt"],
+        fail_files: &[],
+        fail_writes: &[],
+        number: 6,
+        written: b"cannot read absent.txt\n",
+        kept: Absent,
+    },
+    Fault {
+        name: "hold, first write",
+        words: HOLD,
+        fail_files: &[],
+        fail_writes: &[1],
+        number: 7,
+        written: b"",
+        kept: Absent,
+    },
+    Fault {
+        name: "hold, second write",
+        words: HOLD,
+        fail_files: &[],
+        fail_writes: &[2],
+        number: 7,
+        written: b"holds\nweighted 1",
+        kept: Absent,
+    },
+    Fault {
+        name: "check without a fault",
+        words: CHECK,
+        fail_files: &[],
+        fail_writes: &[],
+        number: 0,
+        written: b"accepted best 1/2\n",
+        kept: Absent,
+    },
+    Fault {
+        name: "check, first file",
+        words: CHECK,
+        fail_files: &[1],
+        fail_writes: &[],
+        number: 6,
+        written: b"cannot read near.toml\n",
+        kept: Absent,
+    },
+    Fault {
+        name: "check, second file",
+        words: CHECK,
+        fail_files: &[3],
+        fail_writes: &[],
+        number: 6,
+        written: b"cannot read best.txt\n",
+        kept: Absent,
+    },
+    Fault {
+        name: "check, absent file",
+        words: &["check", "near.toml", "absent.txt"],
+        fail_files: &[],
+        fail_writes: &[],
+        number: 6,
+        written: b"cannot read absent.txt\n",
+        kept: Absent,
+    },
+    Fault {
+        name: "check, first write",
+        words: CHECK,
+        fail_files: &[],
+        fail_writes: &[1],
+        number: 7,
+        written: b"",
+        kept: Absent,
+    },
+    Fault {
+        name: "check, second write",
+        words: CHECK,
+        fail_files: &[],
+        fail_writes: &[2],
+        number: 7,
+        written: b"accepted best 1/",
+        kept: Absent,
+    },
+    Fault {
+        name: "solve, description",
+        words: SOLVE,
+        fail_files: &[1],
+        fail_writes: &[],
+        number: 6,
+        written: b"cannot read a.toml\n",
+        kept: Absent,
+    },
+    Fault {
+        name: "solve, absent description",
+        words: &["solve", "absent.toml", "new.txt"],
+        fail_files: &[],
+        fail_writes: &[],
+        number: 6,
+        written: b"cannot read absent.toml\n",
+        kept: Absent,
+    },
+    Fault {
+        name: "solve, put",
+        words: SOLVE,
+        fail_files: &[3],
+        fail_writes: &[],
+        number: 7,
+        written: b"",
+        kept: Absent,
+    },
+    Fault {
+        name: "solve, second write",
+        words: SOLVE,
+        fail_files: &[],
+        fail_writes: &[2],
+        number: 7,
+        written: b"verdict best\nwei",
+        kept: Front(b"maxband-certificate 1\nverdict best\n"),
+    },
+    // `make` and `trial` call no file.
+    Fault {
+        name: "make, second write",
+        words: &["make", "2", "0"],
+        fail_files: &[1, 2, 3],
+        fail_writes: &[2],
+        number: 7,
+        written: b"version = 1\n\n[ar",
+        kept: Absent,
+    },
+    Fault {
+        name: "trial, second write",
+        words: &["trial", "2", "0", "1"],
+        fail_files: &[1, 2, 3],
+        fail_writes: &[2],
+        number: 7,
+        written: b"signals 2\nseed 0",
+        kept: Absent,
+    },
+];

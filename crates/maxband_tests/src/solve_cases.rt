@@ -1,0 +1,391 @@
+//! Arteries that `solve` searches. The expected lines were worked by hand.
+
+use crate::running::Wanted::{Absent, End, Front, Whole};
+use crate::running::{Search, SearchTable, Wanted};
+use crate::shipped::Shipped;
+use crate::texts::{ARTERY, NEAR};
+
+/// Four signals in feet and miles an hour, with left turns, a clearance, ranges of speeds and limits of their changes. The
+/// outbound green of Elm is 50 parts and the inbound green of Main is 48, and both are passed whole at a cycle of 60 seconds.
+const STREET: &str = "[artery]
+name = \"Main Street\"
+units = \"english\"
+parts = 100
+cycle = [60, 100]
+ratio = 1
+
+[[signal]]
+name = \"Oak\"
+red = 45
+
+[[signal]]
+name = \"Elm\"
+red = 40
+left_out = 10
+left_in = 10
+
+[[signal]]
+name = \"Pine\"
+red = 45
+clear_out = 5
+
+[[signal]]
+name = \"Main\"
+red = 40
+left_out = 12
+left_in = 8
+
+[[link]]
+distance_out = 1400
+distance_in = 1400
+speed_out = [30, 40]
+speed_in = [30, 40]
+change_out = [\"-10\", \"10\"]
+change_in = [\"-10\", \"10\"]
+
+[[link]]
+distance_out = 1500
+distance_in = 1500
+speed_out = [30, 40]
+speed_in = [30, 40]
+change_out = [\"-10\", \"10\"]
+change_in = [\"-10\", \"10\"]
+
+[[link]]
+distance_out = 1300
+distance_in = 1300
+speed_out = [30, 40]
+speed_in = [30, 40]
+";
+
+/// Sixteen signals, whose search isn't done by the usual limit of work, which is 100000 units.
+const LONG_STREET: &str = "signal = [
+    { name = \"S1\", red = 34, left_out = 5, left_in = 10 },
+    { name = \"S2\", red = 32, left_out = 5, left_in = 5 },
+    { name = \"S3\", red = 41, left_out = 0, left_in = 0 },
+    { name = \"S4\", red = 48, left_out = 5, left_in = 0 },
+    { name = \"S5\", red = 46, left_out = 10, left_in = 10 },
+    { name = \"S6\", red = 39, left_out = 5, left_in = 5 },
+    { name = \"S7\", red = 38, left_out = 10, left_in = 5 },
+    { name = \"S8\", red = 38, left_out = 0, left_in = 10 },
+    { name = \"S9\", red = 40, left_out = 10, left_in = 5 },
+    { name = \"S10\", red = 47, left_out = 0, left_in = 10 },
+    { name = \"S11\", red = 36, left_out = 5, left_in = 10 },
+    { name = \"S12\", red = 43, left_out = 5, left_in = 10 },
+    { name = \"S13\", red = 50, left_out = 10, left_in = 5 },
+    { name = \"S14\", red = 50, left_out = 10, left_in = 5 },
+    { name = \"S15\", red = 34, left_out = 10, left_in = 5 },
+    { name = \"S16\", red = 30, left_out = 5, left_in = 5 },
+]
+link = [
+    { distance_out = 318, distance_in = 318, speed_out = [30, 50], speed_in = [30, 50] },
+    { distance_out = 553, distance_in = 553, speed_out = [35, 50], speed_in = [35, 50] },
+    { distance_out = 697, distance_in = 697, speed_out = [40, 55], speed_in = [40, 55] },
+    { distance_out = 386, distance_in = 386, speed_out = [40, 60], speed_in = [40, 60] },
+    { distance_out = 306, distance_in = 306, speed_out = [40, 55], speed_in = [40, 55] },
+    { distance_out = 650, distance_in = 650, speed_out = [40, 60], speed_in = [40, 60] },
+    { distance_out = 594, distance_in = 594, speed_out = [40, 50], speed_in = [40, 50] },
+    { distance_out = 533, distance_in = 533, speed_out = [30, 55], speed_in = [30, 55] },
+    { distance_out = 430, distance_in = 430, speed_out = [40, 55], speed_in = [40, 55] },
+    { distance_out = 424, distance_in = 424, speed_out = [35, 60], speed_in = [35, 60] },
+    { distance_out = 487, distance_in = 487, speed_out = [40, 50], speed_in = [40, 50] },
+    { distance_out = 241, distance_in = 241, speed_out = [40, 55], speed_in = [40, 55] },
+    { distance_out = 254, distance_in = 254, speed_out = [40, 60], speed_in = [40, 60] },
+    { distance_out = 449, distance_in = 449, speed_out = [35, 55], speed_in = [35, 55] },
+    { distance_out = 443, distance_in = 443, speed_out = [40, 50], speed_in = [40, 50] },
+]
+
+[artery]
+units = \"metric\"
+parts = 100
+cycle = [60, 100]
+ratio = 1
+";
+
+/// The certificate where the root alone was searched, and no timing was found.
+const ROOT_ALONE: &[u8] =
+    b"maxband-certificate 1\nverdict open\nbound 1\nno timing\ntree\nleaf 2\nwout 1 1\nwin 1 1\nend\n";
+
+/// Any certificate.
+const ANY: Wanted = Front(b"maxband-certificate 1\nverdict ");
+
+/// The distance is 500, and a vehicle meets the green of both signals in both directions.
+const FAR: &[Search] = &[
+    (
+        "as given",
+        &[],
+        "",
+        0,
+        Front(b"verdict best\nweighted 1 = 1.000000\n"),
+        ANY,
+        Whole(b"accepted best 1\n"),
+    ),
+    (
+        "the greatest work",
+        &[],
+        "18446744073709551615",
+        0,
+        Front(b"verdict best\nweighted 1 = 1.000000\n"),
+        ANY,
+        Whole(b"accepted best 1\n"),
+    ),
+    (
+        "outbound clearance",
+        &[(13, b"red = 50\nclear_out = 10")],
+        "",
+        0,
+        Front(b"verdict best\nweighted 9/10 = 0.900000\n"),
+        ANY,
+        Whole(b"accepted best 9/10\n"),
+    ),
+    (
+        "five times the distance",
+        &[(16, b"distance_out = 2500"), (17, b"distance_in = 2500")],
+        "",
+        0,
+        Front(b"verdict best\nweighted 1 = 1.000000\n"),
+        ANY,
+        Whole(b"accepted best 1\n"),
+    ),
+];
+
+/// The distance is 250: what limits the weighted band is the time between the signals.
+const NEAR_BY: &[Search] = &[
+    (
+        "as given",
+        &[],
+        "",
+        0,
+        Front(b"verdict best\nweighted 1/2 = 0.500000\n"),
+        ANY,
+        Whole(b"accepted best 1/2\n"),
+    ),
+    (
+        "cycle from 50 seconds",
+        &[(4, b"cycle = [50, 100]")],
+        "",
+        0,
+        Front(b"verdict best\nweighted 1 = 1.000000\n"),
+        ANY,
+        Whole(b"accepted best 1\n"),
+    ),
+    (
+        "left turns",
+        &[(13, b"red = 40\nleft_out = 10\nleft_in = 10")],
+        "",
+        0,
+        Front(b"verdict best\nweighted 3/5 = 0.600000\n"),
+        ANY,
+        Whole(b"accepted best 3/5\n"),
+    ),
+    (
+        "left turns in pattern 3",
+        &[(13, b"red = 40\nleft_out = 10\nleft_in = 10\npatterns = [3]")],
+        "",
+        0,
+        Front(b"verdict best\nweighted 1/2 = 0.500000\n"),
+        ANY,
+        Whole(b"accepted best 1/2\n"),
+    ),
+    (
+        "outbound clearance",
+        &[(13, b"red = 50\nclear_out = 10")],
+        "",
+        0,
+        Front(b"verdict best\nweighted 3/5 = 0.600000\n"),
+        ANY,
+        Whole(b"accepted best 3/5\n"),
+    ),
+    (
+        "ratio of 1/2",
+        &[(5, b"ratio = \"1/2\"")],
+        "",
+        0,
+        Front(b"verdict best\nweighted 5/12 = 0.416666\n"),
+        ANY,
+        Whole(b"accepted best 5/12\n"),
+    ),
+    (
+        "ratio of 2",
+        &[(5, b"ratio = 2")],
+        "",
+        0,
+        Front(b"verdict best\nweighted 5/6 = 0.833333\n"),
+        ANY,
+        Whole(b"accepted best 5/6\n"),
+    ),
+    (
+        "ratio of 0",
+        &[(5, b"ratio = 0")],
+        "",
+        0,
+        Front(b"verdict best\nweighted 1/2 = 0.500000\n"),
+        ANY,
+        Whole(b"accepted best 1/2\n"),
+    ),
+];
+
+/// The root costs 4 units, its low part 8 and its high part 9; with reds of 80 the root costs 5.
+const LIMITS: &[Search] = &[
+    (
+        "21 units",
+        &[],
+        "21",
+        0,
+        Front(b"verdict best\nweighted 1/2 = 0.500000\n"),
+        ANY,
+        Whole(b"accepted best 1/2\n"),
+    ),
+    (
+        "20 units",
+        &[],
+        "20",
+        2,
+        Front(b"verdict open\nstopped work 20\nbound 1\nweighted 1/2 = 0.500000\n"),
+        End(b"\ntree\nleaf 2\nwout 1 1\nwin 1 1\nend\n"),
+        Whole(b"accepted open bound 1 value 1/2\n"),
+    ),
+    (
+        "4 units",
+        &[],
+        "4",
+        2,
+        Whole(b"verdict open\nstopped work 4\nbound 1\nno timing\n"),
+        Whole(ROOT_ALONE),
+        Whole(b"accepted open bound 1\n"),
+    ),
+    (
+        "1 unit",
+        &[],
+        "1",
+        2,
+        Whole(b"verdict open\nstopped work 1\nbound 1\nno timing\n"),
+        Whole(ROOT_ALONE),
+        Whole(b"accepted open bound 1\n"),
+    ),
+    (
+        "none by 5 units",
+        &[(9, b"red = 80"), (13, b"red = 80")],
+        "5",
+        1,
+        Front(b"verdict none\n"),
+        ANY,
+        Whole(b"accepted none\n"),
+    ),
+    (
+        "none by 4 units",
+        &[(9, b"red = 80"), (13, b"red = 80")],
+        "4",
+        2,
+        Front(b"verdict open\nstopped work 4\nbound 2/5\nno timing\n"),
+        ANY,
+        Whole(b"accepted open bound 2/5\n"),
+    ),
+];
+
+const OF_STREET: &[Search] = &[(
+    "four signals",
+    &[],
+    "",
+    0,
+    Front(b"verdict best\nweighted 49/50 = 0.980000\n"),
+    Front(b"maxband-certificate 1\nverdict best\n"),
+    Whole(b"accepted best 49/50\n"),
+)];
+
+const OVER_ITSELF: &[Search] = &[(
+    "certificate over the description",
+    &[],
+    "",
+    0,
+    Front(b"verdict best\n"),
+    Front(b"maxband-certificate 1\nverdict best\n"),
+    Whole(b"accepted best 1\n"),
+)];
+
+const NO_ARTERY: &[Search] = &[(
+    "red of a half",
+    &[(9, b"red = 47.5")],
+    "",
+    3,
+    Whole(b"refused WrongType signal[1].red\n"),
+    Absent,
+    Whole(b"refused WrongType signal[1].red\n"),
+)];
+
+pub const TABLES: &[SearchTable] = &[
+    SearchTable {
+        name: "far",
+        artery: ARTERY,
+        put: "c.txt",
+        cases: FAR,
+    },
+    SearchTable {
+        name: "near by",
+        artery: NEAR,
+        put: "c.txt",
+        cases: NEAR_BY,
+    },
+    SearchTable {
+        name: "limits",
+        artery: NEAR,
+        put: "c.txt",
+        cases: LIMITS,
+    },
+    SearchTable {
+        name: "of a street",
+        artery: STREET,
+        put: "c.txt",
+        cases: OF_STREET,
+    },
+    SearchTable {
+        name: "over itself",
+        artery: ARTERY,
+        put: "a.toml",
+        cases: OVER_ITSELF,
+    },
+    SearchTable {
+        name: "no artery",
+        artery: ARTERY,
+        put: "c.txt",
+        cases: NO_ARTERY,
+    },
+];
+
+/// A search that the usual limit of work ends.
+pub const USUAL_LIMIT: SearchTable = SearchTable {
+    name: "usual limit",
+    artery: LONG_STREET,
+    put: "c.txt",
+    cases: &[(
+        "no third word",
+        &[],
+        "",
+        2,
+        Front(b"verdict open\nstopped work 100000\n"),
+        Front(b"maxband-certificate 1\nverdict open\n"),
+        Front(b"accepted open bound "),
+    )],
+};
+
+/// The whole report of the far signals, with its diagram of 60 places in each line.
+pub const WHOLE_REPORT: &[Shipped] = &[Shipped {
+    name: "far signals",
+    street: ARTERY,
+    status: 0,
+    report: "verdict best
+weighted 1 = 1.000000
+band out 1/2 = 0.500000
+band in 1/2 = 0.500000
+cycle 100 = 100.000
+signal 1 pattern 1 offset 0 = 0.000 A
+signal 2 pattern 1 offset 50 = 50.000 B
+link 1 out 36 = 36.000
+link 1 in 36 = 36.000
+diagram
+2 out >>>>>>>>>>>>>>>>>>>>>>>>>>>>>>>#############################
+2 in <<<<<<<<<<<<<<<<<<<<<<<<<<<<<<<#############################
+1 out >#############################>>>>>>>>>>>>>>>>>>>>>>>>>>>>>>
+1 in <#############################<<<<<<<<<<<<<<<<<<<<<<<<<<<<<<
+",
+}];
