@@ -7,6 +7,7 @@
 //! (`specs/Operations.antt` lists the operations in their order). What an exchange keeps is in `simplex_theory`'s laws.
 #![tactic(auto)]
 
+mod basis;
 mod fresh;
 mod laws;
 mod lines;

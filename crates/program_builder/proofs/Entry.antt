@@ -1,7 +1,6 @@
 -- Lemmas on the definitions of `Entry`: a tableau is ready for the entry once its box is loaded, and what the entry comes to.
 use Rattle.std.proofs.Common.{◌≡◌, ℕ, List, [], ◌∷◌, map, refl, sym, ◌∙◌, ap₂, length, arith}
-use Rattle.progression.specs.Street.{Street, count}
-use Rattle.linear_theory.specs.Places as places
+use Rattle.progression.specs.Street.{Street}
 use Rattle.linear_theory.specs.Boxes.{Area}
 use Rattle.linear_theory.specs.Rows.{line}
 use Rattle.linear_theory.specs.Names.{Name, WaitRow, FastRow, SlowRow, RiseRow, DropRow, CycleLowRow, CycleHighRow, RatioRow, LoopLowRow, LoopHighRow, TurnLowRow, TurnHighRow, NoRow, form_of, name_of}

@@ -1,7 +1,7 @@
 -- Lemmas on the definitions of `First`: in every line of boxes the first tableau is what a search needs.
-use Rattle.std.proofs.Common.{◌≡◌, ℕ, zero, suc, List, [], ◌∷◌, length, refl, ◌∙◌, ap, arith}
-use Rattle.std.specs.Prelude.{is_none}
-use Rattle.std.proofs.lemmas.Bool.{cond_both}
+use Rattle.std.proofs.Common.{◌≡◌, Bool, true, false, sym, ℕ, zero, suc, List, [], ◌∷◌, length, refl, ◌∙◌, ap, arith}
+use Rattle.std.specs.Prelude.{is_none, if◌then◌else◌}
+use Rattle.std.proofs.lemmas.Bool.{cond_both, cond-true, cond-false}
 use Rattle.progression.specs.Street.{Street}
 use Rattle.artery_model.specs.Valid.{IsValid}
 use Rattle.linear_theory.specs.Boxes.{Area}
@@ -18,7 +18,9 @@ use Rattle.entry_theory.proofs.Entered.{ready_rows}
 use Rattle.program_builder.specs.EntryRefusals.{entry_refusal}
 use Rattle.program_builder.specs.Opening.{box_rows, goal_of, loaded, opening}
 use Rattle.program_builder.proofs.OpeningLaws.{opening_dual, opening_stands, width-opening, width-loaded}
-use Rattle.program_builder.specs.Entry.{IsBasisOf}
+use Rattle.fraction_tableau.specs.NamedTableaus.{NamedTableau}
+use Rattle.program_builder.specs.Building.{opened_box}
+use Rattle.program_builder.specs.Entry.{IsBasisOf, entered_box}
 use Rattle.program_builder.proofs.Entry.{ready, entered}
 use Rattle.program_builder.specs.First.{last_of, entry_or_opening, first_of, IsFirstFor}
 
@@ -58,6 +60,12 @@ pub either_first : (a : Street) (box : Area) (vs : List ℕ) → IsValid a → I
 unfolding entry_or_opening
 either_first a box vs v b =
     cond_both (is_none (entry_refusal vs (loaded a box))) (entry vs (loaded a box)) (opening a box) (IsFirstFor a box) (λ e. entry_first a box vs b) (λ e. opening_first a box v)
+
+-- what `enter` answers and leaves, together
+pub begins : (a : Street) (box : Area) (vs : List ℕ) (b : Bool) (t : NamedTableau) → b ≡ is_none (entry_refusal vs (loaded a box)) → t ≡ (if b then entered_box a box vs else opened_box a box) → t.table ≡ entry_or_opening a box vs
+unfolding entry_or_opening
+begins a box vs true t e h = ap (λ (s : NamedTableau). s.table) h ∙ sym (cond-true _ _ _ (sym e))
+begins a box vs false t e h = ap (λ (s : NamedTableau). s.table) h ∙ sym (cond-false _ _ _ (sym e))
 
 -- in every line of boxes
 pub first_is : (a : Street) (box : Area) (above : List Area) → IsValid a → IsFirstFor a box (first_of a box above)

@@ -14,3 +14,4 @@ pub mod RowOrder
 mod EntryRefusals
 pub mod Entry
 pub mod First
+mod EntryTurns

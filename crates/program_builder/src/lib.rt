@@ -8,10 +8,14 @@
 #![tactic(auto)]
 
 mod building;
+mod choosing;
 mod counting;
+mod entering;
 pub mod laws;
 mod loading;
 #[cfg(test)]
 mod tests;
+mod turning;
 
 pub use building::{reset, start};
+pub use entering::enter;
