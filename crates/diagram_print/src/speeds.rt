@@ -21,8 +21,8 @@ fn run_ticks(artery: &Artery, timing: &Timing, dir: Dir, link: u32) -> u128
     ensures least { 1 ≤ result }
     ensures most { result < 2 ^ 80 }
 {
-    // its contract says that this is more than nothing
-    let _ = artery.run_low(dir, link);
+    // at the greatest speed the link takes some time
+    prove!(1 <= artery.run_low(dir, link).num());
     timing.run(dir, link)
 }
 

@@ -6,6 +6,7 @@ ghost use Rattle.linear_theory.specs.Boxes.{turn_span};
 ghost use Rattle.progression.specs.Street.{count};
 ghost use Rattle.branch_tree.specs.Searches.{IsStopOf};
 ghost use Rattle.diagram_print.specs.Report.{span_text, ranks_text, loops_line, shifts_line, pivots_line, wide_lines, stop_lines};
+ghost use Rattle.artery_model.specs.Bounds.{most_signals};
 
 use crate::sites::{operands_line, site_line};
 use artery_model::Artery;
@@ -26,7 +27,7 @@ fn span_text(alloc: Global, span: Span) -> Result<String, Memory>
 /// The spans of so many links.
 fn loops_text(alloc: Global, area: &SearchBox, links: u32) -> Result<String, Memory>
     requires count { length area.now.loops ≡ links }
-    requires few { links ≤ 16 }
+    requires few { links ≤ most_signals }
     ensures { IfOk result (λ text. string_bytes text ≡ flat_map span_text area.now.loops) }
 {
     let mut text = String::new(alloc);
@@ -40,7 +41,7 @@ fn loops_text(alloc: Global, area: &SearchBox, links: u32) -> Result<String, Mem
 /// The ranks of so many signals.
 fn shifts_text(alloc: Global, area: &SearchBox, signals: u32) -> Result<String, Memory>
     requires count { length area.now.turns ≡ signals }
-    requires few { signals ≤ 16 }
+    requires few { signals ≤ most_signals }
     ensures { IfOk result (λ text. string_bytes text ≡ flat_map ranks_text area.now.turns) }
 {
     let mut text = String::new(alloc);
@@ -54,7 +55,7 @@ fn shifts_text(alloc: Global, area: &SearchBox, signals: u32) -> Result<String, 
 /// The line of a box's spans of block sums, of so many links.
 fn loops_line(alloc: Global, area: &SearchBox, links: u32) -> Result<String, Memory>
     requires count { length area.now.loops ≡ links }
-    requires few { links ≤ 16 }
+    requires few { links ≤ most_signals }
     ensures { IfOk result (λ text. string_bytes text ≡ loops_line area.now) }
 {
     let loops = loops_text(alloc, area, links)?;
@@ -64,7 +65,7 @@ fn loops_line(alloc: Global, area: &SearchBox, links: u32) -> Result<String, Mem
 /// The line of a box's spans of ranks, of so many signals.
 fn shifts_line(alloc: Global, area: &SearchBox, signals: u32) -> Result<String, Memory>
     requires count { length area.now.turns ≡ signals }
-    requires few { signals ≤ 16 }
+    requires few { signals ≤ most_signals }
     ensures { IfOk result (λ text. string_bytes text ≡ shifts_line area.now) }
 {
     let shifts = shifts_text(alloc, area, signals)?;
@@ -81,7 +82,7 @@ fn pivots_line(alloc: Global, pivots: u64) -> Result<String, Memory>
 fn wide_lines(alloc: Global, signals: u32, site: &Site) -> Result<String, Memory>
     requires loops { length site.now.area.loops + 1 ≡ signals }
     requires turns { length site.now.area.turns ≡ signals }
-    requires few { signals ≤ 16 }
+    requires few { signals ≤ most_signals }
     ensures { IfOk result (λ text. string_bytes text ≡ wide_lines signals site.now) }
 {
     let loops = loops_line(alloc, &site.area, signals - 1)?;

@@ -7,6 +7,7 @@ use Rattle.maxband_run.specs.Reading.{Input, input}
 use Rattle.maxband_run.specs.declared.reader.Reader.TheVariants.{Description, Timing, Certificate}
 use Rattle.maxband_run.specs.declared.command.Command.{Command}
 use Rattle.maxband_run.specs.declared.command.Command.TheVariants as command
+use Rattle.artery_model.specs.Bounds.{least_signals, most_signals}
 
 pub data Request : Type 0 where
   Hold : List ℕ → List ℕ → Request  -- the names of a description and of a timing
@@ -44,8 +45,8 @@ shape (Some (Trial signals seed limit)) = record { inputs = []; output = None; s
 -- a search has work to spend, and 2 to 16 signals are made
 abbrev pub InLimits : Option Request → Type 0
 InLimits (Some (Solve artery certificate limit)) = IsBelow 0 limit
-InLimits (Some (Make signals seed)) = (2 ≤ signals) × (signals ≤ 16)
-InLimits (Some (Trial signals seed limit)) = ((2 ≤ signals) × (signals ≤ 16)) × IsBelow 0 limit
+InLimits (Some (Make signals seed)) = (least_signals ≤ signals) × (signals ≤ most_signals)
+InLimits (Some (Trial signals seed limit)) = ((least_signals ≤ signals) × (signals ≤ most_signals)) × IsBelow 0 limit
 InLimits _ = Unit {0}
 
 -- ---- the words

@@ -18,6 +18,7 @@ use crate::placing::{checked_first_in, checked_first_out, reds};
 use crate::splits::split_place;
 use crate::ticks::{band, check_columns, grid};
 use crate::unit::unit;
+use artery_model::bounds::{LEAST_SIGNALS, MOST_SIGNALS};
 use artery_model::{Artery, Dir};
 use named_row::Point;
 use search_box::{SearchBox, law_valid_street};
@@ -61,7 +62,8 @@ fn timing(
     requires placed { placed_tests artery.now point.now.values.items ≡ None }
     ensures { result ≡ timing_of artery.now point.now.values.items }
 {
-    prove!(2 <= artery.count() && artery.count() <= 16);
+    let count = artery.count() as usize;
+    prove!(LEAST_SIGNALS <= count && count <= MOST_SIGNALS);
     let grid = grid(artery, point, unit);
     let band_out = band(artery, point, unit, Dir::Outbound);
     let band_in = band(artery, point, unit, Dir::Inbound);

@@ -1,6 +1,7 @@
 -- Reading the text of a timing from its first line on, and the eight lines of its numbers wherever they begin.
 use Rattle.std.specs.Prelude.{ℕ, ◌+◌, ◌-◌, ◌^◌, List, length, Result, Ok, slice_index}
 use Rattle.progression.specs.Plan.{Plan}
+use Rattle.artery_model.specs.Bounds.{least_signals, most_signals}
 use Rattle.time_space.specs.Timing.{plan_of}
 use Rattle.plan_text.specs.declared.fault.BadText.{BadText}
 use Rattle.plan_text.specs.declared.lines.NumberLine.{NumberLine}
@@ -14,7 +15,7 @@ place_of line count least = record { line = line; fewest = count; most = count; 
 
 -- 2 to 16 patterns of 1 to 4
 abbrev pub pattern_place : ℕ → NumberLine
-pattern_place line = record { line = line; fewest = 2; most = 16; least = 1; greatest = 4 }
+pattern_place line = record { line = line; fewest = least_signals; most = most_signals; least = 1; greatest = 4 }
 
 -- two lines from this one on: grid and unit
 unfoldable pub scale_at : ℕ → List ℕ → Result (ℕ × ℕ × List ℕ) BadText

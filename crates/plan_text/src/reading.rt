@@ -8,6 +8,7 @@ ghost use Rattle.plan_text.specs.Reading.{place_of, pattern_place, scale_at, sig
 
 use crate::fault::TextEnd;
 use crate::lines::{NumberLine, fixed_at, nothing_at, numbers_at};
+use artery_model::bounds::{LEAST_SIGNALS, MOST_SIGNALS};
 use std::alloc::{AllocError, Global};
 use time_space::{LIMIT, Timing};
 
@@ -39,8 +40,8 @@ fn patterns_place(line: u64) -> NumberLine
 {
     NumberLine {
         line,
-        fewest: 2,
-        most: 16,
+        fewest: LEAST_SIGNALS,
+        most: MOST_SIGNALS,
         least: 1,
         greatest: 4,
     }

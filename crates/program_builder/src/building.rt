@@ -14,6 +14,7 @@ ghost use Rattle.program_builder.specs.Building.{IsMadeFor, loaded_box, opened_b
 use crate::counting::row_count;
 use crate::loading::load_rows;
 use artery_model::Artery;
+use artery_model::bounds::MOST_SIGNALS;
 use fraction_tableau::Tableau;
 use loop_rows::{column_count, fill_goal};
 use named_row::Row;
@@ -89,7 +90,7 @@ pub fn start(alloc: Global, artery: &Artery, area: &SearchBox) -> Result<Tableau
     ensures stands { IfOk result (λ tableau. StandsForRows tableau.table (box_rows artery.now area.now) (goal_of artery.now)) }
     ensures made { IfOk result (λ tableau. IsMadeFor artery.now tableau) }
 {
-    prove!(artery.count() <= 16);
+    prove!(artery.count() as usize <= MOST_SIGNALS);
     let width = column_count(artery);
     let mut tableau = Tableau::new(alloc, row_count(artery), width)?;
     let mut room = Row::zero(alloc, width)?;

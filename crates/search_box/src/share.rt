@@ -2,6 +2,7 @@
 
 ghost use Rattle.std.specs.Prelude.{◌≡◌, ◌<◌, ◌≤◌, ◌^◌, pos, ◌≤ℤ◌, unsigned_abs};
 ghost use Rattle.rational_theory.specs.Rational.{over, ◌/ℚ◌};
+ghost use Rattle.artery_model.specs.Bounds.{most_denominator, most_numerator};
 
 use narrow_fraction::Frac;
 
@@ -40,8 +41,8 @@ pub(crate) fn run_share(run: Frac, cycle: Frac) -> Share
     requires run_num { unsigned_abs run.num ≤ 540000000 }
     requires run_den { run.den ≤ 2200000 }
     requires cycle { pos 1 ≤ℤ cycle.num }
-    requires cycle_num { unsigned_abs cycle.num ≤ 100000 }
-    requires cycle_den { cycle.den ≤ 1000 }
+    requires cycle_num { unsigned_abs cycle.num ≤ most_numerator }
+    requires cycle_den { cycle.den ≤ most_denominator }
     ensures { over (pos result.top) result.bottom ≡ run /ℚ cycle }
 {
     Share {

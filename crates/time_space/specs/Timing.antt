@@ -1,14 +1,15 @@
 -- The timing records that the program holds: whole numbers below 2 ^ 80 from 0 on, for 2 to 16 signals.
 use Rattle.std.specs.Prelude.{◌≡◌, ℕ, ◌+◌, ◌<◌, ◌≤◌, ◌^◌, List, length, All, pos, map}
 use Rattle.progression.specs.Plan.{Plan}
+use Rattle.artery_model.specs.Bounds.{least_signals, most_signals}
 
 pub record IsTiming (grid unit : ℕ) (patterns reds run_out run_in : List ℕ) (first_out first_in band_out band_in : ℕ) : Type 0 where
   pub grid_least : 1 ≤ grid
   pub grid_most : grid < 2 ^ 80
   pub unit_least : 2 ≤ unit
   pub unit_most : unit < 2 ^ 80
-  pub few : 2 ≤ length patterns
-  pub many : length patterns ≤ 16
+  pub few : least_signals ≤ length patterns
+  pub many : length patterns ≤ most_signals
   pub reds_count : length reds ≡ length patterns
   pub run_out_count : length run_out + 1 ≡ length patterns
   pub run_in_count : length run_in + 1 ≡ length patterns

@@ -7,6 +7,7 @@ ghost use Rattle.progression.specs.Green.{is_early, ahead, red_start, red_ticks}
 ghost use Rattle.progression.specs.Lines.{stop, leg, advance, crossing, IsGreenAt, IsGreenWay};
 ghost use Rattle.time_space.specs.Sizes.{IsWithin};
 ghost use Rattle.time_space.specs.Blocked.{IsBlockedAt, IsBlocked, IsFirstBlocked};
+ghost use Rattle.artery_model.specs.Bounds.{most_signals};
 
 use crate::ticks::first_red;
 use crate::timing::Timing;
@@ -16,7 +17,7 @@ use progression::Dir;
 /// The signal at a place in travel order, from 0.
 fn stop(dir: Dir, count: u32, place: u32) -> u32
     requires on_way { place < count }
-    requires many { count ≤ 16 }
+    requires many { count ≤ most_signals }
     ensures value { result ≡ stop dir count place }
     ensures first { 1 ≤ result }
     ensures last { result ≤ count }
@@ -30,7 +31,7 @@ fn stop(dir: Dir, count: u32, place: u32) -> u32
 /// The link after a place in travel order.
 fn leg(dir: Dir, count: u32, place: u32) -> u32
     requires on_way { place + 1 < count }
-    requires many { count ≤ 16 }
+    requires many { count ≤ most_signals }
     ensures value { result ≡ leg dir count place }
     ensures first { 1 ≤ result }
     ensures last { result < count }

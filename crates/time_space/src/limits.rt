@@ -5,6 +5,7 @@ ghost use Rattle.rational_theory.specs.Rational.{◌*ℚ◌, ◌≤ℚ◌};
 ghost use Rattle.progression.specs.Speeds.{number};
 ghost use Rattle.progression.specs.Good.{RatioHolds};
 ghost use Rattle.time_space.specs.Limits.{paces_apart};
+ghost use Rattle.artery_model.specs.Bounds.{most_denominator, most_distance, most_numerator};
 
 use narrow_fraction::Frac;
 
@@ -45,7 +46,7 @@ pub fn is_at_most(ticks: u128, limit: Frac, grid: u128) -> bool
 /// The numerator of a limit on changes of pace, times the grid and both distances. The largest of these products is
 /// just below `2^127`, so that no other factor may join it.
 fn limit_product(number: i128, factor: u128) -> i128
-    requires number { unsigned_abs number ≤ 100000 }
+    requires number { unsigned_abs number ≤ most_numerator }
     requires factor { factor < 2 ^ 110 }
     ensures { result ≡ number *ℤ pos factor }
 {
@@ -55,8 +56,8 @@ fn limit_product(number: i128, factor: u128) -> i128
 /// The grid times both distances.
 fn grid_and_lengths(grid: u128, distance: u32, next_distance: u32) -> u128
     requires grid { grid < 2 ^ 80 }
-    requires distance { distance ≤ 30000 }
-    requires next_distance { next_distance ≤ 30000 }
+    requires distance { distance ≤ most_distance }
+    requires next_distance { next_distance ≤ most_distance }
     ensures value { result ≡ grid * (distance * next_distance) }
     ensures most { result < 2 ^ 110 }
 {
@@ -76,8 +77,8 @@ pub struct Paces {
 fn change_of(paces: Paces) -> i128
     requires run { paces.run < 2 ^ 80 }
     requires next_run { paces.next_run < 2 ^ 80 }
-    requires distance { paces.distance ≤ 30000 }
-    requires next_distance { paces.next_distance ≤ 30000 }
+    requires distance { paces.distance ≤ most_distance }
+    requires next_distance { paces.next_distance ≤ most_distance }
     ensures value { result ≡ pos (paces.next_run * paces.distance) -ℤ pos (paces.run * paces.next_distance) }
     ensures small { unsigned_abs result < 2 ^ 95 }
 {
@@ -100,10 +101,10 @@ pub fn is_change_at_least(paces: Paces, limit: Frac, grid: u128) -> bool
     requires run { paces.run < 2 ^ 80 }
     requires next_run { paces.next_run < 2 ^ 80 }
     requires distance { 1 ≤ paces.distance }
-    requires distance_most { paces.distance ≤ 30000 }
+    requires distance_most { paces.distance ≤ most_distance }
     requires next_distance { 1 ≤ paces.next_distance }
-    requires next_distance_most { paces.next_distance ≤ 30000 }
-    requires num { unsigned_abs limit.num ≤ 100000 }
+    requires next_distance_most { paces.next_distance ≤ most_distance }
+    requires num { unsigned_abs limit.num ≤ most_numerator }
     requires den { limit.den ≤ 5280000 }
     requires grid { grid < 2 ^ 80 }
     ensures { IsTrue result ↔ ((limit *ℚ number grid) ≤ℚ paces_apart paces.run paces.distance paces.next_run paces.next_distance) }
@@ -121,10 +122,10 @@ pub fn is_change_at_most(paces: Paces, limit: Frac, grid: u128) -> bool
     requires run { paces.run < 2 ^ 80 }
     requires next_run { paces.next_run < 2 ^ 80 }
     requires distance { 1 ≤ paces.distance }
-    requires distance_most { paces.distance ≤ 30000 }
+    requires distance_most { paces.distance ≤ most_distance }
     requires next_distance { 1 ≤ paces.next_distance }
-    requires next_distance_most { paces.next_distance ≤ 30000 }
-    requires num { unsigned_abs limit.num ≤ 100000 }
+    requires next_distance_most { paces.next_distance ≤ most_distance }
+    requires num { unsigned_abs limit.num ≤ most_numerator }
     requires den { limit.den ≤ 5280000 }
     requires grid { grid < 2 ^ 80 }
     ensures { IsTrue result ↔ (paces_apart paces.run paces.distance paces.next_run paces.next_distance ≤ℚ (limit *ℚ number grid)) }
@@ -148,8 +149,8 @@ fn ratio_product(rest: i128, number: i128) -> i128
 
 /// One less the ratio, times the ratio's denominator.
 fn rest(ratio: Frac) -> i128
-    requires num { unsigned_abs ratio.num ≤ 100000 }
-    requires den { ratio.den ≤ 1000 }
+    requires num { unsigned_abs ratio.num ≤ most_numerator }
+    requires den { ratio.den ≤ most_denominator }
     ensures value { result ≡ pos ratio.den -ℤ ratio.num }
     ensures small { unsigned_abs result < 2 ^ 17 }
 {
@@ -158,8 +159,8 @@ fn rest(ratio: Frac) -> i128
 
 /// One less the ratio, times a number of the ratio and a band.
 fn rest_times_band(ratio: Frac, number: i128, band: u128) -> i128
-    requires num { unsigned_abs ratio.num ≤ 100000 }
-    requires den { ratio.den ≤ 1000 }
+    requires num { unsigned_abs ratio.num ≤ most_numerator }
+    requires den { ratio.den ≤ most_denominator }
     requires number { unsigned_abs number < 2 ^ 17 }
     requires band { band < 2 ^ 80 }
     ensures { result ≡ ((pos ratio.den -ℤ ratio.num) *ℤ number) *ℤ pos band }
@@ -170,8 +171,8 @@ fn rest_times_band(ratio: Frac, number: i128, band: u128) -> i128
 /// Whether two bands keep the ratio.
 #[tactic(auto, using(crate::proofs::Fractions::ratio_is))]
 pub fn is_in_ratio(ratio: Frac, band_out: u128, band_in: u128) -> bool
-    requires num { unsigned_abs ratio.num ≤ 100000 }
-    requires den { ratio.den ≤ 1000 }
+    requires num { unsigned_abs ratio.num ≤ most_numerator }
+    requires den { ratio.den ≤ most_denominator }
     requires band_out { band_out < 2 ^ 80 }
     requires band_in { band_in < 2 ^ 80 }
     ensures { IsTrue result ↔ RatioHolds ratio band_out band_in }

@@ -6,6 +6,7 @@ ghost use Rattle.progression.specs.Street.{count, distance, HasLink};
 ghost use Rattle.progression.specs.Speeds.{number, run_low, run_high};
 ghost use Rattle.progression.specs.Plan.{run};
 ghost use Rattle.time_space.specs.LinkRules.{RiseKept, DropKept, LinkHolds, LinkBreaks, AllLinks, IsFirstBroken};
+ghost use Rattle.artery_model.specs.Bounds.{most_distance, most_signals};
 
 use crate::limits::{Paces, is_at_least, is_at_most, is_change_at_least, is_change_at_most};
 use crate::timing::Timing;
@@ -29,7 +30,7 @@ pub enum LinkRule {
 fn paces(artery: &Artery, timing: &Timing, dir: Dir, link: u32) -> Paces
     requires first { 1 ≤ link }
     requires last { link + 1 < count artery.now }
-    requires small { link < 16 }
+    requires small { link < most_signals }
     requires shape { length timing.now.patterns ≡ count artery.now }
     ensures run { result.run ≡ run timing.now dir link }
     ensures distance { result.distance ≡ distance artery.now dir link }
@@ -38,9 +39,9 @@ fn paces(artery: &Artery, timing: &Timing, dir: Dir, link: u32) -> Paces
     ensures run_most { result.run < 2 ^ 80 }
     ensures next_run_most { result.next_run < 2 ^ 80 }
     ensures least { 1 ≤ result.distance }
-    ensures most { result.distance ≤ 30000 }
+    ensures most { result.distance ≤ most_distance }
     ensures next_least { 1 ≤ result.next_distance }
-    ensures next_most { result.next_distance ≤ 30000 }
+    ensures next_most { result.next_distance ≤ most_distance }
 {
     Paces {
         run: timing.run(dir, link),
@@ -53,7 +54,7 @@ fn paces(artery: &Artery, timing: &Timing, dir: Dir, link: u32) -> Paces
 fn is_rise_kept(artery: &Artery, timing: &Timing, dir: Dir, link: u32) -> bool
     requires first { 1 ≤ link }
     requires last { link + 1 < count artery.now }
-    requires small { link < 16 }
+    requires small { link < most_signals }
     requires shape { length timing.now.patterns ≡ count artery.now }
     ensures { IsTrue result ↔ RiseKept artery.now timing.now dir link }
 {
@@ -70,7 +71,7 @@ fn is_rise_kept(artery: &Artery, timing: &Timing, dir: Dir, link: u32) -> bool
 fn is_drop_kept(artery: &Artery, timing: &Timing, dir: Dir, link: u32) -> bool
     requires first { 1 ≤ link }
     requires last { link + 1 < count artery.now }
-    requires small { link < 16 }
+    requires small { link < most_signals }
     requires shape { length timing.now.patterns ≡ count artery.now }
     ensures { IsTrue result ↔ DropKept artery.now timing.now dir link }
 {

@@ -5,6 +5,7 @@ ghost use Rattle.progression.specs.Street.{count};
 ghost use Rattle.progression.specs.Plan.{cycle, band};
 ghost use Rattle.progression.specs.Green.{since, is_green, red_start, red_ticks};
 ghost use Rattle.progression.specs.Lines.{crossing, line_at};
+ghost use Rattle.artery_model.specs.Bounds.{most_signals};
 
 use crate::diagram::{cycle, next_line, red_start, red_ticks};
 use crate::ticks::{is_green, since_start};
@@ -16,7 +17,7 @@ use progression::Dir;
 fn crossing(artery: &Artery, timing: &Timing, dir: Dir, place: u32) -> i128
     requires on_way { place < count artery.now }
     requires shape { length timing.now.patterns ≡ count artery.now }
-    requires many { count artery.now ≤ 16 }
+    requires many { count artery.now ≤ most_signals }
     ensures value { result ≡ crossing artery.now timing.now dir place }
     ensures near { unsigned_abs result < 2 ^ 98 }
 {

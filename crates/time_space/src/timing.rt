@@ -3,7 +3,9 @@
 ghost use Rattle.std.specs.Prelude.{◌≡◌, ◌↔◌, All, IsTrue, IfNone, IfSome, ◌+◌, ◌-◌, ◌<◌, ◌≤◌, ◌^◌, ℕ, length, map, pos, ◌≤ℤ◌, ◌<ℤ◌};
 ghost use Rattle.progression.specs.Plan.{Plan, IsPlan, pattern_of, common_red, run, first, band};
 ghost use Rattle.time_space.specs.Timing.{IsTiming, plan_of};
+ghost use Rattle.artery_model.specs.Bounds.{least_signals, most_signals};
 
+use artery_model::bounds::{LEAST_SIGNALS, MOST_SIGNALS};
 use progression::Dir;
 use std::marker::Model;
 
@@ -90,8 +92,8 @@ impl Timing {
             return None;
         }
         let count = patterns.len();
-        if count < 2
-            || count > 16
+        if count < LEAST_SIGNALS
+            || count > MOST_SIGNALS
             || reds.len() != count
             || run_out.len() + 1 != count
             || run_in.len() + 1 != count
@@ -128,8 +130,8 @@ impl Timing {
     pub fn count(&self) -> u32
         ensures value { result ≡ length self.now.patterns }
         ensures plan { IsPlan self.now }
-        ensures few { 2 ≤ result }
-        ensures many { result ≤ 16 }
+        ensures few { least_signals ≤ result }
+        ensures many { result ≤ most_signals }
     {
         self.patterns.len() as u32
     }
@@ -214,8 +216,8 @@ impl Timing {
     pub fn patterns(&self) -> &[u32]
         ensures value { result.now ≡ self.now.patterns }
         ensures each { All (λ p. (1 ≤ p) × (p ≤ 4)) result.now }
-        ensures few { 2 ≤ length result.now }
-        ensures many { length result.now ≤ 16 }
+        ensures few { least_signals ≤ length result.now }
+        ensures many { length result.now ≤ most_signals }
     {
         self.patterns.as_slice()
     }

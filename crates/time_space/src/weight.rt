@@ -2,6 +2,7 @@
 
 ghost use Rattle.std.specs.Prelude.{◌≡◌, ◌≤◌, ◌^◌, pos, ◌≤ℤ◌, unsigned_abs};
 ghost use Rattle.progression.specs.Best.{weighted_band};
+ghost use Rattle.artery_model.specs.Bounds.{most_denominator, most_numerator};
 
 use crate::diagram::cycle;
 use crate::timing::Timing;
@@ -12,19 +13,19 @@ use progression::Dir;
 /// The numerator of a small fraction that isn't negative.
 fn numerator(given: Frac) -> u128
     requires least { pos 0 ≤ℤ given.num }
-    requires most { unsigned_abs given.num ≤ 100000 }
+    requires most { unsigned_abs given.num ≤ most_numerator }
     ensures value { pos result ≡ given.num }
-    ensures most { result ≤ 100000 }
+    ensures most { result ≤ most_numerator }
 {
     given.num() as u128
 }
 
 /// The denominator of a small fraction.
 fn denominator(given: Frac) -> u128
-    requires { given.den ≤ 1000 }
+    requires { given.den ≤ most_denominator }
     ensures value { result ≡ given.den }
     ensures least { 1 ≤ result }
-    ensures most { result ≤ 1000 }
+    ensures most { result ≤ most_denominator }
 {
     given.den() as u128
 }

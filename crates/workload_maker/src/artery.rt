@@ -5,6 +5,7 @@ ghost use Rattle.std.specs.Fmt.{decimal};
 ghost use Rattle.std.specs.List.{range_with_len};
 ghost use Rattle.workload_maker.specs.Draws.{state};
 ghost use Rattle.workload_maker.specs.Made.{limits, made_head, signal_with, link_with, red_drawn, left_drawn, distance_drawn, made_signal, made_street};
+ghost use Rattle.artery_model.specs.Bounds.{least_signals, most_signals};
 
 use crate::draws::Draws;
 use artery_model::{Artery, Flaw, Head, Link, Pair, Signal, Text, Units};
@@ -123,8 +124,8 @@ fn draw_parts(alloc: Global, count: u32, seed: u64) -> Result<(Vec<Signal>, Vec<
 /// its red of 30 to 50 parts and its left turns of 0, 5 or 10 parts, then for each link its length of
 /// 200 to 600 metres. The only error is want of memory.
 pub fn make_artery(alloc: Global, signals: u32, seed: u64) -> Result<Artery, Memory>
-    requires few { 2 ≤ signals }
-    requires many { signals ≤ 16 }
+    requires few { least_signals ≤ signals }
+    requires many { signals ≤ most_signals }
     ensures { IfOk result (λ artery. artery ≡ made_street signals seed) }
 {
     let (signals, links) = draw_parts(alloc, signals, seed)?;

@@ -4,6 +4,7 @@ use Rattle.time_space.specs.Timing.{IsTiming}
 use Rattle.plan_text.specs.Spelling.{ended, spelled, grid_key, unit_key, pattern_key, red_key, run_out_key, run_in_key, first_key, band_key}
 use Rattle.plan_text.proofs.Timings.{abs_pos, timing_is_held}
 use Rattle.plan_text.proofs.Written.{one_more}
+use Rattle.artery_model.specs.Bounds.{least_signals, most_signals}
 use Rattle.plan_text.proofs.writing.push_plan.Goals as goal
 
 pub returns-clause-text : goal.returns-clause-text
@@ -51,8 +52,8 @@ returns-clause-held c =
       grid_most = subst (λ (n : ℕ). n < 2 ^ 80) c.grid.ensures.value c.grid.ensures.most;
       unit_least = subst (λ (n : ℕ). 2 ≤ n) c.unit.ensures.value c.unit.ensures.least;
       unit_most = subst (λ (n : ℕ). n < 2 ^ 80) c.unit.ensures.value c.unit.ensures.most;
-      few = subst (λ (ns : List ℕ). 2 ≤ length ns) patterns c.patterns.ensures.few;
-      many = subst (λ (ns : List ℕ). length ns ≤ 16) patterns c.patterns.ensures.many;
+      few = subst (λ (ns : List ℕ). least_signals ≤ length ns) patterns c.patterns.ensures.few;
+      many = subst (λ (ns : List ℕ). length ns ≤ most_signals) patterns c.patterns.ensures.many;
       reds_count = c.reds.ensures.count;
       run_out_count = subst (λ (ns : List ℕ). length ns + 1 ≡ length t.patterns) c.run_out.ensures.value c.run_out.ensures.count;
       run_in_count = subst (λ (ns : List ℕ). length ns + 1 ≡ length t.patterns) c.run_in.ensures.value c.run_in.ensures.count;
