@@ -8,7 +8,7 @@ use Rattle.rational_theory.specs.Gcd.{gcd, gcd_steps}
 use Rattle.rational_theory.specs.laws.Coprime.{gcd-IsGcd}
 
 -- a common divisor of a * c and b * c divides gcd a b * c
-scaled : (k a b c e : ℕ) → b ≤ k → e ∣ a * c → e ∣ b * c → e ∣ gcd_steps k a b * c
+pub scaled : (k a b c e : ℕ) → b ≤ k → e ∣ a * c → e ∣ b * c → e ∣ gcd_steps k a b * c
 scaled zero a b c e h p q = p
 scaled (suc k) a zero c e h p q = p
 scaled (suc k) a (suc b) c e h p q =
