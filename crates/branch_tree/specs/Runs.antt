@@ -1,0 +1,41 @@
+-- What the steps of a line come to.
+use Rattle.std.specs.Prelude.{◌≡◌, ℕ, ◌<◌}
+use Rattle.simplex_theory.specs.BlandRule.{optimal, infeasible}
+use Rattle.fraction_tableau.specs.NamedTableaus.{NamedTableau}
+use Rattle.dual_simplex.specs.declared.outcome.Step.TheVariants as steps
+use Rattle.dual_simplex.specs.declared.outcome.NodeEnd.{NodeEnd}
+use Rattle.dual_simplex.specs.declared.outcome.NodeEnd.TheVariants.{Optimal, Infeasible, WorkOut, Wide}
+use Rattle.work_meter.specs.declared.meter.Meter.{Meter}
+use Rattle.work_meter.specs.Work.{capped, IsSpent}
+use Rattle.branch_and_bound.specs.Lines.{Line}
+use Rattle.branch_and_bound.specs.OpenedNodes.{Leaves}
+use Rattle.branch_tree.specs.Program.{Program}
+use Rattle.branch_tree.specs.Ends.{steps_of, end_move, named_last}
+use Rattle.branch_tree.specs.Sites.{step_at, IsReached, IsDue}
+
+-- all steps of the line were made, and the tableau is the last one
+pub record IsOptimalRun {T W : Type 0} (p : Program T W) (line : Line) (tableau : NamedTableau) : Type 0 where
+  pub reached : IsReached p line (steps_of p line)
+  pub step : step_at p line (steps_of p line) ≡ steps.Optimal
+  pub move_is : end_move p line ≡ optimal
+  pub tableau_is : tableau ≡ named_last p line
+
+pub record IsInfeasibleRun {T W : Type 0} (p : Program T W) (line : Line) (tableau : NamedTableau) (row : ℕ) : Type 0 where
+  pub reached : IsReached p line (steps_of p line)
+  pub step : step_at p line (steps_of p line) ≡ steps.Infeasible row
+  pub move_is : end_move p line ≡ infeasible row
+  pub tableau_is : tableau ≡ named_last p line
+
+-- where the run of a line stopped after k steps, by its end: at the line's end, or before it, where a step is due or was refused
+abbrev pub IsRunTo : {T W : Type 0} → Program T W → Line → NamedTableau → Meter → ℕ → NodeEnd → Type 0
+IsRunTo p line tableau after k Optimal = (k ≡ steps_of p line) × IsOptimalRun p line tableau
+IsRunTo p line tableau after k (Infeasible row) = (k ≡ steps_of p line) × IsInfeasibleRun p line tableau row
+IsRunTo p line tableau after k WorkOut = (k < steps_of p line) × IsDue p line k × IsSpent after
+IsRunTo p line tableau after k (Wide in_ratio cell) = (k < steps_of p line) × IsReached p line k × (step_at p line k ≡ steps.Wide in_ratio cell)
+
+-- the line's box took a unit, and each of its steps another
+pub record IsRun {T W : Type 0} (p : Program T W) (line : Line) (tableau : NamedTableau) (before after : Meter) (end : NodeEnd) (pivots : ℕ) : Type 0 where
+  pub k : ℕ
+  pub leaves : Leaves before after k
+  pub pivots_are : pivots ≡ capped k
+  pub stops : IsRunTo p line tableau after k end
