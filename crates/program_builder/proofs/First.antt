@@ -1,6 +1,7 @@
 -- Lemmas on the definitions of `First`: in every line of boxes the first tableau is what a search needs.
 use Rattle.std.proofs.Common.{◌≡◌, Bool, true, false, sym, ℕ, zero, suc, List, [], ◌∷◌, length, refl, ◌∙◌, ap, arith}
 use Rattle.std.specs.Prelude.{is_none, if◌then◌else◌}
+use Rattle.std.proofs.lemmas.List.{length-map}
 use Rattle.std.proofs.lemmas.Bool.{cond_both, cond-true, cond-false}
 use Rattle.progression.specs.Street.{Street}
 use Rattle.artery_model.specs.Valid.{IsValid}
@@ -16,10 +17,11 @@ use Rattle.entry_theory.specs.Basics.{basics_of}
 use Rattle.entry_theory.proofs.Basics.{names_basics_of}
 use Rattle.entry_theory.proofs.Entered.{ready_rows}
 use Rattle.program_builder.specs.EntryRefusals.{entry_refusal}
-use Rattle.program_builder.specs.Opening.{box_rows, goal_of, loaded, opening}
+use Rattle.program_builder.specs.Opening.{box_rows, row_for, goal_of, loaded, opening}
 use Rattle.program_builder.proofs.OpeningLaws.{opening_dual, opening_stands, width-opening, width-loaded}
 use Rattle.fraction_tableau.specs.NamedTableaus.{NamedTableau}
-use Rattle.program_builder.specs.Building.{opened_box}
+use Rattle.program_builder.specs.BoxRows.{rows_of}
+use Rattle.program_builder.specs.Building.{IsMadeFor, opened_box}
 use Rattle.program_builder.specs.Entry.{IsBasisOf, entered_box}
 use Rattle.program_builder.proofs.Entry.{ready, entered}
 use Rattle.program_builder.specs.First.{last_of, entry_or_opening, first_of, IsFirstFor}
@@ -34,18 +36,25 @@ unfolding after
 width_after t zero = refl
 width_after t (suc k) = ap width (next_is (after t k)) ∙ width_made (after t k) (move (after t k)) ∙ width_after t k
 
--- the end's basic variables serve as a basis for every box of the artery
+-- the steps keep all of it
+pub first_after : (a : Street) (box : Area) (t : Tableau) (k : ℕ) → IsFirstFor a box t → IsFirstFor a box (after t k)
+first_after a box t k f = record {
+  columns = width_after t k ∙ f.columns;
+  dual = dual_after t k f.dual;
+  stands = rows_stand_after t (box_rows a box) (goal_of a) k f.dual f.stands;
+}
+
+-- the basic variables serve as a basis for every box of the artery
+pub basis_of_first : (a : Street) (box : Area) (t : Tableau) → IsFirstFor a box t → IsBasisOf a (basics_of t)
+basis_of_first a box t f =
+    record { table = t; box = box; columns = f.columns; dual = f.dual; stands = f.stands; names = names_basics_of t f.dual.shaped f.dual.placed }
+
+-- and so do those of the end
 pub basis_of_end : (a : Street) (box : Area) (t : Tableau) → IsFirstFor a box t → IsBasisOf a (basics_of (last_of t))
-basis_of_end a box t f =
-    let d = dual_after t (steps_to_end t) f.dual in
-    record {
-      table = last_of t;
-      box = box;
-      columns = width_after t (steps_to_end t) ∙ f.columns;
-      dual = d;
-      stands = rows_stand_after t (box_rows a box) (goal_of a) (steps_to_end t) f.dual f.stands;
-      names = names_basics_of (last_of t) d.shaped d.placed;
-    }
+basis_of_end a box t f = basis_of_first a box (last_of t) (first_after a box t (steps_to_end t) f)
+
+pub made_first : (a : Street) (box : Area) (t : NamedTableau) → IsFirstFor a box t.table → IsMadeFor a t
+made_first a box t f = record { rows = sym f.stands.shape.count ∙ length-map (rows_of a) (row_for a box); columns = f.columns }
 
 opening_first : (a : Street) (box : Area) → IsValid a → IsFirstFor a box (opening a box)
 opening_first a box v = record { columns = width-opening a box v; dual = opening_dual a box v; stands = opening_stands a box v }
