@@ -25,7 +25,7 @@ use Rattle.branch_and_bound.specs.OpenedNodes.{OpensEmpty, HasBound, OpensTimed,
 use Rattle.branch_tree.specs.declared.site.SitePart.TheVariants.{Timing}
 use Rattle.branch_tree.specs.declared.kept.Kept.{Kept}
 use Rattle.branch_tree.specs.ArteryProgram.{outcome_of, program_of}
-use Rattle.branch_tree.specs.Relaxed.{IsEndBasis}
+use Rattle.branch_tree.specs.Runs.{IsEndBasis}
 use Rattle.branch_tree.specs.Ends.{steps_of, end_move, end_point, end_bound, end_leaf, ending_of, ending_by_outcome}
 use Rattle.branch_tree.specs.Sites.{step_at, IsReached}
 use Rattle.branch_tree.specs.laws.Endings.{ends_empty, ends_by_outcome}
@@ -54,7 +54,7 @@ module _ (a : Street) (line : Line) (leaf : Leaf) (v : IsValid a) (read : leaf.m
         let good = reads_good a line v b t reads g in
         record { end = reads; bounds = has_bound (subst IsOptimal (sym reads) tt); good = (good.0, good.1 ∙ sym known) }
 
-    pub opens_cut : (place : At) (point : Point) (kept : Kept) → recovered a line.area (end_point (program_of a) line) ≡ Splits place → point.values.items ≡ end_point (program_of a) line → IsEndBasis a line kept → OpensCut (rules_of a) line leaf bound place point kept
+    pub opens_cut : (place : At) (point : Point) (kept : Kept) → recovered a line.area (end_point (program_of a) line) ≡ Splits place → point.values.items ≡ end_point (program_of a) line → IsEndBasis (program_of a) line kept → OpensCut (rules_of a) line leaf bound place point kept
     opens_cut place point kept g p k =
         let cuts = ends (Splits place) g in
         record { end = cuts; bounds = has_bound (subst IsOptimal (sym cuts) tt); vertex_is = p; kept_is = k }

@@ -18,11 +18,10 @@ use Rattle.branch_and_bound.specs.Lines.{Line}
 use Rattle.branch_tree.specs.Program.{Program}
 use Rattle.branch_tree.specs.ArteryProgram.{program_of}
 use Rattle.branch_tree.specs.declared.kept.Kept.{Kept}
-use Rattle.branch_tree.specs.Relaxed.{IsEndBasis}
 use Rattle.branch_tree.specs.Ends.{steps_of, named_last, last_table, end_point, end_leaf, leaf_by}
 use Rattle.branch_tree.specs.laws.EndLaws.{optimal_end, infeasible_end}
 use Rattle.branch_tree.specs.laws.RunLaws.{run_dual}
-use Rattle.branch_tree.specs.Runs.{IsOptimalRun, IsInfeasibleRun}
+use Rattle.branch_tree.specs.Runs.{IsOptimalRun, IsInfeasibleRun, IsEndBasis}
 
 module _ {T W : Type 0} (p : Program T W) (line : Line) (t : NamedTableau) where
   -- ---- at an optimal end
@@ -32,6 +31,10 @@ module _ {T W : Type 0} (p : Program T W) (line : Line) (t : NamedTableau) where
 
   pub point_read : (xs : List ℚ) → IsOptimalRun p line t → xs ≡ vertex_point t.table → xs ≡ end_point p line
   point_read xs r e = e ∙ ap (λ u. vertex_point u.table) r.tableau_is
+
+  -- what the last tableau gives the parts
+  pub basis_read : p.IsSound → (kept : Kept) → IsOptimalRun p line t → (IsPlaced t.table → kept.basis.items ≡ basics_of t.table) → IsEndBasis p line kept
+  basis_read v kept r h = h (subst (λ u. IsPlaced u.table) (sym r.tableau_is) (run_dual p line v (steps_of p line)).placed) ∙ ap (λ u. basics_of u.table) r.tableau_is
 
   -- ---- at an infeasible one
   pub row_said : (row : ℕ) → IsInfeasibleRun p line t row → Says t.table (infeasible row)
@@ -51,7 +54,3 @@ module _ (a : Street) (line : Line) (t : NamedTableau) (v : IsValid a) where
 
   pub refuter_rows : (row : ℕ) (ws : List Weight) → IsInfeasibleRun (program_of a) line t row → ws ≡ end_leaf (program_of a) line → AreWeights a (map named ws)
   refuter_rows row ws r e = subst (λ us. AreWeights a (map named us)) (sym e) (infeasible_end a line v row r.move_is).rows
-
-  -- what the last tableau gives the parts
-  pub basis_read : (kept : Kept) → IsOptimalRun (program_of a) line t → (IsPlaced t.table → kept.basis.items ≡ basics_of t.table) → IsEndBasis a line kept
-  basis_read kept r h = h (subst (λ u. IsPlaced u.table) (sym r.tableau_is) (run_dual (program_of a) line v (steps_of (program_of a) line)).placed) ∙ ap (λ u. basics_of u.table) r.tableau_is

@@ -10,7 +10,8 @@ use Rattle.branch_tree.specs.Ends.{steps_of, end_bound, ending_of}
 use Rattle.branch_tree.specs.Sites.{IsDue, IsWide}
 use Rattle.branch_tree.specs.Starts.{start_bound}
 use Rattle.branch_tree.specs.Lineage.{IsSearchable}
-use Rattle.branch_tree.specs.Relaxed.{IsEndLeaf, IsEndPoint, IsEndBasis, IsStartLeaf, IsTiming, RefutesBox, CoversBox}
+use Rattle.branch_tree.specs.Runs.{IsEndLeaf, IsEndPoint, IsEndBasis}
+use Rattle.branch_tree.specs.Relaxed.{IsStartLeaf, IsTiming, RefutesBox, CoversBox}
 use Rattle.branch_tree.specs.laws.Relaxed.{covers_more, not_refuted, inside, low_falls, high_falls}
 
 -- ---- the relaxation
@@ -21,9 +22,9 @@ rules_of a = record {
   steps = steps_of (program_of a);
   ending = ending_of (program_of a);
   bound = end_bound (program_of a);
-  IsLeaf = IsEndLeaf a;
-  IsVertex = IsEndPoint a;
-  IsKept = IsEndBasis a;
+  IsLeaf = IsEndLeaf (program_of a);
+  IsVertex = IsEndPoint (program_of a);
+  IsKept = IsEndBasis (program_of a);
   IsStart = IsStartLeaf a;
   start_bound = start_bound a;
   IsGood = IsTiming a;

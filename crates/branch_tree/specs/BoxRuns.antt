@@ -6,7 +6,6 @@ use Rattle.linear_theory.specs.Places.{width}
 use Rattle.linear_theory.specs.Boxes.{Area}
 use Rattle.fraction_tableau.specs.NamedTableaus.{NamedTableau}
 use Rattle.program_builder.specs.Building.{IsMadeFor}
-use Rattle.loop_rows.specs.Weights.{leaf_fault}
 use Rattle.loop_rows.specs.declared.fault.SumFault.TheVariants as fault
 use Rattle.named_row.specs.declared.leaves.Leaf.{Leaf}
 use Rattle.named_row.specs.declared.leaves.Point.{Point}
@@ -15,8 +14,6 @@ use Rattle.rational_theory.specs.Rational.{ℚ}
 use Rattle.search_box.specs.declared.span.At.{At}
 use Rattle.simplex_theory.specs.DualSteps.{IsPlaced}
 use Rattle.entry_theory.specs.Basics.{basics_of}
-use Rattle.work_meter.specs.declared.meter.Meter.{Meter}
-use Rattle.dual_simplex.specs.declared.outcome.NodeEnd.{NodeEnd}
 use Rattle.branch_and_bound.specs.Lines.{Line}
 use Rattle.branch_and_bound.specs.Rules.{Rules}
 use Rattle.branch_and_bound.specs.declared.opened.Opened.{Opened}
@@ -31,11 +28,9 @@ use Rattle.branch_tree.specs.declared.kept.Kept.{Kept}
 use Rattle.branch_tree.specs.declared.relaxed.Room.{Room}
 use Rattle.branch_tree.specs.declared.opening.Summed.{Summed}
 use Rattle.branch_tree.specs.declared.opening.Summed.TheVariants as summed
-use Rattle.branch_tree.specs.LeafRows.{sum_of}
 use Rattle.branch_tree.specs.Lineage.{IsSearchable}
-use Rattle.branch_tree.specs.ArteryProgram.{program_of}
-use Rattle.branch_tree.specs.Ends.{named_first}
-use Rattle.branch_tree.specs.Runs.{IsOptimalRun, IsInfeasibleRun, IsRun}
+use Rattle.branch_tree.specs.Program.{Program}
+use Rattle.branch_tree.specs.Ends.{leaf_row}
 
 -- the tableau was made for the artery, and the spare row has its width
 pub record IsRoomFor (a : Street) (room : Room) : Type 0 where
@@ -43,32 +38,18 @@ pub record IsRoomFor (a : Street) (room : Room) : Type 0 where
   pub made : IsMadeFor a room.tableau
   pub row : length room.row.coefs ≡ width (count a)
 
--- ---- some line to the box
--- has the tableau as its first one; had a run that ended so; or comes to this optimal end, or to an infeasible one at this row
-abbrev pub HasFirst : Street → Area → NamedTableau → Type 0
-HasFirst a box tableau = (line : Line) × (line.area ≡ box) × (tableau ≡ named_first (program_of a) line)
-
-abbrev pub HasRun : Street → Area → NamedTableau → NodeEnd → ℕ → Type 0
-HasRun a box tableau end pivots = (line : Line) × (before after : Meter) × (line.area ≡ box) × IsRun (program_of a) line tableau before after end pivots
-
-abbrev pub HasOptimalRun : Street → Area → NamedTableau → Type 0
-HasOptimalRun a box tableau = (line : Line) × (line.area ≡ box) × IsOptimalRun (program_of a) line tableau
-
-abbrev pub HasInfeasibleRun : Street → Area → NamedTableau → ℕ → Type 0
-HasInfeasibleRun a box tableau row = (line : Line) × (line.area ≡ box) × IsInfeasibleRun (program_of a) line tableau row
-
 -- ---- the sum of a leaf
 -- its bound, where no operation of it is refused, or the first one that is
-abbrev pub IsSummed : Street → Area → List Weight → Summed → Type 0
-IsSummed a box ws (summed.Bound bound) = (leaf_fault a box ws ≡ None) × (bound ≡ (sum_of a box ws).bound)
-IsSummed a box ws (summed.Wide row at) = leaf_fault a box ws ≡ Some (fault.Wide row at)
+abbrev pub IsSummed : {T W : Type 0} → Program T W → Area → List Weight → Summed → Type 0
+IsSummed p box ws (summed.Bound bound) = (p.leaf_fault box ws ≡ None) × (bound ≡ (leaf_row p box ws).bound)
+IsSummed p box ws (summed.Wide row at) = p.leaf_fault box ws ≡ Some (fault.Wide row at)
 
 -- ---- what is answered
 abbrev pub OpenedBox : Type 0
 OpenedBox = Opened Plan Kept SitePart
 
 -- a split with what the tableau gives its parts to start from
-abbrev pub IsCutBy : NamedTableau → Leaf → ℚ → At → Point → OpenedBox → Type 0
+abbrev pub IsCutBy : {T W : Type 0} → NamedTableau → Leaf → ℚ → At → Point → Opened T Kept W → Type 0
 IsCutBy tableau leaf bound place point answer = (kept : Kept) × (answer ≡ opened.Splits leaf bound place point kept) × (IsPlaced tableau.table → kept.basis.items ≡ basics_of tableau.table)
 
 -- a vertex that can't be read, by the fault

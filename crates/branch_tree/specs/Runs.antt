@@ -1,5 +1,9 @@
--- What the steps of a line come to.
+-- What the steps of a line come to, and what is read off its end.
 use Rattle.std.specs.Prelude.{◌≡◌, ℕ, ◌<◌}
+use Rattle.linear_theory.specs.Boxes.{Area}
+use Rattle.named_row.specs.declared.leaves.Leaf.{Leaf}
+use Rattle.named_row.specs.declared.leaves.Point.{Point}
+use Rattle.entry_theory.specs.Basics.{basics_of}
 use Rattle.simplex_theory.specs.BlandRule.{optimal, infeasible}
 use Rattle.fraction_tableau.specs.NamedTableaus.{NamedTableau}
 use Rattle.dual_simplex.specs.declared.outcome.Step.TheVariants as steps
@@ -10,7 +14,8 @@ use Rattle.work_meter.specs.Work.{capped, IsSpent}
 use Rattle.branch_and_bound.specs.Lines.{Line}
 use Rattle.branch_and_bound.specs.OpenedNodes.{Leaves}
 use Rattle.branch_tree.specs.Program.{Program}
-use Rattle.branch_tree.specs.Ends.{steps_of, end_move, named_last}
+use Rattle.branch_tree.specs.declared.kept.Kept.{Kept}
+use Rattle.branch_tree.specs.Ends.{steps_of, end_move, end_leaf, end_point, last_table, named_first, named_last}
 use Rattle.branch_tree.specs.Sites.{step_at, IsReached, IsDue}
 
 -- all steps of the line were made, and the tableau is the last one
@@ -39,3 +44,28 @@ pub record IsRun {T W : Type 0} (p : Program T W) (line : Line) (tableau : Named
   pub leaves : Leaves before after k
   pub pivots_are : pivots ≡ capped k
   pub stops : IsRunTo p line tableau after k end
+
+-- ---- some line to the box
+-- has the tableau as its first one; had a run that ended so; or comes to this optimal end, or to an infeasible one at this row
+abbrev pub HasFirst : {T W : Type 0} → Program T W → Area → NamedTableau → Type 0
+HasFirst p box tableau = (line : Line) × (line.area ≡ box) × (tableau ≡ named_first p line)
+
+abbrev pub HasRun : {T W : Type 0} → Program T W → Area → NamedTableau → NodeEnd → ℕ → Type 0
+HasRun p box tableau end pivots = (line : Line) × (before after : Meter) × (line.area ≡ box) × IsRun p line tableau before after end pivots
+
+abbrev pub HasOptimalRun : {T W : Type 0} → Program T W → Area → NamedTableau → Type 0
+HasOptimalRun p box tableau = (line : Line) × (line.area ≡ box) × IsOptimalRun p line tableau
+
+abbrev pub HasInfeasibleRun : {T W : Type 0} → Program T W → Area → NamedTableau → ℕ → Type 0
+HasInfeasibleRun p box tableau row = (line : Line) × (line.area ≡ box) × IsInfeasibleRun p line tableau row
+
+-- ---- what is read off the end
+abbrev pub IsEndLeaf : {T W : Type 0} → Program T W → Line → Leaf → Type 0
+IsEndLeaf p line leaf = leaf.multipliers.items ≡ end_leaf p line
+
+abbrev pub IsEndPoint : {T W : Type 0} → Program T W → Line → Point → Type 0
+IsEndPoint p line point = point.values.items ≡ end_point p line
+
+-- the basic variables of the last tableau, ascending
+abbrev pub IsEndBasis : {T W : Type 0} → Program T W → Line → Kept → Type 0
+IsEndBasis p line kept = kept.basis.items ≡ basics_of (last_table p line)

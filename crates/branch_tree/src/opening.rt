@@ -15,9 +15,9 @@ ghost use Rattle.branch_and_bound.specs.OpenedNodes.{Opens};
 ghost use Rattle.branch_tree.specs.ArteryProgram.{program_of};
 ghost use Rattle.branch_tree.specs.Ends.{steps_of, named_first};
 ghost use Rattle.branch_tree.specs.Sites.{IsReached, step_at};
-ghost use Rattle.branch_tree.specs.Runs.{IsOptimalRun, IsInfeasibleRun, IsRun};
+ghost use Rattle.branch_tree.specs.Runs.{IsOptimalRun, IsInfeasibleRun, IsRun, HasFirst, HasRun, HasOptimalRun, HasInfeasibleRun};
 ghost use Rattle.branch_tree.specs.ArteryRules.{rules_of};
-ghost use Rattle.branch_tree.specs.BoxRuns.{IsRoomFor, HasFirst, HasRun, HasOptimalRun, HasInfeasibleRun, IsCutBy, IsUnreadBy, IsSummed, IsReadEnd, IsEmptyEnd, IsWideStep};
+ghost use Rattle.branch_tree.specs.BoxRuns.{IsRoomFor, IsCutBy, IsUnreadBy, IsSummed, IsReadEnd, IsEmptyEnd, IsWideStep};
 
 use crate::kept::Kept;
 use crate::relaxed::Room;
@@ -74,7 +74,7 @@ fn make_steps(artery: &Artery, tableau: &mut Tableau, meter: &mut Meter) -> Run
 fn sum_leaf(alloc: Global, artery: &Artery, area: &SearchBox, leaf: &Leaf) -> Result<Summed, Memory>
     requires boxed { IsBoxOf artery.now area.now }
     requires rows { AreWeights artery.now (map named leaf.now.multipliers.items) }
-    ensures { IfOk result (λ summed. IsSummed artery.now area.now leaf.now.multipliers.items summed) }
+    ensures { IfOk result (λ summed. IsSummed (program_of artery.now) area.now leaf.now.multipliers.items summed) }
 {
     match leaf_sum(alloc, artery, area, leaf) {
         Ok(sum) => Ok(Summed::Bound(sum.get(Place::Bound))),
@@ -137,7 +137,7 @@ fn read_end(
     pivots: u64,
 ) -> Result<OpenedBox, Memory>
     requires boxed { IsBoxOf artery.now area.now }
-    requires run { HasOptimalRun artery.now area.now tableau.now }
+    requires run { HasOptimalRun (program_of artery.now) area.now tableau.now }
     requires leaf { leaf.multipliers.items ≡ goal_multipliers tableau.now }
     requires fits { leaf_fault artery.now area.now leaf.multipliers.items ≡ None }
     requires bound { bound ≡ goal_bound tableau.now.table }
@@ -167,7 +167,7 @@ fn optimal_end(
     pivots: u64,
 ) -> Result<OpenedBox, Memory>
     requires boxed { IsBoxOf artery.now area.now }
-    requires run { HasOptimalRun artery.now area.now tableau.now }
+    requires run { HasOptimalRun (program_of artery.now) area.now tableau.now }
     ensures { IfOk result (λ opened. (line : Line) → line.area ≡ area.now → IsOptimalRun (program_of artery.now) line tableau.now
         → pivots ≡ capped (steps_of (program_of artery.now) line) → IsReadEnd (rules_of artery.now) line pivots opened) }
 {
@@ -193,7 +193,7 @@ fn infeasible_end(
     pivots: u64,
 ) -> Result<OpenedBox, Memory>
     requires boxed { IsBoxOf artery.now area.now }
-    requires run { HasInfeasibleRun artery.now area.now tableau.now row }
+    requires run { HasInfeasibleRun (program_of artery.now) area.now tableau.now row }
     ensures { IfOk result (λ opened. (line : Line) → line.area ≡ area.now → IsInfeasibleRun (program_of artery.now) line tableau.now row
         → IsEmptyEnd (rules_of artery.now) line pivots opened) }
 {
@@ -236,7 +236,7 @@ fn ended(
     run: &Run,
 ) -> Result<OpenedBox, Memory>
     requires boxed { IsBoxOf artery.now area.now }
-    requires run { HasRun artery.now area.now tableau.now run.now.end run.now.pivots }
+    requires run { HasRun (program_of artery.now) area.now tableau.now run.now.end run.now.pivots }
     ensures { IfOk result (λ opened. (line : Line) (before after : Meter) → line.area ≡ area.now → IsRun (program_of artery.now) line tableau.now before after run.now.end run.now.pivots
         → Opens (rules_of artery.now) line before after opened) }
 {
@@ -261,7 +261,7 @@ pub fn open(
 ) -> Result<OpenedBox, Memory>
     requires boxed { IsBoxOf artery.now area.now }
     requires room { IsRoomFor artery.now room.old }
-    requires first { HasFirst artery.now area.now room.old.tableau }
+    requires first { HasFirst (program_of artery.now) area.now room.old.tableau }
     requires work { HasWork meter.old }
     ensures room { IsRoomFor artery.now room.new }
     ensures limit { meter.new.limit ≡ meter.old.limit }

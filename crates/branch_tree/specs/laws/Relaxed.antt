@@ -19,7 +19,8 @@ use Rattle.branch_tree.specs.LeafRows.{sum_of}
 use Rattle.branch_tree.specs.laws.BoxLaws as laws
 use Rattle.branch_tree.specs.Lineage.{line_ending}
 use Rattle.branch_tree.specs.laws.Lineage.{IsLineOf, searchable, boxed}
-use Rattle.branch_tree.specs.Relaxed.{IsEndLeaf, RefutesBox, CoversBox}
+use Rattle.branch_tree.specs.Runs.{IsEndLeaf}
+use Rattle.branch_tree.specs.Relaxed.{RefutesBox, CoversBox}
 
 -- ---- laws
 shows_more : (a : Street) (r : maths.Row) (value more : ℚ) → Shows a (Some value) r → value ≤ℚ more → Shows a (Some more) r
@@ -29,7 +30,7 @@ shows_more a r value more (inr q) h = inr q
 pub covers_more : (a : Street) (box : Area) (leaf : Leaf) (value more : ℚ) → CoversBox a box leaf value → value ≤ℚ more → CoversBox a box leaf more
 covers_more a box leaf value more c h = record { rows = c.rows; fits = c.fits; shows = shows_more a _ value more c.shows h }
 
-pub not_refuted : (a : Street) (line : Line) (leaf : Leaf) → IsLineOf a line → IsOptimal (line_ending a line) → IsEndLeaf a line leaf → RefutesBox a line.area leaf → ⊥
+pub not_refuted : (a : Street) (line : Line) (leaf : Leaf) → IsLineOf a line → IsOptimal (line_ending a line) → IsEndLeaf (program_of a) line leaf → RefutesBox a line.area leaf → ⊥
 not_refuted a line leaf l o e r = laws.not_refuted a line (searchable a line l).valid o (subst (λ ws. RefutesAll a (sum_of a line.area ws)) e r.shows)
 
 pub inside : (a : Street) (line : Line) (place : At) → IsLineOf a line → line_ending a line ≡ Cuts place → IsPlace line.area place

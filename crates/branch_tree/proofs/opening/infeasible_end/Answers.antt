@@ -31,7 +31,7 @@ returns-in-Bound c = λ line e r.
     let a = c.args.artery.now in
     let ws = c.in_ok-leaf.leaf.multipliers.items in
     let read : ws ≡ end_leaf (program_of a) line = refuter_read (program_of a) line c.args.tableau.now c.args.row ws r c.in_ok-leaf.ensures.list in
-    let s = subst (IsSummed a c.args.area.now ws) c.in-Bound.is c.in_ok-sum_leaf.ensures in
+    let s = subst (IsSummed (program_of a) c.args.area.now ws) c.in-Bound.is c.in_ok-sum_leaf.ensures in
     opens_empty a line c.in_ok-leaf.leaf c.known_valid.ensures read (ap₂ (leaf_fault a) e (sym read) ∙ s.0) c.args.row r.move_is
 
 pub returns-in-Wide : goal.returns-in-Wide
@@ -39,6 +39,6 @@ returns-in-Wide c = λ line e r.
     let a = c.args.artery.now in
     let ws = c.in_ok-leaf.leaf.multipliers.items in
     let read : ws ≡ end_leaf (program_of a) line = refuter_read (program_of a) line c.args.tableau.now c.args.row ws r c.in_ok-leaf.ensures.list in
-    let s = subst (IsSummed a c.args.area.now ws) c.in-Wide.is c.in_ok-sum_leaf.ensures in
+    let s = subst (IsSummed (program_of a) c.args.area.now ws) c.in-Wide.is c.in_ok-sum_leaf.ensures in
     let f = ap₂ (leaf_fault a) e (sym read) ∙ s in
     (inr (refl, ends_unproved a line c.in_ok-leaf.leaf _ read f), wide_sum_infeasible (program_of a) line _ c.args.row c.in-Wide.row c.in-Wide.at r.reached r.step f, refl)

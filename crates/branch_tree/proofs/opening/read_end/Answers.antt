@@ -46,7 +46,7 @@ returns-in-Ok-SplitAt c = ok_map c.split_end.result _ _ (λ answer cut line e r 
     let o = subst (λ r. IsOutcome (recovered a c.args.area.now xs) (Ok r)) c.in-Ok-SplitAt.field-0-is c.in-Ok-SplitAt.ensures.outcome in
     subst (IsReadEnd (rules_of a) line c.args.pivots) (sym cut.1)
     (opens_cut a line c.args.leaf c.known_valid.ensures read (ap₂ (leaf_fault a) e (sym read) ∙ c.requires.fits) r.move_is c.args.bound known c.in-Ok-SplitAt.place c.in_ok-point.point cut.0
-    (ap₂ (recovered a) e (sym x) ∙ o) x (basis_read a line t c.known_valid.ensures cut.0 r cut.2))) c.split_end.ensures
+    (ap₂ (recovered a) e (sym x) ∙ o) x (basis_read (program_of a) line t c.known_valid.ensures cut.0 r cut.2))) c.split_end.ensures
 
 pub returns-in-Err : goal.returns-in-Err
 returns-in-Err c = ok_map c.unread_end.result _ _ (λ answer unread line e r q.
