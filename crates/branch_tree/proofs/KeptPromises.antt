@@ -20,7 +20,7 @@ boxes_end = record {
   cuts = λ a line place v b e.
       let p = laws.cuts_inside a line v b place e in
       record { inside = p; parts = parts_of a line.area place b p; low = laws.low_falls a line v b place e; high = laws.high_falls a line v b place e };
-  new_basis = λ a line i k v h l b. runs.no_basis_twice (program_of a) line v i k h l b;
+  no_basis_twice = λ a line i k v h l b. runs.no_basis_twice (program_of a) line v i k h l b;
   due = λ a line k v d. due_before (program_of a) line v k d;
   stops = λ a line k m p q g h. one_site (program_of a) line k m p q g h;
   sum = λ a line k row at r e f. wide_sum_optimal (program_of a) line k row at r e f;

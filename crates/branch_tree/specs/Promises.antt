@@ -73,7 +73,7 @@ pub record BoxesEnd : Type 0 where
   pub reads : (a : Street) (line : Line) (t : Plan) → IsValid a → IsBoxOf a line.area → ending_of (program_of a) line ≡ Reads → recovered a line.area (end_point (program_of a) line) ≡ Gives t → Good a t × (weighted_band a t ≡ end_bound (program_of a) line)
   pub cuts : (a : Street) (line : Line) (place : At) → IsValid a → IsBoxOf a line.area → ending_of (program_of a) line ≡ Cuts place → IsShared a line place
   -- before the end and at it no set of basic variables comes twice
-  pub new_basis : (a : Street) (line : Line) (i k : ℕ) → IsValid a → i < k → k ≤ steps_of (program_of a) line → HaveSameBasics (table_after (program_of a) line i) (table_after (program_of a) line k) → ⊥
+  pub no_basis_twice : (a : Street) (line : Line) (i k : ℕ) → IsValid a → i < k → k ≤ steps_of (program_of a) line → HaveSameBasics (table_after (program_of a) line i) (table_after (program_of a) line k) → ⊥
   -- a run stops before its end where a step is due, and at one first refused operation at most
   pub due : (a : Street) (line : Line) (k : ℕ) → IsValid a → IsDue (program_of a) line k → k < steps_of (program_of a) line
   pub stops : (a : Street) (line : Line) (k m : ℕ) (p q : SitePart) → IsWide (program_of a) line k p → IsWide (program_of a) line m q → (k ≡ m) × (p ≡ q)
