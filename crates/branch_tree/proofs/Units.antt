@@ -8,7 +8,7 @@ use Rattle.branch_tree.specs.Program.{Program}
 use Rattle.branch_tree.specs.ArteryProgram.{program_of}
 use Rattle.branch_tree.specs.Ends.{steps_of}
 use Rattle.branch_tree.proofs.Runs.{due_before}
-use Rattle.branch_tree.specs.Promises.{sets_of}
+use Rattle.branch_tree.specs.Enough.{sets_of}
 use Rattle.branch_tree.specs.laws.Lineage.{searchable}
 use Rattle.branch_tree.specs.laws.RunLaws.{first_height}
 use Rattle.branch_tree.specs.ArteryRules.{rules_of}

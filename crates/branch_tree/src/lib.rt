@@ -14,6 +14,7 @@
 //!   `SitePart` names it. `specs/Starts.antt`: the leaf that bounds the root before any step.
 //! - `specs/ArteryRules.antt`: `rules_of`, an artery as a relaxation for `branch_and_bound`, over the words of `specs/Relaxed.antt`.
 //!   `specs/Trees.antt`: its trees are those that `certificate_checker` accepts.
+//! - `specs/Enough.antt`: how many units of work are enough for an artery.
 //! - What is promised of lines of boxes stands in `specs/Promises.antt`, and `law_boxes_end` keeps it. `specs/BoxRuns.antt` has what
 //!   opening a box answers. The files of `specs/laws` are lemmas alone, which `program_of` and `rules_of` carry.
 #![tactic(auto)]
