@@ -28,6 +28,7 @@ use Rattle.branch_and_bound.specs.declared.found.Verdict.TheVariants.{Best, NoTi
 use Rattle.branch_and_bound.specs.Answer.{IsAnswer, cut_of, lines_of, line_at, IsAcceptedNode, IsNeededNode, IsStart, IsNeededStop, StopCase, RootLeft, RootUnread, BeforeLow, InLow, BeforeHigh, InHigh, Spot, IsSpot, HasSpot, IsSite, IsWideStop}
 use Rattle.branch_tree.specs.declared.site.SitePart.{SitePart}
 use Rattle.branch_tree.specs.declared.found.Found.{Found}
+use Rattle.branch_tree.specs.ArteryProgram.{program_of}
 use Rattle.branch_tree.specs.Ends.{end_leaf}
 use Rattle.branch_tree.specs.Lineage.{IsSearchable}
 use Rattle.branch_tree.specs.laws.Lineage.{boxed}
@@ -86,14 +87,14 @@ module _ (a : Street) (v : IsValid a) where
   place_kept box (Loop link at) h = h.0
   place_kept box (Turn signal rank) h = h.0
 
-  leaf_kept : (box : Area) (ws : List Weight) → ws ≡ end_leaf a box → IsNode (LeafOf ws)
-  leaf_kept box ws e = subst (λ us. IsNode (LeafOf us)) (sym e) (end_kept a v box)
+  leaf_kept : (line : Line) (ws : List Weight) → ws ≡ end_leaf (program_of a) line → IsNode (LeafOf ws)
+  leaf_kept line ws e = subst (λ us. IsNode (LeafOf us)) (sym e) (end_kept a v line)
 
   module _ (claim : Option ℚ) (best : Option (Incumbent Plan)) where
     node_kept : (line : Line) (node : TreeNode) → IsAcceptedNode (rules_of a) claim line node × IsNeededNode (rules_of a) best line node → IsNode (node_of node)
     node_kept line (Split place point) h = place_kept line.area place h.0
-    node_kept line (Closed leaf) h = leaf_kept line.area leaf.multipliers.items h.1.leaf_is
-    node_kept line (Waiting leaf) h = leaf_kept line.area leaf.multipliers.items h.1.leaf_is
+    node_kept line (Closed leaf) h = leaf_kept line leaf.multipliers.items h.1.leaf_is
+    node_kept line (Waiting leaf) h = leaf_kept line leaf.multipliers.items h.1.leaf_is
 
     nodes_kept : (lines : List Line) (nodes : List TreeNode) → Fills cut_of (λ line node. IsAcceptedNode (rules_of a) claim line node × IsNeededNode (rules_of a) best line node) lines nodes → All (λ node. IsNode (node_of node)) nodes
     nodes_kept lines [] h = All-nil (λ node. IsNode (node_of node))
@@ -159,7 +160,7 @@ module _ (a : Street) (sound : IsSearchable a) where
   site_on : (line : Line) (k : ℕ) (site : Site SitePart) → IsMet (rules_of a) line → IsSite (rules_of a) line k site → IsSiteOf a site
   site_on line k site m h = record {
     boxed = subst (IsBoxOf a) (sym h.area_is) (boxed a line m);
-    part = part_named a line.area sound.valid k site.part h.part_is.refused;
+    part = part_named a line sound.valid k site.part h.part_is.refused;
   }
 
   module _ (best : Option (Incumbent Plan)) (nodes : List TreeNode) (spot : Spot) (s : IsSpot (rules_of a) nodes spot) (t : Fills cut_of (IsNeededNode (rules_of a) best) (lines_of (rules_of a)) nodes) where

@@ -1,4 +1,4 @@
--- The leaf of a box's end, and the start leaf, are leaves that a certificate keeps: their rows have names and ascend, and are few.
+-- The leaf of a line's end, and the start leaf, are leaves that a certificate keeps: their rows have names and ascend, and are few.
 use Rattle.std.proofs.Common.{arith, ◌≡◌, ℕ, pos, zero, suc, ◌<◌, ◌≤◌, inl, inr, Bool, true, false, true≢false, cond, Option, None, Some, List, [], ◌∷◌, ◌++◌, length, All, refl, sym, subst, length-append}
 use Rattle.std.proofs.lemmas.Bool.{lt-ltb, eq-eqb}
 use Rattle.std.proofs.lemmas.List.{append-nil}
@@ -11,7 +11,7 @@ use Rattle.progression.specs.Street.{Street}
 use Rattle.progression.specs.Speeds.{number}
 use Rattle.artery_model.specs.Valid.{IsValid}
 use Rattle.linear_theory.specs.Names.{HasRow, name_of}
-use Rattle.linear_theory.specs.Boxes.{Area}
+use Rattle.branch_and_bound.specs.Lines.{Line}
 use Rattle.linear_theory.proofs.Families.{row_index, family_least, family_most}
 use Rattle.named_row.specs.Order.{IsBelow, is_below}
 use Rattle.named_row.specs.declared.names.RowId.{RowId}
@@ -23,6 +23,7 @@ use Rattle.program_builder.proofs.RowCounts.{rows_most}
 use Rattle.dual_leaf.specs.Leaves.{multiplier, multipliers_below}
 use Rattle.plan_text.specs.Families.{IsNamed, is_lone, is_after}
 use Rattle.plan_text.specs.Warrants.{Ascend, IsNode, LeafOf}
+use Rattle.branch_tree.specs.ArteryProgram.{program_of}
 use Rattle.branch_tree.specs.Ends.{named_last, end_move, leaf_by, end_leaf}
 use Rattle.branch_tree.specs.Starts.{first_out, first_in, start_leaf}
 
@@ -122,12 +123,12 @@ module _ (a : Street) (v : IsValid a) where
   none_kept : IsNode (LeafOf [])
   none_kept = (omega arith, tt, All-nil (λ w. IsNamed w.row))
 
-  -- the leaf of a box's end
-  pub end_kept : (box : Area) → IsNode (LeafOf (end_leaf a box))
+  -- the leaf of a line's end
+  pub end_kept : (line : Line) → IsNode (LeafOf (end_leaf (program_of a) line))
   unfolding end_leaf
-  end_kept box = pick (end_move a box)
+  end_kept line = pick (end_move (program_of a) line)
     where
-      pick : (m : Move) → IsNode (LeafOf (leaf_by (named_last a box) m))
+      pick : (m : Move) → IsNode (LeafOf (leaf_by (named_last (program_of a) line) m))
       pick optimal = row_kept _
       pick (infeasible r) = row_kept _
       pick (pivoted r j) = none_kept

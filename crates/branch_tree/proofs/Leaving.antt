@@ -1,9 +1,7 @@
--- Where the run of a box is left: a refused step isn't the last one, and a leaf whose sum is refused is no proof.
+-- Where the run of a line is left: a refused step isn't the last one, and a leaf whose sum is refused is no proof.
 use Rattle.std.proofs.Common.{◌≡◌, ℕ, ◌<◌, Bool, true, false, cond, Option, Some, None, refl, sym, ◌∙◌, ap}
 use Rattle.narrow_fraction.proofs.Attempt.{some_not_none}
 use Rattle.progression.specs.Street.{Street}
-use Rattle.artery_model.specs.Valid.{IsValid}
-use Rattle.linear_theory.specs.Boxes.{Area}
 use Rattle.named_row.specs.declared.leaves.Leaf.{Leaf}
 use Rattle.simplex_theory.specs.Tableau.{Tableau, cell, width}
 use Rattle.simplex_theory.specs.BlandRule.{is_negative, place_before, chosen_row, chosen_place, move_in, move_by, move}
@@ -18,6 +16,8 @@ use Rattle.loop_rows.specs.Weights.{leaf_fault}
 use Rattle.loop_rows.specs.declared.fault.SumFault.{SumFault}
 use Rattle.branch_and_bound.specs.Lines.{Line}
 use Rattle.branch_and_bound.specs.Unfinished.{EndsUnproved}
+use Rattle.branch_tree.specs.Program.{Program}
+use Rattle.branch_tree.specs.ArteryProgram.{program_of}
 use Rattle.branch_tree.specs.Ends.{table_after, steps_of, end_leaf}
 use Rattle.branch_tree.specs.Sites.{step_at, IsReached}
 use Rattle.branch_tree.proofs.LeafFaults.{proof_free}
@@ -68,11 +68,11 @@ wide_pivots t in_ratio w e = pick (chosen_row t) e
     pick (Some r) e = by_ratio t r in_ratio w (ratio_refusal t r) refl e
 
 -- so it comes before the end
-pub wide_before : (a : Street) (box : Area) → IsValid a → (k : ℕ) (in_ratio : Bool) (w : WideCell) → IsReached a box k → step_at a box k ≡ steps.Wide in_ratio w → k < steps_of a box
-wide_before a box v k in_ratio w r e = due_before a box v k (due_at a box k r (wide_pivots (table_after a box k) in_ratio w e))
+pub wide_before : {T W : Type 0} (p : Program T W) (line : Line) → p.IsSound → (k : ℕ) (in_ratio : Bool) (w : WideCell) → IsReached p line k → step_at p line k ≡ steps.Wide in_ratio w → k < steps_of p line
+wide_before p line v k in_ratio w r e = due_before p line v k (due_at p line k r (wide_pivots (table_after p line k) in_ratio w e))
 
 -- ---- a refused sum
-pub ends_unproved : (a : Street) (line : Line) (leaf : Leaf) (f : SumFault) → leaf.multipliers.items ≡ end_leaf a line.area → leaf_fault a line.area (end_leaf a line.area) ≡ Some f → EndsUnproved (rules_of a) line
+pub ends_unproved : (a : Street) (line : Line) (leaf : Leaf) (f : SumFault) → leaf.multipliers.items ≡ end_leaf (program_of a) line → leaf_fault a line.area (end_leaf (program_of a) line) ≡ Some f → EndsUnproved (rules_of a) line
 ends_unproved a line leaf f read e =
     let told = sym e ∙ ap (leaf_fault a line.area) (sym read) in
     record {

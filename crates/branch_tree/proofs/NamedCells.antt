@@ -9,9 +9,8 @@ use Rattle.narrow_fraction.specs.Past128.{past_wide}
 use Rattle.progression.specs.Street.{Street, count}
 use Rattle.artery_model.specs.Valid.{IsValid}
 use Rattle.linear_theory.specs.Places.{width}
-use Rattle.linear_theory.specs.Boxes.{Area}
 use Rattle.simplex_theory.specs.Tableau as tableaus
-use Rattle.simplex_theory.specs.Tableau.{Tableau, IsShaped, height, cell, line}
+use Rattle.simplex_theory.specs.Tableau.{Tableau, IsShaped, height, cell}
 use Rattle.simplex_theory.specs.DualSteps.{IsChoice}
 use Rattle.simplex_theory.specs.BlandRule.{is_negative, chosen_row, chosen_place}
 use Rattle.simplex_theory.proofs.BlandRule.{chosen_choice, chosen_row_in}
@@ -22,8 +21,10 @@ use Rattle.dual_simplex.specs.Steps.{step_pivot, step_place, step_ratio, step_ro
 use Rattle.dual_simplex.specs.declared.outcome.Step.{Step}
 use Rattle.dual_simplex.specs.declared.outcome.Step.TheVariants as steps
 use Rattle.program_builder.specs.BoxRows.{rows_of}
+use Rattle.branch_and_bound.specs.Lines.{Line}
+use Rattle.branch_tree.specs.ArteryProgram.{program_of}
 use Rattle.branch_tree.specs.Ends.{table_after}
-use Rattle.branch_tree.specs.laws.EndLaws.{run_dual, run_height, run_width}
+use Rattle.branch_tree.specs.laws.RunLaws.{run_dual, run_height, run_width}
 use Rattle.branch_tree.specs.Sites.{step_at}
 use Rattle.branch_tree.specs.SiteNames.{IsRatioOf, IsCellOf}
 use Rattle.branch_tree.proofs.EachRefusal.{Each, each_some, each_none, each_earlier, each_first}
@@ -73,9 +74,9 @@ module _ (t : Tableau) (shaped : IsShaped t) where
   unfolding pivot_refusal
   pivots r j c =
       let row = c.row in
-      each_earlier IsCell (turn_refusal r j (line t r)) _ (turns r j (line t r) (omega arith) c.place (shaped.lines r c.row))
+      each_earlier IsCell (turn_refusal r j (tableaus.line t r)) _ (turns r j (tableaus.line t r) (omega arith) c.place (shaped.lines r c.row))
       (each_earlier IsCell (clear_refusal (height t) j _ t.goal _) _ (clears (height t) j _ t.goal _ (omega arith) c.place shaped.goals)
-      (each_first IsCell (line_refusal r j _ _ t.rows) (height t) (λ i l. each_cond IsCell (eqb i r) None _ (each_none IsCell) (clears i j _ (line t i) _ (omega arith) c.place (shaped.lines i l)))))
+      (each_first IsCell (line_refusal r j _ _ t.rows) (height t) (λ i l. each_cond IsCell (eqb i r) None _ (each_none IsCell) (clears i j _ (tableaus.line t i) _ (omega arith) c.place (shaped.lines i l)))))
 
   -- what a step names
   abbrev IsNamed : Step → Type 0
@@ -105,7 +106,7 @@ module _ (t : Tableau) (shaped : IsShaped t) where
   unfolding step_of
   named = by_row (chosen_row t) refl
 
--- ---- in the run of a box
+-- ---- in the run of a line
 abbrev pub IsNamedStep : Street → Step → Type 0
 IsNamedStep a steps.Optimal = Unit {0}
 IsNamedStep a (steps.Infeasible r) = Unit {0}
@@ -121,8 +122,8 @@ module _ (a : Street) (t : Tableau) (shaped : IsShaped t) (rows : height t ≡ l
   step_of_artery (steps.Wide true w) h = (subst (λ n. w.row < n) rows h.0, subst (λ n. w.col < n) columns h.1)
   step_of_artery (steps.Wide false w) h = (subst (λ n. w.row ≤ n) rows h.0, subst (λ n. w.col ≤ n) columns h.1)
 
-pub step_named : (a : Street) (box : Area) → IsValid a → (k : ℕ) → IsNamedStep a (step_at a box k)
-step_named a box v k =
-    let t = table_after a box k in
-    let shaped = (run_dual a box v k).shaped in
-    step_of_artery a t shaped (run_height a box v k) (run_width a box v k) (step_at a box k) (named t shaped)
+pub step_named : (a : Street) (line : Line) → IsValid a → (k : ℕ) → IsNamedStep a (step_at (program_of a) line k)
+step_named a line v k =
+    let t = table_after (program_of a) line k in
+    let shaped = (run_dual (program_of a) line v k).shaped in
+    step_of_artery a t shaped (run_height (program_of a) line v k) (run_width (program_of a) line v k) (step_at (program_of a) line k) (named t shaped)

@@ -43,6 +43,8 @@ use Rattle.offset_recovery.specs.Outcomes.{Outcome, Refused, Splits, Gives}
 use Rattle.offset_recovery.specs.Tests.{product_test, unit_test, number_test, column_test, link_test, signal_test}
 use Rattle.offset_recovery.specs.Recovered.{recovered, link_tests, signal_tests, box_tests, unit_tests, run_tests, column_tests, red_tests, placed_tests, number_tests}
 use Rattle.branch_tree.specs.declared.site.SitePart.TheVariants as part
+use Rattle.branch_and_bound.specs.Lines.{Line}
+use Rattle.branch_tree.specs.ArteryProgram.{outcome_of, program_of}
 use Rattle.branch_tree.specs.Ends.{end_leaf, end_point}
 use Rattle.branch_tree.specs.Sites.{step_at, sum_refusal, vertex_refusal, leaf_refusal, refusal_by, refusal_at}
 use Rattle.branch_tree.specs.SiteNames.{IsPlaceOf, IsTimingPart, IsPartOf}
@@ -185,29 +187,31 @@ module _ (a : Street) (box : Area) where
   unfolding leaf_fault blank
   leaf_named ws = weights_named (blank (width (count a))) ws (length-replicate (width (count a)) _)
 
-  sum_named : (o : Option SumFault) → Each IsNamedFault o → Each (IsPartOf a) (sum_refusal o)
+  sum_named : (o : Option SumFault) → Each IsNamedFault o → Each (IsPartOf a) (sum_refusal (program_of a) o)
   sum_named None h = each_none (IsPartOf a)
   sum_named (Some (fault.Wide row w)) h = each_some (IsPartOf a) (part.LeafSum row w) (h (fault.Wide row w) refl)
   sum_named (Some (fault.NoSuchRow row)) h = each_none (IsPartOf a)
   sum_named (Some (fault.Negative row)) h = each_none (IsPartOf a)
   sum_named (Some fault.Memory) h = each_none (IsPartOf a)
 
-  vertex_named : (o : Outcome) → IsNamedOutcome a o → Each (IsPartOf a) (vertex_refusal o)
+  vertex_named : (o : Outcome) → IsNamedOutcome a o → Each (IsPartOf a) (vertex_refusal (outcome_of o))
   vertex_named (Refused w) h = each_some (IsPartOf a) (part.Timing w) h
   vertex_named (Splits p) h = each_none (IsPartOf a)
   vertex_named (Gives t) h = each_none (IsPartOf a)
 
-  -- the refused operation of a run
-  pub part_named : IsValid a → (k : ℕ) → Each (IsPartOf a) (refusal_at a box k)
-  unfolding refusal_at
-  part_named v k = pick (step_at a box k) (step_named a box v k)
-    where
-      leaf : Each (IsPartOf a) (leaf_refusal a box)
-      leaf = sum_named (leaf_fault a box (end_leaf a box)) (leaf_named (end_leaf a box))
+-- the refused operation of a run
+pub part_named : (a : Street) (line : Line) → IsValid a → (k : ℕ) → Each (IsPartOf a) (refusal_at (program_of a) line k)
+unfolding refusal_at
+part_named a line v k = pick (step_at (program_of a) line k) (step_named a line v k)
+  where
+    leaf : Each (IsPartOf a) (leaf_refusal (program_of a) line)
+    leaf = sum_named a line.area (leaf_fault a line.area (end_leaf (program_of a) line)) (leaf_named a line.area (end_leaf (program_of a) line))
 
-      pick : (s : Step) → IsNamedStep a s → Each (IsPartOf a) (refusal_by a box s)
-      pick steps.Optimal h = each_earlier (IsPartOf a) (leaf_refusal a box) _ leaf (vertex_named (recovered a box (end_point a box)) (outcome_named a v box (end_point a box) _ refl))
-      pick (steps.Infeasible r) h = leaf
-      pick (steps.Pivoted r j) h = each_none (IsPartOf a)
-      pick (steps.Wide true w) h = each_some (IsPartOf a) (part.Ratio w) h
-      pick (steps.Wide false w) h = each_some (IsPartOf a) (part.Cell w) h
+    pick : (s : Step) → IsNamedStep a s → Each (IsPartOf a) (refusal_by (program_of a) line s)
+    pick steps.Optimal h =
+        each_earlier (IsPartOf a) (leaf_refusal (program_of a) line) _ leaf
+        (vertex_named a line.area (recovered a line.area (end_point (program_of a) line)) (outcome_named a v line.area (end_point (program_of a) line) _ refl))
+    pick (steps.Infeasible r) h = leaf
+    pick (steps.Pivoted r j) h = each_none (IsPartOf a)
+    pick (steps.Wide true w) h = each_some (IsPartOf a) (part.Ratio w) h
+    pick (steps.Wide false w) h = each_some (IsPartOf a) (part.Cell w) h

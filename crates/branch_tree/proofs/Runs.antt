@@ -1,10 +1,7 @@
--- From what the steps of a box's run answer to where the run stands: how many steps lead to the end, and which stop it is.
+-- From what the steps of a line's run answer to where the run stands: how many steps lead to the end, and which stop it is.
 use Rattle.std.proofs.Common.{arith, ◌≡◌, ℕ, ◌<◌, ◌⊎◌, inl, inr, Bool, true, false, true≢false, Some, None, cond, ◌&&◌, refl, sym, ◌∙◌, ap, subst}
 use Rattle.narrow_fraction.specs.Attempt.{earlier}
 use Rattle.narrow_fraction.proofs.Attempt.{some_not_none}
-use Rattle.progression.specs.Street.{Street}
-use Rattle.artery_model.specs.Valid.{IsValid}
-use Rattle.linear_theory.specs.Boxes.{Area}
 use Rattle.simplex_theory.specs.Tableau.{Tableau}
 use Rattle.simplex_theory.specs.BlandRule.{Move, move}
 use Rattle.simplex_theory.specs.StepCounts.{after, is_pivot, steps_to_end}
@@ -21,17 +18,11 @@ use Rattle.dual_simplex.proofs.Steps.{Agrees, agrees}
 use Rattle.work_meter.specs.Work.{is_out, metered}
 use Rattle.dual_simplex.specs.Ends.{Solved, end_at, end_by_step}
 use Rattle.dual_simplex.proofs.Ends.{goes_on}
-use Rattle.loop_rows.specs.Weights.{leaf_fault}
 use Rattle.loop_rows.specs.declared.fault.SumFault.TheVariants as fault
 use Rattle.named_row.specs.declared.names.RowId.{RowId}
 use Rattle.named_row.specs.declared.wide_at.WideAt.{WideAt}
-use Rattle.offset_recovery.specs.declared.outcome.WideTiming.{WideTiming}
-use Rattle.offset_recovery.specs.Outcomes.{Refused}
-use Rattle.offset_recovery.specs.Recovered.{recovered}
-use Rattle.program_builder.specs.Opening.{opening}
-use Rattle.program_builder.proofs.OpeningLaws.{opening_dual}
-use Rattle.branch_tree.specs.declared.site.SitePart.{SitePart}
-use Rattle.branch_tree.specs.declared.site.SitePart.TheVariants.{Ratio, Cell, LeafSum, Timing}
+use Rattle.branch_and_bound.specs.Lines.{Line}
+use Rattle.branch_tree.specs.Program.{Program, Refused}
 use Rattle.branch_tree.specs.Ends.{table_after, steps_of, end_leaf, end_point}
 use Rattle.branch_tree.specs.Sites.{step_at, is_made, sum_refusal, vertex_refusal, leaf_refusal, refusal_by, refusal_at, IsReached, IsDue, IsWide}
 use Rattle.branch_tree.proofs.EachRefusal.{some_same}
@@ -66,91 +57,91 @@ made_pivots (steps.Wide b w) m a e = absurd (true≢false (sym e))
 order : (k n : ℕ) → (k < n) ⊎ ((n < k) ⊎ (k ≡ n))
 order k n = grind arith
 
-module _ (a : Street) (box : Area) where
+module _ {T W : Type 0} (p : Program T W) (line : Line) where
   -- ---- what was reached
-  pub reached_by : (e : NodeEnd) (s t : NamedTableau) (m n : Meter) (p q k : ℕ) → s.table ≡ opening a box → Solved e s t m n p q k → IsReached a box k
+  pub reached_by : (e : NodeEnd) (s t : NamedTableau) (m n : Meter) (old new k : ℕ) → s.table ≡ p.first line → Solved e s t m n old new k → IsReached p line k
   unfolding table_after
-  reached_by e s t m n p q k o h = record {
+  reached_by e s t m n old new k o h = record {
     made = λ i l.
         let g = goes_on (after s.table i) (metered m i) (h.goes_on i l) in
         ap (λ u. is_made (step_of (after u i))) (sym o) ∙ ap is_made g.steps;
   }
 
-  pub table_by : (s : NamedTableau) (k : ℕ) → s.table ≡ opening a box → after s.table k ≡ table_after a box k
+  pub table_by : (s : NamedTableau) (k : ℕ) → s.table ≡ p.first line → after s.table k ≡ table_after p line k
   unfolding table_after
   table_by s k o = ap (λ u. after u k) o
 
-  pivots_before : (k : ℕ) → IsReached a box k → (i : ℕ) → i < k → is_pivot (move (table_after a box i)) ≡ true
-  pivots_before k r i l = made_pivots (step_at a box i) (move (table_after a box i)) (agrees (table_after a box i)) (r.made i l)
+  pivots_before : (k : ℕ) → IsReached p line k → (i : ℕ) → i < k → is_pivot (move (table_after p line i)) ≡ true
+  pivots_before k r i l = made_pivots (step_at p line i) (move (table_after p line i)) (agrees (table_after p line i)) (r.made i l)
 
   -- where no pivot is due, the steps of the box were made
-  pub end_here : IsValid a → (k : ℕ) → IsReached a box k → is_pivot (move (table_after a box k)) ≡ false → k ≡ steps_of a box
+  pub end_here : p.IsSound → (k : ℕ) → IsReached p line k → is_pivot (move (table_after p line k)) ≡ false → k ≡ steps_of p line
   unfolding table_after steps_of
-  end_here v k r e = pick (order k (steps_to_end (opening a box)))
+  end_here v k r e = pick (order k (steps_to_end (p.first line)))
     where
-      pick : (k < steps_to_end (opening a box)) ⊎ ((steps_to_end (opening a box) < k) ⊎ (k ≡ steps_to_end (opening a box))) → k ≡ steps_to_end (opening a box)
-      pick (inl l) = absurd (true≢false (sym (pivots_to_end (opening a box) k l) ∙ e))
-      pick (inr (inl l)) = absurd (true≢false (sym (pivots_before k r (steps_to_end (opening a box)) l) ∙ ended (opening a box) (opening_dual a box v)))
+      pick : (k < steps_to_end (p.first line)) ⊎ ((steps_to_end (p.first line) < k) ⊎ (k ≡ steps_to_end (p.first line))) → k ≡ steps_to_end (p.first line)
+      pick (inl l) = absurd (true≢false (sym (pivots_to_end (p.first line) k l) ∙ e))
+      pick (inr (inl l)) = absurd (true≢false (sym (pivots_before k r (steps_to_end (p.first line)) l) ∙ ended (p.first line) (p.first_is v line).dual))
       pick (inr (inr q)) = q
 
   -- a pivot is due only before the end
-  pub due_before : IsValid a → (k : ℕ) → IsDue a box k → k < steps_of a box
+  pub due_before : p.IsSound → (k : ℕ) → IsDue p line k → k < steps_of p line
   unfolding table_after steps_of
-  due_before v k d = pick (order k (steps_to_end (opening a box)))
+  due_before v k d = pick (order k (steps_to_end (p.first line)))
     where
-      pick : (k < steps_to_end (opening a box)) ⊎ ((steps_to_end (opening a box) < k) ⊎ (k ≡ steps_to_end (opening a box))) → k < steps_to_end (opening a box)
+      pick : (k < steps_to_end (p.first line)) ⊎ ((steps_to_end (p.first line) < k) ⊎ (k ≡ steps_to_end (p.first line))) → k < steps_to_end (p.first line)
       pick (inl l) = l
-      pick (inr (inl l)) = absurd (true≢false (sym (pivots_before k d.reached (steps_to_end (opening a box)) l) ∙ ended (opening a box) (opening_dual a box v)))
-      pick (inr (inr q)) = absurd (true≢false (sym (subst (λ n. is_pivot (move (after (opening a box) n)) ≡ true) q d.due) ∙ ended (opening a box) (opening_dual a box v)))
+      pick (inr (inl l)) = absurd (true≢false (sym (pivots_before k d.reached (steps_to_end (p.first line)) l) ∙ ended (p.first line) (p.first_is v line).dual))
+      pick (inr (inr q)) = absurd (true≢false (sym (subst (λ n. is_pivot (move (after (p.first line) n)) ≡ true) q d.due) ∙ ended (p.first line) (p.first_is v line).dual))
 
   -- ---- stops
-  pub due_at : (k : ℕ) → IsReached a box k → is_pivot (move (table_after a box k)) ≡ true → IsDue a box k
+  pub due_at : (k : ℕ) → IsReached p line k → is_pivot (move (table_after p line k)) ≡ true → IsDue p line k
   due_at k r e = record { reached = r; due = e }
 
-  pub wide_ratio : (k : ℕ) (w : WideCell) → IsReached a box k → step_at a box k ≡ steps.Wide true w → IsWide a box k (Ratio w)
+  pub wide_ratio : (k : ℕ) (w : WideCell) → IsReached p line k → step_at p line k ≡ steps.Wide true w → IsWide p line k (p.ratio_part w)
   unfolding refusal_at
-  wide_ratio k w r e = record { reached = r; refused = ap (refusal_by a box) e }
+  wide_ratio k w r e = record { reached = r; refused = ap (refusal_by p line) e }
 
-  pub wide_cell : (k : ℕ) (w : WideCell) → IsReached a box k → step_at a box k ≡ steps.Wide false w → IsWide a box k (Cell w)
+  pub wide_pivot : (k : ℕ) (w : WideCell) → IsReached p line k → step_at p line k ≡ steps.Wide false w → IsWide p line k (p.pivot_part w)
   unfolding refusal_at
-  wide_cell k w r e = record { reached = r; refused = ap (refusal_by a box) e }
+  wide_pivot k w r e = record { reached = r; refused = ap (refusal_by p line) e }
 
-  leaf_wide : (row : RowId) (at : WideAt) → leaf_fault a box (end_leaf a box) ≡ Some (fault.Wide row at) → leaf_refusal a box ≡ Some (LeafSum row at)
-  leaf_wide row at f = ap sum_refusal f
+  leaf_wide : (row : RowId) (at : WideAt) → p.leaf_fault line.area (end_leaf p line) ≡ Some (fault.Wide row at) → leaf_refusal p line ≡ Some (p.sum_part row at)
+  leaf_wide row at f = ap (sum_refusal p) f
 
-  pub wide_sum_optimal : (k : ℕ) (row : RowId) (at : WideAt) → IsReached a box k → step_at a box k ≡ steps.Optimal → leaf_fault a box (end_leaf a box) ≡ Some (fault.Wide row at) → IsWide a box k (LeafSum row at)
+  pub wide_sum_optimal : (k : ℕ) (row : RowId) (at : WideAt) → IsReached p line k → step_at p line k ≡ steps.Optimal → p.leaf_fault line.area (end_leaf p line) ≡ Some (fault.Wide row at) → IsWide p line k (p.sum_part row at)
   unfolding refusal_at
-  wide_sum_optimal k row at r e f = record { reached = r; refused = ap (refusal_by a box) e ∙ ap (λ o. earlier o (vertex_refusal (recovered a box (end_point a box)))) (leaf_wide row at f) }
+  wide_sum_optimal k row at r e f = record { reached = r; refused = ap (refusal_by p line) e ∙ ap (λ o. earlier o (vertex_refusal (p.outcome line.area (end_point p line)))) (leaf_wide row at f) }
 
-  pub wide_sum_infeasible : (k i : ℕ) (row : RowId) (at : WideAt) → IsReached a box k → step_at a box k ≡ steps.Infeasible i → leaf_fault a box (end_leaf a box) ≡ Some (fault.Wide row at) → IsWide a box k (LeafSum row at)
+  pub wide_sum_infeasible : (k i : ℕ) (row : RowId) (at : WideAt) → IsReached p line k → step_at p line k ≡ steps.Infeasible i → p.leaf_fault line.area (end_leaf p line) ≡ Some (fault.Wide row at) → IsWide p line k (p.sum_part row at)
   unfolding refusal_at
-  wide_sum_infeasible k i row at r e f = record { reached = r; refused = ap (refusal_by a box) e ∙ leaf_wide row at f }
+  wide_sum_infeasible k i row at r e f = record { reached = r; refused = ap (refusal_by p line) e ∙ leaf_wide row at f }
 
-  pub wide_timing : (k : ℕ) (w : WideTiming) → IsReached a box k → step_at a box k ≡ steps.Optimal → leaf_fault a box (end_leaf a box) ≡ None → recovered a box (end_point a box) ≡ Refused w → IsWide a box k (Timing w)
+  pub wide_vertex : (k : ℕ) (w : W) → IsReached p line k → step_at p line k ≡ steps.Optimal → p.leaf_fault line.area (end_leaf p line) ≡ None → p.outcome line.area (end_point p line) ≡ Refused w → IsWide p line k w
   unfolding refusal_at
-  wide_timing k w r e f g = record {
+  wide_vertex k w r e f g = record {
     reached = r;
-    refused = ap (refusal_by a box) e ∙ ap (λ o. earlier (sum_refusal o) (vertex_refusal (recovered a box (end_point a box)))) f ∙ ap vertex_refusal g;
+    refused = ap (refusal_by p line) e ∙ ap (λ o. earlier (sum_refusal p o) (vertex_refusal (p.outcome line.area (end_point p line)))) f ∙ ap vertex_refusal g;
   }
 
   -- a run has one first refused operation at most
-  made_goes_on : (i : ℕ) → is_made (step_at a box i) ≡ true → refusal_at a box i ≡ None
+  made_goes_on : (i : ℕ) → is_made (step_at p line i) ≡ true → refusal_at p line i ≡ None
   unfolding refusal_at
-  made_goes_on i e = pick (step_at a box i) e
+  made_goes_on i e = pick (step_at p line i) e
     where
-      pick : (s : Step) → is_made s ≡ true → refusal_by a box s ≡ None
+      pick : (s : Step) → is_made s ≡ true → refusal_by p line s ≡ None
       pick steps.Optimal e = absurd (true≢false (sym e))
       pick (steps.Infeasible r) e = absurd (true≢false (sym e))
       pick (steps.Pivoted r j) e = refl
       pick (steps.Wide in_ratio w) e = absurd (true≢false (sym e))
 
-  not_earlier : (k m : ℕ) (p : SitePart) → IsReached a box m → refusal_at a box k ≡ Some p → k < m → ⊥
-  not_earlier k m p r e l = some_not_none (sym e ∙ made_goes_on k (r.made k l))
+  not_earlier : (k m : ℕ) (part : W) → IsReached p line m → refusal_at p line k ≡ Some part → k < m → ⊥
+  not_earlier k m part r e l = some_not_none (sym e ∙ made_goes_on k (r.made k l))
 
-  pub one_site : (k m : ℕ) (p q : SitePart) → IsWide a box k p → IsWide a box m q → (k ≡ m) × (p ≡ q)
-  one_site k m p q g h = pick (order k m)
+  pub one_site : (k m : ℕ) (part other : W) → IsWide p line k part → IsWide p line m other → (k ≡ m) × (part ≡ other)
+  one_site k m part other g h = pick (order k m)
     where
-      pick : (k < m) ⊎ ((m < k) ⊎ (k ≡ m)) → (k ≡ m) × (p ≡ q)
-      pick (inl l) = absurd (not_earlier k m p h.reached g.refused l)
-      pick (inr (inl l)) = absurd (not_earlier m k q g.reached h.refused l)
-      pick (inr (inr e)) = (e, some_same p q (sym g.refused ∙ ap (refusal_at a box) e ∙ h.refused))
+      pick : (k < m) ⊎ ((m < k) ⊎ (k ≡ m)) → (k ≡ m) × (part ≡ other)
+      pick (inl l) = absurd (not_earlier k m part h.reached g.refused l)
+      pick (inr (inl l)) = absurd (not_earlier m k other g.reached h.refused l)
+      pick (inr (inr e)) = (e, some_same part other (sym g.refused ∙ ap (refusal_at p line) e ∙ h.refused))

@@ -5,11 +5,13 @@ use Rattle.linear_theory.specs.Boxes.{root_box}
 use Rattle.branch_and_bound.specs.Rules.{Rules}
 use Rattle.branch_tree.specs.declared.site.SitePart.{SitePart}
 use Rattle.branch_tree.specs.declared.kept.Kept.{Kept}
-use Rattle.branch_tree.specs.Ends.{steps_of, end_bound}
+use Rattle.branch_tree.specs.ArteryProgram.{program_of}
+use Rattle.branch_tree.specs.Ends.{steps_of, end_bound, ending_of}
 use Rattle.branch_tree.specs.Sites.{IsDue, IsWide}
 use Rattle.branch_tree.specs.Starts.{start_bound}
-use Rattle.branch_tree.specs.Lineage.{IsSearchable, line_ending}
-use Rattle.branch_tree.specs.Relaxed.{IsEndLeaf, IsEndPoint, IsStartLeaf, IsTiming, RefutesBox, CoversBox}
+use Rattle.branch_tree.specs.Lineage.{IsSearchable}
+use Rattle.branch_tree.specs.Runs.{IsEndLeaf, IsEndPoint, IsEndBasis}
+use Rattle.branch_tree.specs.Relaxed.{IsStartLeaf, IsTiming, RefutesBox, CoversBox}
 use Rattle.branch_tree.specs.laws.Relaxed.{covers_more, not_refuted, inside, has_numbers, low_falls, high_falls}
 
 -- ---- the relaxation
@@ -17,17 +19,17 @@ abbrev pub rules_of : Street → Rules Plan Kept SitePart
 rules_of a = record {
   IsSound = IsSearchable a;
   root = root_box a;
-  steps = λ line. steps_of a line.area;
-  ending = λ line. line_ending a line;
-  bound = λ line. end_bound a line.area;
-  IsLeaf = IsEndLeaf a;
-  IsVertex = IsEndPoint a;
-  IsKept = λ line kept. Unit {0};
+  steps = steps_of (program_of a);
+  ending = ending_of (program_of a);
+  bound = end_bound (program_of a);
+  IsLeaf = IsEndLeaf (program_of a);
+  IsVertex = IsEndPoint (program_of a);
+  IsKept = IsEndBasis (program_of a);
   IsStart = IsStartLeaf a;
   start_bound = start_bound a;
   IsGood = IsTiming a;
-  IsDue = λ line k. IsDue a line.area k;
-  IsWide = λ line k part. IsWide a line.area k part;
+  IsDue = IsDue (program_of a);
+  IsWide = IsWide (program_of a);
   Refutes = RefutesBox a;
   Covers = CoversBox a;
   covers_more = covers_more a;

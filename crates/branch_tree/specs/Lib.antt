@@ -1,5 +1,8 @@
+pub mod Program
 pub mod Ends
 pub mod Sites
+pub mod Runs
+pub mod ArteryProgram
 pub mod LeafRows
 pub mod Starts
 pub mod Lineage

@@ -4,6 +4,7 @@ use Rattle.artery_model.specs.Valid.{IsValid}
 use Rattle.linear_theory.specs.Boxes.{IsBoxOf, root_box}
 use Rattle.branch_and_bound.specs.Lines.{Line}
 use Rattle.branch_and_bound.specs.Lineages.{Ending}
+use Rattle.branch_tree.specs.ArteryProgram.{program_of}
 use Rattle.branch_tree.specs.Ends.{ending_of}
 
 -- a valid artery whose root box is a box of it: each of its signals has a shift
@@ -11,6 +12,5 @@ pub record IsSearchable (a : Street) : Type 0 where
   pub valid : IsValid a
   pub root : IsBoxOf a (root_box a)
 
--- the ending of a line is that of its box
 abbrev pub line_ending : Street → Line → Ending
-line_ending a line = ending_of a line.area
+line_ending a line = ending_of (program_of a) line

@@ -1,5 +1,5 @@
--- An artery as a relaxation that is searched by branch and bound, as Little searched his mixed-integer program of 1966: what each
--- box's end is, and the laws that the search relies on.
+-- An artery as a relaxation that is searched by branch and bound, as Little searched his mixed-integer program of 1966: what a
+-- timing and a leaf are, and the laws that the search relies on.
 use Rattle.std.specs.Prelude.{◌≡◌, Some, None}
 use Rattle.rational_theory.specs.Rational.{ℚ}
 use Rattle.progression.specs.Street.{Street}
@@ -8,18 +8,8 @@ use Rattle.progression.specs.Good.{Good}
 use Rattle.progression.specs.Best.{weighted_band}
 use Rattle.linear_theory.specs.Boxes.{Area}
 use Rattle.named_row.specs.declared.leaves.Leaf.{Leaf}
-use Rattle.named_row.specs.declared.leaves.Point.{Point}
-use Rattle.branch_and_bound.specs.Lines.{Line}
 use Rattle.certificate_checker.specs.Accepted.{IsProof}
-use Rattle.branch_tree.specs.Ends.{end_point, end_leaf}
 use Rattle.branch_tree.specs.Starts.{start_leaf}
-
--- ---- of a line
-abbrev pub IsEndLeaf : Street → Line → Leaf → Type 0
-IsEndLeaf a line leaf = leaf.multipliers.items ≡ end_leaf a line.area
-
-abbrev pub IsEndPoint : Street → Line → Point → Type 0
-IsEndPoint a line point = point.values.items ≡ end_point a line.area
 
 abbrev pub IsStartLeaf : Street → Leaf → Type 0
 IsStartLeaf a leaf = leaf.multipliers.items ≡ start_leaf a

@@ -1,5 +1,7 @@
 pub mod Relaxed
 pub mod Lineage
+pub mod Firsts
+pub mod RunLaws
 pub mod BoxLaws
 pub mod EndLaws
 pub mod LeafWeights

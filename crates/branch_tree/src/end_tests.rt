@@ -49,7 +49,7 @@ fn leaf_of_the_shared_green(rt: HostRuntime) -> Result<(), Fail> {
 fn vertex_of_the_shared_green(rt: HostRuntime) -> Result<(), Fail> {
     let alloc = rt.alloc();
     let artery = artery(alloc, 50, 250)?;
-    let found = search(alloc, &artery, Some(21)).ok().ok_or("no memory")?;
+    let found = search(alloc, &artery, Some(15)).ok().ok_or("no memory")?;
     let (half, quarter, zero) = (fraction(1, 2)?, fraction(1, 4)?, Frac::whole(0));
     let expected = [
         half,

@@ -1,5 +1,7 @@
 //! What boxes keep for their parts.
 
-/// What a split box keeps of its end for its parts: nothing, since each box starts from its own opening tableau.
-#[derive(Debug, Clone, Copy, PartialEq, Eq)]
-pub struct Kept {}
+/// What a split box keeps of its end for its parts: the basic variables of its last tableau, ascending.
+#[derive(Debug, Drop)]
+pub struct Kept {
+    pub basis: Vec<u32>,
+}

@@ -11,10 +11,10 @@ ghost use Rattle.branch_tree.specs.ArteryRules.{rules_of};
 ghost use Rattle.branch_tree.specs.Trees.{node_of};
 ghost use Rattle.branch_tree.specs.Promises.{BoxesEnd};
 
-/// Each box of an artery comes to an end. An empty one has a leaf that refutes; any other has a leaf that covers the weighted
-/// band with its vertex's own. A vertex that gives a timing gives a good one with that band, and one that splits its box shows
-/// a place inside it, whose parts have no greater bounds. Where both the leaf's sum and the vertex leave 128 bits, the sum is the
-/// site. A box takes fewer steps than there are sets of basic variables, which
+/// Each line of boxes of an artery comes to an end. At an empty box it has a leaf that refutes; at any other a leaf that covers the
+/// weighted band with its vertex's own. A vertex that gives a timing gives a good one with that band, and one that splits its box
+/// shows a place inside it, whose parts have no greater bounds. Where both the leaf's sum and the vertex leave 128 bits, the sum is
+/// the site. Along a line no set of basic variables comes twice, so that a box takes fewer steps than there are such sets, which
 /// bounds the units that a search needs.
 #[tactic(auto, using(crate::proofs::KeptPromises::boxes_end))]
 pub fn law_boxes_end()

@@ -1,19 +1,23 @@
-//! Opens one box: the steps from its opening tableau to the end, and what is read off there.
+//! Opens one line's box: the steps from its first tableau to the end, and what is read off there.
 
-ghost use Rattle.std.specs.Prelude.{◌≡◌, ℕ, IfOk, None, map};
+ghost use Rattle.std.specs.Prelude.{◌≡◌, ℕ, ◌<◌, IfOk, None, map};
 ghost use Rattle.linear_theory.specs.Boxes.{IsBoxOf};
 ghost use Rattle.linear_theory.specs.Trees.{AreWeights};
+ghost use Rattle.simplex_theory.specs.Tableau.{goal_bound};
+ghost use Rattle.dual_leaf.specs.Leaves.{goal_multipliers};
 ghost use Rattle.loop_rows.specs.Weights.{named, leaf_fault};
-ghost use Rattle.branch_and_bound.specs.Lines.{Line, top_line};
-ghost use Rattle.program_builder.specs.Building.{opened_box, IsMadeFor};
+ghost use Rattle.branch_and_bound.specs.Lines.{Line};
+ghost use Rattle.program_builder.specs.Building.{IsMadeFor};
 ghost use Rattle.dual_simplex.specs.declared.outcome.Step.TheVariants as steps;
 ghost use Rattle.work_meter.specs.declared.meter.Meter.{Meter};
 ghost use Rattle.work_meter.specs.Work.{capped, HasWork};
 ghost use Rattle.branch_and_bound.specs.OpenedNodes.{Opens};
-ghost use Rattle.branch_tree.specs.Ends.{steps_of, end_leaf, end_bound};
+ghost use Rattle.branch_tree.specs.ArteryProgram.{program_of};
+ghost use Rattle.branch_tree.specs.Ends.{steps_of, named_first};
 ghost use Rattle.branch_tree.specs.Sites.{IsReached, step_at};
+ghost use Rattle.branch_tree.specs.Runs.{IsOptimalRun, IsInfeasibleRun, IsRun, HasFirst, HasRun, HasOptimalRun, HasInfeasibleRun};
 ghost use Rattle.branch_tree.specs.ArteryRules.{rules_of};
-ghost use Rattle.branch_tree.specs.BoxRuns.{IsRoomFor, IsLeft, IsRun, IsOptimalRun, IsInfeasibleRun, IsSummed, IsReadEnd, IsEmptyEnd, IsWideStep};
+ghost use Rattle.branch_tree.specs.BoxRuns.{IsRoomFor, IsCutBy, IsUnreadBy, IsSummed, IsReadEnd, IsEmptyEnd, IsWideStep};
 
 use crate::kept::Kept;
 use crate::relaxed::Room;
@@ -27,7 +31,6 @@ use loop_rows::{SumFault, leaf_sum};
 use named_row::{Leaf, Place, Point, RowId, WideAt};
 use narrow_fraction::{Frac, Memory};
 use offset_recovery::{RecoverFault, Recovered, recover};
-use program_builder::reset;
 use search_box::{At, SearchBox};
 use std::alloc::Global;
 use time_space::Timing;
@@ -49,14 +52,13 @@ enum Summed {
     Wide { row: RowId, at: WideAt },
 }
 
-/// The steps from a box's opening tableau to their end: a unit for the box, and one for each pivot.
-fn make_steps(artery: &Artery, area: &SearchBox, tableau: &mut Tableau, meter: &mut Meter) -> Run
-    requires boxed { IsBoxOf artery.now area.now }
-    requires opened { tableau.old ≡ opened_box artery.now area.now }
+/// The steps from a line's first tableau to their end: a unit for the box, and one for each pivot.
+fn make_steps(artery: &Artery, tableau: &mut Tableau, meter: &mut Meter) -> Run
+    requires first { (line : Line) × (tableau.old ≡ named_first (program_of artery.now) line) }
     requires work { HasWork meter.old }
     ensures made { IsMadeFor artery.now tableau.new }
     ensures limit { meter.new.limit ≡ meter.old.limit }
-    ensures run { IsRun artery.now area.now tableau.new meter.old meter.new result.end result.pivots }
+    ensures run { (line : Line) → tableau.old ≡ named_first (program_of artery.now) line → IsRun (program_of artery.now) line tableau.new meter.old meter.new result.end result.pivots }
 {
     // its contract says that the artery is valid
     artery.known_valid();
@@ -72,7 +74,7 @@ fn make_steps(artery: &Artery, area: &SearchBox, tableau: &mut Tableau, meter: &
 fn sum_leaf(alloc: Global, artery: &Artery, area: &SearchBox, leaf: &Leaf) -> Result<Summed, Memory>
     requires boxed { IsBoxOf artery.now area.now }
     requires rows { AreWeights artery.now (map named leaf.now.multipliers.items) }
-    ensures { IfOk result (λ summed. IsSummed artery.now area.now leaf.now.multipliers.items summed) }
+    ensures { IfOk result (λ summed. IsSummed (program_of artery.now) area.now leaf.now.multipliers.items summed) }
 {
     match leaf_sum(alloc, artery, area, leaf) {
         Ok(sum) => Ok(Summed::Bound(sum.get(Place::Bound))),
@@ -83,16 +85,44 @@ fn sum_leaf(alloc: Global, artery: &Artery, area: &SearchBox, leaf: &Leaf) -> Re
     }
 }
 
-/// The answer at a vertex that shows where its box is split.
-fn split_end(leaf: Leaf, bound: Frac, place: At, point: Point) -> OpenedBox
-    ensures { result ≡ Opened.Splits leaf bound place point (record {}) }
+/// The answer at a vertex that shows where its box is split: the parts are to start from the tableau's basic variables.
+fn split_end(
+    alloc: Global,
+    tableau: &Tableau,
+    leaf: Leaf,
+    bound: Frac,
+    place: At,
+    point: Point,
+) -> Result<OpenedBox, Memory>
+    ensures { IfOk result (λ opened. IsCutBy tableau.now leaf bound place point opened) }
 {
-    Opened::Splits {
+    let basis = tableau.basis(alloc)?;
+    Ok(Opened::Splits {
         leaf,
         bound,
         place,
         point,
-        kept: Kept {},
+        kept: Kept { basis },
+    })
+}
+
+/// The answer at a vertex that can't be read.
+fn unread_end(
+    leaf: Leaf,
+    bound: Frac,
+    pivots: u64,
+    fault: RecoverFault,
+) -> Result<OpenedBox, Memory>
+    ensures { IfOk result (λ opened. IsUnreadBy leaf bound pivots fault opened) }
+{
+    match fault {
+        RecoverFault::Wide(wide) => Ok(Opened::Unread {
+            leaf,
+            bound,
+            pivots,
+            part: SitePart::Timing(wide),
+        }),
+        RecoverFault::Memory => Err(Memory),
     }
 }
 
@@ -107,12 +137,12 @@ fn read_end(
     pivots: u64,
 ) -> Result<OpenedBox, Memory>
     requires boxed { IsBoxOf artery.now area.now }
-    requires run { IsOptimalRun artery.now area.now tableau.now }
-    requires leaf { leaf.multipliers.items ≡ end_leaf artery.now area.now }
-    requires fits { leaf_fault artery.now area.now (end_leaf artery.now area.now) ≡ None }
-    requires bound { bound ≡ end_bound artery.now area.now }
-    requires pivots { pivots ≡ capped (steps_of artery.now area.now) }
-    ensures { IfOk result (λ opened. IsReadEnd artery.now area.now pivots opened) }
+    requires run { HasOptimalRun (program_of artery.now) area.now tableau.now }
+    requires leaf { leaf.multipliers.items ≡ goal_multipliers tableau.now }
+    requires fits { leaf_fault artery.now area.now leaf.multipliers.items ≡ None }
+    requires bound { bound ≡ goal_bound tableau.now.table }
+    ensures { IfOk result (λ opened. (line : Line) → line.area ≡ area.now → IsOptimalRun (program_of artery.now) line tableau.now
+        → pivots ≡ capped (steps_of (program_of artery.now) line) → IsReadEnd (rules_of artery.now) line pivots opened) }
 {
     // its contract says that the artery is valid
     artery.known_valid();
@@ -123,14 +153,8 @@ fn read_end(
             bound,
             timing,
         }),
-        Ok(Recovered::SplitAt(place)) => Ok(split_end(leaf, bound, place, point)),
-        Err(RecoverFault::Wide(wide)) => Ok(Opened::Unread {
-            leaf,
-            bound,
-            pivots,
-            part: SitePart::Timing(wide),
-        }),
-        Err(RecoverFault::Memory) => Err(Memory),
+        Ok(Recovered::SplitAt(place)) => split_end(alloc, tableau, leaf, bound, place, point),
+        Err(fault) => unread_end(leaf, bound, pivots, fault),
     }
 }
 
@@ -143,9 +167,9 @@ fn optimal_end(
     pivots: u64,
 ) -> Result<OpenedBox, Memory>
     requires boxed { IsBoxOf artery.now area.now }
-    requires run { IsOptimalRun artery.now area.now tableau.now }
-    requires pivots { pivots ≡ capped (steps_of artery.now area.now) }
-    ensures { IfOk result (λ opened. IsReadEnd artery.now area.now pivots opened) }
+    requires run { HasOptimalRun (program_of artery.now) area.now tableau.now }
+    ensures { IfOk result (λ opened. (line : Line) → line.area ≡ area.now → IsOptimalRun (program_of artery.now) line tableau.now
+        → pivots ≡ capped (steps_of (program_of artery.now) line) → IsReadEnd (rules_of artery.now) line pivots opened) }
 {
     // its contract says that the artery is valid
     artery.known_valid();
@@ -169,8 +193,9 @@ fn infeasible_end(
     pivots: u64,
 ) -> Result<OpenedBox, Memory>
     requires boxed { IsBoxOf artery.now area.now }
-    requires run { IsInfeasibleRun artery.now area.now tableau.now row }
-    ensures { IfOk result (λ opened. IsEmptyEnd artery.now area.now pivots opened) }
+    requires run { HasInfeasibleRun (program_of artery.now) area.now tableau.now row }
+    ensures { IfOk result (λ opened. (line : Line) → line.area ≡ area.now → IsInfeasibleRun (program_of artery.now) line tableau.now row
+        → IsEmptyEnd (rules_of artery.now) line pivots opened) }
 {
     // its contract says that the artery is valid
     artery.known_valid();
@@ -185,14 +210,9 @@ fn infeasible_end(
 }
 
 /// The answer where an operation of a step was refused.
-fn wide_step(
-    _artery: &Artery,
-    _area: &SearchBox,
-    ratio: bool,
-    cell: WideCell,
-    pivots: u64,
-) -> OpenedBox
-    ensures { (k : ℕ) → IsLeft _artery.now _area.now k → IsReached _artery.now _area.now k → step_at _artery.now _area.now k ≡ steps.Wide ratio cell → IsWideStep _artery.now _area.now k pivots result }
+fn wide_step(_artery: &Artery, ratio: bool, cell: WideCell, pivots: u64) -> OpenedBox
+    ensures { (line : Line) (k : ℕ) → k < steps_of (program_of _artery.now) line → IsReached (program_of _artery.now) line k → step_at (program_of _artery.now) line k ≡ steps.Wide ratio cell
+        → IsWideStep (rules_of _artery.now) line k pivots result }
 {
     if ratio {
         Opened::Wide {
@@ -216,22 +236,22 @@ fn ended(
     run: &Run,
 ) -> Result<OpenedBox, Memory>
     requires boxed { IsBoxOf artery.now area.now }
-    requires run { (before after : Meter) × IsRun artery.now area.now tableau.now before after run.now.end run.now.pivots }
-    ensures { IfOk result (λ opened. (before after : Meter) → IsRun artery.now area.now tableau.now before after run.now.end run.now.pivots
-        → Opens (rules_of artery.now) (top_line area.now) before after opened) }
+    requires run { HasRun (program_of artery.now) area.now tableau.now run.now.end run.now.pivots }
+    ensures { IfOk result (λ opened. (line : Line) (before after : Meter) → line.area ≡ area.now → IsRun (program_of artery.now) line tableau.now before after run.now.end run.now.pivots
+        → Opens (rules_of artery.now) line before after opened) }
 {
     let pivots = run.pivots;
     match run.end {
         NodeEnd::Optimal => optimal_end(alloc, artery, area, tableau, pivots),
         NodeEnd::Infeasible { row } => infeasible_end(alloc, artery, area, tableau, row, pivots),
         NodeEnd::WorkOut => Ok(Opened::WorkOut),
-        NodeEnd::Wide { ratio, cell } => Ok(wide_step(artery, area, ratio, cell, pivots)),
+        NodeEnd::Wide { ratio, cell } => Ok(wide_step(artery, ratio, cell, pivots)),
     }
 }
 
-/// Opens a box: the dual simplex method runs from its opening tableau to the end, the leaf of the end is summed, and at a
-/// last vertex the timing is recovered or the place found where the box is split. A unit is spent for the box, and one for
-/// each pivot. The error is want of memory.
+/// Opens a line's box, from the tableau that the line's steps begin from: the dual simplex method runs to the end, the leaf of
+/// the end is summed, and at a last vertex the timing is recovered or the place found where the box is split. A unit is spent
+/// for the box, and one for each pivot. The error is want of memory.
 pub fn open(
     alloc: Global,
     artery: &Artery,
@@ -241,12 +261,13 @@ pub fn open(
 ) -> Result<OpenedBox, Memory>
     requires boxed { IsBoxOf artery.now area.now }
     requires room { IsRoomFor artery.now room.old }
+    requires first { HasFirst (program_of artery.now) area.now room.old.tableau }
     requires work { HasWork meter.old }
     ensures room { IsRoomFor artery.now room.new }
     ensures limit { meter.new.limit ≡ meter.old.limit }
-    ensures opens { IfOk result (λ opened. (line : Line) → line.area ≡ area.now → Opens (rules_of artery.now) line meter.old meter.new opened) }
+    ensures opens { IfOk result (λ opened. (line : Line) → line.area ≡ area.now → room.old.tableau ≡ named_first (program_of artery.now) line
+        → Opens (rules_of artery.now) line meter.old meter.new opened) }
 {
-    reset(&mut room.tableau, artery, area, &mut room.row);
-    let run = make_steps(artery, area, &mut room.tableau, meter);
+    let run = make_steps(artery, &mut room.tableau, meter);
     ended(alloc, artery, area, &room.tableau, &run)
 }

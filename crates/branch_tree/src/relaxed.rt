@@ -1,4 +1,5 @@
-//! An artery as a relaxation that is solved over one box at a time.
+//! An artery as a relaxation that is solved along lines of boxes: the root from its opening tableau on, and each part from the
+//! basic variables that its parent ended with.
 
 ghost use Rattle.std.specs.Prelude.{IfOk};
 ghost use Rattle.branch_tree.specs.BoxRuns.{IsRoomFor};
@@ -13,7 +14,7 @@ use fraction_tableau::Tableau;
 use loop_rows::column_count;
 use named_row::{Leaf, Row};
 use narrow_fraction::{Frac, Memory};
-use program_builder::start;
+use program_builder::{enter, reset, start};
 use search_box::SearchBox;
 use std::alloc::Global;
 use time_space::Timing;
@@ -73,6 +74,7 @@ impl<'a> Relaxation for Relaxed<'a> {
         area: &SearchBox,
         meter: &mut Meter,
     ) -> Result<OpenedBox, Memory> {
+        reset(&mut room.tableau, self.artery, area, &mut room.row);
         open(alloc, self.artery, room, area, meter)
     }
 
@@ -80,10 +82,13 @@ impl<'a> Relaxation for Relaxed<'a> {
         &self,
         alloc: Global,
         room: &mut Room,
-        _kept: &Kept,
+        kept: &Kept,
         area: &SearchBox,
         meter: &mut Meter,
     ) -> Result<OpenedBox, Memory> {
+        let basis = kept.basis.as_slice();
+        // false says that an operation left 128 bits, and then it is the opening tableau
+        let _entered = enter(&mut room.tableau, self.artery, area, basis, &mut room.row);
         open(alloc, self.artery, room, area, meter)
     }
 }

@@ -1,6 +1,6 @@
 //! Searches of two signals: 100 parts, reds of 50, a cycle of 100 seconds, 36 kilometres an hour, one link of the same length
 //! each way. At 500 metres both bands are the whole green. At 250 metres the block sum is 0 or 1, and they share it. The root
-//! of the shorter artery takes 4 units, its low part 8 and its high part 9.
+//! of the shorter artery takes 4 units. Its parts start from the basis where it ended, and the low one takes 5 and the high one 6.
 
 ghost use Rattle.std.specs.Prelude.{◌<◌, IfOk};
 ghost use Rattle.branch_tree.specs.Told.{IsCertifiable};
@@ -128,11 +128,11 @@ fn a_shared_green_is_best(rt: HostRuntime) -> Result<(), Fail> {
     let alloc = rt.alloc();
     let artery = artery(alloc, 50, 250)?;
     let half = fraction(1, 2)?;
-    let found = searched(alloc, &artery, 21)?;
+    let found = searched(alloc, &artery, 15)?;
     assert!(rt; is_best(&found));
     assert!(rt; found.bound == half);
     assert!(rt; band(&artery, &found) == half);
-    assert!(rt; found.spent == 21);
+    assert!(rt; found.spent == 15);
     assert!(rt; found.nodes.len() == 3);
     assert!(rt; is_accepted(alloc, &artery, &found));
     Ok(())
@@ -143,10 +143,11 @@ fn work_runs_out(rt: HostRuntime) -> Result<(), Fail> {
     let alloc = rt.alloc();
     let artery = artery(alloc, 50, 250)?;
     let one = Frac::whole(1);
-    let high = searched(alloc, &artery, 20)?;
-    assert!(rt; units(&high) == 20);
+    let high = searched(alloc, &artery, 14)?;
+    assert!(rt; units(&high) == 14);
     assert!(rt; high.bound == one);
     assert!(rt; band(&artery, &high) == fraction(1, 2)?);
+    assert!(rt; is_accepted(alloc, &artery, &high));
     let low = searched(alloc, &artery, 4)?;
     assert!(rt; units(&low) == 4);
     assert!(rt; low.bound == one);
@@ -184,15 +185,29 @@ pub(crate) fn is_first_waits(node: &TreeNode) -> bool {
     }
 }
 
+/// Whether a search of the shorter artery within these units leaves one node, a waiting leaf of the first waits' rows.
+fn is_root_alone(alloc: Global, limit: u64) -> Result<bool, Fail>
+    requires { 0 < limit }
+{
+    let artery = artery(alloc, 50, 250)?;
+    let found = searched(alloc, &artery, limit)?;
+    match found.nodes.as_slice() {
+        [node] => Ok(is_first_waits(node)),
+        _ => Ok(false),
+    }
+}
+
+/// The root isn't finished and has the start leaf.
 #[test]
 fn an_unfinished_root_has_the_start_leaf(rt: HostRuntime) -> Result<(), Fail> {
-    let alloc = rt.alloc();
-    let artery = artery(alloc, 50, 250)?;
-    let found = searched(alloc, &artery, 1)?;
-    match found.nodes.as_slice() {
-        [node] => assert!(rt; is_first_waits(node)),
-        _ => return Err("not one node".into()),
-    }
+    assert!(rt; is_root_alone(rt.alloc(), 1)?);
+    Ok(())
+}
+
+/// The split is undone in the high part, and the root waits again with its own leaf, which has the same rows.
+#[test]
+fn an_undone_split_leaves_the_root(rt: HostRuntime) -> Result<(), Fail> {
+    assert!(rt; is_root_alone(rt.alloc(), 14)?);
     Ok(())
 }
 

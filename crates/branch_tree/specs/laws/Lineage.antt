@@ -18,5 +18,5 @@ searchable a _ (at_high line place l e) = searchable a line l
 
 pub boxed : (a : Street) (line : Line) → IsLineOf a line → IsBoxOf a line.area
 boxed a _ (at_top s) = s.root
-boxed a _ (at_low line place l e) = let b = boxed a line l in (parts_of a line.area place b (cuts_inside a line.area (searchable a line l).valid b place e)).low_box
-boxed a _ (at_high line place l e) = let b = boxed a line l in (parts_of a line.area place b (cuts_inside a line.area (searchable a line l).valid b place e)).high_box
+boxed a _ (at_low line place l e) = let b = boxed a line l in (parts_of a line.area place b (cuts_inside a line (searchable a line l).valid b place e)).low_box
+boxed a _ (at_high line place l e) = let b = boxed a line l in (parts_of a line.area place b (cuts_inside a line (searchable a line l).valid b place e)).high_box

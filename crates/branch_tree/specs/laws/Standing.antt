@@ -1,17 +1,10 @@
--- Along the steps of the dual simplex method a tableau keeps standing for its rows.
-use Rattle.std.proofs.Common.{◌≡◌, ℕ, zero, suc, List, refl, sym, ◌∙◌, subst}
-use Rattle.rational_theory.specs.Rational.{ℚ}
-use Rattle.rational_theory.specs.Rows.{Row}
+-- Along the steps of the dual simplex method a tableau keeps its sizes.
+use Rattle.std.proofs.Common.{◌≡◌, ℕ, zero, suc, refl, sym, ◌∙◌, subst}
 use Rattle.simplex_theory.specs.Tableau.{Tableau, height, width}
 use Rattle.simplex_theory.proofs.Tableau.{height-exchange, width-exchange}
-use Rattle.simplex_theory.specs.DualSteps.{IsDual}
-use Rattle.simplex_theory.proofs.DualSteps.{place_of}
-use Rattle.simplex_theory.proofs.Multipliers.{stands-exchange}
-use Rattle.simplex_theory.specs.RowLists.{StandsForRows}
-use Rattle.simplex_theory.specs.BlandRule.{Move, optimal, infeasible, pivoted, move, made, Says}
-use Rattle.simplex_theory.proofs.BlandRule.{says}
+use Rattle.simplex_theory.specs.BlandRule.{Move, optimal, infeasible, pivoted, move, made}
 use Rattle.simplex_theory.specs.StepCounts.{after}
-use Rattle.simplex_theory.proofs.StepCounts.{next_is, dual_after}
+use Rattle.simplex_theory.proofs.StepCounts.{next_is}
 
 made_height : (t : Tableau) (m : Move) → height (made m t) ≡ height t
 made_height t optimal = refl
@@ -32,15 +25,3 @@ pub width-after : (t : Tableau) (k : ℕ) → width (after t k) ≡ width t
 unfolding after
 width-after t zero = refl
 width-after t (suc k) = subst (λ u. width u ≡ width t) (sym (next_is (after t k))) (made_width (after t k) (move (after t k)) ∙ width-after t k)
-
-module _ (rows : List Row) (goal : List ℚ) where
-  made_stands : (t : Tableau) (m : Move) → IsDual t → Says t m → StandsForRows t rows goal → StandsForRows (made m t) rows goal
-  made_stands t optimal d c s = s
-  made_stands t (infeasible r) d c s = s
-  made_stands t (pivoted r j) d c s = record { shape = rw (height-exchange r j t, width-exchange r j t) s.shape; stands = stands-exchange r j t _ d.shaped (place_of t r j c) s.stands }
-
-  pub stands_after : (t : Tableau) (k : ℕ) → IsDual t → StandsForRows t rows goal → StandsForRows (after t k) rows goal
-  unfolding after
-  stands_after t zero d s = s
-  stands_after t (suc k) d s =
-      subst (λ u. StandsForRows u rows goal) (sym (next_is (after t k))) (made_stands (after t k) (move (after t k)) (dual_after t k d) (says (after t k)) (stands_after t k d s))

@@ -1,4 +1,6 @@
-use Rattle.std.proofs.Common.{subst, ◌∙◌, ap}
+use Rattle.std.proofs.Common.{subst, sym, ◌∙◌, ap}
+use Rattle.rational_theory.specs.Rows as maths
+use Rattle.branch_tree.specs.laws.LeafWeights.{sum_read}
 use Rattle.named_row.specs.Sheets.{Sheet, at_place}
 use Rattle.loop_rows.specs.Weights.{leaf_fault, IsFirstFault}
 use Rattle.loop_rows.proofs.LeafSums.{total_bound}
@@ -19,5 +21,6 @@ pub returns-in-Ok : goal.returns-in-Ok
 unfolding at_place
 returns-in-Ok c = (
   c.in-Ok.ensures.none,
-  c.get.ensures ∙ ap (λ (s : Sheet). s.bound) c.in-Ok.ensures.sum ∙ total_bound c.args.artery.now c.args.area.now c.args.leaf.now.multipliers.items,
+  c.get.ensures ∙ ap (λ (s : Sheet). s.bound) c.in-Ok.ensures.sum ∙ total_bound c.args.artery.now c.args.area.now c.args.leaf.now.multipliers.items
+      ∙ ap (λ (r : maths.Row). r.bound) (sym (sum_read c.args.artery.now c.args.area.now c.args.leaf.now.multipliers.items)),
 )
