@@ -258,12 +258,12 @@ const NEAR_BY: &[Search] = &[
     ),
 ];
 
-/// The root costs 4 units, its low part 8 and its high part 9; with reds of 80 the root costs 5.
+/// The root costs 4 units, its low part 5 and its high part 6; with reds of 80 the root costs 5.
 const LIMITS: &[Search] = &[
     (
-        "21 units",
+        "15 units",
         &[],
-        "21",
+        "15",
         0,
         Front(b"verdict best\nweighted 1/2 = 0.500000\n"),
         ANY,
@@ -279,11 +279,11 @@ const LIMITS: &[Search] = &[
         Whole(b"accepted best 1/2\n"),
     ),
     (
-        "20 units",
+        "14 units",
         &[],
-        "20",
+        "14",
         2,
-        Front(b"verdict open\nstopped work 20\nbound 1\nweighted 1/2 = 0.500000\n"),
+        Front(b"verdict open\nstopped work 14\nbound 1\nweighted 1/2 = 0.500000\n"),
         End(b"\ntree\nleaf 2\nwout 1 1\nwin 1 1\nend\n"),
         Whole(b"accepted open bound 1 value 1/2\n"),
     ),

@@ -95,9 +95,9 @@ speed_in = ["31.738", "55.242"]
 stopped wide
 loops 1:2 2:2
 shifts 0:0 0:0 0:0
-pivots 21
-site cell 14 3
-operands mul -170007954664584450571/22246174399912416000000 -42270941825239037/75739328396362485
+pivots 0
+site cell 9 16
+operands mul -993332194076490259/14373373996080000000 10045463579531926243/21687621501356200410
 bound 11/10
 weighted 11/10 = 1.100000
 band out 11/20 = 0.550000
@@ -126,8 +126,8 @@ const BOUND_OF_LEAF: Shipped = Shipped {
     street: r#"[artery]
 units = "metric"
 parts = 240
-cycle = ["61.95", "104.82"]
-ratio = "0.635"
+cycle = ["52953/863", "96629/881"]
+ratio = "416/997"
 
 [[signal]]
 name = "S1"
@@ -156,34 +156,34 @@ clear_out = 5
 clear_in = 5
 
 [[link]]
-distance_out = 6271
-distance_in = 6607
-speed_out = ["27749/911", "36587/643"]
-speed_in = ["30757/907", "30553/587"]
+distance_out = 6010
+distance_in = 7140
+speed_out = ["28821/967", "46076/857"]
+speed_in = ["32.08", "44497/839"]
 change_in = ["-7.00", "4.91"]
 
 [[link]]
-distance_out = 4051
-distance_in = 1597
-speed_out = ["30881/947", "25523/541"]
-speed_in = ["20939/691", "29389/541"]
+distance_out = 4305
+distance_in = 1791
+speed_out = ["32.56", "43387/883"]
+speed_in = ["29355/953", "55.738"]
 change_out = ["-14.99", "16.35"]
 
 [[link]]
-distance_out = 4243
-distance_in = 4243
-speed_out = ["12953/359", "46411/919"]
-speed_in = ["40099/997", "47309/769"]
+distance_out = 4579
+distance_in = 3744
+speed_out = ["34.88", "50.809"]
+speed_in = ["37472/953", "57409/883"]
 "#,
     status: 2,
     report: r#"verdict open
 stopped wide
-loops 7:8 3:4 5:5
+loops 7:8 3:4 4:4
 shifts 0:3 0:0 0:1 0:0
-pivots 24
+pivots 8
 site leaf loop_hi 1 bound
-operands add -29349554416957481400614878568591390581/2103451667587575353537894424495054000 107823809/15696000
-bound 3597/4000
+operands add -18851896131846721567391665173255915643/1443336414464089695270847277119965282 448386373/67620528
+bound 15543/19940
 no timing
 "#,
 };
@@ -234,7 +234,7 @@ speed_in = ["42.939", "46.423"]
 stopped wide
 loops 0:0 0:1
 shifts 0:0 0:3 0:0
-pivots 16
+pivots 9
 site unit
 operands lcm 38910526030368681 4070038217794624699403
 bound 39531/50000
@@ -248,8 +248,8 @@ const TICKS_OF_RUN: Shipped = Shipped {
     street: r#"[artery]
 units = "metric"
 parts = 90
-cycle = ["66.69", "97.58"]
-ratio = "0.650"
+cycle = ["68.946", "86480/857"]
+ratio = "876/997"
 
 [[signal]]
 name = "S1"
@@ -268,29 +268,44 @@ clear_out = 4
 clear_in = 4
 
 [[link]]
-distance_out = 337
-distance_in = 677
-speed_out = ["38.644", "50.891"]
-speed_in = ["37.015", "52.493"]
-change_out = ["-3.77", "10.02"]
-change_in = ["-10.73", "9.27"]
+distance_out = 301
+distance_in = 651
+speed_out = ["34139/919", "53.169"]
+speed_in = ["31674/821", "54.766"]
 
 [[link]]
-distance_out = 191
-distance_in = 353
-speed_out = ["38.998", "46.702"]
-speed_in = ["39.470", "51.073"]
+distance_out = 216
+distance_in = 338
+speed_out = ["36863/991", "47.1"]
+speed_in = ["37550/929", "42471/853"]
 "#,
     status: 2,
     report: r#"verdict open
 stopped wide
-loops 0:0 0:1
+loops 1:2 1:1
 shifts 0:0 0:0 0:0
-pivots 12
+pivots 9
 site number y_in 1
-operands ticks 1996929696171131904600000
-bound 253/300
-no timing
+operands ticks 1216431901932706435347000
+bound 43079/44865
+weighted 5460364567305149/6902654839635060 = 0.791052
+band out 15453701131789/34617125574900 = 0.446417
+band in 1131514726801/2884760464575 = 0.392238
+cycle 86480/857 = 100.910
+signal 1 pattern 1 offset 0 = 0.000 S1
+signal 2 pattern 1 offset 94639688278876922/2230733229486135 = 42.425 S2
+signal 3 pattern 1 offset 1216423290466/29528796285 = 41.194 S3
+link 1 out 34139/919 = 37.147
+link 1 in 31674/821 = 38.579
+link 2 out 471/10 = 47.100
+link 2 in 42471/853 = 49.790
+diagram
+3 out >>>>>>>>>>>>>>>>>>>>>>>>>#########################========>>
+3 in <<<<<<<<<<<<<============#########################<<<<<<<<<<
+2 out >>>>>>>>>>>>>>>>>>========#########################>>>>>>>>>
+2 in ==<<<<<<<<<<<<<<<<<<<<<<<<#########################=========
+1 out >#############################====>>>>>>>>>>>>>>>>>>>>>>>>>>
+1 in =#############################=====<<<<<<<<<<<<<<<<<<<<<<<<=
 "#,
 };
 
@@ -352,8 +367,8 @@ speed_in = [50, "5449/97"]
 stopped wide
 loops 6:15 8:9 22:23 14:14
 shifts 0:0 0:0 0:0 0:0 0:0
-pivots 21
-site ratio 5 2
+pivots 8
+site ratio 5 20
 operands div 157520836698343021163761151753/34523936812388819355712750 1651380978458832929395202248381238098/897749789806234984115208145560035
 bound 129/200
 no timing
@@ -418,7 +433,7 @@ speed_in = [40, "55673/885"]
 stopped wide
 loops 311:2360 5:5 3:4 12:12
 shifts 0:0 0:0 0:0 0:0 0:0
-pivots 23
+pivots 8
 site product y_out 1
 operands mul 54025817141783191574406643164447398/237974871168641373955972537132225 3593
 bound 2946/3593
