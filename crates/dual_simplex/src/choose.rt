@@ -12,7 +12,7 @@ ghost use Rattle.narrow_fraction.specs.declared.wide.Op.TheVariants.{Div};
 ghost use Rattle.fraction_tableau.specs.Refusals.{refused};
 ghost use Rattle.dual_simplex.specs.Ratios.{ratio_at, ratio_refusal, with_ratio, place_of};
 
-use fraction_tableau::{Tableau, WideCell};
+use fraction_tableau::{Kept, Tableau, WideCell};
 use narrow_fraction::Frac;
 use std::cmp::Ordering;
 
@@ -104,18 +104,19 @@ fn better_place(
     tableau: &Tableau,
     row: u32,
     best: Option<Chosen>,
-    place: u32,
+    entry: Kept,
 ) -> Result<Option<Chosen>, WideCell>
     requires row { row < height tableau.now.table }
-    requires place { place < width tableau.now.table }
+    requires place { entry.place < width tableau.now.table }
+    requires cell { entry.cell ≡ cell tableau.now.table row entry.place }
     requires best { IfSome best (λ other. (other.place < width tableau.now.table) × (other.ratio ≡ ratio tableau.now.table row other.place)) }
-    ensures { result ≡ attempt (ratio_at tableau.now.table row place) (with_ratio tableau.now.table row (best_step (λ k. is_negative (cell tableau.now.table row k)) (place_before tableau.now.table row) place (place_of best))) }
+    ensures { result ≡ attempt (ratio_at tableau.now.table row entry.place) (with_ratio tableau.now.table row (best_step (λ k. is_negative (cell tableau.now.table row k)) (place_before tableau.now.table row) entry.place (place_of best))) }
 {
-    let entry = row_cell(tableau, row, place);
-    if !is_negative(entry) {
+    if !is_negative(entry.cell) {
         return Ok(best);
     }
-    let ratio = match ratio_of(goal_row_cell(tableau, place), entry, row, place) {
+    let place = entry.place;
+    let ratio = match ratio_of(goal_row_cell(tableau, place), entry.cell, row, place) {
         Ok(ratio) => ratio,
         Err(wide) => return Err(wide),
     };
@@ -141,9 +142,10 @@ pub fn chosen_place(tableau: &Tableau, row: u32) -> Result<Option<Chosen>, WideC
     requires { row < height tableau.now.table }
     ensures { result ≡ attempt (ratio_refusal tableau.now.table row) (with_ratio tableau.now.table row (chosen_place tableau.now.table row)) }
 {
+    let entries = tableau.kept(row);
     let mut best = None;
-    for place in 0..tableau.width() {
-        match better_place(tableau, row, best, place) {
+    for index in 0..entries.len() {
+        match better_place(tableau, row, best, entries[index]) {
             Ok(next) => best = next,
             Err(wide) => return Err(wide),
         }
@@ -156,8 +158,10 @@ pub fn has_negative(tableau: &Tableau, row: u32) -> bool
     requires { row < height tableau.now.table }
     ensures { result ≡ is_some (chosen_place tableau.now.table row) }
 {
-    for place in 0..tableau.width() {
-        if is_negative(row_cell(tableau, row, place)) {
+    let entries = tableau.kept(row);
+    for index in 0..entries.len() {
+        let entry = entries[index];
+        if is_negative(entry.cell) {
             return true;
         }
     }

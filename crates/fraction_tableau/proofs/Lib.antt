@@ -1,4 +1,6 @@
-pub mod VecLists
+pub mod KeptCells
+pub mod Keeps
+pub mod Merges
 pub mod DoneRows
 pub mod Zeros
 pub mod Turns

@@ -66,3 +66,8 @@ rows_ok (Err x) r j n rows then now e a h m l t f g = f
 rows_ok (Ok x) r j n rows then now e a h m l t f g =
     rows_done r j rows now e a h l (g ∙ ap (λ (q : List (List ℚ)). get_or q r []) t ∙ get_or-set_same rows r e [] h)
     (λ k b c. f k (rw m b) c ∙ ap (cleared j e) (ap (λ (q : List (List ℚ)). get_or q k []) t ∙ get_or-set_other rows r k e [] c))
+
+-- the rows come last
+pub pivot_third : (r j : ℕ) (rows : List (List ℚ)) (goal e : List ℚ) (p : ℚ) → e ≡ turned j (get_or rows r []) → p ≡ get_or (get_or rows r []) j (whole (pos 0)) → turn_refusal r j (get_or rows r []) ≡ None
+    → clear_refusal (length rows) j e goal p ≡ None → pivot_refusal r j rows goal ≡ first_below (line_refusal r j e p rows) (length rows)
+pivot_third r j rows goal e p a b f q = pivot_then r j rows goal e p a b f ∙ ap (λ o. earlier o (first_below (line_refusal r j e p rows) (length rows))) q

@@ -44,7 +44,7 @@ zero_rows_narrow m n = record { narrow = λ i. pick i (cases_lt i m) }
     pick i (inl h) = rw (get_or-replicate m i (replicate n (whole (pos 0))) [] h) (zeros_narrow n)
     pick i (inr h) = rw (get_or_past (replicate m (replicate n (whole (pos 0)))) i [] (let e = length-replicate m (replicate n (whole (pos 0))) in omega arith)) nothing_narrow
 
-pub sound_blank : (m w : ℕ) → m + w < 2 ^ 32 → IsSound (blank_tableau m w) (w + 1) (w + 1)
+pub sound_blank : (m w : ℕ) → m + w < 2 ^ 32 → IsSound (blank_tableau m w) (w + 1) (w + 1) (w + 1)
 unfolding blank_table blank_tableau
 sound_blank m w h =
     let zero = replicate (w + 1) (whole (pos 0)) in
@@ -64,6 +64,7 @@ sound_blank m w h =
       narrow_goal = zeros_narrow (w + 1);
       spares = sym d;
       helds = sym d;
+      rooms = sym d;
     }
 
 -- ---- a loaded row
@@ -72,9 +73,9 @@ pub row_is : (t : NamedTableau) (r : ℕ) (name : RowId) (s : Sheet) (rows : Lis
 unfolding with_row
 row_is t r name s rows basic names a b c = λ i. record { table = record { rows = a i; goal = t.table.goal; basic = b i; standing = t.table.standing }; names = c i; spent = t.spent }
 
-pub sound_row : (t : NamedTableau) (r : ℕ) (name : RowId) (s : Sheet) (spare held : ℕ) → IsSound t spare held → r < height t.table → length s.coefs ≡ width t.table → IsNarrow (row_cells s) → IsSound (with_row r name s t) spare held
+pub sound_row : (t : NamedTableau) (r : ℕ) (name : RowId) (s : Sheet) (spare held room : ℕ) → IsSound t spare held room → r < height t.table → length s.coefs ≡ width t.table → IsNarrow (row_cells s) → IsSound (with_row r name s t) spare held room
 unfolding with_row
-sound_row t r name s spare held k h w n =
+sound_row t r name s spare held room k h w n =
     let a = length-set t.table.rows r (row_cells s) in
     let b = length-set t.table.basic r (width t.table + r) in
     let c = length-set t.names r name in
@@ -86,6 +87,7 @@ sound_row t r name s spare held k h w n =
       narrow_goal = k.narrow_goal;
       spares = k.spares;
       helds = k.helds;
+      rooms = k.rooms;
     }
   where
     pick : (i : ℕ) → i < height t.table → (i ≡ r) ⊎ (i ≡ r → ⊥) → length (get_or (set t.table.rows r (row_cells s)) i []) ≡ suc (width t.table)
@@ -98,9 +100,9 @@ pub goal_is : (t : NamedTableau) (s : Sheet) (goal : List ℚ) (standing : List 
 unfolding with_goal
 goal_is t s goal standing a b = λ i. record { table = record { rows = t.table.rows; goal = a i; basic = t.table.basic; standing = b i }; names = t.names; spent = false }
 
-pub sound_goal : (t : NamedTableau) (s : Sheet) (spare held : ℕ) → IsSound t spare held → length s.coefs ≡ width t.table → IsNarrow (goal_cells s) → IsSound (with_goal s t) spare held
+pub sound_goal : (t : NamedTableau) (s : Sheet) (spare held room : ℕ) → IsSound t spare held room → length s.coefs ≡ width t.table → IsNarrow (goal_cells s) → IsSound (with_goal s t) spare held room
 unfolding with_goal
-sound_goal t s spare held k w n =
+sound_goal t s spare held room k w n =
     let a = length-range_with_len 0 (width t.table) in
     let b = length-append (map neg_ℚ s.coefs) (whole (pos 0) ∷ []) ∙ ap (λ n. n + 1) (length-map s.coefs neg_ℚ) in
     let c = k.shaped.goals in
@@ -112,6 +114,7 @@ sound_goal t s spare held k w n =
       narrow_goal = n;
       spares = k.spares ∙ omega arith;
       helds = k.helds ∙ omega arith;
+      rooms = k.rooms ∙ omega arith;
     }
 
 -- ---- a pivot
@@ -121,9 +124,9 @@ pub new_table : (t : Tableau) (r j : ℕ) (rows : List (List ℚ)) (goal : List 
 unfolding exchange exchanged_rows
 new_table t r j rows goal basic standing a b c d = λ i. record { rows = a i; goal = b i; basic = c i; standing = d i }
 
-pub sound_exchange : (t : NamedTableau) (r j spare held n m : ℕ) (u : Tableau) → IsSound t spare held → u ≡ exchange r j t.table → r < height t.table → n ≡ length t.table.goal → m ≡ length t.table.goal
-    → AreNarrow u.rows → IsNarrow u.goal → IsSound (record { table = u; names = t.names; spent = t.spent }) n m
-sound_exchange t r j spare held n m u s q h e f v w =
+pub sound_exchange : (t : NamedTableau) (r j spare held room n m o : ℕ) (u : Tableau) → IsSound t spare held room → u ≡ exchange r j t.table → r < height t.table → n ≡ length t.table.goal → m ≡ length t.table.goal → o ≡ length t.table.goal
+    → AreNarrow u.rows → IsNarrow u.goal → IsSound (record { table = u; names = t.names; spent = t.spent }) n m o
+sound_exchange t r j spare held room n m o u s q h e f y v w =
     let x = subst IsShaped (sym q) (shaped-exchange r j t.table s.shaped h) in
     let a = x.goals in
     let b = s.shaped.goals in
@@ -131,12 +134,12 @@ sound_exchange t r j spare held n m u s q h e f v w =
     let d = ap width q ∙ width-exchange r j t.table in
     let k = s.small in
     let l = s.named in
-    record { shaped = x; named = l ∙ sym c; small = omega arith; narrow_rows = v; narrow_goal = w; spares = omega arith; helds = omega arith }
+    record { shaped = x; named = l ∙ sym c; small = omega arith; narrow_rows = v; narrow_goal = w; spares = omega arith; helds = omega arith; rooms = omega arith }
 
-pub sound_refused : (t : NamedTableau) (spare held n m : ℕ) (rows : List (List ℚ)) → IsSound t spare held → length rows ≡ height t.table → ((k : ℕ) → length (get_or rows k []) ≡ length (line t.table k)) → AreNarrow rows
-    → n ≡ length t.table.goal → m ≡ length t.table.goal
-    → IsSound (record { table = record { rows = rows; goal = t.table.goal; basic = t.table.basic; standing = t.table.standing }; names = t.names; spent = true }) n m
-sound_refused t spare held n m rows s l w v e f = record {
+pub sound_refused : (t : NamedTableau) (spare held room n m o : ℕ) (rows : List (List ℚ)) → IsSound t spare held room → length rows ≡ height t.table → ((k : ℕ) → length (get_or rows k []) ≡ length (line t.table k)) → AreNarrow rows
+    → n ≡ length t.table.goal → m ≡ length t.table.goal → o ≡ length t.table.goal
+    → IsSound (record { table = record { rows = rows; goal = t.table.goal; basic = t.table.basic; standing = t.table.standing }; names = t.names; spent = true }) n m o
+sound_refused t spare held room n m o rows s l w v e f y = record {
   shaped = record { basics = s.shaped.basics ∙ sym l; lines = λ i k. w i ∙ s.shaped.lines i (subst (λ n. i < n) l k); goals = s.shaped.goals };
   named = s.named ∙ sym l;
   small = rw l s.small;
@@ -144,4 +147,5 @@ sound_refused t spare held n m rows s l w v e f = record {
   narrow_goal = s.narrow_goal;
   spares = e;
   helds = f;
+  rooms = y;
 }

@@ -16,7 +16,7 @@ use Rattle.fraction_tableau.specs.Narrow.{IsNarrow}
 use Rattle.fraction_tableau.specs.Refusals.{refused, clear_cell_refusal, clear_at, clear_refusal}
 use Rattle.fraction_tableau.proofs.Refusals.{refused_none}
 
-negated_zero : neg_ℚ (whole (pos 0)) ≡ whole (pos 0)
+pub negated_zero : neg_ℚ (whole (pos 0)) ≡ whole (pos 0)
 negated_zero = ring (minus (lit (pos 0))) (lit (pos 0)) [] refl
 
 pub zero_product : (x y : ℚ) (i k : ℕ) → x *ℚ y ≡ whole (pos 0) → refused Mul x y i k ≡ None

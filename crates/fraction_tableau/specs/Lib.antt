@@ -1,4 +1,5 @@
 pub mod Narrow
+pub mod KeptCells
 pub mod Refusals
 pub mod NamedTableaus
 pub mod Loading

@@ -85,8 +85,8 @@ pub record IsNamed (t : NamedTableau) : Type 0 where
   pub narrow_rows : AreNarrow t.table.rows
   pub narrow_goal : IsNarrow t.table.goal
 
--- the shape, the names, numbers that fit, and two spare rows as wide as the goal row
-pub record IsSound (t : NamedTableau) (spare held : ℕ) : Type 0 where
+-- the shape, the names, numbers that fit, and three spare rows as wide as the goal row
+pub record IsSound (t : NamedTableau) (spare held room : ℕ) : Type 0 where
   pub shaped : IsShaped t.table
   pub named : length t.names ≡ height t.table
   pub small : height t.table + width t.table < 2 ^ 32
@@ -94,3 +94,4 @@ pub record IsSound (t : NamedTableau) (spare held : ℕ) : Type 0 where
   pub narrow_goal : IsNarrow t.table.goal
   pub spares : spare ≡ length t.table.goal
   pub helds : held ≡ length t.table.goal
+  pub rooms : room ≡ length t.table.goal

@@ -1,20 +1,13 @@
 //! The lists of a new tableau.
 
-ghost use Rattle.std.specs.Prelude.{◌≡◌, ◌+◌, ◌<◌, ◌^◌, pos, replicate, map, IfOk};
+ghost use Rattle.std.specs.Prelude.{◌≡◌, ◌+◌, ◌<◌, ◌^◌, pos, replicate, IfOk};
 ghost use Rattle.std.specs.List.{range_with_len};
 ghost use Rattle.rational_theory.specs.Rational.{whole};
 ghost use Rattle.fraction_tableau.specs.NamedTableaus.{unnamed};
 
+use crate::line::Line;
 use named_row::RowId;
-use narrow_fraction::Frac;
 use std::alloc::{AllocError, Global};
-
-/// So many zeros.
-pub fn zeros(alloc: Global, count: usize) -> Result<Vec<Frac>, AllocError>
-    ensures { IfOk result (λ row. row.items ≡ replicate count (whole (pos 0))) }
-{
-    vec![in alloc; Frac::whole(0); count]
-}
 
 /// So many names of family 0 with index 0.
 pub fn blank_names(alloc: Global, count: usize) -> Result<Vec<RowId>, AllocError>
@@ -42,12 +35,12 @@ pub fn numbers(alloc: Global, first: u32, count: u32) -> Result<Vec<u32>, AllocE
 }
 
 /// So many rows of zeros.
-pub fn zero_lines(alloc: Global, count: u32, width: usize) -> Result<Vec<Vec<Frac>>, AllocError>
-    ensures { IfOk result (λ lines. map (λ row. row.items) lines.items ≡ replicate count (replicate width (whole (pos 0)))) }
+pub fn zero_lines(alloc: Global, count: u32, width: usize) -> Result<Vec<Line>, AllocError>
+    ensures { IfOk result (λ lines. lines.items ≡ replicate count (replicate (width + 1) (whole (pos 0)))) }
 {
     let mut lines = Vec::new(alloc);
     for _ in 0..count {
-        lines.push(zeros(alloc, width)?)?;
+        lines.push(Line::zero(alloc, width)?)?;
     }
     Ok(lines)
 }

@@ -10,15 +10,19 @@
 
 mod basis;
 mod fresh;
+mod kept;
 mod laws;
+mod line;
 mod lines;
 mod loading;
-mod rows;
+mod merging;
 mod tableau;
 #[cfg(test)]
 mod tests;
+mod turning;
 mod wide_cell;
 
+pub use kept::Kept;
 pub use laws::law_first_refused;
 pub use tableau::Tableau;
 pub use wide_cell::WideCell;

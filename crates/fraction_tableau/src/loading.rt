@@ -1,39 +1,46 @@
-//! The cells of a row or a goal that is loaded.
+//! The numbers of a row or a goal that is loaded.
 
-ghost use Rattle.std.specs.Prelude.{◌≡◌, ◌+◌, ◌<◌, ◌≤◌, ◌^◌, length};
+ghost use Rattle.std.specs.Prelude.{◌≡◌, ℕ, ◌<◌, ◌≤◌, ◌^◌, take, length};
 ghost use Rattle.std.specs.List.{range_with_len};
-ghost use Rattle.fraction_tableau.specs.Narrow.{IsNarrow};
-ghost use Rattle.fraction_tableau.specs.NamedTableaus.{row_cells, goal_cells};
+ghost use Rattle.rational_theory.specs.Rational.{neg_ℚ};
+ghost use Rattle.narrow_fraction.specs.Fraction.{FitsFrac};
+ghost use Rattle.fraction_tableau.specs.KeptCells.{number_in, kept_below};
 
+use crate::kept::{Kept, put};
 use named_row::{Place, Row};
-use narrow_fraction::Frac;
 
-/// A row's coefficients, and its bound last.
-pub fn copy_row(cells: &mut [Frac], from: &Row)
-    requires width { length cells.old ≡ length from.now.coefs + 1 }
-    requires short { length cells.old ≤ 2 ^ 32 }
-    ensures cells { cells.new ≡ row_cells from.now }
-    ensures narrow { IsNarrow cells.new }
+/// The coefficients that aren't 0. The answer is how many there are.
+pub fn fill_row(cells: &mut [Kept], from: &Row) -> usize
+    requires width { length cells.old ≡ length from.now.coefs }
+    requires short { length cells.old < 2 ^ 32 }
+    ensures count { result ≤ length cells.old }
+    ensures cells { take result cells.new ≡ kept_below (number_in from.now.coefs) (length cells.old) }
+    ensures fits { (m : ℕ) → m < length cells.old → FitsFrac (number_in from.now.coefs m) }
 {
-    let last = cells.len() - 1;
-    for col in 0..last {
-        cells[col] = from.get(Place::Cell(col as u32)).fitting();
+    let mut made = 0;
+    for place in 0..cells.len() {
+        let place = place as u32;
+        let cell = from.get(Place::Cell(place)).fitting();
+        made = put(cells, made, Kept { place, cell });
     }
-    cells[last] = from.get(Place::Bound).fitting();
+    made
 }
 
-/// A row's negated coefficients, and 0 last.
-pub fn copy_goal(cells: &mut [Frac], from: &Row)
-    requires width { length cells.old ≡ length from.now.coefs + 1 }
-    requires short { length cells.old ≤ 2 ^ 32 }
-    ensures cells { cells.new ≡ goal_cells from.now }
-    ensures narrow { IsNarrow cells.new }
+/// The negated coefficients that aren't 0. The answer is how many there are.
+pub fn fill_goal(cells: &mut [Kept], from: &Row) -> usize
+    requires width { length cells.old ≡ length from.now.coefs }
+    requires short { length cells.old < 2 ^ 32 }
+    ensures count { result ≤ length cells.old }
+    ensures cells { take result cells.new ≡ kept_below (λ m. neg_ℚ (number_in from.now.coefs m)) (length cells.old) }
+    ensures fits { (m : ℕ) → m < length cells.old → FitsFrac (neg_ℚ (number_in from.now.coefs m)) }
 {
-    let last = cells.len() - 1;
-    for col in 0..last {
-        cells[col] = from.get(Place::Cell(col as u32)).neg().fitting();
+    let mut made = 0;
+    for place in 0..cells.len() {
+        let place = place as u32;
+        let cell = from.get(Place::Cell(place)).neg().fitting();
+        made = put(cells, made, Kept { place, cell });
     }
-    cells[last] = Frac::whole(0).fitting();
+    made
 }
 
 /// The numbers from 0 on.

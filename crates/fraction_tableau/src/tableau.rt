@@ -5,11 +5,14 @@ ghost use Rattle.rational_theory.specs.Rational.{whole};
 ghost use Rattle.simplex_theory.specs.Tableau.{cell, basic_at, standing_at, height, width, exchange};
 ghost use Rattle.narrow_fraction.specs.Attempt.{attempt};
 ghost use Rattle.fraction_tableau.specs.Refusals.{pivot_refusal};
+ghost use Rattle.fraction_tableau.specs.KeptCells.{kept_below};
 ghost use Rattle.fraction_tableau.specs.NamedTableaus.{IsNamed, IsSpentFrom, blank_tableau, number_at, name_at, with_row, with_goal};
 
-use crate::fresh::{blank_names, numbers, zero_lines, zeros};
+use crate::fresh::{blank_names, numbers, zero_lines};
+use crate::kept::Kept;
+use crate::line::Line;
 use crate::lines::exchange_cells;
-use crate::loading::{copy_goal, copy_row, count_up};
+use crate::loading::count_up;
 use crate::wide_cell::WideCell;
 use named_row::{Row, RowId};
 use narrow_fraction::{Frac, Memory};
@@ -17,14 +20,15 @@ use std::alloc::Global;
 use std::marker::Model;
 use std::mem;
 
-/// A tableau: rows of cells with the bound last, the goal row, and which variable is where. Column `j` is variable `j`, and
+/// A tableau: rows of cells with a bound, the goal row, and which variable is where. Column `j` is variable `j`, and
 /// the slack of row `r` is variable `width + r`.
 #[derive(Drop)]
 pub struct Tableau {
-    lines: Vec<Vec<Frac>>,
-    goal: Vec<Frac>,
-    spare: Vec<Frac>,
-    held: Vec<Frac>,
+    lines: Vec<Line>,
+    goal: Line,
+    spare: Line,
+    held: Line,
+    room: Line,
     basic: Vec<u32>,
     standing: Vec<u32>,
     names: Vec<RowId>,
@@ -32,14 +36,14 @@ pub struct Tableau {
 }
 
 impl Model for Tableau {
-    ghost use Rattle.std.specs.Prelude.{map, length};
+    ghost use Rattle.std.specs.Prelude.{length};
     ghost use Rattle.fraction_tableau.specs.NamedTableaus.{NamedTableau, IsSound};
 
     ghost Value = { NamedTableau };
 
-    ghost view = { λ a. record { table = record { rows = map (λ v. v.items) a.lines.items; goal = a.goal.items; basic = a.basic.items; standing = a.standing.items }; names = a.names.items; spent = a.spent } };
+    ghost view = { λ a. record { table = record { rows = a.lines.items; goal = a.goal; basic = a.basic.items; standing = a.standing.items }; names = a.names.items; spent = a.spent } };
 
-    ghost invariant = { λ a. IsSound (record { table = record { rows = map (λ v. v.items) a.lines.items; goal = a.goal.items; basic = a.basic.items; standing = a.standing.items }; names = a.names.items; spent = a.spent }) (length a.spare.items) (length a.held.items) };
+    ghost invariant = { λ a. IsSound (record { table = record { rows = a.lines.items; goal = a.goal; basic = a.basic.items; standing = a.standing.items }; names = a.names.items; spent = a.spent }) (length a.spare) (length a.held) (length a.room) };
 }
 
 impl Tableau {
@@ -49,11 +53,12 @@ impl Tableau {
         requires { rows + width < 2 ^ 32 }
         ensures { IfOk result (λ tableau. tableau ≡ blank_tableau rows width) }
     {
-        let size = width as usize + 1;
-        let lines = zero_lines(alloc, rows, size)?;
-        let goal = zeros(alloc, size)?;
-        let spare = zeros(alloc, size)?;
-        let held = zeros(alloc, size)?;
+        let places = width as usize;
+        let lines = zero_lines(alloc, rows, places)?;
+        let goal = Line::zero(alloc, places)?;
+        let spare = Line::zero(alloc, places)?;
+        let held = Line::zero(alloc, places)?;
+        let room = Line::zero(alloc, places)?;
         let basic = numbers(alloc, width, rows)?;
         let standing = numbers(alloc, 0, width)?;
         let names = blank_names(alloc, rows as usize)?;
@@ -62,6 +67,7 @@ impl Tableau {
             goal,
             spare,
             held,
+            room,
             basic,
             standing,
             names,
@@ -101,9 +107,23 @@ impl Tableau {
     {
         let line = row as usize;
         if line == self.lines.len() {
-            self.goal[col as usize]
+            self.goal.get(col)
         } else {
-            self.lines[line][col as usize]
+            self.lines[line].get(col)
+        }
+    }
+
+    /// The cells of a row that aren't 0, ascending by place, without the bound. The goal row has the number after the last
+    /// row.
+    pub fn kept(&self, row: u32) -> &[Kept]
+        requires { row ≤ height self.now.table }
+        ensures { result.now ≡ kept_below (number_at self.now.table row) (width self.now.table) }
+    {
+        let line = row as usize;
+        if line == self.lines.len() {
+            self.goal.kept()
+        } else {
+            self.lines[line].kept()
         }
     }
 
@@ -146,7 +166,7 @@ impl Tableau {
         ensures { self.new ≡ with_row row name from.now self.old }
     {
         let line = row as usize;
-        copy_row(&mut self.lines[line], from);
+        self.lines[line].load(from);
         self.basic[line] = self.standing.len() as u32 + row;
         self.names[line] = name;
     }
@@ -158,7 +178,7 @@ impl Tableau {
         requires unspent { from.now.spent ≡ false }
         ensures { self.new ≡ with_goal from.now self.old }
     {
-        copy_goal(&mut self.goal, from);
+        self.goal.load_goal(from);
         count_up(&mut self.standing);
         self.spent = false;
     }
@@ -179,22 +199,22 @@ impl Tableau {
         ensures spent { IfErr result (λ _. IsSpentFrom self.old self.new) }
     {
         let line = row as usize;
-        let place = col as usize;
         if let Err(wide) = exchange_cells(
             &mut self.lines,
             &self.goal,
             &mut self.spare,
             &mut self.held,
+            &mut self.room,
             line,
-            place,
+            col,
         ) {
             self.spent = true;
             return Err(wide);
         }
         mem::swap(&mut self.goal, &mut self.spare);
         let leaving = self.basic[line];
-        self.basic[line] = self.standing[place];
-        self.standing[place] = leaving;
+        self.basic[line] = self.standing[col as usize];
+        self.standing[col as usize] = leaving;
         Ok(())
     }
 }

@@ -2,7 +2,7 @@
 
 ghost use Rattle.std.specs.Prelude.{◌≡◌, length, IfSome, false};
 
-use crate::{Tableau, WideCell};
+use crate::{Kept, Tableau, WideCell};
 use named_row::{Place, Row, RowId};
 use narrow_fraction::{Frac, Op, Wide};
 use std::alloc::Global;
@@ -185,6 +185,37 @@ fn cells_of_a_pivot(rt: HostRuntime) {
     assert_eq!(rt; basic(&tableau, 1), 3);
     assert_eq!(rt; standing(&tableau, 0), 0);
     assert_eq!(rt; standing(&tableau, 1), 2);
+}
+
+/// How many cells of a row aren't 0, and the first of them; none where there is no such row.
+fn first_kept(tableau: &Tableau, row: u32) -> (usize, Option<Kept>) {
+    if row > tableau.rows() {
+        return (0, None);
+    }
+    let kept = tableau.kept(row);
+    (kept.len(), kept.first().copied())
+}
+
+#[test]
+fn kept_cells_of_a_row_and_the_goal_row(rt: HostRuntime) {
+    let alloc = rt.alloc();
+    let zero = fraction(0, 1);
+    let one = fraction(1, 1);
+    let mut tableau = Tableau::new(alloc, 1, 2).expect(&rt, "memory");
+    let only = row(alloc, zero, one, one).expect(&rt, "memory");
+    let goal = row(alloc, one, zero, one).expect(&rt, "memory");
+    load(&mut tableau, 0, &only).expect(&rt, "row");
+    load_goal(&mut tableau, &goal).expect(&rt, "goal");
+    let second = Kept {
+        place: 1,
+        cell: one,
+    };
+    let negated = Kept {
+        place: 0,
+        cell: fraction(-1, 1),
+    };
+    assert_eq!(rt; first_kept(&tableau, 0), (1, Some(second)));
+    assert_eq!(rt; first_kept(&tableau, 1), (1, Some(negated)));
 }
 
 #[test]

@@ -10,18 +10,18 @@ ratio_of-requires c = not_zero _ c.if-not-is_negative.ensures
 
 pub returns-in-None : goal.returns-in-None
 returns-in-None c =
-    first_place c.args.tableau.now.table c.args.row c.args.place c.row_cell-entry.result c.goal_row_cell.result c.in-Ok.ratio c.args.best
-    (record { entry = c.row_cell-entry.ensures; negative = c.if-not-is_negative.ensures; goal = c.goal_row_cell.ensures; fits = (attempt_ok _ _ _ c.in-Ok.ensures).0; quotient = (attempt_ok _ _ _ c.in-Ok.ensures).1 })
+    first_place c.args.tableau.now.table c.args.row c.args.entry.place c.args.entry.cell c.goal_row_cell.result c.in-Ok.ratio c.args.best
+    (record { entry = c.requires.cell; negative = c.if-not-is_negative.ensures; goal = c.goal_row_cell.ensures; fits = (attempt_ok _ _ _ c.in-Ok.ensures).0; quotient = (attempt_ok _ _ _ c.in-Ok.ensures).1 })
     c.in-None.is
 
 pub returns-then-is_before : goal.returns-then-is_before
 returns-then-is_before c =
-    next_place c.args.tableau.now.table c.args.row c.args.place c.row_cell-entry.result c.goal_row_cell.result c.in-Ok.ratio c.args.best c.in-Some.other _
-    (record { entry = c.row_cell-entry.ensures; negative = c.if-not-is_negative.ensures; goal = c.goal_row_cell.ensures; fits = (attempt_ok _ _ _ c.in-Ok.ensures).0; quotient = (attempt_ok _ _ _ c.in-Ok.ensures).1 })
+    next_place c.args.tableau.now.table c.args.row c.args.entry.place c.args.entry.cell c.goal_row_cell.result c.in-Ok.ratio c.args.best c.in-Some.other _
+    (record { entry = c.requires.cell; negative = c.if-not-is_negative.ensures; goal = c.goal_row_cell.ensures; fits = (attempt_ok _ _ _ c.in-Ok.ensures).0; quotient = (attempt_ok _ _ _ c.in-Ok.ensures).1 })
     c.in-Some.is c.requires.best (c.if-is_before.ensures ∙ ap₂ (λ a b. less_by (cmp_ℚ c.in-Ok.ratio c.in-Some.other.ratio) (ltb a b)) c.standing.ensures c.standing-in-Some.ensures)
 
 pub returns-else-is_before : goal.returns-else-is_before
 returns-else-is_before c =
-    next_place c.args.tableau.now.table c.args.row c.args.place c.row_cell-entry.result c.goal_row_cell.result c.in-Ok.ratio c.args.best c.in-Some.other _
-    (record { entry = c.row_cell-entry.ensures; negative = c.if-not-is_negative.ensures; goal = c.goal_row_cell.ensures; fits = (attempt_ok _ _ _ c.in-Ok.ensures).0; quotient = (attempt_ok _ _ _ c.in-Ok.ensures).1 })
+    next_place c.args.tableau.now.table c.args.row c.args.entry.place c.args.entry.cell c.goal_row_cell.result c.in-Ok.ratio c.args.best c.in-Some.other _
+    (record { entry = c.requires.cell; negative = c.if-not-is_negative.ensures; goal = c.goal_row_cell.ensures; fits = (attempt_ok _ _ _ c.in-Ok.ensures).0; quotient = (attempt_ok _ _ _ c.in-Ok.ensures).1 })
     c.in-Some.is c.requires.best (c.if-is_before.ensures ∙ ap₂ (λ a b. less_by (cmp_ℚ c.in-Ok.ratio c.in-Some.other.ratio) (ltb a b)) c.standing.ensures c.standing-in-Some.ensures)

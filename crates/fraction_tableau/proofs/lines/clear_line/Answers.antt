@@ -1,23 +1,23 @@
-use Rattle.std.proofs.Common.{length, get_or, sym, ◌∙◌, ap, arith}
-use Rattle.std.proofs.lemmas.List.{length-map}
-use Rattle.fraction_tableau.proofs.Narrow.{are_narrow-set}
-use Rattle.simplex_theory.specs.Lines.{cleared}
-use Rattle.fraction_tableau.proofs.VecLists.{items_set, items_at, widths_set, written_at}
+use Rattle.std.proofs.Common.{◌≡◌, pos, None, List, [], get_or, set, eqb, sym, ◌∙◌, ap, arith}
+use Rattle.std.proofs.lemmas.List.{get_or_default, set-get_or}
+use Rattle.std.proofs.lemmas.Bool.{cond-false, ne_eqb}
+use Rattle.rational_theory.specs.Rational.{ℚ, whole}
+use Rattle.narrow_fraction.specs.Attempt.{attempt}
+use Rattle.fraction_tableau.specs.KeptCells.{number_in}
+use Rattle.fraction_tableau.proofs.Zeros.{zero_row, zero_row_kept}
 use Rattle.fraction_tableau.proofs.lines.clear_line.Goals as goal
 
-pub returns-clause-widths : goal.returns-clause-widths
-returns-clause-widths c = λ k.
-    let e = c.clear.auto.row ∙ ap length c.deref_mut.ensures.value in
-    rw (items_set c.args.lines.now c.args.line (get_or c.args.lines.now c.args.line c.index-lines-line.result) c.clear.new.row e)
-    (widths_set _ c.args.line c.clear.new.row (omega (arith, length-map c.args.lines.now (λ v. v.items))) (e ∙ sym (ap length (items_at c.args.lines.now c.args.line c.index-lines-line.result c.requires.inside))) k)
+pub returns-then-is_zero-clause-outcome : goal.returns-then-is_zero-clause-outcome
+returns-then-is_zero-clause-outcome c =
+    let e = get_or_default c.args.lines.now c.args.line c.index-lines-line.result [] c.requires.inside in
+    let z : number_in (get_or c.args.lines.now c.args.line []) c.args.place ≡ whole (pos 0) = ap (λ (t : List ℚ). number_in t c.args.place) (sym e) ∙ sym c.cell-factor.ensures ∙ c.is_zero.ensures.0 c.if-is_zero.true in
+    sym (ap (λ o. attempt o tt) (cond-false (eqb c.args.line c.args.skip) None _ (ne_eqb c.args.line c.args.skip c.if-line-skip.false) ∙ zero_row _ _ _ _ _ (c.requires.narrow.narrow c.args.line) z))
 
-pub returns-clause-cleared : goal.returns-clause-cleared
-returns-clause-cleared c =
-    written_at c.clear.result c.args.lines.now c.args.line c.args.skip c.index-lines-line.result c.clear.new.row (cleared c.args.place c.args.turned.now) c.requires.inside (omega arith)
-    (c.clear.auto.row ∙ ap length c.deref_mut.ensures.value) (rw (← c.deref_mut.ensures.value) c.clear.ensures.cleared)
-
-pub returns-clause-narrow : goal.returns-clause-narrow
-returns-clause-narrow c =
-    let e = c.clear.auto.row ∙ ap length c.deref_mut.ensures.value in
-    rw (items_set c.args.lines.now c.args.line (get_or c.args.lines.now c.args.line c.index-lines-line.result) c.clear.new.row e)
-    (are_narrow-set _ c.args.line c.clear.new.row c.requires.narrow c.clear.ensures.narrow (omega (arith, length-map c.args.lines.now (λ v. v.items))))
+pub returns-then-is_zero-clause-cleared : goal.returns-then-is_zero-clause-cleared
+returns-then-is_zero-clause-cleared c =
+    let e = get_or_default c.args.lines.now c.args.line c.index-lines-line.result [] c.requires.inside in
+    let z : number_in (get_or c.args.lines.now c.args.line []) c.args.place ≡ whole (pos 0) = ap (λ (t : List ℚ). number_in t c.args.place) (sym e) ∙ sym c.cell-factor.ensures ∙ c.is_zero.ensures.0 c.if-is_zero.true in
+    sym
+    (cond-false (eqb c.args.line c.args.skip) c.args.lines.now _ (ne_eqb c.args.line c.args.skip c.if-line-skip.false)
+    ∙ ap (set c.args.lines.now c.args.line) (sym (zero_row_kept c.args.place c.args.turned.now (get_or c.args.lines.now c.args.line []) c.requires.width (omega (arith, c.requires.width, c.requires.place)) z))
+    ∙ set-get_or c.args.lines.now c.args.line [])

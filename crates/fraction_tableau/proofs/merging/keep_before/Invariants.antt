@@ -1,0 +1,6 @@
+use Rattle.fraction_tableau.specs.KeptCells.{number_in}
+use Rattle.fraction_tableau.proofs.Keeps.{Keeping}
+use Rattle.fraction_tableau.proofs.merging.keep_before.Given as goal
+
+abbrev pub invariant-loop-taken : goal.invariant-loop-taken
+invariant-loop-taken l = Keeping (number_in l.row) l.fn.done.below l.place l.fn.done.made l.fn.cells l.cells l.taken l.made

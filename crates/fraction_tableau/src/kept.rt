@@ -1,0 +1,23 @@
+//! A cell with its place, and lists of cells that are filled in order.
+
+ghost use Rattle.std.specs.Prelude.{◌≡◌, ◌+◌, ◌<◌, ◌++◌, take, length};
+ghost use Rattle.fraction_tableau.specs.KeptCells.{kept_at};
+
+use narrow_fraction::Frac;
+
+/// A place of a row, counted from 0, and its cell, which isn't 0.
+#[derive(Debug, Clone, Copy, PartialEq, Eq)]
+pub struct Kept {
+    pub place: u32,
+    pub cell: Frac,
+}
+
+/// Puts a cell behind the first `made`, unless it is 0. The answer is how many there are then.
+pub fn put(cells: &mut [Kept], made: usize, kept: Kept) -> usize
+    requires { made < length cells.old }
+    ensures count { result ≡ made + length (kept_at kept.place kept.cell) }
+    ensures cells { take result cells.new ≡ take made cells.old ++ kept_at kept.place kept.cell }
+{
+    cells[made] = kept;
+    if kept.cell.is_zero() { made } else { made + 1 }
+}

@@ -1,0 +1,208 @@
+//! A row and the turned row merged, place by place in order, and only at places where one of them isn't 0.
+
+ghost use Rattle.std.specs.Prelude.{◌≡◌, ℕ, ◌+◌, ◌<◌, ◌≤◌, ◌^◌, None, Some, pos, cond, eqb, length, take, IfOk, IfErr};
+ghost use Rattle.rational_theory.specs.Rational.{ℚ, whole, neg_ℚ, ◌+ℚ◌, ◌*ℚ◌};
+ghost use Rattle.narrow_fraction.specs.Fraction.{FitsFrac};
+ghost use Rattle.narrow_fraction.specs.Attempt.{attempt, earlier, first_below};
+ghost use Rattle.narrow_fraction.specs.declared.wide.Op.TheVariants.{Mul, Sub};
+ghost use Rattle.fraction_tableau.specs.Narrow.{IsNarrow};
+ghost use Rattle.fraction_tableau.specs.Refusals.{refused, clear_at};
+ghost use Rattle.fraction_tableau.specs.KeptCells.{number_in, kept_below, merged_at, IsMerged};
+
+use crate::kept::{Kept, put};
+use crate::line::Line;
+use crate::wide_cell::{Spot, WideCell};
+use narrow_fraction::Frac;
+
+/// How far a merge is: the places below `below` are done, which are `taken` cells of the row and `made` of the result.
+#[derive(Clone, Copy)]
+pub struct Merged {
+    pub below: u32,
+    pub taken: usize,
+    pub made: usize,
+}
+
+/// By what a row of that number is cleared: its new cell at the pivot's place, and the old one there.
+#[derive(Clone, Copy)]
+pub struct Clearing {
+    pub number: u32,
+    pub own: Kept,
+    pub factor: Frac,
+}
+
+/// The row's cells before `place`, as they are.
+pub fn keep_before(cells: &mut [Kept], row: &Line, done: Merged, place: u32) -> Merged
+    requires width { length row.now ≡ length cells.old + 1 }
+    requires place { place ≤ length cells.old }
+    requires order { done.below ≤ place }
+    requires taken { done.taken ≡ length (kept_below (number_in row.now) done.below) }
+    requires made { done.made ≤ done.below }
+    ensures below { result.below ≡ place }
+    ensures taken { result.taken ≡ length (kept_below (number_in row.now) place) }
+    ensures made { result.made ≤ place }
+    ensures cells { (h : ℕ → ℚ) → ((m : ℕ) → done.below ≤ m → m < place → h m ≡ number_in row.now m) → take done.made cells.old ≡ kept_below h done.below → take result.made cells.new ≡ kept_below h place }
+{
+    let kept = row.kept();
+    let mut made = done.made;
+    for taken in done.taken..kept.len() {
+        let next = kept[taken];
+        if next.place >= place {
+            return Merged {
+                below: place,
+                taken,
+                made,
+            };
+        }
+        cells[made] = next;
+        made += 1;
+    }
+    Merged {
+        below: place,
+        taken: kept.len(),
+        made,
+    }
+}
+
+/// A cell of a row, and how many of the row's cells are taken with it.
+#[derive(Clone, Copy)]
+struct Taken {
+    cell: Frac,
+    taken: usize,
+}
+
+/// The cell at a place before which `taken` cells stand.
+fn take_at(row: &Line, taken: usize, place: u32) -> Taken
+    requires place { place + 1 < length row.now }
+    requires taken { taken ≡ length (kept_below (number_in row.now) place) }
+    ensures cell { result.cell ≡ number_in row.now place }
+    ensures taken { result.taken ≡ length (kept_below (number_in row.now) (place + 1)) }
+{
+    let kept = row.kept();
+    if taken < kept.len() {
+        let next = kept[taken];
+        if next.place == place {
+            return Taken {
+                cell: next.cell,
+                taken: taken + 1,
+            };
+        }
+    }
+    Taken {
+        cell: Frac::whole(0),
+        taken,
+    }
+}
+
+/// A number less `factor` times the turned row's.
+pub fn cleared_number(
+    spot: Spot,
+    number: Frac,
+    turned: Frac,
+    factor: Frac,
+) -> Result<Frac, WideCell>
+    ensures outcome { result ≡ attempt (earlier (refused Mul factor turned spot.row spot.col) (refused Sub number (factor *ℚ turned) spot.row spot.col)) (number +ℚ neg_ℚ (factor *ℚ turned)) }
+    ensures fits { IfOk result (λ value. FitsFrac value) }
+{
+    let part = match spot.times(factor, turned) {
+        Ok(value) => value,
+        Err(wide) => return Err(wide),
+    };
+    spot.minus(number, part)
+}
+
+/// The new cell at the place of a cell of the turned row.
+fn cleared_cell(clearing: &Clearing, cell: Frac, turned: &Kept) -> Result<Frac, WideCell>
+    requires { FitsFrac clearing.now.own.cell }
+    ensures outcome { result ≡ attempt (cond (eqb turned.now.place clearing.now.own.place) None (earlier (refused Mul clearing.now.factor turned.now.cell clearing.now.number turned.now.place) (refused Sub cell (clearing.now.factor *ℚ turned.now.cell) clearing.now.number turned.now.place))) (cond (eqb turned.now.place clearing.now.own.place) clearing.now.own.cell (cell +ℚ neg_ℚ (clearing.now.factor *ℚ turned.now.cell))) }
+    ensures fits { IfOk result (λ value. FitsFrac value) }
+{
+    if turned.place == clearing.own.place {
+        return Ok(clearing.own.cell);
+    }
+    let spot = Spot {
+        row: clearing.number,
+        col: turned.place,
+    };
+    cleared_number(spot, cell, turned.cell, clearing.factor)
+}
+
+/// The next cell of the turned row, and the row's cells before it.
+fn merge_next(
+    cells: &mut [Kept],
+    row: &Line,
+    turned: &Line,
+    index: usize,
+    clearing: &Clearing,
+    done: Merged,
+) -> Result<Merged, WideCell>
+    requires width { length row.now ≡ length cells.old + 1 }
+    requires widths { length turned.now ≡ length row.now }
+    requires short { length row.now < 2 ^ 32 }
+    requires own { number_in turned.now clearing.now.own.place ≡ whole (pos 0) → ⊥ }
+    requires factor { clearing.now.factor ≡ number_in row.now clearing.now.own.place }
+    requires fits { FitsFrac clearing.now.own.cell }
+    requires narrow { IsNarrow row.now }
+    requires inside { index < length (kept_below (number_in turned.now) (length cells.old)) }
+    requires index { index ≡ length (kept_below (number_in turned.now) done.below) }
+    requires merged { IsMerged clearing.now.number clearing.now.own.place clearing.now.own.cell turned.now row.now cells.old done }
+    ensures merged { IfOk result (λ next. IsMerged clearing.now.number clearing.now.own.place clearing.now.own.cell turned.now row.now cells.new next) }
+    ensures index { IfOk result (λ next. index + 1 ≡ length (kept_below (number_in turned.now) next.below)) }
+    ensures refused { IfErr result (λ wide. first_below (clear_at clearing.now.number clearing.now.own.place turned.now row.now) (length cells.old) ≡ Some wide) }
+{
+    let others = turned.kept();
+    let next = others[index];
+    let done = keep_before(cells, row, done, next.place);
+    let own = take_at(row, done.taken, next.place);
+    let cell = match cleared_cell(clearing, own.cell, &next) {
+        Ok(cell) => cell,
+        Err(wide) => return Err(wide),
+    };
+    let made = put(
+        cells,
+        done.made,
+        Kept {
+            place: next.place,
+            cell,
+        },
+    );
+    Ok(Merged {
+        below: next.place + 1,
+        taken: own.taken,
+        made,
+    })
+}
+
+/// The cells of the row cleared by the turned row. The answer is how many there are.
+pub fn merge(
+    cells: &mut [Kept],
+    row: &Line,
+    turned: &Line,
+    clearing: &Clearing,
+) -> Result<usize, WideCell>
+    requires width { length row.now ≡ length cells.old + 1 }
+    requires widths { length turned.now ≡ length row.now }
+    requires short { length row.now < 2 ^ 32 }
+    requires own { number_in turned.now clearing.now.own.place ≡ whole (pos 0) → ⊥ }
+    requires factor { clearing.now.factor ≡ number_in row.now clearing.now.own.place }
+    requires fits { FitsFrac clearing.now.own.cell }
+    requires narrow { IsNarrow row.now }
+    ensures passed { IfOk result (λ _. first_below (clear_at clearing.now.number clearing.now.own.place turned.now row.now) (length cells.old) ≡ None) }
+    ensures refused { IfErr result (λ wide. first_below (clear_at clearing.now.number clearing.now.own.place turned.now row.now) (length cells.old) ≡ Some wide) }
+    ensures count { IfOk result (λ count. count ≤ length cells.old) }
+    ensures cells { IfOk result (λ count. take count cells.new ≡ kept_below (merged_at clearing.now.own.place clearing.now.own.cell turned.now row.now) (length cells.old)) }
+    ensures fits { IfOk result (λ _. (m : ℕ) → m < length cells.old → FitsFrac (merged_at clearing.now.own.place clearing.now.own.cell turned.now row.now m)) }
+{
+    let width = cells.len() as u32;
+    let mut done = Merged {
+        below: 0,
+        taken: 0,
+        made: 0,
+    };
+    for index in 0..turned.kept().len() {
+        match merge_next(cells, row, turned, index, clearing, done) {
+            Ok(next) => done = next,
+            Err(wide) => return Err(wide),
+        }
+    }
+    Ok(keep_before(cells, row, done, width).made)
+}

@@ -1,0 +1,65 @@
+//! The cells of the pivot's own row, turned.
+
+ghost use Rattle.std.specs.Prelude.{◌≡◌, ℕ, ◌+◌, ◌<◌, ◌≤◌, ◌^◌, None, Some, pos, cond, eqb, length, take, IfOk, IfErr};
+ghost use Rattle.rational_theory.specs.Rational.{whole, inverse_ℚ, ◌*ℚ◌};
+ghost use Rattle.narrow_fraction.specs.Fraction.{FitsFrac};
+ghost use Rattle.narrow_fraction.specs.Attempt.{attempt, first_below};
+ghost use Rattle.narrow_fraction.specs.declared.wide.Op.TheVariants.{Div};
+ghost use Rattle.fraction_tableau.specs.Refusals.{refused, turn_at};
+ghost use Rattle.fraction_tableau.specs.KeptCells.{number_in, kept_below, turned_cell};
+
+use crate::kept::{Kept, put};
+use crate::line::Line;
+use crate::wide_cell::{Spot, WideCell};
+use narrow_fraction::Frac;
+
+/// One cell of the pivot's row: over the pivot, or `own` at its place.
+fn turn_cell(kept: &Kept, number: u32, own: &Kept, pivot: Frac) -> Result<Frac, WideCell>
+    requires pivot { pivot ≡ whole (pos 0) → ⊥ }
+    requires fits { FitsFrac own.now.cell }
+    ensures outcome { result ≡ attempt (cond (eqb kept.now.place own.now.place) None (refused Div kept.now.cell pivot number kept.now.place)) (cond (eqb kept.now.place own.now.place) own.now.cell (kept.now.cell *ℚ inverse_ℚ pivot)) }
+    ensures fits { IfOk result (λ value. FitsFrac value) }
+{
+    if kept.place == own.place {
+        return Ok(own.cell);
+    }
+    let spot = Spot {
+        row: number,
+        col: kept.place,
+    };
+    spot.over(kept.cell, pivot)
+}
+
+/// The cells of the pivot's row over the pivot, and `own` at its place. The answer is how many there are.
+pub fn turn_cells(
+    cells: &mut [Kept],
+    row: &Line,
+    number: u32,
+    own: &Kept,
+    pivot: Frac,
+) -> Result<usize, WideCell>
+    requires width { length row.now ≡ length cells.old + 1 }
+    requires short { length row.now < 2 ^ 32 }
+    requires pivot { pivot ≡ whole (pos 0) → ⊥ }
+    requires is { pivot ≡ number_in row.now own.now.place }
+    requires fits { FitsFrac own.now.cell }
+    ensures passed { IfOk result (λ _. first_below (turn_at number own.now.place row.now) (length cells.old) ≡ None) }
+    ensures refused { IfErr result (λ wide. first_below (turn_at number own.now.place row.now) (length cells.old) ≡ Some wide) }
+    ensures count { IfOk result (λ count. count ≤ length cells.old) }
+    ensures cells { IfOk result (λ count. take count cells.new ≡ kept_below (turned_cell own.now.place own.now.cell row.now) (length cells.old)) }
+    ensures fits { IfOk result (λ _. (m : ℕ) → m < length cells.old → FitsFrac (turned_cell own.now.place own.now.cell row.now m)) }
+{
+    let kept = row.kept();
+    let mut made = 0;
+    for index in 0..kept.len() {
+        let next = kept[index];
+        match turn_cell(&next, number, own, pivot) {
+            Ok(cell) => {
+                let place = next.place;
+                made = put(cells, made, Kept { place, cell });
+            }
+            Err(wide) => return Err(wide),
+        }
+    }
+    Ok(made)
+}
