@@ -1,13 +1,11 @@
 -- Lists that a loop makes or fills, place by place.
-use Rattle.std.proofs.Common.{◌≡◌, ℕ, zero, suc, pos, List, [], ◌∷◌, ◌++◌, replicate, length, get_or, set, take, ◌+◌, ◌-◌, ◌<◌, ◌≤◌, ◌⊎◌, inl, inr, add-one, refl, sym, ◌∙◌, ap, ap₂, subst, arith, length-append}
+use Rattle.std.proofs.Common.{◌≡◌, ℕ, zero, suc, List, [], ◌∷◌, ◌++◌, replicate, length, get_or, set, take, ◌+◌, ◌<◌, ◌≤◌, ◌⊎◌, inl, inr, add-one, refl, sym, ◌∙◌, ap, ap₂, subst, arith}
 use Rattle.std.proofs.Math.ListN.{length-set}
 use Rattle.std.specs.List.{range_with_len}
-use Rattle.std.proofs.lemmas.List.{ext_get_or, get_or-set_same, get_or-set_other, get_or_append_left, get_or-append_right, get_or_past, replicate-append-replicate}
+use Rattle.std.proofs.lemmas.List.{ext_get_or, get_or-set_same, get_or-set_other, replicate-append-replicate}
 use Rattle.std.proofs.lemmas.List.FromFn.{length-range_with_len, get_or-range_with_len}
-use Rattle.std.proofs.lemmas.Bool.{cases_eq}
-use Rattle.rational_theory.specs.Rational.{ℚ, whole}
+use Rattle.rational_theory.specs.Rational.{ℚ}
 use Rattle.narrow_fraction.specs.Fraction.{FitsFrac}
-use Rattle.narrow_fraction.proofs.Zeros.{zero_fits}
 use Rattle.fraction_tableau.specs.declared.kept.Kept.{Kept}
 use Rattle.fraction_tableau.specs.KeptCells.{kept_at, kept_below}
 use Rattle.fraction_tableau.proofs.KeptCells.{at_most_one, kept_more}

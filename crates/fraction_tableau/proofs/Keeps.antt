@@ -1,11 +1,11 @@
 -- The walk over a row's cells before a place, which are copied.
-use Rattle.std.proofs.Common.{◌≡◌, ℕ, pos, List, [], ◌∷◌, ◌++◌, length, get_or, set, take, ◌+◌, ◌<◌, ◌≤◌, refl, sym, ◌∙◌, ap, ap₂, subst, arith}
+use Rattle.std.proofs.Common.{◌≡◌, ℕ, pos, List, ◌++◌, length, get_or, set, take, ◌+◌, ◌<◌, ◌≤◌, refl, sym, ◌∙◌, ap, ap₂, arith}
 use Rattle.std.proofs.Math.ListN.{length-set}
 use Rattle.std.proofs.lemmas.List.{take_more_set}
 use Rattle.rational_theory.specs.Rational.{ℚ, whole}
 use Rattle.fraction_tableau.specs.declared.kept.Kept.{Kept}
 use Rattle.fraction_tableau.specs.KeptCells.{kept_at, kept_below}
-use Rattle.fraction_tableau.proofs.KeptCells.{IsNext, next_in, step_kept, step_count, zeros_skip, same_count, kept_mono, kept_some}
+use Rattle.fraction_tableau.proofs.KeptCells.{next_in, step_kept, step_count, zeros_skip, same_count, kept_mono, kept_some}
 
 pub record Keeping (f : ℕ → ℚ) (from place start : ℕ) (old now : List Kept) (i made : ℕ) : Type 0 where
   pub at : ℕ

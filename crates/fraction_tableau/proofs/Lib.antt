@@ -1,9 +1,7 @@
 pub mod KeptCells
 pub mod Keeps
 pub mod Merges
-pub mod DoneRows
 pub mod Zeros
-pub mod Turns
 pub mod Others
 pub mod Pivots
 pub mod Filling

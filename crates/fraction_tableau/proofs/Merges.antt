@@ -1,5 +1,5 @@
 -- The steps of a merge and of a turn: from one cell of the pivot's row to the next.
-use Rattle.std.proofs.Common.{◌≡◌, ℕ, zero, suc, pos, Option, Some, None, List, [], ◌∷◌, ◌++◌, length, get_or, take, cond, eqb, ◌+◌, ◌<◌, ◌≤◌, ◌⊎◌, inl, inr, add-one, refl, sym, ◌∙◌, ap, ap₂, subst, arith}
+use Rattle.std.proofs.Common.{◌≡◌, ℕ, zero, suc, pos, Option, Some, None, List, ◌++◌, length, take, cond, eqb, ◌+◌, ◌<◌, ◌≤◌, ◌⊎◌, inl, inr, add-one, refl, sym, ◌∙◌, ap, ap₂, subst, arith}
 use Rattle.std.proofs.lemmas.Bool.{cases_eq, cond-true, cond-false, eq-eqb, ne_eqb}
 use Rattle.rational_theory.specs.Rational.{ℚ, whole, neg_ℚ, inverse_ℚ, ◌+ℚ◌, ◌*ℚ◌}
 use Rattle.rational_theory.proofs.Arithmetic.{*ℚ-zero, +ℚ-zero, *ℚ_comm, neg-*ℚ}
@@ -10,13 +10,12 @@ use Rattle.simplex_theory.specs.Lines.{turned, cleared}
 use Rattle.simplex_theory.proofs.Lines.{turned_at, turned_other, cleared_at, cleared_other}
 use Rattle.narrow_fraction.specs.Fraction.{FitsFrac}
 use Rattle.narrow_fraction.specs.Attempt.{earlier, first_below}
-use Rattle.narrow_fraction.proofs.Attempt.{first_next, first_is}
+use Rattle.narrow_fraction.proofs.Attempt.{first_next}
 use Rattle.narrow_fraction.proofs.Zeros.{zero_fits}
 use Rattle.narrow_fraction.specs.declared.wide.Op.TheVariants.{Mul, Div, Sub}
 use Rattle.fraction_tableau.specs.Narrow.{IsNarrow}
 use Rattle.fraction_tableau.specs.Refusals.{refused, turn_at, turn_refusal, clear_at, clear_refusal}
 use Rattle.fraction_tableau.specs.declared.kept.Kept.{Kept}
-use Rattle.fraction_tableau.specs.declared.merging.Merged.{Merged}
 use Rattle.fraction_tableau.specs.declared.wide_cell.WideCell.{WideCell}
 use Rattle.fraction_tableau.specs.KeptCells.{number_in, kept_at, kept_below, turned_cell, merged_at, IsMerged}
 use Rattle.fraction_tableau.proofs.Zeros.{negated_zero, zero_quotient, zero_cell}

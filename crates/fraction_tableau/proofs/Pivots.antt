@@ -1,5 +1,5 @@
 -- The parts of a pivot put together.
-use Rattle.std.proofs.Common.{◌≡◌, ℕ, pos, Some, None, Result, Ok, Err, IfOk, List, [], map, length, get_or, cond, eqb, ◌<◌, ◌⊎◌, inl, inr, sym, ◌∙◌, ap, ap₂, arith}
+use Rattle.std.proofs.Common.{◌≡◌, ℕ, pos, Some, None, List, [], map, length, get_or, cond, eqb, ◌<◌, ◌⊎◌, inl, inr, sym, ◌∙◌, ap, ap₂, arith}
 use Rattle.std.proofs.Math.ListN.{set, length-set}
 use Rattle.std.proofs.lemmas.List.{ext_get_or, get_or-set_same, get_or-set_other, get_or-map, length-map}
 use Rattle.std.proofs.lemmas.Bool.{cases_eq, cond-true, eq-eqb}
@@ -9,10 +9,6 @@ use Rattle.narrow_fraction.specs.Attempt.{earlier, first_below}
 use Rattle.narrow_fraction.proofs.Attempt.{first_same}
 use Rattle.fraction_tableau.specs.Refusals.{turn_refusal, clear_refusal, line_refusal, pivot_refusal, exchanged_rows}
 use Rattle.fraction_tableau.specs.declared.wide_cell.WideCell.{WideCell}
-
-pub ok_both : {A E : Type 0} (r : Result A E) (P Q R : Type 0) → IfOk r (λ _. P) → IfOk r (λ _. Q) → (P → Q → R) → IfOk r (λ _. R)
-ok_both (Ok x) P Q R p q f = f p q
-ok_both (Err e) P Q R p q f = p
 
 -- the other rows are refused at the same place, before and after the pivot's own row is turned
 line_kept : (r j : ℕ) (e : List ℚ) (p : ℚ) (rows : List (List ℚ)) (u : List ℚ) (i : ℕ) → line_refusal r j e p (set rows r u) i ≡ line_refusal r j e p rows i
@@ -53,19 +49,6 @@ pub pivot_second : (r j : ℕ) (rows : List (List ℚ)) (goal e g : List ℚ) (p
     → g ≡ goal → n ≡ length rows → clear_refusal n j e g p ≡ Some w → pivot_refusal r j rows goal ≡ Some w
 pivot_second r j rows goal e g p n w a b f h l q =
     pivot_then r j rows goal e p a b f ∙ ap (λ o. earlier o (first_below (line_refusal r j e p rows) (length rows))) (ap₂ (λ m d. clear_refusal m j e d p) (sym l) (sym h) ∙ q)
-
-pub pivot_last : (r j : ℕ) (rows now : List (List ℚ)) (goal e g u : List ℚ) (p : ℚ) (n : ℕ) → e ≡ turned j (get_or rows r []) → p ≡ get_or (get_or rows r []) j (whole (pos 0)) → turn_refusal r j (get_or rows r []) ≡ None
-    → g ≡ goal → n ≡ length rows → clear_refusal n j e g p ≡ None → now ≡ set rows r u → first_below (line_refusal r j e p now) n ≡ pivot_refusal r j rows goal
-pivot_last r j rows now goal e g u p n a b f h l q k =
-    ap₂ (λ t m. first_below (line_refusal r j e p t) m) k l ∙ lines_kept r j e p rows u (length rows)
-    ∙ sym (pivot_then r j rows goal e p a b f ∙ ap (λ o. earlier o (first_below (line_refusal r j e p rows) (length rows))) (ap₂ (λ m d. clear_refusal m j e d p) (sym l) (sym h) ∙ q))
-
-pub rows_ok : {A E : Type 0} (o : Result A E) (r j n : ℕ) (rows then now : List (List ℚ)) (e : List ℚ) → e ≡ turned j (get_or rows r []) → r < length rows → n ≡ length rows → length now ≡ length rows → then ≡ set rows r e
-    → IfOk o (λ _. (k : ℕ) → k < n → (k ≡ r → ⊥) → get_or now k [] ≡ cleared j e (get_or then k [])) → IfOk o (λ _. get_or now r [] ≡ get_or then r []) → IfOk o (λ _. now ≡ exchanged_rows r j rows)
-rows_ok (Err x) r j n rows then now e a h m l t f g = f
-rows_ok (Ok x) r j n rows then now e a h m l t f g =
-    rows_done r j rows now e a h l (g ∙ ap (λ (q : List (List ℚ)). get_or q r []) t ∙ get_or-set_same rows r e [] h)
-    (λ k b c. f k (rw m b) c ∙ ap (cleared j e) (ap (λ (q : List (List ℚ)). get_or q k []) t ∙ get_or-set_other rows r k e [] c))
 
 -- the rows come last
 pub pivot_third : (r j : ℕ) (rows : List (List ℚ)) (goal e : List ℚ) (p : ℚ) → e ≡ turned j (get_or rows r []) → p ≡ get_or (get_or rows r []) j (whole (pos 0)) → turn_refusal r j (get_or rows r []) ≡ None

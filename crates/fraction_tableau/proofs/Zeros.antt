@@ -1,6 +1,6 @@
 -- Operations with 0 are never refused, and change nothing.
-use Rattle.std.proofs.Common.{◌≡◌, ℕ, pos, zero, suc, Bool, true, false, cond, eqb, Option, None, List, [], length, get_or, set, ◌<◌, ◌⊎◌, inl, inr, refl, sym, ◌∙◌, ap, ap₂, subst}
-use Rattle.std.proofs.lemmas.List.{set-get_or, ext_get_or}
+use Rattle.std.proofs.Common.{◌≡◌, ℕ, pos, zero, suc, Bool, true, false, cond, eqb, Option, None, List, [], length, get_or, ◌<◌, ◌⊎◌, inl, inr, refl, sym, ◌∙◌, ap, ap₂, subst}
+use Rattle.std.proofs.lemmas.List.{ext_get_or}
 use Rattle.std.proofs.lemmas.Bool.{cases_eq, cond_both}
 use Rattle.rational_theory.specs.Rational.{ℚ, whole, neg_ℚ, inverse_ℚ, ◌+ℚ◌, ◌*ℚ◌}
 use Rattle.rational_theory.proofs.Arithmetic.{+ℚ-zero}
@@ -40,11 +40,6 @@ pub zero_cell : (i j : ℕ) (f u : ℚ) (d : List ℚ) (k : ℕ) → IsNarrow d 
 zero_cell i j f u d k n e =
     cond_both (eqb k j) None (earlier (refused Mul f u i k) (refused Sub (get_or d k (whole (pos 0))) (f *ℚ u) i k)) (λ o. o ≡ None)
     (λ _. refl) (λ _. ap₂ earlier (zero_product f u i k e) (zero_difference _ _ i k (n.fits k) e))
-
-pub zero_kept : (j : ℕ) (f u : ℚ) (d : List ℚ) (k : ℕ) → f *ℚ u ≡ whole (pos 0) → d ≡ cond (eqb k j) d (set d k (get_or d k (whole (pos 0)) +ℚ neg_ℚ (f *ℚ u)))
-zero_kept j f u d k e =
-    either (eqb k j) (set d k (get_or d k (whole (pos 0)) +ℚ neg_ℚ (f *ℚ u))) d
-    (ap (set d k) (sym (same_less_zero (get_or d k (whole (pos 0))) (f *ℚ u) e)) ∙ set-get_or d k (whole (pos 0)))
 
 -- ---- a whole row, where its cell at the pivot's place is 0
 first_none : {E : Type 0} (f : ℕ → Option E) (n : ℕ) → ((k : ℕ) → f k ≡ None) → first_below f n ≡ None

@@ -1,4 +1,4 @@
-use Rattle.std.proofs.Common.{◌≡◌, length, take, ◌++◌, ◌∷◌, [], ◌+◌, sym, ◌∙◌, ap, arith}
+use Rattle.std.proofs.Common.{length, take, sym, ◌∙◌, ap, arith}
 use Rattle.std.proofs.lemmas.List.{take-set, take_more_set, append-nil}
 use Rattle.fraction_tableau.proofs.KeptCells.{clash, kept_zero, kept_some}
 use Rattle.fraction_tableau.proofs.kept.put.Goals as goal

@@ -1,4 +1,4 @@
-use Rattle.std.proofs.Common.{◌∙◌, ap, arith}
+use Rattle.std.proofs.Common.{◌∙◌, ap}
 use Rattle.rational_theory.specs.Rational.{neg_ℚ}
 use Rattle.named_row.specs.Sheets.{at_place}
 use Rattle.fraction_tableau.specs.KeptCells.{number_in}

@@ -1,6 +1,5 @@
 use Rattle.std.proofs.Common.{length, ◌-◌, arith}
-use Rattle.fraction_tableau.specs.KeptCells.{number_in}
-use Rattle.fraction_tableau.proofs.Keeps.{keeping_none, keeping_room, keeping_next, keeping_stop, keeping_end}
+use Rattle.fraction_tableau.proofs.Keeps.{keeping_next, keeping_stop, keeping_end}
 use Rattle.fraction_tableau.proofs.merging.keep_before.Goals as goal
 
 pub returns-then-next-place-clause-taken : goal.returns-then-next-place-clause-taken

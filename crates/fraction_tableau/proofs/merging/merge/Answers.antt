@@ -1,5 +1,4 @@
-use Rattle.std.proofs.Common.{◌≡◌, ℕ, length, ◌-◌, sym, ◌∙◌, ap, subst, arith}
-use Rattle.fraction_tableau.specs.Refusals.{clear_at}
+use Rattle.std.proofs.Common.{length, ◌∙◌, ap, arith}
 use Rattle.fraction_tableau.specs.KeptCells.{number_in, kept_below, merged_at}
 use Rattle.fraction_tableau.proofs.KeptCells.{same_count, same_width}
 use Rattle.fraction_tableau.proofs.Merges.{quiet_number, merge_passed, merge_fits}

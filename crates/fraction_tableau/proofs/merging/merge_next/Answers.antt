@@ -1,4 +1,4 @@
-use Rattle.std.proofs.Common.{◌≡◌, ℕ, length, ◌+◌, ◌-◌, ◌<◌, List, sym, ◌∙◌, ap, subst, arith}
+use Rattle.std.proofs.Common.{length, ◌+◌, ◌<◌, sym, ◌∙◌, ap, subst, arith}
 use Rattle.narrow_fraction.proofs.Attempt.{attempt_ok, attempt_err, first_is}
 use Rattle.fraction_tableau.specs.Refusals.{clear_at}
 use Rattle.fraction_tableau.specs.KeptCells.{number_in, kept_below, merged_at}

@@ -1,4 +1,4 @@
-use Rattle.std.proofs.Common.{◌≡◌, ℕ, length, pos, ◌-◌, refl, sym, ◌∙◌, ap, arith}
+use Rattle.std.proofs.Common.{◌≡◌, length, pos, refl, sym, ◌∙◌, ap, arith}
 use Rattle.rational_theory.specs.Rational.{whole}
 use Rattle.narrow_fraction.proofs.Attempt.{attempt_ok, attempt_err, first_is}
 use Rattle.fraction_tableau.specs.Refusals.{turn_at}

@@ -1,6 +1,6 @@
-use Rattle.std.proofs.Common.{◌≡◌, length, ◌-◌, ◌∙◌, arith}
+use Rattle.std.proofs.Common.{length, ◌-◌, ◌∙◌, arith}
 use Rattle.fraction_tableau.specs.KeptCells.{number_in}
-use Rattle.fraction_tableau.proofs.KeptCells.{reached_none, reached_next, reached_here, reached_past, reached_end, other_side}
+use Rattle.fraction_tableau.proofs.KeptCells.{reached_next, reached_here, reached_past, reached_end, other_side}
 use Rattle.fraction_tableau.proofs.line.Line.cell.Goals as goal
 
 pub returns-then-kept-place-2 : goal.returns-then-kept-place-2

@@ -1,6 +1,6 @@
-use Rattle.std.proofs.Common.{◌≡◌, ℕ, pos, None, Some, Result, IfOk, length, take, ◌+◌, ◌-◌, ◌≤◌, ◌<◌, refl, sym, ◌∙◌, ap, subst, arith}
+use Rattle.std.proofs.Common.{◌≡◌, ℕ, None, Some, Result, IfOk, length, ◌+◌, ◌≤◌, ◌<◌, refl, sym, ◌∙◌, ap, subst, arith}
 use Rattle.std.proofs.lemmas.List.{with_items_is}
-use Rattle.rational_theory.specs.Rational.{ℚ, whole, neg_ℚ, inverse_ℚ, ◌*ℚ◌}
+use Rattle.rational_theory.specs.Rational.{ℚ, neg_ℚ, inverse_ℚ, ◌*ℚ◌}
 use Rattle.simplex_theory.specs.Lines.{cleared}
 use Rattle.simplex_theory.proofs.Lines.{length-cleared}
 use Rattle.narrow_fraction.specs.Attempt.{attempt, earlier, first_below}

@@ -1,9 +1,9 @@
-use Rattle.std.proofs.Common.{◌≡◌, ℕ, pos, length, map, take, ◌++◌, ◌∷◌, [], ◌+◌, ◌≤◌, ◌<◌, sym, ◌∙◌, ap, subst, arith}
+use Rattle.std.proofs.Common.{◌≡◌, pos, length, map, ◌+◌, ◌≤◌, sym, ◌∙◌, ap, subst, arith}
 use Rattle.std.proofs.lemmas.List.{with_items_is, length_push, length-map, get_or-map}
 use Rattle.rational_theory.specs.Rational.{whole, neg_ℚ}
 use Rattle.named_row.specs.Sheets.{at_place}
 use Rattle.fraction_tableau.specs.Narrow.{IsNarrow}
-use Rattle.fraction_tableau.specs.NamedTableaus.{row_cells, goal_cells}
+use Rattle.fraction_tableau.specs.NamedTableaus.{goal_cells}
 use Rattle.fraction_tableau.specs.KeptCells.{number_in, kept_below}
 use Rattle.fraction_tableau.proofs.KeptCells.{open_row, line_new, line_narrow, front_is, last_is}
 use Rattle.fraction_tableau.proofs.line.Line.load_goal.Goals as goal

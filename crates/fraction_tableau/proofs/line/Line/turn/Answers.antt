@@ -1,6 +1,6 @@
-use Rattle.std.proofs.Common.{◌≡◌, ℕ, pos, None, Some, length, take, ◌+◌, ◌-◌, ◌≤◌, ◌<◌, refl, sym, ◌∙◌, ap, subst, arith}
+use Rattle.std.proofs.Common.{◌≡◌, ℕ, None, Some, length, ◌+◌, ◌≤◌, ◌<◌, refl, sym, ◌∙◌, ap, subst, arith}
 use Rattle.std.proofs.lemmas.List.{with_items_is}
-use Rattle.rational_theory.specs.Rational.{ℚ, whole, inverse_ℚ, ◌*ℚ◌}
+use Rattle.rational_theory.specs.Rational.{ℚ, inverse_ℚ, ◌*ℚ◌}
 use Rattle.rational_theory.proofs.Ring.{one-*ℚ}
 use Rattle.simplex_theory.specs.Lines.{turned}
 use Rattle.simplex_theory.proofs.Lines.{length-turned}
@@ -11,7 +11,7 @@ use Rattle.fraction_tableau.specs.Narrow.{IsNarrow}
 use Rattle.fraction_tableau.specs.Refusals.{refused, turn_at}
 use Rattle.fraction_tableau.specs.KeptCells.{number_in, kept_below, turned_cell}
 use Rattle.fraction_tableau.proofs.KeptCells.{open_row, same_width, empty_line, length-dense, line_new, line_narrow}
-use Rattle.fraction_tableau.proofs.Turns.{turns_first}
+use Rattle.fraction_tableau.proofs.Refusals.{turns_first}
 use Rattle.fraction_tableau.proofs.Merges.{turn_stopped, turn_ended, turned_number, turned_last}
 use Rattle.fraction_tableau.proofs.line.Line.turn.Goals as goal
 

@@ -1,7 +1,6 @@
-use Rattle.std.proofs.Common.{◌≡◌, ℕ, pos, length, replicate, ◌+◌, refl, sym, ◌∙◌, ap, arith}
+use Rattle.std.proofs.Common.{◌≡◌, pos, length, replicate, ◌+◌, refl, sym, ◌∙◌, ap, arith}
 use Rattle.std.proofs.lemmas.List.{length-replicate, get_or-replicate}
-use Rattle.rational_theory.specs.Rational.{ℚ, whole}
-use Rattle.fraction_tableau.specs.KeptCells.{kept_below}
+use Rattle.rational_theory.specs.Rational.{whole}
 use Rattle.fraction_tableau.proofs.KeptCells.{zeros_skip, line_made, row_is}
 use Rattle.fraction_tableau.proofs.line.Line.zero.Goals as goal
 
