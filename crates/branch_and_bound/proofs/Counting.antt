@@ -1,18 +1,21 @@
 -- How many units a tree can cost.
-use Rattle.std.proofs.Common.{◌≡◌, ℕ, ◌+◌, ◌-◌, ◌*◌, ◌<◌, ◌≤◌, List, [], ◌∷◌, ◌++◌, Option, Some, None, refl, sym, subst, ap, ◌∙◌, arith, take, drop}
+use Rattle.std.proofs.Common.{◌≡◌, ℕ, ◌+◌, ◌-◌, ◌*◌, ◌<◌, ◌≤◌, zero, suc, max, List, [], ◌∷◌, ◌++◌, Option, Some, None, refl, sym, subst, ap, ◌∙◌, arith, take, drop}
 use Rattle.std.specs.Prelude.{IfSome}
 use Rattle.std.specs.List.{slice_get}
+use Rattle.std.proofs.Math.Nat.{le-max_left, max-eq_right}
 use native.Mathlib.Nat.{mul-le-mul_right}
 use Rattle.rational_theory.specs.Rational.{ℚ}
 use Rattle.search_box.specs.declared.span.At.{At}
 use Rattle.search_box.specs.Places.{IsPlace}
+use Rattle.named_row.specs.declared.leaves.Leaf.{Leaf}
 use Rattle.branch_and_bound.specs.Lines.{Line, top_line, low_line, high_line, Fills, total, line_after}
 use Rattle.branch_and_bound.specs.Volumes.{volume}
-use Rattle.branch_and_bound.proofs.Volumes.{volume_split, volume_positive}
+use Rattle.branch_and_bound.specs.Choices.{choices}
+use Rattle.branch_and_bound.proofs.Volumes.{volume_split, volume_positive, volume_same}
 use Rattle.branch_and_bound.proofs.Walks.{Fills-split, total-split}
 use Rattle.branch_and_bound.specs.Matchings.{Matches}
 use Rattle.branch_and_bound.proofs.Matchings.{Matches-back, HasOther, Fills-match, total-match, line_after-match}
-use Rattle.branch_and_bound.specs.Lineages.{at_top, at_low, at_high}
+use Rattle.branch_and_bound.specs.Lineages.{Cuts, at_top, at_low, at_high}
 use Rattle.branch_and_bound.specs.Rules.{Rules, IsMet}
 use Rattle.branch_and_bound.specs.Answer.{cut_of, lines_of, line_at, cost_of, units_of, StopCase, RootLeft, RootUnread, BeforeLow, InLow, BeforeHigh, InHigh, Spot, IsSpot, IsNeeded, IsNeededNode, HasSpot, IsNeededStop, IsWorkStop, spends, low_of, high_of}
 use Rattle.branch_and_bound.specs.Enough.{IsShort, IsEnough}
@@ -90,8 +93,36 @@ counted r best most s i line (Closed leaf) cut e h = record { cost = s.cost line
 counted r best most s i line (Waiting leaf) cut e h = record { cost = s.cost line h.1; inside = λ place f. cc }
 
 -- ---- with the undone split made
+-- the nodes of the greatest tree
+abbrev greatest : {T K W : Type 0} → Rules T K W → ℕ
+greatest r = 2 * max 1 (choices r.root) - 1
+
+-- where a split was undone the root is split, or was to be
+record IsRootCut {T K W : Type 0} (r : Rules T K W) : Type 0 where
+  place : At
+  end : r.ending (top_line r.root) ≡ Cuts place
+
+root_cut : {T K W : Type 0} (r : Rules T K W) (best : Option (Incumbent T)) (nodes : List TreeNode) (index : ℕ) (leaf : Leaf) (place : At)
+    → Fills cut_of (IsNeededNode r best) (lines_of r) nodes → slice_get nodes index ≡ Some (Waiting leaf) → r.ending (line_at r nodes index) ≡ Cuts place → IsRootCut r
+root_cut r best [] index leaf place h at end = absurd h
+root_cut r best (Split p point ∷ nodes) index leaf place h at end = record { place = p; end = h.0.end }
+root_cut r best (Closed other ∷ nodes) zero leaf place h at end = cc
+root_cut r best (Closed other ∷ []) (suc index) leaf place h at end = cc
+root_cut r best (Closed other ∷ node ∷ nodes) (suc index) leaf place h at end = absurd h.1
+root_cut r best (Waiting other ∷ nodes) zero leaf place h at end = record { place = place; end = end }
+root_cut r best (Waiting other ∷ []) (suc index) leaf place h at end = cc
+root_cut r best (Waiting other ∷ node ∷ nodes) (suc index) leaf place h at end = absurd h.1
+
+-- so the measure of its box counts its choices
+root_room : {T K W : Type 0} (r : Rules T K W) → r.IsSound → IsRootCut r → room (lines_of r) ≡ greatest r
+root_room r sound cut =
+    let same = volume_same r.root (r.has_numbers (top_line r.root) cut.place (at_top sound) cut.end) in
+    let some = volume_positive r.root in
+    let most : max 1 (choices r.root) ≡ choices r.root = max-eq_right (omega (arith, same)) in
+    omega (arith, same, most)
+
 record IsRoomy {T K W : Type 0} (r : Rules T K W) (nodes : List TreeNode) (spot : Spot) (most : ℕ) : Type 0 where
-  units : units_of r nodes + (cost_of r (low_of r nodes spot) + cost_of r (high_of r nodes spot)) ≤ room (lines_of r) * most
+  units : units_of r nodes + (cost_of r (low_of r nodes spot) + cost_of r (high_of r nodes spot)) ≤ greatest r * most
   low : IsMet r (low_of r nodes spot)
   high : IsMet r (high_of r nodes spot)
 
@@ -129,21 +160,24 @@ undone_under r sound best nodes part spot most h s short =
     let low_cost = ap (λ l. cost_of r (low_line spot.place l)) lines_same in
     let high_cost = ap (λ l. cost_of r (high_line spot.place l)) lines_same in
     let units_same = total-match cut_of own IsCutOf same (cost_of r) 0 lines nodes cs m in
+    let roomy : units_of r nodes + (cost_of r (low_of r nodes spot) + cost_of r (high_of r nodes spot)) ≤ room lines * most =
+    omega (arith, bound, grows, units_same, low_cost, high_cost, ap (λ ns. total own (cost_of r) lines ns) whole) in
     record {
-      units = omega (arith, bound, grows, units_same, low_cost, high_cost, ap (λ ns. total own (cost_of r) lines ns) whole);
+      units = subst (λ n. units_of r nodes + (cost_of r (low_of r nodes spot) + cost_of r (high_of r nodes spot)) ≤ n * most)
+          (root_room r sound (root_cut r best nodes spot.index s.leaf spot.place h.tree s.at s.end)) roomy;
       low = low;
       high = high;
     }
 
-root_under : {T K W : Type 0} (r : Rules T K W) (most k : ℕ) → r.IsSound → IsShort r most → r.IsDue (top_line r.root) k → 1 + k < (2 * volume r.root - 1) * most
+root_under : {T K W : Type 0} (r : Rules T K W) (most k : ℕ) → r.IsSound → IsShort r most → r.IsDue (top_line r.root) k → 1 + k < greatest r * most
 root_under r most k sound s due =
     let a = s.cost (top_line r.root) (at_top sound) in
     let b = s.due (top_line r.root) k (at_top sound) due in
-    let c : 1 ≤ 2 * volume r.root - 1 = let p = volume_positive r.root in omega arith in
+    let c : 1 ≤ greatest r = omega (arith, le-max_left 1 (choices r.root)) in
     omega (arith, a, b, mul-le-mul_right most c)
 
 spends_under : {T K W : Type 0} (r : Rules T K W) → r.IsSound → (nodes : List TreeNode) (best : Option (Incumbent T)) (bound : ℚ) (most : ℕ) (case : StopCase)
-    → IsShort r most → HasSpot r nodes case → IsNeededStop r nodes best bound case → IsWorkStop r nodes case → spends r nodes case < (2 * volume r.root - 1) * most
+    → IsShort r most → HasSpot r nodes case → IsNeededStop r nodes best bound case → IsWorkStop r nodes case → spends r nodes case < greatest r * most
 spends_under r sound nodes best bound most (RootLeft k) s spot needed work = root_under r most k sound s work
 spends_under r sound nodes best bound most RootUnread s spot needed work = absurd work
 spends_under r sound nodes best bound most (BeforeLow spot) s is needed work =
@@ -161,4 +195,4 @@ pub enough : {T K W : Type 0} (r : Rules T K W) → IsEnough r
 enough r sound limit nodes best bound spent units most answer s =
     let below = spends_under r sound nodes best bound most answer.case s answer.spot answer.needed answer.cause.2 in
     let units_are = answer.units in
-    subst (λ o. IfSome o (λ n. n < (2 * volume r.root - 1) * most)) (sym answer.cause.1) (omega (arith, below, units_are))
+    subst (λ o. IfSome o (λ n. n < greatest r * most)) (sym answer.cause.1) (omega (arith, below, units_are))

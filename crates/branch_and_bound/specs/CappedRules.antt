@@ -10,7 +10,7 @@ use Rattle.branch_and_bound.specs.OpenedNodes.{OpensEmpty, OpensTimed, OpensCut}
 use Rattle.branch_and_bound.specs.declared.opened.Opened.{Opened}
 use Rattle.branch_and_bound.specs.declared.opened.Opened.TheVariants.{Infeasible, Timed, Splits}
 use Rattle.branch_and_bound.specs.Capped.{ending_of, bound_of, CoversNumbers, HasNone}
-use Rattle.branch_and_bound.specs.laws.Capped.{inside_of, low_falls_of, high_falls_of, some_number}
+use Rattle.branch_and_bound.specs.laws.Capped.{inside_of, has_numbers_of, low_falls_of, high_falls_of, some_number}
 
 -- ---- the rules
 abbrev pub capped_rules : Street → ℤ → Rules ℤ ℕ ℕ
@@ -33,6 +33,7 @@ capped_rules a cap = record {
   covers_more = λ area leaf v w h k. λ x p. ≤ℚ_trans (whole x) v w (h x p) k;
   not_refuted = λ line leaf met o i none. some_number cap line.area.loops o none;
   inside = λ line place met e. inside_of cap line.area.loops line.area.turns place e;
+  has_numbers = λ line place met e. has_numbers_of cap line.area.loops line.area.turns place e;
   low_falls = λ line place met e o. low_falls_of cap line.area.loops line.area.turns place e;
   high_falls = λ line place met e o. high_falls_of cap line.area.loops line.area.turns place e;
 }

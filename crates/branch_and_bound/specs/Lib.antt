@@ -1,4 +1,5 @@
 pub mod Lines
+pub mod Choices
 pub mod Volumes
 pub mod Matchings
 pub mod Promises

@@ -6,6 +6,7 @@ use Rattle.search_box.specs.declared.span.At.{At}
 use Rattle.search_box.specs.Places.{IsPlace}
 use Rattle.named_row.specs.declared.leaves.Leaf.{Leaf}
 use Rattle.named_row.specs.declared.leaves.Point.{Point}
+use Rattle.branch_and_bound.specs.Choices.{HasNumbers}
 use Rattle.branch_and_bound.specs.Lines.{Line, low_line, high_line}
 use Rattle.branch_and_bound.specs.Lineages.{Ending, Cuts, IsOptimal, IsLineage}
 
@@ -39,6 +40,8 @@ pub record Rules (T K W : Type 0) : Type 1 where
   pub not_refuted : (line : Line) (leaf : Leaf) → IsLineage IsSound root ending line → IsOptimal (ending line) → IsLeaf line leaf → Refutes line.area leaf → ⊥
   -- the place of an end lies in the box
   pub inside : (line : Line) (place : At) → IsLineage IsSound root ending line → ending line ≡ Cuts place → IsPlace line.area place
+  -- only a box with a choice of block sums is split
+  pub has_numbers : (line : Line) (place : At) → IsLineage IsSound root ending line → ending line ≡ Cuts place → HasNumbers line.area
   -- no part has a greater bound
   pub low_falls : (line : Line) (place : At) → IsLineage IsSound root ending line → ending line ≡ Cuts place → IsOptimal (ending (low_line place line)) → bound (low_line place line) ≤ℚ bound line
   pub high_falls : (line : Line) (place : At) → IsLineage IsSound root ending line → ending line ≡ Cuts place → IsOptimal (ending (high_line place line)) → bound (high_line place line) ≤ℚ bound line

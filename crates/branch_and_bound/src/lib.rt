@@ -8,13 +8,13 @@
 //!
 //! - `Lines`: a tree is the list of its nodes in preorder, read with the list of the lines that still want a tree, a line
 //!   being a box with the boxes above it: `Line`, `Fills`, `Finds`, `total`, `line_after`. `Matchings`: trees whose nodes correspond.
-//! - `Volumes`: how many choices of block sums and ranks a box has; each split shares them out.
+//! - `Choices`: how many choices of block sums and ranks a box has; each split shares them out.
 //! - `Lineages`: how the pivots of a box end, and `IsLineage`, the lines of boxes that a search can meet.
-//! - `Rules`: the record, with its five laws. `Unfinished`: boxes whose steps didn't come to a leaf. `Opening`: what opening
+//! - `Rules`: the record, with its six laws. `Unfinished`: boxes whose steps didn't come to a leaf. `Opening`: what opening
 //!   a box answers, in units of work, which the `Meter` of `work_meter` counts.
 //! - `Answer`: `IsAccepted`, `IsSorted`, `StopCase`, `IsNeeded`, `IsOpenBound`, and the three verdicts.
 //! - `Enough`: how many units are enough.
-//! - `State` and `Greatest` are what the search keeps true; nothing above rests on them. `Capped` is for the tests.
+//! - `State`, `Volumes` and `Greatest` are what the search keeps true; nothing above rests on them. `Capped` is for the tests.
 #![tactic(auto)]
 
 mod best_first;

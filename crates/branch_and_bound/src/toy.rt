@@ -1,5 +1,5 @@
-//! A relaxation for the tests: the greatest block sum of link 1 that is at most a cap. Each box costs one pivot. A cap
-//! above 1000 is refused.
+//! A relaxation for the tests: the greatest block sum of the only link that is at most a cap. An artery with more links has
+//! none. Each box costs one pivot. A cap above 1000 is refused.
 
 ghost use Rattle.std.specs.Prelude.{◌≡◌, ◌≤◌, ◌<ℤ◌, ◌-ℤ◌, ℤ, pos, length, IfOk};
 ghost use Rattle.progression.specs.Street.{Street};
@@ -17,7 +17,7 @@ use search_box::{At, SearchBox};
 use std::alloc::Global;
 use work_meter::Meter;
 
-/// The numbers of the root's span of link 1 that are at most `cap`.
+/// The numbers of the root's span of the only link that are at most `cap`.
 #[derive(Drop)]
 pub(crate) struct Capped {
     pub(crate) artery: Artery,
@@ -38,9 +38,9 @@ fn no_rows(alloc: Global) -> Leaf {
     }
 }
 
-/// The end of a box.
+/// The end of a box of one link.
 fn end_of(alloc: Global, cap: i64, area: &SearchBox) -> Opened<i64, u8, u8>
-    requires { 1 ≤ length area.now.loops }
+    requires { length area.now.loops ≡ 1 }
     ensures { (a : Street) (line : Line) → line.area ≡ area.now → EndsAs a cap line result }
 {
     let span = area.loop_span(1);
@@ -70,11 +70,31 @@ fn end_of(alloc: Global, cap: i64, area: &SearchBox) -> Opened<i64, u8, u8>
     }
 }
 
+/// The end of a box with so many links.
+fn end_with(alloc: Global, cap: i64, links: u32, area: &SearchBox) -> Opened<i64, u8, u8>
+    requires { links ≡ length area.now.loops }
+    ensures { (a : Street) (line : Line) → line.area ≡ area.now → EndsAs a cap line result }
+{
+    if links == 1 {
+        end_of(alloc, cap, area)
+    } else {
+        Opened::Infeasible {
+            leaf: no_rows(alloc),
+        }
+    }
+}
+
 impl Capped {
-    /// Opens a box: one unit, and one for its only pivot.
-    fn open(&self, alloc: Global, area: &SearchBox, meter: &mut Meter) -> Opened<i64, u8, u8>
+    /// Opens a box with so many links: one unit, and one for its only pivot.
+    fn open(
+        &self,
+        alloc: Global,
+        links: u32,
+        area: &SearchBox,
+        meter: &mut Meter,
+    ) -> Opened<i64, u8, u8>
         requires work { HasWork meter.old }
-        requires link { 1 ≤ length area.now.loops }
+        requires links { links ≡ length area.now.loops }
         ensures limit { meter.new.limit ≡ meter.old.limit }
         ensures opens { (line : Line) → line.area ≡ area.now → Opens (capped_rules self.now.artery self.now.cap) line meter.old meter.new result }
     {
@@ -86,7 +106,7 @@ impl Capped {
             return Opened::Wide { pivots: 0, part: 0 };
         }
         meter.spend();
-        end_of(alloc, self.cap, area)
+        end_with(alloc, self.cap, links, area)
     }
 }
 
@@ -120,8 +140,7 @@ impl Relaxation for Capped {
         area: &SearchBox,
         meter: &mut Meter,
     ) -> Result<Opened<i64, u8, u8>, Memory> {
-        prove!(self.artery.count() >= 2);
-        Ok(self.open(alloc, area, meter))
+        Ok(self.open(alloc, self.artery.count() - 1, area, meter))
     }
 
     fn open_part(
@@ -132,7 +151,7 @@ impl Relaxation for Capped {
         area: &SearchBox,
         meter: &mut Meter,
     ) -> Result<Opened<i64, u8, u8>, Memory> {
-        prove!(self.artery.count() >= 2);
-        Ok(self.open(alloc, area, meter))
+        // only a box of one link is split
+        Ok(self.open(alloc, 1, area, meter))
     }
 }

@@ -6,6 +6,7 @@ mod StartFits
 mod BoxProofs
 mod Openings
 mod Units
+mod Enough
 pub mod KeptPromises
 mod Leaving
 mod Running

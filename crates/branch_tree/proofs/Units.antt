@@ -9,7 +9,7 @@ use Rattle.program_builder.proofs.OpeningLaws.{opening_dual, width-opening, heig
 use Rattle.branch_and_bound.specs.Enough.{IsShort}
 use Rattle.branch_tree.specs.Ends.{steps_of}
 use Rattle.branch_tree.proofs.Runs.{due_before}
-use Rattle.branch_tree.specs.Promises.{sets_of}
+use Rattle.branch_tree.specs.Enough.{sets_of}
 use Rattle.branch_tree.specs.laws.Lineage.{searchable}
 use Rattle.branch_tree.specs.ArteryRules.{rules_of}
 

@@ -10,7 +10,7 @@ use Rattle.branch_tree.specs.Sites.{IsDue, IsWide}
 use Rattle.branch_tree.specs.Starts.{start_bound}
 use Rattle.branch_tree.specs.Lineage.{IsSearchable, line_ending}
 use Rattle.branch_tree.specs.Relaxed.{IsEndLeaf, IsEndPoint, IsStartLeaf, IsTiming, RefutesBox, CoversBox}
-use Rattle.branch_tree.specs.laws.Relaxed.{covers_more, not_refuted, inside, low_falls, high_falls}
+use Rattle.branch_tree.specs.laws.Relaxed.{covers_more, not_refuted, inside, has_numbers, low_falls, high_falls}
 
 -- ---- the relaxation
 abbrev pub rules_of : Street → Rules Plan Kept SitePart
@@ -33,6 +33,7 @@ rules_of a = record {
   covers_more = covers_more a;
   not_refuted = not_refuted a;
   inside = inside a;
+  has_numbers = has_numbers a;
   low_falls = low_falls a;
   high_falls = high_falls a;
 }

@@ -5,6 +5,7 @@ pub mod Starts
 pub mod Lineage
 pub mod Relaxed
 pub mod Trees
+pub mod Enough
 pub mod Promises
 pub mod Told
 pub mod SiteNames

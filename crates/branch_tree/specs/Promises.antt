@@ -1,12 +1,11 @@
 -- What the ends of boxes promise, as an outsider reads it.
-use Rattle.std.specs.Prelude.{◌≡◌, ℕ, ◌+◌, ◌<◌, ◌^◌, List, length, None, Some, map}
+use Rattle.std.specs.Prelude.{◌≡◌, ℕ, ◌<◌, List, None, Some, map}
 use Rattle.rational_theory.specs.Rational.{ℚ, ◌≤ℚ◌}
-use Rattle.progression.specs.Street.{Street, count}
+use Rattle.progression.specs.Street.{Street}
 use Rattle.progression.specs.Plan.{Plan}
 use Rattle.progression.specs.Good.{Good}
 use Rattle.progression.specs.Best.{weighted_band}
 use Rattle.artery_model.specs.Valid.{IsValid}
-use Rattle.linear_theory.specs.Places.{width}
 use Rattle.linear_theory.specs.Boxes.{Area, IsBoxOf, root_box}
 use Rattle.linear_theory.specs.Covering.{CoversGoal, RefutesAll}
 use Rattle.linear_theory.specs.Trees.{leaf_sum, AreWeights}
@@ -22,7 +21,6 @@ use Rattle.offset_recovery.specs.declared.outcome.WideTiming.{WideTiming}
 use Rattle.offset_recovery.specs.Outcomes.{Refused, Gives}
 use Rattle.offset_recovery.specs.Recovered.{recovered}
 use Rattle.certificate_checker.specs.Accepted.{IsProof}
-use Rattle.program_builder.specs.BoxRows.{rows_of}
 use Rattle.branch_and_bound.specs.Enough.{IsShort}
 use Rattle.branch_and_bound.specs.Lineages.{NoEnd, Empty, Reads, Cuts, IsOptimal}
 use Rattle.branch_tree.specs.Ends.{steps_of, end_point, end_bound, end_leaf, ending_of}
@@ -31,10 +29,7 @@ use Rattle.branch_tree.specs.declared.site.SitePart.TheVariants.{LeafSum, Timing
 use Rattle.branch_tree.specs.Sites.{step_at, IsReached, IsDue, IsWide}
 use Rattle.branch_tree.specs.Starts.{start_leaf, start_bound}
 use Rattle.branch_tree.specs.ArteryRules.{rules_of}
-
--- there are at most so many sets of basic variables: 2 to the power of the number of rows and columns
-abbrev pub sets_of : Street → ℕ
-sets_of a = 2 ^ (length (rows_of a) + width (count a))
+use Rattle.branch_tree.specs.Enough.{sets_of}
 
 -- the run of each box comes to an end, before it could have met every set of basic variables
 pub record ComesToAnEnd (a : Street) (box : Area) : Type 0 where

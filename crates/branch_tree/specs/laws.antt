@@ -8,3 +8,4 @@ pub mod WeakDuality
 pub mod Standing
 pub mod Tightening
 pub mod Recoveries
+pub mod Choices

@@ -11,6 +11,7 @@
 //!   `SitePart` names it. `specs/Starts.antt`: the leaf that bounds the root before any step.
 //! - `specs/ArteryRules.antt`: `rules_of`, an artery as a relaxation for `branch_and_bound`, over the words of `specs/Relaxed.antt`. `specs/Trees.antt`: its trees are those
 //!   that `certificate_checker` accepts.
+//! - `specs/Enough.antt`: how many units of work are enough for an artery.
 //! - What is promised of boxes stands in `specs/Promises.antt`, and `law_boxes_end` keeps it. `specs/BoxRuns.antt` has what the
 //!   steps of one box come to. The files of `specs/laws` are lemmas alone, which `rules_of` carries.
 #![tactic(auto)]

@@ -6,6 +6,7 @@ ghost use Rattle.work_meter.specs.Work.{IsBelow};
 ghost use Rattle.branch_tree.specs.Searches.{IsSearch};
 ghost use Rattle.branch_tree.specs.Told.{Tells, IsCertifiable, plan_of};
 ghost use Rattle.branch_tree.specs.SiteNames.{HasSite};
+ghost use Rattle.branch_tree.specs.Enough.{IsWithinEnough};
 
 use crate::found::Found;
 use crate::relaxed::{Relaxed, make_room};
@@ -43,8 +44,8 @@ fn found_of(found: engine::Found<Timing, SitePart>) -> Found
 /// than the best weighted band, the one with the greatest bound is split and its two parts are opened.
 ///
 /// A unit of work is a box that is opened or a pivot. The search stops where all units of the limit are spent and one more is
-/// wanted, or at the first number that leaves 128 bits. A limit, where there is one, is at least 1. The error is want of
-/// memory.
+/// wanted, or at the first number that leaves 128 bits. A limit, where there is one, is at least 1; without a limit, or with
+/// one that is enough for the artery, no search stops by work. The error is want of memory.
 pub fn search(alloc: Global, artery: &Artery, limit: Option<u64>) -> Result<Found, Memory>
     requires limit { IsBelow 0 limit }
     ensures answer { IfOk result (λ found. IsSearch artery.now limit found) }
@@ -52,8 +53,10 @@ pub fn search(alloc: Global, artery: &Artery, limit: Option<u64>) -> Result<Foun
     ensures tells { IfOk result (λ found. Tells artery.now found.timing found.bound found.verdict) }
     ensures certifiable { IfOk result (λ found. IsCertifiable found) }
     ensures site { IfOk result (λ found. HasSite artery.now found.verdict) }
+    ensures enough { IfOk result (λ found. IsWithinEnough artery.now limit found.verdict) }
 {
     let relaxed = Relaxed { artery };
+    engine::law_enough(&relaxed);
     let mut room = make_room(alloc, artery)?;
     let found = engine::search(alloc, &relaxed, &mut room, limit)?;
     Ok(found_of(found))

@@ -13,6 +13,7 @@ use Rattle.branch_and_bound.specs.declared.found.Verdict.TheVariants.{Best, NoTi
 use Rattle.branch_tree.specs.declared.site.SitePart.{SitePart}
 use Rattle.branch_tree.specs.declared.found.Found.{Found}
 use Rattle.branch_tree.specs.Searches.{IsSearch, HasSite}
+use Rattle.branch_tree.specs.Enough.{IsWithinEnough}
 use Rattle.branch_tree.specs.Certified.{warrant_of}
 
 -- The timing is best and the bound is its weighted band; or no timing is good; or no good timing has a weighted band above the bound, and a timing
@@ -22,10 +23,12 @@ Proves a timing bound Best = IsBest a timing bound
 Proves a timing bound NoTiming = (timing ≡ None) × best.NoTiming a
 Proves a timing bound (Stopped stop) = Bounded a bound × IfSome timing (λ plan. Good a plan × (weighted_band a plan ≤ℚ bound))
 
--- A search of the artery within this limit of work found this, and its certificate is accepted. A site that the verdict names has a box of this artery,
+-- A search of the artery within the limit of units of work, where there is one, found this, and its certificate is accepted. A stop by work comes only
+-- where there is a limit, and it is less than enough for this artery. A site that the verdict names has a box of this artery,
 -- and its row, column or link.
 pub record IsSearched (a : Street) (limit : Option ℕ) (found : Found) : Type 0 where
   pub search : IsSearch a limit found
+  pub enough : IsWithinEnough a limit found.verdict
   pub site : HasSite a found.verdict
   pub proves : Proves a found.timing found.bound found.verdict
   pub accepted : IsAccepted a (warrant_of a found)

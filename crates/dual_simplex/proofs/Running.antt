@@ -1,6 +1,8 @@
 -- The state of the loop over the steps of a node.
-use Rattle.std.proofs.Common.{◌≡◌, ℕ, Bool, true, false, true≢false, Some, None, cond, min, add-one, ◌&&◌, ◌+◌, ◌-◌, ◌<◌, ◌^◌, ◌⊎◌, inl, inr, refl, sym, ◌∙◌, ap, ap₂, subst, arith}
-use Rattle.simplex_theory.specs.Tableau.{Tableau, exchange}
+use Rattle.std.proofs.Common.{◌≡◌, ℕ, Bool, true, false, true≢false, Some, None, cond, min, add-one, ◌&&◌, ◌+◌, ◌-◌, ◌<◌, ◌≤◌, ◌^◌, ◌⊎◌, inl, inr, refl, sym, ◌∙◌, ap, ap₂, subst, arith}
+use Rattle.simplex_theory.specs.Tableau.{Tableau, height, width, exchange}
+use Rattle.simplex_theory.specs.Paths.{HaveSameBasics}
+use Rattle.simplex_theory.proofs.Promises.{steps_end}
 use Rattle.simplex_theory.specs.DualSteps.{IsDual}
 use Rattle.simplex_theory.specs.BlandRule.{move, made, next, pivoted}
 use Rattle.simplex_theory.proofs.BlandRule.{dual_next}
@@ -28,10 +30,12 @@ pub record Running (s : NamedTableau) (p : ℕ) (m : Meter) (u : NamedTableau) (
   pub meter : n ≡ metered m made
   pub pivots : q ≡ capped (p + made)
   pub within : IsWithin n.spent n.limit
+  pub start : IsDual s.table
+  pub left : made + steps_to_end u.table ≡ steps_to_end s.table
 
 pub running_none : (s : NamedTableau) (p : ℕ) (m : Meter) → IsDual s.table → p < 2 ^ 64 → m.spent < 2 ^ 64 → IsWithin m.spent m.limit → Running s p m s p m
 unfolding after
-running_none s p m d h k w = record { made = 0; goes_on = λ i l. absurd (omega arith); table = refl; dual = d; meter = metered_none m k; pivots = omega arith; within = w }
+running_none s p m d h k w = record { made = 0; goes_on = λ i l. absurd (omega arith); table = refl; dual = d; meter = metered_none m k; pivots = omega arith; within = w; start = d; left = omega arith }
 
 pivoted_next : (t : Tableau) (r j : ℕ) → move t ≡ pivoted r j → next t ≡ exchange r j t
 pivoted_next t r j e = next_is t ∙ ap (λ m. made m t) e
@@ -66,6 +70,8 @@ running_next s p m u v q r n k i j a b e f g h l =
       meter = metered_next m n k a.made a.meter h l;
       pivots = omega arith;
       within = subst (λ o. IsWithin k.spent o) (sym l) (within_next n.spent k.spent n.limit (below_limit n.spent n.limit (not_out (is_out n) (is_pivot (move u.table)) b (ap is_pivot moves)) a.within) h);
+      start = a.start;
+      left = omega (arith, a.left, steps_fall u.table a.dual (ap is_pivot moves), ap steps_to_end t);
     }
   where
     last : (x : ℕ) → x < a.made + 1 → (x ≡ a.made) ⊎ (x < a.made)
@@ -84,6 +90,13 @@ running_falls u v i j d e f =
     omega arith
 
 -- ---- the ends
+-- no set of basic variables came twice, and there are fewer pivots than such sets
+made_apart : (s : NamedTableau) (p : ℕ) (m : Meter) (u : NamedTableau) (q : ℕ) (n : Meter) → (a : Running s p m u q n) → (i j : ℕ) → i < j → j ≤ a.made → HaveSameBasics (after s.table i) (after s.table j) → ⊥
+made_apart s p m u q n a i j h l same = let left = a.left in (steps_end s.table a.start).apart i j h (omega arith) same
+
+made_few : (s : NamedTableau) (p : ℕ) (m : Meter) (u : NamedTableau) (q : ℕ) (n : Meter) → (a : Running s p m u q n) → a.made < 2 ^ (height s.table + width s.table)
+made_few s p m u q n a = omega (arith, a.left, (steps_end s.table a.start).few)
+
 -- work is out
 pub stopped : (s : NamedTableau) (p : ℕ) (m : Meter) (u : NamedTableau) (q : ℕ) (n : Meter) → (a : Running s p m u q n) → (is_out n && is_pivot (move u.table)) ≡ true → Solved WorkOut s u m n p q a.made
 unfolding end_at
@@ -95,6 +108,8 @@ stopped s p m u q n a b =
       table = a.table;
       meter = a.meter;
       pivots = a.pivots;
+      apart = made_apart s p m u q n a;
+      few = made_few s p m u q n a;
     }
 
 -- the step is an end
@@ -109,6 +124,8 @@ ended s p m u v q n x e a b f g h =
       table = subst (λ y. IsAfterEnd e y v) a.table h;
       meter = a.meter;
       pivots = a.pivots;
+      apart = made_apart s p m u q n a;
+      few = made_few s p m u q n a;
     }
 
 pub wide_after : (b : Bool) (w : WideCell) (s t : NamedTableau) → IsAfterStep (steps.Wide b w) s t → IsAfterEnd (Wide b w) s t

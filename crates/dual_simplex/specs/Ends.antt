@@ -1,6 +1,7 @@
 -- How the steps of a node end, and after how many.
-use Rattle.std.proofs.Common.{◌≡◌, ℕ, true, false, Option, Some, None, cond, ◌&&◌, ◌+◌, ◌<◌}
-use Rattle.simplex_theory.specs.Tableau.{Tableau}
+use Rattle.std.proofs.Common.{◌≡◌, ℕ, true, false, Option, Some, None, cond, ◌&&◌, ◌+◌, ◌<◌, ◌≤◌, ◌^◌}
+use Rattle.simplex_theory.specs.Tableau.{Tableau, height, width}
+use Rattle.simplex_theory.specs.Paths.{HaveSameBasics}
 use Rattle.simplex_theory.specs.BlandRule.{move}
 use Rattle.simplex_theory.specs.StepCounts.{after, is_pivot}
 use Rattle.fraction_tableau.specs.NamedTableaus.{NamedTableau, IsSpentFrom}
@@ -36,10 +37,13 @@ IsAfterEnd WorkOut s t = t ≡ s
 IsAfterEnd (Wide true w) s t = t ≡ s
 IsAfterEnd (Wide false w) s t = IsSpentFrom s t
 
--- from s and m the steps go on k times and then come to the end e, with t and n and the count of pivots q, which was p
+-- From s and m the steps go on k times and then come to the end e, with t and n and the count of pivots q, which was p. On the way no
+-- set of basic variables comes twice, so there are fewer steps than such sets, whatever the work that is left.
 pub record Solved (e : NodeEnd) (s t : NamedTableau) (m n : Meter) (p q k : ℕ) : Type 0 where
   pub goes_on : (i : ℕ) → i < k → end_at (after s.table i) (metered m i) ≡ None
   pub ends : end_at (after s.table k) (metered m k) ≡ Some e
   pub table : IsAfterEnd e (stepped s k) t
   pub meter : n ≡ metered m k
   pub pivots : q ≡ capped (p + k)
+  pub apart : (i j : ℕ) → i < j → j ≤ k → HaveSameBasics (after s.table i) (after s.table j) → ⊥
+  pub few : k < 2 ^ (height s.table + width s.table)

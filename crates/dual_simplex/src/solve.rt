@@ -33,6 +33,9 @@ fn is_stopped(tableau: &Tableau, meter: &Meter) -> bool
 /// Steps until an end. Each pivot that was made adds one to `pivots` and one to the units of the meter, and both stay at
 /// `2^64 - 1` once there.
 ///
+/// No set of basic variables comes twice, so an end comes after fewer pivots than 2 to the power of rows plus width, also
+/// without a limit.
+///
 /// `WorkOut` comes where a pivot is due and the meter is out, before a ratio is looked at. The tableau is that after the last
 /// step; only after a refused pivot it is spent.
 pub fn solve_node(tableau: &mut Tableau, meter: &mut Meter, pivots: &mut u64) -> NodeEnd

@@ -4,9 +4,11 @@
 //! A `Tableau` is seen as a `NamedTableau` (`specs/NamedTableaus.antt`): the `Tableau` of `simplex_theory`, a list of names
 //! and whether it is spent. Begin with `Tableau::new`, then load each row by `Tableau::load` and a goal by
 //! `Tableau::load_goal`; `Tableau::pivot` exchanges two variables exactly, or names the first operation that leaves 128 bits
-//! (`specs/Operations.antt` lists the operations in their order). What an exchange keeps is in `simplex_theory`'s laws.
+//! (`specs/Operations.antt` lists the operations in their order), and `Tableau::basis` lists the basic variables. What an
+//! exchange keeps is in `simplex_theory`'s laws.
 #![tactic(auto)]
 
+mod basis;
 mod fresh;
 mod laws;
 mod lines;

@@ -62,7 +62,7 @@ no_name : (asked : Option Request) (held : List ℕ → Option (List ℕ)) (befo
 no_name asked held before after c lines p e (inl h) = let none = h.no_put in cc
 no_name asked held before after c lines p e (inr h) = let none : Some p ≡ None = h.put_is ∙ ap (option_map (λ n. named n h.bytes)) e in cc
 
-module _ (reader : described.OneAnswer) (before now : Outside) (artery certificate : List ℕ) (work : ℕ) (a : Street) (told : IsSome (before.holds artery)) (r : Reads Description (before.holds artery) a)
+module _ (reader : described.OneAnswer) (before now : Outside) (artery certificate : List ℕ) (limit : Option ℕ) (a : Street) (told : IsSome (before.holds artery)) (r : Reads Description (before.holds artery) a)
     (no_read : Rose (before.reads artery) (now.reads artery) → ⊥) where
   -- a description that is read and of which no read failed leaves a verdict
   solve_unread : (c : Cause) (lines : List ℕ) → IsUnread (input Description artery) 1 before.holds before.reads now.reads c lines → ⊥
@@ -71,22 +71,22 @@ module _ (reader : described.OneAnswer) (before now : Outside) (artery certifica
   solve_unread (cause.Refused f) lines h = read_apart reader before.holds before.reads now.reads (input Description artery) 1 a (cause.Refused f) lines told tt r h
   solve_unread c lines h = absurd h.1.2
 
-  solve_verdict : (c : Cause) (lines : List ℕ) (put : Option NamedBytes) → Answers before.holds before.reads now.reads (Some (Solve artery certificate work)) c lines put → IsVerdict c
+  solve_verdict : (c : Cause) (lines : List ℕ) (put : Option NamedBytes) → Answers before.holds before.reads now.reads (Some (Solve artery certificate limit)) c lines put → IsVerdict c
   solve_verdict c lines put (inl h) = absurd (elim h.stops [ inl k ↦ solve_unread c lines k | inr k ↦ k.2 ])
   solve_verdict c lines put (inr h) = verdict_cause c h.finds.found.verdict h.finds.cause_is
 
   pub solve_complete : (c : Cause) → (Rose (before.puts certificate) (now.puts certificate) → ⊥) → (Rose before.writes now.writes → ⊥)
-      → Ends before now (Some (Solve artery certificate work)) c → IsVerdict c ⊎ (c ≡ cause.Memory)
+      → Ends before now (Some (Solve artery certificate limit)) c → IsVerdict c ⊎ (c ≡ cause.Memory)
   solve_complete cause.WriteFault no_put no_write h =
       absurd (not_broken before now no_write h.lines h.put
       (λ p e rises. no_put (subst (λ name. Rose (before.puts name) (now.puts name))
-      (put_name (Some (Solve artery certificate work)) before.holds before.reads now.reads h.reached h.lines certificate p refl
-      (subst (λ (o : Option NamedBytes). Answers before.holds before.reads now.reads (Some (Solve artery certificate work)) h.reached h.lines o) e h.answer)) rises)) h.broken)
+      (put_name (Some (Solve artery certificate limit)) before.holds before.reads now.reads h.reached h.lines certificate p refl
+      (subst (λ (o : Option NamedBytes). Answers before.holds before.reads now.reads (Some (Solve artery certificate limit)) h.reached h.lines o) e h.answer)) rises)) h.broken)
   solve_complete cause.Memory no_put no_write h = inr refl
   solve_complete c no_put no_write h = inl (solve_verdict c h.0 h.1 h.2)
 
 pub complete : described.OneAnswer → SolveIsComplete
-complete reader before now artery certificate work a c told r no_read no_put no_write h = solve_complete reader before now artery certificate work a told r no_read c no_put no_write h
+complete reader before now artery certificate limit a c told r no_read no_put no_write h = solve_complete reader before now artery certificate limit a told r no_read c no_put no_write h
 
 -- what puts nothing isn't broken but by a write
 quiet : (before now : Outside) (asked : Option Request) → (shape asked).output ≡ None → (Rose before.writes now.writes → ⊥) → Ends before now asked cause.WriteFault → ⊥
@@ -101,6 +101,6 @@ make_complete before now signals seed cause.Memory no_write h = inr refl
 make_complete before now signals seed c no_write h = inl (elim h.2 [ inl k ↦ absurd k.stops | inr k ↦ show_done (made_street signals seed) c h.0 k.finds ])
 
 pub trial_complete : TrialIsComplete
-trial_complete before now signals seed work cause.WriteFault no_write h = absurd (quiet before now (Some (Trial signals seed work)) refl no_write h)
-trial_complete before now signals seed work cause.Memory no_write h = inr refl
-trial_complete before now signals seed work c no_write h = inl (elim h.2 [ inl k ↦ absurd k.stops | inr k ↦ verdict_cause c k.finds.found.verdict k.finds.cause_is ])
+trial_complete before now signals seed limit cause.WriteFault no_write h = absurd (quiet before now (Some (Trial signals seed limit)) refl no_write h)
+trial_complete before now signals seed limit cause.Memory no_write h = inr refl
+trial_complete before now signals seed limit c no_write h = inl (elim h.2 [ inl k ↦ absurd k.stops | inr k ↦ verdict_cause c k.finds.found.verdict k.finds.cause_is ])

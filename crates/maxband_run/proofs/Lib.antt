@@ -13,3 +13,4 @@ pub mod Spelled
 pub mod Ranges
 pub mod Solved
 pub mod Tried
+pub mod Unlimited

@@ -60,9 +60,9 @@ finds_reached None v c l bytes h = subst (λ (d : Cause). IsReached d) (sym h.0)
 finds_reached (Some (Hold artery timing)) v c l bytes h = hold_reached v.0 v.1.0 c l h
 finds_reached (Some (Show artery)) v c l bytes h = show_reached v.0 c l h
 finds_reached (Some (Check artery certificate)) v c l bytes h = check_reached v.0 v.1.0 c l h
-finds_reached (Some (Solve artery certificate work)) v c l bytes h = verdict_reached c (verdict_cause c h.found.verdict h.cause_is)
+finds_reached (Some (Solve artery certificate limit)) v c l bytes h = verdict_reached c (verdict_cause c h.found.verdict h.cause_is)
 finds_reached (Some (Make signals seed)) v c l bytes h = show_reached (made_street signals seed) c l h
-finds_reached (Some (Trial signals seed work)) v c l bytes h = verdict_reached c (verdict_cause c h.found.verdict h.cause_is)
+finds_reached (Some (Trial signals seed limit)) v c l bytes h = verdict_reached c (verdict_cause c h.found.verdict h.cause_is)
 
 hold_once : OneFirst → FailsRulesOut → (a : Street) (t : Plan) (c d : Cause) (x y : List ℕ) → HoldFinds a t c x → HoldFinds a t d y → (c ≡ d) × (x ≡ y)
 hold_once one_first rules a t cause.Done cause.Done x y h k = (refl, h.1 ∙ sym k.1)
@@ -100,10 +100,10 @@ finds_once one_text one_first rules apart once None v c d x y s t h k = (h.0 ∙
 finds_once one_text one_first rules apart once (Some (Hold artery timing)) v c d x y s t h k = hold_once one_first rules v.0 v.1.0 c d x y h k
 finds_once one_text one_first rules apart once (Some (Show artery)) v c d x y s t h k = show_once one_text v.0 c d x y h k
 finds_once one_text one_first rules apart once (Some (Check artery certificate)) v c d x y s t h k = check_once apart once v.0 v.1.0 c d x y h k
-finds_once one_text one_first rules apart once (Some (Solve artery certificate work)) v c d x y s t h k =
+finds_once one_text one_first rules apart once (Some (Solve artery certificate limit)) v c d x y s t h k =
     (verdict_cause c h.found.verdict h.cause_is, verdict_cause d k.found.verdict k.cause_is)
 finds_once one_text one_first rules apart once (Some (Make signals seed)) v c d x y s t h k = show_once one_text (made_street signals seed) c d x y h k
-finds_once one_text one_first rules apart once (Some (Trial signals seed work)) v c d x y s t h k =
+finds_once one_text one_first rules apart once (Some (Trial signals seed limit)) v c d x y s t h k =
     (verdict_cause c h.found.verdict h.cause_is, verdict_cause d k.found.verdict k.cause_is)
 
 found_agree : (searches : Bool) (is : List Input) (c d : Cause) (x y : List ℕ) → FoundAgree searches c x d y → Agree searches is c x d y

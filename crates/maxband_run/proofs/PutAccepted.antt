@@ -56,9 +56,9 @@ accepted_done apart a w (cause.Rejected r) lines is h = absurd (apart a w r h.fi
 accepted_done apart a w c lines is h = absurd h
 
 pub put_accepted : described.OneAnswer → RefusedIsNotAccepted → PutIsAccepted
-put_accepted reader apart before between now artery certificate work c d two told put_told few v h m k =
-    let s = reached_ends before between (Some (Solve artery certificate work)) c (verdict_reached c v) h in
-    let f = verdict_found before.holds before.reads between.reads (Some (Solve artery certificate work)) c s.0 s.1 v s.2 in
+put_accepted reader apart before between now artery certificate limit c d two told put_told few v h m k =
+    let s = reached_ends before between (Some (Solve artery certificate limit)) c (verdict_reached c v) h in
+    let f = verdict_found before.holds before.reads between.reads (Some (Solve artery certificate limit)) c s.0 s.1 v s.2 in
     let files = subst (λ (p : Option NamedBytes). IsPut p before.holds between.holds) f.put_is s.3.files in
     let kept : between.holds artery ≡ before.holds artery = files.1 artery two in
     let a : Street = f.values.0 in

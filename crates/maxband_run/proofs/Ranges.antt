@@ -1,8 +1,9 @@
 -- The numbers of each form are in their limits.
-use Rattle.std.proofs.Common.{◌≡◌, ℕ, ◌-◌, ◌^◌, ◌≤◌, Bool, true, false, List, [], ◌∷◌, Option, Some, None, codes, refl, arith}
+use Rattle.std.proofs.Common.{◌≡◌, ℕ, ◌-◌, ◌^◌, ◌<◌, ◌≤◌, Bool, true, false, List, [], ◌∷◌, Option, Some, None, codes, refl, subst, arith}
 use Rattle.std.specs.Prelude.{option_map, option_and_then, if◌then◌else◌}
 use Rattle.std.specs.Str.{bytes_eq}
-use Rattle.maxband_run.specs.Numbers.{usual_work, signals_of, seed_of, work_of}
+use Rattle.work_meter.specs.Work.{IsBelow}
+use Rattle.maxband_run.specs.Numbers.{usual_work, number_within, signals_of, seed_of, limit_of}
 use Rattle.maxband_run.specs.Command.{Request, Hold, Show, Check, Solve, Make, Trial, make_of, trial_of, with_two, with_three, request_of, InLimits}
 use Rattle.maxband_run.proofs.Spelled.{in_limits}
 
@@ -11,13 +12,21 @@ either true x y h k = h
 either false x y h k = k
 
 -- ---- each command
-some_work : (w : List ℕ) (n : ℕ) → work_of w ≡ Some n → 1 ≤ n
-some_work w n e = (in_limits 1 (2 ^ 64 - 1) w n e).0
+limit_low : (all : Bool) (number : Option ℕ) → ((n : ℕ) → number ≡ Some n → 1 ≤ n) → (limit : Option ℕ) → (if all then Some None else option_map Some number) ≡ Some limit → IsBelow 0 limit
+limit_low true number h limit e = let same : None ≡ limit = cc in subst (λ o. IsBelow 0 o) same tt
+limit_low false None h limit e = absurd cc
+limit_low false (Some n) h limit e =
+    let same : Some n ≡ limit = cc in
+    let some : 0 < n = let l = h n refl in omega arith in
+    subst (λ o. IsBelow 0 o) same some
 
-usual : 1 ≤ usual_work
+some_limit : (w : List ℕ) (limit : Option ℕ) → limit_of w ≡ Some limit → IsBelow 0 limit
+some_limit w limit e = limit_low (bytes_eq w (codes "all")) (number_within 1 (2 ^ 64 - 1) w) (λ n f. (in_limits 1 (2 ^ 64 - 1) w n f).0) limit e
+
+usual : IsBelow 0 (Some usual_work)
 usual = omega arith
 
-solve_limits : (artery certificate : List ℕ) (o : Option ℕ) → ((n : ℕ) → o ≡ Some n → 1 ≤ n) → InLimits (option_map (Solve artery certificate) o)
+solve_limits : (artery certificate : List ℕ) (o : Option (Option ℕ)) → ((limit : Option ℕ) → o ≡ Some limit → IsBelow 0 limit) → InLimits (option_map (Solve artery certificate) o)
 solve_limits artery certificate None h = tt
 solve_limits artery certificate (Some n) h = h n refl
 
@@ -26,26 +35,26 @@ make_limits None s h = tt
 make_limits (Some n) None h = tt
 make_limits (Some n) (Some seed) h = h n refl
 
-trial_limits : (o s w : Option ℕ) → ((n : ℕ) → o ≡ Some n → (2 ≤ n) × (n ≤ 16)) → ((n : ℕ) → w ≡ Some n → 1 ≤ n)
+trial_limits : (o s : Option ℕ) (w : Option (Option ℕ)) → ((n : ℕ) → o ≡ Some n → (2 ≤ n) × (n ≤ 16)) → ((limit : Option ℕ) → w ≡ Some limit → IsBelow 0 limit)
     → InLimits (option_and_then (λ n. option_and_then (λ seed. option_map (Trial n seed) w) s) o)
 trial_limits None s w h k = tt
 trial_limits (Some n) None w h k = tt
 trial_limits (Some n) (Some seed) None h k = tt
-trial_limits (Some n) (Some seed) (Some work) h k = (h n refl, k work refl)
+trial_limits (Some n) (Some seed) (Some limit) h k = (h n refl, k limit refl)
 
 -- ---- the words
 two_limits : (word first second : List ℕ) → InLimits (with_two word first second)
 two_limits word first second =
     either (bytes_eq word (codes "hold")) (Some (Hold first second)) _ tt
     (either (bytes_eq word (codes "check")) (Some (Check first second)) _ tt
-    (either (bytes_eq word (codes "solve")) (Some (Solve first second usual_work)) _ usual
+    (either (bytes_eq word (codes "solve")) (Some (Solve first second (Some usual_work))) _ usual
     (either (bytes_eq word (codes "make")) (make_of first second) None (make_limits (signals_of first) (seed_of second) (in_limits 2 16 first)) tt)))
 
 three_limits : (word first second third : List ℕ) → InLimits (with_three word first second third)
 three_limits word first second third =
-    either (bytes_eq word (codes "solve")) (option_map (Solve first second) (work_of third)) _ (solve_limits first second (work_of third) (some_work third))
+    either (bytes_eq word (codes "solve")) (option_map (Solve first second) (limit_of third)) _ (solve_limits first second (limit_of third) (some_limit third))
     (either (bytes_eq word (codes "trial")) (trial_of first second third) None
-    (trial_limits (signals_of first) (seed_of second) (work_of third) (in_limits 2 16 first) (some_work third)) tt)
+    (trial_limits (signals_of first) (seed_of second) (limit_of third) (in_limits 2 16 first) (some_limit third)) tt)
 
 pub command_limits : (words : List (List ℕ)) → InLimits (request_of words)
 command_limits [] = tt

@@ -65,15 +65,15 @@ verdict_stopped : (stop : Stop SitePart) (v : Verdict SitePart) → cause.Stoppe
 verdict_stopped stop (Stopped other) e = (other, refl)
 verdict_stopped stop v e = absurd cc
 
-module _ (before now : Outside) (artery certificate : List ℕ) (work : ℕ) where
-  found_of : (c : Cause) → IsVerdict c → (h : Completes before now (Some (Solve artery certificate work)) c)
-      → Answered before.holds before.reads now.reads (Some (Solve artery certificate work)) c h.0 h.1
-  found_of c v h = verdict_found before.holds before.reads now.reads (Some (Solve artery certificate work)) c h.0 h.1 v h.2
+module _ (before now : Outside) (artery certificate : List ℕ) (limit : Option ℕ) where
+  found_of : (c : Cause) → IsVerdict c → (h : Completes before now (Some (Solve artery certificate limit)) c)
+      → Answered before.holds before.reads now.reads (Some (Solve artery certificate limit)) c h.0 h.1
+  found_of c v h = verdict_found before.holds before.reads now.reads (Some (Solve artery certificate limit)) c h.0 h.1 v h.2
 
-  held_of : (c : Cause) (v : IsVerdict c) (h : Completes before now (Some (Solve artery certificate work)) c) → HoldsExactly (now.holds certificate) (found_of c v h).bytes
+  held_of : (c : Cause) (v : IsVerdict c) (h : Completes before now (Some (Solve artery certificate limit)) c) → HoldsExactly (now.holds certificate) (found_of c v h).bytes
   held_of c v h = (subst (λ (p : Option NamedBytes). IsPut p before.holds now.holds) (found_of c v h).put_is h.3.files).0
 
-  puts_best : Completes before now (Some (Solve artery certificate work)) cause.Done → PutsBest before now artery certificate
+  puts_best : Completes before now (Some (Solve artery certificate limit)) cause.Done → PutsBest before now artery certificate
   puts_best h =
       let f = found_of cause.Done tt h in
       let a : Street = f.values.0 in
@@ -91,7 +91,7 @@ module _ (before now : Outside) (artery certificate : List ℕ) (work : ℕ) whe
             (put_has a found f.bytes (now.holds certificate) (claim.Best (weighted_band a best.0)) (held_of cause.Done tt h) f.finds.certificate_is claimed);
       }
 
-  puts_none : Completes before now (Some (Solve artery certificate work)) cause.NoTiming → PutsNone before now artery certificate
+  puts_none : Completes before now (Some (Solve artery certificate limit)) cause.NoTiming → PutsNone before now artery certificate
   puts_none h =
       let f = found_of cause.NoTiming tt h in
       let a : Street = f.values.0 in
@@ -107,7 +107,7 @@ module _ (before now : Outside) (artery certificate : List ℕ) (work : ℕ) whe
             (put_has a found f.bytes (now.holds certificate) claim.NoTiming (held_of cause.NoTiming tt h) f.finds.certificate_is claimed);
       }
 
-  puts_bound : (stop : Stop SitePart) → Completes before now (Some (Solve artery certificate work)) (cause.Stopped stop) → PutsBound before now artery certificate (cause.Stopped stop)
+  puts_bound : (stop : Stop SitePart) → Completes before now (Some (Solve artery certificate limit)) (cause.Stopped stop) → PutsBound before now artery certificate (cause.Stopped stop)
   puts_bound stop h =
       let f = found_of (cause.Stopped stop) tt h in
       let a : Street = f.values.0 in
@@ -127,21 +127,21 @@ module _ (before now : Outside) (artery certificate : List ℕ) (work : ℕ) whe
         cause_is = refl;
       }
 
-  zero_says : (c : Cause) → c ≡ cause.Done → Ends before now (Some (Solve artery certificate work)) c → PutsBest before now artery certificate
-  zero_says c e h = puts_best (subst (λ (d : Cause). Ends before now (Some (Solve artery certificate work)) d) e h)
+  zero_says : (c : Cause) → c ≡ cause.Done → Ends before now (Some (Solve artery certificate limit)) c → PutsBest before now artery certificate
+  zero_says c e h = puts_best (subst (λ (d : Cause). Ends before now (Some (Solve artery certificate limit)) d) e h)
 
-  one_says : (c : Cause) → c ≡ cause.NoTiming → Ends before now (Some (Solve artery certificate work)) c → PutsNone before now artery certificate
-  one_says c e h = puts_none (subst (λ (d : Cause). Ends before now (Some (Solve artery certificate work)) d) e h)
+  one_says : (c : Cause) → c ≡ cause.NoTiming → Ends before now (Some (Solve artery certificate limit)) c → PutsNone before now artery certificate
+  one_says c e h = puts_none (subst (λ (d : Cause). Ends before now (Some (Solve artery certificate limit)) d) e h)
 
-  two_says : (c : Cause) (stop : Stop SitePart) → c ≡ cause.Stopped stop → Ends before now (Some (Solve artery certificate work)) c → PutsBound before now artery certificate c
+  two_says : (c : Cause) (stop : Stop SitePart) → c ≡ cause.Stopped stop → Ends before now (Some (Solve artery certificate limit)) c → PutsBound before now artery certificate c
   two_says c stop e h = subst (λ (d : Cause). PutsBound before now artery certificate d) (sym e)
-      (puts_bound stop (subst (λ (d : Cause). Ends before now (Some (Solve artery certificate work)) d) e h))
+      (puts_bound stop (subst (λ (d : Cause). Ends before now (Some (Solve artery certificate limit)) d) e h))
 
 pub solve_says : SolveSays
-solve_says before now artery certificate work c h = (
-  (λ e. zero_says before now artery certificate work c (zero_is c e) h),
-  (λ e. one_says before now artery certificate work c (one_is c e) h),
-  (λ e. let s = two_is c e in two_says before now artery certificate work c s.0 s.1 h),
+solve_says before now artery certificate limit c h = (
+  (λ e. zero_says before now artery certificate limit c (zero_is c e) h),
+  (λ e. one_says before now artery certificate limit c (one_is c e) h),
+  (λ e. let s = two_is c e in two_says before now artery certificate limit c s.0 s.1 h),
 )
 
 -- ---- hold

@@ -1,5 +1,5 @@
 -- What is found on the artery that was made is the answer of `trial`.
-use Rattle.std.proofs.Common.{◌≡◌, ℕ, List, length, ◌∙◌, ap, subst}
+use Rattle.std.proofs.Common.{◌≡◌, ℕ, List, Option, length, ◌∙◌, ap, subst}
 use Rattle.progression.specs.Street.{Street}
 use Rattle.branch_tree.specs.declared.found.Found.{Found}
 use Rattle.branch_tree.specs.Certified.{warrant_of}
@@ -8,12 +8,12 @@ use Rattle.maxband_run.specs.Searched.{cause_of, IsSearched, IsTextOf}
 use Rattle.maxband_run.specs.Trial.{trial_lines, IsTrial}
 use Rattle.maxband_run.specs.declared.cause.Cause.{Cause}
 
-pub tried : (signals seed work : ℕ) (a : Street) (found : Found) (c : Cause) (text lines : List ℕ)
-    → a ≡ made_street signals seed → IsSearched a work found → c ≡ cause_of found.verdict → IsTextOf text (warrant_of a found)
-    → lines ≡ trial_lines signals seed (warrant_of a found).claim (length text) → IsTrial signals seed work c lines
-tried signals seed work a found c text lines e s k t l = record {
+pub tried : (signals seed : ℕ) (limit : Option ℕ) (a : Street) (found : Found) (c : Cause) (text lines : List ℕ)
+    → a ≡ made_street signals seed → IsSearched a limit found → c ≡ cause_of found.verdict → IsTextOf text (warrant_of a found)
+    → lines ≡ trial_lines signals seed (warrant_of a found).claim (length text) → IsTrial signals seed limit c lines
+tried signals seed limit a found c text lines e s k t l = record {
   found = found;
-  searched = subst (λ (z : Street). IsSearched z work found) e s;
+  searched = subst (λ (z : Street). IsSearched z limit found) e s;
   cause_is = k;
   text = text;
   text_is = subst (λ (z : Street). IsTextOf text (warrant_of z found)) e t;

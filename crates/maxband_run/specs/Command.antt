@@ -1,7 +1,8 @@
 -- What the words after the program's name ask for, and what that reads, puts and searches.
 use Rattle.std.specs.Prelude.{ℕ, ◌≤◌, Bool, true, false, List, [], ◌∷◌, Option, Some, None, codes, option_map, option_and_then, if◌then◌else◌}
 use Rattle.std.specs.Str.{bytes_eq}
-use Rattle.maxband_run.specs.Numbers.{signals_of, seed_of, work_of, usual_work}
+use Rattle.work_meter.specs.Work.{IsBelow}
+use Rattle.maxband_run.specs.Numbers.{signals_of, seed_of, limit_of, usual_work}
 use Rattle.maxband_run.specs.Reading.{Input, input}
 use Rattle.maxband_run.specs.declared.reader.Reader.TheVariants.{Description, Timing, Certificate}
 use Rattle.maxband_run.specs.declared.command.Command.{Command}
@@ -11,17 +12,17 @@ pub data Request : Type 0 where
   Hold : List ℕ → List ℕ → Request  -- the names of a description and of a timing
   Show : List ℕ → Request  -- the name of a description
   Check : List ℕ → List ℕ → Request  -- the names of a description and of a certificate
-  Solve : List ℕ → List ℕ → ℕ → Request  -- the names of a description and of a certificate, and the units that a search may spend
+  Solve : List ℕ → List ℕ → Option ℕ → Request  -- the names of a description and of a certificate, and the units that a search may spend, where there is a limit
   Make : ℕ → ℕ → Request  -- how many signals, and the seed
-  Trial : ℕ → ℕ → ℕ → Request  -- how many signals, the seed, and the units that a search may spend
+  Trial : ℕ → ℕ → Option ℕ → Request  -- how many signals, the seed, and the same of a search
 
 abbrev pub view : Command → Request
 view (command.Hold artery timing) = Hold artery.now timing.now
 view (command.Show artery) = Show artery.now
 view (command.Check artery certificate) = Check artery.now certificate.now
-view (command.Solve artery certificate work) = Solve artery.now certificate.now work
+view (command.Solve artery certificate limit) = Solve artery.now certificate.now limit
 view (command.Make signals seed) = Make signals seed
-view (command.Trial signals seed work) = Trial signals seed work
+view (command.Trial signals seed limit) = Trial signals seed limit
 
 -- ---- what it does with files
 -- the files that are read, in this order; the file that is put once all were read, where there is one; and whether a search is made
@@ -36,15 +37,15 @@ shape None = record { inputs = []; output = None; searches = false }
 shape (Some (Hold artery timing)) = record { inputs = input Description artery ∷ input Timing timing ∷ []; output = None; searches = false }
 shape (Some (Show artery)) = record { inputs = input Description artery ∷ []; output = None; searches = false }
 shape (Some (Check artery certificate)) = record { inputs = input Description artery ∷ input Certificate certificate ∷ []; output = None; searches = false }
-shape (Some (Solve artery certificate work)) = record { inputs = input Description artery ∷ []; output = Some certificate; searches = true }
+shape (Some (Solve artery certificate limit)) = record { inputs = input Description artery ∷ []; output = Some certificate; searches = true }
 shape (Some (Make signals seed)) = record { inputs = []; output = None; searches = false }
-shape (Some (Trial signals seed work)) = record { inputs = []; output = None; searches = true }
+shape (Some (Trial signals seed limit)) = record { inputs = []; output = None; searches = true }
 
 -- a search has work to spend, and 2 to 16 signals are made
 abbrev pub InLimits : Option Request → Type 0
-InLimits (Some (Solve artery certificate work)) = 1 ≤ work
+InLimits (Some (Solve artery certificate limit)) = IsBelow 0 limit
 InLimits (Some (Make signals seed)) = (2 ≤ signals) × (signals ≤ 16)
-InLimits (Some (Trial signals seed work)) = ((2 ≤ signals) × (signals ≤ 16)) × (1 ≤ work)
+InLimits (Some (Trial signals seed limit)) = ((2 ≤ signals) × (signals ≤ 16)) × IsBelow 0 limit
 InLimits _ = Unit {0}
 
 -- ---- the words
@@ -52,22 +53,22 @@ InLimits _ = Unit {0}
 abbrev pub make_of : List ℕ → List ℕ → Option Request
 make_of signals seed = option_and_then (λ n. option_map (Make n) (seed_of seed)) (signals_of signals)
 
--- and for the units
+-- and for the limit
 abbrev pub trial_of : List ℕ → List ℕ → List ℕ → Option Request
-trial_of signals seed work = option_and_then (λ n. option_and_then (λ s. option_map (Trial n s) (work_of work)) (seed_of seed)) (signals_of signals)
+trial_of signals seed limit = option_and_then (λ n. option_and_then (λ s. option_map (Trial n s) (limit_of limit)) (seed_of seed)) (signals_of signals)
 
 -- a first word with two more
 abbrev pub with_two : List ℕ → List ℕ → List ℕ → Option Request
 with_two word first second =
     if bytes_eq word (codes "hold") then Some (Hold first second)
     else (if bytes_eq word (codes "check") then Some (Check first second)
-    else (if bytes_eq word (codes "solve") then Some (Solve first second usual_work)
+    else (if bytes_eq word (codes "solve") then Some (Solve first second (Some usual_work))
     else (if bytes_eq word (codes "make") then make_of first second else None)))
 
 -- a first word with three more
 abbrev pub with_three : List ℕ → List ℕ → List ℕ → List ℕ → Option Request
 with_three word first second third =
-    if bytes_eq word (codes "solve") then option_map (Solve first second) (work_of third)
+    if bytes_eq word (codes "solve") then option_map (Solve first second) (limit_of third)
     else (if bytes_eq word (codes "trial") then trial_of first second third else None)
 
 abbrev pub request_of : List (List ℕ) → Option Request

@@ -19,6 +19,7 @@ use Rattle.certificate_checker.specs.Accepted.{IsAccepted}
 use Rattle.certificate_checker.specs.Refusals.{IsFirstRefusal}
 use Rattle.certificate_checker.specs.declared.reject.Reject.{Reject}
 use Rattle.branch_and_bound.specs.declared.found.Stop.{Stop}
+use Rattle.branch_and_bound.specs.declared.found.Stop.TheVariants.{Wide}
 use Rattle.branch_tree.specs.declared.site.SitePart.{SitePart}
 use Rattle.branch_tree.specs.Certified.{value_of, warrant_of}
 use Rattle.maxband_run.specs.CheckLines.{accepted_line}
@@ -79,10 +80,10 @@ FaultsAreTold = (before now : Outside) (asked : Option Request) (c : Cause)
 -- Where the file tells bytes that describe an artery, and no read of it, no put of the certificate and no write failed, `solve` ends with a verdict or by
 -- want of memory.
 abbrev pub SolveIsComplete : Type 0
-SolveIsComplete = (before now : Outside) (artery certificate : List ℕ) (work : ℕ) (a : Street) (c : Cause)
+SolveIsComplete = (before now : Outside) (artery certificate : List ℕ) (limit : Option ℕ) (a : Street) (c : Cause)
     → IsSome (before.holds artery) → Reads Description (before.holds artery) a
     → ¬ Rose (before.reads artery) (now.reads artery) → ¬ Rose (before.puts certificate) (now.puts certificate) → ¬ Rose before.writes now.writes
-    → Ends before now (Some (Solve artery certificate work)) c → IsVerdict c ⊎ (c ≡ cause.Memory)
+    → Ends before now (Some (Solve artery certificate limit)) c → IsVerdict c ⊎ (c ≡ cause.Memory)
 
 -- Where no write failed, `make` is done or ends by want of memory.
 abbrev pub MakeIsComplete : Type 0
@@ -90,16 +91,38 @@ MakeIsComplete = (before now : Outside) (signals seed : ℕ) (c : Cause) → ¬ 
 
 -- Where no write failed, `trial` ends with a verdict or by want of memory.
 abbrev pub TrialIsComplete : Type 0
-TrialIsComplete = (before now : Outside) (signals seed work : ℕ) (c : Cause)
-    → ¬ Rose before.writes now.writes → Ends before now (Some (Trial signals seed work)) c → IsVerdict c ⊎ (c ≡ cause.Memory)
+TrialIsComplete = (before now : Outside) (signals seed : ℕ) (limit : Option ℕ) (c : Cause)
+    → ¬ Rose before.writes now.writes → Ends before now (Some (Trial signals seed limit)) c → IsVerdict c ⊎ (c ≡ cause.Memory)
+
+-- a search without a limit
+abbrev pub IsUnlimited : Request → Type 0
+IsUnlimited (Solve artery certificate None) = Unit {0}
+IsUnlimited (Trial signals seed None) = Unit {0}
+IsUnlimited _ = ⊥
+
+-- a best timing, none, or a named number that left 128 bits; a fault, want of memory, or a description that isn't one of an artery: but no stop by work
+abbrev pub EndsOtherThanByWork : Cause → Type 0
+EndsOtherThanByWork cause.Done = Unit {0}
+EndsOtherThanByWork cause.NoTiming = Unit {0}
+EndsOtherThanByWork (cause.Stopped (Wide site)) = Unit {0}
+EndsOtherThanByWork (cause.ReadFault file) = Unit {0}
+EndsOtherThanByWork cause.WriteFault = Unit {0}
+EndsOtherThanByWork cause.Memory = Unit {0}
+EndsOtherThanByWork (cause.Refused refusal) = Unit {0}
+EndsOtherThanByWork (cause.TooLong file) = Unit {0}
+EndsOtherThanByWork _ = ⊥
+
+-- Where the words say `all`, the search isn't stopped by work.
+abbrev pub AllNeverStopsByWork : Type 0
+AllNeverStopsByWork = (before now : Outside) (asked : Request) (c : Cause) → IsUnlimited asked → Ends before now (Some asked) c → EndsOtherThanByWork c
 
 -- What `solve` found, of the artery that the file described, and that `check` accepts the file that was put with just the claim of that.
-pub record IsConfirmed (before between now : Outside) (artery certificate : List ℕ) (work : ℕ) (c d : Cause) : Type 0 where
+pub record IsConfirmed (before between now : Outside) (artery certificate : List ℕ) (limit : Option ℕ) (c d : Cause) : Type 0 where
   pub street : Street
   pub lines : List ℕ
   pub text : List ℕ
   pub description : Reads Description (before.holds artery) street
-  pub solution : IsSolution street work c lines text
+  pub solution : IsSolution street limit c lines text
   pub done : d ≡ cause.Done
   pub certificate_is : Reads Certificate (between.holds certificate) (warrant_of street solution.found)
   pub accepted : IsAccepted street (warrant_of street solution.found)
@@ -109,10 +132,10 @@ pub record IsConfirmed (before between now : Outside) (artery certificate : List
 -- After a verdict of `solve` a run of `check` over the same description and the file that was put accepts what was found, unless a fault or want of memory ends
 -- it: where these are two files that tell their bytes, and the certificate isn't too long to be read.
 abbrev pub PutIsAccepted : Type 0
-PutIsAccepted = (before between now : Outside) (artery certificate : List ℕ) (work : ℕ) (c d : Cause)
+PutIsAccepted = (before between now : Outside) (artery certificate : List ℕ) (limit : Option ℕ) (c d : Cause)
     → artery ≢ certificate → IsSome (before.holds artery) → IsSome (between.holds certificate) → IfSome (between.holds certificate) (λ bytes. length bytes ≤ most_bytes Certificate)
-    → IsVerdict c → Ends before between (Some (Solve artery certificate work)) c
-    → IsReached d → Ends between now (Some (Check artery certificate)) d → IsConfirmed before between now artery certificate work c d
+    → IsVerdict c → Ends before between (Some (Solve artery certificate limit)) c
+    → IsReached d → Ends between now (Some (Check artery certificate)) d → IsConfirmed before between now artery certificate limit c d
 
 -- ---- what the numbers of the statuses say of the model
 -- the file holds, where it is told, a text that is read as a certificate with this claim and this timing
@@ -149,7 +172,7 @@ pub record PutsBound (before now : Outside) (artery certificate : List ℕ) (c :
   pub cause_is : c ≡ cause.Stopped stop
 
 abbrev pub SolveSays : Type 0
-SolveSays = (before now : Outside) (artery certificate : List ℕ) (work : ℕ) (c : Cause) → Ends before now (Some (Solve artery certificate work)) c
+SolveSays = (before now : Outside) (artery certificate : List ℕ) (limit : Option ℕ) (c : Cause) → Ends before now (Some (Solve artery certificate limit)) c
     → (number_of c ≡ 0 → PutsBest before now artery certificate)
     × (number_of c ≡ 1 → PutsNone before now artery certificate)
     × (number_of c ≡ 2 → PutsBound before now artery certificate c)

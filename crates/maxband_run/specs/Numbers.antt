@@ -1,5 +1,6 @@
--- The numbers among the words: digits without a leading zero, except `0` alone.
-use Rattle.std.specs.Prelude.{ℕ, ◌-◌, ◌^◌, nat_le, ◌&&◌, List, Option, Some, None, if◌then◌else◌}
+-- The numbers among the words, digits without a leading zero, except `0` alone; and the word for no limit.
+use Rattle.std.specs.Prelude.{ℕ, ◌-◌, ◌^◌, nat_le, ◌&&◌, List, Option, Some, None, codes, option_map, if◌then◌else◌}
+use Rattle.std.specs.Str.{bytes_eq}
 use Rattle.std.specs.Str.Parse.{digits_value}
 use Rattle.plan_text.specs.Numbers.{is_numeral}
 
@@ -16,9 +17,9 @@ signals_of word = number_within 2 16 word
 abbrev pub seed_of : List ℕ → Option ℕ
 seed_of word = number_within 0 (2 ^ 64 - 1) word
 
--- how many units of work a search may spend
-abbrev pub work_of : List ℕ → Option ℕ
-work_of word = number_within 1 (2 ^ 64 - 1) word
+-- how many units of work a search may spend: `all` is no limit
+abbrev pub limit_of : List ℕ → Option (Option ℕ)
+limit_of word = if bytes_eq word (codes "all") then Some None else option_map Some (number_within 1 (2 ^ 64 - 1) word)
 
 -- where the words don't say
 abbrev pub usual_work : ℕ

@@ -20,9 +20,9 @@ Finds None v c lines bytes = (c ≡ cause.Words) × (lines ≡ words_line)
 Finds (Some (Hold artery timing)) v c lines bytes = HoldFinds v.0 v.1.0 c lines
 Finds (Some (Show artery)) v c lines bytes = Shows v.0 c lines
 Finds (Some (Check artery certificate)) v c lines bytes = CheckFinds v.0 v.1.0 c lines
-Finds (Some (Solve artery certificate work)) v c lines bytes = IsSolution v.0 work c lines bytes
+Finds (Some (Solve artery certificate limit)) v c lines bytes = IsSolution v.0 limit c lines bytes
 Finds (Some (Make signals seed)) v c lines bytes = Makes signals seed c lines
-Finds (Some (Trial signals seed work)) v c lines bytes = IsTrial signals seed work c lines
+Finds (Some (Trial signals seed limit)) v c lines bytes = IsTrial signals seed limit c lines
 
 -- a file isn't read: nothing is put
 pub record Stops (held : List ℕ → Option (List ℕ)) (before after : List ℕ → ℕ) (asked : Option Request) (c : Cause) (lines : List ℕ) (put : Option NamedBytes) : Type 0 where

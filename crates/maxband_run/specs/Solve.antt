@@ -1,5 +1,5 @@
 -- What `solve` finds of an artery, what it writes, and what it puts.
-use Rattle.std.specs.Prelude.{◌≡◌, ℕ, List}
+use Rattle.std.specs.Prelude.{◌≡◌, ℕ, List, Option}
 use Rattle.progression.specs.Street.{Street}
 use Rattle.branch_tree.specs.declared.found.Found.{Found}
 use Rattle.branch_tree.specs.Certified.{warrant_of}
@@ -7,10 +7,10 @@ use Rattle.diagram_print.specs.Report.{report_lines}
 use Rattle.maxband_run.specs.Searched.{cause_of, IsSearched, IsTextOf}
 use Rattle.maxband_run.specs.declared.cause.Cause.{Cause}
 
--- a search of the artery with so many units of work, its cause, the lines of its report, and the text of the very certificate that is accepted
-pub record IsSolution (a : Street) (work : ℕ) (c : Cause) (lines certificate : List ℕ) : Type 0 where
+-- a search of the artery within the limit, its cause, the lines of its report, and the text of the very certificate that is accepted
+pub record IsSolution (a : Street) (limit : Option ℕ) (c : Cause) (lines certificate : List ℕ) : Type 0 where
   pub found : Found
-  pub searched : IsSearched a work found
+  pub searched : IsSearched a limit found
   pub cause_is : c ≡ cause_of found.verdict
   pub lines_are : lines ≡ report_lines a found
   pub certificate_is : IsTextOf certificate (warrant_of a found)

@@ -37,10 +37,10 @@ trial_lines signals seed claim bytes =
     codes "signals " ++ (decimal signals ++ (codes "\nseed " ++ (decimal seed ++ (codes "\n" ++ (claim_lines claim ++ (codes "certificate " ++ (decimal bytes ++ codes "\ncheck accepted\n")))))))
 
 -- ---- the answer
--- a search of the made artery with so many units of work, its cause, the text of the very certificate that is accepted, and the lines
-pub record IsTrial (signals seed work : ℕ) (c : Cause) (lines : List ℕ) : Type 0 where
+-- a search of the made artery within the limit, its cause, the text of the very certificate that is accepted, and the lines
+pub record IsTrial (signals seed : ℕ) (limit : Option ℕ) (c : Cause) (lines : List ℕ) : Type 0 where
   pub found : Found
-  pub searched : IsSearched (made_street signals seed) work found
+  pub searched : IsSearched (made_street signals seed) limit found
   pub cause_is : c ≡ cause_of found.verdict
   pub text : List ℕ
   pub text_is : IsTextOf text (warrant_of (made_street signals seed) found)

@@ -1,6 +1,7 @@
 //! The answers of the commands: their files are read one after the other, and what is found of these is told.
 
-ghost use Rattle.std.specs.Prelude.{◌≡◌, ◌≤◌, None, Some, option_map, IfOk, OnErr};
+ghost use Rattle.std.specs.Prelude.{◌≡◌, None, Some, option_map, IfOk, OnErr};
+ghost use Rattle.work_meter.specs.Work.{IsBelow};
 ghost use Rattle.outer_edge.specs.Counts.{NoneFell, SameCounts};
 ghost use Rattle.outer_edge.specs.Held.{SameFiles};
 ghost use Rattle.maxband_run.specs.Lines.{words_line};
@@ -99,10 +100,10 @@ pub fn solve_answer<'a, F: Files>(
     files: &mut F,
     artery: &'a str,
     certificate: &'a str,
-    work: u64,
+    limit: Option<u64>,
 ) -> Result<Answer<'a>, Memory>
-    requires { 1 ≤ work }
-    ensures told { IfOk result (λ a. Answers (F.holds files.old) (F.read_faults files.old) (F.read_faults files.new) (Some (Solve artery.now certificate.now work)) a.cause a.lines.items (option_map view a.put)) }
+    requires { IsBelow 0 limit }
+    ensures told { IfOk result (λ a. Answers (F.holds files.old) (F.read_faults files.old) (F.read_faults files.new) (Some (Solve artery.now certificate.now limit)) a.cause a.lines.items (option_map view a.put)) }
     ensures memory { OnErr result (SameCounts (F.read_faults files.old) (F.read_faults files.new)) }
 
     // In every case.
@@ -114,7 +115,7 @@ pub fn solve_answer<'a, F: Files>(
         Ok(street) => street,
         Err(end) => return end,
     };
-    solve(alloc, &street, certificate, work)
+    solve(alloc, &street, certificate, limit)
 }
 
 /// The answer to words that are none of the forms.

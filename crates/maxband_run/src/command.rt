@@ -5,7 +5,7 @@ ghost use Rattle.maxband_run.specs.Command.{request_of, make_of, trial_of, with_
 ghost use Rattle.maxband_run.specs.Lines.{cannot_read_line};
 ghost use Rattle.maxband_run.specs.Reading.{IsRoomForFaults};
 
-use crate::numbers::{USUAL_WORK, seed_in, signals_in, work_in};
+use crate::numbers::{USUAL_WORK, limit_in, seed_in, signals_in};
 
 /// What the words ask for.
 #[derive(Clone, Copy)]
@@ -24,23 +24,23 @@ pub enum Command<'a> {
         artery: &'a str,
         certificate: &'a str,
     },
-    /// Search for a best timing of the artery of the first file with so many units of work, and put the certificate in the
-    /// second.
+    /// Search for a best timing of the artery of the first file, within a limit of the units of work where there is one, and put
+    /// the certificate in the second.
     Solve {
         artery: &'a str,
         certificate: &'a str,
-        work: u64,
+        limit: Option<u64>,
     },
     /// Write the canonical description of the artery that is made with so many signals from the seed.
     Make {
         signals: u32,
         seed: u64,
     },
-    /// Make that artery, search for a best timing of it with so many units of work, and check the certificate.
+    /// Make that artery, search for a best timing of it within such a limit, and check the certificate.
     Trial {
         signals: u32,
         seed: u64,
-        work: u64,
+        limit: Option<u64>,
     },
 }
 
@@ -54,16 +54,16 @@ fn make_of(signals: &str, seed: &str) -> Option<Command<'static>>
 }
 
 /// The command `trial` with these words.
-fn trial_of(signals: &str, seed: &str, work: &str) -> Option<Command<'static>>
-    ensures { option_map view result ≡ trial_of signals.now seed.now work.now }
+fn trial_of(signals: &str, seed: &str, limit: &str) -> Option<Command<'static>>
+    ensures { option_map view result ≡ trial_of signals.now seed.now limit.now }
 {
     let signals = signals_in(signals)?;
     let seed = seed_in(seed)?;
-    let work = work_in(work)?;
+    let limit = limit_in(limit)?;
     Some(Command::Trial {
         signals,
         seed,
-        work,
+        limit,
     })
 }
 
@@ -85,7 +85,7 @@ fn with_two<'a>(word: &str, first: &'a str, second: &'a str) -> Option<Command<'
         Some(Command::Solve {
             artery: first,
             certificate: second,
-            work: USUAL_WORK,
+            limit: Some(USUAL_WORK),
         })
     } else if word == "make" {
         make_of(first, second)
@@ -99,11 +99,11 @@ fn with_three<'a>(word: &str, first: &'a str, second: &'a str, third: &str) -> O
     ensures { option_map view result ≡ with_three word.now first.now second.now third.now }
 {
     if word == "solve" {
-        let work = work_in(third)?;
+        let limit = limit_in(third)?;
         Some(Command::Solve {
             artery: first,
             certificate: second,
-            work,
+            limit,
         })
     } else if word == "trial" {
         trial_of(first, second, third)

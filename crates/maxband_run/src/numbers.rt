@@ -1,7 +1,7 @@
 //! The numbers among the words.
 
 ghost use Rattle.std.specs.Prelude.{◌≡◌, ◌≤◌, IfSome};
-ghost use Rattle.maxband_run.specs.Numbers.{number_within, signals_of, seed_of, work_of};
+ghost use Rattle.maxband_run.specs.Numbers.{number_within, signals_of, seed_of, limit_of};
 
 use plan_text::is_numeral;
 
@@ -23,11 +23,15 @@ pub fn seed_in(word: &str) -> Option<u64>
     number_within(word, 0, u64::MAX)
 }
 
-/// The limit of the work, at least 1.
-pub fn work_in(word: &str) -> Option<u64>
-    ensures { result ≡ work_of word.now }
+/// The limit of the work: a number from 1 up, or none where the word is `all`.
+pub fn limit_in(word: &str) -> Option<Option<u64>>
+    ensures { result ≡ limit_of word.now }
 {
-    number_within(word, 1, u64::MAX)
+    if word == "all" {
+        return Some(None);
+    }
+    let units = number_within(word, 1, u64::MAX)?;
+    Some(Some(units))
 }
 
 /// The number in these limits that a word spells: digits without a leading zero, except `0` alone.

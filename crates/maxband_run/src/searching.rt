@@ -1,7 +1,8 @@
 //! The search of an artery, the check of its certificate, and the certificate's text.
 
-ghost use Rattle.std.specs.Prelude.{◌≡◌, ◌≤◌, IfOk, IfSome, OnOk};
+ghost use Rattle.std.specs.Prelude.{◌≡◌, IfOk, IfSome, OnOk};
 ghost use Rattle.progression.specs.Good.{Good};
+ghost use Rattle.work_meter.specs.Work.{IsBelow};
 ghost use Rattle.certificate_checker.specs.Accepted.{IsAccepted};
 ghost use Rattle.certificate_checker.specs.Claims.{ClaimHolds};
 ghost use Rattle.branch_tree.specs.Certified.{warrant_of};
@@ -51,16 +52,20 @@ fn confirm(alloc: Global, artery: &Artery, certificate: &Certificate) -> Result<
     }
 }
 
-/// Searches for a best timing of the artery, with so many units of work, and checks the certificate of what is found before
-/// it is written. The error is want of memory.
-pub fn search_and_check(alloc: Global, artery: &Artery, work: u64) -> Result<Searched, Memory>
-    requires { 1 ≤ work }
-    ensures searched { IfOk result (λ s. IsSearched artery.now work s.found) }
+/// Searches for a best timing of the artery, within the limit of the units of work where there is one, and checks the certificate
+/// of what is found before it is written. The error is want of memory.
+pub fn search_and_check(
+    alloc: Global,
+    artery: &Artery,
+    limit: Option<u64>,
+) -> Result<Searched, Memory>
+    requires { IsBelow 0 limit }
+    ensures searched { IfOk result (λ s. IsSearched artery.now limit s.found) }
     ensures claim { IfOk result (λ s. s.claim ≡ (warrant_of artery.now s.found).claim) }
     ensures text { IfOk result (λ s. IsTextOf s.text.items (warrant_of artery.now s.found)) }
     ensures good { IfOk result (λ s. IfSome s.found.timing (λ plan. Good artery.now plan)) }
 {
-    let found = search(alloc, artery, Some(work))?;
+    let found = search(alloc, artery, limit)?;
     let certificate = certificate_of(alloc, artery, &found)?;
     confirm(alloc, artery, &certificate)?;
     let text = write_certificate(alloc, &certificate)?;

@@ -1,6 +1,7 @@
 //! The command `solve`.
 
-ghost use Rattle.std.specs.Prelude.{◌≡◌, ◌≤◌, ℕ, List, Some, IfOk, option_map};
+ghost use Rattle.std.specs.Prelude.{◌≡◌, ℕ, List, Some, IfOk, option_map};
+ghost use Rattle.work_meter.specs.Work.{IsBelow};
 ghost use Rattle.maxband_run.specs.Outside.{named, view};
 ghost use Rattle.maxband_run.specs.Solve.{IsSolution};
 
@@ -11,18 +12,18 @@ use diagram_print::report;
 use narrow_fraction::Memory;
 use std::alloc::Global;
 
-/// Searches for a best timing of the artery, with so many units of work. The certificate of what is found is checked, and is to
-/// be put into the file of this name.
+/// Searches for a best timing of the artery, within the limit where there is one. The certificate of what is found is checked,
+/// and is to be put into the file of this name.
 pub fn solve<'a>(
     alloc: Global,
     artery: &Artery,
     certificate: &'a str,
-    work: u64,
+    limit: Option<u64>,
 ) -> Result<Answer<'a>, Memory>
-    requires { 1 ≤ work }
-    ensures finds { IfOk result (λ a. (bytes : List ℕ) × IsSolution artery.now work a.cause a.lines.items bytes × (option_map view a.put ≡ Some (named certificate.now bytes))) }
+    requires { IsBelow 0 limit }
+    ensures finds { IfOk result (λ a. (bytes : List ℕ) × IsSolution artery.now limit a.cause a.lines.items bytes × (option_map view a.put ≡ Some (named certificate.now bytes))) }
 {
-    let searched = search_and_check(alloc, artery, work)?;
+    let searched = search_and_check(alloc, artery, limit)?;
     let lines = report(alloc, artery, &searched.found)?;
     let Searched { found, text, .. } = searched;
     Ok(Answer {

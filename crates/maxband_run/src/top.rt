@@ -8,7 +8,7 @@ ghost use Rattle.maxband_run.specs.Command as commands;
 ghost use Rattle.maxband_run.specs.Command.{request_of, shape, InLimits};
 ghost use Rattle.maxband_run.specs.Outside.{outside, view, OthersKept, PutsCounted};
 ghost use Rattle.maxband_run.specs.Run.{Answers, Ends, LeavesAlone};
-ghost use Rattle.maxband_run.specs.Laws.{OneAnswer, FaultsAreTold, SolveIsComplete, MakeIsComplete, TrialIsComplete, PutIsAccepted, SolveSays, HoldSays, CheckSays};
+ghost use Rattle.maxband_run.specs.Laws.{OneAnswer, FaultsAreTold, SolveIsComplete, MakeIsComplete, TrialIsComplete, PutIsAccepted, AllNeverStopsByWork, SolveSays, HoldSays, CheckSays};
 
 use crate::answer::Answer;
 use crate::answers::{check_answer, hold_answer, show_answer, solve_answer, words_answer};
@@ -50,17 +50,17 @@ fn answer_to<'a, F: Files>(
             Command::Solve {
                 artery,
                 certificate,
-                work,
+                limit,
             },
-        ) => solve_answer(alloc, files, artery, certificate, work),
+        ) => solve_answer(alloc, files, artery, certificate, limit),
         Some(Command::Make { signals, seed }) => make(alloc, signals, seed),
         Some(
             Command::Trial {
                 signals,
                 seed,
-                work,
+                limit,
             },
-        ) => trial(alloc, signals, seed, work),
+        ) => trial(alloc, signals, seed, limit),
         None => words_answer(alloc),
     }
 }
@@ -139,6 +139,13 @@ pub fn law_make_is_complete()
 /// A law over the definitions: where no failed write is counted, `trial` ends with a verdict or by want of memory.
 pub fn law_trial_is_complete()
     ensures { TrialIsComplete }
+{}
+
+/// A law over the definitions: where the words say `all`, the search isn't stopped by work: `solve` and `trial` then end with a best
+/// timing, with none, at a named number that left 128 bits, by a counted fault or by want of memory, and `solve` also where its
+/// description is none of an artery.
+pub fn law_all_never_stops_by_work()
+    ensures { AllNeverStopsByWork }
 {}
 
 /// A law over the definitions: `check` accepts the certificate that `solve` put, with the very claim of what was found.

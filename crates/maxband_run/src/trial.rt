@@ -1,6 +1,7 @@
 //! The command `trial`.
 
 ghost use Rattle.std.specs.Prelude.{◌≡◌, ◌≤◌, None, IfOk, string_bytes};
+ghost use Rattle.work_meter.specs.Work.{IsBelow};
 ghost use Rattle.maxband_run.specs.Trial.{best_lines, bound_lines, between_lines, open_lines, claim_lines, trial_lines, IsTrial};
 
 use crate::answer::{Answer, told};
@@ -70,17 +71,22 @@ fn trial_lines(
     )
 }
 
-/// Makes the artery with so many signals, 2 to 16, from the seed, searches for a best timing of it with so many units of work,
-/// and checks the certificate.
-pub fn trial(alloc: Global, signals: u32, seed: u64, work: u64) -> Result<Answer<'static>, Memory>
+/// Makes the artery with so many signals, 2 to 16, from the seed, searches for a best timing of it within the limit of the units of
+/// work where there is one, and checks the certificate.
+pub fn trial(
+    alloc: Global,
+    signals: u32,
+    seed: u64,
+    limit: Option<u64>,
+) -> Result<Answer<'static>, Memory>
     requires least { 2 ≤ signals }
     requires most { signals ≤ 16 }
-    requires work { 1 ≤ work }
-    ensures finds { IfOk result (λ a. IsTrial signals seed work a.cause a.lines.items) }
+    requires limit { IsBelow 0 limit }
+    ensures finds { IfOk result (λ a. IsTrial signals seed limit a.cause a.lines.items) }
     ensures no_put { IfOk result (λ a. a.put ≡ None) }
 {
     let artery = make_artery(alloc, signals, seed)?;
-    let searched = search_and_check(alloc, &artery, work)?;
+    let searched = search_and_check(alloc, &artery, limit)?;
     let lines = trial_lines(alloc, signals, seed, searched.claim, searched.text.len())?;
     Ok(told(cause_of(searched.found.verdict), lines.into_bytes()))
 }

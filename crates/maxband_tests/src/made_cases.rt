@@ -78,7 +78,7 @@ pub fn is_canonical(alloc: Global, case: &Canonical) -> Result<bool, Memory> {
     )
 }
 
-/// The number of signals, the seed, the work, the number of the status, and the lines of the verdict.
+/// The number of signals, the seed, the work or `all`, the number of the status, and the lines of the verdict.
 pub type Trial = (&'static str, &'static str, &'static str, u8, &'static str);
 
 /// One unit opens the root alone, whose first leaf has both greens of the first signal.
@@ -86,6 +86,7 @@ pub const TRIALS: &[Trial] = &[
     ("2", "0", "5000", 0, "verdict best\nweighted 22/25\n"),
     ("4", "7", "5000", 0, "verdict best\nweighted 19/20\n"),
     ("2", "0", "1", 2, "verdict open\nbound 131/100\n"),
+    ("2", "0", "all", 0, "verdict best\nweighted 22/25\n"),
 ];
 
 /// The lines of a trial whose certificate has so many bytes.

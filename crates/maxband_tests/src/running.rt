@@ -46,7 +46,7 @@ impl Wanted {
     }
 }
 
-/// The name of a case, the replaced lines of the description, the work where it isn't the usual limit, the number of the
+/// The name of a case, the replaced lines of the description, the work or `all` where it isn't the usual limit, the number of the
 /// status, what is written, what the file of the certificate holds then, and what `check` writes of it.
 pub type Search = (
     &'static str,

@@ -58,6 +58,39 @@ speed_out = [30, 40]
 speed_in = [30, 40]
 ";
 
+/// Three signals half a kilometre apart, half of each cycle red. Both bands are the whole green with a shift of half a cycle from
+/// each signal to the next, so the root's vertex is a best timing; it is reached after 5 pivots.
+const THREE: &str = "[artery]
+units = \"metric\"
+parts = 100
+cycle = [\"100\", \"100\"]
+ratio = \"1\"
+
+[[signal]]
+name = \"A\"
+red = 50
+
+[[signal]]
+name = \"B\"
+red = 50
+
+[[signal]]
+name = \"C\"
+red = 50
+
+[[link]]
+distance_out = 500
+distance_in = 500
+speed_out = [\"36\", \"36\"]
+speed_in = [\"36\", \"36\"]
+
+[[link]]
+distance_out = 500
+distance_in = 500
+speed_out = [\"36\", \"36\"]
+speed_in = [\"36\", \"36\"]
+";
+
 /// Sixteen signals, whose search isn't done by the usual limit of work, which is 100000 units.
 const LONG_STREET: &str = "signal = [
     { name = \"S1\", red = 34, left_out = 5, left_in = 10 },
@@ -237,6 +270,15 @@ const LIMITS: &[Search] = &[
         Whole(b"accepted best 1/2\n"),
     ),
     (
+        "without a limit",
+        &[],
+        "all",
+        0,
+        Front(b"verdict best\nweighted 1/2 = 0.500000\n"),
+        ANY,
+        Whole(b"accepted best 1/2\n"),
+    ),
+    (
         "20 units",
         &[],
         "20",
@@ -280,6 +322,37 @@ const LIMITS: &[Search] = &[
         Front(b"verdict open\nstopped work 4\nbound 2/5\nno timing\n"),
         ANY,
         Whole(b"accepted open bound 2/5\n"),
+    ),
+];
+
+/// A unit for the root, and one for each of its pivots.
+const ROOT_OF_THREE: &[Search] = &[
+    (
+        "6 units",
+        &[],
+        "6",
+        0,
+        Front(b"verdict best\nweighted 1 = 1.000000\n"),
+        ANY,
+        Whole(b"accepted best 1\n"),
+    ),
+    (
+        "5 units",
+        &[],
+        "5",
+        2,
+        Whole(b"verdict open\nstopped work 5\nbound 1\nno timing\n"),
+        Whole(ROOT_ALONE),
+        Whole(b"accepted open bound 1\n"),
+    ),
+    (
+        "three without a limit",
+        &[],
+        "all",
+        0,
+        Front(b"verdict best\nweighted 1 = 1.000000\n"),
+        ANY,
+        Whole(b"accepted best 1\n"),
     ),
 ];
 
@@ -331,6 +404,12 @@ pub const TABLES: &[SearchTable] = &[
         artery: NEAR,
         put: "c.txt",
         cases: LIMITS,
+    },
+    SearchTable {
+        name: "three signals",
+        artery: THREE,
+        put: "c.txt",
+        cases: ROOT_OF_THREE,
     },
     SearchTable {
         name: "of a street",

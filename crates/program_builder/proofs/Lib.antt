@@ -11,3 +11,7 @@ pub mod OpeningLaws
 pub mod BuildingLaws
 pub mod FirstRows
 pub mod RowOrder
+mod EntryRefusals
+pub mod Entry
+pub mod First
+mod EntryTurns

@@ -106,7 +106,7 @@ module _ (a : Street) (box : Area) where
     nothing = ap (λ (c : List ℚ). get_or c (width (loaded a box)) (whole (pos 0))) goal-loaded ∙ goal_cells_last (goal_of a) (width (loaded a box)) (width-loaded ∙ sym (line_width a (rows.goal_form a)));
   }
 
-  shape_loaded : HasShape (box_rows a box) (goal_of a) (height (loaded a box)) (width (loaded a box))
+  pub shape_loaded : HasShape (box_rows a box) (goal_of a) (height (loaded a box)) (width (loaded a box))
   shape_loaded = record {
     count = length-map (rows_of a) (row_for a box) ∙ sym height-loaded;
     coefs = λ r l. let h = subst (λ n. r < n) height-loaded l in

@@ -3,3 +3,6 @@ pub mod Opening
 pub mod Building
 pub mod RowOrder
 pub mod OpeningLaws
+pub mod EntryRefusals
+pub mod Entry
+pub mod First

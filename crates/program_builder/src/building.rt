@@ -35,7 +35,7 @@ fn pivot(tableau: &mut Tableau, row: u32, col: u32)
 }
 
 /// Loads the rows of a box and the weighted band.
-fn load(tableau: &mut Tableau, artery: &Artery, area: &SearchBox, room: &mut Row)
+pub fn load(tableau: &mut Tableau, artery: &Artery, area: &SearchBox, room: &mut Row)
     requires boxed { IsBoxOf artery.now area.now }
     requires made { IsMadeFor artery.now tableau.old }
     requires room { length room.old.coefs ≡ places.width (count artery.now) }

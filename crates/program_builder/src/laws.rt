@@ -1,6 +1,6 @@
 //! What the definitions promise of the opening tableau, for arteries and boxes of any size.
 
-ghost use Rattle.std.specs.Prelude.{◌≡◌, ◌↔◌, ◌≤◌, ℕ, length, slice_index_or, Some, None};
+ghost use Rattle.std.specs.Prelude.{◌≡◌, ◌↔◌, ◌≤◌, ℕ, List, length, slice_index_or, Some, None};
 ghost use Rattle.rational_theory.specs.Rational.{◌+ℚ◌, ◌*ℚ◌};
 ghost use Rattle.progression.specs.Street.{Street, count};
 ghost use Rattle.progression.specs.Speeds.{number};
@@ -14,6 +14,7 @@ ghost use Rattle.loop_rows.specs.Following.{IsNextRow};
 ghost use Rattle.simplex_theory.specs.Tableau.{goal_cell};
 ghost use Rattle.program_builder.specs.BoxRows.{rows_of, name_before, IsAmong};
 ghost use Rattle.program_builder.specs.RowOrder.{IsAscending, IsRowAt};
+ghost use Rattle.program_builder.specs.First.{IsFirstFor, first_of};
 ghost use Rattle.program_builder.specs.Opening.{opening};
 ghost use Rattle.program_builder.specs.OpeningLaws.{wait_row};
 
@@ -31,4 +32,10 @@ pub fn law_rows_are_all()
 #[tactic(auto, using(crate::proofs::OpeningLaws::opening_goal))]
 pub fn law_goal_row()
     ensures { (a : Street) (box : Area) (k : ℕ) → IsValid a → k ≤ width (count a) → goal_cell (opening a box) k ≡ slice_index_or (wait_row a Outbound) k (number 0) +ℚ a.head.ratio *ℚ slice_index_or (wait_row a Inbound) k (number 0) }
+{}
+
+/// The tableau that the steps of a box begin from, whatever boxes are above it: it is dual feasible, and it stands for the box's
+/// rows and the weighted band.
+pub fn law_first()
+    ensures { (a : Street) (box : Area) (above : List Area) → IsValid a → IsFirstFor a box (first_of a box above) }
 {}

@@ -172,7 +172,11 @@ module _ (a : Street) (box : Area) (x : List ℚ) (h : IsStreet a) (b : IsBoxOf 
         let row = subst (λ y. y ≤ℚ f.bound) (line_total a f x h.signals (in_order (number 1) minus_one)) (v.rows (LoopHighRow i) k).met in
         linear (record { count = 1; low = cells_term one less_one; high = at 12 ⊕ minus constant_term } ∷ []) 0 whole_term (at 12) (block_values (whole (loop_span box i).most)) (row, tt) refl
 
-    -- so one that is not whole leaves something on both sides
+    -- so the span has a number
+    pub span_order : (loop_span box i).least ≤ℤ (loop_span box i).most
+    span_order = ≤ℤ_whole (loop_span box i).least (loop_span box i).most (≤ℚ_trans _ _ _ sum_least sum_most)
+
+    -- a block sum that is not whole leaves something on both sides
     pub loop_inside : is_whole_number (block_sum a x i) ≡ false → IsLoopPlace box i (floor_ℚ (block_sum a x i))
     loop_inside e =
         let m = between (block_sum a x i) (loop_span box i).least (loop_span box i).most sum_least sum_most e in

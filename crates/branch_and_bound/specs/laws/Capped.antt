@@ -1,14 +1,15 @@
 -- Lemmas on the definitions of `Capped`.
-use Rattle.std.specs.Prelude.{◌≡◌, ◌⊎◌, ℤ, pos, ◌-ℤ◌, ◌≤ℤ◌, ◌<ℤ◌, Bool, true, false, List, [], ◌∷◌}
+use Rattle.std.specs.Prelude.{◌≡◌, length, ◌⊎◌, ℤ, pos, ◌-ℤ◌, ◌≤ℤ◌, ◌<ℤ◌, Bool, true, false, List, [], ◌∷◌}
 use Rattle.std.proofs.Common.{inl, inr, refl, subst, arith}
 use Rattle.std.proofs.lemmas.Int.{ints}
 use lib.Signed.{lt_z}
 use Rattle.rational_theory.specs.Rational.{whole, ◌≤ℚ◌}
 use Rattle.rational_theory.proofs.Order.{≤ℚ_refl, whole-≤ℤ}
-use Rattle.linear_theory.specs.Boxes.{Area, Span, Ranks}
+use Rattle.linear_theory.specs.Boxes.{Area, Span, Ranks, loop_span}
 use Rattle.search_box.specs.declared.span.At.{At}
 use Rattle.search_box.specs.declared.span.At.TheVariants.{Loop}
 use Rattle.search_box.specs.Places.{IsPlace, low_part, high_part}
+use Rattle.branch_and_bound.specs.Choices.{HasNumbers}
 use Rattle.branch_and_bound.specs.Lineages.{Empty, Reads, Cuts, IsOptimal}
 use Rattle.branch_and_bound.specs.Capped.{ending_span, ending_of, bound_of, HasNone}
 
@@ -50,28 +51,48 @@ box_of loops turns = record { loops = loops; turns = turns }
 
 pub inside_of : (cap : ℤ) (loops : List Span) (turns : List Ranks) (place : At) → ending_of cap loops ≡ Cuts place → IsPlace (box_of loops turns) place
 inside_of cap [] turns place e = cc
-inside_of cap (s ∷ ss) turns place e =
+inside_of cap (s ∷ t ∷ ss) turns place e = cc
+inside_of cap (s ∷ []) turns place e =
     let h = cut_span cap s place (case_of cap s) e in
     let least = h.least in let most = h.most in
-    subst (λ p. IsPlace (box_of (s ∷ ss) turns) p) h.place_is (omega arith, omega arith, omega (arith, ints), omega (arith, ints))
+    subst (λ p. IsPlace (box_of (s ∷ []) turns) p) h.place_is (omega arith, omega arith, omega (arith, ints), omega (arith, ints))
+
+pub has_numbers_of : (cap : ℤ) (loops : List Span) (turns : List Ranks) (place : At) → ending_of cap loops ≡ Cuts place → HasNumbers (box_of loops turns)
+has_numbers_of cap [] turns place e i h k = cc
+has_numbers_of cap (s ∷ t ∷ ss) turns place e i h k = cc
+has_numbers_of cap (s ∷ []) turns place e i h k =
+    let c = cut_span cap s place (case_of cap s) e in
+    let least = c.least in let most = c.most in
+    let here : s.least ≤ℤ s.most = omega (arith, ints) in
+    let first : 1 ≡ i = omega arith in
+    subst (λ j. (loop_span (box_of (s ∷ []) turns) j).least ≤ℤ (loop_span (box_of (s ∷ []) turns) j).most) first here
 
 pub low_falls_of : (cap : ℤ) (loops : List Span) (turns : List Ranks) (place : At) → ending_of cap loops ≡ Cuts place → bound_of (low_part (box_of loops turns) place).loops ≤ℚ bound_of loops
 low_falls_of cap [] turns place e = cc
-low_falls_of cap (s ∷ ss) turns place e =
+low_falls_of cap (s ∷ t ∷ ss) turns place e = cc
+low_falls_of cap (s ∷ []) turns place e =
     let h = cut_span cap s place (case_of cap s) e in
-    subst (λ p. bound_of (low_part (box_of (s ∷ ss) turns) p).loops ≤ℚ whole s.most) h.place_is (whole-≤ℤ (s.most -ℤ pos 1) s.most (omega (arith, ints)))
+    subst (λ p. bound_of (low_part (box_of (s ∷ []) turns) p).loops ≤ℚ whole s.most) h.place_is (whole-≤ℤ (s.most -ℤ pos 1) s.most (omega (arith, ints)))
 
 pub high_falls_of : (cap : ℤ) (loops : List Span) (turns : List Ranks) (place : At) → ending_of cap loops ≡ Cuts place → bound_of (high_part (box_of loops turns) place).loops ≤ℚ bound_of loops
 high_falls_of cap [] turns place e = cc
-high_falls_of cap (s ∷ ss) turns place e =
+high_falls_of cap (s ∷ t ∷ ss) turns place e = cc
+high_falls_of cap (s ∷ []) turns place e =
     let h = cut_span cap s place (case_of cap s) e in
-    subst (λ p. bound_of (high_part (box_of (s ∷ ss) turns) p).loops ≤ℚ whole s.most) h.place_is (≤ℚ_refl (whole s.most))
+    subst (λ p. bound_of (high_part (box_of (s ∷ []) turns) p).loops ≤ℚ whole s.most) h.place_is (≤ℚ_refl (whole s.most))
+
+-- a part has one link too
+pub one_link : (cap : ℤ) (loops : List Span) (place : At) → ending_of cap loops ≡ Cuts place → length loops ≡ 1
+one_link cap [] place e = cc
+one_link cap (s ∷ t ∷ ss) place e = cc
+one_link cap (s ∷ []) place e = refl
 
 pub some_number : (cap : ℤ) (loops : List Span) → IsOptimal (ending_of cap loops) → HasNone cap loops → ⊥
 some_number cap [] o none = absurd o
-some_number cap (s ∷ ss) o none = by_case cap s ss (case_of cap s) o none
+some_number cap (s ∷ t ∷ ss) o none = absurd o
+some_number cap (s ∷ []) o none = by_case cap s (case_of cap s) o none
   where
-    by_case : (cap : ℤ) (s : Span) (ss : List Span) → Case cap s → IsOptimal (ending_span cap s) → HasNone cap (s ∷ ss) → ⊥
-    by_case cap s ss (is_empty h k) o none = absurd (subst IsOptimal k o)
-    by_case cap s ss (is_cut h k f) o none = none s.least (omega (arith, ints), omega (arith, ints), h)
-    by_case cap s ss (is_read h k f) o none = none s.most (h, omega (arith, ints), k)
+    by_case : (cap : ℤ) (s : Span) → Case cap s → IsOptimal (ending_span cap s) → HasNone cap (s ∷ []) → ⊥
+    by_case cap s (is_empty h k) o none = absurd (subst IsOptimal k o)
+    by_case cap s (is_cut h k f) o none = none s.least (omega (arith, ints), omega (arith, ints), h)
+    by_case cap s (is_read h k f) o none = none s.most (h, omega (arith, ints), k)

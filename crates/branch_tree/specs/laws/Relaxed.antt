@@ -1,6 +1,6 @@
 -- Lemmas on the definitions of `Relaxed`.
 use Rattle.std.specs.Prelude.{◌≡◌, Some}
-use Rattle.std.proofs.Common.{inl, inr, subst}
+use Rattle.std.proofs.Common.{inl, inr, sym, subst}
 use Rattle.rational_theory.specs.Rational.{ℚ, ◌≤ℚ◌}
 use Rattle.rational_theory.proofs.Order.{≤ℚ_trans}
 use Rattle.rational_theory.specs.Rows as maths
@@ -10,12 +10,14 @@ use Rattle.linear_theory.specs.Covering.{RefutesAll}
 use Rattle.named_row.specs.declared.leaves.Leaf.{Leaf}
 use Rattle.search_box.specs.declared.span.At.{At}
 use Rattle.search_box.specs.Places.{IsPlace}
+use Rattle.branch_and_bound.specs.Choices.{HasNumbers}
 use Rattle.branch_and_bound.specs.Lines.{Line, low_line, high_line}
 use Rattle.certificate_checker.specs.Accepted.{Shows}
 use Rattle.branch_and_bound.specs.Lineages.{Cuts, IsOptimal}
 use Rattle.branch_tree.specs.Ends.{end_bound}
 use Rattle.branch_tree.specs.LeafRows.{sum_of}
 use Rattle.branch_tree.specs.laws.BoxLaws as laws
+use Rattle.branch_tree.specs.laws.Choices.{vertex_numbers}
 use Rattle.branch_tree.specs.Lineage.{line_ending}
 use Rattle.branch_tree.specs.laws.Lineage.{IsLineOf, searchable, boxed}
 use Rattle.branch_tree.specs.Relaxed.{IsEndLeaf, RefutesBox, CoversBox}
@@ -33,6 +35,9 @@ not_refuted a line leaf l o e r = laws.not_refuted a line.area (searchable a lin
 
 pub inside : (a : Street) (line : Line) (place : At) → IsLineOf a line → line_ending a line ≡ Cuts place → IsPlace line.area place
 inside a line place l e = laws.cuts_inside a line.area (searchable a line l).valid (boxed a line l) place e
+
+pub has_numbers : (a : Street) (line : Line) (place : At) → IsLineOf a line → line_ending a line ≡ Cuts place → HasNumbers line.area
+has_numbers a line place l e = vertex_numbers a line.area _ (searchable a line l).valid (boxed a line l) (laws.ends_optimal a line.area (searchable a line l).valid (subst IsOptimal (sym e) tt)).vertex
 
 pub low_falls : (a : Street) (line : Line) (place : At) → IsLineOf a line → line_ending a line ≡ Cuts place → IsOptimal (line_ending a (low_line place line)) → end_bound a (low_line place line).area ≤ℚ end_bound a line.area
 low_falls a line place l e o = laws.low_falls a line.area (searchable a line l).valid (boxed a line l) place e o

@@ -1,6 +1,7 @@
 use Rattle.std.proofs.Common.{sym, subst}
 use Rattle.branch_tree.specs.Searches.{IsSearch}
 use Rattle.branch_tree.proofs.Answering.{answer_known, plan_good, told, certifiable, sited}
+use Rattle.branch_tree.proofs.Enough.{within_enough}
 use Rattle.branch_tree.proofs.searching.search.Goals as goal
 
 pub returns-clause-answer : goal.returns-clause-answer
@@ -26,3 +27,8 @@ pub returns-clause-site : goal.returns-clause-site
 returns-clause-site c =
     let found = c.found_of.result in
     sited c.args.artery.now c.in_ok-room.ensures.sound c.args.limit found.nodes.items found.bound found.spent _ found.verdict (returns-clause-answer c)
+
+pub returns-clause-enough : goal.returns-clause-enough
+returns-clause-enough c =
+    let found = c.found_of.result in
+    within_enough c.args.artery.now c.in_ok-room.ensures.sound c.law_enough.ensures c.args.limit found.nodes.items _ found.bound found.spent found.verdict (returns-clause-answer c)

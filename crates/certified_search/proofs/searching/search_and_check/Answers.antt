@@ -11,6 +11,7 @@ pub returns-clause-searched : goal.returns-clause-searched
 returns-clause-searched c =
     record {
       search = c.in_ok-found.ensures.answer;
+      enough = c.in_ok-found.ensures.enough;
       site = c.in_ok-found.ensures.site;
       proves =
           found_proves c.args.artery.now c.in_ok-found.found c.in_ok-certificate.certificate c.in_ok-found.ensures.good c.in_ok-found.ensures.tells c.in_ok-certificate.ensures.certificate

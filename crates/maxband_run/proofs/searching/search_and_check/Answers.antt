@@ -1,4 +1,4 @@
-use Rattle.std.proofs.Common.{Some, ◌∙◌, ap, subst}
+use Rattle.std.proofs.Common.{◌∙◌, ap, subst}
 use Rattle.plan_text.specs.Warrants.{Warrant}
 use Rattle.certificate_checker.specs.Accepted.{IsAccepted}
 use Rattle.maxband_run.specs.Searched.{IsTextOf}
@@ -6,19 +6,20 @@ use Rattle.maxband_run.proofs.Solved.{found_proves}
 use Rattle.maxband_run.proofs.searching.search_and_check.Goals as goal
 
 pub confirm-requires : goal.confirm-requires
-confirm-requires c = c.in_ok-certificate.ensures.accepted (Some c.args.work) c.in_ok-found.ensures.answer
+confirm-requires c = c.in_ok-certificate.ensures.accepted c.args.limit c.in_ok-found.ensures.answer
 
 pub returns-clause-searched : goal.returns-clause-searched
 returns-clause-searched c =
     record {
       search = c.in_ok-found.ensures.answer;
+      enough = c.in_ok-found.ensures.enough;
       site = c.in_ok-found.ensures.site;
       proves =
           found_proves c.args.artery.now c.in_ok-found.found c.in_ok-certificate.certificate c.in_ok-found.ensures.good c.in_ok-found.ensures.tells c.in_ok-certificate.ensures.certificate
           c.in_ok-confirm.ensures;
       accepted =
           subst (λ (w : Warrant). IsAccepted c.args.artery.now w) c.in_ok-certificate.ensures.certificate
-          (c.in_ok-certificate.ensures.accepted (Some c.args.work) c.in_ok-found.ensures.answer);
+          (c.in_ok-certificate.ensures.accepted c.args.limit c.in_ok-found.ensures.answer);
     }
 
 pub returns-clause-claim : goal.returns-clause-claim

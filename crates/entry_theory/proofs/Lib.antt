@@ -1,0 +1,10 @@
+pub mod Least
+pub mod Rows
+pub mod Basics
+pub mod Sorted
+pub mod Directions
+pub mod Entering
+pub mod Entered
+pub mod Turns
+pub mod SameRows
+pub mod Promises

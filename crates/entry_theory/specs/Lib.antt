@@ -1,0 +1,6 @@
+pub mod Least
+pub mod Entry
+pub mod Basics
+pub mod Directions
+pub mod Ready
+pub mod Promises

@@ -1,0 +1,48 @@
+-- A search without a limit isn't stopped by work.
+use Rattle.std.proofs.Common.{◌≡◌, ℕ, List, Option, Some, None, ◌⊎◌, inl, inr, sym, subst}
+use Rattle.progression.specs.Street.{Street}
+use Rattle.branch_and_bound.specs.declared.found.Verdict.{Verdict}
+use Rattle.branch_and_bound.specs.declared.found.Verdict.TheVariants.{Best, NoTiming, Stopped}
+use Rattle.branch_and_bound.specs.declared.found.Stop.TheVariants.{Work, Wide}
+use Rattle.branch_tree.specs.declared.site.SitePart.{SitePart}
+use Rattle.branch_tree.specs.Enough.{IsWithinEnough}
+use Rattle.workload_maker.specs.Made.{made_street}
+use Rattle.maxband_run.specs.Command.{Request, Hold, Show, Check, Solve, Make, Trial}
+use Rattle.maxband_run.specs.Outside.{Outside, NamedBytes, IsDone}
+use Rattle.maxband_run.specs.Reading.{input, IsUnread}
+use Rattle.maxband_run.specs.Searched.{cause_of}
+use Rattle.maxband_run.specs.Run.{Answers, Ends}
+use Rattle.maxband_run.specs.Laws.{IsUnlimited, EndsOtherThanByWork, AllNeverStopsByWork}
+use Rattle.maxband_run.specs.declared.reader.Reader.TheVariants.{Description}
+use Rattle.maxband_run.specs.declared.cause.Cause.{Cause}
+use Rattle.maxband_run.specs.declared.cause.Cause.TheVariants as cause
+
+verdict_end : (a : Street) (verdict : Verdict SitePart) → IsWithinEnough a None verdict → EndsOtherThanByWork (cause_of verdict)
+verdict_end a Best h = tt
+verdict_end a NoTiming h = tt
+verdict_end a (Stopped (Work units)) h = absurd h
+verdict_end a (Stopped (Wide site)) h = tt
+
+found_end : (a : Street) (c : Cause) (verdict : Verdict SitePart) → c ≡ cause_of verdict → IsWithinEnough a None verdict → EndsOtherThanByWork c
+found_end a c verdict e h = subst EndsOtherThanByWork (sym e) (verdict_end a verdict h)
+
+-- what ends a run at its description
+unread_end : (artery : List ℕ) (held : List ℕ → Option (List ℕ)) (before after : List ℕ → ℕ) (c : Cause) (lines : List ℕ)
+    → IsUnread (input Description artery) 1 held before after c lines → EndsOtherThanByWork c
+unread_end artery held before after (cause.ReadFault file) lines h = tt
+unread_end artery held before after (cause.TooLong file) lines h = tt
+unread_end artery held before after (cause.Refused refusal) lines h = tt
+unread_end artery held before after c lines h = absurd h.1.2
+
+answer_end : (asked : Request) → IsUnlimited asked → (held : List ℕ → Option (List ℕ)) (before after : List ℕ → ℕ) (c : Cause) (lines : List ℕ) (put : Option NamedBytes)
+    → Answers held before after (Some asked) c lines put → EndsOtherThanByWork c
+answer_end (Solve artery certificate None) u held before after c lines put (inl h) = elim h.stops [ inl k ↦ unread_end artery held before after c lines k | inr k ↦ absurd k.2 ]
+answer_end (Solve artery certificate None) u held before after c lines put (inr h) = found_end h.values.0 c h.finds.found.verdict h.finds.cause_is h.finds.searched.enough
+answer_end (Trial signals seed None) u held before after c lines put (inl h) = absurd h.stops
+answer_end (Trial signals seed None) u held before after c lines put (inr h) = found_end (made_street signals seed) c h.finds.found.verdict h.finds.cause_is h.finds.searched.enough
+answer_end asked u held before after c lines put h = absurd u
+
+pub unlimited : AllNeverStopsByWork
+unlimited before now asked cause.WriteFault u h = tt
+unlimited before now asked cause.Memory u h = tt
+unlimited before now asked c u h = answer_end asked u before.holds before.reads now.reads c h.0 h.1 h.2

@@ -1,0 +1,62 @@
+-- The search for a row, and one turn more.
+use Rattle.std.proofs.Common.{◌≡◌, ℕ, Bool, true, false, Some, None, List, length, add-one, ◌+◌, ◌<◌, ◌⊎◌, inl, inr, refl, sym, ◌∙◌, ap, arith}
+use Rattle.simplex_theory.specs.Tableau.{Tableau, height}
+use Rattle.narrow_fraction.specs.Attempt.{first_below}
+use Rattle.narrow_fraction.proofs.Attempt.{first_next, first_is}
+use Rattle.entry_theory.proofs.Least.{least_is, least_none}
+use Rattle.entry_theory.specs.Entry.{variable_at, can_take, entry_row, entry_turn, entry_after, entry}
+use Rattle.fraction_tableau.specs.NamedTableaus.{NamedTableau}
+use Rattle.fraction_tableau.specs.declared.wide_cell.WideCell.{WideCell}
+use Rattle.program_builder.specs.EntryRefusals.{refusal_at, turn_refusal, entry_refusal}
+
+pub none_more : (f : ℕ → Bool) (n : ℕ) → ((k : ℕ) → k < n → f k ≡ false) → f n ≡ false → (k : ℕ) → k < n + 1 → f k ≡ false
+none_more f n h e k l = pick (cases k l)
+  where
+    cases : (k : ℕ) → k < n + 1 → (k ≡ n) ⊎ (k < n)
+    cases k l = grind arith
+
+    pick : (k ≡ n) ⊎ (k < n) → f k ≡ false
+    pick (inl q) = ap f q ∙ e
+    pick (inr q) = h k q
+
+pub row_found : (vs : List ℕ) (t : Tableau) (j r : ℕ) → r < height t → ((k : ℕ) → k < r → can_take vs t j k ≡ false) → can_take vs t j r ≡ true → r ≡ entry_row vs t j
+unfolding entry_row
+row_found vs t j r h n e = sym (least_is (can_take vs t j) (height t) r (record { within = h; passes = e; before = n }))
+
+pub row_none : (vs : List ℕ) (t : Tableau) (j m : ℕ) → m ≡ height t → ((k : ℕ) → k < m → can_take vs t j k ≡ false) → m ≡ entry_row vs t j
+unfolding entry_row
+row_none vs t j m e n = e ∙ sym (least_none (can_take vs t j) (height t) (λ k l. n k (omega arith)))
+
+-- the tableau after so many turns of the entry from s
+abbrev pub turned : List ℕ → NamedTableau → ℕ → NamedTableau
+turned vs s k = record { table = entry_after vs s.table k; names = s.names; spent = s.spent }
+
+pub turned_none : (vs : List ℕ) (s : NamedTableau) → s ≡ turned vs s 0
+unfolding entry_after
+turned_none vs s = refl
+
+pub turned_next : (vs : List ℕ) (s t u : NamedTableau) (k : ℕ) → t ≡ turned vs s k → u ≡ record { table = entry_turn vs t.table (variable_at vs k); names = t.names; spent = t.spent } → u ≡ turned vs s (k + 1)
+unfolding entry_after
+turned_next vs s t u k e f =
+    f ∙ ap (λ (x : NamedTableau). record { table = entry_turn vs x.table (variable_at vs k); names = x.names; spent = x.spent }) e
+    ∙ ap (λ n. turned vs s n) (sym (add-one k))
+
+pub turned_all : (vs : List ℕ) (s : NamedTableau) (k : ℕ) → k ≡ length vs → turned vs s k ≡ record { table = entry vs s.table; names = s.names; spent = s.spent }
+unfolding entry
+turned_all vs s k e = ap (turned vs s) e
+
+pub all_passed : (vs : List ℕ) (t : Tableau) (k : ℕ) → k ≡ length vs → first_below (refusal_at vs t) k ≡ None → entry_refusal vs t ≡ None
+unfolding entry_refusal
+all_passed vs t k e h = ap (first_below (refusal_at vs t)) (sym e) ∙ h
+
+-- the refusal of a turn in the tableau that was reached
+pub refusal_here : (vs : List ℕ) (s t : NamedTableau) (k : ℕ) → t ≡ turned vs s k → turn_refusal vs t.table (variable_at vs k) ≡ refusal_at vs s.table k
+refusal_here vs s t k e = ap (λ (x : NamedTableau). turn_refusal vs x.table (variable_at vs k)) e
+
+pub first_refused : (vs : List ℕ) (s t : NamedTableau) (k : ℕ) (o : WideCell) → t ≡ turned vs s k → first_below (refusal_at vs s.table) k ≡ None → turn_refusal vs t.table (variable_at vs k) ≡ Some o → k < length vs
+    → entry_refusal vs s.table ≡ Some o
+unfolding entry_refusal
+first_refused vs s t k o e p q h = first_is (refusal_at vs s.table) k (length vs) o p (sym (refusal_here vs s t k e) ∙ q) h
+
+pub passed_next : (vs : List ℕ) (s t : NamedTableau) (k : ℕ) → t ≡ turned vs s k → first_below (refusal_at vs s.table) k ≡ None → turn_refusal vs t.table (variable_at vs k) ≡ None → first_below (refusal_at vs s.table) (k + 1) ≡ None
+passed_next vs s t k e p q = first_next (refusal_at vs s.table) k p (sym (refusal_here vs s t k e) ∙ q)
