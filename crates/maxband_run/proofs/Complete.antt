@@ -5,11 +5,11 @@ use Rattle.progression.specs.Street.{Street}
 use Rattle.description_reader.specs.Described as described
 use Rattle.outer_edge.specs.Counts.{next_count, Rose, SameCounts}
 use Rattle.workload_maker.specs.Made.{made_street}
-use Rattle.maxband_run.specs.Command.{Request, Solve, Make, Trial, shape}
+use Rattle.maxband_run.specs.Command.{Request, Solve, Make, Trial, Sweep, shape}
 use Rattle.maxband_run.specs.Outside.{Outside, NamedBytes, named, IsDone, IsBroken}
 use Rattle.maxband_run.specs.Reading.{input, Reads, IsUnread}
 use Rattle.maxband_run.specs.Run.{Answers, Ends}
-use Rattle.maxband_run.specs.Laws.{IsFault, IsVerdict, FaultsAreTold, SolveIsComplete, MakeIsComplete, TrialIsComplete}
+use Rattle.maxband_run.specs.Laws.{IsFault, IsVerdict, FaultsAreTold, SolveIsComplete, MakeIsComplete, TrialIsComplete, SweepIsComplete}
 use Rattle.maxband_run.specs.declared.reader.Reader.TheVariants.{Description}
 use Rattle.maxband_run.specs.declared.cause.Cause.{Cause}
 use Rattle.maxband_run.specs.declared.cause.Cause.TheVariants as cause
@@ -87,6 +87,26 @@ module _ (reader : described.OneAnswer) (before now : Outside) (artery certifica
 
 pub complete : described.OneAnswer → SolveIsComplete
 complete reader before now artery certificate limit a c told r no_read no_put no_write h = solve_complete reader before now artery certificate limit a told r no_read c no_put no_write h
+
+module _ (reader : described.OneAnswer) (before now : Outside) (artery table : List ℕ) (limit : Option ℕ) (cycles : List (List ℕ)) (a : Street) (told : IsSome (before.holds artery))
+    (r : Reads Description (before.holds artery) a) (no_read : Rose (before.reads artery) (now.reads artery) → ⊥) where
+  -- and leaves a table
+  sweep_done : (c : Cause) (lines : List ℕ) (put : Option NamedBytes) → Answers before.holds before.reads now.reads (Some (Sweep artery table limit cycles)) c lines put → c ≡ cause.Done
+  sweep_done c lines put (inl h) = absurd (elim h.stops [ inl k ↦ solve_unread reader before now artery table limit a told r no_read c lines k | inr k ↦ k.2 ])
+  sweep_done c lines put (inr h) = h.finds.cause_is
+
+  sweep_ends : (c : Cause) → (Rose (before.puts table) (now.puts table) → ⊥) → (Rose before.writes now.writes → ⊥)
+      → Ends before now (Some (Sweep artery table limit cycles)) c → (c ≡ cause.Done) ⊎ (c ≡ cause.Memory)
+  sweep_ends cause.WriteFault no_put no_write h =
+      absurd (not_broken before now no_write h.lines h.put
+      (λ p e rises. no_put (subst (λ name. Rose (before.puts name) (now.puts name))
+      (put_name (Some (Sweep artery table limit cycles)) before.holds before.reads now.reads h.reached h.lines table p refl
+      (subst (λ (o : Option NamedBytes). Answers before.holds before.reads now.reads (Some (Sweep artery table limit cycles)) h.reached h.lines o) e h.answer)) rises)) h.broken)
+  sweep_ends cause.Memory no_put no_write h = inr refl
+  sweep_ends c no_put no_write h = inl (sweep_done c h.0 h.1 h.2)
+
+pub sweep_complete : described.OneAnswer → SweepIsComplete
+sweep_complete reader before now artery table limit cycles a c told r no_read no_put no_write h = sweep_ends reader before now artery table limit cycles a told r no_read c no_put no_write h
 
 -- what puts nothing isn't broken but by a write
 quiet : (before now : Outside) (asked : Option Request) → (shape asked).output ≡ None → (Rose before.writes now.writes → ⊥) → Ends before now asked cause.WriteFault → ⊥

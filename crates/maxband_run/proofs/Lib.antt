@@ -11,6 +11,6 @@ pub mod PutAccepted
 pub mod Says
 pub mod Spelled
 pub mod Ranges
-pub mod Solved
 pub mod Tried
+pub mod Cycling
 pub mod Unlimited

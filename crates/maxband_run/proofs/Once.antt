@@ -13,7 +13,7 @@ use Rattle.branch_tree.specs.declared.site.SitePart.{SitePart}
 use Rattle.workload_maker.specs.Made.{made_street}
 use Rattle.maxband_run.specs.Lines.{fails_line}
 use Rattle.maxband_run.specs.CheckLines.{rejected_line}
-use Rattle.maxband_run.specs.Command.{Request, Hold, Show, Check, Solve, Make, Trial, shape}
+use Rattle.maxband_run.specs.Command.{Request, Hold, Show, Check, Solve, Make, Trial, Sweep, shape}
 use Rattle.maxband_run.specs.Reading.{Input, Values}
 use Rattle.maxband_run.specs.Searched.{cause_of}
 use Rattle.maxband_run.specs.Hold.{HoldFinds}
@@ -63,6 +63,7 @@ finds_reached (Some (Check artery certificate)) v c l bytes h = check_reached v.
 finds_reached (Some (Solve artery certificate limit)) v c l bytes h = verdict_reached c (verdict_cause c h.found.verdict h.cause_is)
 finds_reached (Some (Make signals seed)) v c l bytes h = show_reached (made_street signals seed) c l h
 finds_reached (Some (Trial signals seed limit)) v c l bytes h = verdict_reached c (verdict_cause c h.found.verdict h.cause_is)
+finds_reached (Some (Sweep artery table limit cycles)) v c l bytes h = subst (λ (d : Cause). IsReached d) (sym h.cause_is) tt
 
 hold_once : OneFirst → FailsRulesOut → (a : Street) (t : Plan) (c d : Cause) (x y : List ℕ) → HoldFinds a t c x → HoldFinds a t d y → (c ≡ d) × (x ≡ y)
 hold_once one_first rules a t cause.Done cause.Done x y h k = (refl, h.1 ∙ sym k.1)
@@ -105,6 +106,7 @@ finds_once one_text one_first rules apart once (Some (Solve artery certificate l
 finds_once one_text one_first rules apart once (Some (Make signals seed)) v c d x y s t h k = show_once one_text (made_street signals seed) c d x y h k
 finds_once one_text one_first rules apart once (Some (Trial signals seed limit)) v c d x y s t h k =
     (verdict_cause c h.found.verdict h.cause_is, verdict_cause d k.found.verdict k.cause_is)
+finds_once one_text one_first rules apart once (Some (Sweep artery table limit cycles)) v c d x y s t h k = (h.cause_is ∙ sym k.cause_is, h.lines_are ∙ sym k.lines_are)
 
 found_agree : (searches : Bool) (is : List Input) (c d : Cause) (x y : List ℕ) → FoundAgree searches c x d y → Agree searches is c x d y
 found_agree false is c d x y h = h

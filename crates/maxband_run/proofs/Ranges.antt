@@ -4,8 +4,10 @@ use Rattle.std.specs.Prelude.{option_map, option_and_then, if◌then◌else◌}
 use Rattle.std.specs.Str.{bytes_eq}
 use Rattle.work_meter.specs.Work.{IsBelow}
 use Rattle.maxband_run.specs.Numbers.{usual_work, number_within, signals_of, seed_of, limit_of}
-use Rattle.maxband_run.specs.Command.{Request, Hold, Show, Check, Solve, Make, Trial, make_of, trial_of, with_two, with_three, request_of, InLimits}
+use Rattle.maxband_run.specs.Command.{Request, Hold, Show, Check, Solve, Make, Trial, Sweep, make_of, trial_of, sweep_of, with_two, with_three, with_more, request_of, InLimits}
+use Rattle.maxband_run.specs.Cycles.{are_cycles, SpellCycles}
 use Rattle.maxband_run.proofs.Spelled.{in_limits}
+use Rattle.maxband_run.proofs.Cycling.{cycles_spelled}
 
 either : (b : Bool) (x y : Option Request) → InLimits x → InLimits y → InLimits (if b then x else y)
 either true x y h k = h
@@ -42,6 +44,12 @@ trial_limits (Some n) None w h k = tt
 trial_limits (Some n) (Some seed) None h k = tt
 trial_limits (Some n) (Some seed) (Some limit) h k = (h n refl, k limit refl)
 
+sweep_limits : (artery table : List ℕ) (cycles : List (List ℕ)) (fit : Bool) (w : Option (Option ℕ)) → (fit ≡ true → SpellCycles cycles)
+    → ((limit : Option ℕ) → w ≡ Some limit → IsBelow 0 limit) → InLimits (if fit then option_map (λ units. Sweep artery table units cycles) w else None)
+sweep_limits artery table cycles false w h k = tt
+sweep_limits artery table cycles true None h k = tt
+sweep_limits artery table cycles true (Some limit) h k = (k limit refl, h refl)
+
 -- ---- the words
 two_limits : (word first second : List ℕ) → InLimits (with_two word first second)
 two_limits word first second =
@@ -56,10 +64,15 @@ three_limits word first second third =
     (either (bytes_eq word (codes "trial")) (trial_of first second third) None
     (trial_limits (signals_of first) (seed_of second) (limit_of third) (in_limits 2 16 first) (some_limit third)) tt)
 
+more_limits : (word first second third : List ℕ) (more : List (List ℕ)) → InLimits (with_more word first second third more)
+more_limits word first second third more =
+    either (bytes_eq word (codes "sweep")) (sweep_of first second third more) None
+    (sweep_limits first second more (are_cycles more) (limit_of third) (cycles_spelled more) (some_limit third)) tt
+
 pub command_limits : (words : List (List ℕ)) → InLimits (request_of words)
 command_limits [] = tt
 command_limits (word ∷ []) = tt
 command_limits (word ∷ first ∷ []) = either (bytes_eq word (codes "show")) (Some (Show first)) None tt tt
 command_limits (word ∷ first ∷ second ∷ []) = two_limits word first second
 command_limits (word ∷ first ∷ second ∷ third ∷ []) = three_limits word first second third
-command_limits (word ∷ first ∷ second ∷ third ∷ more ∷ rest) = tt
+command_limits (word ∷ first ∷ second ∷ third ∷ fourth ∷ more) = more_limits word first second third (fourth ∷ more)

@@ -19,7 +19,8 @@ use Rattle.branch_tree.specs.declared.found.Found.{Found}
 use Rattle.branch_tree.specs.Certified.{value_of, claim_by, warrant_of}
 use Rattle.maxband_run.specs.Command.{Hold, Check, Solve, shape}
 use Rattle.maxband_run.specs.Outside.{Outside, NamedBytes, IsPut}
-use Rattle.maxband_run.specs.Searched.{cause_of, Proves, IsTextOf}
+use Rattle.certified_search.specs.Searched.{Proves}
+use Rattle.maxband_run.specs.Searched.{cause_of, IsTextOf}
 use Rattle.maxband_run.specs.Run.{Answered, Ends}
 use Rattle.maxband_run.specs.Laws.{IsVerdict, HoldsCertificate, PutsBest, PutsNone, PutsBound, SolveSays, HoldSays, CheckSays, SaysGood, SaysBroken, SaysAccepted, SaysRejected}
 use Rattle.maxband_run.specs.Status.{number_of}

@@ -1,8 +1,9 @@
 -- What the words after the program's name ask for, and what that reads, puts and searches.
-use Rattle.std.specs.Prelude.{ℕ, ◌≤◌, Bool, true, false, List, [], ◌∷◌, Option, Some, None, codes, option_map, option_and_then, if◌then◌else◌}
+use Rattle.std.specs.Prelude.{ℕ, ◌≤◌, Bool, true, false, List, [], ◌∷◌, Option, Some, None, codes, map, string_bytes, option_map, option_and_then, if◌then◌else◌}
 use Rattle.std.specs.Str.{bytes_eq}
 use Rattle.work_meter.specs.Work.{IsBelow}
 use Rattle.maxband_run.specs.Numbers.{signals_of, seed_of, limit_of, usual_work}
+use Rattle.maxband_run.specs.Cycles.{are_cycles, SpellCycles}
 use Rattle.maxband_run.specs.Reading.{Input, input}
 use Rattle.maxband_run.specs.declared.reader.Reader.TheVariants.{Description, Timing, Certificate}
 use Rattle.maxband_run.specs.declared.command.Command.{Command}
@@ -16,6 +17,7 @@ pub data Request : Type 0 where
   Solve : List ℕ → List ℕ → Option ℕ → Request  -- the names of a description and of a certificate, and the units that a search may spend, where there is a limit
   Make : ℕ → ℕ → Request  -- how many signals, and the seed
   Trial : ℕ → ℕ → Option ℕ → Request  -- how many signals, the seed, and the same of a search
+  Sweep : List ℕ → List ℕ → Option ℕ → List (List ℕ) → Request  -- the names of a description and of a table, the same of each search, and the words of the cycles
 
 abbrev pub view : Command → Request
 view (command.Hold artery timing) = Hold artery.now timing.now
@@ -24,9 +26,10 @@ view (command.Check artery certificate) = Check artery.now certificate.now
 view (command.Solve artery certificate limit) = Solve artery.now certificate.now limit
 view (command.Make signals seed) = Make signals seed
 view (command.Trial signals seed limit) = Trial signals seed limit
+view (command.Sweep artery table limit cycles) = Sweep artery.now table.now limit (map string_bytes cycles.now)
 
 -- ---- what it does with files
--- the files that are read, in this order; the file that is put once all were read, where there is one; and whether a search is made
+-- the files that are read, in this order; the file that is put once all were read, where there is one; and whether the verdict of a search is told
 pub record Shape : Type 0 where
   pub inputs : List Input
   pub output : Option (List ℕ)
@@ -41,12 +44,14 @@ shape (Some (Check artery certificate)) = record { inputs = input Description ar
 shape (Some (Solve artery certificate limit)) = record { inputs = input Description artery ∷ []; output = Some certificate; searches = true }
 shape (Some (Make signals seed)) = record { inputs = []; output = None; searches = false }
 shape (Some (Trial signals seed limit)) = record { inputs = []; output = None; searches = true }
+shape (Some (Sweep artery table limit cycles)) = record { inputs = input Description artery ∷ []; output = Some table; searches = false }
 
--- a search has work to spend, and 2 to 16 signals are made
+-- a search has work to spend, 2 to 16 signals are made, and each cycle is one
 abbrev pub InLimits : Option Request → Type 0
 InLimits (Some (Solve artery certificate limit)) = IsBelow 0 limit
 InLimits (Some (Make signals seed)) = (least_signals ≤ signals) × (signals ≤ most_signals)
 InLimits (Some (Trial signals seed limit)) = ((least_signals ≤ signals) × (signals ≤ most_signals)) × IsBelow 0 limit
+InLimits (Some (Sweep artery table limit cycles)) = IsBelow 0 limit × SpellCycles cycles
 InLimits _ = Unit {0}
 
 -- ---- the words
@@ -72,8 +77,17 @@ with_three word first second third =
     if bytes_eq word (codes "solve") then option_map (Solve first second) (limit_of third)
     else (if bytes_eq word (codes "trial") then trial_of first second third else None)
 
+-- the words for the limit and for the cycles
+abbrev pub sweep_of : List ℕ → List ℕ → List ℕ → List (List ℕ) → Option Request
+sweep_of artery table limit cycles = if are_cycles cycles then option_map (λ units. Sweep artery table units cycles) (limit_of limit) else None
+
+-- a first word with three more and any number besides
+abbrev pub with_more : List ℕ → List ℕ → List ℕ → List ℕ → List (List ℕ) → Option Request
+with_more word first second third more = if bytes_eq word (codes "sweep") then sweep_of first second third more else None
+
 abbrev pub request_of : List (List ℕ) → Option Request
 request_of (word ∷ first ∷ []) = if bytes_eq word (codes "show") then Some (Show first) else None
 request_of (word ∷ first ∷ second ∷ []) = with_two word first second
 request_of (word ∷ first ∷ second ∷ third ∷ []) = with_three word first second third
+request_of (word ∷ first ∷ second ∷ third ∷ fourth ∷ more) = with_more word first second third (fourth ∷ more)
 request_of _ = None

@@ -25,7 +25,7 @@ use Rattle.branch_tree.specs.Certified.{value_of, warrant_of}
 use Rattle.maxband_run.specs.CheckLines.{accepted_line}
 use Rattle.maxband_run.specs.Lines.{holds_lines}
 use Rattle.maxband_run.specs.Outside.{Outside, NamedBytes}
-use Rattle.maxband_run.specs.Command.{Request, Hold, Check, Solve, Make, Trial, shape}
+use Rattle.maxband_run.specs.Command.{Request, Hold, Check, Solve, Make, Trial, Sweep, shape}
 use Rattle.maxband_run.specs.Reading.{Input, most_bytes, Reads, AreTold}
 use Rattle.maxband_run.specs.declared.reader.Reader.TheVariants.{Description, Timing, Certificate}
 use Rattle.maxband_run.specs.Solve.{IsSolution}
@@ -93,6 +93,13 @@ MakeIsComplete = (before now : Outside) (signals seed : ℕ) (c : Cause) → ¬ 
 abbrev pub TrialIsComplete : Type 0
 TrialIsComplete = (before now : Outside) (signals seed : ℕ) (limit : Option ℕ) (c : Cause)
     → ¬ Rose before.writes now.writes → Ends before now (Some (Trial signals seed limit)) c → IsVerdict c ⊎ (c ≡ cause.Memory)
+
+-- Where the file tells bytes that describe an artery, and no read of it, no put of the table and no write failed, `sweep` is done or ends by want of memory.
+abbrev pub SweepIsComplete : Type 0
+SweepIsComplete = (before now : Outside) (artery table : List ℕ) (limit : Option ℕ) (cycles : List (List ℕ)) (a : Street) (c : Cause)
+    → IsSome (before.holds artery) → Reads Description (before.holds artery) a
+    → ¬ Rose (before.reads artery) (now.reads artery) → ¬ Rose (before.puts table) (now.puts table) → ¬ Rose before.writes now.writes
+    → Ends before now (Some (Sweep artery table limit cycles)) c → (c ≡ cause.Done) ⊎ (c ≡ cause.Memory)
 
 -- a search without a limit
 abbrev pub IsUnlimited : Request → Type 0

@@ -1,4 +1,5 @@
 pub mod Numbers
+pub mod Cycles
 pub mod Command
 pub mod Status
 pub mod Outside
@@ -12,5 +13,6 @@ pub mod Searched
 pub mod Solve
 pub mod Make
 pub mod Trial
+pub mod Sweep
 pub mod Run
 pub mod Laws

@@ -2,7 +2,7 @@
 use Rattle.std.specs.Prelude.{◌≡◌, ◌⊎◌, ℕ, List, [], Option, Some, None, option_map}
 use Rattle.outer_edge.specs.Counts.{SameCounts}
 use Rattle.maxband_run.specs.Outside.{Outside, NamedBytes, named, IsDone, IsUntouched, IsBroken}
-use Rattle.maxband_run.specs.Command.{Request, Hold, Show, Check, Solve, Make, Trial, shape}
+use Rattle.maxband_run.specs.Command.{Request, Hold, Show, Check, Solve, Make, Trial, Sweep, shape}
 use Rattle.maxband_run.specs.Reading.{Input, Values, AreRead, StopsReading}
 use Rattle.maxband_run.specs.Lines.{words_line}
 use Rattle.maxband_run.specs.Hold.{HoldFinds}
@@ -11,6 +11,7 @@ use Rattle.maxband_run.specs.Check.{CheckFinds}
 use Rattle.maxband_run.specs.Solve.{IsSolution}
 use Rattle.maxband_run.specs.Make.{Makes}
 use Rattle.maxband_run.specs.Trial.{IsTrial}
+use Rattle.maxband_run.specs.Sweep.{IsSweep}
 use Rattle.maxband_run.specs.declared.cause.Cause.{Cause}
 use Rattle.maxband_run.specs.declared.cause.Cause.TheVariants as cause
 
@@ -23,6 +24,7 @@ Finds (Some (Check artery certificate)) v c lines bytes = CheckFinds v.0 v.1.0 c
 Finds (Some (Solve artery certificate limit)) v c lines bytes = IsSolution v.0 limit c lines bytes
 Finds (Some (Make signals seed)) v c lines bytes = Makes signals seed c lines
 Finds (Some (Trial signals seed limit)) v c lines bytes = IsTrial signals seed limit c lines
+Finds (Some (Sweep artery table limit cycles)) v c lines bytes = IsSweep v.0 limit cycles c lines bytes
 
 -- a file isn't read: nothing is put
 pub record Stops (held : List ℕ → Option (List ℕ)) (before after : List ℕ → ℕ) (asked : Option Request) (c : Cause) (lines : List ℕ) (put : Option NamedBytes) : Type 0 where

@@ -1,4 +1,4 @@
--- What `solve` and `trial` find: what a search of an artery answers, and what its accepted certificate says of every timing on any grid.
+-- The cause and the certificate's text of what `solve` and `trial` find by a search, whose certificate is accepted.
 use Rattle.std.specs.Prelude.{◌≡◌, ℕ, List, Option, None, Ok, IfSome}
 use Rattle.rational_theory.specs.Rational.{ℚ, ◌≤ℚ◌}
 use Rattle.progression.specs.Street.{Street}
@@ -25,23 +25,6 @@ abbrev pub cause_of : Verdict SitePart → Cause
 cause_of Best = cause.Done
 cause_of NoTiming = cause.NoTiming
 cause_of (Stopped stop) = cause.Stopped stop
-
--- The timing is best and the bound is its weighted band; or no timing is good; or no good timing has a weighted band above the bound, and a timing
--- that stands is good.
-abbrev pub Proves : Street → Option Plan → ℚ → Verdict SitePart → Type 0
-Proves a timing bound Best = IsBest a timing bound
-Proves a timing bound NoTiming = (timing ≡ None) × best.NoTiming a
-Proves a timing bound (Stopped stop) = Bounded a bound × IfSome timing (λ plan. Good a plan × (weighted_band a plan ≤ℚ bound))
-
--- A search of the artery within the limit of units of work, where there is one, found this, and its certificate is accepted. A stop by work comes only
--- where there is a limit, and it is less than enough for this artery. A site that the verdict names has a box of this artery,
--- and its row, column or link.
-pub record IsSearched (a : Street) (limit : Option ℕ) (found : Found) : Type 0 where
-  pub search : IsSearch a limit found
-  pub enough : IsWithinEnough a limit found.verdict
-  pub site : HasSite a found.verdict
-  pub proves : Proves a found.timing found.bound found.verdict
-  pub accepted : IsAccepted a (warrant_of a found)
 
 -- the bytes are the one text of this certificate, and they are read as just this
 pub record IsTextOf (text : List ℕ) (certificate : Warrant) : Type 0 where

@@ -1,12 +1,13 @@
 //! The answers of the commands: their files are read one after the other, and what is found of these is told.
 
-ghost use Rattle.std.specs.Prelude.{◌≡◌, None, Some, option_map, IfOk, OnErr};
+ghost use Rattle.std.specs.Prelude.{◌≡◌, None, Some, map, option_map, string_bytes, IfOk, OnErr};
 ghost use Rattle.work_meter.specs.Work.{IsBelow};
 ghost use Rattle.outer_edge.specs.Counts.{NoneFell, SameCounts};
 ghost use Rattle.outer_edge.specs.Held.{SameFiles};
 ghost use Rattle.maxband_run.specs.Lines.{words_line};
 ghost use Rattle.maxband_run.specs.Outside.{view};
-ghost use Rattle.maxband_run.specs.Command.{Hold, Show, Check, Solve};
+ghost use Rattle.maxband_run.specs.Command.{Hold, Show, Check, Solve, Sweep};
+ghost use Rattle.maxband_run.specs.Cycles.{SpellCycles};
 ghost use Rattle.maxband_run.specs.Run.{Answers};
 
 use crate::answer::{Answer, told};
@@ -17,6 +18,7 @@ use crate::inputs::{artery_of, certificate_of, timing_of};
 use crate::lines::words_line;
 use crate::show::show;
 use crate::solve::solve;
+use crate::sweep::sweep;
 use narrow_fraction::Memory;
 use outer_edge::Files;
 use std::alloc::Global;
@@ -116,6 +118,32 @@ pub fn solve_answer<'a, F: Files>(
         Err(end) => return end,
     };
     solve(alloc, &street, certificate, limit)
+}
+
+/// The answer of `sweep`.
+pub fn sweep_answer<'a, F: Files>(
+    alloc: Global,
+    files: &mut F,
+    artery: &'a str,
+    table: &'a str,
+    limit: Option<u64>,
+    cycles: &[String],
+) -> Result<Answer<'a>, Memory>
+    requires limit { IsBelow 0 limit }
+    requires cycles { SpellCycles (map string_bytes cycles.now) }
+    ensures told { IfOk result (λ a. Answers (F.holds files.old) (F.read_faults files.old) (F.read_faults files.new) (Some (Sweep artery.now table.now limit (map string_bytes cycles.now))) a.cause a.lines.items (option_map view a.put)) }
+    ensures memory { OnErr result (SameCounts (F.read_faults files.old) (F.read_faults files.new)) }
+
+    // In every case.
+    ensures files { SameFiles (F.holds files.old) (F.holds files.new) }
+    ensures reads { NoneFell (F.read_faults files.old) (F.read_faults files.new) }
+    ensures puts { SameCounts (F.put_faults files.old) (F.put_faults files.new) }
+{
+    let street = match artery_of(alloc, files, artery, 1) {
+        Ok(street) => street,
+        Err(end) => return end,
+    };
+    sweep(alloc, &street, table, limit, cycles)
 }
 
 /// The answer to words that are none of the forms.

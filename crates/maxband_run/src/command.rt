@@ -1,10 +1,11 @@
 //! The words of a command.
 
 ghost use Rattle.std.specs.Prelude.{◌≡◌, length, map, option_map, string_bytes};
-ghost use Rattle.maxband_run.specs.Command.{request_of, make_of, trial_of, with_two, with_three, view, shape};
+ghost use Rattle.maxband_run.specs.Command.{request_of, make_of, trial_of, with_two, with_three, sweep_of, with_more, view, shape};
 ghost use Rattle.maxband_run.specs.Lines.{cannot_read_line};
 ghost use Rattle.maxband_run.specs.Reading.{IsRoomForFaults};
 
+use crate::cycles::are_cycles;
 use crate::numbers::{USUAL_WORK, limit_in, seed_in, signals_in};
 
 /// What the words ask for.
@@ -41,6 +42,14 @@ pub enum Command<'a> {
         signals: u32,
         seed: u64,
         limit: Option<u64>,
+    },
+    /// Search for a best timing of the artery of the first file at each of the cycles that the last words spell, each time within
+    /// such a limit, and put the table of them in the second.
+    Sweep {
+        artery: &'a str,
+        table: &'a str,
+        limit: Option<u64>,
+        cycles: &'a [String],
     },
 }
 
@@ -112,6 +121,44 @@ fn with_three<'a>(word: &str, first: &'a str, second: &'a str, third: &str) -> O
     }
 }
 
+/// The command `sweep` with these words.
+fn sweep_of<'a>(
+    artery: &'a str,
+    table: &'a str,
+    limit: &str,
+    cycles: &'a [String],
+) -> Option<Command<'a>>
+    ensures { option_map view result ≡ sweep_of artery.now table.now limit.now (map string_bytes cycles.now) }
+{
+    if !are_cycles(cycles) {
+        return None;
+    }
+    let limit = limit_in(limit)?;
+    Some(Command::Sweep {
+        artery,
+        table,
+        limit,
+        cycles,
+    })
+}
+
+/// The command of a word with three more and any number besides.
+fn with_more<'a>(
+    word: &str,
+    first: &'a str,
+    second: &'a str,
+    third: &str,
+    more: &'a [String],
+) -> Option<Command<'a>>
+    ensures { option_map view result ≡ with_more word.now first.now second.now third.now (map string_bytes more.now) }
+{
+    if word == "sweep" {
+        sweep_of(first, second, third, more)
+    } else {
+        None
+    }
+}
+
 /// The command of these words, where they are one of the forms.
 pub fn command_in(words: &[String]) -> Option<Command<'_>>
     ensures { option_map view result ≡ request_of (map string_bytes words.now) }
@@ -131,6 +178,13 @@ pub fn command_in(words: &[String]) -> Option<Command<'_>>
             second.as_str(),
             third.as_str(),
         ),
+        [word, first, second, third, more @ ..] => with_more(
+            word.as_str(),
+            first.as_str(),
+            second.as_str(),
+            third.as_str(),
+            more,
+        ),
         _ => None,
     }
 }
@@ -147,7 +201,11 @@ pub fn room_for_faults(command: Option<Command<'_>>) -> u64
     ensures { IsRoomForFaults (shape (option_map view command.entry)).inputs result }
 {
     match command {
-        Some(Command::Show { artery } | Command::Solve { artery, .. }) => fault_bytes(artery),
+        Some(
+            Command::Show { artery }
+            | Command::Solve { artery, .. }
+            | Command::Sweep { artery, .. },
+        ) => fault_bytes(artery),
         Some(
             Command::Hold {
                 artery,

@@ -12,6 +12,7 @@ mod cause;
 mod check;
 mod check_lines;
 mod command;
+mod cycles;
 mod finish;
 mod hold;
 mod inputs;
@@ -22,11 +23,13 @@ mod reader;
 mod searching;
 mod show;
 mod solve;
+mod sweep;
 mod top;
 mod trial;
 
 pub use cause::{Cause, Status};
 pub use top::{
     law_check_says, law_faults_are_told, law_hold_says, law_make_is_complete, law_one_answer,
-    law_put_is_accepted, law_solve_is_complete, law_solve_says, law_trial_is_complete, run,
+    law_put_is_accepted, law_solve_is_complete, law_solve_says, law_sweep_is_complete,
+    law_trial_is_complete, run,
 };

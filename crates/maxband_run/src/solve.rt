@@ -6,7 +6,7 @@ ghost use Rattle.maxband_run.specs.Outside.{named, view};
 ghost use Rattle.maxband_run.specs.Solve.{IsSolution};
 
 use crate::answer::{Answer, Put};
-use crate::searching::{Searched, cause_of, search_and_check};
+use crate::searching::{Told, cause_of, search_and_tell};
 use artery_model::Artery;
 use diagram_print::report;
 use narrow_fraction::Memory;
@@ -23,9 +23,9 @@ pub fn solve<'a>(
     requires { IsBelow 0 limit }
     ensures finds { IfOk result (λ a. (bytes : List ℕ) × IsSolution artery.now limit a.cause a.lines.items bytes × (option_map view a.put ≡ Some (named certificate.now bytes))) }
 {
-    let searched = search_and_check(alloc, artery, limit)?;
+    let searched = search_and_tell(alloc, artery, limit)?;
     let lines = report(alloc, artery, &searched.found)?;
-    let Searched { found, text, .. } = searched;
+    let Told { found, text, .. } = searched;
     Ok(Answer {
         cause: cause_of(found.verdict),
         lines,

@@ -8,10 +8,12 @@ ghost use Rattle.maxband_run.specs.Command as commands;
 ghost use Rattle.maxband_run.specs.Command.{request_of, shape, InLimits};
 ghost use Rattle.maxband_run.specs.Outside.{outside, view, OthersKept, PutsCounted};
 ghost use Rattle.maxband_run.specs.Run.{Answers, Ends, LeavesAlone};
-ghost use Rattle.maxband_run.specs.Laws.{OneAnswer, FaultsAreTold, SolveIsComplete, MakeIsComplete, TrialIsComplete, PutIsAccepted, AllNeverStopsByWork, SolveSays, HoldSays, CheckSays};
+ghost use Rattle.maxband_run.specs.Laws.{OneAnswer, FaultsAreTold, SolveIsComplete, MakeIsComplete, TrialIsComplete, SweepIsComplete, PutIsAccepted, AllNeverStopsByWork, SolveSays, HoldSays, CheckSays};
 
 use crate::answer::Answer;
-use crate::answers::{check_answer, hold_answer, show_answer, solve_answer, words_answer};
+use crate::answers::{
+    check_answer, hold_answer, show_answer, solve_answer, sweep_answer, words_answer,
+};
 use crate::cause::{Cause, Status};
 use crate::command::{Command, command_in, room_for_faults};
 use crate::finish::{Undelivered, deliver};
@@ -61,6 +63,14 @@ fn answer_to<'a, F: Files>(
                 limit,
             },
         ) => trial(alloc, signals, seed, limit),
+        Some(
+            Command::Sweep {
+                artery,
+                table,
+                limit,
+                cycles,
+            },
+        ) => sweep_answer(alloc, files, artery, table, limit, cycles),
         None => words_answer(alloc),
     }
 }
@@ -79,7 +89,7 @@ fn status(cause: Cause) -> Status
 ///
 /// The status has its cause: what the bytes of the files are, which are those that they held at entry where they tell them, what
 /// is made from a seed, or which failed call was counted. The output grew by exactly that answer's lines, and no file changed but
-/// that `solve` put the text of its certificate, which is read back as the very certificate that was accepted. What a command
+/// that `solve` put the text of its certificate, which is read back as the very certificate that was accepted, or `sweep` its table. What a command
 /// reads and puts is a table, `shape`. Each call that failed and was counted is told by the status: after any other no count has
 /// changed. After `Memory` no file changed and nothing was written; after `WriteFault` either the put failed and nothing was
 /// written, or a front of the lines of the answer that was reached went out.
@@ -147,6 +157,14 @@ pub fn law_trial_is_complete()
 pub fn law_all_never_stops_by_work()
     ensures { AllNeverStopsByWork }
 {}
+
+/// A law over the definitions: where the description of `sweep` is one of an artery and no fault is counted, the run is done or
+/// ends by want of memory.
+pub fn law_sweep_is_complete()
+    ensures { SweepIsComplete }
+{
+    description_reader::law_one_answer();
+}
 
 /// A law over the definitions: `check` accepts the certificate that `solve` put, with the very claim of what was found.
 pub fn law_put_is_accepted()

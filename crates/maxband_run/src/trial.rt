@@ -6,7 +6,7 @@ ghost use Rattle.maxband_run.specs.Trial.{best_lines, bound_lines, between_lines
 ghost use Rattle.artery_model.specs.Bounds.{least_signals, most_signals};
 
 use crate::answer::{Answer, told};
-use crate::searching::{cause_of, search_and_check};
+use crate::searching::{cause_of, search_and_tell};
 use narrow_fraction::{Frac, Memory};
 use plan_text::Claim;
 use quantity_text::exact_string;
@@ -87,7 +87,7 @@ pub fn trial(
     ensures no_put { IfOk result (λ a. a.put ≡ None) }
 {
     let artery = make_artery(alloc, signals, seed)?;
-    let searched = search_and_check(alloc, &artery, limit)?;
+    let searched = search_and_tell(alloc, &artery, limit)?;
     let lines = trial_lines(alloc, signals, seed, searched.claim, searched.text.len())?;
     Ok(told(cause_of(searched.found.verdict), lines.into_bytes()))
 }

@@ -1,13 +1,15 @@
 //! Runs of which a read, a put or a write fails.
 
 use crate::running::Fault;
-use crate::running::Wanted::{Absent, Front};
+use crate::running::Wanted::{Absent, Front, Whole};
 
 const HOLD: &[&str] = &["hold", "a.toml", "b.txt"];
 
 const CHECK: &[&str] = &["check", "near.toml", "best.txt"];
 
 const SOLVE: &[&str] = &["solve", "a.toml", "new.txt"];
+
+const SWEEP: &[&str] = &["sweep", "near.toml", "new.txt", "all", "100", "120"];
 
 /// The first and the second call read a description to its end, the third and the fourth the other file, or the third
 /// puts the certificate.
@@ -155,6 +157,51 @@ pub const FAULTS: &[Fault] = &[
         number: 7,
         written: b"verdict best\nwei",
         kept: Front(b"maxband-certificate 1\nverdict best\n"),
+    },
+    Fault {
+        name: "sweep without a fault",
+        words: SWEEP,
+        fail_files: &[],
+        fail_writes: &[],
+        number: 0,
+        written: b"rows 2\n",
+        kept: Whole(b"cycle,verdict,weighted,bound,cause\n100,best,1/2,1/2,-\n120,outside,-,-,-\n"),
+    },
+    Fault {
+        name: "sweep, description",
+        words: SWEEP,
+        fail_files: &[1],
+        fail_writes: &[],
+        number: 6,
+        written: b"cannot read near.toml\n",
+        kept: Absent,
+    },
+    Fault {
+        name: "sweep, absent description",
+        words: &["sweep", "absent.toml", "new.txt", "all", "100"],
+        fail_files: &[],
+        fail_writes: &[],
+        number: 6,
+        written: b"cannot read absent.toml\n",
+        kept: Absent,
+    },
+    Fault {
+        name: "sweep, put",
+        words: SWEEP,
+        fail_files: &[3],
+        fail_writes: &[],
+        number: 7,
+        written: b"",
+        kept: Absent,
+    },
+    Fault {
+        name: "sweep, first write",
+        words: SWEEP,
+        fail_files: &[],
+        fail_writes: &[1],
+        number: 7,
+        written: b"",
+        kept: Whole(b"cycle,verdict,weighted,bound,cause\n100,best,1/2,1/2,-\n120,outside,-,-,-\n"),
     },
     // `make` and `trial` call no file.
     Fault {

@@ -21,6 +21,8 @@ mod shipped;
 #[cfg(test)]
 mod solve_cases;
 #[cfg(test)]
+mod sweep_cases;
+#[cfg(test)]
 mod tests;
 #[cfg(test)]
 mod texts;

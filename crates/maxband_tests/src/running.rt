@@ -66,6 +66,30 @@ pub struct SearchTable {
     pub cases: &'static [Search],
 }
 
+/// A run of `sweep` over the description of `a.toml` with some of its lines replaced, which puts the table in `t.csv`.
+pub struct Sweep {
+    pub name: &'static str,
+    pub lines: Lines,
+    pub words: &'static [&'static str],
+    pub number: u8,
+    pub written: &'static [u8],
+    pub table: Wanted,
+}
+
+impl Sweep {
+    /// Whether the run comes to what is wanted.
+    pub fn is_as_wanted(&self, alloc: Global, artery: &str) -> Result<bool, Memory> {
+        let mut files = SureFiles::new(alloc);
+        files.add("a.toml", with_lines(alloc, artery, self.lines)?.as_slice())?;
+        let got = answered(alloc, self.words, &mut files)?;
+        Ok(
+            got.number == self.number
+                && got.out.bytes() == self.written
+                && self.table.is(files.bytes("t.csv")),
+        )
+    }
+}
+
 /// A run of which these calls on files, and these writes of at most 16 bytes, fail. `kept` is what `new.txt` holds then.
 pub struct Fault {
     pub name: &'static str,

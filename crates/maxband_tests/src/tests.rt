@@ -5,6 +5,7 @@ use crate::length_cases::{LINE_FEEDS, PADDED, is_checked, is_read};
 use crate::made_cases::{CANONICAL, TRIALS, is_canonical, is_found};
 use crate::running::{first_wrong, first_wrong_search, is_answered, is_reported};
 use crate::shipped::STREETS;
+use crate::sweep_cases::{COUNTS, SWEEPS, first_wrong_sweep, is_counted};
 use crate::word_cases::{NO_FORMS, are_no_form};
 use crate::{check_cases, hold_cases, solve_cases, width_streets};
 use std::test::Fail;
@@ -92,6 +93,23 @@ fn what_trials_find(rt: HostRuntime) -> Result<(), Fail> {
             trial.0,
             trial.1,
             trial.2
+        );
+    }
+    Ok(())
+}
+
+#[test]
+fn sweeps_and_their_tables(rt: HostRuntime) -> Result<(), Fail> {
+    assert_eq!(rt; first_wrong_sweep(rt.alloc(), SWEEPS)?, "");
+    Ok(())
+}
+
+#[test]
+fn how_many_cycles_a_sweep_takes(rt: HostRuntime) -> Result<(), Fail> {
+    for (cycles, number, written) in COUNTS {
+        assert!(rt;
+            is_counted(rt.alloc(), *cycles, *number, *written)?,
+            "{cycles}"
         );
     }
     Ok(())

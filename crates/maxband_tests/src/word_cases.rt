@@ -63,6 +63,23 @@ pub const NO_FORMS: &[&[&str]] = &[
     &["trial", "4", "7", "18446744073709551616"],
     &["trial", "1", "7", "1"],
     &["trial", "4", "7", "1", "1"],
+    &["sweep"],
+    &["sweep", "a.toml"],
+    &["sweep", "a.toml", "c.txt"],
+    &["sweep", "a.toml", "c.txt", "5000"],
+    &["Sweep", "a.toml", "c.txt", "5000", "100"],
+    &["sweep", "a.toml", "c.txt", "0", "100"],
+    &["sweep", "a.toml", "c.txt", "ALL", "100"],
+    &["sweep", "a.toml", "c.txt", "100", "all"],
+    &["sweep", "a.toml", "c.txt", "all", ""],
+    &["sweep", "a.toml", "c.txt", "all", "1/0"],
+    &["sweep", "a.toml", "c.txt", "all", "100", "1/0"],
+    &["sweep", "a.toml", "c.txt", "all", "100 "],
+    &["sweep", "a.toml", "c.txt", "all", "-100"],
+    &["sweep", "a.toml", "c.txt", "all", "0.99"],
+    &["sweep", "a.toml", "c.txt", "all", "3600.01"],
+    &["sweep", "a.toml", "c.txt", "all", "100.0001"],
+    &["sweep", "a.toml", "c.txt", "all", "100001/1000"],
 ];
 
 /// Whether the words are of no form, and no file is put.

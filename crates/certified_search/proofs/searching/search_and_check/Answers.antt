@@ -1,9 +1,8 @@
-use Rattle.std.proofs.Common.{◌∙◌, ap, subst}
+use Rattle.std.proofs.Common.{◌∙◌, subst}
 use Rattle.plan_text.specs.Warrants.{Warrant}
 use Rattle.certificate_checker.specs.Accepted.{IsAccepted}
-use Rattle.maxband_run.specs.Searched.{IsTextOf}
-use Rattle.maxband_run.proofs.Solved.{found_proves}
-use Rattle.maxband_run.proofs.searching.search_and_check.Goals as goal
+use Rattle.certified_search.proofs.Solved.{found_proves}
+use Rattle.certified_search.proofs.searching.search_and_check.Goals as goal
 
 pub confirm-requires : goal.confirm-requires
 confirm-requires c = c.in_ok-certificate.ensures.accepted c.args.limit c.in_ok-found.ensures.answer
@@ -22,9 +21,5 @@ returns-clause-searched c =
           (c.in_ok-certificate.ensures.accepted c.args.limit c.in_ok-found.ensures.answer);
     }
 
-pub returns-clause-claim : goal.returns-clause-claim
-returns-clause-claim c = ap (λ (w : Warrant). w.claim) (c.certificate.view_is ∙ c.in_ok-certificate.ensures.certificate)
-
-pub returns-clause-text : goal.returns-clause-text
-returns-clause-text c =
-    subst (λ (w : Warrant). IsTextOf c.in_ok-text.text.items w) c.in_ok-certificate.ensures.certificate (record { written = c.in_ok-text.ensures.text; read_back = c.in_ok-text.ensures.read_back })
+pub returns-clause-timed : goal.returns-clause-timed
+returns-clause-timed c = c.in_ok-found.ensures.certifiable.timing

@@ -1,0 +1,6 @@
+mod Allowed
+mod Matched
+mod Pinned
+mod Plain
+mod Quantities
+mod Saying

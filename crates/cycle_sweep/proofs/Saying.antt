@@ -1,0 +1,76 @@
+-- What the rows say, from what a search answers and what its accepted certificate proves.
+use Rattle.std.proofs.Common.{ℕ, List, map, Option, Some, None, refl, sym, ap, subst}
+use Rattle.std.proofs.lemmas.Option.{none-some}
+use Rattle.rational_theory.specs.Rational.{ℚ}
+use Rattle.progression.specs.Street.{Street}
+use Rattle.progression.specs.Plan.{Plan}
+use Rattle.plan_text.specs.Warrants.{Warrant}
+use Rattle.certificate_checker.specs.Accepted.{IsAccepted}
+use Rattle.branch_and_bound.specs.declared.node.TreeNode.{TreeNode}
+use Rattle.branch_and_bound.specs.declared.incumbent.Incumbent.{Incumbent}
+use Rattle.branch_and_bound.specs.declared.found.Stop.{Stop}
+use Rattle.branch_and_bound.specs.declared.found.Stop.TheVariants.{Work, Wide}
+use Rattle.branch_and_bound.specs.declared.found.Verdict.{Verdict}
+use Rattle.branch_and_bound.specs.declared.found.Verdict.TheVariants.{Best, NoTiming, Stopped}
+use Rattle.branch_and_bound.specs.Answer.{IsAnswer}
+use Rattle.branch_tree.specs.declared.site.SitePart.{SitePart}
+use Rattle.branch_tree.specs.Searches.{incumbent_of}
+use Rattle.branch_tree.specs.ArteryRules.{rules_of}
+use Rattle.branch_tree.specs.Trees.{node_of}
+use Rattle.branch_tree.specs.Certified.{value_of, claim_by}
+use Rattle.certified_search.specs.Searched.{Proves}
+use Rattle.cycle_sweep.specs.declared.row.SweepRow.TheVariants.{Outside, Searched}
+use Rattle.cycle_sweep.specs.Rows.{at_cycle}
+use Rattle.cycle_sweep.specs.Table.{fields, number_text, verdict_text, cause_text, bound_of, outside_fields, found_fields}
+use Rattle.cycle_sweep.specs.Says.{IsWhy, SaysFound, RowsSay}
+use Rattle.quantity_text.specs.Exact.{exact_spelling}
+
+-- the certificate of what was found
+abbrev certificate_of : Street → Option Plan → ℚ → Verdict SitePart → List TreeNode → Warrant
+certificate_of a timing bound verdict nodes = record { claim = claim_by verdict bound (value_of a timing); timing = timing; nodes = map node_of nodes }
+
+-- the fields after the cycle
+abbrev texts_of : Street → ℚ → Option Plan → ℚ → Verdict SitePart → List (List ℕ)
+texts_of a cycle timing bound verdict =
+    fields (exact_spelling cycle) (verdict_text verdict) (number_text (value_of a timing)) (number_text (bound_of verdict bound (value_of a timing))) (cause_text verdict)
+
+-- a stop by work comes at the limit
+why_of : (a : Street) (limit : Option ℕ) (nodes : List TreeNode) (best : Option (Incumbent Plan)) (bound : ℚ) (spent : ℕ) (stop : Stop SitePart)
+    → IsAnswer (rules_of a) limit nodes best bound spent (Stopped stop) → IsWhy limit spent stop
+why_of a limit nodes best bound spent (Work units) h = (h.cause.0, h.cause.1)
+why_of a limit nodes best bound spent (Wide site) h = tt
+
+says_found : (a : Street) (limit : Option ℕ) (cycle : ℚ) (nodes : List TreeNode) (timing : Option Plan) (bound : ℚ) (spent : ℕ) (verdict : Verdict SitePart)
+    → IsAnswer (rules_of (at_cycle a cycle)) limit nodes (incumbent_of (at_cycle a cycle) timing) bound spent verdict
+    → Proves (at_cycle a cycle) timing bound verdict → IsAccepted (at_cycle a cycle) (certificate_of (at_cycle a cycle) timing bound verdict nodes)
+    → SaysFound a limit cycle spent verdict (texts_of a cycle timing bound verdict)
+says_found a limit cycle nodes None bound spent Best s h k = absurd h
+says_found a limit cycle nodes (Some plan) bound spent Best s h k = record {
+  plan = plan;
+  best = h.0;
+  certified = record { certificate = certificate_of (at_cycle a cycle) (Some plan) bound Best nodes; accepted = k; claim_is = refl; timing_is = refl };
+  texts_are = refl;
+}
+says_found a limit cycle nodes None bound spent NoTiming s h k = record {
+  none = h.1;
+  certified = record { certificate = certificate_of (at_cycle a cycle) None bound NoTiming nodes; accepted = k; claim_is = refl; timing_is = refl };
+  texts_are = refl;
+}
+says_found a limit cycle nodes (Some plan) bound spent NoTiming s h k = absurd (none-some plan (sym h.0))
+says_found a limit cycle nodes timing bound spent (Stopped stop) s h k = record {
+  bound = bound;
+  timing = timing;
+  bounded = h.0;
+  good = h.1;
+  certified = record { certificate = certificate_of (at_cycle a cycle) timing bound (Stopped stop) nodes; accepted = k; claim_is = refl; timing_is = refl };
+  why = why_of (at_cycle a cycle) limit nodes (incumbent_of (at_cycle a cycle) timing) bound spent stop s;
+  texts_are = refl;
+}
+
+pub rows_say : RowsSay
+rows_say a limit cycle (Outside shown) r = (r.1, ap outside_fields r.0)
+rows_say a limit cycle (Searched shown found) r = (
+  r.1,
+  subst (λ c. SaysFound a limit cycle found.spent found.verdict (found_fields a c found)) (sym r.0)
+      (says_found a limit cycle found.nodes.items found.timing found.bound found.spent found.verdict r.2.search r.2.proves r.2.accepted),
+)

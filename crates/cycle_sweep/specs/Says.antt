@@ -1,0 +1,73 @@
+-- What the records of a sweep say of the street, in the words of the model.
+use Rattle.std.specs.Prelude.{◌≡◌, ℕ, List, Option, Some, None, IfSome, codes}
+use Rattle.rational_theory.specs.Rational.{ℚ, ◌≤ℚ◌}
+use Rattle.progression.specs.Street.{Street}
+use Rattle.progression.specs.Plan.{Plan}
+use Rattle.progression.specs.Good.{Good}
+use Rattle.progression.specs.Best as best
+use Rattle.progression.specs.Best.{Best, Bounded, weighted_band}
+use Rattle.quantity_text.specs.Exact.{exact_spelling}
+use Rattle.plan_text.specs.Warrants.{Warrant}
+use Rattle.plan_text.specs.declared.certificate.Claim.{Claim}
+use Rattle.plan_text.specs.declared.certificate.Claim.TheVariants as claim
+use Rattle.certificate_checker.specs.Accepted.{IsAccepted}
+use Rattle.branch_and_bound.specs.declared.found.Stop.{Stop}
+use Rattle.branch_and_bound.specs.declared.found.Stop.TheVariants.{Work, Wide}
+use Rattle.branch_and_bound.specs.declared.found.Verdict.{Verdict}
+use Rattle.branch_and_bound.specs.declared.found.Verdict.TheVariants as verdict
+use Rattle.branch_tree.specs.declared.site.SitePart.{SitePart}
+use Rattle.branch_tree.specs.Certified.{value_of}
+use Rattle.cycle_sweep.specs.declared.row.SweepRow.{SweepRow}
+use Rattle.cycle_sweep.specs.declared.row.SweepRow.TheVariants.{Outside, Searched}
+use Rattle.cycle_sweep.specs.Rows.{at_cycle, IsAllowed, IsRow}
+use Rattle.cycle_sweep.specs.Table.{fields, dash, number_text, stop_text, row_fields}
+
+-- a certificate with this claim and this timing is accepted
+pub record HasCertificate (a : Street) (claimed : Claim) (timing : Option Plan) : Type 0 where
+  pub certificate : Warrant
+  pub accepted : IsAccepted a certificate
+  pub claim_is : certificate.claim ≡ claimed
+  pub timing_is : certificate.timing ≡ timing
+
+-- `best`: this timing is best at the cycle, and its weighted band is in both columns
+pub record SaysBest (a : Street) (cycle : ℚ) (texts : List (List ℕ)) : Type 0 where
+  pub plan : Plan
+  pub best : Best (at_cycle a cycle) plan
+  pub certified : HasCertificate (at_cycle a cycle) (claim.Best (weighted_band (at_cycle a cycle) plan)) (Some plan)
+  pub texts_are : texts
+      ≡ fields (exact_spelling cycle) (codes "best") (exact_spelling (weighted_band (at_cycle a cycle) plan)) (exact_spelling (weighted_band (at_cycle a cycle) plan)) dash
+
+-- `none`: no timing is good at the cycle
+pub record SaysNone (a : Street) (cycle : ℚ) (texts : List (List ℕ)) : Type 0 where
+  pub none : best.NoTiming (at_cycle a cycle)
+  pub certified : HasCertificate (at_cycle a cycle) claim.NoTiming None
+  pub texts_are : texts ≡ fields (exact_spelling cycle) (codes "none") dash dash dash
+
+-- all units of work were spent, where that is the cause
+abbrev pub IsWhy : Option ℕ → ℕ → Stop SitePart → Type 0
+IsWhy limit spent (Work units) = (units ≡ spent) × (limit ≡ Some spent)
+IsWhy limit spent (Wide site) = Unit {0}
+
+-- `open`: no good timing at the cycle has a weighted band above the bound, and a timing that was found is good
+pub record SaysOpen (a : Street) (limit : Option ℕ) (cycle : ℚ) (spent : ℕ) (stop : Stop SitePart) (texts : List (List ℕ)) : Type 0 where
+  pub bound : ℚ
+  pub timing : Option Plan
+  pub bounded : Bounded (at_cycle a cycle) bound
+  pub good : IfSome timing (λ plan. Good (at_cycle a cycle) plan × (weighted_band (at_cycle a cycle) plan ≤ℚ bound))
+  pub certified : HasCertificate (at_cycle a cycle) (claim.Stopped bound (value_of (at_cycle a cycle) timing)) timing
+  pub why : IsWhy limit spent stop
+  pub texts_are : texts ≡ fields (exact_spelling cycle) (codes "open") (number_text (value_of (at_cycle a cycle) timing)) (exact_spelling bound) (stop_text stop)
+
+abbrev pub SaysFound : Street → Option ℕ → ℚ → ℕ → Verdict SitePart → List (List ℕ) → Type 0
+SaysFound a limit cycle spent verdict.Best texts = SaysBest a cycle texts
+SaysFound a limit cycle spent verdict.NoTiming texts = SaysNone a cycle texts
+SaysFound a limit cycle spent (verdict.Stopped stop) texts = SaysOpen a limit cycle spent stop texts
+
+-- `outside`: the street doesn't allow the cycle
+abbrev pub SaysRow : Street → Option ℕ → ℚ → SweepRow → List (List ℕ) → Type 0
+SaysRow a limit cycle (Outside shown) texts = (¬ IsAllowed a cycle) × (texts ≡ fields (exact_spelling cycle) (codes "outside") dash dash dash)
+SaysRow a limit cycle (Searched shown found) texts = IsAllowed a cycle × SaysFound a limit cycle found.spent found.verdict texts
+
+-- what the record of a cycle means
+abbrev pub RowsSay : Type 0
+RowsSay = (a : Street) (limit : Option ℕ) (cycle : ℚ) (row : SweepRow) → IsRow a limit cycle row → SaysRow a limit cycle row (row_fields a row)

@@ -1,0 +1,81 @@
+//! The words and numbers of a record.
+
+ghost use Rattle.std.specs.Prelude.{◌≡◌, IfOk};
+ghost use Rattle.branch_tree.specs.Certified as certified;
+ghost use Rattle.cycle_sweep.specs.Table.{verdict_text, cause_text, number_text, bound_of, stop_text, dash};
+
+use artery_model::Artery;
+use branch_tree::{Stop, Verdict};
+use narrow_fraction::{Frac, Memory};
+use quantity_text::exact_text;
+use std::alloc::Global;
+use time_space::{Timing, value};
+
+/// The verdict's word.
+pub(crate) fn verdict_word(verdict: &Verdict) -> &'static str
+    ensures { result.now ≡ verdict_text verdict.now }
+{
+    match verdict {
+        Verdict::Best => "best",
+        Verdict::NoTiming => "none",
+        Verdict::Stopped(_) => "open",
+    }
+}
+
+fn stop_word(stop: &Stop) -> &'static str
+    ensures { result.now ≡ stop_text stop.now }
+{
+    match stop {
+        Stop::Work { .. } => "work",
+        Stop::Wide(_) => "wide",
+    }
+}
+
+/// Why the search stopped, if it did.
+pub(crate) fn cause_word(verdict: &Verdict) -> &'static str
+    ensures { result.now ≡ cause_text verdict.now }
+{
+    match verdict {
+        Verdict::Best => "-",
+        Verdict::NoTiming => "-",
+        Verdict::Stopped(stop) => stop_word(stop),
+    }
+}
+
+/// The timing's weighted band.
+pub(crate) fn value_of(artery: &Artery, timing: &Option<Timing>) -> Option<Frac>
+    ensures { result ≡ certified.value_of artery.now timing.now }
+{
+    match timing {
+        Some(timing) => Some(value(artery, timing)),
+        None => None,
+    }
+}
+
+/// What no weighted band exceeds: the value of a best timing, or the bound of a search that stopped.
+pub(crate) fn bound_of(verdict: &Verdict, bound: Frac, value: Option<Frac>) -> Option<Frac>
+    ensures { result ≡ bound_of verdict.now bound value }
+{
+    match verdict {
+        Verdict::Best => value,
+        Verdict::NoTiming => None,
+        Verdict::Stopped(_) => Some(bound),
+    }
+}
+
+fn dash(alloc: Global) -> Result<Vec<u8>, Memory>
+    ensures { IfOk result (λ text. text.items ≡ dash) }
+{
+    let text = String::from_str(alloc, "-")?;
+    Ok(text.into_bytes())
+}
+
+/// The exact text of a number, and `-` where there is none.
+pub(crate) fn number_text(alloc: Global, number: Option<Frac>) -> Result<Vec<u8>, Memory>
+    ensures { IfOk result (λ text. text.items ≡ number_text number) }
+{
+    match number {
+        Some(number) => exact_text(alloc, number),
+        None => dash(alloc),
+    }
+}

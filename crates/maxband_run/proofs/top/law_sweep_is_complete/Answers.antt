@@ -1,0 +1,5 @@
+use Rattle.maxband_run.proofs.Complete.{sweep_complete}
+use Rattle.maxband_run.proofs.top.law_sweep_is_complete.Goals as goal
+
+pub returns : goal.returns
+returns c = sweep_complete c.law_one_answer.ensures

@@ -1,0 +1,45 @@
+//! The command `sweep`.
+
+ghost use Rattle.std.specs.Prelude.{◌≡◌, ℕ, List, Some, IfOk, map, option_map, string_bytes};
+ghost use Rattle.work_meter.specs.Work.{IsBelow};
+ghost use Rattle.maxband_run.specs.Outside.{named, view};
+ghost use Rattle.maxband_run.specs.Cycles.{SpellCycles};
+ghost use Rattle.maxband_run.specs.Sweep.{rows_line, IsSweep};
+
+use crate::answer::{Answer, Put};
+use crate::cause::Cause;
+use crate::cycles::cycles_in;
+use artery_model::Artery;
+use cycle_sweep::{sweep_rows, sweep_table};
+use narrow_fraction::Memory;
+use std::alloc::{AllocError, Global};
+
+fn rows_line(alloc: Global, rows: usize) -> Result<String, AllocError>
+    ensures { IfOk result (λ line. string_bytes line ≡ rows_line rows) }
+{
+    format!(in alloc; "rows {rows}\n")
+}
+
+/// Searches the artery at each cycle that the words spell, each time within the limit of work. The table of what is found is to be
+/// put into the file of this name.
+pub fn sweep<'a>(
+    alloc: Global,
+    artery: &Artery,
+    table: &'a str,
+    limit: Option<u64>,
+    words: &[String],
+) -> Result<Answer<'a>, Memory>
+    requires limit { IsBelow 0 limit }
+    requires words { SpellCycles (map string_bytes words.now) }
+    ensures finds { IfOk result (λ a. (bytes : List ℕ) × IsSweep artery.now limit (map string_bytes words.now) a.cause a.lines.items bytes × (option_map view a.put ≡ Some (named table.now bytes))) }
+{
+    let cycles = cycles_in(alloc, words)?;
+    let rows = sweep_rows(alloc, artery, limit, cycles.as_slice())?;
+    let bytes = sweep_table(alloc, artery, rows.as_slice())?;
+    let lines = rows_line(alloc, words.len())?.into_bytes();
+    Ok(Answer {
+        cause: Cause::Done,
+        lines,
+        put: Some(Put { name: table, bytes }),
+    })
+}
