@@ -91,47 +91,29 @@ speed_out = [\"36\", \"36\"]
 speed_in = [\"36\", \"36\"]
 ";
 
-/// Sixteen signals, whose search isn't done by the usual limit of work, which is 100000 units.
+/// Seven signals far apart, driven through at one pace: a search that is not done by the usual limit of work, which is 100000 units.
 const LONG_STREET: &str = "signal = [
-    { name = \"S1\", red = 34, left_out = 5, left_in = 10 },
-    { name = \"S2\", red = 32, left_out = 5, left_in = 5 },
-    { name = \"S3\", red = 41, left_out = 0, left_in = 0 },
-    { name = \"S4\", red = 48, left_out = 5, left_in = 0 },
-    { name = \"S5\", red = 46, left_out = 10, left_in = 10 },
-    { name = \"S6\", red = 39, left_out = 5, left_in = 5 },
-    { name = \"S7\", red = 38, left_out = 10, left_in = 5 },
-    { name = \"S8\", red = 38, left_out = 0, left_in = 10 },
-    { name = \"S9\", red = 40, left_out = 10, left_in = 5 },
-    { name = \"S10\", red = 47, left_out = 0, left_in = 10 },
-    { name = \"S11\", red = 36, left_out = 5, left_in = 10 },
-    { name = \"S12\", red = 43, left_out = 5, left_in = 10 },
-    { name = \"S13\", red = 50, left_out = 10, left_in = 5 },
-    { name = \"S14\", red = 50, left_out = 10, left_in = 5 },
-    { name = \"S15\", red = 34, left_out = 10, left_in = 5 },
-    { name = \"S16\", red = 30, left_out = 5, left_in = 5 },
+    { name = \"S1\", red = 87 },
+    { name = \"S2\", red = 90 },
+    { name = \"S3\", red = 85 },
+    { name = \"S4\", red = 88 },
+    { name = \"S5\", red = 95 },
+    { name = \"S6\", red = 89 },
+    { name = \"S7\", red = 89 },
 ]
 link = [
-    { distance_out = 318, distance_in = 318, speed_out = [30, 50], speed_in = [30, 50] },
-    { distance_out = 553, distance_in = 553, speed_out = [35, 50], speed_in = [35, 50] },
-    { distance_out = 697, distance_in = 697, speed_out = [40, 55], speed_in = [40, 55] },
-    { distance_out = 386, distance_in = 386, speed_out = [40, 60], speed_in = [40, 60] },
-    { distance_out = 306, distance_in = 306, speed_out = [40, 55], speed_in = [40, 55] },
-    { distance_out = 650, distance_in = 650, speed_out = [40, 60], speed_in = [40, 60] },
-    { distance_out = 594, distance_in = 594, speed_out = [40, 50], speed_in = [40, 50] },
-    { distance_out = 533, distance_in = 533, speed_out = [30, 55], speed_in = [30, 55] },
-    { distance_out = 430, distance_in = 430, speed_out = [40, 55], speed_in = [40, 55] },
-    { distance_out = 424, distance_in = 424, speed_out = [35, 60], speed_in = [35, 60] },
-    { distance_out = 487, distance_in = 487, speed_out = [40, 50], speed_in = [40, 50] },
-    { distance_out = 241, distance_in = 241, speed_out = [40, 55], speed_in = [40, 55] },
-    { distance_out = 254, distance_in = 254, speed_out = [40, 60], speed_in = [40, 60] },
-    { distance_out = 449, distance_in = 449, speed_out = [35, 55], speed_in = [35, 55] },
-    { distance_out = 443, distance_in = 443, speed_out = [40, 50], speed_in = [40, 50] },
+    { distance_out = 28140, distance_in = 28140, speed_out = [1, 100], speed_in = [1, 100], change_out = [0, 0], change_in = [0, 0] },
+    { distance_out = 21523, distance_in = 21523, speed_out = [1, 100], speed_in = [1, 100], change_out = [0, 0], change_in = [0, 0] },
+    { distance_out = 23421, distance_in = 23421, speed_out = [1, 100], speed_in = [1, 100], change_out = [0, 0], change_in = [0, 0] },
+    { distance_out = 21965, distance_in = 21965, speed_out = [1, 100], speed_in = [1, 100], change_out = [0, 0], change_in = [0, 0] },
+    { distance_out = 21625, distance_in = 21625, speed_out = [1, 100], speed_in = [1, 100], change_out = [0, 0], change_in = [0, 0] },
+    { distance_out = 26345, distance_in = 26345, speed_out = [1, 100], speed_in = [1, 100] },
 ]
 
 [artery]
 units = \"metric\"
 parts = 100
-cycle = [60, 100]
+cycle = [5, 5]
 ratio = 1
 ";
 
