@@ -1,5 +1,5 @@
 -- A search without a limit isn't stopped by work.
-use Rattle.std.proofs.Common.{◌≡◌, ℕ, List, Option, Some, None, ◌⊎◌, inl, inr, sym, subst}
+use Rattle.std.proofs.Common.{◌≡◌, ℕ, List, Option, Some, None, inl, inr, sym, subst}
 use Rattle.progression.specs.Street.{Street}
 use Rattle.branch_and_bound.specs.declared.found.Verdict.{Verdict}
 use Rattle.branch_and_bound.specs.declared.found.Verdict.TheVariants.{Best, NoTiming, Stopped}
@@ -7,11 +7,11 @@ use Rattle.branch_and_bound.specs.declared.found.Stop.TheVariants.{Work, Wide}
 use Rattle.branch_tree.specs.declared.site.SitePart.{SitePart}
 use Rattle.branch_tree.specs.Enough.{IsWithinEnough}
 use Rattle.workload_maker.specs.Made.{made_street}
-use Rattle.maxband_run.specs.Command.{Request, Hold, Show, Check, Solve, Make, Trial}
-use Rattle.maxband_run.specs.Outside.{Outside, NamedBytes, IsDone}
+use Rattle.maxband_run.specs.Command.{Request, Solve, Trial}
+use Rattle.maxband_run.specs.Outside.{NamedBytes}
 use Rattle.maxband_run.specs.Reading.{input, IsUnread}
 use Rattle.maxband_run.specs.Searched.{cause_of}
-use Rattle.maxband_run.specs.Run.{Answers, Ends}
+use Rattle.maxband_run.specs.Run.{Answers}
 use Rattle.maxband_run.specs.Laws.{IsUnlimited, EndsOtherThanByWork, AllNeverStopsByWork}
 use Rattle.maxband_run.specs.declared.reader.Reader.TheVariants.{Description}
 use Rattle.maxband_run.specs.declared.cause.Cause.{Cause}

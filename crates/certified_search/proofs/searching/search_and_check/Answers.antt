@@ -1,4 +1,4 @@
-use Rattle.std.proofs.Common.{◌∙◌, subst}
+use Rattle.std.proofs.Common.{subst}
 use Rattle.plan_text.specs.Warrants.{Warrant}
 use Rattle.certificate_checker.specs.Accepted.{IsAccepted}
 use Rattle.certified_search.proofs.Solved.{found_proves}
