@@ -282,10 +282,13 @@ def split_of(street, box, vertex):
     """Where a box is split whose vertex is no timing, as kind, number and cut; None where it is one."""
     for i in street.links:
         try:
-            total = ZERO
-            for column, sign in street.block[i].items():
+            first, *rest = street.block[i].items()
+            total = vertex[street.place[first[0]]]
+            for column, sign in rest:
                 total = (add if sign > 0 else subtract)(total, vertex[street.place[column]])
-            total = add(total, street.fixed[i])
+            total = add(total, street.red[i])
+            for taken in street.red[i + 1], street.clear_out[i + 1], street.clear_in[i]:
+                total = subtract(total, taken)
         except Wide as wide:
             wide.site = f"sum {i}"
             raise
@@ -293,6 +296,11 @@ def split_of(street, box, vertex):
             return "loop", i, math.floor(total)
     for i in street.signals:
         shift, (least, most) = vertex[street.place[f"s {i}"]], box["turn"][i]
+        try:
+            multiply(shift, Fraction(street.parts))
+        except Wide as wide:
+            wide.site = f"product s {i}"
+            raise
         if shift not in street.shifts[i][least : most + 1]:
             return "turn", i, max(rank for rank in range(least, most + 1) if street.shifts[i][rank] < shift)
     return None
@@ -341,11 +349,13 @@ class Timing:
             self.red[i + 1] = (line - at[f"w_out {i + 1}"] - ends[i + 1]) % self.cycle
         self.first["in"] = (self.red[last] + self.starts["in"][last] - at[f"w_in {last}"] - self.band["in"]) % self.cycle
         # Each number stands under the column that names it where it doesn't fit.
-        at["w_out 1"], at[f"w_in {last}"] = self.first["out"], self.first["in"]
-        at.update({f"w_out {i}": red for i, red in self.red.items() if i > 1})
-        unused = {f"w_in {i}" for i in street.links} | {f"s {i}" for i in street.signals}
-        for name, number in at.items():
-            if number >= TICKS and name not in unused:
+        numbers = {name: at[name] for name in ("b_out", "b_in", "z")}
+        numbers |= {f"y_{way} {i}": self.run[way][i] for way in ("out", "in") for i in street.links}
+        numbers["w_out 1"] = self.first["out"]
+        numbers |= {f"w_out {i}": red for i, red in self.red.items() if i > 1}
+        numbers[f"w_in {last}"] = self.first["in"]
+        for name, number in numbers.items():
+            if number >= TICKS:
                 raise Wide(f"ticks {number}", f"number {name}")
 
     def weighted(self):
