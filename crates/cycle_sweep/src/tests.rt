@@ -1,6 +1,6 @@
 //! Sweeps of two signals 250 metres apart at 36 kilometres an hour, with equal reds and a cycle from 50 to 100 seconds. The run both
 //! ways is 50 seconds, so with reds of half the cycle the best weighted band at a cycle of c is 1 less the distance of 50/c from a
-//! whole number. At 100 seconds the root takes 4 units, its low part 8 and its high part 9, and the low part has the timing.
+//! whole number. At 100 seconds the root takes 4 units, its low part 5 and its high part 6, and the low part has the timing.
 
 ghost use Rattle.std.specs.Prelude.{All, IfOk};
 ghost use Rattle.artery_model.specs.Bounds.{least_cycle, most_cycle};
@@ -45,7 +45,7 @@ const CASES: [Case; 7] = [
     },
     Case {
         red: 50,
-        work: 20,
+        work: 14,
         cycles: &[(100, 1), (100, 1)],
         table: "cycle,verdict,weighted,bound,cause\n100,open,1/2,1,work\n100,open,1/2,1,work\n",
     },

@@ -44,7 +44,7 @@ pub const SWEEPS: &[Sweep] = &[
     Sweep {
         name: "work that is spent in the high part, at each cycle anew",
         lines: &[(4, b"cycle = [50, 100]")],
-        words: &["sweep", "a.toml", "t.csv", "20", "100", "100"],
+        words: &["sweep", "a.toml", "t.csv", "14", "100", "100"],
         number: 0,
         written: b"rows 2\n",
         table: Whole(
