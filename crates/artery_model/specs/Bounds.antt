@@ -1,12 +1,26 @@
 -- The least and the most that an artery's numbers may be.
-use Rattle.std.specs.Prelude.{ℕ, ℤ, pos, negsuc}
+use Rattle.std.specs.Prelude.{ℕ, ℤ, pos, negsuc, ◌==◌, if◌then◌else◌}
 
--- how many signals there are
+-- the version of the description; the second has least bands, equal bands and more signals
+abbrev pub first_version : ℕ
+first_version = 1
+
+abbrev pub second_version : ℕ
+second_version = 2
+
+-- how many signals there are: the most in any version, and in the first
 abbrev pub least_signals : ℕ
 least_signals = 2
 
 abbrev pub most_signals : ℕ
-most_signals = 16
+most_signals = 24
+
+abbrev pub most_first_signals : ℕ
+most_first_signals = 16
+
+-- and in a version
+abbrev pub most_signals_in : ℕ → ℕ
+most_signals_in version = if version == second_version then most_signals else most_first_signals
 
 -- how many parts the cycle has
 abbrev pub least_parts : ℕ
@@ -49,6 +63,16 @@ least_ratio = pos 0
 
 abbrev pub most_ratio : ℤ
 most_ratio = pos 100
+
+-- a least band, as a fraction of the cycle: 0 where the version has none
+abbrev pub least_share : ℤ
+least_share = pos 0
+
+abbrev pub most_share : ℤ
+most_share = pos 1
+
+abbrev pub most_share_in : ℕ → ℤ
+most_share_in version = if version == second_version then most_share else least_share
 
 -- the size of a quantity's numerator and its denominator, in lowest terms
 abbrev pub most_numerator : ℕ

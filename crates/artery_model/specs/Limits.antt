@@ -1,5 +1,5 @@
 -- The limits of an artery's numbers and the rules between them, as a list of tests: for each kind in order, and within it for each place in order.
-use Rattle.std.specs.Prelude.{ℕ, ◌+◌, ◌-◌, ◌==◌, nat_eq, nat_le, nat_lt, ◌&&◌, not, List, [], ◌∷◌, ◌++◌, length, Bool, true, Option, None, Some, codes, unsigned_abs, if◌then◌else◌}
+use Rattle.std.specs.Prelude.{ℕ, ◌+◌, ◌-◌, ◌==◌, nat_eq, nat_le, nat_lt, ◌&&◌, ◌||◌, not, List, [], ◌∷◌, ◌++◌, length, Bool, true, Option, None, Some, codes, unsigned_abs, if◌then◌else◌}
 use Rattle.std.specs.List.{list_any, list_all}
 use Rattle.std.specs.Ordering.{is_le}
 use Rattle.std.specs.Cmp.Lexicographic.{pointwise}
@@ -10,7 +10,7 @@ use Rattle.progression.specs.declared.parts.Head.{Head}
 use Rattle.progression.specs.declared.parts.Signal.{Signal}
 use Rattle.progression.specs.declared.parts.Link.{Link}
 use Rattle.progression.specs.declared.parts.Pair.{Pair}
-use Rattle.artery_model.specs.Bounds.{least_signals, most_signals, least_parts, most_parts, least_distance, most_distance, least_speed, most_speed, least_cycle, most_cycle, least_change, most_change, least_ratio, most_ratio, most_numerator, most_denominator, least_name, most_name}
+use Rattle.artery_model.specs.Bounds.{first_version, second_version, least_signals, most_signals_in, least_share, most_share_in, least_parts, most_parts, least_distance, most_distance, least_speed, most_speed, least_cycle, most_cycle, least_change, most_change, least_ratio, most_ratio, most_numerator, most_denominator, least_name, most_name}
 use Rattle.artery_model.specs.Faults.{Fault, first_fault, unless, each_numbered, artery_place, signal_place, link_place}
 use Rattle.artery_model.specs.declared.kind.Kind.TheVariants as kind
 
@@ -45,6 +45,9 @@ head_ranges h =
     ∷ unless (in_range least_parts most_parts h.parts) kind.OutOfRange (artery_place (codes "parts"))
     ∷ first_fault (pair_ranges (whole least_cycle) (whole most_cycle) h.cycle (artery_place (codes "cycle")))
     ∷ unless (within (whole least_ratio) (whole most_ratio) h.ratio) kind.OutOfRange (artery_place (codes "ratio"))
+    ∷ unless (within (whole least_share) (whole (most_share_in h.version)) h.least_out) kind.OutOfRange (artery_place (codes "least_out"))
+    ∷ unless (within (whole least_share) (whole (most_share_in h.version)) h.least_in) kind.OutOfRange (artery_place (codes "least_in"))
+    ∷ unless (not h.equal || h.version == second_version) kind.OutOfRange (artery_place (codes "equal"))
     ∷ []
 
 -- (parts - 1 is 0 for an artery of no parts, which was refused before its signals are looked at)
@@ -126,7 +129,8 @@ link_limits i l = first_fault (limit_tests i l)
 -- ---- every test of an artery
 abbrev pub range_tests : Street → List (Option Fault)
 range_tests a =
-    unless (in_range least_signals most_signals (count a)) kind.OutOfRange (codes "signal")
+    unless (in_range first_version second_version a.head.version) kind.OutOfRange (codes "version")
+    ∷ unless (in_range least_signals (most_signals_in a.head.version) (count a)) kind.OutOfRange (codes "signal")
     ∷ first_fault (head_ranges a.head)
     ∷ first_fault (each_numbered (signal_ranges a.head.parts) 1 a.signals)
     ∷ first_fault (each_numbered (link_ranges (length a.links)) 1 a.links)

@@ -1,11 +1,11 @@
 -- What the type of an artery keeps: that no test fails, and what follows for the sizes of the numbers.
-use Rattle.std.specs.Prelude.{◌≡◌, ℕ, ◌+◌, ◌<◌, ◌≤◌, length, All, Option, Some, None, ℤ, pos, ◌*ℤ◌, ◌≤ℤ◌, unsigned_abs}
-use Rattle.rational_theory.specs.Rational.{ℚ, ◌≤ℚ◌}
+use Rattle.std.specs.Prelude.{◌≡◌, ℕ, ◌+◌, ◌<◌, ◌≤◌, length, All, Option, Some, None, ℤ, pos, ◌*ℤ◌, ◌≤ℤ◌, unsigned_abs, false}
+use Rattle.rational_theory.specs.Rational.{ℚ, whole, ◌≤ℚ◌}
 use Rattle.progression.specs.Street.{Street, count}
 use Rattle.progression.specs.declared.parts.Signal.{Signal}
 use Rattle.progression.specs.declared.parts.Link.{Link}
 use Rattle.progression.specs.declared.parts.Pair.{Pair}
-use Rattle.artery_model.specs.Bounds.{least_signals, most_signals, least_parts, most_parts, least_distance, most_distance, least_speed, most_speed, least_cycle, most_cycle, least_change, most_change, least_ratio, most_ratio, most_numerator, most_denominator}
+use Rattle.artery_model.specs.Bounds.{first_version, second_version, least_signals, most_signals, most_first_signals, least_share, most_share, least_parts, most_parts, least_distance, most_distance, least_speed, most_speed, least_cycle, most_cycle, least_change, most_change, least_ratio, most_ratio, most_numerator, most_denominator}
 use Rattle.artery_model.specs.Limits.{artery_fault}
 
 -- a quantity between two whole numbers, its numerator and denominator of a bounded size
@@ -53,9 +53,18 @@ pub record IsLink (l : Link) : Type 0 where
   pub change_out : IsChange l.change_out
   pub change_in : IsChange l.change_in
 
+-- what the first version has not
+pub record IsOfFirst (a : Street) : Type 0 where
+  pub many : count a ≤ most_first_signals
+  pub least_out : a.head.least_out ≡ whole (pos 0)
+  pub least_in : a.head.least_in ≡ whole (pos 0)
+  pub equal : a.head.equal ≡ false
+
 pub record IsValid (a : Street) : Type 0 where
   pub least_parts : least_parts ≤ a.head.parts
   pub most_parts : a.head.parts ≤ most_parts
+  pub version_least : first_version ≤ a.head.version
+  pub version_most : a.head.version ≤ second_version
   pub few : least_signals ≤ count a
   pub many : count a ≤ most_signals
   pub one_fewer : length a.links + 1 ≡ count a
@@ -63,4 +72,7 @@ pub record IsValid (a : Street) : Type 0 where
   pub each_link : All IsLink a.links
   pub cycle : IsPair least_cycle most_cycle a.head.cycle
   pub ratio : IsQuantity least_ratio most_ratio a.head.ratio
+  pub least_out : IsQuantity least_share most_share a.head.least_out
+  pub least_in : IsQuantity least_share most_share a.head.least_in
+  pub first : a.head.version ≡ first_version → IsOfFirst a
   pub no_fault : artery_fault a ≡ None

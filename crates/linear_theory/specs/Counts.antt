@@ -11,7 +11,7 @@ use Rattle.linear_theory.specs.Boxes.{Area, IsBoxOf, InBox}
 
 -- What an artery's numbers keep: some red and some green at each signal in each direction, limits of the cycle and speeds above 0.
 pub record IsStreet (a : Street) : Type 0 where
-  pub signals : 1 ≤ count a
+  pub signals : 2 ≤ count a
   pub red : (d : Dir) (i : ℕ) → HasSignal a i → 1 ≤ red_parts a d i
   pub green : (d : Dir) (i : ℕ) → HasSignal a i → red_parts a d i < a.head.parts
   pub cycle_least : number 0 <ℚ a.head.cycle.least

@@ -1,13 +1,13 @@
 -- The rows of an artery by name: a family's number, from 1 on, and the number of a signal or link, or 0. The table `families` has all families; what a
 -- family's rows are, and where an artery has them, is its rule.
 use Rattle.std.specs.Prelude.{◌≡◌, ◌≢◌, ℕ, ◌+◌, ◌==◌, ◌||◌, if◌then◌else◌, List, [], ◌∷◌, length, codes, Bool, true, false, Option, None, Some, IsSome}
-use Rattle.progression.specs.Street.{Street, HasSignal, HasLink}
+use Rattle.progression.specs.Street.{Street, HasSignal, HasLink, least_band}
 use Rattle.progression.specs.Speeds.{number, change}
 use Rattle.progression.specs.declared.parts.Pair.{Pair}
 use Rattle.progression.specs.declared.parts.Dir.{Dir}
 use Rattle.progression.specs.declared.parts.Dir.TheVariants.{Outbound, Inbound}
 use Rattle.linear_theory.specs.Boxes.{Area}
-use Rattle.linear_theory.specs.Rows.{Form, wait_form, fast_form, slow_form, rise_form, drop_form, cycle_low_form, cycle_high_form, ratio_form, loop_low_form, loop_high_form, turn_low_form, turn_high_form}
+use Rattle.linear_theory.specs.Rows.{Form, wait_form, fast_form, slow_form, rise_form, drop_form, cycle_low_form, cycle_high_form, ratio_form, loop_low_form, loop_high_form, turn_low_form, turn_high_form, least_form, equal_low_form, equal_high_form}
 
 -- a row, by its family and the number of its signal or link
 pub data Name : Type 0 where
@@ -23,6 +23,9 @@ pub data Name : Type 0 where
   LoopHighRow : ℕ → Name
   TurnLowRow : ℕ → Name
   TurnHighRow : ℕ → Name
+  LeastRow : Dir → ℕ → Name
+  EqualLowRow : ℕ → Name
+  EqualHighRow : ℕ → Name
   NoRow : Name
 
 -- ---- the families by their numbers
@@ -60,6 +63,10 @@ families =
     ∷ indexed (codes "loop_hi") LoopHighRow
     ∷ indexed (codes "turn_lo") TurnLowRow
     ∷ indexed (codes "turn_hi") TurnHighRow
+    ∷ alone (codes "least_out") (LeastRow Outbound)
+    ∷ alone (codes "least_in") (LeastRow Inbound)
+    ∷ alone (codes "equal_lo") EqualLowRow
+    ∷ alone (codes "equal_hi") EqualHighRow
     ∷ []
 
 -- the greatest number of a family
@@ -83,13 +90,16 @@ abbrev pub is_lone : ℕ → Bool
 is_lone family = lone_among 1 families family
 
 -- ---- the rules of the families
--- where a row stands: at a signal, at a link, between a link and the next, by itself, or nowhere; by itself also where the ratio is not 1
+-- where a row stands: at a signal, at a link, between a link and the next, by itself, or nowhere; by itself also where the ratio is not 1, where a
+-- direction has a least band, or where the bands have to be equal
 pub data Seat : Type 0 where
   AtSignal : ℕ → Seat
   AtLink : ℕ → Seat
   AtChange : Dir → ℕ → Seat
   ByItself : ℕ → Seat
   AtRatio : ℕ → Seat
+  AtLeast : Dir → ℕ → Seat
+  AtEqual : ℕ → Seat
   Nowhere : Seat
 
 -- a change of pace from link i to the next is limited in this direction
@@ -103,6 +113,8 @@ HasSeat a (AtLink i) = HasLink a i
 HasSeat a (AtChange d i) = HasChange a d i
 HasSeat a (ByItself i) = i ≡ 0
 HasSeat a (AtRatio i) = (i ≡ 0) × (a.head.ratio ≢ number 1)
+HasSeat a (AtLeast d i) = (i ≡ 0) × (least_band a d ≢ number 0)
+HasSeat a (AtEqual i) = (i ≡ 0) × (a.head.equal ≡ true)
 HasSeat a Nowhere = ⊥
 
 -- the row that is none, and that of limits which may be missing
@@ -131,6 +143,9 @@ rule_of (LoopLowRow i) = record { seat = AtLink i; form = λ a box. loop_low_for
 rule_of (LoopHighRow i) = record { seat = AtLink i; form = λ a box. loop_high_form a box i }
 rule_of (TurnLowRow i) = record { seat = AtSignal i; form = λ a box. turn_low_form a box i }
 rule_of (TurnHighRow i) = record { seat = AtSignal i; form = λ a box. turn_high_form a box i }
+rule_of (LeastRow d i) = record { seat = AtLeast d i; form = λ a box. least_form a d }
+rule_of (EqualLowRow i) = record { seat = AtEqual i; form = λ a box. equal_low_form }
+rule_of (EqualHighRow i) = record { seat = AtEqual i; form = λ a box. equal_high_form }
 rule_of NoRow = record { seat = Nowhere; form = λ a box. no_form }
 
 -- the artery has the row

@@ -4,7 +4,7 @@ use Rattle.std.specs.Ordering.{is_lt}
 use Rattle.rational_theory.specs.Rational.{ℚ, whole, neg_ℚ, inverse_ℚ, ◌-ℚ◌, ◌/ℚ◌}
 use Rattle.rational_theory.specs.Compare.{cmp_ℚ}
 use Rattle.rational_theory.specs.Rows as maths
-use Rattle.progression.specs.Street.{Street, count, distance}
+use Rattle.progression.specs.Street.{Street, count, distance, least_band}
 use Rattle.progression.specs.Speeds.{number, run_low, run_high}
 use Rattle.progression.specs.Columns.{Column, BandOf, Frequency, WaitOf, RunOf, ShiftOf}
 use Rattle.progression.specs.declared.parts.Pair.{Pair}
@@ -81,6 +81,18 @@ ratio_above_form a = record { entries = (BandOf Outbound, neg_ℚ a.head.ratio) 
 -- there is such a row where it is not 1
 abbrev pub ratio_form : Street → Form
 ratio_form a = if is_lt (cmp_ℚ a.head.ratio (number 1)) then ratio_below_form a else ratio_above_form a
+
+-- each band is at least as wide as the artery asks
+abbrev pub least_form : Street → Dir → Form
+least_form a d = record { entries = (BandOf d, minus_one) ∷ []; bound = neg_ℚ (least_band a d) }
+
+-- the outbound band is at most the inbound one, where they have to be equal
+abbrev pub equal_low_form : Form
+equal_low_form = record { entries = (BandOf Outbound, number 1) ∷ (BandOf Inbound, minus_one) ∷ []; bound = number 0 }
+
+-- and at least
+abbrev pub equal_high_form : Form
+equal_high_form = record { entries = (BandOf Outbound, minus_one) ∷ (BandOf Inbound, number 1) ∷ []; bound = number 0 }
 
 -- ---- the box
 -- the columns of a block sum, those that are added with one number, those that are taken away with the other

@@ -1,9 +1,9 @@
 -- The rules of a good timing (Little 1966; Little, Kelson and Gartner 1981), read off the time-space diagram.
 use Rattle.std.specs.Prelude.{◌≡◌, ℕ, ◌+◌, length, IsTrue, IfSome}
 use Rattle.rational_theory.specs.Rational.{ℚ, ◌*ℚ◌, ◌-ℚ◌, ◌/ℚ◌, ◌≤ℚ◌}
-use Rattle.progression.specs.Street.{Street, count, allows, HasSignal, HasLink, distance}
+use Rattle.progression.specs.Street.{Street, count, allows, HasSignal, HasLink, distance, least_band}
 use Rattle.progression.specs.Speeds.{number, run_low, run_high, change}
-use Rattle.progression.specs.Plan.{Plan, IsPlan, cycle, pattern_of, run}
+use Rattle.progression.specs.Plan.{Plan, IsPlan, cycle, pattern_of, run, band}
 use Rattle.progression.specs.Lines.{IsGreenWay}
 use Rattle.progression.specs.declared.parts.Pair.{Pair}
 use Rattle.progression.specs.declared.parts.Dir.{Dir}
@@ -21,7 +21,8 @@ pace_change a t d i = pace a t d (i + 1) -ℚ pace a t d i
 abbrev pub RatioHolds : ℚ → ℕ → ℕ → Type 0
 RatioHolds k out in_band = let rest = number 1 -ℚ k in (rest *ℚ (k *ℚ number out)) ≤ℚ (rest *ℚ number in_band)
 
-pub record Good (a : Street) (t : Plan) : Type 0 where
+-- The rules that don't speak of bands, up to the changes of pace.
+pub record IsBase (a : Street) (t : Plan) : Type 0 where
   pub plan : IsPlan t
   pub shape : length t.patterns ≡ count a
   pub patterns : (i : ℕ) → HasSignal a i → IsTrue (allows a i (pattern_of t i))
@@ -31,6 +32,20 @@ pub record Good (a : Street) (t : Plan) : Type 0 where
   pub slow : (d : Dir) (i : ℕ) → HasLink a i → number (run t d i) ≤ℚ (run_high a d i *ℚ number t.grid)
   pub rise : (d : Dir) (i : ℕ) → HasLink a i → HasLink a (i + 1) → IfSome (change a d i) (λ (c : Pair). pace_change a t d i ≤ℚ (c.most *ℚ number t.grid))
   pub drop : (d : Dir) (i : ℕ) → HasLink a i → HasLink a (i + 1) → IfSome (change a d i) (λ (c : Pair). (c.least *ℚ number t.grid) ≤ℚ pace_change a t d i)
+
+-- A direction's band is at least as wide as the artery asks.
+abbrev pub HasLeastBand : Street → Plan → Dir → Type 0
+HasLeastBand a t d = (least_band a d *ℚ number (cycle a t)) ≤ℚ number (band t d)
+
+-- Both bands are equal where the artery asks so.
+abbrev pub HasEqualBands : Street → Plan → Type 0
+HasEqualBands a t = IsTrue a.head.equal → t.band_out ≡ t.band_in
+
+-- These rules, then those of the bands: their ratio, the least of each, their equality, and that each is green all the way.
+pub record Good (a : Street) (t : Plan) : Type 0 where
+  pub base : IsBase a t
   pub ratio : RatioHolds a.head.ratio t.band_out t.band_in
+  pub least : (d : Dir) → HasLeastBand a t d
+  pub equal : HasEqualBands a t
   pub outbound : IsGreenWay a t Outbound
   pub inbound : IsGreenWay a t Inbound

@@ -1,6 +1,6 @@
 -- An artery as contracts see it. Signals and links are numbered from 1; link i joins signals i and i + 1.
 use Rattle.std.specs.Prelude.{ℕ, ◌+◌, ◌-◌, ◌<◌, ◌≤◌, nat_le, ◌&&◌, List, [], length, Bool, false, Option, None, slice_index_or, pos}
-use Rattle.rational_theory.specs.Rational.{whole}
+use Rattle.rational_theory.specs.Rational.{ℚ, whole}
 use Rattle.progression.specs.declared.parts.Head.{Head}
 use Rattle.progression.specs.declared.parts.Signal.{Signal}
 use Rattle.progression.specs.declared.parts.Link.{Link}
@@ -69,3 +69,8 @@ speed a Inbound i = (link_of a i).speed_in
 abbrev pub change_given : Street → Dir → ℕ → Option Pair
 change_given a Outbound i = (link_of a i).change_out
 change_given a Inbound i = (link_of a i).change_in
+
+-- the least width of a direction's band, as a fraction of the cycle
+abbrev pub least_band : Street → Dir → ℚ
+least_band a Outbound = a.head.least_out
+least_band a Inbound = a.head.least_in

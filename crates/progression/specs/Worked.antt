@@ -18,7 +18,7 @@ half_red name = record { name = name; red = 50; left_out = 0; left_in = 0; patte
 
 abbrev pub two_signals : Street
 two_signals = record {
-  head = record { name = None; units = Metric; parts = 100; cycle = exactly 100; ratio = number 1 };
+  head = record { name = None; units = Metric; version = 1; parts = 100; cycle = exactly 100; ratio = number 1; least_out = number 0; least_in = number 0; equal = false };
   signals = half_red (codes "A") ∷ half_red (codes "B") ∷ [];
   links = record { distance_out = 500; distance_in = 500; speed_out = exactly 36; speed_in = exactly 36; change_out = None; change_in = None } ∷ [];
 }

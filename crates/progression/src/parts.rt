@@ -30,12 +30,20 @@ pub struct Head {
     /// The street's name, where it has one.
     pub name: Option<Text>,
     pub units: Units,
+    /// The version of its description, 1 or 2. Version 2 has least bands, equal bands and up to 24 signals.
+    pub version: u32,
     /// How many parts the cycle is divided into. Splits and clearances are whole parts.
     pub parts: u32,
     /// The limits of the cycle, in seconds.
     pub cycle: Pair,
     /// How much a second of the inbound band counts against one of the outbound band.
     pub ratio: Frac,
+    /// The least outbound band, as a fraction of the cycle.
+    pub least_out: Frac,
+    /// The least inbound band, as a fraction of the cycle.
+    pub least_in: Frac,
+    /// Whether both bands have to be equal.
+    pub equal: bool,
 }
 
 /// One signal. Its splits and clearances are in parts of the cycle.
