@@ -19,7 +19,7 @@ use Rattle.linear_theory.specs.Covering.{coef, CoversGoal, RefutesAll}
 use Rattle.linear_theory.proofs.Points.{share, point_width}
 use Rattle.linear_theory.proofs.SparseSums.{line_value}
 use Rattle.linear_theory.proofs.Shares.{share_not_negative}
-use Rattle.linear_theory.proofs.Ranges.{parts_above, unit_above}
+use Rattle.linear_theory.proofs.Ranges.{some_signal, parts_above, unit_above}
 
 -- ---- sums at a point of at least 0
 -- a product with 0 and what follows it
@@ -52,14 +52,14 @@ module _ (a : Street) (t : Plan) (h : IsStreet a) (g : Good a t) where
   -- the goal at the point is the weighted band
   pub goal_value : dot (line a (goal_form a)).coefs (point a t) ≡ weighted_band a t
   goal_value =
-      line_value a t (goal_form a) h.signals (omega arith, tt, (omega arith, tt, tt))
+      line_value a t (goal_form a) (some_signal a h) (omega arith, tt, (omega arith, tt, tt))
       ∙ ring (lit (pos 1) ⊗ (at 0 ⊗ at 3) ⊕ (at 1 ⊗ (at 2 ⊗ at 3) ⊕ lit (pos 0))) ((at 0 ⊕ at 1 ⊗ at 2) ⊗ at 3)
       (number t.band_out ∷ a.head.ratio ∷ number t.band_in ∷ inverse_ℚ (number (cycle a t)) ∷ []) refl
 
   -- a row that covers the goal bounds the weighted band
   pub covers_law : (r : maths.Row) (value : ℚ) → IsMet (point a t) r → CoversGoal a value r → weighted_band a t ≤ℚ value
   covers_law r value m c =
-      let w = point_width a t h.signals in
+      let w = point_width a t (some_signal a h) in
       ≤ℚ_trans _ _ _
       (subst (λ z. z ≤ℚ dot r.coefs (point a t)) goal_value (dot_grows r.coefs (line a (goal_form a)).coefs (point a t) (λ j l. c.coefs j (omega arith)) point_not_negative))
       (≤ℚ_trans _ _ _ m.met c.bound)
@@ -67,5 +67,5 @@ module _ (a : Street) (t : Plan) (h : IsStreet a) (g : Good a t) where
   -- no good timing meets a row that refutes
   pub refutes_law : (r : maths.Row) → IsMet (point a t) r → RefutesAll a r → ⊥
   refutes_law r m c =
-      let w = point_width a t h.signals in
+      let w = point_width a t (some_signal a h) in
       <ℚ_not-≤ℚ _ _ c.bound (≤ℚ_trans _ _ _ (dot_grows r.coefs [] (point a t) (λ j l. c.coefs j (omega arith)) point_not_negative) m.met)

@@ -20,7 +20,7 @@ use Rattle.linear_theory.proofs.Points.{share}
 use Rattle.linear_theory.proofs.SparseSums.{InOrder, line_met}
 use Rattle.linear_theory.proofs.Shares.{share_part, part_grows}
 use Rattle.linear_theory.proofs.BlockSums.{block_shares, block_sum_shares}
-use Rattle.linear_theory.proofs.Ranges.{parts_above, unit_above}
+use Rattle.linear_theory.proofs.Ranges.{some_signal, parts_above, unit_above}
 use Rattle.linear_theory.proofs.Terms.{one, less_one, zero_term, fact, block_term}
 
 module _ (a : Street) (box : Area) (t : Plan) (c : Counts a box t) where
@@ -65,13 +65,13 @@ module _ (a : Street) (box : Area) (t : Plan) (c : Counts a box t) where
     -- the block sum is at least the span's least number
     pub loop_low_law : IsMet (point a t) (line a (loop_low_form a box i))
     loop_low_law =
-        line_met a t (loop_low_form a box i) c.street.signals (block_in_order minus_one (number 1))
+        line_met a t (loop_low_form a box i) (some_signal a c.street) (block_in_order minus_one (number 1))
         (linear (record { count = 1; low = at 12; high = whole_term } ∷ []) 0 (cells_term less_one one) (constant_term ⊕ minus (at 12)) (block_values (whole (loop_span box i).least)) (sum_least, tt) refl)
 
     -- and at most its greatest
     pub loop_high_law : IsMet (point a t) (line a (loop_high_form a box i))
     loop_high_law =
-        line_met a t (loop_high_form a box i) c.street.signals (block_in_order (number 1) minus_one)
+        line_met a t (loop_high_form a box i) (some_signal a c.street) (block_in_order (number 1) minus_one)
         (linear (record { count = 1; low = whole_term; high = at 12 } ∷ []) 0 (cells_term one less_one) (at 12 ⊕ minus constant_term) (block_values (whole (loop_span box i).most)) (sum_most, tt) refl)
 
   module _ (i : ℕ) (k : HasSignal a i) where
@@ -84,7 +84,7 @@ module _ (a : Street) (box : Area) (t : Plan) (c : Counts a box t) where
     turn_low_law =
         let r = c.inside.turns i k in let b = c.boxed.ranks_most i k in let e = r.is in let m = r.most in
         let q = rising (shifts_of a i) 0 (turn_span box i).least r.rank (shifts_ascend a i) r.least (omega arith) in
-        line_met a t (turn_low_form a box i) c.street.signals (omega arith, k, tt)
+        line_met a t (turn_low_form a box i) (some_signal a c.street) (omega arith, k, tt)
         (rw (share_part a t some_parts (unit_above a t c.good) (shift a t i))
         (linear (fact 0 1 ∷ []) 0 (less_one ⊗ at 1 ⊕ zero_term) (minus (at 0)) (part a (shift_at a i (turn_span box i).least) ∷ part a (shift a t i) ∷ [])
         (part_grows a (shift_at a i (turn_span box i).least) (shift a t i) some_parts (omega arith), tt) refl))
@@ -94,7 +94,7 @@ module _ (a : Street) (box : Area) (t : Plan) (c : Counts a box t) where
     turn_high_law =
         let r = c.inside.turns i k in let b = c.boxed.ranks_most i k in let e = r.is in
         let q = rising (shifts_of a i) 0 r.rank (turn_span box i).most (shifts_ascend a i) r.most (omega arith) in
-        line_met a t (turn_high_form a box i) c.street.signals (omega arith, k, tt)
+        line_met a t (turn_high_form a box i) (some_signal a c.street) (omega arith, k, tt)
         (rw (share_part a t some_parts (unit_above a t c.good) (shift a t i))
         (linear (fact 1 0 ∷ []) 0 (one ⊗ at 1 ⊕ zero_term) (at 0) (part a (shift_at a i (turn_span box i).most) ∷ part a (shift a t i) ∷ [])
         (part_grows a (shift a t i) (shift_at a i (turn_span box i).most) some_parts (omega arith), tt) refl))

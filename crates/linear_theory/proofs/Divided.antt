@@ -1,9 +1,9 @@
 -- The rules of a good timing divided by its cycle, and by numbers above 0.
-use Rattle.std.proofs.Common.{ℕ, pos, ◌*◌, ◌<◌, sym, ◌∙◌, subst, arith}
+use Rattle.std.proofs.Common.{ℕ, pos, ◌*◌, ◌<◌, sym, ◌∙◌, subst, arith, ap, [], ◌∷◌, refl}
 use Rattle.std.proofs.lemmas.Int.{ints}
 use Rattle.rational_theory.specs.Rational.{ℚ, inverse_ℚ, ◌*ℚ◌, ◌/ℚ◌, ◌≤ℚ◌, ◌<ℚ◌}
 use Rattle.rational_theory.proofs.Arithmetic.{*ℚ_comm, *ℚ_assoc}
-use Rattle.rational_theory.proofs.Ring.{zero-*ℚ}
+use Rattle.rational_theory.proofs.Ring.{zero-*ℚ, ring, at, lit, ◌⊗◌}
 use Rattle.rational_theory.proofs.Order.{≤ℚ_trans, ≤ℚ_antisymm, ≤ℚ-*ℚ, *ℚ_cancel, <ℚ-≤ℚ, *ℚ-inverse, above_not_zero, whole-≤ℤ, ≤ℤ_whole, not-≤ℚ}
 use Rattle.rational_theory.proofs.Rows.{≤ℚ-left}
 use Rattle.rational_theory.proofs.Linear.{product_not_negative}
@@ -58,6 +58,14 @@ module _ (a : Street) (t : Plan) (h : IsStreet a) (g : Good a t) where
   pub divided : (x y : ℚ) → x ≤ℚ y → (x /ℚ number (cycle a t)) ≤ℚ (y /ℚ number (cycle a t))
   divided x y l = ≤ℚ-*ℚ x y _ l (inverse_not_negative _ cycle_some)
 
+  -- a number of cycles is at most so many ticks
+  pub share_least : (q : ℚ) (n : ℕ) → (q *ℚ number (cycle a t)) ≤ℚ number n → q ≤ℚ share a t n
+  share_least q n l =
+      subst (λ x. x ≤ℚ share a t n)
+      (*ℚ_assoc q (number (cycle a t)) (inverse_ℚ (number (cycle a t))) ∙ ap (λ x. q *ℚ x) (*ℚ-inverse (number (cycle a t)) (above_not_zero _ cycle_some))
+      ∙ ring (at 0 ⊗ lit (pos 1)) (at 0) (q ∷ []) refl)
+      (divided _ _ l)
+
   -- ---- the frequency
   -- it is at least one over the longest cycle
   pub frequency_least : inverse_ℚ a.head.cycle.most ≤ℚ share a t t.grid
@@ -66,7 +74,7 @@ module _ (a : Street) (t : Plan) (h : IsStreet a) (g : Good a t) where
       let n = above_not_zero most h.cycle_most in
       let one : number 1 ≤ℚ (most *ℚ share a t t.grid) =
       subst (λ x. x ≤ℚ (most *ℚ share a t t.grid)) (*ℚ-inverse (number (cycle a t)) (above_not_zero _ cycle_some))
-      (subst (λ x. (number (cycle a t) /ℚ number (cycle a t)) ≤ℚ x) (*ℚ_assoc most (number t.grid) (inverse_ℚ (number (cycle a t)))) (divided _ _ g.cycle_most)) in
+      (subst (λ x. (number (cycle a t) /ℚ number (cycle a t)) ≤ℚ x) (*ℚ_assoc most (number t.grid) (inverse_ℚ (number (cycle a t)))) (divided _ _ g.base.cycle_most)) in
       ≤ℚ_cancel _ _ most (<ℚ-≤ℚ _ _ h.cycle_most) n (rw (*ℚ_comm (inverse_ℚ most) most, *ℚ-inverse most n, *ℚ_comm (share a t t.grid) most) one)
 
   -- and at most one over the shortest
@@ -76,19 +84,19 @@ module _ (a : Street) (t : Plan) (h : IsStreet a) (g : Good a t) where
       let n = above_not_zero least h.cycle_least in
       let one : (least *ℚ share a t t.grid) ≤ℚ number 1 =
       subst (λ x. (least *ℚ share a t t.grid) ≤ℚ x) (*ℚ-inverse (number (cycle a t)) (above_not_zero _ cycle_some))
-      (subst (λ x. x ≤ℚ (number (cycle a t) /ℚ number (cycle a t))) (*ℚ_assoc least (number t.grid) (inverse_ℚ (number (cycle a t)))) (divided _ _ g.cycle_least)) in
+      (subst (λ x. x ≤ℚ (number (cycle a t) /ℚ number (cycle a t))) (*ℚ_assoc least (number t.grid) (inverse_ℚ (number (cycle a t)))) (divided _ _ g.base.cycle_least)) in
       ≤ℚ_cancel _ _ least (<ℚ-≤ℚ _ _ h.cycle_least) n (rw (*ℚ_comm (inverse_ℚ least) least, *ℚ-inverse least n, *ℚ_comm (share a t t.grid) least) one)
 
   -- ---- runs
   -- a run is no faster than the speed allows
   pub fast_share : (d : Dir) (i : ℕ) → HasLink a i → (run_low a d i *ℚ share a t t.grid) ≤ℚ share a t (run t d i)
   fast_share d i k =
-      subst (λ x. x ≤ℚ share a t (run t d i)) (*ℚ_assoc (run_low a d i) (number t.grid) (inverse_ℚ (number (cycle a t)))) (divided _ _ (g.fast d i k))
+      subst (λ x. x ≤ℚ share a t (run t d i)) (*ℚ_assoc (run_low a d i) (number t.grid) (inverse_ℚ (number (cycle a t)))) (divided _ _ (g.base.fast d i k))
 
   -- and no slower
   pub slow_share : (d : Dir) (i : ℕ) → HasLink a i → share a t (run t d i) ≤ℚ (run_high a d i *ℚ share a t t.grid)
   slow_share d i k =
-      subst (λ x. share a t (run t d i) ≤ℚ x) (*ℚ_assoc (run_high a d i) (number t.grid) (inverse_ℚ (number (cycle a t)))) (divided _ _ (g.slow d i k))
+      subst (λ x. share a t (run t d i) ≤ℚ x) (*ℚ_assoc (run_high a d i) (number t.grid) (inverse_ℚ (number (cycle a t)))) (divided _ _ (g.base.slow d i k))
 
   -- it is at least the root's least
   pub run_least_holds : (d : Dir) (i : ℕ) → HasLink a i → run_least a d i ≤ℚ share a t (run t d i)

@@ -3,7 +3,7 @@ use Rattle.std.proofs.Common.{◌≡◌, ℕ, ◌+◌, ◌<◌, ◌≤◌, ◌�
 use Rattle.std.proofs.lemmas.Bool.{eqb-true}
 use Rattle.std.specs.Prelude.{◌==◌, ◌||◌}
 use Rattle.progression.specs.Street.{Street, count}
-use Rattle.linear_theory.specs.Names.{Name, Family, families, last_family, row_among, name_of, lone_among, is_lone, Seat, AtSignal, AtLink, AtChange, ByItself, AtRatio, Nowhere, HasSeat, rule_of, HasRow}
+use Rattle.linear_theory.specs.Names.{Name, Family, families, last_family, row_among, name_of, lone_among, is_lone, Seat, AtSignal, AtLink, AtChange, ByItself, AtRatio, AtLeast, AtEqual, Nowhere, HasSeat, rule_of, HasRow}
 
 -- ---- numbers
 record IsWithin (n m g : ℕ) : Type 0 where
@@ -33,6 +33,8 @@ Fits false (AtLink j) i = j ≡ i
 Fits false (AtChange d j) i = j ≡ i
 Fits true (ByItself j) i = j ≡ i
 Fits true (AtRatio j) i = j ≡ i
+Fits true (AtLeast d j) i = j ≡ i
+Fits true (AtEqual j) i = j ≡ i
 Fits lone seat i = ⊥
 
 abbrev AllFit : List Family → ℕ → Type 0
@@ -60,12 +62,16 @@ seat_index a false (AtLink j) i e h = subst (IsIndex a false) e (several a j h.0
 seat_index a false (AtChange d j) i e h = subst (IsIndex a false) e (several a j h.0.0 (omega (arith, h.0.1)))
 seat_index a false (ByItself j) i e h = absurd e
 seat_index a false (AtRatio j) i e h = absurd e
+seat_index a false (AtLeast d j) i e h = absurd e
+seat_index a false (AtEqual j) i e h = absurd e
 seat_index a false Nowhere i e h = absurd e
 seat_index a true (AtSignal j) i e h = absurd e
 seat_index a true (AtLink j) i e h = absurd e
 seat_index a true (AtChange d j) i e h = absurd e
 seat_index a true (ByItself j) i e h = subst (IsIndex a true) e (single a j h)
 seat_index a true (AtRatio j) i e h = subst (IsIndex a true) e (single a j h.0)
+seat_index a true (AtLeast d j) i e h = subst (IsIndex a true) e (single a j h.0)
+seat_index a true (AtEqual j) i e h = subst (IsIndex a true) e (single a j h.0)
 seat_index a true Nowhere i e h = absurd e
 
 -- ---- which family has one row alone

@@ -10,9 +10,9 @@ use Rattle.progression.specs.Columns.{point}
 use Rattle.progression.specs.declared.parts.Pair.{Pair}
 use Rattle.linear_theory.specs.Boxes.{Area}
 use Rattle.linear_theory.specs.Rows.{Form, line, rise_form, drop_form}
-use Rattle.linear_theory.specs.Names.{Name, WaitRow, FastRow, SlowRow, RiseRow, DropRow, CycleLowRow, CycleHighRow, RatioRow, LoopLowRow, LoopHighRow, TurnLowRow, TurnHighRow, NoRow, HasRow, limits_form, form_of}
+use Rattle.linear_theory.specs.Names.{Name, WaitRow, FastRow, SlowRow, RiseRow, DropRow, CycleLowRow, CycleHighRow, RatioRow, LoopLowRow, LoopHighRow, TurnLowRow, TurnHighRow, LeastRow, EqualLowRow, EqualHighRow, NoRow, HasRow, limits_form, form_of}
 use Rattle.linear_theory.specs.Counts.{Counts, IsGoodPoint}
-use Rattle.linear_theory.proofs.RowLaws.{wait_law, fast_law, slow_law, rise_law, drop_law, cycle_low_law, cycle_high_law, ratio_law}
+use Rattle.linear_theory.proofs.RowLaws.{wait_law, fast_law, slow_law, rise_law, drop_law, cycle_low_law, cycle_high_law, ratio_law, least_law, equal_low_law, equal_high_law}
 use Rattle.linear_theory.proofs.BoxRowLaws.{loop_low_law, loop_high_law, turn_low_law, turn_high_law}
 
 module _ (a : Street) (box : Area) (t : Plan) (c : Counts a box t) where
@@ -35,6 +35,9 @@ module _ (a : Street) (box : Area) (t : Plan) (c : Counts a box t) where
   row_law (LoopHighRow i) h = loop_high_law a box t c i h
   row_law (TurnLowRow i) h = turn_low_law a box t c i h
   row_law (TurnHighRow i) h = turn_high_law a box t c i h
+  row_law (LeastRow d i) h = least_law a t c.street c.good d
+  row_law (EqualLowRow i) h = equal_low_law a t c.street c.good h.1
+  row_law (EqualHighRow i) h = equal_high_law a t c.street c.good h.1
   row_law NoRow h = absurd h
 
 -- so does each point that counts

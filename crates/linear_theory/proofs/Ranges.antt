@@ -19,13 +19,17 @@ use Rattle.linear_theory.proofs.Windows.{window_after, window_before}
 use Rattle.linear_theory.proofs.Points.{share}
 use Rattle.linear_theory.proofs.Shares.{cycle_above, ticked, parted, share_not_negative}
 
--- an artery has some parts
+-- an artery has a signal
+pub some_signal : (a : Street) → IsStreet a → 1 ≤ count a
+some_signal a h = let n = h.signals in omega arith
+
+-- some parts
 pub parts_above : (a : Street) → IsStreet a → 0 < a.head.parts
-parts_above a h = let g = h.green Outbound 1 (omega arith, h.signals) in omega arith
+parts_above a h = let g = h.green Outbound 1 (omega arith, (some_signal a h)) in omega arith
 
 -- and a timing some units in a part
 pub unit_above : (a : Street) (t : Plan) → Good a t → 0 < t.unit
-unit_above a t g = let p = g.plan in let u = p.unit in omega arith
+unit_above a t g = let p = g.base.plan in let u = p.unit in omega arith
 
 -- products keep the order
 mul-le : {a b c d : ℕ} → a ≤ b → c ≤ d → a * c ≤ b * d
@@ -38,7 +42,7 @@ module _ (a : Street) (t : Plan) (h : IsStreet a) (g : Good a t) where
   -- each red is two ticks long or more
   red_some : (d : Dir) (i : ℕ) → HasSignal a i → 2 ≤ red_ticks a t d i
   red_some d i s =
-      let p = g.plan in
+      let p = g.base.plan in
       let e : 1 * 2 ≤ red_parts a d i * t.unit = mul-le (h.red d i s) p.unit in omega (arith, e)
 
   -- and shorter than the cycle

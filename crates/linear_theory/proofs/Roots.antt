@@ -38,7 +38,7 @@ module _ (a : Street) (t : Plan) (h : IsStreet a) (g : Good a t) where
   -- the shift of a timing is at least the least allowed one
   shift_low : (i : ℕ) → HasSignal a i → shift_least a i ≤ℚ share a t (shift a t i * t.unit)
   shift_low i k =
-      let r = ranked a i (pattern_of t i) (g.patterns i k) in
+      let r = ranked a i (pattern_of t i) (g.base.patterns i k) in
       let e = r.is in let b = r.there in
       let low = rising (shifts_of a i) 0 0 r.rank (shifts_ascend a i) (omega arith) b in
       rw (share_part a t (parts_above a h) (unit_above a t g) (shift a t i)) (part_grows a (shift_at a i 0) (shift a t i) (parts_above a h) (omega arith))
@@ -46,7 +46,7 @@ module _ (a : Street) (t : Plan) (h : IsStreet a) (g : Good a t) where
   -- and at most the greatest
   shift_high : (i : ℕ) → HasSignal a i → share a t (shift a t i * t.unit) ≤ℚ shift_greatest a i
   shift_high i k =
-      let r = ranked a i (pattern_of t i) (g.patterns i k) in
+      let r = ranked a i (pattern_of t i) (g.base.patterns i k) in
       let e = r.is in let b = r.there in
       let high = rising (shifts_of a i) 0 r.rank (shift_count a i - 1) (shifts_ascend a i) (omega arith) (omega arith) in
       rw (share_part a t (parts_above a h) (unit_above a t g) (shift a t i)) (part_grows a (shift a t i) (shift_at a i (shift_count a i - 1)) (parts_above a h) (omega arith))
@@ -66,7 +66,7 @@ module _ (a : Street) (t : Plan) (h : IsStreet a) (g : Good a t) where
 
     -- the block sum is whole
     whole_is : block_shares a t i ≡ whole (turns_between a t i)
-    whole_is = shares_whole a t (parts_above a h) (unit_above a t g) i k (g.patterns i here) (g.patterns (i + 1) next)
+    whole_is = shares_whole a t (parts_above a h) (unit_above a t g) i k (g.base.patterns i here) (g.base.patterns (i + 1) next)
 
     -- each term at the low end of its range gives a sum below it
     sum_low : least_sum a i ≤ℚ whole (turns_between a t i)
@@ -84,7 +84,7 @@ module _ (a : Street) (t : Plan) (h : IsStreet a) (g : Good a t) where
     loop_in_root : (box : Area) → loop_span box i ≡ root_span a i → LoopIn a box t i
     loop_in_root box e = record {
       number = turns_between a t i;
-      is = block_sum_whole a t (parts_above a h) (unit_above a t g) i k (g.patterns i here) (g.patterns (i + 1) next);
+      is = block_sum_whole a t (parts_above a h) (unit_above a t g) i k (g.base.patterns i here) (g.base.patterns (i + 1) next);
       least = rw e ((ceil_is (turns_between a t i) (least_sum a i)).0 sum_low);
       most = rw e ((floor_is (turns_between a t i) (greatest_sum a i)).0 sum_high);
     }
@@ -92,7 +92,7 @@ module _ (a : Street) (t : Plan) (h : IsStreet a) (g : Good a t) where
   -- the shift has a rank
   turn_in_root : (box : Area) (i : ℕ) → HasSignal a i → turn_span box i ≡ root_ranks a i → TurnIn a box t i
   turn_in_root box i k e =
-      let r = ranked a i (pattern_of t i) (g.patterns i k) in
+      let r = ranked a i (pattern_of t i) (g.base.patterns i k) in
       let b = r.there in
       record { rank = r.rank; is = r.is; least = rw e (omega arith); most = rw e (omega arith) }
 
@@ -105,4 +105,4 @@ module _ (a : Street) (t : Plan) (h : IsStreet a) (g : Good a t) where
 
   -- where there is a good timing, each signal has a shift
   pub shift_there : (i : ℕ) → HasSignal a i → 0 < shift_count a i
-  shift_there i k = let q = (ranked a i (pattern_of t i) (g.patterns i k)).there in omega arith
+  shift_there i k = let q = (ranked a i (pattern_of t i) (g.base.patterns i k)).there in omega arith

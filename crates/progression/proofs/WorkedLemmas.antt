@@ -9,7 +9,7 @@ use Rattle.std.proofs.lemmas.Int.{ints}
 use Rattle.progression.specs.Street.{Street, count, HasSignal, HasLink, allows}
 use Rattle.progression.specs.Speeds.{number, run_low, run_high}
 use Rattle.progression.specs.Plan.{Plan, IsPlan, cycle, pattern_of, run, band}
-use Rattle.progression.specs.Good.{Good, RatioHolds}
+use Rattle.progression.specs.Good.{Good, RatioHolds, HasLeastBand}
 use Rattle.progression.specs.Best.{weighted_band}
 use Rattle.progression.specs.Green.{is_green, red_start, red_ticks}
 use Rattle.progression.specs.Lines.{stop, crossing, IsGreenAt, IsGreenWay}
@@ -72,20 +72,24 @@ good : (first_out : ℤ) (band_out band_in : ℕ)
     → Good two_signals (timing 2 100 first_out band_out band_in)
 unfolding whole over inverse_ℚ ◌*ℚ◌ gcd
 good first_out band_out band_in r out back = record {
-  plan = plan 100 first_out band_out band_in;
-  shape = refl;
-  patterns = at_two (λ i. IsTrue (allows two_signals i (pattern_of (timing 2 100 first_out band_out band_in) i))) refl refl;
-  cycle_least = record { cross = omega (arith, ints) };
-  cycle_most = record { cross = omega (arith, ints) };
-  fast = both (λ d. (i : ℕ) → HasLink two_signals i → (run_low two_signals d i *ℚ number 2) ≤ℚ number (run (timing 2 100 first_out band_out band_in) d i))
-      (at_one (λ i. (run_low two_signals Outbound i *ℚ number 2) ≤ℚ number (run (timing 2 100 first_out band_out band_in) Outbound i)) (record { cross = omega (arith, ints) }))
-      (at_one (λ i. (run_low two_signals Inbound i *ℚ number 2) ≤ℚ number (run (timing 2 100 first_out band_out band_in) Inbound i)) (record { cross = omega (arith, ints) }));
-  slow = both (λ d. (i : ℕ) → HasLink two_signals i → number (run (timing 2 100 first_out band_out band_in) d i) ≤ℚ (run_high two_signals d i *ℚ number 2))
-      (at_one (λ i. number (run (timing 2 100 first_out band_out band_in) Outbound i) ≤ℚ (run_high two_signals Outbound i *ℚ number 2)) (record { cross = omega (arith, ints) }))
-      (at_one (λ i. number (run (timing 2 100 first_out band_out band_in) Inbound i) ≤ℚ (run_high two_signals Inbound i *ℚ number 2)) (record { cross = omega (arith, ints) }));
-  rise = λ d i h k. absurd (omega (arith, h.0, k.1));
-  drop = λ d i h k. absurd (omega (arith, h.0, k.1));
+  base = record {
+    plan = plan 100 first_out band_out band_in;
+    shape = refl;
+    patterns = at_two (λ i. IsTrue (allows two_signals i (pattern_of (timing 2 100 first_out band_out band_in) i))) refl refl;
+    cycle_least = record { cross = omega (arith, ints) };
+    cycle_most = record { cross = omega (arith, ints) };
+    fast = both (λ d. (i : ℕ) → HasLink two_signals i → (run_low two_signals d i *ℚ number 2) ≤ℚ number (run (timing 2 100 first_out band_out band_in) d i))
+        (at_one (λ i. (run_low two_signals Outbound i *ℚ number 2) ≤ℚ number (run (timing 2 100 first_out band_out band_in) Outbound i)) (record { cross = omega (arith, ints) }))
+        (at_one (λ i. (run_low two_signals Inbound i *ℚ number 2) ≤ℚ number (run (timing 2 100 first_out band_out band_in) Inbound i)) (record { cross = omega (arith, ints) }));
+    slow = both (λ d. (i : ℕ) → HasLink two_signals i → number (run (timing 2 100 first_out band_out band_in) d i) ≤ℚ (run_high two_signals d i *ℚ number 2))
+        (at_one (λ i. number (run (timing 2 100 first_out band_out band_in) Outbound i) ≤ℚ (run_high two_signals Outbound i *ℚ number 2)) (record { cross = omega (arith, ints) }))
+        (at_one (λ i. number (run (timing 2 100 first_out band_out band_in) Inbound i) ≤ℚ (run_high two_signals Inbound i *ℚ number 2)) (record { cross = omega (arith, ints) }));
+    rise = λ d i h k. absurd (omega (arith, h.0, k.1));
+    drop = λ d i h k. absurd (omega (arith, h.0, k.1));
+  };
   ratio = r;
+  least = both (HasLeastBand two_signals (timing 2 100 first_out band_out band_in)) (record { cross = omega (arith, ints) }) (record { cross = omega (arith, ints) });
+  equal = λ e. absurd cc;
   outbound = out;
   inbound = back;
 }
@@ -123,11 +127,11 @@ in_the_red g = true≢false (sym (g.outbound 0 (omega arith) 0 (omega arith)))
 
 pub too_long : Good two_signals (timing 1 100 (pos 100) 100 100) → ⊥
 unfolding whole over ◌*ℚ◌ gcd
-too_long g = let c = g.cycle_most.cross in absurd (omega (arith, ints, c))
+too_long g = let c = g.base.cycle_most.cross in absurd (omega (arith, ints, c))
 
 pub too_fast : Good two_signals (timing 2 99 (pos 100) 100 100) → ⊥
 unfolding whole over inverse_ℚ ◌*ℚ◌ gcd
-too_fast g = let c = (g.fast Outbound 1 (omega arith, omega arith)).cross in absurd (omega (arith, ints, c))
+too_fast g = let c = (g.base.fast Outbound 1 (omega arith, omega arith)).cross in absurd (omega (arith, ints, c))
 
 pub late_for_clearance : Good with_clearance (timing 2 100 (pos 100) 100 100) → ⊥
 late_for_clearance g = true≢false (sym (g.outbound 1 (omega arith) 0 (omega arith)))
@@ -139,20 +143,24 @@ lagging_left g = true≢false (sym (g.outbound 1 (omega arith) 81 (omega arith))
 pub leading_lefts : Good with_lefts (one_way 3)
 unfolding whole over inverse_ℚ ◌+ℚ◌ neg_ℚ ◌*ℚ◌ gcd
 leading_lefts = let p = one_way 3 in record {
-  plan = record { grid = omega arith; unit = omega arith; reds = refl; run_out = refl; run_in = refl };
-  shape = refl;
-  patterns = at_two (λ i. IsTrue (allows with_lefts i (pattern_of p i))) refl refl;
-  cycle_least = record { cross = omega (arith, ints) };
-  cycle_most = record { cross = omega (arith, ints) };
-  fast = both (λ d. (i : ℕ) → HasLink with_lefts i → (run_low with_lefts d i *ℚ number 2) ≤ℚ number (run p d i))
-      (at_one (λ i. (run_low with_lefts Outbound i *ℚ number 2) ≤ℚ number (run p Outbound i)) (record { cross = omega (arith, ints) }))
-      (at_one (λ i. (run_low with_lefts Inbound i *ℚ number 2) ≤ℚ number (run p Inbound i)) (record { cross = omega (arith, ints) }));
-  slow = both (λ d. (i : ℕ) → HasLink with_lefts i → number (run p d i) ≤ℚ (run_high with_lefts d i *ℚ number 2))
-      (at_one (λ i. number (run p Outbound i) ≤ℚ (run_high with_lefts Outbound i *ℚ number 2)) (record { cross = omega (arith, ints) }))
-      (at_one (λ i. number (run p Inbound i) ≤ℚ (run_high with_lefts Inbound i *ℚ number 2)) (record { cross = omega (arith, ints) }));
-  rise = λ d i h k. absurd (omega (arith, h.0, k.1));
-  drop = λ d i h k. absurd (omega (arith, h.0, k.1));
+  base = record {
+    plan = record { grid = omega arith; unit = omega arith; reds = refl; run_out = refl; run_in = refl };
+    shape = refl;
+    patterns = at_two (λ i. IsTrue (allows with_lefts i (pattern_of p i))) refl refl;
+    cycle_least = record { cross = omega (arith, ints) };
+    cycle_most = record { cross = omega (arith, ints) };
+    fast = both (λ d. (i : ℕ) → HasLink with_lefts i → (run_low with_lefts d i *ℚ number 2) ≤ℚ number (run p d i))
+        (at_one (λ i. (run_low with_lefts Outbound i *ℚ number 2) ≤ℚ number (run p Outbound i)) (record { cross = omega (arith, ints) }))
+        (at_one (λ i. (run_low with_lefts Inbound i *ℚ number 2) ≤ℚ number (run p Inbound i)) (record { cross = omega (arith, ints) }));
+    slow = both (λ d. (i : ℕ) → HasLink with_lefts i → number (run p d i) ≤ℚ (run_high with_lefts d i *ℚ number 2))
+        (at_one (λ i. number (run p Outbound i) ≤ℚ (run_high with_lefts Outbound i *ℚ number 2)) (record { cross = omega (arith, ints) }))
+        (at_one (λ i. number (run p Inbound i) ≤ℚ (run_high with_lefts Inbound i *ℚ number 2)) (record { cross = omega (arith, ints) }));
+    rise = λ d i h k. absurd (omega (arith, h.0, k.1));
+    drop = λ d i h k. absurd (omega (arith, h.0, k.1));
+  };
   ratio = record { cross = omega (arith, ints) };
+  least = both (HasLeastBand with_lefts p) (record { cross = omega (arith, ints) }) (record { cross = omega (arith, ints) });
+  equal = λ e. absurd cc;
   outbound = way_by_test with_lefts p Outbound refl refl refl;
   inbound = way_by_test with_lefts p Inbound refl refl refl;
 }
@@ -170,20 +178,24 @@ turning : (pattern red first_out band_out first_in band_in : ℕ)
     → Good unequal_lefts (two_way pattern red first_out band_out first_in band_in)
 unfolding whole over inverse_ℚ ◌+ℚ◌ neg_ℚ ◌*ℚ◌ gcd
 turning pattern red first_out band_out first_in band_in allowed r out back = let p = two_way pattern red first_out band_out first_in band_in in record {
-  plan = record { grid = omega arith; unit = omega arith; reds = refl; run_out = refl; run_in = refl };
-  shape = refl;
-  patterns = at_two (λ i. IsTrue (allows unequal_lefts i (pattern_of p i))) refl allowed;
-  cycle_least = record { cross = omega (arith, ints) };
-  cycle_most = record { cross = omega (arith, ints) };
-  fast = both (λ d. (i : ℕ) → HasLink unequal_lefts i → (run_low unequal_lefts d i *ℚ number 2) ≤ℚ number (run p d i))
-      (at_one (λ i. (run_low unequal_lefts Outbound i *ℚ number 2) ≤ℚ number (run p Outbound i)) (record { cross = omega (arith, ints) }))
-      (at_one (λ i. (run_low unequal_lefts Inbound i *ℚ number 2) ≤ℚ number (run p Inbound i)) (record { cross = omega (arith, ints) }));
-  slow = both (λ d. (i : ℕ) → HasLink unequal_lefts i → number (run p d i) ≤ℚ (run_high unequal_lefts d i *ℚ number 2))
-      (at_one (λ i. number (run p Outbound i) ≤ℚ (run_high unequal_lefts Outbound i *ℚ number 2)) (record { cross = omega (arith, ints) }))
-      (at_one (λ i. number (run p Inbound i) ≤ℚ (run_high unequal_lefts Inbound i *ℚ number 2)) (record { cross = omega (arith, ints) }));
-  rise = λ d i h k. absurd (omega (arith, h.0, k.1));
-  drop = λ d i h k. absurd (omega (arith, h.0, k.1));
+  base = record {
+    plan = record { grid = omega arith; unit = omega arith; reds = refl; run_out = refl; run_in = refl };
+    shape = refl;
+    patterns = at_two (λ i. IsTrue (allows unequal_lefts i (pattern_of p i))) refl allowed;
+    cycle_least = record { cross = omega (arith, ints) };
+    cycle_most = record { cross = omega (arith, ints) };
+    fast = both (λ d. (i : ℕ) → HasLink unequal_lefts i → (run_low unequal_lefts d i *ℚ number 2) ≤ℚ number (run p d i))
+        (at_one (λ i. (run_low unequal_lefts Outbound i *ℚ number 2) ≤ℚ number (run p Outbound i)) (record { cross = omega (arith, ints) }))
+        (at_one (λ i. (run_low unequal_lefts Inbound i *ℚ number 2) ≤ℚ number (run p Inbound i)) (record { cross = omega (arith, ints) }));
+    slow = both (λ d. (i : ℕ) → HasLink unequal_lefts i → number (run p d i) ≤ℚ (run_high unequal_lefts d i *ℚ number 2))
+        (at_one (λ i. number (run p Outbound i) ≤ℚ (run_high unequal_lefts Outbound i *ℚ number 2)) (record { cross = omega (arith, ints) }))
+        (at_one (λ i. number (run p Inbound i) ≤ℚ (run_high unequal_lefts Inbound i *ℚ number 2)) (record { cross = omega (arith, ints) }));
+    rise = λ d i h k. absurd (omega (arith, h.0, k.1));
+    drop = λ d i h k. absurd (omega (arith, h.0, k.1));
+  };
   ratio = r;
+  least = both (HasLeastBand unequal_lefts p) (record { cross = omega (arith, ints) }) (record { cross = omega (arith, ints) });
+  equal = λ e. absurd cc;
   outbound = out;
   inbound = back;
 }

@@ -1,5 +1,5 @@
 -- Worked timings of the smallest artery: two signals 500 metres apart, driven in 50 seconds, each with half of a cycle of 100 seconds red.
-use Rattle.std.specs.Prelude.{◌≡◌, ℕ, List, [], ◌∷◌, None, ℤ, pos, true, codes}
+use Rattle.std.specs.Prelude.{◌≡◌, ℕ, List, [], ◌∷◌, None, ℤ, pos, true, codes, false}
 use Rattle.rational_theory.specs.Rational.{◌/ℚ◌}
 use Rattle.progression.specs.Street.{Street}
 use Rattle.progression.specs.Speeds.{number}
