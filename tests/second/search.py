@@ -70,6 +70,8 @@ class Street:
         self.place = {name: j for j, name in enumerate(self.columns)}
         self.parts = parts = artery["parts"]
         self.ratio = Fraction(artery["ratio"])
+        self.least = {way: Fraction(artery.get(f"least_{way}", 0)) for way in ("out", "in")}
+        self.equal = artery.get("equal", False)
         self.least_cycle, self.greatest_cycle = map(Fraction, artery["cycle"])
         self.name = {i: it["name"] for i, it in signals.items()}
         self.red, self.left_out, self.left_in, self.clear_out, self.clear_in = (
@@ -149,6 +151,12 @@ class Street:
             row(f"turn_lo {i}", {f"s {i}": -1}, -self.shifts[i][box["turn"][i][0]])
         for i in self.signals:
             row(f"turn_hi {i}", {f"s {i}": 1}, self.shifts[i][box["turn"][i][1]])
+        for way, least in self.least.items():
+            if least:
+                row(f"least_{way}", {f"b_{way}": -1}, -least)
+        if self.equal:
+            row("equal_lo", {"b_out": 1, "b_in": -1})
+            row("equal_hi", {"b_out": -1, "b_in": 1})
         return listed
 
 

@@ -27,7 +27,7 @@ use Rattle.linear_theory.proofs.Terms.{one, less_one, zero_term, block_term}
 use Rattle.linear_theory.proofs.SparseSums.{InOrder, line_total}
 use Rattle.linear_theory.specs.Counts.{IsStreet}
 use Rattle.linear_theory.proofs.RankedShifts.{shifts_ascend, rising, rising_strictly}
-use Rattle.linear_theory.proofs.Ranges.{parts_above}
+use Rattle.linear_theory.proofs.Ranges.{parts_above, some_signal}
 use Rattle.linear_theory.proofs.Divided.{number_not_negative}
 use Rattle.recovery_theory.specs.Vertices.{IsVertex, HasWholeBlock, HasRankedShift}
 use Rattle.recovery_theory.specs.Splitting.{is_whole_number, has_rank, shift_of, is_ranked, last_below, rank_below}
@@ -163,13 +163,13 @@ module _ (a : Street) (box : Area) (x : List ℚ) (h : IsStreet a) (b : IsBoxOf 
     sum_least : whole (loop_span box i).least ≤ℚ block_sum a x i
     sum_least =
         let f = loop_low_form a box i in
-        let row = subst (λ y. y ≤ℚ f.bound) (line_total a f x h.signals (in_order minus_one (number 1))) (v.rows (LoopLowRow i) k).met in
+        let row = subst (λ y. y ≤ℚ f.bound) (line_total a f x (some_signal a h) (in_order minus_one (number 1))) (v.rows (LoopLowRow i) k).met in
         linear (record { count = 1; low = cells_term less_one one; high = constant_term ⊕ minus (at 12) } ∷ []) 0 (at 12) whole_term (block_values (whole (loop_span box i).least)) (row, tt) refl
 
     sum_most : block_sum a x i ≤ℚ whole (loop_span box i).most
     sum_most =
         let f = loop_high_form a box i in
-        let row = subst (λ y. y ≤ℚ f.bound) (line_total a f x h.signals (in_order (number 1) minus_one)) (v.rows (LoopHighRow i) k).met in
+        let row = subst (λ y. y ≤ℚ f.bound) (line_total a f x (some_signal a h) (in_order (number 1) minus_one)) (v.rows (LoopHighRow i) k).met in
         linear (record { count = 1; low = cells_term one less_one; high = at 12 ⊕ minus constant_term } ∷ []) 0 whole_term (at 12) (block_values (whole (loop_span box i).most)) (row, tt) refl
 
     -- so the span has a number
@@ -193,7 +193,7 @@ module _ (a : Street) (box : Area) (x : List ℚ) (h : IsStreet a) (b : IsBoxOf 
         let f = turn_low_form a box i in
         let y = value_at (count a) x (ShiftOf i) in
         let p = part a (shift_at a i (turn_span box i).least) in
-        let row = subst (λ y. y ≤ℚ f.bound) (line_total a f x h.signals (omega arith, k, tt)) (v.rows (TurnLowRow i) k).met in
+        let row = subst (λ y. y ≤ℚ f.bound) (line_total a f x (some_signal a h) (omega arith, k, tt)) (v.rows (TurnLowRow i) k).met in
         let l : p ≤ℚ y = linear (record { count = 1; low = less_one ⊗ at 0 ⊕ zero_term; high = minus (at 1) } ∷ []) 0 (at 1) (at 0) (y ∷ p ∷ []) (row, tt) refl in
         subst (λ z. z ≤ℚ shift_of a x i) (part_times (shift_at a i (turn_span box i).least)) (≤ℚ-*ℚ p y (number a.head.parts) l (number_not_negative a.head.parts))
 
@@ -202,7 +202,7 @@ module _ (a : Street) (box : Area) (x : List ℚ) (h : IsStreet a) (b : IsBoxOf 
         let f = turn_high_form a box i in
         let y = value_at (count a) x (ShiftOf i) in
         let p = part a (shift_at a i (turn_span box i).most) in
-        let row = subst (λ y. y ≤ℚ f.bound) (line_total a f x h.signals (omega arith, k, tt)) (v.rows (TurnHighRow i) k).met in
+        let row = subst (λ y. y ≤ℚ f.bound) (line_total a f x (some_signal a h) (omega arith, k, tt)) (v.rows (TurnHighRow i) k).met in
         let l : y ≤ℚ p = linear (record { count = 1; low = one ⊗ at 0 ⊕ zero_term; high = at 1 } ∷ []) 0 (at 0) (at 1) (y ∷ p ∷ []) (row, tt) refl in
         subst (λ z. shift_of a x i ≤ℚ z) (part_times (shift_at a i (turn_span box i).most)) (≤ℚ-*ℚ y p (number a.head.parts) l (number_not_negative a.head.parts))
 

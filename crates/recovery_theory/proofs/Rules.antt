@@ -8,28 +8,29 @@ use Rattle.rational_theory.proofs.Arithmetic.{*ℚ_assoc, *ℚ-zero}
 use Rattle.rational_theory.proofs.Order.{≤ℚ_refl, <ℚ-≤ℚ, <ℚ_not-≤ℚ, *ℚ-inverse, above_not_zero, inverse_not_zero, ≤ℤ_whole}
 use Rattle.rational_theory.specs.Compare.{cmp_ℚ}
 use Rattle.rational_theory.proofs.Compare.{ranked_ℚ, cmp_ℚ-is}
-use Rattle.rational_theory.proofs.Ring.{ring, at, lit, minus, Term, ◌⊕◌, ◌⊗◌}
+use Rattle.rational_theory.proofs.Ring.{ring, at, lit, minus, Term, ◌⊕◌, ◌⊗◌, zero-*ℚ}
 use Rattle.rational_theory.proofs.Linear.{linear, gap_not_negative}
 use Rattle.rational_theory.specs.Rows.{IsMet}
 use Rattle.rational_theory.proofs.Rows.{≤ℚ-left}
 use Rattle.rational_theory.proofs.Shares.{≤ℚ_cancel}
-use Rattle.progression.specs.Street.{Street, count, red_parts, distance, HasSignal, HasLink}
+use Rattle.progression.specs.Street.{Street, count, red_parts, distance, HasSignal, HasLink, least_band}
 use Rattle.progression.specs.Speeds.{number, run_low, run_high, change}
 use Rattle.progression.specs.Plan.{Plan, cycle, run, band}
 use Rattle.progression.specs.Green.{BandIsGreen, red_start, red_ticks}
 use Rattle.progression.specs.Lines.{crossing, line_at, IsGreenWay}
-use Rattle.progression.specs.Good.{Good, RatioHolds, pace_change}
+use Rattle.progression.specs.Good.{Good, RatioHolds, pace_change, HasEqualBands, HasLeastBand}
 use Rattle.progression.specs.Best.{weighted_band}
 use Rattle.progression.specs.declared.parts.Pair.{Pair}
 use Rattle.progression.specs.declared.parts.Dir.{Dir}
 use Rattle.progression.specs.declared.parts.Dir.TheVariants.{Outbound, Inbound}
+use Rattle.linear_theory.proofs.Ranges.{some_signal}
 use Rattle.linear_theory.specs.Boxes.{Area}
-use Rattle.linear_theory.specs.Rows.{Form, line, fast_form, slow_form, rise_form, drop_form, cycle_low_form, cycle_high_form, ratio_below_form, ratio_above_form, goal_form}
-use Rattle.linear_theory.specs.Names.{FastRow, SlowRow, RiseRow, DropRow, CycleLowRow, CycleHighRow, RatioRow, limits_form}
+use Rattle.linear_theory.specs.Rows.{Form, line, fast_form, slow_form, rise_form, drop_form, cycle_low_form, cycle_high_form, ratio_below_form, ratio_above_form, goal_form, least_form, equal_low_form, equal_high_form}
+use Rattle.linear_theory.specs.Names.{FastRow, SlowRow, RiseRow, DropRow, CycleLowRow, CycleHighRow, RatioRow, LeastRow, EqualLowRow, EqualHighRow, limits_form}
 use Rattle.linear_theory.proofs.Terms.{one, less_one, zero_term}
 use Rattle.linear_theory.specs.Counts.{IsStreet}
 use Rattle.linear_theory.proofs.Points.{share, length-numbered}
-use Rattle.linear_theory.proofs.Divided.{number_above, inverse_not_negative}
+use Rattle.linear_theory.proofs.Divided.{number_above, inverse_not_negative, number_not_negative}
 use Rattle.linear_theory.proofs.Windows.{window_after, window_before}
 use Rattle.recovery_theory.specs.Ticks.{unit_of, ticks_of}
 use Rattle.recovery_theory.specs.Placing.{pattern_at, timing_of}
@@ -198,6 +199,44 @@ module _ (a : Street) (box : Area) (x : List ℚ) (h : IsStreet a) (v : IsVertex
   ratio : RatioHolds a.head.ratio timing.band_out timing.band_in
   ratio = ratio_by a.head.ratio (number timing.band_out) (number timing.band_in) (cmp_ℚ a.head.ratio (number 1)) (ranked_ℚ a.head.ratio (number 1) (cmp_ℚ a.head.ratio (number 1)) refl) ratio_below ratio_above
 
+  -- ---- least bands
+  least_from : (d : Dir) → (least_band a d ≡ number 0 → ⊥) → HasLeastBand a timing d
+  least_from Outbound n =
+      let least = a.head.least_out in
+      let row = row_shown a box x h v w (least_form a Outbound) (omega arith, tt, tt) (v.rows (LeastRow Outbound 0) (refl, n)) in
+      undivided _ _ (subst (λ y. y ≤ℚ share a timing timing.band_out)
+      (sym (*ℚ_assoc least (number (cycle a timing)) per_cycle ∙ ap (λ y. least *ℚ y) cycle_over ∙ ring (at 0 ⊗ lit (pos 1)) (at 0) (least ∷ []) refl))
+      (linear (record { count = 1; low = less_one ⊗ at 1 ⊕ zero_term; high = minus (at 0) } ∷ []) 0 (at 0) (at 1) (least ∷ share a timing timing.band_out ∷ []) (row, tt) refl))
+  least_from Inbound n =
+      let least = a.head.least_in in
+      let row = row_shown a box x h v w (least_form a Inbound) (omega arith, tt, tt) (v.rows (LeastRow Inbound 0) (refl, n)) in
+      undivided _ _ (subst (λ y. y ≤ℚ share a timing timing.band_in)
+      (sym (*ℚ_assoc least (number (cycle a timing)) per_cycle ∙ ap (λ y. least *ℚ y) cycle_over ∙ ring (at 0 ⊗ lit (pos 1)) (at 0) (least ∷ []) refl))
+      (linear (record { count = 1; low = less_one ⊗ at 1 ⊕ zero_term; high = minus (at 0) } ∷ []) 0 (at 0) (at 1) (least ∷ share a timing timing.band_in ∷ []) (row, tt) refl))
+
+  -- where there is none, each band is wide enough
+  least_none : (d : Dir) → least_band a d ≡ number 0 → HasLeastBand a timing d
+  least_none d e = rw (e, zero-*ℚ (number (cycle a timing))) (number_not_negative (band timing d))
+
+  least_by : (d : Dir) (o : Ordering) → MatchOrdering o (least_band a d <ℚ number 0) (least_band a d ≡ number 0) (number 0 <ℚ least_band a d) → HasLeastBand a timing d
+  least_by d Less l = least_from d (λ q. <ℚ_not-≤ℚ _ _ l (rw q (≤ℚ_refl (number 0))))
+  least_by d Equal e = least_none d e
+  least_by d Greater l = least_from d (λ q. <ℚ_not-≤ℚ _ _ l (rw q (≤ℚ_refl (number 0))))
+
+  least : (d : Dir) → HasLeastBand a timing d
+  least d = least_by d (cmp_ℚ (least_band a d) (number 0)) (ranked_ℚ (least_band a d) (number 0) (cmp_ℚ (least_band a d) (number 0)) refl)
+
+  -- ---- equal bands
+  equal : HasEqualBands a timing
+  equal e =
+      let low = row_shown a box x h v w equal_low_form (omega arith, tt, (omega arith, tt, tt)) (v.rows (EqualLowRow 0) (refl, e)) in
+      let high = row_shown a box x h v w equal_high_form (omega arith, tt, (omega arith, tt, tt)) (v.rows (EqualHighRow 0) (refl, e)) in
+      let l = ≤ℤ_whole (pos timing.band_out) (pos timing.band_in) (undivided _ _ (linear (record { count = 1; low = one ⊗ at 0 ⊕ (less_one ⊗ at 1 ⊕ zero_term); high = zero_term } ∷ []) 0
+      (at 0) (at 1) (share a timing timing.band_out ∷ share a timing timing.band_in ∷ []) (low, tt) refl)) in
+      let m = ≤ℤ_whole (pos timing.band_in) (pos timing.band_out) (undivided _ _ (linear (record { count = 1; low = less_one ⊗ at 0 ⊕ (one ⊗ at 1 ⊕ zero_term); high = zero_term } ∷ []) 0
+      (at 1) (at 0) (share a timing timing.band_out ∷ share a timing timing.band_in ∷ []) (high, tt) refl)) in
+      omega (arith, ints, l, m)
+
   -- ---- greens
   -- each red is two ticks long or more, and shorter than the cycle
   red_some : (d : Dir) (i : ℕ) → HasSignal a i → 2 ≤ red_ticks a timing d i
@@ -232,16 +271,20 @@ module _ (a : Street) (box : Area) (x : List ℚ) (h : IsStreet a) (v : IsVertex
   -- ---- all rules
   pub timing_good : Good a timing
   timing_good = record {
-    plan = is_plan a (unit_of a x) (ticks_of a x) (pattern_at a x) h.signals grid_some (unit_least a x);
-    shape = length-numbered (count a) 1 (pattern_at a x);
-    patterns = allowed a box x h v w;
-    cycle_least = cycle_least;
-    cycle_most = cycle_most;
-    fast = fast;
-    slow = slow;
-    rise = rise;
-    drop = drop;
+    base = record {
+      plan = is_plan a (unit_of a x) (ticks_of a x) (pattern_at a x) (some_signal a h) grid_some (unit_least a x);
+      shape = length-numbered (count a) 1 (pattern_at a x);
+      patterns = allowed a box x h v w;
+      cycle_least = cycle_least;
+      cycle_most = cycle_most;
+      fast = fast;
+      slow = slow;
+      rise = rise;
+      drop = drop;
+    };
     ratio = ratio;
+    least = least;
+    equal = equal;
     outbound = outbound;
     inbound = inbound;
   }

@@ -16,7 +16,7 @@ use Rattle.linear_theory.specs.Boxes.{Area}
 use Rattle.linear_theory.specs.Rows.{Entry, Form, line}
 use Rattle.linear_theory.proofs.SparseSums.{InOrder, total, shares_of, line_total}
 use Rattle.linear_theory.specs.Counts.{IsStreet}
-use Rattle.linear_theory.proofs.Ranges.{parts_above}
+use Rattle.linear_theory.proofs.Ranges.{parts_above, some_signal}
 use Rattle.linear_theory.proofs.RankedShifts.{Has}
 use Rattle.recovery_theory.specs.Ticks.{in_parts, unit_of, ticks_of}
 use Rattle.recovery_theory.specs.Placing.{shift_parts, pattern_at, timing_of}
@@ -56,7 +56,7 @@ module _ (a : Street) (box : Area) (x : List ℚ) (h : IsStreet a) (v : IsVertex
   shift_ticks : (i : ℕ) → HasSignal a i → ticks_of a x (ShiftOf i) ≡ shift a timing i * unit_of a x
   shift_ticks i s =
       let j = place (count a) (ShiftOf i) in
-      let l = place_below (count a) (ShiftOf i) h.signals s in
+      let l = place_below (count a) (ShiftOf i) (some_signal a h) s in
       let k = shift_at a i (w.shifts i s).rank in
       let m = unit_multiple a x j l in
       let top : unsigned_abs (in_parts a x j).num ≡ k = ap (λ (y : ℚ). unsigned_abs y.num) (w.shifts i s).is ∙ ap unsigned_abs (num_whole (pos k)) in
@@ -96,7 +96,7 @@ module _ (a : Street) (box : Area) (x : List ℚ) (h : IsStreet a) (v : IsVertex
 
   -- the sum of a row at the vertex is that of the timing
   pub sum_shown : (f : Form) → InOrder (count a) 0 f.entries → dot (line a f).coefs x ≡ shares_of a timing f.entries
-  sum_shown f r = line_total a f x h.signals r ∙ total_shown 0 f.entries r
+  sum_shown f r = line_total a f x (some_signal a h) r ∙ total_shown 0 f.entries r
 
   -- so the timing keeps what the row says
   pub row_shown : (f : Form) → InOrder (count a) 0 f.entries → IsMet x (line a f) → shares_of a timing f.entries ≤ℚ f.bound

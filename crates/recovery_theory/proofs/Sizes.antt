@@ -9,6 +9,7 @@ use Rattle.progression.specs.Speeds.{number, run_high}
 use Rattle.progression.specs.Plan.{cycle, run}
 use Rattle.progression.specs.Columns.{BandOf, Frequency, WaitOf, RunOf}
 use Rattle.progression.specs.declared.parts.Dir.{Dir}
+use Rattle.linear_theory.proofs.Ranges.{some_signal}
 use Rattle.linear_theory.specs.Boxes.{Area}
 use Rattle.linear_theory.specs.Counts.{IsStreet}
 use Rattle.linear_theory.proofs.Divided.{number_not_negative}
@@ -34,9 +35,9 @@ module _ (a : Street) (box : Area) (x : List ℚ) (h : IsStreet a) (v : IsVertex
 
   pub band_less : (d : Dir) → ticks_of a x (BandOf d) < a.head.parts * unit_of a x
   band_less d =
-      let e = wait_ticks a box x h v d 1 (omega arith, h.signals) in
+      let e = wait_ticks a box x h v d 1 (omega arith, (some_signal a h)) in
       let u = unit_least a x in
-      let r : 0 < red_parts a d 1 * unit_of a x = mul-pos (h.red d 1 (omega arith, h.signals)) (omega arith) in
+      let r : 0 < red_parts a d 1 * unit_of a x = mul-pos (h.red d 1 (omega arith, (some_signal a h))) (omega arith) in
       omega arith
 
   module _ (w : IsWhole a x) where
@@ -46,7 +47,7 @@ module _ (a : Street) (box : Area) (x : List ℚ) (h : IsStreet a) (v : IsVertex
         let g = timing_good a box x h v w in
         let t = timing_of a x in
         let m = ≤ℚ-*ℚ (number 1) a.head.cycle.least (number t.grid) l (number_not_negative t.grid) in
-        number-≤ t.grid (cycle a t) (≤ℚ_trans _ _ _ (subst (λ y. y ≤ℚ (a.head.cycle.least *ℚ number t.grid)) (one-*ℚ (number t.grid)) m) g.cycle_least)
+        number-≤ t.grid (cycle a t) (≤ℚ_trans _ _ _ (subst (λ y. y ≤ℚ (a.head.cycle.least *ℚ number t.grid)) (one-*ℚ (number t.grid)) m) g.base.cycle_least)
 
     -- a run is no longer than so many seconds
     pub run_most : (d : Dir) (i seconds : ℕ) → HasLink a i → run_high a d i ≤ℚ number seconds → ticks_of a x (RunOf d i) ≤ seconds * ticks_of a x Frequency
@@ -55,5 +56,5 @@ module _ (a : Street) (box : Area) (x : List ℚ) (h : IsStreet a) (v : IsVertex
         let t = timing_of a x in
         let e = run_is a (unit_of a x) (ticks_of a x) (pattern_at a x) d i k in
         let m = ≤ℚ-*ℚ (run_high a d i) (number seconds) (number t.grid) l (number_not_negative t.grid) in
-        let n : number (run t d i) ≤ℚ number (seconds * t.grid) = ≤ℚ_trans _ _ _ (g.slow d i k) (subst (λ y. (run_high a d i *ℚ number t.grid) ≤ℚ y) (sym (whole-*ℤ (pos seconds) (pos t.grid))) m) in
+        let n : number (run t d i) ≤ℚ number (seconds * t.grid) = ≤ℚ_trans _ _ _ (g.base.slow d i k) (subst (λ y. (run_high a d i *ℚ number t.grid) ≤ℚ y) (sym (whole-*ℤ (pos seconds) (pos t.grid))) m) in
         subst (λ r. r ≤ seconds * t.grid) e (number-≤ _ _ n)

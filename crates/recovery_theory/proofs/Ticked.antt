@@ -22,7 +22,7 @@ use Rattle.linear_theory.specs.Names.{WaitRow}
 use Rattle.linear_theory.proofs.SparseSums.{line_total}
 use Rattle.linear_theory.specs.Counts.{IsStreet}
 use Rattle.linear_theory.proofs.Shares.{quotient_ratio}
-use Rattle.linear_theory.proofs.Ranges.{parts_above}
+use Rattle.linear_theory.proofs.Ranges.{parts_above, some_signal}
 use Rattle.recovery_theory.specs.Ticks.{unit_of, ticks_of}
 use Rattle.recovery_theory.specs.Vertices.{IsVertex, HasWholeBlock}
 use Rattle.recovery_theory.proofs.Multiples.{unit_least}
@@ -60,7 +60,7 @@ module _ (a : Street) (box : Area) (x : List ℚ) (h : IsStreet a) (v : IsVertex
 
   -- each column is its ticks over the cycle
   pub column_is : (c : Column) → IsColumn (count a) c → value_at (count a) x c ≡ number (ticks_of a x c) /ℚ number cycle_of
-  column_is c k = value_is a x (parts_above a h) v.not_negative (place (count a) c) (place_below (count a) c h.signals k)
+  column_is c k = value_is a x (parts_above a h) v.not_negative (place (count a) c) (place_below (count a) c (some_signal a h) k)
 
   column_ratio : (c : Column) → IsColumn (count a) c → IsRatio (value_at (count a) x c) (ticks_of a x c) 0 cycle_of
   column_ratio c k = rw (column_is c k) (quotient_ratio (ticks_of a x c) cycle_of some_cycle)
@@ -92,10 +92,10 @@ module _ (a : Street) (box : Area) (x : List ℚ) (h : IsStreet a) (v : IsVertex
   wait_row : (d : Dir) (i : ℕ) → HasSignal a i → (number 1 *ℚ value_at (count a) x (BandOf d) +ℚ (number 1 *ℚ value_at (count a) x (WaitOf d i) +ℚ number 0)) ≤ℚ (number 1 -ℚ part a (red_parts a d i))
   wait_row Outbound i s =
       let m = v.rows (WaitRow Outbound i) s in
-      subst (λ y. y ≤ℚ (number 1 -ℚ part a (red_parts a Outbound i))) (line_total a (wait_form a Outbound i) x h.signals (omega arith, tt, (omega arith, s, tt))) m.met
+      subst (λ y. y ≤ℚ (number 1 -ℚ part a (red_parts a Outbound i))) (line_total a (wait_form a Outbound i) x (some_signal a h) (omega arith, tt, (omega arith, s, tt))) m.met
   wait_row Inbound i s =
       let m = v.rows (WaitRow Inbound i) s in
-      subst (λ y. y ≤ℚ (number 1 -ℚ part a (red_parts a Inbound i))) (line_total a (wait_form a Inbound i) x h.signals (omega arith, tt, (omega arith, s, tt))) m.met
+      subst (λ y. y ≤ℚ (number 1 -ℚ part a (red_parts a Inbound i))) (line_total a (wait_form a Inbound i) x (some_signal a h) (omega arith, tt, (omega arith, s, tt))) m.met
 
   pub wait_ticks : (d : Dir) (i : ℕ) → HasSignal a i → ticks_of a x (WaitOf d i) + ticks_of a x (BandOf d) + red_parts a d i * unit_of a x ≤ cycle_of
   wait_ticks d i s =

@@ -1,5 +1,5 @@
 -- The worked vertices, computed.
-use Rattle.std.proofs.Common.{◌≡◌, ℕ, zero, suc, ◌+◌, refl, sym, arith, true}
+use Rattle.std.proofs.Common.{◌≡◌, ℕ, zero, suc, ◌+◌, refl, sym, arith, true, true≢false}
 use Rattle.std.specs.Ordering.{is_le}
 use Rattle.rational_theory.specs.Rational.{ℚ, whole, over, inverse_ℚ, neg_ℚ, ◌+ℚ◌, ◌*ℚ◌, ◌/ℚ◌, ◌≤ℚ◌}
 use Rattle.rational_theory.specs.Compare.{cmp_ℚ}
@@ -13,7 +13,7 @@ use Rattle.progression.specs.Worked.{one_way}
 use Rattle.progression.specs.declared.parts.Dir.TheVariants.{Outbound, Inbound}
 use Rattle.linear_theory.specs.Boxes.{root_box}
 use Rattle.linear_theory.specs.Rows.{line}
-use Rattle.linear_theory.specs.Names.{Name, WaitRow, FastRow, SlowRow, RiseRow, DropRow, CycleLowRow, CycleHighRow, RatioRow, LoopLowRow, LoopHighRow, TurnLowRow, TurnHighRow, NoRow, HasRow, form_of}
+use Rattle.linear_theory.specs.Names.{Name, WaitRow, FastRow, SlowRow, RiseRow, DropRow, CycleLowRow, CycleHighRow, RatioRow, LoopLowRow, LoopHighRow, TurnLowRow, TurnHighRow, LeastRow, EqualLowRow, EqualHighRow, NoRow, HasRow, form_of}
 use Rattle.linear_theory.specs.Worked.{apart}
 use Rattle.recovery_theory.specs.Ticks.{common, unit_of, ticks_in}
 use Rattle.recovery_theory.specs.Placing.{pattern_at, timing_of}
@@ -60,6 +60,10 @@ quarter_rows (LoopLowRow i) h = each_link (λ i. IsMet (quarter_point (number 1 
 quarter_rows (LoopHighRow i) h = each_link (λ i. IsMet (quarter_point (number 1 /ℚ number 2)) (line (apart 250) (form_of (apart 250) quarter_box (LoopHighRow i)))) (quarter_met (LoopHighRow 1) refl) i h
 quarter_rows (TurnLowRow i) h = each_signal (λ i. IsMet (quarter_point (number 1 /ℚ number 2)) (line (apart 250) (form_of (apart 250) quarter_box (TurnLowRow i)))) (quarter_met (TurnLowRow 1) refl) (quarter_met (TurnLowRow 2) refl) i h
 quarter_rows (TurnHighRow i) h = each_signal (λ i. IsMet (quarter_point (number 1 /ℚ number 2)) (line (apart 250) (form_of (apart 250) quarter_box (TurnHighRow i)))) (quarter_met (TurnHighRow 1) refl) (quarter_met (TurnHighRow 2) refl) i h
+quarter_rows (LeastRow Outbound i) h = absurd (h.1 refl)
+quarter_rows (LeastRow Inbound i) h = absurd (h.1 refl)
+quarter_rows (EqualLowRow i) h = absurd (true≢false (sym h.1))
+quarter_rows (EqualHighRow i) h = absurd (true≢false (sym h.1))
 quarter_rows NoRow h = absurd h
 
 -- a row of the root box that is met
@@ -83,6 +87,10 @@ root_rows (LoopLowRow i) h = each_link (λ i. IsMet (quarter_point (number 0)) (
 root_rows (LoopHighRow i) h = each_link (λ i. IsMet (quarter_point (number 0)) (line (apart 250) (form_of (apart 250) (root_box (apart 250)) (LoopHighRow i)))) (root_met (LoopHighRow 1) refl) i h
 root_rows (TurnLowRow i) h = each_signal (λ i. IsMet (quarter_point (number 0)) (line (apart 250) (form_of (apart 250) (root_box (apart 250)) (TurnLowRow i)))) (root_met (TurnLowRow 1) refl) (root_met (TurnLowRow 2) refl) i h
 root_rows (TurnHighRow i) h = each_signal (λ i. IsMet (quarter_point (number 0)) (line (apart 250) (form_of (apart 250) (root_box (apart 250)) (TurnHighRow i)))) (root_met (TurnHighRow 1) refl) (root_met (TurnHighRow 2) refl) i h
+root_rows (LeastRow Outbound i) h = absurd (h.1 refl)
+root_rows (LeastRow Inbound i) h = absurd (h.1 refl)
+root_rows (EqualLowRow i) h = absurd (true≢false (sym h.1))
+root_rows (EqualHighRow i) h = absurd (true≢false (sym h.1))
 root_rows NoRow h = absurd h
 
 -- no value is below 0
