@@ -1,8 +1,8 @@
 -- A rule that fails rules out that the timing is good, and one that speaks of no band that it keeps those rules.
-use Rattle.std.proofs.Common.{◌≡◌, ◌≤◌, arith}
+use Rattle.std.proofs.Common.{◌≤◌, arith}
 use Rattle.progression.specs.Street.{Street}
 use Rattle.progression.specs.Plan.{Plan}
-use Rattle.progression.specs.Good.{Good, IsBase}
+use Rattle.progression.specs.Good.{IsBase}
 use Rattle.progression.specs.declared.parts.Dir.TheVariants.{Outbound, Inbound}
 use Rattle.time_space.specs.Failing.{Fails, FailsRulesOut}
 use Rattle.time_space.specs.FirstFailing.{rule_order, last_base_rule, IsFirstFailing}
