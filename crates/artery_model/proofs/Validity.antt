@@ -1,18 +1,20 @@
 -- An artery with no fault is valid.
-use Rattle.std.proofs.Common.{◌≡◌, ℕ, zero, suc, ℤ, pos, negsuc, ◌+◌, ◌-◌, ◌<◌, ◌≤◌, ◌==◌, ◌≤ℤ◌, ◌*ℤ◌, List, [], ◌∷◌, length, slice_index_or, Option, None, Some, Bool, true, false, true≢false, ◌&&◌, nat_le, nat_lt, refl, sym, arith}
+use Rattle.std.proofs.Common.{◌≡◌, ℕ, zero, suc, ℤ, pos, negsuc, ◌+◌, ◌-◌, ◌<◌, ◌≤◌, ◌==◌, ◌≤ℤ◌, ◌*ℤ◌, List, [], ◌∷◌, length, slice_index_or, Option, None, Some, Bool, true, false, true≢false, ◌&&◌, ◌||◌, not, if◌then◌else◌, nat_le, nat_lt, refl, sym, arith, le_antisymm, not, subst}
 use Rattle.std.specs.Prelude.{codes}
 use Rattle.std.proofs.lemmas.Bool.Decides.{nat_tests}
 use Rattle.std.proofs.lemmas.Int.{ints}
 use Rattle.std.proofs.lemmas.Option.{none-some}
 use Rattle.rational_theory.specs.Rational.{ℚ, whole, ◌≤ℚ◌}
 use Rattle.rational_theory.proofs.Compare.{le_true}
-use Rattle.progression.specs.Street.{Street}
+use Rattle.rational_theory.proofs.Order.{≤ℚ_antisymm}
+use Rattle.progression.specs.Street.{Street, count}
 use Rattle.progression.specs.declared.parts.Signal.{Signal}
 use Rattle.progression.specs.declared.parts.Link.{Link}
 use Rattle.progression.specs.declared.parts.Pair.{Pair}
+use Rattle.artery_model.specs.Bounds.{most_signals_in, most_share_in}
 use Rattle.artery_model.specs.Faults.{Fault, first_fault, unless, each_numbered, artery_place, link_place}
 use Rattle.artery_model.specs.Limits.{within, in_range, pair_ranges, head_ranges, signal_tests, signal_ranges, change_ranges, link_tests, link_ranges, in_order, in_order_if_there, green_tests, has_green, limit_tests, link_limits, range_tests, rule_tests, artery_fault}
-use Rattle.artery_model.specs.Valid.{IsQuantity, IsPair, IsChange, IsSignal, IsLink, IsValid}
+use Rattle.artery_model.specs.Valid.{IsQuantity, IsPair, IsChange, IsSignal, IsLink, IsOfFirst, IsValid}
 use Rattle.artery_model.specs.declared.kind.Kind.{Kind}
 
 -- ---- tests that all passed
@@ -134,25 +136,66 @@ each_both one other P h i (x ∷ xs) e f (suc k) d lt =
 same_of : (n m : ℕ) → (n == m) ≡ true → n ≡ m
 same_of n m e = grind (arith, nat_tests)
 
+-- ---- versions
+-- a least band of either version
+share_by : (second : Bool) (q : ℚ) → within (whole (pos 0)) (whole (if second then pos 1 else pos 0)) q ≡ true → IsQuantity (pos 0) (pos 1) q
+share_by true q e = quantity_of (pos 0) (pos 1) q e
+share_by false q e =
+    let s = quantity_of (pos 0) (pos 0) q e in
+    record { num = s.num; den = s.den; least = s.least; most = omega (arith, ints, s.most) }
+
+-- and one of the first
+no_share : (q : ℚ) → within (whole (pos 0)) (whole (pos 0)) q ≡ true → q ≡ whole (pos 0)
+no_share q e =
+    let p = both_of _ _ e in
+    ≤ℚ_antisymm q (whole (pos 0)) (le_true q (whole (pos 0)) (sym p.1)) (le_true (whole (pos 0)) q (sym (both_of _ _ p.0).1))
+
+count_by : (second : Bool) (n : ℕ) → in_range 2 (if second then 24 else 16) n ≡ true → (2 ≤ n) × (n ≤ 24)
+count_by true n e = range_of 2 24 n e
+count_by false n e = let r = range_of 2 16 n e in (r.0, omega (arith, r.1))
+
+not_equal : (equal : Bool) → (not equal || false) ≡ true → equal ≡ false
+not_equal false e = refl
+not_equal true e = absurd (true≢false (sym e))
+
+of_first : (a : Street) → in_range 2 (most_signals_in a.head.version) (count a) ≡ true
+    → within (whole (pos 0)) (whole (most_share_in a.head.version)) a.head.least_out ≡ true → within (whole (pos 0)) (whole (most_share_in a.head.version)) a.head.least_in ≡ true
+    → (not a.head.equal || a.head.version == 2) ≡ true → a.head.version ≡ 1 → IsOfFirst a
+of_first a n o i q e = record {
+  many = (range_of 2 16 (count a) (subst (λ v. in_range 2 (most_signals_in v) (count a) ≡ true) e n)).1;
+  least_out = no_share a.head.least_out (subst (λ v. within (whole (pos 0)) (whole (most_share_in v)) a.head.least_out ≡ true) e o);
+  least_in = no_share a.head.least_in (subst (λ v. within (whole (pos 0)) (whole (most_share_in v)) a.head.least_in ≡ true) e i);
+  equal = not_equal a.head.equal (subst (λ v. (not a.head.equal || v == 2) ≡ true) e q);
+}
+
 -- ---- the whole artery
 pub valid_of : (a : Street) → artery_fault a ≡ None → IsValid a
 valid_of a e =
     let all = each_none (first_fault (range_tests a) ∷ first_fault (rule_tests a) ∷ []) e in
     let ranges = each_none (range_tests a) all.0 in
     let rules = each_none (rule_tests a) all.1.0 in
-    let head = each_none (head_ranges a.head) ranges.1.0 in
-    let count_range = range_of 2 16 (length a.signals) (passes_of _ _ _ ranges.0) in
+    let head = each_none (head_ranges a.head) ranges.1.1.0 in
+    let version = range_of 1 2 a.head.version (passes_of _ _ _ ranges.0) in
+    let signals = passes_of _ _ _ ranges.1.0 in
+    let count_range = count_by (a.head.version == 2) (length a.signals) signals in
+    let out = passes_of _ _ _ head.1.1.1.1.0 in
+    let back = passes_of _ _ _ head.1.1.1.1.1.0 in
     let parts_range = range_of 2 3600 a.head.parts (passes_of _ _ _ head.1.0) in
     let cycle = artery_place (codes "cycle") in
     record {
       least_parts = parts_range.0;
       most_parts = parts_range.1;
+      version_least = version.0;
+      version_most = version.1;
       few = count_range.0;
       many = count_range.1;
       one_fewer = same_of (length a.links + 1) (length a.signals) (passes_of _ _ _ rules.0);
-      each_signal = each_both (signal_ranges a.head.parts) (has_green a.head.parts) (IsSignal a.head.parts) (signal_of a.head.parts) 1 a.signals ranges.1.1.0 rules.1.1.1.0;
-      each_link = each_both (link_ranges (length a.links)) link_limits IsLink (link_of (length a.links)) 1 a.links ranges.1.1.1.0 rules.1.1.1.1.1.0;
+      each_signal = each_both (signal_ranges a.head.parts) (has_green a.head.parts) (IsSignal a.head.parts) (signal_of a.head.parts) 1 a.signals ranges.1.1.1.0 rules.1.1.1.0;
+      each_link = each_both (link_ranges (length a.links)) link_limits IsLink (link_of (length a.links)) 1 a.links ranges.1.1.1.1.0 rules.1.1.1.1.1.0;
       cycle = pair_of (pos 1) (pos 3600) a.head.cycle cycle head.1.1.0 (order_of a.head.cycle cycle rules.1.1.1.1.0);
       ratio = quantity_of (pos 0) (pos 100) a.head.ratio (passes_of _ _ _ head.1.1.1.0);
+      least_out = share_by (a.head.version == 2) a.head.least_out out;
+      least_in = share_by (a.head.version == 2) a.head.least_in back;
+      first = of_first a signals out back (passes_of _ _ _ head.1.1.1.1.1.1.0);
       no_fault = e;
     }

@@ -2,10 +2,10 @@
 
 ghost use Rattle.std.specs.Prelude.{◌≡◌, ◌+◌, ◌<◌, ◌≤◌, pos, ◌≤ℤ◌, unsigned_abs, IfSome, IfOk};
 ghost use Rattle.rational_theory.specs.Rational.{◌≤ℚ◌};
-ghost use Rattle.progression.specs.Street.{Street, count, signal_of, link_of, left_against, red_parts, clearance, allows, distance, speed, change_given};
+ghost use Rattle.progression.specs.Street.{Street, count, signal_of, link_of, left_against, red_parts, clearance, allows, distance, speed, change_given, least_band};
 ghost use Rattle.progression.specs.Speeds.{run_low, run_high, change};
 ghost use Rattle.progression.specs.Columns.{pattern_shift};
-ghost use Rattle.artery_model.specs.Bounds.{least_signals, most_signals, least_parts, most_parts, least_distance, most_distance, least_cycle, most_cycle, least_ratio, most_ratio};
+ghost use Rattle.artery_model.specs.Bounds.{least_signals, most_signals, least_parts, most_parts, least_distance, most_distance, least_cycle, most_cycle, least_ratio, most_ratio, first_version, second_version, least_share, most_share};
 ghost use Rattle.artery_model.specs.Faults.{Judges};
 ghost use Rattle.artery_model.specs.Limits.{artery_fault};
 ghost use Rattle.artery_model.specs.Valid.{IsValid, IsSignal, IsLink, IsSpeeds, IsChange, IsPair, IsPaces, IsQuantity};
@@ -71,7 +71,7 @@ impl Artery {
         })
     }
 
-    /// The name, units, parts, limits of the cycle and ratio. The contract also says that the artery is valid.
+    /// What holds of the whole artery. The contract also says that the artery is valid.
     pub fn head(&self) -> &Head
         ensures value { result.now ≡ self.now.head }
         ensures valid { IsValid self.now }
@@ -98,6 +98,33 @@ impl Artery {
         ensures { result.now ≡ self.now.links }
     {
         self.links.as_slice()
+    }
+
+    /// The version of the description, 1 or 2.
+    pub fn version(&self) -> u32
+        ensures value { result ≡ self.now.head.version }
+        ensures least { first_version ≤ result }
+        ensures most { result ≤ second_version }
+    {
+        self.head.version
+    }
+
+    /// The least width of a direction's band, as a fraction of the cycle; 0 where there is none.
+    pub fn least_band(&self, dir: Dir) -> Frac
+        ensures value { result ≡ least_band self.now dir }
+        ensures range { IsQuantity least_share most_share result }
+    {
+        match dir {
+            Dir::Outbound => self.head.least_out,
+            Dir::Inbound => self.head.least_in,
+        }
+    }
+
+    /// Whether both bands have to be equal.
+    pub fn equal(&self) -> bool
+        ensures { result ≡ self.now.head.equal }
+    {
+        self.head.equal
     }
 
     /// The number of signals, from `LEAST_SIGNALS` to `MOST_SIGNALS`.

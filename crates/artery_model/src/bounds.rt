@@ -1,9 +1,16 @@
 //! The least and the most that an artery's numbers may be.
 
-/// How many signals there are.
+/// The version of a description. The second has least bands, equal bands and more signals.
+pub const FIRST_VERSION: u32 = 1;
+
+pub const SECOND_VERSION: u32 = 2;
+
+/// How many signals there are: the most in any version, and in the first.
 pub const LEAST_SIGNALS: usize = 2;
 
-pub const MOST_SIGNALS: usize = 16;
+pub const MOST_SIGNALS: usize = 24;
+
+pub const MOST_FIRST_SIGNALS: usize = 16;
 
 /// How many parts the cycle has.
 pub const LEAST_PARTS: u32 = 2;
@@ -34,6 +41,11 @@ pub const MOST_CHANGE: i64 = 1000;
 pub const LEAST_RATIO: i64 = 0;
 
 pub const MOST_RATIO: i64 = 100;
+
+/// A least band, as a fraction of the cycle. The first version has none, which is 0.
+pub const LEAST_SHARE: i64 = 0;
+
+pub const MOST_SHARE: i64 = 1;
 
 /// The size of a quantity's numerator and its denominator, in lowest terms.
 pub const MOST_NUMERATOR: u128 = 100_000;

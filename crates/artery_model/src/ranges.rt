@@ -3,14 +3,15 @@
 ghost use Rattle.std.specs.Prelude.{◌≡◌, ◌==◌, nat_le, not, ◌&&◌, length};
 ghost use Rattle.std.specs.List.{list_all};
 ghost use Rattle.rational_theory.specs.Rational.{whole};
-ghost use Rattle.artery_model.specs.Bounds.{least_distance, most_distance, least_speed, most_speed};
+ghost use Rattle.artery_model.specs.Bounds.{least_distance, most_distance, least_speed, most_speed, least_signals, most_signals_in, least_share, most_share_in};
 ghost use Rattle.artery_model.specs.Faults.{first_fault, unless, each_numbered, link_place, Judges};
 ghost use Rattle.artery_model.specs.Limits.{within, in_range, is_name, is_name_if_there, pair_ranges, head_ranges, signal_ranges, change_ranges, link_ranges, range_tests};
 
 use crate::bounds::{
-    LEAST_CHANGE, LEAST_CYCLE, LEAST_DISTANCE, LEAST_NAME, LEAST_PARTS, LEAST_RATIO, LEAST_SIGNALS,
-    LEAST_SPEED, MOST_CHANGE, MOST_CYCLE, MOST_DENOMINATOR, MOST_DISTANCE, MOST_NAME,
-    MOST_NUMERATOR, MOST_PARTS, MOST_RATIO, MOST_SIGNALS, MOST_SPEED,
+    FIRST_VERSION, LEAST_CHANGE, LEAST_CYCLE, LEAST_DISTANCE, LEAST_NAME, LEAST_PARTS, LEAST_RATIO,
+    LEAST_SHARE, LEAST_SIGNALS, LEAST_SPEED, MOST_CHANGE, MOST_CYCLE, MOST_DENOMINATOR,
+    MOST_DISTANCE, MOST_FIRST_SIGNALS, MOST_NAME, MOST_NUMERATOR, MOST_PARTS, MOST_RATIO,
+    MOST_SHARE, MOST_SIGNALS, MOST_SPEED, SECOND_VERSION,
 };
 use crate::kind::{Flaw, Kind};
 use crate::refusals::{check, check_item, check_signal, link_place};
@@ -68,6 +69,28 @@ fn check_pair(alloc: Global, low: i64, high: i64, pair: Pair, place: &str) -> Re
     check_item(alloc, second, Kind::OutOfRange, place, "[2]")
 }
 
+/// Whether a description of the version may have so many signals.
+pub fn is_count(version: u32, count: usize) -> bool
+    ensures { result ≡ in_range least_signals (most_signals_in version) count }
+{
+    if version == SECOND_VERSION {
+        LEAST_SIGNALS <= count && count <= MOST_SIGNALS
+    } else {
+        LEAST_SIGNALS <= count && count <= MOST_FIRST_SIGNALS
+    }
+}
+
+/// Whether a description of the version may have this least band: a fraction of the cycle, and 0 in the first version.
+pub fn is_share(version: u32, share: Frac) -> bool
+    ensures { result ≡ within (whole least_share) (whole (most_share_in version)) share }
+{
+    if version == SECOND_VERSION {
+        is_within(LEAST_SHARE, MOST_SHARE, share)
+    } else {
+        is_within(LEAST_SHARE, LEAST_SHARE, share)
+    }
+}
+
 fn check_head(alloc: Global, head: &Head) -> Result<(), Flaw>
     ensures { Judges result (first_fault (head_ranges head.now)) }
 {
@@ -77,7 +100,13 @@ fn check_head(alloc: Global, head: &Head) -> Result<(), Flaw>
     check(alloc, parts, Kind::OutOfRange, "artery.parts")?;
     check_pair(alloc, LEAST_CYCLE, MOST_CYCLE, head.cycle, "artery.cycle")?;
     let ratio = is_within(LEAST_RATIO, MOST_RATIO, head.ratio);
-    check(alloc, ratio, Kind::OutOfRange, "artery.ratio")
+    check(alloc, ratio, Kind::OutOfRange, "artery.ratio")?;
+    let out = is_share(head.version, head.least_out);
+    check(alloc, out, Kind::OutOfRange, "artery.least_out")?;
+    let back = is_share(head.version, head.least_in);
+    check(alloc, back, Kind::OutOfRange, "artery.least_in")?;
+    let equal = !head.equal || head.version == SECOND_VERSION;
+    check(alloc, equal, Kind::OutOfRange, "artery.equal")
 }
 
 fn check_signal_ranges(
@@ -170,7 +199,9 @@ pub(crate) fn check_ranges(
 ) -> Result<(), Flaw>
     ensures { Judges result (first_fault (range_tests (record { head = head.now; signals = signals.now; links = links.now }))) }
 {
-    let count = LEAST_SIGNALS <= signals.len() && signals.len() <= MOST_SIGNALS;
+    let version = FIRST_VERSION <= head.version && head.version <= SECOND_VERSION;
+    check(alloc, version, Kind::OutOfRange, "version")?;
+    let count = is_count(head.version, signals.len());
     check(alloc, count, Kind::OutOfRange, "signal")?;
     check_head(alloc, head)?;
     check_each_signal(alloc, head.parts, signals)?;

@@ -105,9 +105,13 @@ fn make(alloc: Global, numbers: Numbers) -> Result<Artery, Flaw> {
     let head = Head {
         name: None,
         units: numbers.units,
+        version: 1,
         parts: numbers.parts,
         cycle: numbers.cycle,
         ratio: Frac::whole(1),
+        least_out: Frac::whole(0),
+        least_in: Frac::whole(0),
+        equal: false,
     };
     Artery::new(alloc, head, signals, links)
 }
