@@ -1,5 +1,5 @@
 -- What an accepted certificate says of every good timing.
-use Rattle.std.proofs.Common.{◌⊎◌, inl, inr, Option, None, Some, List, [], ◌∷◌, map, sym, subst}
+use Rattle.std.proofs.Common.{◌⊎◌, inl, inr, arith, Option, None, Some, List, [], ◌∷◌, map, sym, subst}
 use Rattle.rational_theory.specs.Rational.{ℚ, ◌≤ℚ◌}
 use Rattle.rational_theory.specs.Rows as maths
 use Rattle.rational_theory.specs.Rows.{IsMet}
@@ -74,7 +74,7 @@ module _ (a : Street) (t : Plan) (h : IsStreet a) (g : Good a t) where
   -- the root box holds each good timing
   root_says : (limit : Option ℚ) (ns : List Node) → AreProofs a limit (root_box a ∷ []) ns → IsWithin limit (weighted_band a t)
   root_says limit ns c =
-      let root = root_is a h.signals in
+      let root = root_is a (omega (arith, h.signals)) in
       trees_say limit (root_box a ∷ []) ns c (inl (root_boxed a (root_box a) (shift_there a t h g) root, root_law a t h g (root_box a) root))
 
 best_timed : (a : Street) (value : ℚ) (timing : Option Plan) → Bounded a value → IsTimed a timing (Some value) → IsBest a timing value

@@ -6,7 +6,7 @@ use artery_model::{Artery, Dir};
 use named_row::{Place, RowId, WideAt};
 use narrow_fraction::{Frac, Op, Wide};
 use plan_text::read_certificate;
-use sample_streets::{plain_head, plain_link, plain_signal, two_signals};
+use sample_streets::{SampleHead, plain_head, plain_link, plain_signal, two_signals};
 use std::alloc::Global;
 use std::rt::HostRuntime;
 use std::test::Fail;
@@ -26,6 +26,13 @@ const LOW_LEAF: &str =
 /// The sum is b_out + b_in + w_out 2 + w_in 2 + s 2 <= 1/2 where the block sum is at least 1.
 const HIGH_LEAF: &str =
     "leaf 7\nwout 1 1\nwin 1 1\nslow_out 1 1\nslow_in 1 1\ncycle_high 50\nloop_lo 1 1\nturn_hi 1 1\n";
+
+/// The rows of the two leaves, and those of both least bands: no band is as wide as both ask.
+const NARROW_LOW: &str =
+    "leaf 9\nwout 2 1\nwin 2 1\nfast_out 1 1\nfast_in 1 1\ncycle_low 50\nloop_hi 1 1\nturn_hi 2 1\nleast_out 1\nleast_in 1\n";
+
+const NARROW_HIGH: &str =
+    "leaf 9\nwout 1 1\nwin 1 1\nslow_out 1 1\nslow_in 1 1\ncycle_high 50\nloop_lo 1 1\nturn_hi 1 1\nleast_out 1\nleast_in 1\n";
 
 /// The split with its two leaves.
 const WHOLE_TREE: [&str; 5] = [SPLIT, LOW_LEAF, HIGH_LEAF, "", ""];
@@ -74,9 +81,30 @@ fn weak_at(place: Place) -> Result<(), Reject> {
     Err(Reject::LeafTooWeak { leaf: 1, place })
 }
 
+/// Two signals with reds of 50, 250 metres apart, whose bands have to be at least so many tenths of the cycle wide each.
+fn with_least(alloc: Global, tenths: i128) -> Result<Artery, Fail> {
+    let share = fraction(tenths, 10)?;
+    let head = SampleHead {
+        version: 2,
+        least_out: share,
+        least_in: share,
+        ..plain_head()
+    };
+    let first = plain_signal("A", 50);
+    let second = plain_signal("B", 50);
+    match two_signals(alloc, head, first, second, plain_link(250)) {
+        Ok(artery) => Ok(artery),
+        Err(_) => Err("no artery".into()),
+    }
+}
+
 /// What the check answers for a case.
 fn answer(alloc: Global, case: &Case) -> Result<Result<(), Reject>, Fail> {
-    let artery = artery(alloc, case.red, case.distance)?;
+    answer_on(alloc, &artery(alloc, case.red, case.distance)?, case)
+}
+
+/// What the check answers for a case on this artery.
+fn answer_on(alloc: Global, artery: &Artery, case: &Case) -> Result<Result<(), Reject>, Fail> {
     let mut text = Vec::new(alloc);
     text.extend_from_slice(b"maxband-certificate 1\n")?;
     text.extend_from_slice(case.claim.as_bytes())?;
@@ -87,7 +115,7 @@ fn answer(alloc: Global, case: &Case) -> Result<Result<(), Reject>, Fail> {
     }
     text.extend_from_slice(b"end\n")?;
     let certificate = read_certificate(alloc, text.as_slice());
-    Ok(check(alloc, &artery, &certificate.ok().ok_or("no certificate")?))
+    Ok(check(alloc, artery, &certificate.ok().ok_or("no certificate")?))
 }
 
 /// At 500 metres the runs would have to be 50 seconds.
@@ -283,5 +311,36 @@ fn certificates(rt: HostRuntime) -> Result<(), Fail> {
     for case in &cases {
         assert_eq!(rt; answer(alloc, case)?, case.expected);
     }
+    Ok(())
+}
+
+#[test]
+fn rows_of_least_bands(rt: HostRuntime) -> Result<(), Fail> {
+    let alloc = rt.alloc();
+    let none = "verdict none\n";
+    let no_least = Err(Reject::NoSuchRow {
+        leaf: 1,
+        row: row(18, 0),
+    });
+    let no_equal = Err(Reject::NoSuchRow {
+        leaf: 1,
+        row: row(20, 0),
+    });
+    let narrow = [SPLIT, NARROW_LOW, NARROW_HIGH, "", ""];
+    let equal = ["leaf 1\nequal_lo 1\n", "", "", "", ""];
+    let cases = [
+        // Both bands are three tenths of the cycle wide, which is more than a half together; of two tenths there are such.
+        (3, near(none, "", narrow, Ok(()))),
+        (2, near(none, "", narrow, weak_at(Place::Bound))),
+        (3, near(none, "", equal, no_equal)),
+        (0, near(none, "", narrow, no_least)),
+    ];
+    for (tenths, case) in &cases {
+        let artery = with_least(alloc, *tenths)?;
+        assert_eq!(rt; answer_on(alloc, &artery, case)?, case.expected);
+    }
+    // Nor has an artery of the first version such a row.
+    let first = near(none, "", narrow, no_least);
+    assert_eq!(rt; answer(alloc, &first)?, first.expected);
     Ok(())
 }
