@@ -1,5 +1,5 @@
 -- Each column of a point is its whole ticks over the cycle.
-use Rattle.std.proofs.Common.{◌≡◌, ℕ, zero, suc, ℤ, pos, negsuc, ◌*◌, ◌<◌, ◌≤◌, List, [], ◌∷◌, refl, sym, ◌∙◌, ap, arith, mul-pos, unsigned_abs}
+use Rattle.std.proofs.Common.{◌≡◌, ℕ, zero, suc, ℤ, pos, negsuc, ◌*◌, ◌<◌, ◌≤◌, List, [], ◌∷◌, length, refl, sym, ◌∙◌, ap, arith, mul-pos, unsigned_abs}
 use Rattle.std.proofs.lemmas.Int.{ints}
 use borrow.Author.Differences.{up, down}
 use Rattle.rational_theory.specs.Rational.{ℚ, whole, ◌*ℚ◌, ◌/ℚ◌, ◌≤ℚ◌}
@@ -54,7 +54,7 @@ whole_times v p u m h e =
     let both : number (p * u) ≡ number p *ℚ number u = same_ratio _ _ _ _ _ _ _ _ (whole_ratio (pos (p * u))) (product_ratio _ _ _ _ _ _ _ _ (whole_ratio (pos p)) (whole_ratio (pos u))) (omega arith) in
     ap (λ t. v *ℚ t) both ∙ sym (*ℚ_assoc v (number p) (number u)) ∙ times_multiple (v *ℚ number p) u m (product_not_negative _ _ h (number_not_negative p)) e
 
-module _ (a : Street) (x : List ℚ) (p : 0 < a.head.parts) (h : AllNonNegative x) (j : ℕ) (l : j < width (count a)) where
+module _ (a : Street) (x : List ℚ) (p : 0 < a.head.parts) (h : AllNonNegative x) (j : ℕ) (l : j < length x) where
   -- a column's ticks, from its product with the parts
   pub ticks_from_parts : ticks_in a x j ≡ unsigned_abs (in_parts a x j).num * (unit_multiple a x j l).times
   unfolding ticks_in
