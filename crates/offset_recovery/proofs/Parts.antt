@@ -7,8 +7,7 @@ use Rattle.std.proofs.lemmas.Bool.Decides.{nat_tests}
 use Rattle.std.proofs.Common.{true, false}
 use Rattle.rational_theory.specs.Rational.{ℚ, over}
 use Rattle.narrow_fraction.specs.Attempt.{attempt, refusal_if}
-use Rattle.progression.specs.Street.{Street, count}
-use Rattle.linear_theory.specs.Places.{width}
+use Rattle.progression.specs.Street.{Street}
 use Rattle.recovery_theory.specs.Ticks.{in_parts, lcm, common, unit_of}
 use Rattle.offset_recovery.specs.declared.outcome.WideTiming.{WideTiming}
 use Rattle.offset_recovery.specs.declared.outcome.WideTiming.TheVariants as wide

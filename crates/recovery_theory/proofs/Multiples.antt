@@ -6,8 +6,7 @@ use Rattle.rational_theory.specs.Gcd.{gcd}
 use Rattle.rational_theory.specs.Rational.{ℚ}
 use Rattle.rational_theory.specs.laws.Fractions.{times_part}
 use Rattle.rational_theory.proofs.Fractions.{first_part_pos}
-use Rattle.progression.specs.Street.{Street, count}
-use Rattle.linear_theory.specs.Places.{width}
+use Rattle.progression.specs.Street.{Street}
 use Rattle.recovery_theory.specs.Ticks.{in_parts, lcm, common, unit_of}
 
 -- n is a whole number of times d

@@ -10,9 +10,8 @@ use Rattle.rational_theory.proofs.Floor.{floor_is}
 use Rattle.rational_theory.proofs.Linear.{product_not_negative}
 use Rattle.rational_theory.specs.Rows.{AllNonNegative}
 use Rattle.rational_theory.proofs.Shares.{quotient_times}
-use Rattle.progression.specs.Street.{Street, count}
+use Rattle.progression.specs.Street.{Street}
 use Rattle.progression.specs.Speeds.{number}
-use Rattle.linear_theory.specs.Places.{width}
 use Rattle.linear_theory.proofs.Divided.{number_not_negative}
 use Rattle.recovery_theory.specs.Ticks.{value_in, in_parts, unit_of, ticks_in}
 use Rattle.recovery_theory.proofs.Multiples.{unit_least, unit_multiple}

@@ -6,7 +6,7 @@ use Rattle.rational_theory.specs.Floor.{floor_ℚ}
 use Rattle.progression.specs.Street.{Street, count}
 use Rattle.progression.specs.Speeds.{number}
 use Rattle.progression.specs.Columns.{Column}
-use Rattle.linear_theory.specs.Places.{place, width}
+use Rattle.linear_theory.specs.Places.{place}
 
 -- the value in the j-th column, from 0, and its product with the number of parts
 abbrev pub value_in : List ℚ → ℕ → ℚ
