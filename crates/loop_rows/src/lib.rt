@@ -47,6 +47,7 @@ pub use fault::SumFault;
 pub use least::LeastRow;
 pub use leaves::{leaf_sum, sum_of};
 pub use loops::{LoopHighRow, LoopLowRow};
+pub use numbers::green;
 pub use rows::{fill_goal, fill_row, next_row};
 pub use runs::{FastRow, SlowRow};
 pub use source::{BoxRows, RowSource};
