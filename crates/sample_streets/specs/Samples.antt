@@ -11,7 +11,17 @@ use Rattle.sample_streets.specs.declared.sample.SampleSignal.{SampleSignal}
 use Rattle.sample_streets.specs.declared.sample.SampleLink.{SampleLink}
 
 abbrev pub head_of : SampleHead → Head
-head_of s = record { name = None; units = s.units; parts = s.parts; cycle = s.cycle; ratio = s.ratio }
+head_of s = record {
+  name = None;
+  units = s.units;
+  version = s.version;
+  parts = s.parts;
+  cycle = s.cycle;
+  ratio = s.ratio;
+  least_out = s.least_out;
+  least_in = s.least_in;
+  equal = s.equal;
+}
 
 abbrev pub signal_of : SampleSignal → Signal
 signal_of s = record { name = s.name.now; red = s.red; left_out = s.left; left_in = s.left; patterns = s.patterns; clear_out = s.clear_out; clear_in = 0 }
@@ -22,9 +32,19 @@ link_of s = record { distance_out = s.distance_out; distance_in = s.distance_in;
 abbrev pub whole_range : ℤ → ℤ → Pair
 whole_range least most = record { least = whole least; most = whole most }
 
--- metric, 100 parts in 100 seconds, and both bands count alike
+-- metric, 100 parts in 100 seconds, and both bands count alike; of version 1
 abbrev pub plain_head : Head
-plain_head = record { name = None; units = Metric; parts = 100; cycle = whole_range (pos 100) (pos 100); ratio = whole (pos 1) }
+plain_head = record {
+  name = None;
+  units = Metric;
+  version = 1;
+  parts = 100;
+  cycle = whole_range (pos 100) (pos 100);
+  ratio = whole (pos 1);
+  least_out = whole (pos 0);
+  least_in = whole (pos 0);
+  equal = false;
+}
 
 -- red for so many parts, without left turns or queues, and pattern 1 alone
 abbrev pub plain_signal : List ℕ → ℕ → Signal

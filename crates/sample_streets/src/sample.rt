@@ -10,9 +10,13 @@ use narrow_fraction::Frac;
 #[derive(Clone, Copy)]
 pub struct SampleHead {
     pub units: Units,
+    pub version: u32,
     pub parts: u32,
     pub cycle: Pair,
     pub ratio: Frac,
+    pub least_out: Frac,
+    pub least_in: Frac,
+    pub equal: bool,
 }
 
 /// A signal. Its left turns are equally long, and the inbound line leaves on time.
@@ -45,15 +49,19 @@ pub fn range(least: i64, most: i64) -> Pair
     }
 }
 
-/// Metric, 100 parts in 100 seconds, and both bands count alike.
+/// Metric, 100 parts in 100 seconds, and both bands count alike; of version 1.
 pub fn plain_head() -> SampleHead
     ensures { head_of result ≡ plain_head }
 {
     SampleHead {
         units: Units::Metric,
+        version: 1,
         parts: 100,
         cycle: range(100, 100),
         ratio: Frac::whole(1),
+        least_out: Frac::whole(0),
+        least_in: Frac::whole(0),
+        equal: false,
     }
 }
 

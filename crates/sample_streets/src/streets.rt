@@ -13,9 +13,13 @@ fn head(sample: SampleHead) -> Head
     Head {
         name: None,
         units: sample.units,
+        version: sample.version,
         parts: sample.parts,
         cycle: sample.cycle,
         ratio: sample.ratio,
+        least_out: sample.least_out,
+        least_in: sample.least_in,
+        equal: sample.equal,
     }
 }
 
