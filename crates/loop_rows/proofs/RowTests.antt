@@ -8,10 +8,10 @@ use Rattle.std.proofs.lemmas.Bool.Decides.{Decides-and, Decides-not, Decides-ltb
 use Rattle.rational_theory.specs.Rational.{ℚ}
 use Rattle.rational_theory.specs.Compare.{cmp_ℚ}
 use Rattle.rational_theory.proofs.Compare.{eq_says}
-use Rattle.progression.specs.Street.{Street, count, HasSignal, HasLink}
+use Rattle.progression.specs.Street.{Street, count, HasSignal, HasLink, least_band}
 use Rattle.progression.specs.Speeds.{number, change}
 use Rattle.progression.specs.declared.parts.Dir.{Dir}
-use Rattle.linear_theory.specs.Names.{Name, Seat, AtSignal, AtLink, AtChange, ByItself, AtRatio, Nowhere, HasSeat, rule_of, HasRow, HasChange}
+use Rattle.linear_theory.specs.Names.{Name, Seat, AtSignal, AtLink, AtChange, ByItself, AtRatio, AtLeast, AtEqual, Nowhere, HasSeat, rule_of, HasRow, HasChange}
 use Rattle.loop_rows.specs.RowTests.{has_signal, has_link, has_change, has_seat, has_row}
 
 -- ---- the tests say what they are for
@@ -36,6 +36,8 @@ seat_decided a (AtLink i) = link_decided a i
 seat_decided a (AtChange d i) = change_decided a d i
 seat_decided a (ByItself i) = Decides-eqb i 0
 seat_decided a (AtRatio i) = Decides-and (i == 0) (not (eq_by_cmp cmp_ℚ a.head.ratio (number 1))) (Decides-eqb i 0) (other_decided a.head.ratio (number 1))
+seat_decided a (AtLeast d i) = Decides-and (i == 0) (not (eq_by_cmp cmp_ℚ (least_band a d) (number 0))) (Decides-eqb i 0) (other_decided (least_band a d) (number 0))
+seat_decided a (AtEqual i) = Decides-and (i == 0) a.head.equal (Decides-eqb i 0) (λ e. e, λ h. h)
 seat_decided a Nowhere = (λ e. true≢false (sym e), λ h. absurd h)
 
 -- an artery has a row exactly where the test is true

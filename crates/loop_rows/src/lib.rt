@@ -14,6 +14,7 @@ mod bands;
 mod changes;
 mod columns;
 mod cycles;
+mod equal;
 mod family;
 mod fault;
 #[cfg(test)]
@@ -21,6 +22,7 @@ mod feature_tests;
 pub mod laws;
 #[cfg(test)]
 mod leaf_tests;
+mod least;
 mod leaves;
 mod loops;
 mod numbers;
@@ -38,8 +40,10 @@ pub use columns::{
     band_column, column_count, frequency_column, run_column, shift_column, wait_column,
 };
 pub use cycles::{CycleHighRow, CycleLowRow};
+pub use equal::{EqualHighRow, EqualLowRow};
 pub use family::{Family, Problem, Progression};
 pub use fault::SumFault;
+pub use least::LeastRow;
 pub use leaves::leaf_sum;
 pub use loops::{LoopHighRow, LoopLowRow};
 pub use rows::{fill_goal, fill_row, next_row};

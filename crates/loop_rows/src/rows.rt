@@ -14,7 +14,9 @@ use crate::bands::RatioRow;
 use crate::changes::{DropRow, RiseRow};
 use crate::columns::band;
 use crate::cycles::{CycleHighRow, CycleLowRow};
+use crate::equal::{EqualHighRow, EqualLowRow};
 use crate::family::{Family, Progression};
+use crate::least::LeastRow;
 use crate::loops::{LoopHighRow, LoopLowRow};
 use crate::runs::{FastRow, SlowRow};
 use crate::turns::{TurnHighRow, TurnLowRow};
@@ -25,7 +27,7 @@ use narrow_fraction::Frac;
 use search_box::SearchBox;
 
 /// The greatest number of a family.
-const LAST_FAMILY: u8 = 17;
+const LAST_FAMILY: u8 = 21;
 
 /// What a call gives for the family of a number, which is its first argument. Where no family has the number, the call isn't
 /// made, and the last expression stands in its place.
@@ -49,6 +51,10 @@ macro_rules! with_family {
             15 => $call(&LoopHighRow, $($given),*),
             16 => $call(&TurnLowRow, $($given),*),
             17 => $call(&TurnHighRow, $($given),*),
+            18 => $call(&LeastRow { dir: Dir::Outbound }, $($given),*),
+            19 => $call(&LeastRow { dir: Dir::Inbound }, $($given),*),
+            20 => $call(&EqualLowRow, $($given),*),
+            21 => $call(&EqualHighRow, $($given),*),
             _ => $none,
         }
     };

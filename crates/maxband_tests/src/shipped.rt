@@ -280,6 +280,366 @@ diagram
 "##,
     },
     Shipped {
+        name: "harbour",
+        street: r##"# Harbour Road from the ferry to the ring road: 22 signals on 5.8 km, through the old town at 40 to 50 km/h and past it at 50
+# to 60. The town's controllers run one cycle of 90 seconds, of which a part is a hundredth.
+# In the morning the ferries' traffic leaves town, outbound, and the inbound band counts half. The buses come in, though, and the bus
+# company was promised a quarter of each cycle: with the ratio alone the inbound band would be 151/750 of it, 18 seconds.
+
+version = 2            # least bands, equal bands and more than 16 signals need it
+
+[artery]
+name = "Harbour Road"
+units = "metric"
+parts = 100
+cycle = [90, 90]
+ratio = "1/2"
+least_in = "1/4"       # the inbound band is at least 22.5 of the 90 seconds
+
+[[signal]]
+name = "Ferry Terminal"
+red = 44               # the ferry's lanes
+
+[[signal]]
+name = "Customs House"
+red = 34
+
+[[signal]]
+name = "Rope Walk"
+red = 30
+left_in = 10           # into the shipyard
+
+[[signal]]
+name = "Fish Market"
+red = 36
+left_out = 10          # lorries on both sides
+left_in = 10
+
+[[signal]]
+name = "Dock Street"
+red = 38
+
+[[signal]]
+name = "Mill Lane"
+red = 28
+
+[[signal]]
+name = "Station"
+red = 40
+left_out = 12          # the station on one side, the bus station on the other
+left_in = 12
+
+[[signal]]
+name = "Post Office"
+red = 32
+
+[[signal]]
+name = "Bridge Street"
+red = 42
+
+[[signal]]
+name = "Park Gate"
+red = 28
+
+[[signal]]
+name = "School Lane"
+red = 30
+left_out = 8           # into the school
+
+[[signal]]
+name = "Cathedral"
+red = 36
+
+[[signal]]
+name = "Castle Street"
+red = 40
+left_in = 10
+
+[[signal]]
+name = "Library"
+red = 28
+
+[[signal]]
+name = "Hospital"
+red = 38
+left_out = 12          # ambulances
+
+[[signal]]
+name = "Garden Street"
+red = 30
+
+[[signal]]
+name = "Brewery"
+red = 32
+left_in = 8
+
+[[signal]]
+name = "University"
+red = 40
+left_out = 10          # the campus lies on both sides
+left_in = 10
+
+[[signal]]
+name = "Sports Ground"
+red = 28
+
+[[signal]]
+name = "Canal Street"
+red = 34
+
+[[signal]]
+name = "Cemetery"
+red = 30
+left_out = 8
+
+[[signal]]
+name = "Ring Road"
+red = 44               # the ring road's own green
+
+[[link]]               # Ferry Terminal to Customs House
+distance_out = 230
+distance_in = 230
+speed_out = [40, 50]   # km/h
+speed_in = [40, 50]
+
+[[link]]               # Customs House to Rope Walk
+distance_out = 180
+distance_in = 180
+speed_out = [40, 50]
+speed_in = [40, 50]
+
+[[link]]               # Rope Walk to Fish Market
+distance_out = 260
+distance_in = 260
+speed_out = [40, 50]
+speed_in = [40, 50]
+
+[[link]]               # Fish Market to Dock Street
+distance_out = 310
+distance_in = 310
+speed_out = [40, 50]
+speed_in = [40, 50]
+
+[[link]]               # Dock Street to Mill Lane
+distance_out = 190
+distance_in = 190
+speed_out = [40, 50]
+speed_in = [40, 50]
+
+[[link]]               # Mill Lane to Station
+distance_out = 240
+distance_in = 240
+speed_out = [40, 50]
+speed_in = [40, 50]
+
+[[link]]               # Station to Post Office
+distance_out = 350
+distance_in = 350
+speed_out = [40, 50]
+speed_in = [40, 50]
+
+[[link]]               # Post Office to Bridge Street
+distance_out = 160
+distance_in = 160
+speed_out = [40, 50]
+speed_in = [40, 50]
+
+[[link]]               # Bridge Street to Park Gate
+distance_out = 280
+distance_in = 280
+speed_out = [40, 50]
+speed_in = [40, 50]
+
+[[link]]               # Park Gate to School Lane
+distance_out = 420
+distance_in = 420
+speed_out = [40, 50]
+speed_in = [40, 50]
+
+[[link]]               # School Lane to Cathedral
+distance_out = 210
+distance_in = 210
+speed_out = [40, 50]
+speed_in = [40, 50]
+
+[[link]]               # Cathedral to Castle Street
+distance_out = 190
+distance_in = 190
+speed_out = [40, 50]
+speed_in = [40, 50]
+
+[[link]]               # Castle Street to Library
+distance_out = 300
+distance_in = 300
+speed_out = [40, 50]
+speed_in = [40, 50]
+
+[[link]]               # Library to Hospital
+distance_out = 250
+distance_in = 250
+speed_out = [40, 50]
+speed_in = [40, 50]
+
+[[link]]               # Hospital to Garden Street
+distance_out = 360
+distance_in = 360
+speed_out = [50, 60]
+speed_in = [50, 60]
+
+[[link]]               # Garden Street to Brewery
+distance_out = 180
+distance_in = 180
+speed_out = [50, 60]
+speed_in = [50, 60]
+
+[[link]]               # Brewery to University
+distance_out = 270
+distance_in = 270
+speed_out = [50, 60]
+speed_in = [50, 60]
+
+[[link]]               # University to Sports Ground
+distance_out = 330
+distance_in = 330
+speed_out = [50, 60]
+speed_in = [50, 60]
+
+[[link]]               # Sports Ground to Canal Street
+distance_out = 460
+distance_in = 460
+speed_out = [50, 60]
+speed_in = [50, 60]
+
+[[link]]               # Canal Street to Cemetery
+distance_out = 290
+distance_in = 290
+speed_out = [50, 60]
+speed_in = [50, 60]
+
+[[link]]               # Cemetery to Ring Road
+distance_out = 380
+distance_in = 380
+speed_out = [50, 60]
+speed_in = [50, 60]
+"##,
+        status: 0,
+        report: r##"verdict best
+weighted 479/1000 = 0.479000
+band out 177/500 = 0.354000
+band in 1/4 = 0.250000
+cycle 90 = 90.000
+signal 1 pattern 1 offset 0 = 0.000 Ferry Terminal
+signal 2 pattern 1 offset 1017/50 = 20.340 Customs House
+signal 3 pattern 2 offset 549/50 = 10.980 Rope Walk
+signal 4 pattern 1 offset 1386/25 = 55.440 Fish Market
+signal 5 pattern 1 offset 2637/50 = 52.740 Dock Street
+signal 6 pattern 1 offset 144/25 = 5.760 Mill Lane
+signal 7 pattern 1 offset 459/50 = 9.180 Station
+signal 8 pattern 1 offset 1332/25 = 53.280 Post Office
+signal 9 pattern 1 offset 1044/25 = 41.760 Bridge Street
+signal 10 pattern 1 offset 2781/50 = 55.620 Park Gate
+signal 11 pattern 1 offset 4293/50 = 85.860 School Lane
+signal 12 pattern 1 offset 567/50 = 11.340 Cathedral
+signal 13 pattern 1 offset 2457/50 = 49.140 Castle Street
+signal 14 pattern 1 offset 54 = 54.000 Library
+signal 15 pattern 1 offset 2241/25 = 89.640 Hospital
+signal 16 pattern 1 offset 711/50 = 14.220 Garden Street
+signal 17 pattern 1 offset 1269/25 = 50.760 Brewery
+signal 18 pattern 1 offset 2691/50 = 53.820 University
+signal 19 pattern 1 offset 288/25 = 11.520 Sports Ground
+signal 20 pattern 1 offset 399/50 = 7.980 Canal Street
+signal 21 pattern 1 offset 1413/25 = 56.520 Cemetery
+signal 22 pattern 1 offset 2409/50 = 48.180 Ring Road
+link 1 out 50 = 50.000
+link 1 in 50 = 50.000
+link 2 out 50 = 50.000
+link 2 in 50 = 50.000
+link 3 out 50 = 50.000
+link 3 in 50 = 50.000
+link 4 out 50 = 50.000
+link 4 in 50 = 50.000
+link 5 out 1900/41 = 46.341
+link 5 in 50 = 50.000
+link 6 out 40 = 40.000
+link 6 in 50 = 50.000
+link 7 out 3500/71 = 49.295
+link 7 in 50 = 50.000
+link 8 out 50 = 50.000
+link 8 in 50 = 50.000
+link 9 out 50 = 50.000
+link 9 in 50 = 50.000
+link 10 out 50 = 50.000
+link 10 in 50 = 50.000
+link 11 out 50 = 50.000
+link 11 in 50 = 50.000
+link 12 out 3800/89 = 42.696
+link 12 in 40 = 40.000
+link 13 out 40 = 40.000
+link 13 in 40 = 40.000
+link 14 out 40 = 40.000
+link 14 in 40 = 40.000
+link 15 out 50 = 50.000
+link 15 in 50 = 50.000
+link 16 out 50 = 50.000
+link 16 in 50 = 50.000
+link 17 out 50 = 50.000
+link 17 in 50 = 50.000
+link 18 out 50 = 50.000
+link 18 in 60 = 60.000
+link 19 out 2760/49 = 56.326
+link 19 in 60 = 60.000
+link 20 out 60 = 60.000
+link 20 in 60 = 60.000
+link 21 out 60 = 60.000
+link 21 in 60 = 60.000
+diagram
+22 out ===========>>>>>>>>>>>>>>>>>>>>>>##########################=
+22 in ========<<<<<<<<<<<<<<<==========##########################=
+21 out >>>>>>>>>>>>>>>>>=====================##################>>>>
+21 in #======================<<<<<<<<<<<<<<<######################
+20 out >>>>>>####################===================>>>>>>>>>>>>>>>
+20 in ======####################=========<<<<<<<<<<<<<<<==========
+19 out ========#################>>>>>>>>>>>>>>>>>>>>>==============
+19 in <<<<<<<<#################============================<<<<<<<
+18 out =========>>>>>>>>>>>>>>>>>>>>>##############################
+18 in ######<<<<<<<<<<<<<<<===============########################
+17 out >>>>>>>>>>>>>>>>>=============########################==>>>>
+17 in ===================<<<<<<<<<<<<<<<####################======
+16 out >>>>>>>>>=##################====================>>>>>>>>>>>>
+16 in ==========##################<<<<<<<<<<<<<<<=================
+15 out #######################=======>>>>>>>>>>>>>>>>>>>>>>========
+15 in ##############################===============<<<<<<<<<<<<<<<
+14 out ===============>>>>>>>>>>>>>>>>>>>>>>################=======
+14 in <<<<<<<<<<<<<<<======================################=======
+13 out >>>>>>>>>>>>>>>>>>>========##############################>>>
+13 in ==================<<<<<<<<<<<<<<<########################===
+12 out >>>>>>>>######################=================>>>>>>>>>>>>>
+12 in ========######################<<<<<<<<<<<<<<<===============
+11 out ################====================>>>>>>>>>>>>>>>>>>>>>>##
+11 in #####################===================<<<<<<<<<<<<<<<===##
+10 out ================>>>>>>>>>>>>>>>>>>>>>>################======
+10 in <<<<<<<<<<<<<<<=======================################======
+9 out ===>>>>>>>>>>>>>>>>>>>>>====##########################======
+9 in =============<<<<<<<<<<<<<<<##########################======
+8 out >>>>>>>>>>>>>>>>====================###################>>>>>
+8 in =====================<<<<<<<<<<<<<<<###################=====
+7 out ###############################=======>>>>>>>>>>>>>>>>>>>>>#
+7 in =======###############################<<<<<<<<<<<<<<<=======
+6 out ====#################===>>>>>>>>>>>>>>>>>>>>>===============
+6 in <<<<#################============================<<<<<<<<<<<
+5 out ==============>>>>>>>>>>>>>>>>>>>>>=######################==
+5 in <<<<<<<<<<<<<=======================######################<<
+4 out >>>>>>>>>>>>>>>>>>>>===========############################>
+4 in #####========<<<<<<<<<<<<<<<=========#######################
+3 out >>>>>>>>########################===============>>>>>>>>>>>>>
+3 in ========##################<<<<<<<<<<<<<<<===================
+2 out ==============####################====>>>>>>>>>>>>>>>>>>>>>=
+2 in ==============####################<<<<<<<<<<<<<<<===========
+1 out =##########################>>>>>>>>>>>>>>>>>>>>>============
+1 in <##########################==================<<<<<<<<<<<<<<<
+"##,
+    },
+    Shipped {
         name: "market",
         street: r##"# Market Street: left turns, and queues that have to clear. 36 to 50 km/h.
 version = 1

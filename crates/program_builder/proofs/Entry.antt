@@ -3,7 +3,7 @@ use Rattle.std.proofs.Common.{◌≡◌, ℕ, List, [], ◌∷◌, map, refl, sy
 use Rattle.progression.specs.Street.{Street}
 use Rattle.linear_theory.specs.Boxes.{Area}
 use Rattle.linear_theory.specs.Rows.{line}
-use Rattle.linear_theory.specs.Names.{Name, WaitRow, FastRow, SlowRow, RiseRow, DropRow, CycleLowRow, CycleHighRow, RatioRow, LoopLowRow, LoopHighRow, TurnLowRow, TurnHighRow, NoRow, form_of, name_of}
+use Rattle.linear_theory.specs.Names.{Name, WaitRow, FastRow, SlowRow, RiseRow, DropRow, CycleLowRow, CycleHighRow, RatioRow, LoopLowRow, LoopHighRow, TurnLowRow, TurnHighRow, LeastRow, EqualLowRow, EqualHighRow, NoRow, form_of, name_of}
 use Rattle.named_row.specs.declared.names.RowId.{RowId}
 use Rattle.simplex_theory.specs.Tableau.{width, IsShaped}
 use Rattle.simplex_theory.specs.RowLists.{StandsForRows, system_of}
@@ -37,6 +37,9 @@ form_coefs a box other (LoopLowRow i) = refl
 form_coefs a box other (LoopHighRow i) = refl
 form_coefs a box other (TurnLowRow i) = refl
 form_coefs a box other (TurnHighRow i) = refl
+form_coefs a box other (LeastRow d i) = refl
+form_coefs a box other (EqualLowRow i) = refl
+form_coefs a box other (EqualHighRow i) = refl
 form_coefs a box other NoRow = refl
 
 same_coefs : (a : Street) (box other : Area) (names : List RowId) → HaveSameCoefs (map (row_for a box) names) (map (row_for a other) names)

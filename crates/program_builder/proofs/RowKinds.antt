@@ -1,4 +1,4 @@
--- The rows that the pivots of the start change, the waits' and the ratio's, have small numbers; no other row has a band.
+-- The rows that the pivots of the start change, the waits' and those of the bands alone, have small numbers; no other row has a band.
 use Rattle.std.proofs.Common.{ℕ, ℤ, pos, negsuc, ◌-◌, ◌<◌, ◌≤◌, ◌⊎◌, inl, inr, unsigned_abs, Bool, true, false, Option, None, Some, arith, if◌then◌else◌}
 use Rattle.std.proofs.lemmas.Int.{ints}
 use Rattle.std.specs.Ordering.{is_lt}
@@ -6,7 +6,7 @@ use Rattle.rational_theory.specs.Rational.{ℚ, whole, neg_ℚ}
 use Rattle.rational_theory.specs.Compare.{cmp_ℚ}
 use Rattle.rational_theory.specs.laws.Fractions.{abs-neg_ℤ}
 use Rattle.rational_theory.proofs.Lowest.{num_size, den_size}
-use Rattle.progression.specs.Street.{Street, count, HasSignal, signal_of, red_parts, no_signal}
+use Rattle.progression.specs.Street.{Street, count, HasSignal, signal_of, red_parts, no_signal, least_band}
 use Rattle.progression.specs.Speeds.{number, change}
 use Rattle.progression.specs.declared.parts.Pair.{Pair}
 use Rattle.progression.specs.declared.parts.Dir.{Dir}
@@ -15,9 +15,9 @@ use Rattle.artery_model.specs.Valid.{IsValid, IsSignal}
 use Rattle.linear_theory.specs.Places.{place}
 use Rattle.linear_theory.specs.Blocks.{green_part}
 use Rattle.linear_theory.specs.Boxes.{Area}
-use Rattle.linear_theory.specs.Rows.{Form, wait_form, ratio_form, ratio_below_form, ratio_above_form, rise_form, drop_form, goal_form}
+use Rattle.linear_theory.specs.Rows.{Form, wait_form, ratio_form, ratio_below_form, ratio_above_form, rise_form, drop_form, least_form, equal_low_form, equal_high_form, goal_form}
 use Rattle.linear_theory.proofs.RowNumbers.{green_part_is}
-use Rattle.linear_theory.specs.Names.{Name, WaitRow, FastRow, SlowRow, RiseRow, DropRow, CycleLowRow, CycleHighRow, RatioRow, LoopLowRow, LoopHighRow, TurnLowRow, TurnHighRow, NoRow, HasRow, name_of, form_of, limits_form}
+use Rattle.linear_theory.specs.Names.{Name, WaitRow, FastRow, SlowRow, RiseRow, DropRow, CycleLowRow, CycleHighRow, RatioRow, LoopLowRow, LoopHighRow, TurnLowRow, TurnHighRow, LeastRow, EqualLowRow, EqualHighRow, NoRow, HasRow, name_of, form_of, limits_form}
 use Rattle.program_builder.proofs.LineCells.{AllEntries}
 
 -- a fraction whose two numbers are n at most
@@ -87,6 +87,19 @@ module _ (a : Street) (v : IsValid a) where
       pick true = record { entries = (small_ratio, (small_minus, tt)); bound = small_zero }
       pick false = record { entries = (up_to_neg 100000 a.head.ratio small_ratio, (small_one, tt)); bound = small_zero }
 
+  small_least_band : (d : Dir) → IsSmall (least_band a d)
+  small_least_band Outbound = record { num = v.least_out.num; den = let l = v.least_out.den in omega arith }
+  small_least_band Inbound = record { num = v.least_in.num; den = let l = v.least_in.den in omega arith }
+
+  small_least : (d : Dir) → IsSmallForm (least_form a d)
+  small_least d = record { entries = (small_minus, tt); bound = up_to_neg 100000 (least_band a d) (small_least_band d) }
+
+  small_equal_low : IsSmallForm equal_low_form
+  small_equal_low = record { entries = (small_one, (small_minus, tt)); bound = small_zero }
+
+  small_equal_high : IsSmallForm equal_high_form
+  small_equal_high = record { entries = (small_minus, (small_one, tt)); bound = small_zero }
+
   no_band_limits : (f : Pair → Form) (o : Option Pair) → ((c : Pair) → HasNoBand (count a) (f c)) → HasNoBand (count a) (limits_form f o)
   no_band_limits f None h = tt
   no_band_limits f (Some c) h = h c
@@ -116,6 +129,9 @@ module _ (a : Street) (v : IsValid a) where
       let n = v.few in inl (omega arith, (omega arith, (omega arith, (omega arith, (omega arith, (omega arith, (omega arith, (omega arith, tt))))))))
   kind_of_name box (TurnLowRow i) h = inl (omega arith, tt)
   kind_of_name box (TurnHighRow i) h = inl (omega arith, tt)
+  kind_of_name box (LeastRow d i) h = inr (small_least d)
+  kind_of_name box (EqualLowRow i) h = inr small_equal_low
+  kind_of_name box (EqualHighRow i) h = inr small_equal_high
   kind_of_name box NoRow h = absurd h
 
   pub kind_of_row : (box : Area) (f i : ℕ) → HasRow a (name_of f i) → HasNoBand (count a) (form_of a box (name_of f i)) ⊎ IsSmallForm (form_of a box (name_of f i))

@@ -94,9 +94,13 @@ fn rough_artery(alloc: Global) -> Result<Artery, Fail> {
     let head = Head {
         name: None,
         units: Units::Metric,
+        version: 1,
         parts: 100,
         cycle: range((90, 1), (110, 1)),
         ratio: Frac::whole(1),
+        least_out: Frac::whole(0),
+        least_in: Frac::whole(0),
+        equal: false,
     };
     let signals = vec![in alloc;
         signal(alloc, "A", 50)?,

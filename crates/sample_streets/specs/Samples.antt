@@ -32,7 +32,7 @@ link_of s = record { distance_out = s.distance_out; distance_in = s.distance_in;
 abbrev pub whole_range : ℤ → ℤ → Pair
 whole_range least most = record { least = whole least; most = whole most }
 
--- metric, 100 parts in 100 seconds, and both bands count alike; of version 1
+-- metric, in version 1, 100 parts in 100 seconds, and both bands count alike
 abbrev pub plain_head : Head
 plain_head = record {
   name = None;

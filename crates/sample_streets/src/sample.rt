@@ -49,7 +49,7 @@ pub fn range(least: i64, most: i64) -> Pair
     }
 }
 
-/// Metric, 100 parts in 100 seconds, and both bands count alike; of version 1.
+/// Metric, in version 1, 100 parts in 100 seconds, and both bands count alike.
 pub fn plain_head() -> SampleHead
     ensures { head_of result ≡ plain_head }
 {

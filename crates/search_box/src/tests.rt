@@ -101,9 +101,13 @@ fn artery(alloc: Global, street: Street) -> Result<Artery, Fail> {
     let head = Head {
         name: None,
         units: Units::Metric,
+        version: 1,
         parts: 100,
         cycle: pair(street.cycle[0], street.cycle[1]),
         ratio: Frac::whole(1),
+        least_out: Frac::whole(0),
+        least_in: Frac::whole(0),
+        equal: false,
     };
     Ok(
         Artery::new(alloc, head, signals, links)

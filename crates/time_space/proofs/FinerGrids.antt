@@ -3,12 +3,12 @@ use Rattle.std.proofs.Common.{◌≡◌, ℕ, suc, zero, ◌+◌, ◌-◌, ◌*�
 use Rattle.std.proofs.lemmas.List.{length-map}
 use Rattle.std.specs.Prelude.{ℤ, pos, ◌+ℤ◌, ◌*ℤ◌, ◌↔◌, if◌then◌else◌, IfSome}
 use Rattle.std.proofs.lemmas.Int.{ints}
-use Rattle.std.proofs.Math.Nat.{mul-le-mul_right}
+use Rattle.std.proofs.Math.Nat.{mul-le-mul_right, le_of_mul-le-mul_right}
 use borrow.Author.Differences.{up, down}
 use Rattle.progression.specs.Green.{BandIsGreen, is_early, ahead, red_start, red_ticks}
-use Rattle.progression.specs.Street.{Street, no_signal, count, red_parts, left_against, clearance, distance}
+use Rattle.progression.specs.Street.{Street, no_signal, count, red_parts, left_against, clearance, distance, least_band}
 use Rattle.progression.specs.Speeds.{number, run_low, run_high, change}
-use Rattle.progression.specs.Good.{Good, pace_change}
+use Rattle.progression.specs.Good.{Good, IsBase, HasLeastBand, HasEqualBands, pace_change}
 use Rattle.artery_model.specs.Valid.{IsValid}
 use Rattle.progression.specs.Plan.{Plan, IsPlan, cycle, pattern_of, common_red, run, band}
 use Rattle.progression.specs.Lines.{stop, leg, advance, crossing, IsGreenAt, IsGreenWay}
@@ -20,51 +20,51 @@ use Rattle.rational_theory.specs.Rational.{ℚ, ◌*ℚ◌, ◌≤ℚ◌, invers
 use Rattle.progression.specs.declared.parts.Dir.{Dir}
 use Rattle.progression.specs.declared.parts.Dir.TheVariants.{Outbound, Inbound}
 
-plus_scale : (x a : ℤ) (m : ℕ) → x *ℤ pos m +ℤ a *ℤ pos m ≡ (x +ℤ a) *ℤ pos m
+pub plus_scale : (x a : ℤ) (m : ℕ) → x *ℤ pos m +ℤ a *ℤ pos m ≡ (x +ℤ a) *ℤ pos m
 plus_scale x a m =
     let sum : up (x +ℤ a) + down x + down a ≡ up x + up a + down (x +ℤ a) = omega (arith, ints) in
     let scaled = ap (λ y. y * m) sum in
     omega (arith, ints, scaled)
 
-get_or-scale : (xs : List ℕ) (i m : ℕ) → get_or (map (λ n. n * m) xs) i 0 ≡ get_or xs i 0 * m
+pub get_or-scale : (xs : List ℕ) (i m : ℕ) → get_or (map (λ n. n * m) xs) i 0 ≡ get_or xs i 0 * m
 get_or-scale [] i m = omega arith
 get_or-scale (x ∷ xs) zero m = refl
 get_or-scale (x ∷ xs) (suc i) m = get_or-scale xs i m
 
-get_or-scale_ℤ : (xs : List ℤ) (i m : ℕ) → get_or (map (λ z. z *ℤ pos m) xs) i (pos 0) ≡ get_or xs i (pos 0) *ℤ pos m
+pub get_or-scale_ℤ : (xs : List ℤ) (i m : ℕ) → get_or (map (λ z. z *ℤ pos m) xs) i (pos 0) ≡ get_or xs i (pos 0) *ℤ pos m
 get_or-scale_ℤ [] i m = omega (arith, ints)
 get_or-scale_ℤ (x ∷ xs) zero m = refl
 get_or-scale_ℤ (x ∷ xs) (suc i) m = get_or-scale_ℤ xs i m
 
 module _ (a : Street) (t : Plan) (m : ℕ) where
-  cycle_finer : cycle a (finer m t) ≡ cycle a t * m
+  pub cycle_finer : cycle a (finer m t) ≡ cycle a t * m
   cycle_finer = omega arith
 
-  run_finer : (d : Dir) (i : ℕ) → run (finer m t) d i ≡ run t d i * m
+  pub run_finer : (d : Dir) (i : ℕ) → run (finer m t) d i ≡ run t d i * m
   run_finer Outbound i = get_or-scale t.run_out (i - 1) m
   run_finer Inbound i = get_or-scale t.run_in (i - 1) m
 
-  ahead_finer : (d : Dir) (i : ℕ) → ahead a (finer m t) d i ≡ ahead a t d i * m
+  pub ahead_finer : (d : Dir) (i : ℕ) → ahead a (finer m t) d i ≡ ahead a t d i * m
   ahead_finer d i = elim (is_early d (pattern_of t i)) as (λ b. (if b then left_against a d i * (t.unit * m) else 0) ≡ (if b then left_against a d i * t.unit else 0) * m) [ true ↦ omega arith | false ↦ omega arith ]
 
-  red_start_finer : (d : Dir) (i : ℕ) → red_start a (finer m t) d i ≡ red_start a t d i *ℤ pos m
+  pub red_start_finer : (d : Dir) (i : ℕ) → red_start a (finer m t) d i ≡ red_start a t d i *ℤ pos m
   red_start_finer d i = rw (get_or-scale_ℤ t.reds (i - 1) m, ahead_finer d i) (minus_scale (common_red t i) (pos (ahead a t d i)) m)
 
-  red_ticks_finer : (d : Dir) (i : ℕ) → red_ticks a (finer m t) d i ≡ red_ticks a t d i * m
+  pub red_ticks_finer : (d : Dir) (i : ℕ) → red_ticks a (finer m t) d i ≡ red_ticks a t d i * m
   red_ticks_finer d i = omega arith
 
-  advance_finer : (d : Dir) (j : ℕ) → advance a (finer m t) d j ≡ advance a t d j *ℤ pos m
+  pub advance_finer : (d : Dir) (j : ℕ) → advance a (finer m t) d j ≡ advance a t d j *ℤ pos m
   advance_finer d j =
       let c = clearance a d (stop d (count a) (j + 1)) in
       let assoc : c * (t.unit * m) ≡ c * t.unit * m = omega arith in
       rw (run_finer d (leg d (count a) j), assoc) (minus_scale (pos (run t d (leg d (count a) j))) (pos (c * t.unit)) m)
 
-  crossing_finer : (d : Dir) (j : ℕ) → crossing a (finer m t) d j ≡ crossing a t d j *ℤ pos m
+  pub crossing_finer : (d : Dir) (j : ℕ) → crossing a (finer m t) d j ≡ crossing a t d j *ℤ pos m
   crossing_finer Outbound zero = refl
   crossing_finer Inbound zero = refl
   crossing_finer d (suc j) = rw (crossing_finer d j, advance_finer d j) (plus_scale (crossing a t d j) (advance a t d j) m)
 
-  band_finer : (d : Dir) → band (finer m t) d ≡ band t d * m
+  pub band_finer : (d : Dir) → band (finer m t) d ≡ band t d * m
   band_finer Outbound = refl
   band_finer Inbound = refl
 
@@ -79,14 +79,21 @@ module _ (a : Street) (t : Plan) (m : ℕ) where
       → P (cycle a t * m) (red_start a t d i *ℤ pos m) (red_ticks a t d i * m) (crossing a t d j *ℤ pos m) (band t d * m)
   band_from_finer P d i j p = rw (cycle_finer, red_start_finer d i, red_ticks_finer d i, crossing_finer d j, band_finer d) at p
 
-mul-le : {a b c d : ℕ} → a ≤ b → c ≤ d → a * c ≤ b * d
+-- what is the same times some number of at least 1 is the same
+same_factor : (a b m : ℕ) → 0 < m → a * m ≡ b * m → a ≡ b
+same_factor a b m q e =
+    let above : a ≤ b = le_of_mul-le-mul_right (omega (arith, e)) q in
+    let below : b ≤ a = le_of_mul-le-mul_right (omega (arith, e)) q in
+    omega arith
+
+pub mul-le : {a b c d : ℕ} → a ≤ b → c ≤ d → a * c ≤ b * d
 mul-le {a} {b} {c} {d} h k = grind arith
 
 below : {a b c : ℕ} → a < b → 0 < c → a * c < b * c
 below {a} {b} {c} h k = grind arith
 
 -- a red has at least one part, and leaves some green
-red_bounds : (a : Street) → IsValid a → (d : Dir) (i : ℕ) → i - 1 < count a → (1 ≤ red_parts a d i) × (red_parts a d i < a.head.parts)
+pub red_bounds : (a : Street) → IsValid a → (d : Dir) (i : ℕ) → i - 1 < count a → (1 ≤ red_parts a d i) × (red_parts a d i < a.head.parts)
 red_bounds a h Outbound i l = let s = h.each_signal (i - 1) no_signal l in (omega (arith, s.red), s.green_out)
 red_bounds a h Inbound i l = let s = h.each_signal (i - 1) no_signal l in (omega (arith, s.red), s.green_in)
 
@@ -160,33 +167,56 @@ module _ (a : Street) (t : Plan) (m : ℕ) (h : IsValid a) (u : 2 ≤ t.unit) (q
     run_in = ap (λ n. n + 1) (sym (length-map t.run_in (λ n. n * m))) ∙ p.run_in;
   }
 
+  base_finer : IsBase a t → IsBase a (finer m t)
+  base_finer b = record {
+    plan = plan_finer b.plan;
+    shape = b.shape;
+    patterns = b.patterns;
+    cycle_least = cycle_least_finer.0 b.cycle_least;
+    cycle_most = cycle_most_finer.0 b.cycle_most;
+    fast = λ d i l. (fast_finer d i).0 (b.fast d i l);
+    slow = λ d i l. (slow_finer d i).0 (b.slow d i l);
+    rise = λ d i l k. (rises_finer d i).0 (b.rise d i l k);
+    drop = λ d i l k. (drops_finer d i).0 (b.drop d i l k);
+  }
+
+  base_coarser : IsBase a (finer m t) → IsBase a t
+  base_coarser b = record {
+    plan = plan_coarser b.plan;
+    shape = b.shape;
+    patterns = b.patterns;
+    cycle_least = cycle_least_finer.1 b.cycle_least;
+    cycle_most = cycle_most_finer.1 b.cycle_most;
+    fast = λ d i l. (fast_finer d i).1 (b.fast d i l);
+    slow = λ d i l. (slow_finer d i).1 (b.slow d i l);
+    rise = λ d i l k. (rises_finer d i).1 (b.rise d i l k);
+    drop = λ d i l k. (drops_finer d i).1 (b.drop d i l k);
+  }
+
+  pub base_both : IsBase a t ↔ IsBase a (finer m t)
+  base_both = (base_finer, base_coarser)
+
+  least_band_finer : (d : Dir) → HasLeastBand a t d ↔ HasLeastBand a (finer m t) d
+  least_band_finer d = rw (cycle_finer a t m, band_finer a t m d) (least_finer (least_band a d) (cycle a t) (band t d) m q)
+
+  equal_coarser : HasEqualBands a (finer m t) → HasEqualBands a t
+  equal_coarser h e = same_factor t.band_out t.band_in m q (h e)
+
   pub finer_law : Good a t ↔ Good a (finer m t)
   finer_law = (
     (λ g. record {
-      plan = plan_finer g.plan;
-      shape = g.shape;
-      patterns = g.patterns;
-      cycle_least = cycle_least_finer.0 g.cycle_least;
-      cycle_most = cycle_most_finer.0 g.cycle_most;
-      fast = λ d i l. (fast_finer d i).0 (g.fast d i l);
-      slow = λ d i l. (slow_finer d i).0 (g.slow d i l);
-      rise = λ d i l k. (rises_finer d i).0 (g.rise d i l k);
-      drop = λ d i l k. (drops_finer d i).0 (g.drop d i l k);
+      base = base_finer g.base;
       ratio = (ratio_finer a.head.ratio t.band_out t.band_in m q).0 g.ratio;
+      least = λ d. (least_band_finer d).0 (g.least d);
+      equal = λ e. ap (λ b. b * m) (g.equal e);
       outbound = (way_finer Outbound).0 g.outbound;
       inbound = (way_finer Inbound).0 g.inbound;
     }),
     (λ g. record {
-      plan = plan_coarser g.plan;
-      shape = g.shape;
-      patterns = g.patterns;
-      cycle_least = cycle_least_finer.1 g.cycle_least;
-      cycle_most = cycle_most_finer.1 g.cycle_most;
-      fast = λ d i l. (fast_finer d i).1 (g.fast d i l);
-      slow = λ d i l. (slow_finer d i).1 (g.slow d i l);
-      rise = λ d i l k. (rises_finer d i).1 (g.rise d i l k);
-      drop = λ d i l k. (drops_finer d i).1 (g.drop d i l k);
+      base = base_coarser g.base;
       ratio = (ratio_finer a.head.ratio t.band_out t.band_in m q).1 g.ratio;
+      least = λ d. (least_band_finer d).1 (g.least d);
+      equal = equal_coarser g.equal;
       outbound = (way_finer Outbound).1 g.outbound;
       inbound = (way_finer Inbound).1 g.inbound;
     }),

@@ -7,7 +7,7 @@ use Rattle.progression.specs.Street.{Street, count, allows, HasSignal, HasLink}
 use Rattle.progression.specs.Speeds.{number}
 use Rattle.progression.specs.Plan.{Plan, cycle, pattern_of}
 use Rattle.progression.specs.Lines.{IsGreenWay, IsGreenAt}
-use Rattle.progression.specs.Good.{RatioHolds}
+use Rattle.progression.specs.Good.{RatioHolds, HasLeastBand, HasEqualBands}
 use Rattle.progression.specs.declared.parts.Dir.{Dir}
 use Rattle.progression.specs.declared.parts.Dir.TheVariants.{Outbound, Inbound}
 use Rattle.time_space.specs.Blocked.{IsBlockedAt, IsFirstBlocked}
@@ -20,7 +20,7 @@ use Rattle.time_space.specs.declared.failing.Failing.{Failing}
 use Rattle.time_space.specs.declared.failing.Failing.TheVariants as failing
 
 -- the band isn't both green and blocked at a signal
-not_both : (a : Street) (t : Plan) (d : Dir) (j after : ℕ) → IsGreenAt a t d j → IsBlockedAt a t d j after → ⊥
+pub not_both : (a : Street) (t : Plan) (d : Dir) (j after : ℕ) → IsGreenAt a t d j → IsBlockedAt a t d j after → ⊥
 not_both a t d j after g b = let yes = g after b.within in let no = b.red_there in cc
 
 -- a link doesn't both keep and break a limit
@@ -126,12 +126,33 @@ module _ (a : Street) (t : Plan) where
   both_ways r o i Outbound = o
   both_ways r o i Inbound = i
 
+  -- ---- least bands, and their equality
+  pub after_least : NoneBefore a t 9 → ((d : Dir) → HasLeastBand a t d) → NoneBefore a t 10
+  after_least b h (failing.Least d) w = absurd (w (h d))
+  after_least b h g w = omega (arith, b g w)
+
+  pub both_least : HasLeastBand a t Outbound → HasLeastBand a t Inbound → (d : Dir) → HasLeastBand a t d
+  both_least o i Outbound = o
+  both_least o i Inbound = i
+
+  no_later_least_in : NoneBefore a t 9 → HasLeastBand a t Outbound → (g : Failing) → Fails a t g → IsNoLater a (failing.Least Inbound) g
+  no_later_least_in b h (failing.Least Outbound) w = absurd (w h)
+  no_later_least_in b h (failing.Least Inbound) w = record { rule = omega arith; direction = λ e. omega arith; place = λ e q. omega arith }
+  no_later_least_in b h g w = record { rule = b g w; direction = λ e. absurd (omega (arith, e)); place = λ e q. absurd (omega (arith, e)) }
+
+  pub first_least_in : NoneBefore a t 9 → HasLeastBand a t Outbound → ¬ HasLeastBand a t Inbound → IsFirstFailing a t (failing.Least Inbound)
+  first_least_in b h w = record { fails = w; first = no_later_least_in b h }
+
+  pub after_equal : NoneBefore a t 10 → HasEqualBands a t → NoneBefore a t 11
+  after_equal b h failing.Equal w = absurd (w h)
+  after_equal b h g w = omega (arith, b g w)
+
   -- ---- bands
-  pub after_outbound : NoneBefore a t 9 → IsGreenWay a t Outbound → NoneBefore a t 10
+  pub after_outbound : NoneBefore a t 11 → IsGreenWay a t Outbound → NoneBefore a t 12
   after_outbound b h (failing.Outbound i tick) w = absurd (not_both a t Outbound w.at w.here.after (h w.at w.on_way) w.here.blocked)
   after_outbound b h g w = omega (arith, b g w)
 
-  no_later_outbound : NoneBefore a t 9 → (signal : ℕ) (tick : ℤ) → IsFirstBlocked a t Outbound signal tick → (g : Failing) → Fails a t g → IsNoLater a (failing.Outbound signal tick) g
+  no_later_outbound : NoneBefore a t 11 → (signal : ℕ) (tick : ℤ) → IsFirstBlocked a t Outbound signal tick → (g : Failing) → Fails a t g → IsNoLater a (failing.Outbound signal tick) g
   no_later_outbound b signal tick f (failing.Outbound i other) w = record {
     rule = omega arith;
     direction = λ e. omega arith;
@@ -142,10 +163,10 @@ module _ (a : Street) (t : Plan) where
   }
   no_later_outbound b signal tick f g w = record { rule = b g w; direction = λ e. absurd (omega (arith, e)); place = λ e q. absurd (omega (arith, e)) }
 
-  pub first_outbound : NoneBefore a t 9 → (signal : ℕ) (tick : ℤ) → IsFirstBlocked a t Outbound signal tick → IsFirstFailing a t (failing.Outbound signal tick)
+  pub first_outbound : NoneBefore a t 11 → (signal : ℕ) (tick : ℤ) → IsFirstBlocked a t Outbound signal tick → IsFirstFailing a t (failing.Outbound signal tick)
   first_outbound b signal tick f = record { fails = record { at = f.at; on_way = f.on_way; here = f.here }; first = no_later_outbound b signal tick f }
 
-  no_later_inbound : NoneBefore a t 10 → (signal : ℕ) (tick : ℤ) → IsFirstBlocked a t Inbound signal tick → (g : Failing) → Fails a t g → IsNoLater a (failing.Inbound signal tick) g
+  no_later_inbound : NoneBefore a t 12 → (signal : ℕ) (tick : ℤ) → IsFirstBlocked a t Inbound signal tick → (g : Failing) → Fails a t g → IsNoLater a (failing.Inbound signal tick) g
   no_later_inbound b signal tick f (failing.Inbound i other) w = record {
     rule = omega arith;
     direction = λ e. omega arith;
@@ -156,5 +177,5 @@ module _ (a : Street) (t : Plan) where
   }
   no_later_inbound b signal tick f g w = record { rule = b g w; direction = λ e. absurd (omega (arith, e)); place = λ e q. absurd (omega (arith, e)) }
 
-  pub first_inbound : NoneBefore a t 10 → (signal : ℕ) (tick : ℤ) → IsFirstBlocked a t Inbound signal tick → IsFirstFailing a t (failing.Inbound signal tick)
+  pub first_inbound : NoneBefore a t 12 → (signal : ℕ) (tick : ℤ) → IsFirstBlocked a t Inbound signal tick → IsFirstFailing a t (failing.Inbound signal tick)
   first_inbound b signal tick f = record { fails = record { at = f.at; on_way = f.on_way; here = f.here }; first = no_later_inbound b signal tick f }

@@ -42,4 +42,4 @@ ticks_above x g (suc n) h k l = omega arith
 
 -- a good timing takes some ticks on a link whose least run is above 0
 pub some_ticks : (a : Street) (t : Plan) (d : Dir) (i : ℕ) → Good a t → HasLink a i → pos 1 ≤ℤ (run_low a d i).num → 1 ≤ run t d i
-some_ticks a t d i g h p = ticks_above (run_low a d i) t.grid (run t d i) p g.plan.grid (g.fast d i h)
+some_ticks a t d i g h p = ticks_above (run_low a d i) t.grid (run t d i) p g.base.plan.grid (g.base.fast d i h)

@@ -7,4 +7,5 @@ pub mod Multiples
 pub mod Intervals
 pub mod FinerGrids
 pub mod OnlyFirst
+pub mod RulesOut
 pub mod GridLimits

@@ -4,7 +4,7 @@ use Rattle.rational_theory.specs.Rational.{◌*ℚ◌, ◌≤ℚ◌}
 use Rattle.progression.specs.Street.{Street, count, HasSignal, HasLink, allows}
 use Rattle.progression.specs.Speeds.{number}
 use Rattle.progression.specs.Plan.{Plan, cycle, pattern_of}
-use Rattle.progression.specs.Good.{Good, RatioHolds}
+use Rattle.progression.specs.Good.{Good, RatioHolds, HasLeastBand, HasEqualBands}
 use Rattle.progression.specs.declared.parts.Dir.TheVariants.{Outbound, Inbound}
 use Rattle.time_space.specs.Blocked.{IsBlockedSomewhere}
 use Rattle.time_space.specs.LinkRules.{LinkBreaks}
@@ -23,6 +23,8 @@ Fails a t (failing.Slow d i) = HasLink a i × LinkBreaks a t rule.Slow d i
 Fails a t (failing.Rise d i) = HasLink a i × LinkBreaks a t rule.Rise d i
 Fails a t (failing.Drop d i) = HasLink a i × LinkBreaks a t rule.Drop d i
 Fails a t failing.Ratio = ¬ RatioHolds a.head.ratio t.band_out t.band_in
+Fails a t (failing.Least d) = ¬ HasLeastBand a t d
+Fails a t failing.Equal = ¬ HasEqualBands a t
 Fails a t (failing.Outbound i tick) = IsBlockedSomewhere a t Outbound i tick
 Fails a t (failing.Inbound i tick) = IsBlockedSomewhere a t Inbound i tick
 

@@ -21,8 +21,10 @@ rule_order (failing.Slow d i) = 5
 rule_order (failing.Rise d i) = 6
 rule_order (failing.Drop d i) = 7
 rule_order failing.Ratio = 8
-rule_order (failing.Outbound i tick) = 9
-rule_order (failing.Inbound i tick) = 10
+rule_order (failing.Least d) = 9
+rule_order failing.Equal = 10
+rule_order (failing.Outbound i tick) = 11
+rule_order (failing.Inbound i tick) = 12
 
 abbrev pub dir_order : Dir → ℕ
 dir_order Outbound = 0
@@ -34,6 +36,7 @@ direction_order (failing.Fast d i) = dir_order d
 direction_order (failing.Slow d i) = dir_order d
 direction_order (failing.Rise d i) = dir_order d
 direction_order (failing.Drop d i) = dir_order d
+direction_order (failing.Least d) = dir_order d
 direction_order f = 0
 
 -- the number of its signal or link; inbound bands go from the last signal down
@@ -57,6 +60,10 @@ pub record IsNoLater (a : Street) (f g : Failing) : Type 0 where
 pub record IsFirstFailing (a : Street) (t : Plan) (f : Failing) : Type 0 where
   pub fails : Fails a t f
   pub first : (g : Failing) → Fails a t g → IsNoLater a f g
+
+-- the last rule that speaks of no band
+abbrev pub last_base_rule : ℕ
+last_base_rule = 7
 
 -- no rule before the n-th fails
 abbrev pub NoneBefore : Street → Plan → ℕ → Type 0

@@ -1,4 +1,4 @@
--- The timing records that the program holds: whole numbers below 2 ^ 80 from 0 on, for 2 to 16 signals.
+-- The timing records that the program holds: whole numbers below 2 ^ 80 from 0 on, for 2 to 24 signals.
 use Rattle.std.specs.Prelude.{◌≡◌, ℕ, ◌+◌, ◌<◌, ◌≤◌, ◌^◌, List, length, All, pos, map}
 use Rattle.progression.specs.Plan.{Plan}
 use Rattle.artery_model.specs.Bounds.{least_signals, most_signals}

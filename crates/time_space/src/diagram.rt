@@ -15,7 +15,7 @@ use artery_model::Artery;
 use progression::Dir;
 
 /// The signal at a place in travel order, from 0.
-fn stop(dir: Dir, count: u32, place: u32) -> u32
+pub fn stop(dir: Dir, count: u32, place: u32) -> u32
     requires on_way { place < count }
     requires many { count ≤ most_signals }
     ensures value { result ≡ stop dir count place }
@@ -76,24 +76,26 @@ fn ahead(artery: &Artery, timing: &Timing, dir: Dir, signal: u32) -> u128
     }
 }
 
-/// The tick at which the red of a direction begins.
+/// The tick at which the red of a direction begins at a signal.
 pub fn red_start(artery: &Artery, timing: &Timing, dir: Dir, signal: u32) -> i128
     requires first { 1 ≤ signal }
     requires last { signal ≤ count artery.now }
     requires shape { length timing.now.patterns ≡ count artery.now }
     ensures value { result ≡ red_start artery.now timing.now dir signal }
     ensures small { IsWithin result }
+    ensures near { unsigned_abs result < 2 ^ 93 }
 {
     timing.common_red(signal) - ahead(artery, timing, dir, signal) as i128
 }
 
-/// How many ticks long the red of a direction is.
+/// How many ticks long the red of a direction is at a signal.
 pub fn red_ticks(artery: &Artery, timing: &Timing, dir: Dir, signal: u32) -> u128
     requires first { 1 ≤ signal }
     requires last { signal ≤ count artery.now }
     ensures value { result ≡ red_ticks artery.now timing.now dir signal }
     ensures least { 2 ≤ result }
     ensures green { result < cycle artery.now timing.now }
+    ensures small { result < 2 ^ 92 }
 {
     u128::from(artery.red(dir, signal)) * timing.unit()
 }
@@ -114,8 +116,8 @@ fn blocked_after(artery: &Artery, timing: &Timing, dir: Dir, place: u32, line: i
     first_red(cycle(artery, timing), start, red, line, timing.band(dir))
 }
 
-/// How much later than at a place in travel order the line crosses the next signal.
-fn advance(artery: &Artery, timing: &Timing, dir: Dir, place: u32) -> i128
+/// How much later than at a place in travel order a line crosses the next signal: the run to it, less the clearance there.
+pub fn advance(artery: &Artery, timing: &Timing, dir: Dir, place: u32) -> i128
     requires on_way { place + 1 < count artery.now }
     requires shape { length timing.now.patterns ≡ count artery.now }
     ensures value { result ≡ advance artery.now timing.now dir place }
@@ -127,7 +129,7 @@ fn advance(artery: &Artery, timing: &Timing, dir: Dir, place: u32) -> i128
     run as i128 - clearance as i128
 }
 
-/// The tick at which the line crosses the next signal.
+/// The tick at which a direction's first line crosses the next signal, from the tick at which it crosses this one.
 #[tactic(auto, using(progression::proofs::Crossings::crossing_next))]
 pub fn next_line(artery: &Artery, timing: &Timing, dir: Dir, place: u32, line: i128) -> i128
     requires on_way { place + 1 < count artery.now }

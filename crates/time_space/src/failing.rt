@@ -23,6 +23,10 @@ pub enum Failing {
     Drop { dir: Dir, link: u32 },
     /// The bands don't keep the ratio.
     Ratio,
+    /// The direction's band is narrower than its least width.
+    Least { dir: Dir },
+    /// The bands have to be equal and aren't.
+    Equal,
     /// The outbound band isn't green at the signal. The tick is its first there that isn't.
     Outbound { signal: u32, tick: i128 },
     /// The inbound band isn't green at the signal. The tick is its first there that isn't.

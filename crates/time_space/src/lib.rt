@@ -17,10 +17,10 @@ mod ticks;
 mod timing;
 mod weight;
 
-pub use diagram::{cycle, is_early};
+pub use diagram::{advance, cycle, is_early, next_line, red_start, red_ticks, stop};
 pub use failing::Failing;
 pub use rules::{
-    holds, law_fails_rules_out, law_finer_grids, law_one_first, law_reds_are_intervals,
+    base_holds, holds, law_fails_rules_out, law_finer_grids, law_one_first, law_reds_are_intervals,
     law_since_last_start,
 };
 pub use seen::{green, in_band};

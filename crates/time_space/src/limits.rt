@@ -19,13 +19,13 @@ fn product(number: i128, count: u128) -> i128
     number * count as i128
 }
 
-/// Whether so many ticks are at least `limit` seconds.
+/// Whether so many ticks are at least `limit` seconds, or at least the fraction `limit` of so many other ticks.
 #[tactic(auto, using(crate::proofs::GridLimits::least_is))]
 pub fn is_at_least(ticks: u128, limit: Frac, grid: u128) -> bool
     requires ticks { ticks < 2 ^ 92 }
     requires num { unsigned_abs limit.num < 2 ^ 30 }
     requires den { limit.den < 2 ^ 30 }
-    requires grid { grid < 2 ^ 80 }
+    requires grid { grid < 2 ^ 92 }
     ensures { IsTrue result ↔ ((limit *ℚ number grid) ≤ℚ number ticks) }
 {
     product(limit.num(), grid) <= product(limit.den(), ticks)

@@ -1,6 +1,6 @@
 //! Worked rows: two signals, parts 100, unless a row says otherwise.
 
-use crate::{Failing, Timing, green, holds, in_band, value};
+use crate::{Failing, Timing, base_holds, green, holds, in_band, value};
 use artery_model::Artery;
 use narrow_fraction::Frac;
 use progression::Dir;
@@ -311,6 +311,10 @@ fn drop_of_pace(dir: Dir) -> Option<Failing> {
     Some(Failing::Drop { dir, link: 1 })
 }
 
+fn least(dir: Dir) -> Option<Failing> {
+    Some(Failing::Least { dir })
+}
+
 fn outbound(signal: u32, tick: i128) -> Option<Failing> {
     Some(Failing::Outbound { signal, tick })
 }
@@ -503,6 +507,172 @@ fn the_first_of_two_rules(rt: HostRuntime) -> Result<(), Fail> {
         ..whole_band()
     };
     assert!(rt; holds(&artery, &timing(alloc, short)?).err() == Some(Failing::Shape));
+    Ok(())
+}
+
+/// What differs between the heads of version 2. The inbound band counts so many halves, and least bands are so many tenths.
+#[derive(Clone, Copy)]
+struct Asked {
+    halves: i128,
+    least: [i128; 2],
+    equal: bool,
+    bands: [u128; 2],
+}
+
+/// What the wide bands of two signals break of these, of which each is up to 100 of 200 ticks wide.
+fn first_asked(alloc: Global, asked: Asked) -> Result<Option<Failing>, Fail> {
+    let head = SampleHead {
+        version: 2,
+        least_out: Frac::new(asked.least[0], 10).ok().ok_or("no share")?,
+        least_in: Frac::new(asked.least[1], 10).ok().ok_or("no share")?,
+        equal: asked.equal,
+        ..head(asked.halves)?
+    };
+    let link = plain_link(500);
+    let artery = match two_signals(alloc, head, signal("A", base()), signal("B", base()), link) {
+        Ok(artery) => artery,
+        Err(_) => return Err("no artery".into()),
+    };
+    let times = Times {
+        bands: asked.bands,
+        ..whole_band()
+    };
+    Ok(holds(&artery, &timing(alloc, times)?).err())
+}
+
+#[test]
+fn least_and_equal_bands(rt: HostRuntime) -> Result<(), Fail> {
+    let free = Asked {
+        halves: 2,
+        least: [0, 0],
+        equal: false,
+        bands: [100, 99],
+    };
+    let rows = [
+        (free, None),
+        (
+            Asked {
+                least: [5, 4],
+                ..free
+            },
+            None,
+        ),
+        (
+            Asked {
+                least: [4, 5],
+                ..free
+            },
+            least(Dir::Inbound),
+        ),
+        (
+            Asked {
+                least: [6, 0],
+                ..free
+            },
+            least(Dir::Outbound),
+        ),
+        (
+            Asked {
+                equal: true,
+                ..free
+            },
+            Some(Failing::Equal),
+        ),
+        (
+            Asked {
+                equal: true,
+                bands: [99, 100],
+                ..free
+            },
+            Some(Failing::Equal),
+        ),
+        (
+            Asked {
+                least: [5, 5],
+                equal: true,
+                bands: [100, 100],
+                ..free
+            },
+            None,
+        ),
+        // Two rules: the first of them.
+        (
+            Asked {
+                halves: 4,
+                least: [6, 6],
+                bands: [50, 101],
+                ..free
+            },
+            Some(Failing::Ratio),
+        ),
+        (
+            Asked {
+                least: [6, 6],
+                equal: true,
+                ..free
+            },
+            least(Dir::Outbound),
+        ),
+        (
+            Asked {
+                least: [5, 5],
+                equal: true,
+                ..free
+            },
+            least(Dir::Inbound),
+        ),
+        (
+            Asked {
+                equal: true,
+                bands: [101, 100],
+                ..free
+            },
+            Some(Failing::Equal),
+        ),
+        (
+            Asked {
+                least: [6, 0],
+                bands: [101, 100],
+                ..free
+            },
+            least(Dir::Outbound),
+        ),
+    ];
+    for (asked, expected) in rows {
+        assert!(rt; first_asked(rt.alloc(), asked)? == expected);
+    }
+    Ok(())
+}
+
+/// Firsts and bands play no part in the rules that speak of no band.
+#[test]
+fn rules_that_speak_of_no_band(rt: HostRuntime) -> Result<(), Fail> {
+    let street = base();
+    let wide = Times {
+        firsts: [50, 200],
+        bands: [101, 101],
+        ..whole_band()
+    };
+    let rows = [
+        (wide, None),
+        (Times { grid: 1, ..wide }, Some(Failing::CycleLong)),
+        (
+            Times {
+                runs: [99, 101],
+                ..wide
+            },
+            fast(Dir::Outbound, 1),
+        ),
+        (
+            Times { pattern: 2, ..wide },
+            Some(Failing::Pattern { signal: 2 }),
+        ),
+    ];
+    for (times, expected) in rows {
+        let artery = artery(rt.alloc(), street)?;
+        let timing = timing(rt.alloc(), times)?;
+        assert!(rt; base_holds(&artery, &timing).err() == expected);
+    }
     Ok(())
 }
 

@@ -11,7 +11,7 @@ use std::marker::Model;
 
 /// A timing of an artery's signals, in ticks of a grid of its own.
 ///
-/// Every number is below `2^80`. There are 2 to 16 signals.
+/// Every number is below `2^80`. There are 2 to 24 signals.
 #[derive(Debug, Drop)]
 pub struct Timing {
     grid: u128,
@@ -126,7 +126,7 @@ impl Timing {
         })
     }
 
-    /// How many signals it has, from 2 to 16.
+    /// How many signals it has, from 2 to 24.
     pub fn count(&self) -> u32
         ensures value { result ≡ length self.now.patterns }
         ensures plan { IsPlan self.now }

@@ -1,5 +1,5 @@
 -- The artery of a number of signals and a seed. Its numbers are draws of the seed: three for each signal in order, then one for each link in order.
-use Rattle.std.specs.Prelude.{ℕ, ◌+◌, ◌-◌, ◌*◌, [], ◌∷◌, ◌++◌, map, true, None, codes}
+use Rattle.std.specs.Prelude.{ℕ, ◌+◌, ◌-◌, ◌*◌, [], ◌∷◌, ◌++◌, map, true, false, None, codes}
 use Rattle.std.specs.Fmt.{decimal}
 use Rattle.std.specs.List.{range_with_len}
 use Rattle.progression.specs.Street.{Street}
@@ -14,9 +14,19 @@ use Rattle.workload_maker.specs.Draws.{draw}
 abbrev pub limits : ℕ → ℕ → Pair
 limits least most = record { least = number least; most = number most }
 
--- a cycle of 60 to 100 seconds in 100 parts, and both directions count alike
+-- version 1, a cycle of 60 to 100 seconds in 100 parts, and both directions count alike
 abbrev pub made_head : Head
-made_head = record { name = None; units = Metric; parts = 100; cycle = limits 60 100; ratio = number 1 }
+made_head = record {
+  name = None;
+  units = Metric;
+  version = 1;
+  parts = 100;
+  cycle = limits 60 100;
+  ratio = number 1;
+  least_out = number 0;
+  least_in = number 0;
+  equal = false;
+}
 
 -- signal i with this red and these left turns
 abbrev pub signal_with : ℕ → ℕ → ℕ → ℕ → Signal

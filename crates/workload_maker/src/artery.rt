@@ -5,7 +5,7 @@ ghost use Rattle.std.specs.Fmt.{decimal};
 ghost use Rattle.std.specs.List.{range_with_len};
 ghost use Rattle.workload_maker.specs.Draws.{state};
 ghost use Rattle.workload_maker.specs.Made.{limits, made_head, signal_with, link_with, red_drawn, left_drawn, distance_drawn, made_signal, made_street};
-ghost use Rattle.artery_model.specs.Bounds.{least_signals, most_signals};
+ghost use Rattle.artery_model.specs.Bounds.{least_signals, most_first_signals};
 
 use crate::draws::Draws;
 use artery_model::{Artery, Flaw, Head, Link, Pair, Signal, Text, Units};
@@ -27,9 +27,13 @@ fn head() -> Head
     Head {
         name: None,
         units: Units::Metric,
+        version: 1,
         parts: 100,
         cycle: limits(60, 100),
         ratio: Frac::whole(1),
+        least_out: Frac::whole(0),
+        least_in: Frac::whole(0),
+        equal: false,
     }
 }
 
@@ -125,7 +129,7 @@ fn draw_parts(alloc: Global, count: u32, seed: u64) -> Result<(Vec<Signal>, Vec<
 /// 200 to 600 metres. The only error is want of memory.
 pub fn make_artery(alloc: Global, signals: u32, seed: u64) -> Result<Artery, Memory>
     requires few { least_signals ≤ signals }
-    requires many { signals ≤ most_signals }
+    requires many { signals ≤ most_first_signals }
     ensures { IfOk result (λ artery. artery ≡ made_street signals seed) }
 {
     let (signals, links) = draw_parts(alloc, signals, seed)?;

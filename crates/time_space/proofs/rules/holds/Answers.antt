@@ -2,16 +2,10 @@ use Rattle.time_space.proofs.rules.holds.Goals as goal
 
 pub returns-clause-good : goal.returns-clause-good
 returns-clause-good c = record {
-  plan = c.check_shape.ensures.plan;
-  shape = c.in_ok-check_shape.ensures.kept;
-  patterns = c.in_ok-check_patterns.ensures.kept;
-  cycle_least = c.in_ok-check_cycle_least.ensures.kept;
-  cycle_most = c.in_ok-check_cycle_most.ensures.kept;
-  fast = c.in_ok-check_links.ensures.kept;
-  slow = c.in_ok-check_links-2.ensures.kept;
-  rise = c.in_ok-check_links-3.ensures.kept;
-  drop = c.in_ok-check_links-4.ensures.kept;
+  base = c.in_ok-base_holds.ensures.base;
   ratio = c.in_ok-check_ratio.ensures.kept;
+  least = c.in_ok-check_least.ensures.kept;
+  equal = c.in_ok-check_equal.ensures.kept;
   outbound = c.in_ok-check_outbound.ensures.kept;
   inbound = c.in_ok-check_inbound.ensures.kept;
 }
