@@ -28,7 +28,7 @@ use Rattle.named_row.specs.Refusals.{sum_refusal}
 use Rattle.named_row.specs.declared.names.RowId.{RowId}
 use Rattle.named_row.specs.declared.leaves.Weight.{Weight}
 use Rattle.named_row.specs.declared.wide_at.WideAt.{WideAt}
-use Rattle.loop_rows.proofs.Writing.{written_row, written_width}
+use Rattle.loop_rows.specs.laws.Writing.{written_row, written_width}
 use Rattle.loop_rows.specs.RowTests.{has_row}
 use Rattle.loop_rows.proofs.RowTests.{row_decided}
 use Rattle.loop_rows.specs.Weights.{named, name_at, row_at, after_weight, wide_fault, weight_fault, weights_sum, weights_fault, leaf_total, leaf_fault, IsFirstFault}

@@ -46,6 +46,7 @@ pub use fault::SumFault;
 pub use least::LeastRow;
 pub use leaves::leaf_sum;
 pub use loops::{LoopHighRow, LoopLowRow};
+pub use numbers::green;
 pub use rows::{fill_goal, fill_row, next_row};
 pub use runs::{FastRow, SlowRow};
 pub use sums::block_sum;

@@ -13,7 +13,7 @@ family_names = map (λ (f : rows.Family). f.text) rows.families
 unfoldable pub family_name : ℕ → List ℕ
 family_name family = slice_index_or family_names (family - 1) []
 
--- the families of one row: the limits of the cycle and the ratio
+-- the families of one row: the limits of the cycle, the ratio, least bands and equal bands
 unfoldable pub is_lone : ℕ → Bool
 is_lone family = rows.is_lone family
 

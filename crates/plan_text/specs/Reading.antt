@@ -13,7 +13,7 @@ use Rattle.plan_text.specs.Lines.{◌>>=◌, fixed_at, nothing_at, numbers_at}
 abbrev pub place_of : ℕ → ℕ → ℕ → NumberLine
 place_of line count least = record { line = line; fewest = count; most = count; least = least; greatest = 2 ^ 80 - 1 }
 
--- 2 to 16 patterns of 1 to 4
+-- 2 to 24 patterns of 1 to 4
 abbrev pub pattern_place : ℕ → NumberLine
 pattern_place line = record { line = line; fewest = least_signals; most = most_signals; least = 1; greatest = 4 }
 

@@ -126,7 +126,7 @@ fn is_same(alloc: Global, text: &[u8]) -> bool {
 }
 
 /// Lines that may stand in place of those of the best timing.
-const READ: [(u64, &[u8]); 12] = [
+const READ: [(u64, &[u8]); 16] = [
     (1, b"maxband-certificate 1"),
     (3, b"value -1/2"),
     (3, b"value 0"),
@@ -139,6 +139,10 @@ const READ: [(u64, &[u8]); 12] = [
     (15, b"wout 2 0"),
     (16, b"wout 3 1"),
     (19, b"ratio 1"),
+    (21, b"least_out 1"),
+    (21, b"least_in -1/3"),
+    (29, b"equal_lo 1"),
+    (29, b"equal_hi 2/7"),
 ];
 
 #[test]
@@ -159,7 +163,7 @@ fn texts_are_read_and_written_again(rt: HostRuntime) -> Result<(), Fail> {
 }
 
 /// A line that is put in, where, and the fault with its line.
-const REFUSED: [(u64, &[u8], u64, TextFault); 87] = [
+const REFUSED: [(u64, &[u8], u64, TextFault); 91] = [
     (1, b"maxband-certificate 2", 1, TextFault::Shape),
     (1, b"maxband-timing 1", 1, TextFault::Shape),
     (2, b"verdict", 2, TextFault::Shape),
@@ -266,6 +270,10 @@ const REFUSED: [(u64, &[u8], u64, TextFault); 87] = [
     (19, b"cycle_low 5/5", 19, TextFault::Number),
     (19, b"fast_out 9 1", 19, TextFault::Order),
     (20, b"cycle_low 50", 20, TextFault::Order),
+    (21, b"least_out 1 1", 21, TextFault::Shape),
+    (21, b"equal_lo", 21, TextFault::Shape),
+    (21, b"least_on 1", 21, TextFault::Shape),
+    (20, b"least_in 1", 21, TextFault::Order),
     (22, b"end", 22, TextFault::Shape),
     (30, b"leaf 0", 30, TextFault::Shape),
     (

@@ -4,7 +4,7 @@ ghost use Rattle.std.specs.Prelude.{◌≡◌, ◌<◌, ◌^◌, length, map, sl
 ghost use Rattle.plan_text.specs.Families.{number_in, family_of, family_name, is_lone};
 
 /// The families by their numbers from 1 on.
-const NAMES: [&str; 17] = [
+const NAMES: [&str; 21] = [
     "wout",
     "win",
     "fast_out",
@@ -22,6 +22,10 @@ const NAMES: [&str; 17] = [
     "loop_hi",
     "turn_lo",
     "turn_hi",
+    "least_out",
+    "least_in",
+    "equal_lo",
+    "equal_hi",
 ];
 
 /// The number of the first of these names that is the word, counted from 1.
@@ -64,10 +68,16 @@ pub fn family_name(family: u8) -> &'static str
     name_at(&NAMES, usize::from(family).saturating_sub(1))
 }
 
-/// Whether a family has one row alone, which needs no index: the limits of the cycle and the ratio.
+/// Whether a family has one row alone, which needs no index: the limits of the cycle, the ratio, least bands and equal bands.
 #[tactic(auto, unfolding(crate::specs::Families::is_lone))]
 pub fn is_lone(family: u8) -> bool
     ensures { result ≡ is_lone family }
 {
-    family == 11 || family == 12 || family == 13
+    family == 11
+        || family == 12
+        || family == 13
+        || family == 18
+        || family == 19
+        || family == 20
+        || family == 21
 }

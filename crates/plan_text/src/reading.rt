@@ -34,7 +34,7 @@ fn place(line: u64, count: usize, least: u128) -> NumberLine
     }
 }
 
-/// The place of a line of 2 to 16 patterns.
+/// The place of a line of 2 to 24 patterns.
 fn patterns_place(line: u64) -> NumberLine
     ensures { result ≡ pattern_place line }
 {

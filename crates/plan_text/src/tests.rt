@@ -42,6 +42,12 @@ fn is_same(alloc: Global, text: &[u8]) -> bool {
     }
 }
 
+/// Timings of 17 and of 24 signals.
+const LONG: [&[u8]; 2] = [
+    b"maxband-timing 1\ngrid 2\nunit 2\npattern 1 1 1 1 1 1 1 1 1 1 1 1 1 1 1 1 1\nred 0 1 2 3 4 5 6 7 8 9 10 11 12 13 14 15 16\nrun_out 50 50 50 50 50 50 50 50 50 50 50 50 50 50 50 50\nrun_in 50 50 50 50 50 50 50 50 50 50 50 50 50 50 50 50\nfirst 100 200\nband 100 100\nend\n",
+    b"maxband-timing 1\ngrid 2\nunit 2\npattern 1 1 1 1 1 1 1 1 1 1 1 1 1 1 1 1 1 1 1 1 1 1 1 1\nred 0 1 2 3 4 5 6 7 8 9 10 11 12 13 14 15 16 17 18 19 20 21 22 23\nrun_out 50 50 50 50 50 50 50 50 50 50 50 50 50 50 50 50 50 50 50 50 50 50 50\nrun_in 50 50 50 50 50 50 50 50 50 50 50 50 50 50 50 50 50 50 50 50 50 50 50\nfirst 100 200\nband 100 100\nend\n",
+];
+
 fn fault_of(alloc: Global, text: &[u8]) -> Option<BadText> {
     match read_timing(alloc, text) {
         Err(TextEnd::Bad(bad)) => Some(bad),
@@ -56,6 +62,9 @@ fn texts_are_read_and_written_again(rt: HostRuntime) -> Result<(), Fail> {
     let base = replaced(rt.alloc(), 0, b"")?;
     assert!(rt; is_same(rt.alloc(), base.as_slice()));
     assert!(rt; is_same(rt.alloc(), text));
+    for long in LONG {
+        assert!(rt; is_same(rt.alloc(), long));
+    }
     let timing = read_timing(rt.alloc(), text)
         .ok()
         .ok_or("the text is a timing")?;
@@ -115,7 +124,7 @@ const REFUSED: [(u64, &[u8], u64, TextFault); 44] = [
     (4, b"pattern 1", 4, TextFault::Shape),
     (
         4,
-        b"pattern 1 1 1 1 1 1 1 1 1 1 1 1 1 1 1 1 1",
+        b"pattern 1 1 1 1 1 1 1 1 1 1 1 1 1 1 1 1 1 1 1 1 1 1 1 1 1",
         4,
         TextFault::Shape,
     ),
