@@ -44,9 +44,13 @@ fn artery(alloc: Global) -> Result<Artery, Fail> {
     let head = Head {
         name: None,
         units: Units::Metric,
+        version: 1,
         parts: 100,
         cycle: pair(50, 100),
         ratio: Frac::whole(1),
+        least_out: Frac::whole(0),
+        least_in: Frac::whole(0),
+        equal: false,
     };
     Ok(
         Artery::new(alloc, head, signals, links)

@@ -25,12 +25,16 @@ fn head_at(alloc: Global, head: &Head, cycle: Frac) -> Result<Head, Memory>
     Ok(Head {
         name: copied_name(alloc, &head.name)?,
         units: head.units,
+        version: head.version,
         parts: head.parts,
         cycle: Pair {
             least: cycle,
             most: cycle,
         },
         ratio: head.ratio,
+        least_out: head.least_out,
+        least_in: head.least_in,
+        equal: head.equal,
     })
 }
 

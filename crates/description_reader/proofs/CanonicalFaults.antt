@@ -1,11 +1,12 @@
 -- The values of a canonical description of an artery without a fault have no fault.
-use Rattle.std.proofs.Common.{◌≡◌, ℕ, ◌-◌, ◌==◌, pos, ℤ, List, [], ◌∷◌, length, map, Bool, true, Option, None, Some, option_map, nat_le, nat_lt, refl, ◌∙◌, ap, arith}
-use Rattle.std.specs.Prelude.{codes, unwrap_or}
+use Rattle.std.proofs.Common.{◌≡◌, ℕ, ◌-◌, ◌==◌, pos, ℤ, List, [], ◌∷◌, length, map, Bool, true, false, Option, None, Some, option_map, nat_le, nat_lt, refl, sym, ◌∙◌, ap, int_eq, unsigned_abs, eq-eqb, arith}
+use Rattle.std.specs.Prelude.{codes, unwrap_or, if◌then◌else◌}
+use Rattle.rational_theory.specs.Rational.{whole}
 use Rattle.std.specs.List.{All}
-use Rattle.std.proofs.lemmas.Bool.Decides.{nat_tests}
+use Rattle.std.proofs.lemmas.Bool.Decides.{nat_tests, Decides-int_eq}
 use Rattle.std.proofs.lemmas.Bool.{le-leb}
 use Rattle.std.proofs.lemmas.List.{length-map}
-use Rattle.toml.specs.Data.{get, string, array, table, no_items, Members}
+use Rattle.toml.specs.Data.{Data, get, string, array, table, no_items, Members}
 use Rattle.progression.specs.Street.{Street}
 use Rattle.progression.specs.declared.parts.Head.{Head}
 use Rattle.progression.specs.declared.parts.Signal.{Signal}
@@ -13,31 +14,31 @@ use Rattle.progression.specs.declared.parts.Link.{Link}
 use Rattle.progression.specs.declared.parts.Pair.{Pair}
 use Rattle.progression.specs.declared.parts.Units.{Units}
 use Rattle.progression.specs.declared.parts.Units.TheVariants.{Metric, English}
-use Rattle.artery_model.specs.Bounds.{least_signals, most_signals, least_parts, most_parts, least_distance, most_distance, least_speed, most_speed, least_cycle, most_cycle, least_change, most_change, least_ratio, most_ratio}
+use Rattle.artery_model.specs.Bounds.{first_version, second_version, least_signals, most_signals_in, least_share, most_share, least_parts, most_parts, least_distance, most_distance, least_speed, most_speed, least_cycle, most_cycle, least_change, most_change, least_ratio, most_ratio}
 use Rattle.artery_model.specs.Faults.{first_fault, each_numbered}
-use Rattle.artery_model.specs.Limits.{in_range, is_name_if_there, signal_ranges, link_ranges, artery_fault}
-use Rattle.description_reader.specs.Canonical.{number_data, pair_data, units_text, head_members, signal_members, signal_data, link_members, link_data, canonical, HasFour}
+use Rattle.artery_model.specs.Limits.{within, in_range, is_name_if_there, signal_ranges, link_ranges, artery_fault}
+use Rattle.description_reader.specs.Canonical.{number_data, pair_data, units_text, head_members_in, head_members, signal_members, signal_data, link_members, link_data, canonical, HasFour}
 use Rattle.description_reader.specs.Checks.{meets}
 use Rattle.description_reader.specs.Judgement.{key_fault, in_table, stage_tests, facts_of, value_tests}
 use Rattle.description_reader.specs.Keys.{unknown_key}
-use Rattle.description_reader.specs.KeyTable.{key, alone, items, two_quantities, keys_of}
+use Rattle.description_reader.specs.KeyTable.{key, alone, items, two_quantities, counts_of, band_keys, keys_of}
 use Rattle.description_reader.specs.Quantity.{integer_in}
 use Rattle.description_reader.specs.Streets.{street_in, description_fault}
 use Rattle.description_reader.specs.declared.place.Section.TheVariants.{Root, Artery, Signal as SignalTable, Link as LinkTable}
-use Rattle.description_reader.specs.declared.demand.Demand.TheVariants.{Anything, Table, Length, Text, Units as UnitsWord, Name, Between, BelowParts, Within}
+use Rattle.description_reader.specs.declared.demand.Demand.TheVariants.{Anything, Table, Text, Units as UnitsWord, Name, Between, BelowParts, Within}
 use Rattle.description_reader.specs.declared.key_table.Presence.TheVariants.{Needed, Optional, NotLast}
 use Rattle.description_reader.specs.declared.judge.Stage.{Stage}
 use Rattle.description_reader.specs.declared.judge.Stage.TheVariants.{Keys, Needed as NeededKeys, Types, Numbers, Ranges}
-use Rattle.description_reader.specs.declared.judge.Facts.{Facts}
+use Rattle.description_reader.specs.declared.place.Facts.{Facts}
 use Rattle.description_reader.proofs.Views.{list_of_items}
-use Rattle.description_reader.proofs.CanonicalTests.{none_of, both_of, each_made, Passes, key_passes, table_passes}
+use Rattle.description_reader.proofs.CanonicalTests.{AllNone, none_of, both_of, each_made, Passes, key_passes, table_passes}
 use Rattle.description_reader.proofs.CanonicalLimits.{IsChangeWithin, HeadFits, SignalFits, signal_fits, LinkFits, link_fits, StreetFits, street_fits}
-use Rattle.description_reader.proofs.CanonicalValues.{below_meets, number_passes, text_passes, quantity_passes, pair_passes, patterns_pass, tables_pass, absent_passes}
-use Rattle.description_reader.proofs.CanonicalKeys.{head_keys, link_keys}
+use Rattle.description_reader.proofs.CanonicalValues.{below_meets, number_passes, flag_passes, text_passes, quantity_passes, pair_passes, patterns_pass, tables_pass, absent_passes}
+use Rattle.description_reader.proofs.CanonicalKeys.{HeadKeys, head_keys, link_keys}
 use Rattle.description_reader.proofs.CanonicalStreet.{street_back}
 
-abbrev known : ℕ → ℕ → Facts
-known links parts = record { links = links; parts = pos parts }
+abbrev known : Bool → ℕ → ℕ → Facts
+known second links parts = record { links = links; parts = pos parts; second = second }
 
 -- ---- a signal
 red_meets : (parts n : ℕ) → in_range 1 (parts - 1) n ≡ true → meets (pos parts) (BelowParts (pos 1)) (number_data n) ≡ true
@@ -46,18 +47,18 @@ red_meets parts n e = below_meets 1 parts n (both_of _ _ e).0 (grind (arith, nat
 turn_meets : (parts n : ℕ) → nat_lt n parts ≡ true → meets (pos parts) (BelowParts (pos 0)) (number_data n) ≡ true
 turn_meets parts n e = below_meets 0 parts n (le-leb 0 n (omega arith)) e
 
-signal_known : (links i : ℕ) (s : Signal) → unknown_key links (SignalTable i) (signal_data s) ≡ None
+signal_known : (facts : Facts) (i : ℕ) (s : Signal) → unknown_key facts (SignalTable i) (signal_data s) ≡ None
 unfolding keys_of
-signal_known links i s = refl
+signal_known facts i s = refl
 
-signal_keys_pass : (parts i : ℕ) (s : Signal) → HasFour s → SignalFits parts s → (stage : Stage)
-    → first_fault (map (key_fault stage (pos parts) (SignalTable i) (signal_data s)) (keys_of (SignalTable i))) ≡ None
+signal_keys_pass : (second : Bool) (parts i : ℕ) (s : Signal) → HasFour s → SignalFits parts s → (stage : Stage)
+    → first_fault (map (key_fault stage (pos parts) (SignalTable i) (signal_data s)) (keys_of second (SignalTable i))) ≡ None
 unfolding keys_of
-signal_keys_pass parts i s four fits stage =
+signal_keys_pass second parts i s four fits stage =
     let d = signal_data s in
     let turn = λ (name : List ℕ) (n : ℕ) (is : get name d ≡ Some (number_data n)) (e : nat_lt n parts ≡ true).
     key_passes stage (pos parts) (SignalTable i) d _ _ (number_passes (pos parts) name Optional (BelowParts (pos 0)) n (turn_meets parts n e)) is in
-    none_of (map (key_fault stage (pos parts) (SignalTable i) d) (keys_of (SignalTable i))) (
+    none_of (map (key_fault stage (pos parts) (SignalTable i) d) (keys_of second (SignalTable i))) (
       key_passes stage (pos parts) (SignalTable i) d _ _ (text_passes (pos parts) (codes "name") Needed Name s.name fits.name) refl,
       (
         key_passes stage (pos parts) (SignalTable i) d _ _ (number_passes (pos parts) (codes "red") Needed (BelowParts (pos 1)) s.red (red_meets parts s.red fits.red)) refl,
@@ -80,32 +81,33 @@ signal_keys_pass parts i s four fits stage =
       ),
     )
 
-signal_passes : (stage : Stage) (links parts i : ℕ) (s : Signal) → HasFour s → SignalFits parts s → in_table stage (known links parts) (SignalTable i) (signal_data s) ≡ None
-signal_passes stage links parts i s four fits = table_passes (known links parts) (SignalTable i) (signal_members s) (signal_known links i s) (signal_keys_pass parts i s four fits) stage
+signal_passes : (stage : Stage) (second : Bool) (links parts i : ℕ) (s : Signal) → HasFour s → SignalFits parts s → in_table stage (known second links parts) (SignalTable i) (signal_data s) ≡ None
+signal_passes stage second links parts i s four fits =
+    table_passes (known second links parts) (SignalTable i) (signal_members s) (signal_known (known second links parts) i s) (signal_keys_pass second parts i s four fits) stage
 
 -- ---- a link
-known_with : (links i : ℕ) (out back : Option Pair) (l : Link) → IsChangeWithin (i == links) out → IsChangeWithin (i == links) back
-    → unknown_key links (LinkTable i) (link_data (record l { change_out = out; change_in = back })) ≡ None
+known_with : (facts : Facts) (i : ℕ) (out back : Option Pair) (l : Link) → IsChangeWithin (i == facts.links) out → IsChangeWithin (i == facts.links) back
+    → unknown_key facts (LinkTable i) (link_data (record l { change_out = out; change_in = back })) ≡ None
 unfolding keys_of
-known_with links i None None l h k = refl
-known_with links i None (Some p) l h k = rw k.0
-known_with links i (Some p) None l h k = rw h.0
-known_with links i (Some p) (Some q) l h k = rw h.0
+known_with facts i None None l h k = refl
+known_with facts i None (Some p) l h k = rw k.0
+known_with facts i (Some p) None l h k = rw h.0
+known_with facts i (Some p) (Some q) l h k = rw h.0
 
 change_passes : (parts : ℤ) (name : List ℕ) (is_last : Bool) (o : Option Pair) → IsChangeWithin is_last o
     → Passes parts (key name NotLast two_quantities (items (Within least_change most_change))) (option_map pair_data o)
 change_passes parts name is_last None h = absent_passes parts name NotLast two_quantities (items (Within least_change most_change)) tt
 change_passes parts name is_last (Some p) h = pair_passes parts name NotLast least_change most_change p h.1
 
-link_keys_pass : (links i : ℕ) (parts : ℤ) (l : Link) → LinkFits (i == links) l → (stage : Stage)
-    → first_fault (map (key_fault stage parts (LinkTable i) (link_data l)) (keys_of (LinkTable i))) ≡ None
+link_keys_pass : (second : Bool) (links i : ℕ) (parts : ℤ) (l : Link) → LinkFits (i == links) l → (stage : Stage)
+    → first_fault (map (key_fault stage parts (LinkTable i) (link_data l)) (keys_of second (LinkTable i))) ≡ None
 unfolding keys_of
-link_keys_pass links i parts l fits stage =
+link_keys_pass second links i parts l fits stage =
     let keys = link_keys l in
     let d = link_data l in
     let distance = λ (name : List ℕ) (n : ℕ) (is : get name d ≡ Some (number_data n)) (e : in_range least_distance most_distance n ≡ true).
     key_passes stage parts (LinkTable i) d _ _ (number_passes parts name Needed (Between (pos least_distance) (pos most_distance)) n e) is in
-    none_of (map (key_fault stage parts (LinkTable i) d) (keys_of (LinkTable i))) (
+    none_of (map (key_fault stage parts (LinkTable i) d) (keys_of second (LinkTable i))) (
       distance (codes "distance_out") l.distance_out keys.distance_out fits.distance_out,
       (
         distance (codes "distance_in") l.distance_in keys.distance_in fits.distance_in,
@@ -125,15 +127,19 @@ link_keys_pass links i parts l fits stage =
       ),
     )
 
-link_passes : (stage : Stage) (links parts i : ℕ) (l : Link) → LinkFits (i == links) l → in_table stage (known links parts) (LinkTable i) (link_data l) ≡ None
-link_passes stage links parts i l fits =
-    table_passes (known links parts) (LinkTable i) (link_members l) (known_with links i l.change_out l.change_in l fits.change_out fits.change_in) (link_keys_pass links i (pos parts) l fits) stage
+link_passes : (stage : Stage) (second : Bool) (links parts i : ℕ) (l : Link) → LinkFits (i == links) l → in_table stage (known second links parts) (LinkTable i) (link_data l) ≡ None
+link_passes stage second links parts i l fits =
+    let facts = known second links parts in
+    table_passes facts (LinkTable i) (link_members l) (known_with facts i l.change_out l.change_in l fits.change_out fits.change_in) (link_keys_pass second links i (pos parts) l fits) stage
 
 -- ---- the artery
-known_with_name : (links : ℕ) (name : Option (List ℕ)) (h : Head) → unknown_key links Artery (table (head_members (record h { name = name }))) ≡ None
+known_with_name : (second : Bool) (facts : Facts) (name : Option (List ℕ)) (h : Head)
+    → unknown_key (record facts { second = second }) Artery (table (head_members_in second (record h { name = name }))) ≡ None
 unfolding keys_of
-known_with_name links None h = refl
-known_with_name links (Some name) h = refl
+known_with_name false facts None h = refl
+known_with_name false facts (Some name) h = refl
+known_with_name true facts None h = refl
+known_with_name true facts (Some name) h = refl
 
 name_passes : (parts : ℤ) (name : Option (List ℕ)) → is_name_if_there name ≡ true → Passes parts (key (codes "name") Optional (alone Text) (alone Name)) (option_map string name)
 name_passes parts None e = absent_passes parts (codes "name") Optional (alone Text) (alone Name) tt
@@ -143,12 +149,28 @@ units_meet : (parts : ℤ) (u : Units) → meets parts UnitsWord (string (units_
 units_meet parts Metric = refl
 units_meet parts English = refl
 
-head_keys_pass : (parts : ℤ) (h : Head) → HeadFits h → (stage : Stage) → first_fault (map (key_fault stage parts Artery (table (head_members h))) (keys_of Artery)) ≡ None
+-- the keys of least bands and equal bands
+bands_pass : (second : Bool) (parts : ℤ) (d : Data) (h : Head) → HeadKeys second d h → within (whole least_share) (whole (if second then most_share else least_share)) h.least_out ≡ true
+    → within (whole least_share) (whole (if second then most_share else least_share)) h.least_in ≡ true → (stage : Stage) → AllNone (map (key_fault stage parts Artery d) (band_keys second))
+bands_pass false parts d h keys out back stage = tt
+bands_pass true parts d h keys out back stage = (
+  key_passes stage parts Artery d _ _ (quantity_passes parts (codes "least_out") Optional least_share most_share h.least_out out) keys.least_out,
+  (
+    key_passes stage parts Artery d _ _ (quantity_passes parts (codes "least_in") Optional least_share most_share h.least_in back) keys.least_in,
+    (
+      key_passes stage parts Artery d _ _ (flag_passes parts (codes "equal") Optional h.equal) keys.equal,
+      tt,
+    ),
+  ),
+)
+
+head_keys_pass : (parts : ℤ) (h : Head) → HeadFits h → (stage : Stage)
+    → first_fault (map (key_fault stage parts Artery (table (head_members h))) (keys_of (h.version == second_version) Artery)) ≡ None
 unfolding keys_of
 head_keys_pass parts h fits stage =
     let keys = head_keys h in
     let d = table (head_members h) in
-    none_of (map (key_fault stage parts Artery d) (keys_of Artery)) (
+    none_of (map (key_fault stage parts Artery d) (keys_of (h.version == second_version) Artery)) (
       key_passes stage parts Artery d _ _ (name_passes parts h.name fits.name) keys.name,
       (
         key_passes stage parts Artery d _ _ (text_passes parts (codes "units") Needed UnitsWord (units_text h.units) (units_meet parts h.units)) keys.units,
@@ -158,20 +180,23 @@ head_keys_pass parts h fits stage =
             key_passes stage parts Artery d _ _ (pair_passes parts (codes "cycle") Needed least_cycle most_cycle h.cycle fits.cycle) keys.cycle,
             (
               key_passes stage parts Artery d _ _ (quantity_passes parts (codes "ratio") Needed least_ratio most_ratio h.ratio fits.ratio) keys.ratio,
-              tt,
+              bands_pass (h.version == second_version) parts d h keys fits.least_out fits.least_in stage,
             ),
           ),
         ),
       ),
     )
 
-head_passes : (stage : Stage) (facts : Facts) (h : Head) → HeadFits h → in_table stage facts Artery (table (head_members h)) ≡ None
-head_passes stage facts h fits = table_passes facts Artery (head_members h) (known_with_name facts.links h.name h) (head_keys_pass facts.parts h fits) stage
+head_passes : (stage : Stage) (links parts : ℕ) (h : Head) → HeadFits h → in_table stage (known (h.version == second_version) links parts) Artery (table (head_members h)) ≡ None
+head_passes stage links parts h fits =
+    let second = h.version == second_version in
+    let facts = known second links parts in
+    table_passes facts Artery (head_members h) (known_with_name second facts h.name h) (head_keys_pass (pos parts) h fits) stage
 
 -- ---- the root
-root_known : (links : ℕ) (a : Street) → unknown_key links Root (table (canonical a)) ≡ None
+root_known : (facts : Facts) (a : Street) → unknown_key facts Root (table (canonical a)) ≡ None
 unfolding keys_of
-root_known links a = refl
+root_known facts a = refl
 
 table_stands : (parts : ℤ) (name : List ℕ) (ms : Members) → Passes parts (key name Needed (alone Table) (alone Anything)) (Some (table ms))
 table_stands parts name ms = record {
@@ -181,18 +206,19 @@ table_stands parts name ms = record {
   ranges = record { value = refl; items = refl };
 }
 
-root_keys_pass : (parts : ℤ) (a : Street) → StreetFits a → (stage : Stage) → first_fault (map (key_fault stage parts Root (table (canonical a))) (keys_of Root)) ≡ None
+root_keys_pass : (parts : ℤ) (a : Street) → StreetFits a → (stage : Stage)
+    → first_fault (map (key_fault stage parts Root (table (canonical a))) (keys_of (a.head.version == second_version) Root)) ≡ None
 unfolding keys_of
 root_keys_pass parts a fits stage =
     let d = table (canonical a) in
-    let few = ap (λ ds. in_range least_signals most_signals (length ds)) (list_of_items (map signal_data a.signals))
-    ∙ ap (in_range least_signals most_signals) (length-map a.signals signal_data) ∙ fits.count in
-    none_of (map (key_fault stage parts Root d) (keys_of Root)) (
-      key_passes stage parts Root d _ _ (number_passes parts (codes "version") Optional (Between (pos 1) (pos 1)) 1 refl) refl,
+    let few = ap (λ ds. in_range least_signals (most_signals_in a.head.version) (length ds)) (list_of_items (map signal_data a.signals))
+    ∙ ap (in_range least_signals (most_signals_in a.head.version)) (length-map a.signals signal_data) ∙ fits.count in
+    none_of (map (key_fault stage parts Root d) (keys_of (a.head.version == second_version) Root)) (
+      key_passes stage parts Root d _ _ (number_passes parts (codes "version") Optional (Between (pos first_version) (pos second_version)) a.head.version fits.version) refl,
       (
         key_passes stage parts Root d _ _ (table_stands parts (codes "artery") (head_members a.head)) refl,
         (
-          key_passes stage parts Root d _ _ (tables_pass parts (codes "signal") Needed signal_data (Length least_signals most_signals) a.signals (λ s. refl) few) refl,
+          key_passes stage parts Root d _ _ (tables_pass parts (codes "signal") Needed signal_data (counts_of (a.head.version == second_version)) a.signals (λ s. refl) few) refl,
           (
             key_passes stage parts Root d _ _ (tables_pass parts (codes "link") Needed link_data Anything a.links (λ l. refl) refl) refl,
             tt,
@@ -202,24 +228,41 @@ root_keys_pass parts a fits stage =
     )
 
 -- ---- the whole
-facts_known : (a : Street) → facts_of (table (canonical a)) ≡ known (length a.links) a.head.parts
+-- the two tests of equal numbers say the same
+same_test : (a b : Bool) → (a ≡ true → b ≡ true) → (b ≡ true → a ≡ true) → a ≡ b
+same_test true true f g = refl
+same_test true false f g = sym (f refl)
+same_test false true f g = g refl
+same_test false false f g = refl
+
+same_of : (n m : ℕ) → (n == m) ≡ true → n ≡ m
+same_of n m e = grind (arith, nat_tests)
+
+is_number : (v w : ℕ) → int_eq (pos v) (pos w) ≡ (v == w)
+is_number v w =
+    let decides = Decides-int_eq (pos v) (pos w) in
+    same_test (int_eq (pos v) (pos w)) (v == w) (λ e. eq-eqb v w (ap unsigned_abs (decides.0 e))) (λ e. decides.1 (ap pos (same_of v w e)))
+
+facts_known : (a : Street) → facts_of (table (canonical a)) ≡ known (a.head.version == second_version) (length a.links) a.head.parts
 facts_known a =
     let links = ap length (list_of_items (map link_data a.links)) ∙ length-map a.links link_data in
     let parts = ap (λ o. integer_in (unwrap_or o (array no_items))) (head_keys a.head).parts in
-    λ k. record { links = links k; parts = parts k }
+    let second = is_number a.head.version second_version in
+    λ k. record { links = links k; parts = parts k; second = second k }
 
 stage_passes : (stage : Stage) (a : Street) → All HasFour a.signals → StreetFits a → first_fault (stage_tests stage (facts_of (table (canonical a))) (table (canonical a))) ≡ None
 stage_passes stage a four fits =
     let n = length a.links in
     let parts = a.head.parts in
-    let facts = known n parts in
-    let root = table_passes facts Root (canonical a) (root_known n a) (root_keys_pass (pos parts) a fits) stage in
+    let second = a.head.version == second_version in
+    let facts = known second n parts in
+    let root = table_passes facts Root (canonical a) (root_known facts a) (root_keys_pass (pos parts) a fits) stage in
     let signals = ap (λ ds. first_fault (each_numbered (λ i. in_table stage facts (SignalTable i)) 1 ds)) (list_of_items (map signal_data a.signals))
-    ∙ each_made HasFour (signal_ranges parts) (λ i. in_table stage facts (SignalTable i)) signal_data (λ i s h e. signal_passes stage n parts i s h (signal_fits parts i s e)) 1 a.signals four fits.signals in
+    ∙ each_made HasFour (signal_ranges parts) (λ i. in_table stage facts (SignalTable i)) signal_data (λ i s h e. signal_passes stage second n parts i s h (signal_fits parts i s e)) 1 a.signals four fits.signals in
     let links = ap (λ ds. first_fault (each_numbered (λ i. in_table stage facts (LinkTable i)) 1 ds)) (list_of_items (map link_data a.links))
-    ∙ each_made (λ l. Unit {0}) (link_ranges n) (λ i. in_table stage facts (LinkTable i)) link_data (λ i l h e. link_passes stage n parts i l (link_fits n i l e)) 1 a.links (λ k l h. tt) fits.links in
+    ∙ each_made (λ l. Unit {0}) (link_ranges n) (λ i. in_table stage facts (LinkTable i)) link_data (λ i l h e. link_passes stage second n parts i l (link_fits n i l e)) 1 a.links (λ k l h. tt) fits.links in
     ap (λ f. first_fault (stage_tests stage f (table (canonical a)))) (facts_known a)
-    ∙ none_of (stage_tests stage facts (table (canonical a))) (root, (head_passes stage facts a.head fits.head, (signals, (links, tt))))
+    ∙ none_of (stage_tests stage facts (table (canonical a))) (root, (head_passes stage n parts a.head fits.head, (signals, (links, tt))))
 
 pub canonical_passes : (a : Street) → artery_fault a ≡ None → All HasFour a.signals → description_fault (table (canonical a)) ≡ None
 canonical_passes a e four =

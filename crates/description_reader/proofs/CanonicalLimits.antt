@@ -1,5 +1,5 @@
 -- The tests that the numbers and names of an artery without a fault have passed.
-use Rattle.std.proofs.Common.{◌≡◌, ℕ, ◌-◌, ◌==◌, ℤ, List, [], ◌∷◌, length, refl, Bool, true, false, not, Option, None, Some, nat_lt, sym}
+use Rattle.std.proofs.Common.{◌≡◌, ℕ, ◌-◌, ◌==◌, ◌||◌, ℤ, List, [], ◌∷◌, length, refl, Bool, true, false, not, Option, None, Some, nat_lt, sym}
 use Rattle.std.specs.Prelude.{codes}
 use Rattle.rational_theory.specs.Rational.{whole}
 use Rattle.progression.specs.Street.{Street, count}
@@ -7,7 +7,7 @@ use Rattle.progression.specs.declared.parts.Head.{Head}
 use Rattle.progression.specs.declared.parts.Signal.{Signal}
 use Rattle.progression.specs.declared.parts.Link.{Link}
 use Rattle.progression.specs.declared.parts.Pair.{Pair}
-use Rattle.artery_model.specs.Bounds.{least_signals, most_signals, least_parts, most_parts, least_distance, most_distance, least_speed, most_speed, least_cycle, most_cycle, least_change, most_change, least_ratio, most_ratio}
+use Rattle.artery_model.specs.Bounds.{first_version, second_version, least_signals, most_signals_in, least_share, most_share_in, least_parts, most_parts, least_distance, most_distance, least_speed, most_speed, least_cycle, most_cycle, least_change, most_change, least_ratio, most_ratio}
 use Rattle.artery_model.specs.Faults.{first_fault, each_numbered, artery_place, link_place}
 use Rattle.artery_model.specs.Limits.{within, in_range, is_name, is_name_if_there, pair_ranges, head_ranges, signal_tests, signal_ranges, change_ranges, link_tests, link_ranges, range_tests, rule_tests, artery_fault}
 use Rattle.description_reader.proofs.CanonicalTests.{each_none, passed}
@@ -42,6 +42,9 @@ pub record HeadFits (h : Head) : Type 0 where
   pub parts : in_range least_parts most_parts h.parts ≡ true
   pub cycle : AreWithin least_cycle most_cycle h.cycle
   pub ratio : within (whole least_ratio) (whole most_ratio) h.ratio ≡ true
+  pub least_out : within (whole least_share) (whole (most_share_in h.version)) h.least_out ≡ true
+  pub least_in : within (whole least_share) (whole (most_share_in h.version)) h.least_in ≡ true
+  pub equal : (not h.equal || h.version == second_version) ≡ true
 
 head_fits : (h : Head) → first_fault (head_ranges h) ≡ None → HeadFits h
 head_fits h e =
@@ -51,6 +54,9 @@ head_fits h e =
       parts = passed _ _ _ tests.1.0;
       cycle = are_within least_cycle most_cycle h.cycle (artery_place (codes "cycle")) tests.1.1.0;
       ratio = passed _ _ _ tests.1.1.1.0;
+      least_out = passed _ _ _ tests.1.1.1.1.0;
+      least_in = passed _ _ _ tests.1.1.1.1.1.0;
+      equal = passed _ _ _ tests.1.1.1.1.1.1.0;
     }
 
 pub record SignalFits (parts : ℕ) (s : Signal) : Type 0 where
@@ -94,7 +100,8 @@ link_fits n i l e =
     }
 
 pub record StreetFits (a : Street) : Type 0 where
-  pub count : in_range least_signals most_signals (count a) ≡ true
+  pub version : in_range first_version second_version a.head.version ≡ true
+  pub count : in_range least_signals (most_signals_in a.head.version) (count a) ≡ true
   pub head : HeadFits a.head
   pub signals : first_fault (each_numbered (signal_ranges a.head.parts) 1 a.signals) ≡ None
   pub links : first_fault (each_numbered (link_ranges (length a.links)) 1 a.links) ≡ None
@@ -103,4 +110,4 @@ pub street_fits : (a : Street) → artery_fault a ≡ None → StreetFits a
 street_fits a e =
     let tests = each_none (first_fault (range_tests a) ∷ first_fault (rule_tests a) ∷ []) e in
     let ranges = each_none (range_tests a) tests.0 in
-    record { count = passed _ _ _ ranges.0; head = head_fits a.head ranges.1.0; signals = ranges.1.1.0; links = ranges.1.1.1.0 }
+    record { version = passed _ _ _ ranges.0; count = passed _ _ _ ranges.1.0; head = head_fits a.head ranges.1.1.0; signals = ranges.1.1.1.0; links = ranges.1.1.1.1.0 }

@@ -16,7 +16,7 @@ use Rattle.description_reader.specs.KeyTable.{Key, keys_of}
 use Rattle.description_reader.specs.Places.{key_place, item_place}
 use Rattle.description_reader.specs.Values.{items_in}
 use Rattle.description_reader.specs.declared.demand.Demand.{Demand}
-use Rattle.description_reader.specs.declared.judge.Facts.{Facts}
+use Rattle.description_reader.specs.declared.place.Facts.{Facts}
 use Rattle.description_reader.specs.declared.judge.Stage.{Stage}
 use Rattle.description_reader.specs.declared.judge.Stage.TheVariants.{Keys, Needed as NeededKeys, Types, Numbers, Ranges}
 use Rattle.description_reader.specs.declared.key_table.Demands.{Demands}
@@ -113,8 +113,8 @@ key_passes Numbers parts section d k o p is = demands_pass parts section d k.nam
 key_passes Ranges parts section d k o p is = demands_pass parts section d k.name o is OutOfRange k.ranges p.ranges
 
 -- a table passes where its keys are known and the tests of each key pass
-pub table_passes : (facts : Facts) (section : Section) (ms : Members) → unknown_key facts.links section (table ms) ≡ None
-    → ((stage : Stage) → first_fault (map (key_fault stage facts.parts section (table ms)) (keys_of section)) ≡ None)
+pub table_passes : (facts : Facts) (section : Section) (ms : Members) → unknown_key facts section (table ms) ≡ None
+    → ((stage : Stage) → first_fault (map (key_fault stage facts.parts section (table ms)) (keys_of facts.second section)) ≡ None)
     → (stage : Stage) → in_table stage facts section (table ms) ≡ None
 table_passes facts section ms known each Keys = known
 table_passes facts section ms known each NeededKeys = each NeededKeys

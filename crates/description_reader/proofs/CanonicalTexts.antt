@@ -1,16 +1,17 @@
 -- A table without floats is printed as one text.
-use Rattle.std.proofs.Common.{◌≡◌, ℕ, ◌+◌, List, [], ◌∷◌, ◌++◌, map, Bool, true, false, Option, None, Some, sym, ◌∙◌, ap, ap₂}
+use Rattle.std.proofs.Common.{◌≡◌, ℕ, ◌+◌, List, [], ◌∷◌, ◌++◌, map, Bool, true, false, ◌==◌, Option, None, Some, sym, ◌∙◌, ap, ap₂}
 use Rattle.std.specs.Prelude.{codes, if◌then◌else◌}
 use Rattle.toml.specs.Data.{Data, string, integer, float, boolean, datetime, array, table, Items, no_items, item, Members, no_members, member}
 use Rattle.toml.specs.Tables.{Definition, key_value, std_table, array_table, Expression}
 use Rattle.toml.specs.Text.{breaks_lines, before_item, after_item, IsValueText, IsItemsText, IsMembersText, are_tables, is_section, pairs, needs_header, header_of, sections, section, elements, expressions, IsLineText, IsLinesText, IsDocumentText}
 use Rattle.toml.specs.View.{items_of}
+use Rattle.artery_model.specs.Bounds.{second_version}
 use Rattle.progression.specs.Street.{Street}
 use Rattle.progression.specs.declared.parts.Head.{Head}
 use Rattle.progression.specs.declared.parts.Signal.{Signal}
 use Rattle.progression.specs.declared.parts.Link.{Link}
 use Rattle.progression.specs.declared.parts.Pair.{Pair}
-use Rattle.description_reader.specs.Canonical.{patterns_from, head_members, signal_data, link_data, canonical}
+use Rattle.description_reader.specs.Canonical.{patterns_from, head_members_in, signal_data, link_data, canonical}
 use Rattle.description_reader.specs.Printed.{IsPrinted}
 
 -- no float stands in the data
@@ -129,9 +130,11 @@ patterns_without i [] = tt
 patterns_without i (true ∷ bs) = (tt, patterns_without (i + 1) bs)
 patterns_without i (false ∷ bs) = patterns_without (i + 1) bs
 
-head_without : (name : Option (List ℕ)) (h : Head) → HoldNoFloat (head_members (record h { name = name }))
-head_without None h = ((tt, (tt, tt)), (tt, (tt, (tt, tt))))
-head_without (Some name) h = ((tt, (tt, tt)), (tt, (tt, (tt, (tt, tt)))))
+head_without : (second : Bool) (name : Option (List ℕ)) (h : Head) → HoldNoFloat (head_members_in second (record h { name = name }))
+head_without false None h = ((tt, (tt, tt)), (tt, (tt, (tt, tt))))
+head_without false (Some name) h = ((tt, (tt, tt)), (tt, (tt, (tt, (tt, tt)))))
+head_without true None h = ((tt, (tt, tt)), (tt, (tt, (tt, (tt, (tt, (tt, tt)))))))
+head_without true (Some name) h = ((tt, (tt, tt)), (tt, (tt, (tt, (tt, (tt, (tt, (tt, tt))))))))
 
 signal_without : (s : Signal) → HasNoFloat (signal_data s)
 signal_without s = (tt, (tt, (tt, (tt, (tt, (patterns_without 1 s.patterns, (tt, tt)))))))
@@ -148,7 +151,7 @@ link_without (Some o) (Some i) l = ((tt, (tt, tt)), ((tt, (tt, tt)), given_witho
 
 canonical_without : (a : Street) → HoldNoFloat (canonical a)
 canonical_without a =
-    (head_without a.head.name a.head, (items_without link_data (λ l. link_without l.change_out l.change_in l) a.links, (items_without signal_data signal_without a.signals, (tt, tt))))
+    (head_without (a.head.version == second_version) a.head.name a.head, (items_without link_data (λ l. link_without l.change_out l.change_in l) a.links, (items_without signal_data signal_without a.signals, (tt, tt))))
 
 -- the texts of one canonical description are equal
 pub same_text : (a : Street) (x y : List ℕ) → IsPrinted x a → IsPrinted y a → x ≡ y

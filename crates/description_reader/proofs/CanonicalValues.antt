@@ -4,7 +4,7 @@ use Rattle.std.specs.Prelude.{unwrap_or}
 use Rattle.std.specs.List.{list_all}
 use Rattle.std.proofs.lemmas.Bool.Decides.{nat_tests}
 use Rattle.std.proofs.lemmas.Bool.{lt-ltb}
-use Rattle.toml.specs.Data.{Data, string, array, as_table}
+use Rattle.toml.specs.Data.{Data, string, boolean, array, as_table}
 use Rattle.toml.specs.View.{items_of}
 use Rattle.rational_theory.specs.Rational.{ℚ, whole}
 use Rattle.quantity_text.specs.Quantity.{quantity_of}
@@ -20,7 +20,7 @@ use Rattle.description_reader.specs.Quantity.{number_in}
 use Rattle.description_reader.specs.Values.{items_in}
 use Rattle.description_reader.specs.Streets.{u32_or_zero, pair_of, patterns_of}
 use Rattle.description_reader.specs.declared.demand.Demand.{Demand}
-use Rattle.description_reader.specs.declared.demand.Demand.TheVariants.{Anything, Table, Array, Integer, Text, Quantity, Number, Between, BelowParts, Within}
+use Rattle.description_reader.specs.declared.demand.Demand.TheVariants.{Anything, Table, Array, Integer, Boolean, Text, Quantity, Number, Between, BelowParts, Within}
 use Rattle.description_reader.specs.declared.key_table.Demands.{Demands}
 use Rattle.description_reader.specs.declared.key_table.Presence.{Presence}
 use Rattle.description_reader.specs.declared.key_table.Presence.TheVariants.{Needed, Optional, NotLast}
@@ -120,6 +120,14 @@ module _ (parts : ℤ) (name : List ℕ) (presence : Presence) where
     types = record { value = refl; items = refl };
     numbers = record { value = refl; items = refl };
     ranges = record { value = h; items = refl };
+  }
+
+  pub flag_passes : (b : Bool) → Passes parts (key name presence (alone Boolean) (alone Anything)) (Some (boolean b))
+  flag_passes b = record {
+    stands = there presence (boolean b);
+    types = record { value = refl; items = refl };
+    numbers = record { value = refl; items = refl };
+    ranges = record { value = refl; items = refl };
   }
 
   pub quantity_passes : (low high : ℤ) (q : ℚ) → within (whole low) (whole high) q ≡ true → Passes parts (key name presence (alone Quantity) (alone (Within low high))) (Some (quantity_data q))

@@ -16,6 +16,7 @@ use Rattle.description_reader.specs.Values.{has, keys_of_members}
 use Rattle.description_reader.specs.Places.{key_place}
 use Rattle.description_reader.specs.Keys.{is_known, printed, unknown_fault}
 use Rattle.description_reader.specs.LeastKey.{IsLeastUnknown, IsOfLeast, KeysAreJudged}
+use Rattle.description_reader.specs.declared.place.Facts.{Facts}
 use Rattle.description_reader.specs.declared.place.Section.{Section}
 
 -- keys that the order doesn't tell apart are the same
@@ -56,43 +57,43 @@ above (member l d ms) k key before sorted h =
     let (next, here) = and_parts (is_before l ms) (is_sorted d) front in
     above_by k l key ms (below_from k l before) (above ms l key next more) (first_or_later key l d ms h)
 
-module _ (links : ℕ) (section : Section) where
+module _ (facts : Facts) (section : Section) where
   -- ---- no fault
-  known_by : (l key : List ℕ) (ms : Members) → is_known links section l ≡ true → (has (table ms) key ≡ true → is_known links section key ≡ true)
-      → (key ≡ l) ⊎ (has (table ms) key ≡ true) → is_known links section key ≡ true
+  known_by : (l key : List ℕ) (ms : Members) → is_known facts section l ≡ true → (has (table ms) key ≡ true → is_known facts section key ≡ true)
+      → (key ≡ l) ⊎ (has (table ms) key ≡ true) → is_known facts section key ≡ true
   known_by l key ms known rest (inl e) = rw e known
   known_by l key ms known rest (inr h) = rest h
 
   abbrev AllKnown : Members → Type 0
-  AllKnown ms = first_fault (map (unknown_fault links section) (keys_of_members ms)) ≡ None → (key : List ℕ) → has (table ms) key ≡ true → is_known links section key ≡ true
+  AllKnown ms = first_fault (map (unknown_fault facts section) (keys_of_members ms)) ≡ None → (key : List ℕ) → has (table ms) key ≡ true → is_known facts section key ≡ true
 
-  known_from : (known : Bool) (l : List ℕ) (d : Data) (ms : Members) → is_known links section l ≡ known → AllKnown ms
-      → first_fault (unless known UnknownKey (key_place section (printed l)) ∷ map (unknown_fault links section) (keys_of_members ms)) ≡ None
-      → (key : List ℕ) → has (table (member l d ms)) key ≡ true → is_known links section key ≡ true
+  known_from : (known : Bool) (l : List ℕ) (d : Data) (ms : Members) → is_known facts section l ≡ known → AllKnown ms
+      → first_fault (unless known UnknownKey (key_place section (printed l)) ∷ map (unknown_fault facts section) (keys_of_members ms)) ≡ None
+      → (key : List ℕ) → has (table (member l d ms)) key ≡ true → is_known facts section key ≡ true
   known_from true l d ms k rest e key h = known_by l key ms k (rest e key) (first_or_later key l d ms h)
   known_from false l d ms k rest e key h = absurd (none-some _ (sym e))
 
   all_known : (ms : Members) → AllKnown ms
   all_known no_members e key h = absurd (false≢true h)
-  all_known (member l d ms) e key h = known_from (is_known links section l) l d ms refl (all_known ms) e key h
+  all_known (member l d ms) e key h = known_from (is_known facts section l) l d ms refl (all_known ms) e key h
 
   -- ---- a fault
   least_by : (l key : List ℕ) (ms : Members) → is_before l ms ≡ true → members_are_sorted ms ≡ true → (key ≡ l) ⊎ (has (table ms) key ≡ true) → is_le (slice_cmp nat_cmp l key) ≡ true
   least_by l key ms before sorted (inl e) = rw (e, tied_itself nat_list_cmp_total l) refl
   least_by l key ms before sorted (inr h) = rw (above ms l key before sorted h) refl
 
-  passed_by : (l key other : List ℕ) (ms : Members) → is_known links section l ≡ true → IsLeastUnknown links section (table ms) key → is_known links section other ≡ false
+  passed_by : (l key other : List ℕ) (ms : Members) → is_known facts section l ≡ true → IsLeastUnknown facts section (table ms) key → is_known facts section other ≡ false
       → (other ≡ l) ⊎ (has (table ms) other ≡ true) → is_le (slice_cmp nat_cmp key other) ≡ true
-  passed_by l key other ms known r unknown (inl e) = absurd (false≢true (sym unknown ∙ ap (is_known links section) e ∙ known))
+  passed_by l key other ms known r unknown (inl e) = absurd (false≢true (sym unknown ∙ ap (is_known facts section) e ∙ known))
   passed_by l key other ms known r unknown (inr h) = r.least other h unknown
 
   abbrev NamesLeast : Members → Fault → Type 0
-  NamesLeast ms f = first_fault (map (unknown_fault links section) (keys_of_members ms)) ≡ Some f → IsOfLeast links section (table ms) f
+  NamesLeast ms f = first_fault (map (unknown_fault facts section) (keys_of_members ms)) ≡ Some f → IsOfLeast facts section (table ms) f
 
-  least_from : (known : Bool) (l : List ℕ) (d : Data) (ms : Members) (f : Fault) → is_known links section l ≡ known → is_before l ms ≡ true → members_are_sorted ms ≡ true
+  least_from : (known : Bool) (l : List ℕ) (d : Data) (ms : Members) (f : Fault) → is_known facts section l ≡ known → is_before l ms ≡ true → members_are_sorted ms ≡ true
       → NamesLeast ms f
-      → first_fault (unless known UnknownKey (key_place section (printed l)) ∷ map (unknown_fault links section) (keys_of_members ms)) ≡ Some f
-      → IsOfLeast links section (table (member l d ms)) f
+      → first_fault (unless known UnknownKey (key_place section (printed l)) ∷ map (unknown_fault facts section) (keys_of_members ms)) ≡ Some f
+      → IsOfLeast facts section (table (member l d ms)) f
   least_from true l d ms f k before sorted rest e =
       let r = rest e in (
         r.0,
@@ -118,7 +119,7 @@ module _ (links : ℕ) (section : Section) where
   least_of (member l d ms) f sorted e =
       let (front, more) = and_parts (is_before l ms && is_sorted d) (members_are_sorted ms) sorted in
       let (next, here) = and_parts (is_before l ms) (is_sorted d) front in
-      least_from (is_known links section l) l d ms f refl next more (least_of ms f more) e
+      least_from (is_known facts section l) l d ms f refl next more (least_of ms f more) e
 
 pub keys_are_judged : KeysAreJudged
 keys_are_judged = record { known = all_known; least = least_of }

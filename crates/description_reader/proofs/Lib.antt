@@ -1,4 +1,5 @@
 pub mod AnswerAlways
+pub mod AnswerOnce
 pub mod Answers
 pub mod CanonicalAnswers
 pub mod CanonicalDepth

@@ -1,8 +1,9 @@
 -- The canonical description of an artery: the table that is printed for it. The keys of a table stand in the order of their bytes.
-use Rattle.std.specs.Prelude.{◌≡◌, ℕ, ◌+◌, List, [], ◌∷◌, length, map, Bool, if◌then◌else◌, Option, None, Some, option_map, pos, codes}
-use Rattle.toml.specs.Data.{Data, string, integer, array, table, Members, no_members, member}
+use Rattle.std.specs.Prelude.{◌≡◌, ℕ, ◌+◌, List, [], ◌∷◌, length, map, ◌==◌, Bool, true, false, if◌then◌else◌, Option, None, Some, option_map, pos, codes}
+use Rattle.toml.specs.Data.{Data, string, integer, boolean, array, table, Members, no_members, member}
 use Rattle.toml.specs.View.{items_of}
 use Rattle.rational_theory.specs.Rational.{ℚ}
+use Rattle.artery_model.specs.Bounds.{second_version}
 use Rattle.quantity_text.specs.Exact.{exact_spelling}
 use Rattle.progression.specs.Street.{Street}
 use Rattle.progression.specs.declared.parts.Head.{Head}
@@ -37,13 +38,22 @@ abbrev pub member_if_there : List ℕ → Option Data → Members → Members
 member_if_there key None ms = ms
 member_if_there key (Some d) ms = member key d ms
 
-abbrev pub head_members : Head → Members
-head_members h =
+-- the keys of least bands and equal bands, which the second version has
+abbrev pub band_members : Bool → Head → Members → Members
+band_members false h ms = ms
+band_members true h ms = member (codes "equal") (boolean h.equal) (member (codes "least_in") (quantity_data h.least_in) (member (codes "least_out") (quantity_data h.least_out) ms))
+
+abbrev pub head_members_in : Bool → Head → Members
+head_members_in second h =
     member (codes "cycle") (pair_data h.cycle)
+    (band_members second h
     (member_if_there (codes "name") (option_map string h.name)
     (member (codes "parts") (number_data h.parts)
     (member (codes "ratio") (quantity_data h.ratio)
-    (member (codes "units") (string (units_text h.units)) no_members))))
+    (member (codes "units") (string (units_text h.units)) no_members)))))
+
+abbrev pub head_members : Head → Members
+head_members h = head_members_in (h.version == second_version) h
 
 abbrev pub signal_members : Signal → Members
 signal_members s =
@@ -70,13 +80,13 @@ signal_data s = table (signal_members s)
 abbrev pub link_data : Link → Data
 link_data l = table (link_members l)
 
--- the root: every key of the format but the artery's name and the changes where these aren't given
+-- the root: every key of the format of its version but the artery's name and the changes where these aren't given
 abbrev pub canonical : Street → Members
 canonical a =
     member (codes "artery") (table (head_members a.head))
     (member (codes "link") (array (items_of (map link_data a.links)))
     (member (codes "signal") (array (items_of (map signal_data a.signals)))
-    (member (codes "version") (number_data 1) no_members)))
+    (member (codes "version") (number_data a.head.version) no_members)))
 
 -- a signal says of each of the four patterns whether it is allowed, as its type has it
 abbrev pub HasFour : Signal → Type 0

@@ -1,6 +1,6 @@
 -- What a value of a description must be, and the faults of values that aren't.
 use Rattle.std.specs.Prelude.{◌&&◌, ◌||◌, ℕ, List, [], ◌∷◌, length, Bool, true, Option, None, is_some, unwrap_or, option_map, ℤ, int_lt, int_le, codes}
-use Rattle.toml.specs.Data.{Data, get, as_integer, as_str, as_array, as_table}
+use Rattle.toml.specs.Data.{Data, get, as_integer, as_bool, as_str, as_array, as_table}
 use Rattle.rational_theory.specs.Rational.{whole}
 use Rattle.artery_model.specs.Faults.{Fault, first_fault, unless, each_numbered}
 use Rattle.artery_model.specs.Limits.{is_name, in_range, is_text, within}
@@ -24,6 +24,7 @@ meets parts demand.Table d = is_some (as_table d)
 meets parts demand.Array d = is_some (as_array d)
 meets parts (demand.Length least most) d = in_range least most (length (items_in d))
 meets parts demand.Integer d = is_some (as_integer d)
+meets parts demand.Boolean d = is_some (as_bool d)
 meets parts demand.Text d = is_some (as_str d)
 meets parts demand.Quantity d = is_some (as_integer d) || is_some (as_str d)
 meets parts demand.Number d = is_some (quantity_in d)

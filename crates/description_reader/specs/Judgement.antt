@@ -1,6 +1,8 @@
 -- What is wrong with the values of a description: a list of tests, for each kind in order, and within it for each place in order.
-use Rattle.std.specs.Prelude.{List, [], ◌∷◌, length, map, Option, None, is_some, ℤ, codes, if◌then◌else◌}
+use Rattle.std.specs.Prelude.{List, [], ◌∷◌, length, map, Option, None, is_some, ℤ, pos, codes, if◌then◌else◌}
+use Rattle.std.specs.Ordering.{int_eq}
 use Rattle.toml.specs.Data.{Data, as_table}
+use Rattle.artery_model.specs.Bounds.{second_version}
 use Rattle.artery_model.specs.Faults.{Fault, first_fault, each_numbered}
 use Rattle.artery_model.specs.declared.kind.Kind.TheVariants.{WrongType, BadNumber, OutOfRange}
 use Rattle.description_reader.specs.Values.{at_key, items_in}
@@ -12,7 +14,7 @@ use Rattle.description_reader.specs.declared.place.Section.{Section}
 use Rattle.description_reader.specs.declared.place.Section.TheVariants.{Root, Artery, Signal, Link}
 use Rattle.description_reader.specs.declared.judge.Stage.{Stage}
 use Rattle.description_reader.specs.declared.judge.Stage.TheVariants.{Keys, Needed, Types, Numbers, Ranges}
-use Rattle.description_reader.specs.declared.judge.Facts.{Facts}
+use Rattle.description_reader.specs.declared.place.Facts.{Facts}
 
 -- ---- one kind in one table
 -- the fault of one kind at one key
@@ -24,8 +26,8 @@ key_fault Numbers parts section d k = demands_fault BadNumber parts section (num
 key_fault Ranges parts section d k = demands_fault OutOfRange parts section k.ranges k.name d
 
 abbrev pub table_fault : Stage → Facts → Section → Data → Option Fault
-table_fault Keys facts section d = unknown_key facts.links section d
-table_fault stage facts section d = first_fault (map (key_fault stage facts.parts section d) (keys_of section))
+table_fault Keys facts section d = unknown_key facts section d
+table_fault stage facts section d = first_fault (map (key_fault stage facts.parts section d) (keys_of facts.second section))
 
 -- a value that isn't a table has no keys to look at
 abbrev pub in_table : Stage → Facts → Section → Data → Option Fault
@@ -42,7 +44,11 @@ stage_tests stage facts root =
 
 -- ---- every test of the values
 abbrev pub facts_of : Data → Facts
-facts_of root = record { links = length (items_in (at_key root (codes "link"))); parts = integer_in (at_key (at_key root (codes "artery")) (codes "parts")) }
+facts_of root = record {
+  links = length (items_in (at_key root (codes "link")));
+  parts = integer_in (at_key (at_key root (codes "artery")) (codes "parts"));
+  second = int_eq (integer_in (at_key root (codes "version"))) (pos second_version);
+}
 
 abbrev pub value_tests : Data → List (Option Fault)
 value_tests root =

@@ -1,8 +1,9 @@
--- The keys of a description, as one table: a section has just these keys, and their faults are looked for in this order.
-use Rattle.std.specs.Prelude.{ℕ, List, [], ◌∷◌, pos, codes}
-use Rattle.artery_model.specs.Bounds.{least_signals, most_signals, least_parts, most_parts, least_distance, most_distance, least_speed, most_speed, least_cycle, most_cycle, least_change, most_change, least_ratio, most_ratio}
+-- The keys of a description, as one table: a section has just these keys, and their faults are looked for in this order. The second version has
+-- more keys of the artery and more signals; a description of any other version has those of the first.
+use Rattle.std.specs.Prelude.{ℕ, List, [], ◌∷◌, Bool, true, false, pos, codes, if◌then◌else◌}
+use Rattle.artery_model.specs.Bounds.{first_version, second_version, least_signals, most_signals, most_first_signals, least_share, most_share, least_parts, most_parts, least_distance, most_distance, least_speed, most_speed, least_cycle, most_cycle, least_change, most_change, least_ratio, most_ratio}
 use Rattle.description_reader.specs.declared.demand.Demand.{Demand}
-use Rattle.description_reader.specs.declared.demand.Demand.TheVariants.{Anything, Table, Array, Length, Integer, Text, Quantity, Units, Name, Between, BelowParts, Within}
+use Rattle.description_reader.specs.declared.demand.Demand.TheVariants.{Anything, Table, Array, Length, Integer, Boolean, Text, Quantity, Units, Name, Between, BelowParts, Within}
 use Rattle.description_reader.specs.declared.key_table.Demands.{Demands}
 use Rattle.description_reader.specs.declared.key_table.Entry.{Entry}
 use Rattle.description_reader.specs.declared.key_table.Presence.{Presence}
@@ -40,21 +41,35 @@ tables = both Array Table
 abbrev pub two_quantities : Demands
 two_quantities = both (Length 2 2) Quantity
 
-unfoldable pub keys_of : Section → List Key
-keys_of Root =
-    key (codes "version") Optional (alone Integer) (alone (Between (pos 1) (pos 1)))
+-- how many signals a description has
+abbrev pub counts_of : Bool → Demand
+counts_of second = Length least_signals (if second then most_signals else most_first_signals)
+
+-- the keys of least bands and equal bands
+abbrev pub band_keys : Bool → List Key
+band_keys false = []
+band_keys true =
+    key (codes "least_out") Optional (alone Quantity) (alone (Within least_share most_share))
+    ∷ key (codes "least_in") Optional (alone Quantity) (alone (Within least_share most_share))
+    ∷ key (codes "equal") Optional (alone Boolean) (alone Anything)
+    ∷ []
+
+-- the keys of a section, where the description is of the second version or not
+unfoldable pub keys_of : Bool → Section → List Key
+keys_of second Root =
+    key (codes "version") Optional (alone Integer) (alone (Between (pos first_version) (pos second_version)))
     ∷ key (codes "artery") Needed (alone Table) (alone Anything)
-    ∷ key (codes "signal") Needed tables (alone (Length least_signals most_signals))
+    ∷ key (codes "signal") Needed tables (alone (counts_of second))
     ∷ key (codes "link") Needed tables (alone Anything)
     ∷ []
-keys_of Artery =
+keys_of second Artery =
     key (codes "name") Optional (alone Text) (alone Name)
     ∷ key (codes "units") Needed (alone Text) (alone Units)
     ∷ key (codes "parts") Needed (alone Integer) (alone (Between (pos least_parts) (pos most_parts)))
     ∷ key (codes "cycle") Needed two_quantities (items (Within least_cycle most_cycle))
     ∷ key (codes "ratio") Needed (alone Quantity) (alone (Within least_ratio most_ratio))
-    ∷ []
-keys_of (Signal i) =
+    ∷ band_keys second
+keys_of second (Signal i) =
     key (codes "name") Needed (alone Text) (alone Name)
     ∷ key (codes "red") Needed (alone Integer) (alone (BelowParts (pos 1)))
     ∷ key (codes "left_out") Optional (alone Integer) (alone (BelowParts (pos 0)))
@@ -63,7 +78,7 @@ keys_of (Signal i) =
     ∷ key (codes "clear_out") Optional (alone Integer) (alone (BelowParts (pos 0)))
     ∷ key (codes "clear_in") Optional (alone Integer) (alone (BelowParts (pos 0)))
     ∷ []
-keys_of (Link i) =
+keys_of second (Link i) =
     key (codes "distance_out") Needed (alone Integer) (alone (Between (pos least_distance) (pos most_distance)))
     ∷ key (codes "distance_in") Needed (alone Integer) (alone (Between (pos least_distance) (pos most_distance)))
     ∷ key (codes "speed_out") Needed two_quantities (items (Within least_speed most_speed))

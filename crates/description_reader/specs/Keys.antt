@@ -11,6 +11,7 @@ use Rattle.description_reader.specs.Values.{keys_in}
 use Rattle.description_reader.specs.Places.{key_place}
 use Rattle.description_reader.specs.declared.key_table.Presence.{Presence}
 use Rattle.description_reader.specs.declared.key_table.Presence.TheVariants.{NotLast}
+use Rattle.description_reader.specs.declared.place.Facts.{Facts}
 use Rattle.description_reader.specs.declared.place.Section.{Section}
 use Rattle.description_reader.specs.declared.place.Section.TheVariants.{Link}
 
@@ -20,8 +21,8 @@ may_stand links (Link i) NotLast = not (i == links)
 may_stand links section presence = true
 
 -- the keys of a table
-abbrev pub is_known : ℕ → Section → List ℕ → Bool
-is_known links section name = list_any (λ k. is_text name k.name && may_stand links section k.presence) (keys_of section)
+abbrev pub is_known : Facts → Section → List ℕ → Bool
+is_known facts section name = list_any (λ k. is_text name k.name && may_stand facts.links section k.presence) (keys_of facts.second section)
 
 -- letters, digits, `_` and `-`
 abbrev pub is_key_character : ℕ → Bool
@@ -31,9 +32,9 @@ is_key_character b = is_ascii_alphanumeric b || (b == 95 || b == 45)
 abbrev pub printed : List ℕ → List ℕ
 printed name = if in_range 1 40 (length name) && list_all is_key_character name then name else codes "?"
 
-abbrev pub unknown_fault : ℕ → Section → List ℕ → Option Fault
-unknown_fault links section name = unless (is_known links section name) kind.UnknownKey (key_place section (printed name))
+abbrev pub unknown_fault : Facts → Section → List ℕ → Option Fault
+unknown_fault facts section name = unless (is_known facts section name) kind.UnknownKey (key_place section (printed name))
 
 -- the first unknown key of a table, by the order of bytes
-abbrev pub unknown_key : ℕ → Section → Data → Option Fault
-unknown_key links section d = first_fault (map (unknown_fault links section) (keys_in d))
+abbrev pub unknown_key : Facts → Section → Data → Option Fault
+unknown_key facts section d = first_fault (map (unknown_fault facts section) (keys_in d))

@@ -3,6 +3,7 @@ use Rattle.std.specs.Prelude.{ℕ, List, [], ◌∷◌, map, Bool, true, Option,
 use Rattle.std.specs.List.{list_any}
 use Rattle.std.specs.Ordering.{int_eq}
 use Rattle.toml.specs.Data.{Data, get}
+use Rattle.artery_model.specs.Bounds.{first_version}
 use Rattle.progression.specs.Street.{Street, no_pair}
 use Rattle.progression.specs.declared.parts.Head.{Head}
 use Rattle.progression.specs.declared.parts.Signal.{Signal}
@@ -13,7 +14,7 @@ use Rattle.progression.specs.declared.parts.Units.TheVariants.{Metric, English}
 use Rattle.artery_model.specs.Faults.{Fault, first_fault}
 use Rattle.artery_model.specs.Limits.{artery_fault, is_text}
 use Rattle.description_reader.specs.Quantity.{number_in, integer_in}
-use Rattle.description_reader.specs.Values.{at_key, items_in, text_in}
+use Rattle.description_reader.specs.Values.{at_key, items_in, text_in, flag_in}
 use Rattle.description_reader.specs.Judgement.{value_tests}
 
 -- a number of 32 bits, 0 for any other, which is a fault of the description
@@ -70,18 +71,27 @@ link_in d = record {
 abbrev pub units_of : List ℕ → Units
 units_of text = if is_text text (codes "english") then English else Metric
 
-abbrev pub head_in : Data → Head
-head_in d = record {
+-- the version of a description, the first where the key is absent
+abbrev pub version_of : Option Data → ℕ
+version_of None = first_version
+version_of (Some d) = u32_or_zero (integer_in d)
+
+abbrev pub head_in : ℕ → Data → Head
+head_in version d = record {
   name = option_map text_in (get (codes "name") d);
   units = units_of (text_in (at_key d (codes "units")));
+  version = version;
   parts = u32_at d (codes "parts");
   cycle = pair_at d (codes "cycle");
   ratio = number_in (at_key d (codes "ratio"));
+  least_out = number_in (at_key d (codes "least_out"));
+  least_in = number_in (at_key d (codes "least_in"));
+  equal = flag_in (at_key d (codes "equal"));
 }
 
 abbrev pub street_in : Data → Street
 street_in root = record {
-  head = head_in (at_key root (codes "artery"));
+  head = head_in (version_of (get (codes "version") root)) (at_key root (codes "artery"));
   signals = map signal_in (items_in (at_key root (codes "signal")));
   links = map link_in (items_in (at_key root (codes "link")));
 }

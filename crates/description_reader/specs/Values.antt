@@ -1,12 +1,12 @@
 -- What a look into a TOML value finds.
-use Rattle.std.specs.Prelude.{ℕ, List, [], ◌∷◌, Bool, is_some, unwrap_or, option_map}
-use Rattle.toml.specs.Data.{Data, array, Items, no_items, item, Members, no_members, member, get, as_array, as_str, as_table}
+use Rattle.std.specs.Prelude.{ℕ, List, [], ◌∷◌, Bool, false, is_some, unwrap_or, option_map}
+use Rattle.toml.specs.Data.{Data, array, Items, no_items, item, Members, no_members, member, get, as_array, as_bool, as_str, as_table}
 
 -- a table has a key
 abbrev pub has : Data → List ℕ → Bool
 has d name = is_some (get name d)
 
--- the value at a key; where there is none, one that reads as no text, no items, no keys and the number 0
+-- the value at a key; where there is none, one that reads as no text, no items, no keys, the number 0 and false
 abbrev pub at_key : Data → List ℕ → Data
 at_key d name = unwrap_or (get name d) (array no_items)
 
@@ -21,6 +21,10 @@ items_in d = unwrap_or (option_map list_of (as_array d)) []
 -- the text of a value, empty for any other value
 abbrev pub text_in : Data → List ℕ
 text_in d = unwrap_or (as_str d) []
+
+-- the truth of a boolean, false of any other value
+abbrev pub flag_in : Data → Bool
+flag_in d = unwrap_or (as_bool d) false
 
 -- the keys of a table, in the order of their bytes
 abbrev pub keys_of_members : Members → List (List ℕ)

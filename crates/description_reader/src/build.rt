@@ -5,11 +5,12 @@ ghost use Rattle.toml.specs.Data.{get, array, no_items};
 ghost use Rattle.toml.specs.View.{view};
 ghost use Rattle.progression.specs.Street.{no_pair};
 ghost use Rattle.description_reader.specs.Quantity.{number_in};
-ghost use Rattle.description_reader.specs.Streets.{u32_or_zero, u32_at, pair_of, pair_at, has_number, patterns_of, change_at, units_of, head_in, signal_in, link_in};
+ghost use Rattle.description_reader.specs.Streets.{u32_or_zero, u32_at, pair_of, pair_at, has_number, patterns_of, change_at, units_of, version_of, head_in, signal_in, link_in};
 ghost use Rattle.description_reader.specs.Values.{at_key, text_in};
 
 use crate::quantity::{integer_in, number_in};
-use crate::values::{items_at, items_in, number_at, text_at, text_in, value_at};
+use crate::values::{flag_at, items_at, items_in, number_at, text_at, text_in, value_at};
+use artery_model::bounds::FIRST_VERSION;
 use artery_model::{Head, Link, Pair, Signal, Text, Units};
 use narrow_fraction::Frac;
 use std::alloc::{AllocError, Global};
@@ -132,37 +133,56 @@ fn units_of(text: &str) -> Units
     }
 }
 
-fn no_head() -> Head
-    ensures { result ≡ head_in (array no_items) }
+fn no_head(version: u32) -> Head
+    ensures { result ≡ head_in version (array no_items) }
 {
     Head {
         name: None,
         units: Units::Metric,
+        version,
         parts: 0,
         cycle: no_pair(),
         ratio: Frac::whole(0),
+        least_out: Frac::whole(0),
+        least_in: Frac::whole(0),
+        equal: false,
     }
 }
 
-fn head_of(alloc: Global, table: &Value) -> Result<Head, AllocError>
-    ensures { IfOk result (λ h. h ≡ head_in (view table.now)) }
+fn head_of(alloc: Global, version: u32, table: &Value) -> Result<Head, AllocError>
+    ensures { IfOk result (λ h. h ≡ head_in version (view table.now)) }
 {
     Ok(Head {
         name: name_at(alloc, table)?,
         units: units_of(text_at(table, "units")),
+        version,
         parts: u32_at(table, "parts"),
         cycle: pair_at(table, "cycle"),
         ratio: number_of(table, "ratio"),
+        least_out: number_of(table, "least_out"),
+        least_in: number_of(table, "least_in"),
+        equal: flag_at(table, "equal"),
     })
+}
+
+/// The version of a description, the first where it has none.
+fn version_of(root: &Value) -> u32
+    ensures { result ≡ version_of (get (codes "version") (view root.now)) }
+{
+    match value_at(root, "version") {
+        Some(found) => u32_or_zero(integer_in(found)),
+        None => FIRST_VERSION,
+    }
 }
 
 /// What holds of the whole artery.
 pub fn head_in(alloc: Global, root: &Value) -> Result<Head, AllocError>
-    ensures { IfOk result (λ h. h ≡ head_in (at_key (view root.now) (codes "artery"))) }
+    ensures { IfOk result (λ h. h ≡ head_in (version_of (get (codes "version") (view root.now))) (at_key (view root.now) (codes "artery"))) }
 {
+    let version = version_of(root);
     match value_at(root, "artery") {
-        Some(artery) => head_of(alloc, artery),
-        None => Ok(no_head()),
+        Some(artery) => head_of(alloc, version, artery),
+        None => Ok(no_head(version)),
     }
 }
 

@@ -18,6 +18,7 @@ pub enum Demand {
     /// An array of so many items, from the first to the second.
     Length(usize, usize),
     Integer,
+    Boolean,
     Text,
     /// An integer or a text.
     Quantity,
@@ -48,6 +49,7 @@ pub fn meets(parts: i64, demand: Demand, value: &Value) -> bool
             least <= count && count <= most
         }
         Demand::Integer => value.is_integer(),
+        Demand::Boolean => value.is_bool(),
         Demand::Text => value.is_str(),
         Demand::Quantity => is_quantity(value),
         Demand::Number => quantity_in(value).is_some(),

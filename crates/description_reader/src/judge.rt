@@ -13,8 +13,9 @@ use crate::check::{TableCheck, check_needed};
 use crate::demand::Demand;
 use crate::key_table::{Demands, Entry, entries};
 use crate::keys::check_keys;
-use crate::place::Section;
+use crate::place::{Facts, Section};
 use crate::values::{items_at, number_at, value_at};
+use artery_model::bounds::SECOND_VERSION;
 use artery_model::{Flaw, Kind};
 use std::alloc::Global;
 use toml::Value;
@@ -32,15 +33,6 @@ pub enum Stage {
     Numbers,
     /// Values outside their limits.
     Ranges,
-}
-
-/// What the tests of one table need of the others.
-#[derive(Clone, Copy, Debug)]
-pub struct Facts {
-    /// How many links are given.
-    pub links: usize,
-    /// How many parts the cycle has.
-    pub parts: i64,
 }
 
 /// What a value of a type must be so that its quantities are numbers.
@@ -94,14 +86,14 @@ fn check_key(
 fn check_each_key(
     alloc: Global,
     stage: Stage,
-    parts: i64,
+    facts: Facts,
     section: Section,
     table: &Value,
 ) -> Result<(), Flaw>
-    ensures { Judges result (first_fault (map (key_fault stage parts section (view table.now)) (keys_of section))) }
+    ensures { Judges result (first_fault (map (key_fault stage facts.parts section (view table.now)) (keys_of facts.second section))) }
 {
-    for entry in entries(section) {
-        check_key(alloc, stage, parts, section, entry, table)?;
+    for entry in entries(facts.second, section) {
+        check_key(alloc, stage, facts.parts, section, entry, table)?;
     }
     Ok(())
 }
@@ -116,8 +108,8 @@ fn check_table(
     ensures { Judges result (table_fault stage facts section (view table.now)) }
 {
     match stage {
-        Stage::Keys => check_keys(alloc, facts.links, section, table),
-        _ => check_each_key(alloc, stage, facts.parts, section, table),
+        Stage::Keys => check_keys(alloc, facts, section, table),
+        _ => check_each_key(alloc, stage, facts, section, table),
     }
 }
 
@@ -195,6 +187,7 @@ fn facts_of(root: &Value) -> Facts
     Facts {
         links: items_at(root, "link").len(),
         parts: parts_of(root),
+        second: number_at(root, "version") == i64::from(SECOND_VERSION),
     }
 }
 

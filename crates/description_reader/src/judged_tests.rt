@@ -10,6 +10,7 @@ use crate::rule_tests::{RULES, TURN_RULES};
 use crate::samples::{BASE, EVERY_KEY, Fault, Row, answer, first_hidden, first_wrong};
 use crate::table_tests::{COUNTS, TABLES};
 use crate::type_tests::{TURN_TYPES, TYPES};
+use crate::version_tests::VERSIONS;
 use std::rt::HostRuntime;
 use std::test::Fail;
 
@@ -31,7 +32,8 @@ fn changed(table: u32) -> (&'static str, &'static [Row]) {
         12 => (BASE, &RULES),
         13 => (EVERY_KEY, &TURN_RULES),
         14 => (BASE, &FAULTS),
-        _ => (EVERY_KEY, &TURN_FAULTS),
+        15 => (EVERY_KEY, &TURN_FAULTS),
+        _ => (BASE, &VERSIONS),
     }
 }
 
@@ -50,7 +52,7 @@ fn in_order(table: u32) -> &'static [Fault] {
 
 #[test]
 fn first_fault_is_named(rt: HostRuntime) -> Result<(), Fail> {
-    for table in 0..16 {
+    for table in 0..17 {
         let (base, rows) = changed(table);
         assert_eq!(rt; first_wrong(rt.alloc(), base, rows)?, 0, "table {table}");
     }

@@ -6,9 +6,10 @@ ghost use Rattle.description_reader.specs.KeyTable.{key_of, keys_of};
 use crate::demand::Demand;
 use crate::place::Section;
 use artery_model::bounds::{
-    LEAST_CHANGE, LEAST_CYCLE, LEAST_DISTANCE, LEAST_PARTS, LEAST_RATIO, LEAST_SIGNALS,
-    LEAST_SPEED, MOST_CHANGE, MOST_CYCLE, MOST_DISTANCE, MOST_PARTS, MOST_RATIO, MOST_SIGNALS,
-    MOST_SPEED,
+    FIRST_VERSION, LEAST_CHANGE, LEAST_CYCLE, LEAST_DISTANCE, LEAST_PARTS, LEAST_RATIO,
+    LEAST_SHARE, LEAST_SIGNALS, LEAST_SPEED, MOST_CHANGE, MOST_CYCLE, MOST_DISTANCE,
+    MOST_FIRST_SIGNALS, MOST_PARTS, MOST_RATIO, MOST_SHARE, MOST_SIGNALS, MOST_SPEED,
+    SECOND_VERSION,
 };
 
 /// Whether a key must stand in its table.
@@ -48,6 +49,11 @@ const INTEGER: Demands = Demands {
     item: Demand::Anything,
 };
 
+const BOOLEAN: Demands = Demands {
+    value: Demand::Boolean,
+    item: Demand::Anything,
+};
+
 const TEXT: Demands = Demands {
     value: Demand::Text,
     item: Demand::Anything,
@@ -80,7 +86,12 @@ const TWO_QUANTITIES: Demands = Demands {
 
 // Limits.
 const VERSION: Demands = Demands {
-    value: Demand::Between(1, 1),
+    value: Demand::Between(FIRST_VERSION as i64, SECOND_VERSION as i64),
+    item: Demand::Anything,
+};
+
+const FIRST_SIGNALS: Demands = Demands {
+    value: Demand::Length(LEAST_SIGNALS, MOST_FIRST_SIGNALS),
     item: Demand::Anything,
 };
 
@@ -111,6 +122,11 @@ const CYCLE: Demands = Demands {
 
 const RATIO: Demands = Demands {
     value: Demand::Within(LEAST_RATIO, MOST_RATIO),
+    item: Demand::Anything,
+};
+
+const SHARE: Demands = Demands {
+    value: Demand::Within(LEAST_SHARE, MOST_SHARE),
     item: Demand::Anything,
 };
 
@@ -146,6 +162,34 @@ const CHANGE: Demands = Demands {
 
 /// The keys of the root.
 const ROOT: [Entry; 4] = [
+    Entry {
+        name: "version",
+        presence: Presence::Optional,
+        types: INTEGER,
+        ranges: VERSION,
+    },
+    Entry {
+        name: "artery",
+        presence: Presence::Needed,
+        types: TABLE,
+        ranges: FREE,
+    },
+    Entry {
+        name: "signal",
+        presence: Presence::Needed,
+        types: TABLES,
+        ranges: FIRST_SIGNALS,
+    },
+    Entry {
+        name: "link",
+        presence: Presence::Needed,
+        types: TABLES,
+        ranges: FREE,
+    },
+];
+
+/// The same in the second version, which has more signals.
+const SECOND_ROOT: [Entry; 4] = [
     Entry {
         name: "version",
         presence: Presence::Optional,
@@ -203,6 +247,58 @@ const ARTERY: [Entry; 5] = [
         presence: Presence::Needed,
         types: QUANTITY,
         ranges: RATIO,
+    },
+];
+
+/// The same in the second version, which has least bands and equal bands.
+const SECOND_ARTERY: [Entry; 8] = [
+    Entry {
+        name: "name",
+        presence: Presence::Optional,
+        types: TEXT,
+        ranges: NAME,
+    },
+    Entry {
+        name: "units",
+        presence: Presence::Needed,
+        types: TEXT,
+        ranges: UNITS,
+    },
+    Entry {
+        name: "parts",
+        presence: Presence::Needed,
+        types: INTEGER,
+        ranges: PARTS,
+    },
+    Entry {
+        name: "cycle",
+        presence: Presence::Needed,
+        types: TWO_QUANTITIES,
+        ranges: CYCLE,
+    },
+    Entry {
+        name: "ratio",
+        presence: Presence::Needed,
+        types: QUANTITY,
+        ranges: RATIO,
+    },
+    Entry {
+        name: "least_out",
+        presence: Presence::Optional,
+        types: QUANTITY,
+        ranges: SHARE,
+    },
+    Entry {
+        name: "least_in",
+        presence: Presence::Optional,
+        types: QUANTITY,
+        ranges: SHARE,
+    },
+    Entry {
+        name: "equal",
+        presence: Presence::Optional,
+        types: BOOLEAN,
+        ranges: FREE,
     },
 ];
 
@@ -292,15 +388,17 @@ const LINK: [Entry; 6] = [
     },
 ];
 
-/// The keys of a section, in the order in which their faults are looked for.
+/// The keys of a section, in the order in which their faults are looked for, where the description is of the second version or not.
 #[tactic(auto, unfolding(crate::specs::KeyTable::keys_of))]
-pub fn entries(section: Section) -> &'static [Entry]
-    ensures { map key_of result.now ≡ keys_of section }
+pub fn entries(second: bool, section: Section) -> &'static [Entry]
+    ensures { map key_of result.now ≡ keys_of second section }
 {
-    match section {
-        Section::Root => &ROOT,
-        Section::Artery => &ARTERY,
-        Section::Signal(_) => &SIGNAL,
-        Section::Link(_) => &LINK,
+    match (section, second) {
+        (Section::Root, false) => &ROOT,
+        (Section::Root, true) => &SECOND_ROOT,
+        (Section::Artery, false) => &ARTERY,
+        (Section::Artery, true) => &SECOND_ARTERY,
+        (Section::Signal(_), _) => &SIGNAL,
+        (Section::Link(_), _) => &LINK,
     }
 }

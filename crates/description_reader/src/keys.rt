@@ -9,7 +9,7 @@ ghost use Rattle.description_reader.specs.Values.{keys_of_members};
 
 use crate::check::check;
 use crate::key_table::{Presence, entries};
-use crate::place::Section;
+use crate::place::{Facts, Section};
 use artery_model::{Flaw, Kind};
 use std::alloc::Global;
 use toml::{Table, Value};
@@ -25,12 +25,12 @@ fn may_stand(links: usize, section: Section, presence: Presence) -> bool
     }
 }
 
-/// Whether a table of a description with this many links may have the key.
-fn is_known(links: usize, section: Section, name: &str) -> bool
-    ensures { result ≡ is_known links section name.now }
+/// Whether a table of a description may have the key.
+fn is_known(facts: Facts, section: Section, name: &str) -> bool
+    ensures { result ≡ is_known facts section name.now }
 {
-    for entry in entries(section) {
-        if name == entry.name && may_stand(links, section, entry.presence) {
+    for entry in entries(facts.second, section) {
+        if name == entry.name && may_stand(facts.links, section, entry.presence) {
             return true;
         }
     }
@@ -56,29 +56,29 @@ fn printed(key: &str) -> &str
     }
 }
 
-fn check_key(alloc: Global, links: usize, section: Section, name: &str) -> Result<(), Flaw>
-    ensures { Judges result (unknown_fault links section name.now) }
+fn check_key(alloc: Global, facts: Facts, section: Section, name: &str) -> Result<(), Flaw>
+    ensures { Judges result (unknown_fault facts section name.now) }
 {
-    let known = is_known(links, section, name);
+    let known = is_known(facts, section, name);
     check(alloc, known, Kind::UnknownKey, section, printed(name))
 }
 
 /// Refuses the first key of a table that no description has.
-fn check_table(alloc: Global, links: usize, section: Section, table: &Table) -> Result<(), Flaw>
-    ensures { Judges result (first_fault (map (unknown_fault links section) (keys_of_members (table_view table.now)))) }
+fn check_table(alloc: Global, facts: Facts, section: Section, table: &Table) -> Result<(), Flaw>
+    ensures { Judges result (first_fault (map (unknown_fault facts section) (keys_of_members (table_view table.now)))) }
 {
     for key in table.keys() {
-        check_key(alloc, links, section, key.as_str())?;
+        check_key(alloc, facts, section, key.as_str())?;
     }
     Ok(())
 }
 
 /// Refuses the first key of a table that no description has.
-pub fn check_keys(alloc: Global, links: usize, section: Section, value: &Value) -> Result<(), Flaw>
-    ensures { Judges result (unknown_key links section (view value.now)) }
+pub fn check_keys(alloc: Global, facts: Facts, section: Section, value: &Value) -> Result<(), Flaw>
+    ensures { Judges result (unknown_key facts section (view value.now)) }
 {
     match value.as_table() {
-        Some(table) => check_table(alloc, links, section, table),
+        Some(table) => check_table(alloc, facts, section, table),
         None => Ok(()),
     }
 }

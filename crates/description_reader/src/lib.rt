@@ -41,6 +41,8 @@ mod table_tests;
 #[cfg(test)]
 mod type_tests;
 mod values;
+#[cfg(test)]
+mod version_tests;
 
 pub use artery_model::{Artery, Flaw, Kind, Refusal};
 pub use print::{law_one_text, print_artery};

@@ -52,7 +52,7 @@ pub static LIMITS: [Row; 27] = [
     (&[(5, "ratio = '99.999'")], "described"),
     (&[(5, "ratio = '99.9999'")], "OutOfRange artery.ratio"),
     (&[(5, "ratio = '1/1001'")], "OutOfRange artery.ratio"),
-    (&[(1, "version = 2\n[artery]")], "OutOfRange version"),
+    (&[(1, "version = 3\n[artery]")], "OutOfRange version"),
     (&[(1, "version = 0\n[artery]")], "OutOfRange version"),
     (&[(1, "[artery]\nname = ''")], "OutOfRange artery.name"),
     (

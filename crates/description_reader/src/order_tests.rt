@@ -16,7 +16,7 @@ pub static FAULTS: [Row; 16] = [
         "WrongType link[1].speed_in[2]",
     ),
     (
-        &[(1, "version = 2\n[artery]"), (19, "speed_in = ['x', 36]")],
+        &[(1, "version = 3\n[artery]"), (19, "speed_in = ['x', 36]")],
         "BadNumber link[1].speed_in[1]",
     ),
     (
@@ -57,7 +57,7 @@ pub static FAULTS: [Row; 16] = [
         "BadNumber artery.cycle[2]",
     ),
     (
-        &[(1, "version = 2\n[artery]"), (11, ""), (12, ""), (13, "")],
+        &[(1, "version = 3\n[artery]"), (11, ""), (12, ""), (13, "")],
         "OutOfRange version",
     ),
     (
@@ -360,7 +360,7 @@ pub static BAD_NUMBERS: [Fault; 15] = [
 
 /// A value outside its limits at each place, in the order of the places.
 pub static OUT_OF_RANGE: [Fault; 35] = [
-    (1, "version = 2", "OutOfRange version"),
+    (1, "version = 3", "OutOfRange version"),
     (4, "name = ''", "OutOfRange artery.name"),
     (5, "units = 'feet'", "OutOfRange artery.units"),
     (6, "parts = 1", "OutOfRange artery.parts"),

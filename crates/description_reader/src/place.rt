@@ -14,6 +14,17 @@ pub enum Section {
     Link(usize),
 }
 
+/// What the tests of one table need of the others.
+#[derive(Clone, Copy, Debug)]
+pub struct Facts {
+    /// How many links are given.
+    pub links: usize,
+    /// How many parts the cycle has.
+    pub parts: i64,
+    /// Whether the description is of the second version.
+    pub second: bool,
+}
+
 /// The path of a key, as `artery.parts` or `signal[3].red`.
 pub fn key_place(alloc: Global, section: Section, key: &str) -> Result<String, AllocError>
     ensures { IfOk result (λ s. string_bytes s ≡ key_place section key.now) }

@@ -1,7 +1,7 @@
 //! The canonical description of an artery: what is printed for it.
 
-ghost use Rattle.std.specs.Prelude.{◌≡◌, None, map, option_map, IfOk, All, length};
-ghost use Rattle.toml.specs.Data.{array, string, table};
+ghost use Rattle.std.specs.Prelude.{◌≡◌, None, map, option_map, codes, IfOk, All, length};
+ghost use Rattle.toml.specs.Data.{array, boolean, string, table};
 ghost use Rattle.toml.specs.View.{view, table_view, items_of};
 ghost use Rattle.artery_model.specs.Limits.{artery_fault};
 ghost use Rattle.description_reader.specs.Described.{ReadsAs, Described};
@@ -9,6 +9,7 @@ ghost use Rattle.description_reader.specs.Members.{with_member, with_member_if_t
 ghost use Rattle.description_reader.specs.Printed.{IsPrinted, OneText};
 ghost use Rattle.description_reader.specs.Canonical.{number_data, quantity_data, pair_data, units_text, patterns_from, head_members, signal_members, link_members, signal_data, link_data, canonical, HasFour};
 
+use artery_model::bounds::SECOND_VERSION;
 use artery_model::{Artery, Head, Link, Pair, Signal, Units};
 use narrow_fraction::{Frac, Memory};
 use quantity_text::exact_string;
@@ -100,6 +101,17 @@ fn put_if_given(
     }
 }
 
+/// Puts the least bands, and whether the bands have to be equal.
+fn put_bands(alloc: Global, table: &mut Table, head: &Head) -> Result<(), AllocError>
+    ensures { IfOk result (λ _. table_view table.new ≡ with_member (codes "equal") (boolean head.now.equal) (with_member (codes "least_in") (quantity_data head.now.least_in) (with_member (codes "least_out") (quantity_data head.now.least_out) (table_view table.old)))) }
+{
+    let least_out = quantity_value(alloc, head.least_out)?;
+    put(alloc, table, "least_out", least_out)?;
+    let least_in = quantity_value(alloc, head.least_in)?;
+    put(alloc, table, "least_in", least_in)?;
+    put(alloc, table, "equal", Value::from(head.equal))
+}
+
 fn head_table(alloc: Global, head: &Head) -> Result<Table, AllocError>
     ensures { IfOk result (λ t. table_view t ≡ head_members head.now) }
 {
@@ -112,6 +124,9 @@ fn head_table(alloc: Global, head: &Head) -> Result<Table, AllocError>
     put_pair(alloc, &mut table, "cycle", head.cycle)?;
     let ratio = quantity_value(alloc, head.ratio)?;
     put(alloc, &mut table, "ratio", ratio)?;
+    if head.version == SECOND_VERSION {
+        put_bands(alloc, &mut table, head)?;
+    }
     Ok(table)
 }
 
@@ -172,8 +187,9 @@ fn root_table(alloc: Global, artery: &Artery) -> Result<Table, AllocError>
     ensures no_fault { IfOk result (λ _. artery_fault artery.now ≡ None) }
 {
     let mut table = Table::new(alloc);
-    put_number(alloc, &mut table, "version", 1)?;
-    let head = head_table(alloc, artery.head())?;
+    let head = artery.head();
+    put_number(alloc, &mut table, "version", head.version)?;
+    let head = head_table(alloc, head)?;
     put(alloc, &mut table, "artery", Value::Table(head))?;
     let signals = signals_value(alloc, artery.signals())?;
     put(alloc, &mut table, "signal", signals)?;
@@ -182,7 +198,7 @@ fn root_table(alloc: Global, artery: &Artery) -> Result<Table, AllocError>
     Ok(table)
 }
 
-/// The canonical description of an artery, a TOML text. It has every key of the format but the
+/// The canonical description of an artery, a TOML text. It has every key of the format of its version but the
 /// artery's name and the limits of changes where these aren't given, and `read_artery` reads the
 /// same artery from it. The error is want of memory.
 pub fn print_artery(alloc: Global, artery: &Artery) -> Result<Vec<u8>, Memory>

@@ -4,7 +4,7 @@ ghost use Rattle.std.specs.Prelude.{◌≡◌, option_map, map};
 ghost use Rattle.toml.specs.Data.{get};
 ghost use Rattle.toml.specs.View.{view};
 ghost use Rattle.description_reader.specs.Quantity.{integer_in};
-ghost use Rattle.description_reader.specs.Values.{has, at_key, items_in, text_in};
+ghost use Rattle.description_reader.specs.Values.{has, at_key, items_in, text_in, flag_in};
 
 use crate::quantity::integer_in;
 use toml::Value;
@@ -61,6 +61,16 @@ pub fn text_at<'a>(value: &'a Value, key: &str) -> &'a str
     match value_at(value, key) {
         Some(found) => text_in(found),
         None => "",
+    }
+}
+
+/// The truth at a key, false where there is no boolean.
+pub fn flag_at(table: &Value, key: &str) -> bool
+    ensures { result ≡ flag_in (at_key (view table.now) key.now) }
+{
+    match value_at(table, key) {
+        Some(found) => found.as_bool().unwrap_or(false),
+        None => false,
     }
 }
 

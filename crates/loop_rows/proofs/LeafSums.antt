@@ -28,38 +28,39 @@ use Rattle.named_row.specs.Refusals.{sum_refusal}
 use Rattle.named_row.specs.declared.names.RowId.{RowId}
 use Rattle.named_row.specs.declared.leaves.Weight.{Weight}
 use Rattle.named_row.specs.declared.wide_at.WideAt.{WideAt}
-use Rattle.loop_rows.proofs.Writing.{written_row, written_width}
+use Rattle.loop_rows.specs.laws.Writing.{written_row, written_width}
 use Rattle.loop_rows.specs.RowTests.{has_row}
 use Rattle.loop_rows.proofs.RowTests.{row_decided}
-use Rattle.loop_rows.specs.Weights.{named, name_at, row_at, after_weight, wide_fault, weight_fault, weights_sum, weights_fault, leaf_total, leaf_fault, IsFirstFault}
+use Rattle.loop_rows.specs.Weights.{Source, artery_rows, with_weights, first_fault_with, named, name_at, row_at, after_weight, wide_fault, weight_fault, weights_sum, weights_fault, leaf_total, leaf_fault, IsFirstFault, fault_of, fault_with, total_of, with_weight}
 use Rattle.loop_rows.specs.declared.fault.SumFault.{SumFault}
 use Rattle.loop_rows.specs.declared.fault.SumFault.TheVariants.{NoSuchRow, Negative, Wide, Memory}
 
 -- ---- one row
-module _ (a : Street) (box : Area) (sum : Sheet) (w : Weight) (there : Bool) (d : Decides there (HasRow a (name_at w.row))) where
-  tested : has_row a (name_at w.row) ≡ there
-  tested = same_from_decides (has_row a (name_at w.row)) there (row_decided a (name_at w.row)) d
-
+module _ (rows : Source) (sum : Sheet) (w : Weight) (there : Bool) (d : there ≡ rows.has w.row) where
   -- there is none
-  pub row_missing : there ≡ false → weight_fault a box sum w ≡ Some (NoSuchRow w.row)
-  unfolding weight_fault
-  row_missing e = let f = tested ∙ e in rw f refl
+  pub row_missing : there ≡ false → fault_with rows sum w ≡ Some (NoSuchRow w.row)
+  unfolding fault_with
+  row_missing e = let f = sym d ∙ e in rw f refl
 
   -- its multiplier is below 0
-  pub row_negative : there ≡ true → is_lt (cmp_ℚ w.by (number 0)) ≡ true → weight_fault a box sum w ≡ Some (Negative w.row)
-  unfolding weight_fault
-  row_negative e n = let f = tested ∙ e in rw (f, n) refl
+  pub row_negative : there ≡ true → is_lt (cmp_ℚ w.by (number 0)) ≡ true → fault_with rows sum w ≡ Some (Negative w.row)
+  unfolding fault_with
+  row_negative e n = let f = sym d ∙ e in rw (f, n) refl
 
   -- it is there with a multiplier of at least 0, so that only the sum is left
-  only_wide : there ≡ true → is_lt (cmp_ℚ w.by (number 0)) ≡ false → weight_fault a box sum w ≡ wide_fault w.row (sum_refusal w.by (row_at a box w.row) sum)
-  unfolding weight_fault
-  only_wide e n = let f = tested ∙ e in rw (f, n) refl
+  only_wide : there ≡ true → is_lt (cmp_ℚ w.by (number 0)) ≡ false → fault_with rows sum w ≡ wide_fault w.row (sum_refusal w.by (rows.row w.row) sum)
+  unfolding fault_with
+  only_wide e n = let f = sym d ∙ e in rw (f, n) refl
 
-  pub row_wide : there ≡ true → is_lt (cmp_ℚ w.by (number 0)) ≡ false → (at : WideAt) → sum_refusal w.by (row_at a box w.row) sum ≡ Some at → weight_fault a box sum w ≡ Some (Wide w.row at)
+  pub row_wide : there ≡ true → is_lt (cmp_ℚ w.by (number 0)) ≡ false → (at : WideAt) → sum_refusal w.by (rows.row w.row) sum ≡ Some at → fault_with rows sum w ≡ Some (Wide w.row at)
   row_wide e n at r = only_wide e n ∙ ap (wide_fault w.row) r
 
-  pub row_added : there ≡ true → is_lt (cmp_ℚ w.by (number 0)) ≡ false → sum_refusal w.by (row_at a box w.row) sum ≡ None → weight_fault a box sum w ≡ None
+  pub row_added : there ≡ true → is_lt (cmp_ℚ w.by (number 0)) ≡ false → sum_refusal w.by (rows.row w.row) sum ≡ None → fault_with rows sum w ≡ None
   row_added e n r = only_wide e n ∙ ap (wide_fault w.row) r
+
+-- a test that says whether an artery has a row
+pub row_tested : (a : Street) (row : RowId) (there : Bool) → Decides there (HasRow a (name_at row)) → there ≡ has_row a (name_at row)
+row_tested a row there d = sym (same_from_decides (has_row a (name_at row)) there (row_decided a (name_at row)) d)
 
 -- ---- sums of rows
 add-none : (xs : List ℚ) → add xs [] ≡ xs
@@ -79,7 +80,7 @@ added-none : (r : maths.Row) → r ≡ added r (record { coefs = []; bound = num
 added-none r = ap₂ (λ cs b. record { coefs = cs; bound = b }) (sym (add-none r.coefs)) (sym (+ℚ-zero r.bound))
 
 after_row : (a : Street) (box : Area) (sum : Sheet) (w : Weight) → row_of (after_weight a box sum w) ≡ added (row_of sum) (scaled w.by (line a (form_of a box (name_at w.row))))
-unfolding after_weight with_times
+unfolding with_weight with_times
 after_row a box sum w = ap (λ (r : maths.Row). added (row_of sum) (scaled w.by r)) (written_row a (form_of a box (name_at w.row)))
 
 -- a sum with several more rows is the sum and the weighted sum of these rows
@@ -91,7 +92,7 @@ sum_row a box sum (w ∷ ws) =
     ∙ added_assoc (row_of sum) (scaled w.by (line a (form_of a box (name_at w.row)))) (leaf_sum a box (map named ws))
 
 pub total_row : (a : Street) (box : Area) (ws : List Weight) → row_of (leaf_total a box ws) ≡ added (row_of (blank (width (count a)))) (leaf_sum a box (map named ws))
-unfolding leaf_total
+unfolding total_of
 total_row a box ws = sum_row a box (blank (width (count a))) ws
 
 -- ---- widths
@@ -107,7 +108,7 @@ scale_width k [] = refl
 scale_width k (x ∷ xs) = ap suc (scale_width k xs)
 
 after_width : (a : Street) (box : Area) (sum : Sheet) (w : Weight) → length sum.coefs ≡ width (count a) → length (after_weight a box sum w).coefs ≡ width (count a)
-unfolding after_weight with_times
+unfolding with_weight with_times
 after_width a box sum w e =
     add_width sum.coefs (scale w.by (row_at a box w.row).coefs) (scale_width w.by (row_at a box w.row).coefs ∙ written_width a (form_of a box (name_at w.row)) ∙ sym e) ∙ e
 
@@ -116,7 +117,7 @@ sum_width a box sum [] e = e
 sum_width a box sum (w ∷ ws) e = sum_width a box (after_weight a box sum w) ws (after_width a box sum w e)
 
 pub total_width : (a : Street) (box : Area) (ws : List Weight) → length (leaf_total a box ws).coefs ≡ width (count a)
-unfolding leaf_total blank
+unfolding total_of blank
 total_width a box ws = sum_width a box (blank (width (count a))) ws (length-replicate (width (count a)) (number 0))
 
 -- ---- the numbers of a leaf's sum
@@ -161,7 +162,7 @@ pub record IsAdded (a : Street) (box : Area) (sum : Sheet) (w : Weight) : Type 0
   pub fits : sum_refusal w.by (row_at a box w.row) sum ≡ None
 
 pub no_fault : (a : Street) (box : Area) (sum : Sheet) (w : Weight) → weight_fault a box sum w ≡ None → IsAdded a box sum w
-unfolding weight_fault
+unfolding fault_with
 no_fault a box sum w e =
     let p = neither _ _ e in
     let q = neither _ _ p.1 in
@@ -182,7 +183,7 @@ not_below x y h = by (is_lt (cmp_ℚ x y)) refl
 -- and back
 pub fault_free : (a : Street) (box : Area) (sum : Sheet) (w : Weight) → IsAdded a box sum w → weight_fault a box sum w ≡ None
 fault_free a box sum w h =
-    row_added a box sum w (has_row a (name_at w.row)) (row_decided a (name_at w.row)) ((row_decided a (name_at w.row)).1 h.there) (not_below w.by (number 0) h.positive) h.fits
+    row_added (artery_rows a box) sum w (has_row a (name_at w.row)) refl ((row_decided a (name_at w.row)).1 h.there) (not_below w.by (number 0) h.positive) h.fits
 
 sum_weights : (a : Street) (box : Area) (sum : Sheet) (ws : List Weight) → weights_fault a box sum ws ≡ None → AreWeights a (map named ws)
 sum_weights a box sum [] e = tt
@@ -192,12 +193,12 @@ sum_weights a box sum (w ∷ ws) e =
     (h.there, h.positive, sum_weights a box (after_weight a box sum w) ws p.1)
 
 pub total_weights : (a : Street) (box : Area) (ws : List Weight) → leaf_fault a box ws ≡ None → AreWeights a (map named ws)
-unfolding leaf_fault
+unfolding fault_of
 total_weights a box ws e = sum_weights a box (blank (width (count a))) ws e
 
 -- ---- the rows that are left
-pub left_refused : (a : Street) (box : Area) (sum : Sheet) (ws rest : List Weight) (w : Weight) (f : SumFault) → ws ≡ w ∷ rest → weight_fault a box sum w ≡ Some f → weights_fault a box sum ws ≡ Some f
-left_refused a box sum ws rest w f e r = ap (weights_fault a box sum) e ∙ ap (λ o. earlier o (weights_fault a box (after_weight a box sum w) rest)) r
+pub left_refused : (rows : Source) (sum : Sheet) (ws rest : List Weight) (w : Weight) (f : SumFault) → ws ≡ w ∷ rest → fault_with rows sum w ≡ Some f → first_fault_with rows sum ws ≡ Some f
+left_refused rows sum ws rest w f e r = ap (first_fault_with rows sum) e ∙ ap (λ o. earlier o (first_fault_with rows (with_weight rows sum w) rest)) r
 
 pub at_left : {X : Type 0} (xs : List X) (i : ℕ) (x : X) → i < length xs → x ≡ get_or xs i x → drop i xs ≡ x ∷ drop (i + 1) xs
 at_left xs i x h e = rw add-one (drop-cons xs i x h ∙ ap (λ y. y ∷ drop (suc i) xs) (sym e))
@@ -209,8 +210,15 @@ first_of_all o (Wide row at) e = e
 first_of_all o Memory e = tt
 
 -- none is left
-pub whole_total : (a : Street) (box : Area) (sum : Sheet) (ws : List Weight) (i : ℕ) → length ws ≤ i → leaf_total a box ws ≡ weights_sum a box sum (drop i ws) → sum ≡ leaf_total a box ws
-whole_total a box sum ws i h e = sym (e ∙ ap (weights_sum a box sum) (drop_all i ws h))
+pub whole_total : (rows : Source) (sum : Sheet) (ws : List Weight) (i : ℕ) → length ws ≤ i → total_of rows ws ≡ with_weights rows sum (drop i ws) → sum ≡ total_of rows ws
+whole_total rows sum ws i h e = sym (e ∙ ap (with_weights rows sum) (drop_all i ws h))
 
-pub whole_right : (a : Street) (box : Area) (sum : Sheet) (ws : List Weight) (i : ℕ) → length ws ≤ i → leaf_fault a box ws ≡ weights_fault a box sum (drop i ws) → leaf_fault a box ws ≡ None
-whole_right a box sum ws i h e = e ∙ ap (weights_fault a box sum) (drop_all i ws h)
+pub whole_right : (rows : Source) (sum : Sheet) (ws : List Weight) (i : ℕ) → length ws ≤ i → fault_of rows ws ≡ first_fault_with rows sum (drop i ws) → fault_of rows ws ≡ None
+whole_right rows sum ws i h e = e ∙ ap (first_fault_with rows sum) (drop_all i ws h)
+
+-- ---- of an artery, in its own words
+pub sum_row_of : (a : Street) (box : Area) (ws : List Weight) (sum : Sheet) → sum ≡ leaf_total a box ws → row_of sum ≡ added (row_of (blank (width (count a)))) (leaf_sum a box (map named ws))
+sum_row_of a box ws sum e = ap row_of e ∙ total_row a box ws
+
+pub sum_weights_of : (a : Street) (box : Area) (ws : List Weight) → leaf_fault a box ws ≡ None → AreWeights a (map named ws)
+sum_weights_of a box ws e = total_weights a box ws e

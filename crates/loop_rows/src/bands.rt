@@ -7,7 +7,8 @@ ghost use Rattle.linear_theory.specs.Rows.{ratio_below_form, ratio_above_form};
 ghost use Rattle.linear_theory.specs.Names as names;
 ghost use Rattle.linear_theory.specs.Names.{HasRow, form_of};
 ghost use Rattle.linear_theory.proofs.NamedRows.{row_law};
-ghost use Rattle.loop_rows.specs.laws.Meeting.{at_points};
+ghost use Rattle.loop_rows.specs.laws.Meeting.{at_written};
+ghost use Rattle.loop_rows.specs.laws.Writing.{written_unspent};
 ghost use Rattle.loop_rows.specs.Writing.{written};
 
 use crate::columns::band;
@@ -19,8 +20,9 @@ use search_box::SearchBox;
 
 /// The row of a ratio below 1: the inbound band is at least the ratio times the outbound one.
 fn fill_below(artery: &Artery, into: &mut Row)
-    requires { length into.old.coefs ≡ width (count artery.now) }
-    ensures { into.new ≡ written artery.now (ratio_below_form artery.now) }
+    requires columns { length into.old.coefs ≡ width (count artery.now) }
+    ensures value { into.new ≡ written artery.now (ratio_below_form artery.now) }
+    ensures width { length into.new.coefs ≡ length into.old.coefs }
 {
     into.clear();
     into.set(band(artery, Dir::Outbound), artery.ratio());
@@ -30,8 +32,9 @@ fn fill_below(artery: &Artery, into: &mut Row)
 
 /// The row of a ratio above 1: the inbound band is at most the ratio times the outbound one.
 fn fill_above(artery: &Artery, into: &mut Row)
-    requires { length into.old.coefs ≡ width (count artery.now) }
-    ensures { into.new ≡ written artery.now (ratio_above_form artery.now) }
+    requires columns { length into.old.coefs ≡ width (count artery.now) }
+    ensures value { into.new ≡ written artery.now (ratio_above_form artery.now) }
+    ensures width { length into.new.coefs ≡ length into.old.coefs }
 {
     into.clear();
     into.set(band(artery, Dir::Outbound), artery.ratio().neg());
@@ -50,7 +53,7 @@ impl Family for RatioRow {
 
     ghost exists = { λ f a i. HasRow a (names.RatioRow i) };
 
-    ghost form = { λ f a box i. form_of a box (names.RatioRow i) };
+    ghost sheet = { λ f a box i. written a (form_of a box (names.RatioRow i)) };
 
     fn number(&self) -> u8 {
         13
@@ -69,5 +72,7 @@ impl Family for RatioRow {
         }
     }
 
-    ghost law = { λ f a box i x e h. at_points a box x _ h (λ t c. row_law a box t c (names.RatioRow i) e) };
+    ghost unspent = { λ f a box i. written_unspent a (form_of a box (names.RatioRow i)) };
+
+    ghost law = { λ f a box i x e h. at_written a box x (form_of a box (names.RatioRow i)) h (λ t c. row_law a box t c (names.RatioRow i) e) };
 }

@@ -7,8 +7,9 @@ ghost use Rattle.linear_theory.specs.Rows.{rise_form, drop_form};
 ghost use Rattle.linear_theory.specs.Names as names;
 ghost use Rattle.linear_theory.specs.Names.{HasRow, HasChange, form_of};
 ghost use Rattle.linear_theory.proofs.NamedRows.{row_law};
-ghost use Rattle.loop_rows.specs.laws.Meeting.{at_points};
+ghost use Rattle.loop_rows.specs.laws.Meeting.{at_written};
 ghost use Rattle.loop_rows.specs.Directions.{by_dir};
+ghost use Rattle.loop_rows.specs.laws.Writing.{written_unspent};
 ghost use Rattle.loop_rows.specs.Writing.{written};
 
 use crate::columns::{frequency, next_of, run};
@@ -31,7 +32,8 @@ fn fill_rise(artery: &Artery, dir: Dir, link: u32, limits: Pair, into: &mut Row)
     requires first { 1 ≤ link }
     requires last { link + 1 < count artery.now }
     requires columns { length into.old.coefs ≡ width (count artery.now) }
-    ensures { into.new ≡ written artery.now (rise_form artery.now dir link limits) }
+    ensures value { into.new ≡ written artery.now (rise_form artery.now dir link limits) }
+    ensures width { length into.new.coefs ≡ length into.old.coefs }
 {
     let next = next_of(artery, link);
     into.clear();
@@ -46,7 +48,8 @@ fn fill_drop(artery: &Artery, dir: Dir, link: u32, limits: Pair, into: &mut Row)
     requires first { 1 ≤ link }
     requires last { link + 1 < count artery.now }
     requires columns { length into.old.coefs ≡ width (count artery.now) }
-    ensures { into.new ≡ written artery.now (drop_form artery.now dir link limits) }
+    ensures value { into.new ≡ written artery.now (drop_form artery.now dir link limits) }
+    ensures width { length into.new.coefs ≡ length into.old.coefs }
 {
     let next = next_of(artery, link);
     into.clear();
@@ -69,7 +72,7 @@ impl Family for RiseRow {
 
     ghost exists = { λ f a i. HasRow a (names.RiseRow f.dir i) };
 
-    ghost form = { λ f a box i. form_of a box (names.RiseRow f.dir i) };
+    ghost sheet = { λ f a box i. written a (form_of a box (names.RiseRow f.dir i)) };
 
     fn number(&self) -> u8 {
         match self.dir {
@@ -88,7 +91,9 @@ impl Family for RiseRow {
         }
     }
 
-    ghost law = { λ f a box i x e h. at_points a box x _ h (λ t c. row_law a box t c (names.RiseRow f.dir i) e) };
+    ghost unspent = { λ f a box i. written_unspent a (form_of a box (names.RiseRow f.dir i)) };
+
+    ghost law = { λ f a box i x e h. at_written a box x (form_of a box (names.RiseRow f.dir i)) h (λ t c. row_law a box t c (names.RiseRow f.dir i) e) };
 }
 
 /// From a link to the next the pace changes by no less than the least change.
@@ -104,7 +109,7 @@ impl Family for DropRow {
 
     ghost exists = { λ f a i. HasRow a (names.DropRow f.dir i) };
 
-    ghost form = { λ f a box i. form_of a box (names.DropRow f.dir i) };
+    ghost sheet = { λ f a box i. written a (form_of a box (names.DropRow f.dir i)) };
 
     fn number(&self) -> u8 {
         match self.dir {
@@ -123,5 +128,7 @@ impl Family for DropRow {
         }
     }
 
-    ghost law = { λ f a box i x e h. at_points a box x _ h (λ t c. row_law a box t c (names.DropRow f.dir i) e) };
+    ghost unspent = { λ f a box i. written_unspent a (form_of a box (names.DropRow f.dir i)) };
+
+    ghost law = { λ f a box i x e h. at_written a box x (form_of a box (names.DropRow f.dir i)) h (λ t c. row_law a box t c (names.DropRow f.dir i) e) };
 }

@@ -4,7 +4,9 @@ ghost use Rattle.std.specs.Prelude.{◌≡◌};
 ghost use Rattle.linear_theory.specs.Names as names;
 ghost use Rattle.linear_theory.specs.Names.{HasRow, form_of};
 ghost use Rattle.linear_theory.proofs.NamedRows.{row_law};
-ghost use Rattle.loop_rows.specs.laws.Meeting.{at_points};
+ghost use Rattle.loop_rows.specs.laws.Meeting.{at_written};
+ghost use Rattle.loop_rows.specs.laws.Writing.{written_unspent};
+ghost use Rattle.loop_rows.specs.Writing.{written};
 
 use crate::columns::frequency;
 use crate::family::{Family, Progression};
@@ -25,7 +27,7 @@ impl Family for CycleLowRow {
 
     ghost exists = { λ f a i. HasRow a (names.CycleLowRow i) };
 
-    ghost form = { λ f a box i. form_of a box (names.CycleLowRow i) };
+    ghost sheet = { λ f a box i. written a (form_of a box (names.CycleLowRow i)) };
 
     fn number(&self) -> u8 {
         11
@@ -41,7 +43,9 @@ impl Family for CycleLowRow {
         into.set(Place::Bound, reciprocal(artery.cycle().most).neg());
     }
 
-    ghost law = { λ f a box i x e h. at_points a box x _ h (λ t c. row_law a box t c (names.CycleLowRow i) e) };
+    ghost unspent = { λ f a box i. written_unspent a (form_of a box (names.CycleLowRow i)) };
+
+    ghost law = { λ f a box i x e h. at_written a box x (form_of a box (names.CycleLowRow i)) h (λ t c. row_law a box t c (names.CycleLowRow i) e) };
 }
 
 /// The frequency is at most that of the least cycle.
@@ -55,7 +59,7 @@ impl Family for CycleHighRow {
 
     ghost exists = { λ f a i. HasRow a (names.CycleHighRow i) };
 
-    ghost form = { λ f a box i. form_of a box (names.CycleHighRow i) };
+    ghost sheet = { λ f a box i. written a (form_of a box (names.CycleHighRow i)) };
 
     fn number(&self) -> u8 {
         12
@@ -71,5 +75,7 @@ impl Family for CycleHighRow {
         into.set(Place::Bound, reciprocal(artery.cycle().least));
     }
 
-    ghost law = { λ f a box i x e h. at_points a box x _ h (λ t c. row_law a box t c (names.CycleHighRow i) e) };
+    ghost unspent = { λ f a box i. written_unspent a (form_of a box (names.CycleHighRow i)) };
+
+    ghost law = { λ f a box i x e h. at_written a box x (form_of a box (names.CycleHighRow i)) h (λ t c. row_law a box t c (names.CycleHighRow i) e) };
 }

@@ -4,7 +4,9 @@ ghost use Rattle.std.specs.Prelude.{◌≡◌};
 ghost use Rattle.linear_theory.specs.Names as names;
 ghost use Rattle.linear_theory.specs.Names.{HasRow, form_of};
 ghost use Rattle.linear_theory.proofs.NamedRows.{row_law};
-ghost use Rattle.loop_rows.specs.laws.Meeting.{at_points};
+ghost use Rattle.loop_rows.specs.laws.Meeting.{at_written};
+ghost use Rattle.loop_rows.specs.laws.Writing.{written_unspent};
+ghost use Rattle.loop_rows.specs.Writing.{written};
 
 use crate::columns::band;
 use crate::family::{Family, Progression};
@@ -24,7 +26,7 @@ impl Family for EqualLowRow {
 
     ghost exists = { λ f a i. HasRow a (names.EqualLowRow i) };
 
-    ghost form = { λ f a box i. form_of a box (names.EqualLowRow i) };
+    ghost sheet = { λ f a box i. written a (form_of a box (names.EqualLowRow i)) };
 
     fn number(&self) -> u8 {
         20
@@ -41,7 +43,9 @@ impl Family for EqualLowRow {
         into.set(Place::Bound, Frac::whole(0));
     }
 
-    ghost law = { λ f a box i x e h. at_points a box x _ h (λ t c. row_law a box t c (names.EqualLowRow i) e) };
+    ghost unspent = { λ f a box i. written_unspent a (form_of a box (names.EqualLowRow i)) };
+
+    ghost law = { λ f a box i x e h. at_written a box x (form_of a box (names.EqualLowRow i)) h (λ t c. row_law a box t c (names.EqualLowRow i) e) };
 }
 
 /// The outbound band is at least the inbound one.
@@ -55,7 +59,7 @@ impl Family for EqualHighRow {
 
     ghost exists = { λ f a i. HasRow a (names.EqualHighRow i) };
 
-    ghost form = { λ f a box i. form_of a box (names.EqualHighRow i) };
+    ghost sheet = { λ f a box i. written a (form_of a box (names.EqualHighRow i)) };
 
     fn number(&self) -> u8 {
         21
@@ -72,5 +76,7 @@ impl Family for EqualHighRow {
         into.set(Place::Bound, Frac::whole(0));
     }
 
-    ghost law = { λ f a box i x e h. at_points a box x _ h (λ t c. row_law a box t c (names.EqualHighRow i) e) };
+    ghost unspent = { λ f a box i. written_unspent a (form_of a box (names.EqualHighRow i)) };
+
+    ghost law = { λ f a box i x e h. at_written a box x (form_of a box (names.EqualHighRow i)) h (λ t c. row_law a box t c (names.EqualHighRow i) e) };
 }

@@ -1,14 +1,13 @@
 //! Families of rows, each with its law.
 
-ghost use Rattle.std.specs.Prelude.{◌≡◌, ◌↔◌, IsTrue, ℕ, List, length};
+ghost use Rattle.std.specs.Prelude.{◌≡◌, ◌↔◌, IsTrue, ℕ, List, length, false};
 ghost use Rattle.rational_theory.specs.Rational.{ℚ};
 ghost use Rattle.rational_theory.specs.Rows.{IsMet};
 ghost use Rattle.progression.specs.Street.{Street, count};
 ghost use Rattle.linear_theory.specs.Places.{width};
 ghost use Rattle.linear_theory.specs.Boxes.{Area, IsBoxOf};
-ghost use Rattle.linear_theory.specs.Rows.{Form, line};
 ghost use Rattle.linear_theory.specs.Counts.{IsGoodPoint};
-ghost use Rattle.loop_rows.specs.Writing.{written};
+ghost use Rattle.named_row.specs.Sheets.{Sheet, row_of};
 
 use artery_model::Artery;
 use named_row::Row;
@@ -40,8 +39,8 @@ pub trait Family {
     /// Whether an artery has the row of an index.
     ghost exists: { Self → Street → ℕ → Type 0 };
 
-    /// What the row is.
-    ghost form: { Self → Street → Area → ℕ → Form };
+    /// The row, as it is written.
+    ghost sheet: { Self → Street → Area → ℕ → Sheet };
 
     /// The family's number.
     fn number(&self) -> u8
@@ -56,7 +55,10 @@ pub trait Family {
         requires there { exists self.now artery.now index }
         requires boxed { IsBoxOf artery.now area.now }
         requires columns { length into.old.coefs ≡ Self.Of.columns artery.now }
-        ensures { into.new ≡ written artery.now (form self.now artery.now area.now index) };
+        ensures row { into.new ≡ sheet self.now artery.now area.now index }
+        ensures width { length into.new.coefs ≡ length into.old.coefs };
 
-    ghost law: { (f : Self) (a : Street) (box : Area) (i : ℕ) (x : List ℚ) → exists f a i → Self.Of.counts a box x → IsMet x (line a (form f a box i)) };
+    ghost unspent: { (f : Self) (a : Street) (box : Area) (i : ℕ) → (sheet f a box i).spent ≡ false };
+
+    ghost law: { (f : Self) (a : Street) (box : Area) (i : ℕ) (x : List ℚ) → exists f a i → Self.Of.counts a box x → IsMet x (row_of (sheet f a box i)) };
 }

@@ -8,8 +8,9 @@ ghost use Rattle.linear_theory.specs.Names as names;
 ghost use Rattle.linear_theory.specs.Names.{HasRow, form_of};
 ghost use Rattle.linear_theory.proofs.NamedRows.{row_law};
 ghost use Rattle.named_row.specs.Sheets.{blank};
-ghost use Rattle.loop_rows.specs.laws.Meeting.{at_points};
-ghost use Rattle.loop_rows.specs.Writing.{with_entries};
+ghost use Rattle.loop_rows.specs.laws.Meeting.{at_written};
+ghost use Rattle.loop_rows.specs.laws.Writing.{written_unspent};
+ghost use Rattle.loop_rows.specs.Writing.{with_entries, written};
 
 use crate::columns::{next_of, run, shift, wait};
 use crate::family::{Family, Progression};
@@ -50,7 +51,7 @@ impl Family for LoopLowRow {
 
     ghost exists = { λ f a i. HasRow a (names.LoopLowRow i) };
 
-    ghost form = { λ f a box i. form_of a box (names.LoopLowRow i) };
+    ghost sheet = { λ f a box i. written a (form_of a box (names.LoopLowRow i)) };
 
     fn number(&self) -> u8 {
         14
@@ -68,7 +69,9 @@ impl Family for LoopLowRow {
         );
     }
 
-    ghost law = { λ f a box i x e h. at_points a box x _ h (λ t c. row_law a box t c (names.LoopLowRow i) e) };
+    ghost unspent = { λ f a box i. written_unspent a (form_of a box (names.LoopLowRow i)) };
+
+    ghost law = { λ f a box i x e h. at_written a box x (form_of a box (names.LoopLowRow i)) h (λ t c. row_law a box t c (names.LoopLowRow i) e) };
 }
 
 /// A link's block sum is at most the greatest number of its span.
@@ -82,7 +85,7 @@ impl Family for LoopHighRow {
 
     ghost exists = { λ f a i. HasRow a (names.LoopHighRow i) };
 
-    ghost form = { λ f a box i. form_of a box (names.LoopHighRow i) };
+    ghost sheet = { λ f a box i. written a (form_of a box (names.LoopHighRow i)) };
 
     fn number(&self) -> u8 {
         15
@@ -100,5 +103,7 @@ impl Family for LoopHighRow {
         );
     }
 
-    ghost law = { λ f a box i x e h. at_points a box x _ h (λ t c. row_law a box t c (names.LoopHighRow i) e) };
+    ghost unspent = { λ f a box i. written_unspent a (form_of a box (names.LoopHighRow i)) };
+
+    ghost law = { λ f a box i x e h. at_written a box x (form_of a box (names.LoopHighRow i)) h (λ t c. row_law a box t c (names.LoopHighRow i) e) };
 }

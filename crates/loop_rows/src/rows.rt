@@ -72,7 +72,7 @@ fn fill_by<F: Family<Of = Progression>>(
     requires boxed { IsBoxOf artery.now area.now }
     requires columns { length into.old.coefs ≡ width (count artery.now) }
     ensures there { IsTrue result ↔ F.exists family.now artery.now row.index }
-    ensures row { result ≡ true → into.new ≡ written artery.now (F.form family.now artery.now area.now row.index) }
+    ensures row { result ≡ true → into.new ≡ F.sheet family.now artery.now area.now row.index }
     ensures met { result ≡ true → IsFilled artery.now area.now into.new }
     ensures same { result ≡ false → into.new ≡ into.old }
     ensures width { length into.new.coefs ≡ width (count artery.now) }

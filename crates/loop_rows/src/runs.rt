@@ -4,8 +4,10 @@ ghost use Rattle.std.specs.Prelude.{◌≡◌};
 ghost use Rattle.linear_theory.specs.Names as names;
 ghost use Rattle.linear_theory.specs.Names.{HasRow, form_of};
 ghost use Rattle.linear_theory.proofs.NamedRows.{row_law};
-ghost use Rattle.loop_rows.specs.laws.Meeting.{at_points};
+ghost use Rattle.loop_rows.specs.laws.Meeting.{at_written};
 ghost use Rattle.loop_rows.specs.Directions.{by_dir};
+ghost use Rattle.loop_rows.specs.laws.Writing.{written_unspent};
+ghost use Rattle.loop_rows.specs.Writing.{written};
 
 use crate::columns::{frequency, run};
 use crate::family::{Family, Progression};
@@ -27,7 +29,7 @@ impl Family for FastRow {
 
     ghost exists = { λ f a i. HasRow a (names.FastRow f.dir i) };
 
-    ghost form = { λ f a box i. form_of a box (names.FastRow f.dir i) };
+    ghost sheet = { λ f a box i. written a (form_of a box (names.FastRow f.dir i)) };
 
     fn number(&self) -> u8 {
         match self.dir {
@@ -47,7 +49,9 @@ impl Family for FastRow {
         into.set(Place::Bound, Frac::whole(0));
     }
 
-    ghost law = { λ f a box i x e h. at_points a box x _ h (λ t c. row_law a box t c (names.FastRow f.dir i) e) };
+    ghost unspent = { λ f a box i. written_unspent a (form_of a box (names.FastRow f.dir i)) };
+
+    ghost law = { λ f a box i x e h. at_written a box x (form_of a box (names.FastRow f.dir i)) h (λ t c. row_law a box t c (names.FastRow f.dir i) e) };
 }
 
 /// No run is longer than at the least speed.
@@ -63,7 +67,7 @@ impl Family for SlowRow {
 
     ghost exists = { λ f a i. HasRow a (names.SlowRow f.dir i) };
 
-    ghost form = { λ f a box i. form_of a box (names.SlowRow f.dir i) };
+    ghost sheet = { λ f a box i. written a (form_of a box (names.SlowRow f.dir i)) };
 
     fn number(&self) -> u8 {
         match self.dir {
@@ -83,5 +87,7 @@ impl Family for SlowRow {
         into.set(Place::Bound, Frac::whole(0));
     }
 
-    ghost law = { λ f a box i x e h. at_points a box x _ h (λ t c. row_law a box t c (names.SlowRow f.dir i) e) };
+    ghost unspent = { λ f a box i. written_unspent a (form_of a box (names.SlowRow f.dir i)) };
+
+    ghost law = { λ f a box i x e h. at_written a box x (form_of a box (names.SlowRow f.dir i)) h (λ t c. row_law a box t c (names.SlowRow f.dir i) e) };
 }

@@ -46,7 +46,7 @@ fn put_all(first: Frac, steps: &[Step]) -> Result<Frac, Wide>
 fn wait_at(artery: &Artery, point: &Point, dir: Dir, signal: u32) -> Frac
     requires first { 1 ≤ signal }
     requires last { signal ≤ count artery.now }
-    requires columns { length point.now.values.items ≡ width (count artery.now) }
+    requires columns { width (count artery.now) ≤ length point.now.values.items }
     ensures { result ≡ value_at (count artery.now) point.now.values.items (WaitOf dir signal) }
 {
     point.values[wait_column(artery, dir, signal) as usize]
@@ -56,7 +56,7 @@ fn wait_at(artery: &Artery, point: &Point, dir: Dir, signal: u32) -> Frac
 fn run_at(artery: &Artery, point: &Point, dir: Dir, link: u32) -> Frac
     requires first { 1 ≤ link }
     requires last { link < count artery.now }
-    requires columns { length point.now.values.items ≡ width (count artery.now) }
+    requires columns { width (count artery.now) ≤ length point.now.values.items }
     ensures { result ≡ value_at (count artery.now) point.now.values.items (RunOf dir link) }
 {
     point.values[run_column(artery, dir, link) as usize]
@@ -66,7 +66,7 @@ fn run_at(artery: &Artery, point: &Point, dir: Dir, link: u32) -> Frac
 fn shift_of(artery: &Artery, point: &Point, signal: u32) -> Frac
     requires first { 1 ≤ signal }
     requires last { signal ≤ count artery.now }
-    requires columns { length point.now.values.items ≡ width (count artery.now) }
+    requires columns { width (count artery.now) ≤ length point.now.values.items }
     ensures { result ≡ value_at (count artery.now) point.now.values.items (ShiftOf signal) }
 {
     point.values[shift_column(artery, signal) as usize]
@@ -78,7 +78,7 @@ fn shift_of(artery: &Artery, point: &Point, signal: u32) -> Frac
 pub fn block_sum(artery: &Artery, point: &Point, link: u32) -> Result<Frac, Wide>
     requires first { 1 ≤ link }
     requires last { link < count artery.now }
-    requires columns { length point.now.values.items ≡ width (count artery.now) }
+    requires columns { width (count artery.now) ≤ length point.now.values.items }
     ensures { result ≡ attempt (block_wide artery.now point.now.values.items link) (block_sum artery.now point.now.values.items link) }
 {
     let next = next_of(artery, link);

@@ -8,7 +8,9 @@ ghost use Rattle.linear_theory.specs.Shifts.{shift_at, shift_count};
 ghost use Rattle.linear_theory.specs.Names as names;
 ghost use Rattle.linear_theory.specs.Names.{HasRow, form_of};
 ghost use Rattle.linear_theory.proofs.NamedRows.{row_law};
-ghost use Rattle.loop_rows.specs.laws.Meeting.{at_points};
+ghost use Rattle.loop_rows.specs.laws.Meeting.{at_written};
+ghost use Rattle.loop_rows.specs.laws.Writing.{written_unspent};
+ghost use Rattle.loop_rows.specs.Writing.{written};
 
 use crate::columns::shift;
 use crate::family::{Family, Progression};
@@ -63,7 +65,7 @@ impl Family for TurnLowRow {
 
     ghost exists = { λ f a i. HasRow a (names.TurnLowRow i) };
 
-    ghost form = { λ f a box i. form_of a box (names.TurnLowRow i) };
+    ghost sheet = { λ f a box i. written a (form_of a box (names.TurnLowRow i)) };
 
     fn number(&self) -> u8 {
         16
@@ -80,7 +82,9 @@ impl Family for TurnLowRow {
         into.set(Place::Bound, shift_part(artery, index, rank).neg());
     }
 
-    ghost law = { λ f a box i x e h. at_points a box x _ h (λ t c. row_law a box t c (names.TurnLowRow i) e) };
+    ghost unspent = { λ f a box i. written_unspent a (form_of a box (names.TurnLowRow i)) };
+
+    ghost law = { λ f a box i x e h. at_written a box x (form_of a box (names.TurnLowRow i)) h (λ t c. row_law a box t c (names.TurnLowRow i) e) };
 }
 
 /// A signal's shift is at most that of the greatest rank.
@@ -94,7 +98,7 @@ impl Family for TurnHighRow {
 
     ghost exists = { λ f a i. HasRow a (names.TurnHighRow i) };
 
-    ghost form = { λ f a box i. form_of a box (names.TurnHighRow i) };
+    ghost sheet = { λ f a box i. written a (form_of a box (names.TurnHighRow i)) };
 
     fn number(&self) -> u8 {
         17
@@ -111,5 +115,7 @@ impl Family for TurnHighRow {
         into.set(Place::Bound, shift_part(artery, index, rank));
     }
 
-    ghost law = { λ f a box i x e h. at_points a box x _ h (λ t c. row_law a box t c (names.TurnHighRow i) e) };
+    ghost unspent = { λ f a box i. written_unspent a (form_of a box (names.TurnHighRow i)) };
+
+    ghost law = { λ f a box i x e h. at_written a box x (form_of a box (names.TurnHighRow i)) h (λ t c. row_law a box t c (names.TurnHighRow i) e) };
 }

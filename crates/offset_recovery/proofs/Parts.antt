@@ -1,5 +1,5 @@
 -- Numerators, and one step of the least common denominator.
-use Rattle.std.proofs.Common.{◌≡◌, ℕ, zero, suc, pos, ◌+◌, ◌/◌, ◌<◌, ◌≤◌, ◌^◌, List, Option, Some, None, Result, Ok, Err, refl, sym, ◌∙◌, ap, subst, arith, add-one}
+use Rattle.std.proofs.Common.{◌≡◌, ℕ, zero, suc, pos, ◌+◌, ◌/◌, ◌<◌, ◌≤◌, ◌^◌, List, length, Option, Some, None, Result, Ok, Err, refl, sym, ◌∙◌, ap, subst, arith, add-one}
 use native.Mathlib.Nat.{div-le_self}
 use Rattle.rational_theory.specs.Gcd.{gcd}
 use Rattle.std.specs.Prelude.{nat_le, ◌==◌, if◌then◌else◌, SomeIff, OnOk}
@@ -7,8 +7,7 @@ use Rattle.std.proofs.lemmas.Bool.Decides.{nat_tests}
 use Rattle.std.proofs.Common.{true, false}
 use Rattle.rational_theory.specs.Rational.{ℚ, over}
 use Rattle.narrow_fraction.specs.Attempt.{attempt, refusal_if}
-use Rattle.progression.specs.Street.{Street, count}
-use Rattle.linear_theory.specs.Places.{width}
+use Rattle.progression.specs.Street.{Street}
 use Rattle.recovery_theory.specs.Ticks.{in_parts, lcm, common, unit_of}
 use Rattle.offset_recovery.specs.declared.outcome.WideTiming.{WideTiming}
 use Rattle.offset_recovery.specs.declared.outcome.WideTiming.TheVariants as wide
@@ -67,7 +66,7 @@ with_none a x j c b e f h =
     fails (common a x (suc j)) (wide.Unit c b) w (λ l. h (subst (λ k. k < 2 ^ 80) (sym n) l)) (rw (e, f) refl) ∙ ap (λ k. attempt (unit_test a x j) (common a x k)) (sym (add-one j))
 
 -- ---- the unit
-pub unit_is : (a : Street) (x : List ℚ) (d n : ℕ) → d ≡ common a x n → n ≡ width (count a) → (if d == 1 then 2 else d) ≡ unit_of a x
+pub unit_is : (a : Street) (x : List ℚ) (d n : ℕ) → d ≡ common a x n → n ≡ length x → (if d == 1 then 2 else d) ≡ unit_of a x
 unfolding unit_of
 unit_is a x d n e f = rw (e, f) refl
 

@@ -1,5 +1,5 @@
 -- A column's ticks, from its product with the number of parts, and how many they are.
-use Rattle.std.proofs.Common.{◌≡◌, ℕ, ℤ, pos, negsuc, ◌+◌, ◌*◌, ◌/◌, ◌<◌, ◌≤◌, ◌^◌, List, sym, ◌∙◌, ap, arith, unsigned_abs}
+use Rattle.std.proofs.Common.{◌≡◌, ℕ, ℤ, pos, negsuc, ◌+◌, ◌*◌, ◌/◌, ◌<◌, ◌≤◌, ◌^◌, List, length, sym, ◌∙◌, ap, arith, unsigned_abs}
 use native.Mathlib.Nat.{mul-div_cancel, mul-le-mul_left}
 use borrow.Author.Differences.{up, down}
 use Rattle.rational_theory.specs.Rational.{ℚ, ◌≤ℚ◌}
@@ -19,9 +19,11 @@ divided u t d h e = ap (λ n. n / d) e ∙ mul-div_cancel t h
 
 pub ticks_are : (a : Street) (x : List ℚ) (j n d u : ℕ) → IsReady a x → j < width (count a) → n ≡ unsigned_abs (in_parts a x j).num → d ≡ (in_parts a x j).den → u ≡ unit_of a x → n * (u / d) ≡ ticks_in a x j
 ticks_are a x j n d u r l e f g =
-    let m = unit_multiple a x j l in
+    let c = r.columns in
+    let k : j < length x = omega arith in
+    let m = unit_multiple a x j k in
     let q = divided (unit_of a x) m.times (in_parts a x j).den (in_parts a x j).positive m.is in
-    rw (e, f, g) (ap (λ t. unsigned_abs (in_parts a x j).num * t) q ∙ sym (ticks_from_parts a x r.parts r.not_negative j l))
+    rw (e, f, g) (ap (λ t. unsigned_abs (in_parts a x j).num * t) q ∙ sym (ticks_from_parts a x r.parts r.not_negative j k))
 
 -- a number whose numerator is of at most so great a size
 sized : (z : ℤ) (d m : ℕ) → 0 < d → unsigned_abs z ≤ m → up z * 1 + 0 * d ≤ down z * 1 + m * d

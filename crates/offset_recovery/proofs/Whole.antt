@@ -13,8 +13,9 @@ use Rattle.linear_theory.specs.Blocks.{block_sum}
 use Rattle.linear_theory.specs.Boxes.{Area, IsBoxOf}
 use Rattle.linear_theory.specs.Counts.{IsStreet}
 use Rattle.recovery_theory.specs.Placing.{timing_of}
-use Rattle.recovery_theory.specs.Vertices.{IsVertex, IsWhole}
+use Rattle.recovery_theory.specs.Vertices.{IsVertex, IsLongVertex, IsWhole}
 use Rattle.recovery_theory.specs.Splitting.{is_whole_number, is_ranked, rank_below}
+use Rattle.recovery_theory.proofs.Kept.{long_vertex}
 use Rattle.recovery_theory.proofs.Inside.{loop_inside, turn_inside, block_is_whole, turn_is_ranked}
 use Rattle.search_box.specs.declared.span.At.{At}
 use Rattle.search_box.specs.declared.span.At.TheVariants.{Loop, Turn}
@@ -105,23 +106,26 @@ splits_from f None true q p h = cc
 splits_from f None false q p h = let e : q ≡ p = cc in (refl, e)
 splits_from f (Some w) b q p h = cc
 
-link_inside : (a : Street) (box : Area) (x : List ℚ) (i : ℕ) (p : At) → IsStreet a → IsBoxOf a box → IsVertex a box x → HasLink a i → link_test a x i ≡ Some (Splits p) → IsPlace box p
+link_inside : (a : Street) (box : Area) (x : List ℚ) (i : ℕ) (p : At) → IsStreet a → IsBoxOf a box → IsLongVertex a box x → HasLink a i → link_test a x i ≡ Some (Splits p) → IsPlace box p
 link_inside a box x i p h b v k e =
     let s = splits_from (λ w. wide.Sum i w) (block_wide a x i) (is_whole_number (block_sum a x i)) (Loop i (floor_ℚ (block_sum a x i))) p e in
     subst (IsPlace box) s.1 (loop_inside a box x h b v i k s.0)
 
-signal_inside : (a : Street) (box : Area) (x : List ℚ) (i : ℕ) (p : At) → IsStreet a → IsBoxOf a box → IsVertex a box x → HasSignal a i → signal_test a box x i ≡ Some (Splits p) → IsPlace box p
+signal_inside : (a : Street) (box : Area) (x : List ℚ) (i : ℕ) (p : At) → IsStreet a → IsBoxOf a box → IsLongVertex a box x → HasSignal a i → signal_test a box x i ≡ Some (Splits p) → IsPlace box p
 signal_inside a box x i p h b v k e =
     let s = splits_from (λ w. w) (product_test a x (place (count a) (ShiftOf i))) (is_ranked a box x i) (Turn i (rank_below a x i)) p e in
     subst (IsPlace box) s.1 (turn_inside a box x h b v i k s.0)
 
-pub place_inside : (a : Street) (box : Area) (x : List ℚ) (p : At) → IsStreet a → IsBoxOf a box → IsVertex a box x → box_tests a box x ≡ Some (Splits p) → IsPlace box p
-place_inside a box x p h b v e = elim (either (link_tests a x) (signal_tests a box x) (Splits p) e) [
+pub place_within : (a : Street) (box : Area) (x : List ℚ) (p : At) → IsStreet a → IsBoxOf a box → IsLongVertex a box x → box_tests a box x ≡ Some (Splits p) → IsPlace box p
+place_within a box x p h b v e = elim (either (link_tests a x) (signal_tests a box x) (Splits p) e) [
   | inl q ↦ let f = found (λ j. link_test a x (j + 1)) (count a - 1) (Splits p) q in
       let l = f.below in link_inside a box x (f.at + 1) p h b v (omega arith, omega arith) f.is
   | inr q ↦ let f = found (λ j. signal_test a box x (j + 1)) (count a) (Splits p) q in
       let l = f.below in signal_inside a box x (f.at + 1) p h b v (omega arith, omega arith) f.is
 ]
+
+pub place_inside : (a : Street) (box : Area) (x : List ℚ) (p : At) → IsStreet a → IsBoxOf a box → IsVertex a box x → box_tests a box x ≡ Some (Splits p) → IsPlace box p
+place_inside a box x p h b v e = place_within a box x p h b (long_vertex a box x v) e
 
 -- ---- what an outcome says
 -- no test of the box gives a timing

@@ -16,12 +16,12 @@ use Rattle.offset_recovery.specs.Tests.{product_test}
 
 -- each product with the number of parts fits
 abbrev pub ProductsFit : Street → List ℚ → Type 0
-ProductsFit a x = (j : ℕ) → j < width (count a) → product_test a x j ≡ None
+ProductsFit a x = (j : ℕ) → j < length x → product_test a x j ≡ None
 
 -- the vertex's columns, and how many ticks they have at most
 pub record IsReady (a : Street) (x : List ℚ) : Type 0 where
   pub parts : 0 < a.head.parts
-  pub columns : length x ≡ width (count a)
+  pub columns : width (count a) ≤ length x
   pub not_negative : AllNonNegative x
   pub products : ProductsFit a x
   pub unit : unit_of a x < 2 ^ 80

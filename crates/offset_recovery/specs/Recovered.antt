@@ -1,12 +1,12 @@
 -- The timing of a vertex, the place where it splits its box, or the first number that does not fit: the tests in their order.
-use Rattle.std.specs.Prelude.{ℕ, ◌+◌, ◌-◌, List, Option, option_map, unwrap_or}
+use Rattle.std.specs.Prelude.{ℕ, ◌+◌, ◌-◌, List, length, Option, option_map, unwrap_or}
 use Rattle.rational_theory.specs.Rational.{ℚ}
 use Rattle.narrow_fraction.specs.Attempt.{earlier, first_below}
 use Rattle.progression.specs.Street.{Street, count}
 use Rattle.progression.specs.Columns.{BandOf, Frequency, WaitOf, RunOf}
 use Rattle.progression.specs.declared.parts.Dir.{Dir}
 use Rattle.progression.specs.declared.parts.Dir.TheVariants.{Outbound, Inbound}
-use Rattle.linear_theory.specs.Places.{place, width}
+use Rattle.linear_theory.specs.Places.{place}
 use Rattle.linear_theory.specs.Boxes.{Area}
 use Rattle.recovery_theory.specs.Ticks.{unit_of, ticks_of}
 use Rattle.recovery_theory.specs.Placing.{pattern_at, first_out_of, red_of, first_in_of, timing_of}
@@ -28,7 +28,7 @@ box_tests a box x = earlier (link_tests a x) (signal_tests a box x)
 -- ---- numbers
 -- the products in order of the columns, then the least common multiple in the same order
 abbrev pub unit_tests : Street → List ℚ → Option WideTiming
-unit_tests a x = earlier (first_below (product_test a x) (width (count a))) (first_below (unit_test a x) (width (count a)))
+unit_tests a x = earlier (first_below (product_test a x) (length x)) (first_below (unit_test a x) (length x))
 
 -- the ticks of bands, frequency and runs, in order of the columns
 abbrev pub run_tests : Street → List ℚ → Dir → Option WideTiming

@@ -3,8 +3,6 @@
 ghost use Rattle.std.specs.Prelude.{◌≡◌, ◌==◌, if◌then◌else◌, ◌+◌, ◌/◌, ◌<◌, ◌≤◌, ◌^◌, ◌≤ℤ◌, nat_le, length, pos, suc, None, SomeIff, OnOk, unsigned_abs};
 ghost use Rattle.rational_theory.specs.Gcd.{gcd};
 ghost use Rattle.narrow_fraction.specs.Attempt.{attempt, refusal_if, first_below};
-ghost use Rattle.progression.specs.Street.{count};
-ghost use Rattle.linear_theory.specs.Places.{width};
 ghost use Rattle.recovery_theory.specs.Ticks.{lcm, common, in_parts, unit_of};
 ghost use Rattle.offset_recovery.specs.Tests.{product_test, unit_test};
 ghost use Rattle.offset_recovery.specs.Recovered.{unit_tests};
@@ -13,17 +11,24 @@ ghost use Rattle.offset_recovery.specs.Numbers.{ProductsFit};
 use crate::outcome::WideTiming;
 use crate::products::{in_parts, product};
 use artery_model::Artery;
-use loop_rows::column_count;
 use named_row::Point;
 use narrow_fraction::Frac;
 use time_space::LIMIT;
 
+/// How many columns a point has.
+fn column_count(point: &Point) -> u32
+    requires { length point.now.values.items < 2 ^ 32 }
+    ensures { result ≡ length point.now.values.items }
+{
+    point.values.len() as u32
+}
+
 /// Whether each column's product with the number of parts fits.
 fn check_products(artery: &Artery, point: &Point) -> Result<(), WideTiming>
-    requires { length point.now.values.items ≡ width (count artery.now) }
-    ensures { result ≡ attempt (first_below (product_test artery.now point.now.values.items) (width (count artery.now))) tt }
+    requires { length point.now.values.items < 2 ^ 32 }
+    ensures { result ≡ attempt (first_below (product_test artery.now point.now.values.items) (length point.now.values.items)) tt }
 {
-    for column in 0..column_count(artery) {
+    for column in 0..column_count(point) {
         product(artery, point, column)?;
     }
     Ok(())
@@ -95,13 +100,13 @@ fn two_or(number: u128) -> u128
 
 /// The ticks of a part: the least common denominator of all columns in parts, and 2 where that is 1.
 fn unit_of(artery: &Artery, point: &Point) -> Result<u128, WideTiming>
-    requires columns { length point.now.values.items ≡ width (count artery.now) }
+    requires few { length point.now.values.items < 2 ^ 32 }
     requires products { ProductsFit artery.now point.now.values.items }
-    ensures value { result ≡ attempt (first_below (unit_test artery.now point.now.values.items) (width (count artery.now))) (unit_of artery.now point.now.values.items) }
+    ensures value { result ≡ attempt (first_below (unit_test artery.now point.now.values.items) (length point.now.values.items)) (unit_of artery.now point.now.values.items) }
     ensures small { OnOk result (unit_of artery.now point.now.values.items < 2 ^ 80) }
 {
     let mut common = 1;
-    for column in 0..column_count(artery) {
+    for column in 0..column_count(point) {
         common = with_column(artery, point, common, column)?;
     }
     Ok(two_or(common))
@@ -109,7 +114,7 @@ fn unit_of(artery: &Artery, point: &Point) -> Result<u128, WideTiming>
 
 /// The ticks of a part, where the products with the number of parts and their least common denominator fit.
 pub fn unit(artery: &Artery, point: &Point) -> Result<u128, WideTiming>
-    requires { length point.now.values.items ≡ width (count artery.now) }
+    requires { length point.now.values.items < 2 ^ 32 }
     ensures value { result ≡ attempt (unit_tests artery.now point.now.values.items) (unit_of artery.now point.now.values.items) }
     ensures small { OnOk result (unit_of artery.now point.now.values.items < 2 ^ 80) }
     ensures products { OnOk result (ProductsFit artery.now point.now.values.items) }

@@ -1,13 +1,13 @@
 //! A vertex's timing, or where it splits its box.
 
-ghost use Rattle.std.specs.Prelude.{◌≡◌, ◌<◌, ◌≤◌, ◌^◌, None, IfOk, pos};
+ghost use Rattle.std.specs.Prelude.{◌≡◌, ◌<◌, ◌≤◌, ◌^◌, length, None, IfOk, pos};
 ghost use Rattle.progression.specs.Plan.{common_red};
 ghost use Rattle.progression.specs.Street.{count};
 ghost use Rattle.linear_theory.specs.Boxes.{IsBoxOf};
 ghost use Rattle.progression.specs.declared.parts.Dir.TheVariants.{Outbound, Inbound};
 ghost use Rattle.recovery_theory.specs.Ticks.{unit_of};
 ghost use Rattle.recovery_theory.specs.Placing.{timing_of};
-ghost use Rattle.recovery_theory.specs.Vertices.{IsVertex, IsWhole};
+ghost use Rattle.recovery_theory.specs.Vertices.{IsVertex, IsLongVertex, IsWhole};
 ghost use Rattle.offset_recovery.specs.Recovered.{recovered, column_tests, red_tests, placed_tests, number_tests, first_out_at, first_in_at};
 ghost use Rattle.offset_recovery.specs.Numbers.{IsReady, ProductsFit, patterns_at, runs_at, reds_at, reds_plan};
 ghost use Rattle.offset_recovery.specs.Answers.{Answers, IsOutcome, IsSound};
@@ -27,7 +27,7 @@ use time_space::Timing;
 
 /// What is known of a vertex's numbers where its unit fits.
 fn ready(artery: &Artery, area: &SearchBox, point: &Point)
-    requires vertex { IsVertex artery.now area.now point.now.values.items }
+    requires vertex { IsLongVertex artery.now area.now point.now.values.items }
     requires whole { IsWhole artery.now point.now.values.items }
     requires products { ProductsFit artery.now point.now.values.items }
     requires unit { unit_of artery.now point.now.values.items < 2 ^ 80 }
@@ -116,8 +116,9 @@ fn timing_of(
     area: &SearchBox,
     point: &Point,
 ) -> Result<Timing, RecoverFault>
-    requires vertex { IsVertex artery.now area.now point.now.values.items }
+    requires vertex { IsLongVertex artery.now area.now point.now.values.items }
     requires whole { IsWhole artery.now point.now.values.items }
+    requires few { length point.now.values.items < 2 ^ 32 }
     ensures { Answers (number_tests artery.now point.now.values.items) (λ t. t ≡ timing_of artery.now point.now.values.items) result }
 {
     let unit = unit(artery, point)?;
@@ -141,6 +142,24 @@ pub fn recover(
 ) -> Result<Recovered, RecoverFault>
     requires boxed { IsBoxOf artery.now area.now }
     requires vertex { IsVertex artery.now area.now point.now.values.items }
+    ensures outcome { IsOutcome (recovered artery.now area.now point.now.values.items) result }
+    ensures sound { IfOk result (λ found. IsSound artery.now area.now point.now.values.items found) }
+{
+    // its contract says that the artery is valid
+    artery.known_valid();
+    recover_long(alloc, artery, area, point)
+}
+
+/// The same of a vertex with values for further columns, of which no row speaks: they are whole ticks too.
+pub fn recover_long(
+    alloc: Global,
+    artery: &Artery,
+    area: &SearchBox,
+    point: &Point,
+) -> Result<Recovered, RecoverFault>
+    requires boxed { IsBoxOf artery.now area.now }
+    requires vertex { IsLongVertex artery.now area.now point.now.values.items }
+    requires few { length point.now.values.items < 2 ^ 32 }
     ensures outcome { IsOutcome (recovered artery.now area.now point.now.values.items) result }
     ensures sound { IfOk result (λ found. IsSound artery.now area.now point.now.values.items found) }
 {

@@ -21,9 +21,13 @@ fn head() -> Head {
     Head {
         name: None,
         units: Units::Metric,
+        version: 1,
         parts: 100,
         cycle: pair(60, 100),
         ratio: Frac::whole(1),
+        least_out: Frac::whole(0),
+        least_in: Frac::whole(0),
+        equal: false,
     }
 }
 

@@ -29,7 +29,7 @@ use Rattle.linear_theory.specs.Counts.{IsStreet}
 use Rattle.linear_theory.proofs.RankedShifts.{shifts_ascend, rising, rising_strictly}
 use Rattle.linear_theory.proofs.Ranges.{parts_above, some_signal}
 use Rattle.linear_theory.proofs.Divided.{number_not_negative}
-use Rattle.recovery_theory.specs.Vertices.{IsVertex, HasWholeBlock, HasRankedShift}
+use Rattle.recovery_theory.specs.Vertices.{IsLongVertex, HasWholeBlock, HasRankedShift}
 use Rattle.recovery_theory.specs.Splitting.{is_whole_number, has_rank, shift_of, is_ranked, last_below, rank_below}
 
 -- ---- whole numbers
@@ -132,7 +132,7 @@ last_in a i parts (suc n) h =
       | false ↦ last_before a i parts n (last_in a i parts n)
     ]
 
-module _ (a : Street) (box : Area) (x : List ℚ) (h : IsStreet a) (b : IsBoxOf a box) (v : IsVertex a box x) where
+module _ (a : Street) (box : Area) (x : List ℚ) (h : IsStreet a) (b : IsBoxOf a box) (v : IsLongVertex a box x) where
   module _ (i : ℕ) (k : HasLink a i) where
     -- the columns of a block sum stand in order
     in_order : (p m : ℚ) → InOrder (count a) 0 (block_entries i p m)

@@ -1,13 +1,12 @@
 -- The unit is a multiple of every column's denominator, in parts.
-use Rattle.std.proofs.Common.{◌≡◌, ℕ, zero, suc, ◌*◌, ◌/◌, ◌<◌, ◌≤◌, ◌⊎◌, inl, inr, List, true, false, refl, sym, ◌∙◌, ap, subst, arith, mul-pos}
+use Rattle.std.proofs.Common.{◌≡◌, ℕ, zero, suc, ◌*◌, ◌/◌, ◌<◌, ◌≤◌, ◌⊎◌, inl, inr, List, length, true, false, refl, sym, ◌∙◌, ap, subst, arith, mul-pos}
 use Rattle.std.specs.Prelude.{if◌then◌else◌, ◌==◌}
 use Rattle.std.proofs.lemmas.Bool.Decides.{nat_tests}
 use Rattle.rational_theory.specs.Gcd.{gcd}
 use Rattle.rational_theory.specs.Rational.{ℚ}
 use Rattle.rational_theory.specs.laws.Fractions.{times_part}
 use Rattle.rational_theory.proofs.Fractions.{first_part_pos}
-use Rattle.progression.specs.Street.{Street, count}
-use Rattle.linear_theory.specs.Places.{width}
+use Rattle.progression.specs.Street.{Street}
 use Rattle.recovery_theory.specs.Ticks.{in_parts, lcm, common, unit_of}
 
 -- n is a whole number of times d
@@ -58,8 +57,8 @@ module _ (a : Street) (x : List ℚ) where
 
   pub unit_least : 2 ≤ unit_of a x
   unfolding unit_of
-  unit_least = (two_or (common a x (width (count a))) (common_above (width (count a)))).0
+  unit_least = (two_or (common a x (length x)) (common_above (length x))).0
 
-  pub unit_multiple : (j : ℕ) → j < width (count a) → IsMultiple (unit_of a x) (in_parts a x j).den
+  pub unit_multiple : (j : ℕ) → j < length x → IsMultiple (unit_of a x) (in_parts a x j).den
   unfolding unit_of
-  unit_multiple j h = multiple_on (two_or (common a x (width (count a))) (common_above (width (count a)))).1 (common_multiple j (width (count a)) h)
+  unit_multiple j h = multiple_on (two_or (common a x (length x)) (common_above (length x))).1 (common_multiple j (length x) h)

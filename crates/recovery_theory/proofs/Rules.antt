@@ -34,7 +34,7 @@ use Rattle.linear_theory.proofs.Divided.{number_above, inverse_not_negative, num
 use Rattle.linear_theory.proofs.Windows.{window_after, window_before}
 use Rattle.recovery_theory.specs.Ticks.{unit_of, ticks_of}
 use Rattle.recovery_theory.specs.Placing.{pattern_at, timing_of}
-use Rattle.recovery_theory.specs.Vertices.{IsVertex, IsWhole, goal_at}
+use Rattle.recovery_theory.specs.Vertices.{IsLongVertex, IsWhole, goal_at}
 use Rattle.recovery_theory.proofs.Multiples.{unit_least}
 use Rattle.recovery_theory.proofs.Placed.{is_plan}
 use Rattle.recovery_theory.proofs.Ticked.{some_cycle, wait_ticks}
@@ -49,7 +49,7 @@ product_least r u h k = grind arith
 product_below : (r p u : ℕ) → r < p → 2 ≤ u → r * u < p * u
 product_below r p u h k = grind arith
 
-module _ (a : Street) (box : Area) (x : List ℚ) (h : IsStreet a) (v : IsVertex a box x) (w : IsWhole a x) where
+module _ (a : Street) (box : Area) (x : List ℚ) (h : IsStreet a) (v : IsLongVertex a box x) (w : IsWhole a x) where
   abbrev timing : Plan
   timing = timing_of a x
 

@@ -1,5 +1,5 @@
 -- The point of a vertex's timing has the vertex's value in every column.
-use Rattle.std.proofs.Common.{◌≡◌, ℕ, pos, ◌+◌, ◌*◌, ◌<◌, List, [], ◌∷◌, refl, sym, ◌∙◌, ap, ap₂, subst, arith, unsigned_abs, mul-pos, IsTrue}
+use Rattle.std.proofs.Common.{◌≡◌, ℕ, pos, ◌+◌, ◌*◌, ◌<◌, List, [], ◌∷◌, length, refl, sym, ◌∙◌, ap, ap₂, subst, arith, unsigned_abs, mul-pos, IsTrue}
 use Rattle.rational_theory.specs.Rational.{ℚ, ◌+ℚ◌, ◌*ℚ◌, ◌≤ℚ◌}
 use Rattle.rational_theory.specs.Floor.{floor_ℚ}
 use Rattle.rational_theory.specs.Rows.{dot, IsMet}
@@ -20,7 +20,7 @@ use Rattle.linear_theory.proofs.Ranges.{parts_above, some_signal}
 use Rattle.linear_theory.proofs.RankedShifts.{Has}
 use Rattle.recovery_theory.specs.Ticks.{in_parts, unit_of, ticks_of}
 use Rattle.recovery_theory.specs.Placing.{shift_parts, pattern_at, timing_of}
-use Rattle.recovery_theory.specs.Vertices.{IsVertex, IsWhole}
+use Rattle.recovery_theory.specs.Vertices.{IsLongVertex, IsWhole}
 use Rattle.recovery_theory.proofs.Multiples.{unit_least, unit_multiple}
 use Rattle.recovery_theory.proofs.Wholes.{floor_whole, ticks_from_parts}
 use Rattle.recovery_theory.proofs.Placed.{run_is, pattern_is}
@@ -28,7 +28,7 @@ use Rattle.recovery_theory.proofs.Waits.{turned_mod, out_turned, in_turned}
 use Rattle.recovery_theory.proofs.Fitting.{fitting_allowed, fitting_shift}
 use Rattle.recovery_theory.proofs.Ticked.{num_whole, den_whole, some_cycle, column_is, block_ticks, wait_ticks}
 
-module _ (a : Street) (box : Area) (x : List ℚ) (h : IsStreet a) (v : IsVertex a box x) (w : IsWhole a x) where
+module _ (a : Street) (box : Area) (x : List ℚ) (h : IsStreet a) (v : IsLongVertex a box x) (w : IsWhole a x) where
   abbrev pub timing : Plan
   timing = timing_of a x
 
@@ -56,7 +56,8 @@ module _ (a : Street) (box : Area) (x : List ℚ) (h : IsStreet a) (v : IsVertex
   shift_ticks : (i : ℕ) → HasSignal a i → ticks_of a x (ShiftOf i) ≡ shift a timing i * unit_of a x
   shift_ticks i s =
       let j = place (count a) (ShiftOf i) in
-      let l = place_below (count a) (ShiftOf i) (some_signal a h) s in
+      let below = place_below (count a) (ShiftOf i) (some_signal a h) s in
+      let l : place (count a) (ShiftOf i) < length x = omega (arith, below, v.columns) in
       let k = shift_at a i (w.shifts i s).rank in
       let m = unit_multiple a x j l in
       let top : unsigned_abs (in_parts a x j).num ≡ k = ap (λ (y : ℚ). unsigned_abs y.num) (w.shifts i s).is ∙ ap unsigned_abs (num_whole (pos k)) in

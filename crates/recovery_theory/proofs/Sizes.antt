@@ -15,7 +15,7 @@ use Rattle.linear_theory.specs.Counts.{IsStreet}
 use Rattle.linear_theory.proofs.Divided.{number_not_negative}
 use Rattle.recovery_theory.specs.Ticks.{unit_of, ticks_of}
 use Rattle.recovery_theory.specs.Placing.{pattern_at, timing_of}
-use Rattle.recovery_theory.specs.Vertices.{IsVertex, IsWhole}
+use Rattle.recovery_theory.specs.Vertices.{IsLongVertex, IsWhole}
 use Rattle.recovery_theory.proofs.Multiples.{unit_least}
 use Rattle.recovery_theory.proofs.Placed.{run_is}
 use Rattle.recovery_theory.proofs.Ticked.{wait_ticks}
@@ -24,7 +24,7 @@ use Rattle.recovery_theory.proofs.Rules.{timing_good}
 number-≤ : (m n : ℕ) → number m ≤ℚ number n → m ≤ n
 number-≤ m n h = let e = ≤ℤ_whole (pos m) (pos n) h in omega (arith, ints)
 
-module _ (a : Street) (box : Area) (x : List ℚ) (h : IsStreet a) (v : IsVertex a box x) where
+module _ (a : Street) (box : Area) (x : List ℚ) (h : IsStreet a) (v : IsLongVertex a box x) where
   -- a wait and a band are shorter than the cycle
   pub wait_less : (d : Dir) (i : ℕ) → HasSignal a i → ticks_of a x (WaitOf d i) < a.head.parts * unit_of a x
   wait_less d i s =

@@ -24,7 +24,7 @@ use Rattle.linear_theory.specs.Counts.{IsStreet}
 use Rattle.linear_theory.proofs.Shares.{quotient_ratio}
 use Rattle.linear_theory.proofs.Ranges.{parts_above, some_signal}
 use Rattle.recovery_theory.specs.Ticks.{unit_of, ticks_of}
-use Rattle.recovery_theory.specs.Vertices.{IsVertex, HasWholeBlock}
+use Rattle.recovery_theory.specs.Vertices.{IsLongVertex, HasWholeBlock}
 use Rattle.recovery_theory.proofs.Multiples.{unit_least}
 use Rattle.recovery_theory.proofs.Wholes.{value_is}
 use Rattle.recovery_theory.proofs.Waits.{WholeTicks}
@@ -51,7 +51,7 @@ pub den_whole : (z : ℤ) → (whole z).den ≡ 1
 unfolding whole
 den_whole z = refl
 
-module _ (a : Street) (box : Area) (x : List ℚ) (h : IsStreet a) (v : IsVertex a box x) where
+module _ (a : Street) (box : Area) (x : List ℚ) (h : IsStreet a) (v : IsLongVertex a box x) where
   abbrev cycle_of : ℕ
   cycle_of = a.head.parts * unit_of a x
 
@@ -60,7 +60,7 @@ module _ (a : Street) (box : Area) (x : List ℚ) (h : IsStreet a) (v : IsVertex
 
   -- each column is its ticks over the cycle
   pub column_is : (c : Column) → IsColumn (count a) c → value_at (count a) x c ≡ number (ticks_of a x c) /ℚ number cycle_of
-  column_is c k = value_is a x (parts_above a h) v.not_negative (place (count a) c) (place_below (count a) c (some_signal a h) k)
+  column_is c k = value_is a x (parts_above a h) v.not_negative (place (count a) c) (let l = place_below (count a) c (some_signal a h) k in omega (arith, l, v.columns))
 
   column_ratio : (c : Column) → IsColumn (count a) c → IsRatio (value_at (count a) x c) (ticks_of a x c) 0 cycle_of
   column_ratio c k = rw (column_is c k) (quotient_ratio (ticks_of a x c) cycle_of some_cycle)

@@ -1,5 +1,5 @@
 -- Each column of a point is its whole ticks over the cycle.
-use Rattle.std.proofs.Common.{◌≡◌, ℕ, zero, suc, ℤ, pos, negsuc, ◌*◌, ◌<◌, ◌≤◌, List, [], ◌∷◌, refl, sym, ◌∙◌, ap, arith, mul-pos, unsigned_abs}
+use Rattle.std.proofs.Common.{◌≡◌, ℕ, zero, suc, ℤ, pos, negsuc, ◌*◌, ◌<◌, ◌≤◌, List, [], ◌∷◌, length, refl, sym, ◌∙◌, ap, arith, mul-pos, unsigned_abs}
 use Rattle.std.proofs.lemmas.Int.{ints}
 use borrow.Author.Differences.{up, down}
 use Rattle.rational_theory.specs.Rational.{ℚ, whole, ◌*ℚ◌, ◌/ℚ◌, ◌≤ℚ◌}
@@ -10,9 +10,8 @@ use Rattle.rational_theory.proofs.Floor.{floor_is}
 use Rattle.rational_theory.proofs.Linear.{product_not_negative}
 use Rattle.rational_theory.specs.Rows.{AllNonNegative}
 use Rattle.rational_theory.proofs.Shares.{quotient_times}
-use Rattle.progression.specs.Street.{Street, count}
+use Rattle.progression.specs.Street.{Street}
 use Rattle.progression.specs.Speeds.{number}
-use Rattle.linear_theory.specs.Places.{width}
 use Rattle.linear_theory.proofs.Divided.{number_not_negative}
 use Rattle.recovery_theory.specs.Ticks.{value_in, in_parts, unit_of, ticks_in}
 use Rattle.recovery_theory.proofs.Multiples.{unit_least, unit_multiple}
@@ -54,7 +53,7 @@ whole_times v p u m h e =
     let both : number (p * u) ≡ number p *ℚ number u = same_ratio _ _ _ _ _ _ _ _ (whole_ratio (pos (p * u))) (product_ratio _ _ _ _ _ _ _ _ (whole_ratio (pos p)) (whole_ratio (pos u))) (omega arith) in
     ap (λ t. v *ℚ t) both ∙ sym (*ℚ_assoc v (number p) (number u)) ∙ times_multiple (v *ℚ number p) u m (product_not_negative _ _ h (number_not_negative p)) e
 
-module _ (a : Street) (x : List ℚ) (p : 0 < a.head.parts) (h : AllNonNegative x) (j : ℕ) (l : j < width (count a)) where
+module _ (a : Street) (x : List ℚ) (p : 0 < a.head.parts) (h : AllNonNegative x) (j : ℕ) (l : j < length x) where
   -- a column's ticks, from its product with the parts
   pub ticks_from_parts : ticks_in a x j ≡ unsigned_abs (in_parts a x j).num * (unit_multiple a x j l).times
   unfolding ticks_in

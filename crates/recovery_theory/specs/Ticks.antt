@@ -1,12 +1,12 @@
 -- From the fractions of a point to whole ticks: the columns in parts, their least common denominator, and each column's ticks.
-use Rattle.std.specs.Prelude.{ℕ, zero, suc, ◌*◌, ◌/◌, ◌==◌, List, slice_index_or, unsigned_abs, if◌then◌else◌}
+use Rattle.std.specs.Prelude.{ℕ, zero, suc, ◌*◌, ◌/◌, ◌==◌, List, length, slice_index_or, unsigned_abs, if◌then◌else◌}
 use Rattle.rational_theory.specs.Gcd.{gcd}
 use Rattle.rational_theory.specs.Rational.{ℚ, ◌*ℚ◌}
 use Rattle.rational_theory.specs.Floor.{floor_ℚ}
 use Rattle.progression.specs.Street.{Street, count}
 use Rattle.progression.specs.Speeds.{number}
 use Rattle.progression.specs.Columns.{Column}
-use Rattle.linear_theory.specs.Places.{place, width}
+use Rattle.linear_theory.specs.Places.{place}
 
 -- the value in the j-th column, from 0, and its product with the number of parts
 abbrev pub value_in : List ℚ → ℕ → ℚ
@@ -26,7 +26,7 @@ common a x (suc j) = lcm (common a x j) (in_parts a x j).den
 
 -- the ticks of a part: the least common denominator of all columns in parts, and 2 where that is 1
 unfoldable pub unit_of : Street → List ℚ → ℕ
-unit_of a x = let d = common a x (width (count a)) in if d == 1 then 2 else d
+unit_of a x = let d = common a x (length x) in if d == 1 then 2 else d
 
 -- the ticks of the j-th column: its value times the cycle, which is whole
 unfoldable pub ticks_in : Street → List ℚ → ℕ → ℕ

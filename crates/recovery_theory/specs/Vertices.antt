@@ -1,5 +1,5 @@
 -- Vertices of a box: points that meet the box's rows.
-use Rattle.std.specs.Prelude.{◌≡◌, ◌<◌, ℕ, List, length, ℤ}
+use Rattle.std.specs.Prelude.{◌≡◌, ◌<◌, ◌≤◌, ℕ, List, length, ℤ}
 use Rattle.rational_theory.specs.Rational.{ℚ, whole}
 use Rattle.rational_theory.specs.Rows.{dot, IsMet, AllNonNegative}
 use Rattle.progression.specs.Street.{Street, count, HasSignal, HasLink}
@@ -16,6 +16,12 @@ use Rattle.recovery_theory.specs.Ticks.{in_parts}
 -- a value for each column, none below 0, which meet each row that the artery has for the box
 pub record IsVertex (a : Street) (box : Area) (x : List ℚ) : Type 0 where
   pub columns : length x ≡ width (count a)
+  pub not_negative : AllNonNegative x
+  pub rows : (n : Name) → HasRow a n → IsMet x (line a (form_of a box n))
+
+-- the same, with values for further columns maybe, of which no row speaks
+pub record IsLongVertex (a : Street) (box : Area) (x : List ℚ) : Type 0 where
+  pub columns : width (count a) ≤ length x
   pub not_negative : AllNonNegative x
   pub rows : (n : Name) → HasRow a n → IsMet x (line a (form_of a box n))
 

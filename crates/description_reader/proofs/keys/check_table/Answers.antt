@@ -6,5 +6,5 @@ use Rattle.description_reader.proofs.keys.check_table.Goals as goal
 
 pub loop-key-init : goal.loop-key-init
 loop-key-init c =
-    ap (λ names. first_fault (map (unknown_fault c.args.links c.args.section) names))
+    ap (λ names. first_fault (map (unknown_fault c.args.facts c.args.section) names))
     (keys_of_view c.args.table.now.entries ∙ ap (map string_bytes) (sym (c.into_iter-key-iterator.ensures.into_iter_gives ∙ c.keys-key-items.ensures.rest)))

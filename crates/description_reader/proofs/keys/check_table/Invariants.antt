@@ -8,5 +8,5 @@ use Rattle.description_reader.proofs.keys.check_table.Given as goal
 -- the keys so far are known
 abbrev pub invariant-loop-key : goal.invariant-loop-key
 invariant-loop-key l =
-    first_fault (map (unknown_fault l.links l.section) (keys_of_members (table_view l.table)))
-    ≡ first_fault (map (unknown_fault l.links l.section) (map string_bytes l.key-iterator))
+    first_fault (map (unknown_fault l.facts l.section) (keys_of_members (table_view l.table)))
+    ≡ first_fault (map (unknown_fault l.facts l.section) (map string_bytes l.key-iterator))

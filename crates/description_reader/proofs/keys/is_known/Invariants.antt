@@ -8,5 +8,5 @@ use Rattle.description_reader.proofs.keys.is_known.Given as goal
 -- the key is none of those so far
 abbrev pub invariant-loop-entry : goal.invariant-loop-entry
 invariant-loop-entry l =
-    is_known l.links l.section l.name
-    ≡ list_any (λ k. is_text l.name k.name && may_stand l.links l.section k.presence) (map key_of (drop l.entry-index l.entry-items))
+    is_known l.facts l.section l.name
+    ≡ list_any (λ k. is_text l.name k.name && may_stand l.facts.links l.section k.presence) (map key_of (drop l.entry-index l.entry-items))
