@@ -12,7 +12,7 @@ use Rattle.named_row.specs.Sheets.{Sheet, blank}
 use Rattle.named_row.specs.declared.names.Place.{Place}
 use Rattle.named_row.specs.declared.leaves.Weight.{Weight}
 use Rattle.loop_rows.specs.Writing.{written}
-use Rattle.loop_rows.specs.Weights.{named, after_weight, weights_fault, leaf_fault, leaf_total, IsFirstFault}
+use Rattle.loop_rows.specs.Weights.{named, after_weight, weights_fault, fault_of, leaf_fault, leaf_total, IsFirstFault}
 use Rattle.loop_rows.specs.declared.fault.SumFault.{SumFault}
 use Rattle.loop_rows.specs.declared.fault.SumFault.TheVariants as fault
 use Rattle.loop_rows.proofs.LeafSums.{no_fault, fault_free, total_weights}
@@ -57,7 +57,7 @@ fault_out a box sum (w ∷ ws) h k =
     ap₂ earlier (fault_free a box sum w (record { there = h.0; positive = h.1; fits = k.0 })) (fault_out a box (after_weight a box sum w) ws h.2 k.1)
 
 pub proof_in : (a : Street) (limit : Option ℚ) (box : Area) (leaf : ℕ) (ws : List Weight) → leaf_refusal a limit box leaf ws ≡ None → IsProof a limit box ws
-unfolding leaf_refusal leaf_fault
+unfolding leaf_refusal fault_of
 proof_in a limit box leaf ws e =
     let p = neither _ _ e in
     let none = map_none (reject_of leaf) (leaf_fault a box ws) p.0 in
@@ -68,5 +68,5 @@ proof_in a limit box leaf ws e =
     }
 
 pub proof_out : (a : Street) (limit : Option ℚ) (box : Area) (leaf : ℕ) (ws : List Weight) → IsProof a limit box ws → leaf_refusal a limit box leaf ws ≡ None
-unfolding leaf_fault
+unfolding fault_of
 proof_out a limit box leaf ws h = leaf_right a limit box leaf ws (fault_out a box (blank (width (count a))) ws h.rows h.fits) (shown_out a box ws limit h.shows)
