@@ -13,7 +13,7 @@ use Rattle.named_row.specs.Refusals.{sum_refusal}
 use Rattle.named_row.specs.declared.leaves.Weight.{Weight}
 use Rattle.named_row.specs.declared.wide_at.WideAt.{WideAt}
 use Rattle.loop_rows.proofs.RowTests.{row_decided}
-use Rattle.loop_rows.specs.Weights.{named, name_at, row_at, after_weight, weight_fault, weights_fault, leaf_fault}
+use Rattle.loop_rows.specs.Weights.{named, name_at, row_at, after_weight, weight_fault, weights_fault, leaf_fault, fault_of, artery_rows}
 use Rattle.loop_rows.specs.declared.fault.SumFault.{SumFault}
 use Rattle.loop_rows.specs.declared.fault.SumFault.TheVariants.{NoSuchRow, Negative, Wide, Memory}
 use Rattle.loop_rows.proofs.LeafSums.{no_fault, not_below, row_wide, fault_free, total_weights}
@@ -32,7 +32,7 @@ one_wide a box sum w ws h f e = pick (sum_refusal w.by (row_at a box w.row) sum)
     pick : (o : Option WideAt) → sum_refusal w.by (row_at a box w.row) sum ≡ o → IsWideFault f
     pick None r = let q = fault_free a box sum w (record { there = h.0; positive = h.1; fits = r }) in some_not_none (sym e ∙ q)
     pick (Some at) r =
-        let q = row_wide a box sum w _ (row_decided a (name_at w.row)) ((row_decided a (name_at w.row)).1 h.0) (not_below w.by _ h.1) at r in
+        let q = row_wide (artery_rows a box) sum w _ refl ((row_decided a (name_at w.row)).1 h.0) (not_below w.by _ h.1) at r in
         subst IsWideFault (some_same (Wide w.row at) f (sym q ∙ e)) tt
 
 wide_along : (a : Street) (box : Area) (sum : Sheet) (ws : List Weight) → AreWeights a (map named ws) → (f : SumFault) → weights_fault a box sum ws ≡ Some f → IsWideFault f
@@ -45,7 +45,7 @@ wide_along a box sum (w ∷ ws) h f e = pick (weight_fault a box sum w) refl e (
     pick (Some g) r k again = one_wide a box sum w ws h f (r ∙ k)
 
 pub only_wide : (a : Street) (box : Area) (ws : List Weight) → AreWeights a (map named ws) → (f : SumFault) → leaf_fault a box ws ≡ Some f → IsWideFault f
-unfolding leaf_fault
+unfolding fault_of
 only_wide a box ws h f e = wide_along a box (blank (width (count a))) ws h f e
 
 fits_in : (a : Street) (box : Area) (sum : Sheet) (ws : List Weight) → weights_fault a box sum ws ≡ None → FitsAlong a box sum ws
@@ -59,10 +59,10 @@ fault_none a box sum (w ∷ ws) h f =
     ∙ fault_none a box (after_weight a box sum w) ws h.2 f.1
 
 pub proof_of : (a : Street) (limit : Option ℚ) (box : Area) (ws : List Weight) → leaf_fault a box ws ≡ None → Shows a limit (leaf_sum a box (map named ws)) → IsProof a limit box ws
-unfolding leaf_fault
+unfolding fault_of
 proof_of a limit box ws e s = record { rows = total_weights a box ws e; fits = fits_in a box (blank (width (count a))) ws e; shows = s }
 
 -- and back: no operation of a proof's sum is refused
 pub proof_free : (a : Street) (limit : Option ℚ) (box : Area) (ws : List Weight) → IsProof a limit box ws → leaf_fault a box ws ≡ None
-unfolding leaf_fault
+unfolding fault_of
 proof_free a limit box ws p = fault_none a box (blank (width (count a))) ws p.rows p.fits

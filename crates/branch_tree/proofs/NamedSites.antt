@@ -32,7 +32,7 @@ use Rattle.loop_rows.specs.Totals.{block_wide}
 use Rattle.loop_rows.specs.RowTests.{has_row}
 use Rattle.loop_rows.proofs.RowTests.{row_decided}
 use Rattle.loop_rows.proofs.Writing.{written_width}
-use Rattle.loop_rows.specs.Weights.{name_at, row_at, after_weight, wide_fault, weight_fault, weights_fault, leaf_fault}
+use Rattle.loop_rows.specs.Weights.{name_at, row_at, after_weight, wide_fault, weight_fault, weights_fault, leaf_fault, fault_of, fault_with, with_weight}
 use Rattle.loop_rows.specs.declared.fault.SumFault.{SumFault}
 use Rattle.loop_rows.specs.declared.fault.SumFault.TheVariants as fault
 use Rattle.recovery_theory.specs.Placing.{timing_of}
@@ -135,7 +135,7 @@ scale_length k (x ∷ xs) = ap suc (scale_length k xs)
 
 module _ (a : Street) (box : Area) where
   after_length : (sum : Sheet) (w : Weight) → length sum.coefs ≡ width (count a) → length (after_weight a box sum w).coefs ≡ width (count a)
-  unfolding after_weight with_times
+  unfolding with_weight with_times
   after_length sum w e = add_length sum.coefs (scale w.by (row_at a box w.row).coefs) (scale_length w.by (row_at a box w.row).coefs ∙ written_width a (form_of a box (name_at w.row)) ∙ sym e) ∙ e
 
   abbrev IsPlaced : WideAt → Type 0
@@ -167,7 +167,7 @@ module _ (a : Street) (box : Area) where
   wide_named row h (Some w) k = each_some IsNamedFault (fault.Wide row w) (h, k w refl)
 
   weight_named : (sum : Sheet) (w : Weight) → length sum.coefs ≡ width (count a) → Each IsNamedFault (weight_fault a box sum w)
-  unfolding weight_fault
+  unfolding fault_with
   weight_named sum w e = pick (has_row a (name_at w.row)) refl
     where
       rest : Option SumFault
@@ -184,7 +184,7 @@ module _ (a : Street) (box : Area) where
   weights_named sum (w ∷ ws) e = each_earlier IsNamedFault (weight_fault a box sum w) _ (weight_named sum w e) (weights_named (after_weight a box sum w) ws (after_length sum w e))
 
   leaf_named : (ws : List Weight) → Each IsNamedFault (leaf_fault a box ws)
-  unfolding leaf_fault blank
+  unfolding fault_of blank
   leaf_named ws = weights_named (blank (width (count a))) ws (length-replicate (width (count a)) _)
 
   sum_named : (o : Option SumFault) → Each IsNamedFault o → Each (IsPartOf a) (sum_refusal (program_of a) o)

@@ -23,7 +23,7 @@ use Rattle.named_row.specs.declared.names.Place.TheVariants.{Cell, Bound}
 use Rattle.named_row.specs.declared.leaves.Weight.{Weight}
 use Rattle.loop_rows.specs.Writing.{written}
 use Rattle.loop_rows.proofs.Writing.{written_row}
-use Rattle.loop_rows.specs.Weights.{after_weight, weights_fault, leaf_fault}
+use Rattle.loop_rows.specs.Weights.{after_weight, weights_fault, leaf_fault, fault_of, with_weight}
 use Rattle.loop_rows.proofs.LeafSums.{fault_free}
 use Rattle.simplex_theory.proofs.Signs.{one_positive}
 use Rattle.simplex_theory.proofs.Lines.{get_or-add, get_or-scale}
@@ -112,7 +112,7 @@ module _ (a : Street) (v : IsValid a) where
       rw f refl
 
   second_added : (box : Area) → weights_fault a box (blank (width (count a))) (first_weight ∷ second_weight ∷ []) ≡ None
-  unfolding after_weight
+  unfolding with_weight
   second_added box =
       let r = sum_none 100000 100000 100000 (number 1) (written a (wait_form a Outbound 1)) (blank (width (count a))) small_once (small_row Outbound signal_one) (small_blank (width (count a))) (omega arith) (omega arith) in
       let f = fault_free a box (blank (width (count a))) first_weight (record { there = signal_one; positive = one_positive; fits = r }) in
@@ -121,7 +121,7 @@ module _ (a : Street) (v : IsValid a) where
       rw (f, g) refl
 
   pub start_fits : (box : Area) → leaf_fault a box (start_leaf a) ≡ None
-  unfolding leaf_fault
+  unfolding fault_of
   start_fits box = pick (eq_by_cmp cmp_ℚ a.head.ratio (number 0))
     where
       pick : (b : Bool) → weights_fault a box (blank (width (count a))) (first_weight ∷ cond b [] (second_weight ∷ [])) ≡ None

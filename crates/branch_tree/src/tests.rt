@@ -39,14 +39,27 @@ pub(crate) fn signal(alloc: Global, name: &str, red: u32) -> Result<Signal, Fail
     })
 }
 
-pub(crate) fn artery(alloc: Global, red: u32, distance: u32) -> Result<Artery, Fail> {
-    let head = Head {
+/// What a description of version 1 says of the whole street.
+fn head() -> Head {
+    Head {
         name: None,
         units: Units::Metric,
+        version: 1,
         parts: 100,
         cycle: pair(100),
         ratio: Frac::whole(1),
-    };
+        least_out: Frac::whole(0),
+        least_in: Frac::whole(0),
+        equal: false,
+    }
+}
+
+pub(crate) fn artery(alloc: Global, red: u32, distance: u32) -> Result<Artery, Fail> {
+    artery_of(alloc, head(), red, distance)
+}
+
+/// The artery with this head.
+fn artery_of(alloc: Global, head: Head, red: u32, distance: u32) -> Result<Artery, Fail> {
     let signals = vec![in alloc; signal(alloc, "A", red)?, signal(alloc, "B", red)?]?;
     let links = vec![in alloc;
         Link {
@@ -134,6 +147,47 @@ fn a_shared_green_is_best(rt: HostRuntime) -> Result<(), Fail> {
     assert!(rt; band(&artery, &found) == half);
     assert!(rt; found.spent == 15);
     assert!(rt; found.nodes.len() == 3);
+    assert!(rt; is_accepted(alloc, &artery, &found));
+    Ok(())
+}
+
+/// The bands that share a green have to be equal: a quarter of the cycle each.
+#[test]
+fn equal_bands_are_best(rt: HostRuntime) -> Result<(), Fail> {
+    let alloc = rt.alloc();
+    let cases = [(1, fraction(1, 2)?), (2, fraction(3, 4)?)];
+    for (ratio, best) in cases {
+        let asked = Head {
+            version: 2,
+            ratio: Frac::whole(ratio),
+            equal: true,
+            ..head()
+        };
+        let artery = artery_of(alloc, asked, 50, 250)?;
+        let found = searched(alloc, &artery, 1000)?;
+        assert!(rt; is_best(&found));
+        assert!(rt; found.bound == best);
+        assert!(rt; band(&artery, &found) == best);
+        assert!(rt; is_accepted(alloc, &artery, &found));
+    }
+    Ok(())
+}
+
+/// Each band is asked to be three tenths of the cycle, which is more than they share.
+#[test]
+fn least_bands_leave_no_timing(rt: HostRuntime) -> Result<(), Fail> {
+    let alloc = rt.alloc();
+    let least = fraction(3, 10)?;
+    let asked = Head {
+        version: 2,
+        least_out: least,
+        least_in: least,
+        ..head()
+    };
+    let artery = artery_of(alloc, asked, 50, 250)?;
+    let found = searched(alloc, &artery, 1000)?;
+    assert!(rt; is_none(&found));
+    assert!(rt; found.timing.is_none());
     assert!(rt; is_accepted(alloc, &artery, &found));
     Ok(())
 }

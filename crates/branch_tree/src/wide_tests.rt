@@ -40,9 +40,13 @@ fn street(alloc: Global) -> Result<Artery, Fail> {
     let head = Head {
         name: None,
         units: Units::Metric,
+        version: 1,
         parts: 100,
         cycle: pair_of(thousandths(cycle)?),
         ratio: Frac::whole(1),
+        least_out: Frac::whole(0),
+        least_in: Frac::whole(0),
+        equal: false,
     };
     let signals = vec![in alloc;
         signal(alloc, "A", 60)?,

@@ -10,7 +10,7 @@ use Rattle.progression.specs.declared.parts.Dir.TheVariants.{Outbound, Inbound}
 use Rattle.artery_model.specs.Valid.{IsValid}
 use Rattle.linear_theory.specs.Places as places
 use Rattle.linear_theory.specs.Rows as forms
-use Rattle.linear_theory.specs.Names.{Name, WaitRow, FastRow, SlowRow, RiseRow, DropRow, CycleLowRow, CycleHighRow, RatioRow, LoopLowRow, LoopHighRow, TurnLowRow, TurnHighRow, NoRow, HasRow, form_of, name_of}
+use Rattle.linear_theory.specs.Names.{Name, WaitRow, FastRow, SlowRow, RiseRow, DropRow, CycleLowRow, CycleHighRow, RatioRow, LoopLowRow, LoopHighRow, TurnLowRow, TurnHighRow, LeastRow, EqualLowRow, EqualHighRow, NoRow, HasRow, form_of, name_of}
 use Rattle.linear_theory.specs.Covering.{CoversGoal, RefutesAll}
 use Rattle.linear_theory.specs.Trees.{AreWeights}
 use Rattle.loop_rows.specs.Weights.{named}
@@ -68,6 +68,10 @@ numbered a (LoopLowRow i) h = record { row = record { family = 14; index = i }; 
 numbered a (LoopHighRow i) h = record { row = record { family = 15; index = i }; is = refl }
 numbered a (TurnLowRow i) h = record { row = record { family = 16; index = i }; is = refl }
 numbered a (TurnHighRow i) h = record { row = record { family = 17; index = i }; is = refl }
+numbered a (LeastRow Outbound i) h = record { row = record { family = 18; index = i }; is = refl }
+numbered a (LeastRow Inbound i) h = record { row = record { family = 19; index = i }; is = refl }
+numbered a (EqualLowRow i) h = record { row = record { family = 20; index = i }; is = refl }
+numbered a (EqualHighRow i) h = record { row = record { family = 21; index = i }; is = refl }
 numbered a NoRow h = absurd h
 
 module _ (a : Street) (line : Line) (v : IsValid a) where

@@ -12,7 +12,7 @@ use Rattle.linear_theory.specs.Shifts.{shifts_of, shift_at, shift_count}
 use Rattle.linear_theory.specs.Blocks.{part}
 use Rattle.linear_theory.specs.Boxes.{Area, Span, Ranks, IsBoxOf, loop_span, turn_span, with_loop, with_turn}
 use Rattle.linear_theory.specs.Rows.{line, constant}
-use Rattle.linear_theory.specs.Names.{Name, WaitRow, FastRow, SlowRow, RiseRow, DropRow, CycleLowRow, CycleHighRow, RatioRow, LoopLowRow, LoopHighRow, TurnLowRow, TurnHighRow, NoRow, HasRow, form_of}
+use Rattle.linear_theory.specs.Names.{Name, WaitRow, FastRow, SlowRow, RiseRow, DropRow, CycleLowRow, CycleHighRow, RatioRow, LoopLowRow, LoopHighRow, TurnLowRow, TurnHighRow, LeastRow, EqualLowRow, EqualHighRow, NoRow, HasRow, form_of}
 use Rattle.linear_theory.proofs.RankedShifts.{shifts_ascend, rising}
 use Rattle.linear_theory.proofs.Shares.{part_grows}
 use Rattle.linear_theory.proofs.Splits.{loop_put, loop_kept, loop_inside}
@@ -59,6 +59,9 @@ module _ (a : Street) (inner outer : Area) (parts : 0 < a.head.parts) (b : IsBox
   row_wider x (TurnLowRow i) h m =
       record { met = let o = b.ranks_order i h in let l = b.ranks_most i h in ≤ℚ_trans _ _ _ m.met (neg_falls _ _ (shift_grows i _ _ (w.ranks_least i h) (omega arith))) }
   row_wider x (TurnHighRow i) h m = record { met = ≤ℚ_trans _ _ _ m.met (shift_grows i _ _ (w.ranks_most i h) (c.ranks_most i h)) }
+  row_wider x (LeastRow d i) h m = m
+  row_wider x (EqualLowRow i) h m = m
+  row_wider x (EqualHighRow i) h m = m
   row_wider x NoRow h m = absurd h
 
   pub vertex_wider : (x : List ℚ) → IsVertex a inner x → IsVertex a outer x
