@@ -174,6 +174,10 @@ fn artery(alloc: Global, street: Street) -> Result<Artery, Fail> {
         parts: street.parts,
         cycle: pair([street.cycle, street.cycle]),
         ratio: Frac::whole(1),
+        version: 1,
+        least_out: Frac::whole(0),
+        least_in: Frac::whole(0),
+        equal: false,
     };
     let signals = vec![in alloc;
         signal(alloc, street.names[0], street.red)?,
@@ -433,6 +437,8 @@ fn names_of_rows_and_places(rt: HostRuntime) -> Result<(), Fail> {
         (10, 1, "drop_in 1"),
         (11, 0, "cycle_low"),
         (17, 2, "turn_hi 2"),
+        (18, 0, "least_out"),
+        (21, 0, "equal_hi"),
     ];
     for (family, index, name) in rows {
         assert_eq!(rt; row_text(alloc, RowId { family, index })?.as_str(), name);
