@@ -278,35 +278,44 @@ fn a_value_outside_its_limits_is_named_first(rt: HostRuntime) {
     expect(&rt, made, Kind::OutOfRange, "link[1].change_out");
 }
 
-#[test]
-fn the_second_version_has_more(rt: HostRuntime) {
-    let numbers = Numbers {
+/// A least outbound band of the whole cycle, and equal bands.
+fn second_version() -> Numbers {
+    Numbers {
         version: 2,
         least_out: Frac::whole(1),
         equal: true,
         ..two_signals()
-    };
-    let Ok(artery) = make(rt.alloc(), numbers) else {
+    }
+}
+
+#[test]
+fn the_second_version_has_more(rt: HostRuntime) {
+    let Ok(artery) = make(rt.alloc(), second_version()) else {
         panic!(rt; "no artery");
     };
     assert_eq!(rt; artery.version(), 2);
     assert!(rt; artery.least_band(Dir::Outbound) == Frac::whole(1));
     assert!(rt; artery.least_band(Dir::Inbound) == Frac::whole(0));
     assert!(rt; artery.equal());
-    let many = Numbers {
-        signals: 24,
-        links: 23,
-        ..numbers
-    };
     // So many signals pass, and then a name stands twice.
-    let made = make(rt.alloc(), many);
+    let made = make(
+        rt.alloc(),
+        Numbers {
+            signals: 24,
+            links: 23,
+            ..second_version()
+        },
+    );
     expect(&rt, made, Kind::RepeatedName, "signal[4].name");
-    let more = Numbers {
-        signals: 25,
-        links: 24,
-        ..numbers
-    };
-    expect(&rt, make(rt.alloc(), more), Kind::OutOfRange, "signal");
+    let made = make(
+        rt.alloc(),
+        Numbers {
+            signals: 25,
+            links: 24,
+            ..second_version()
+        },
+    );
+    expect(&rt, made, Kind::OutOfRange, "signal");
 }
 
 #[test]
