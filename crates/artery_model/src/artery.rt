@@ -52,8 +52,8 @@ impl Artery {
     /// The artery of these parts. `Refused` comes exactly where they break a rule, and names the
     /// kind and the place of the first in the order of `Kind`: values outside their limits, the
     /// count of the links, names that stand twice, signals with no pattern or no green, and limits
-    /// that cross. Of one kind the count of the signals comes first, then the artery's own keys,
-    /// then those of the signals and of the links in order.
+    /// that cross. Of one kind the version comes first, then the count of the signals, the artery's
+    /// own keys, and those of the signals and of the links in order.
     pub fn new(
         alloc: Global,
         head: Head,

@@ -19,8 +19,12 @@ enum Names {
 #[derive(Clone, Copy)]
 struct Numbers {
     units: Units,
+    version: u32,
     parts: u32,
     cycle: Pair,
+    least_out: Frac,
+    least_in: Frac,
+    equal: bool,
     signals: usize,
     links: usize,
     names: Names,
@@ -44,8 +48,12 @@ fn pair(least: i64, most: i64) -> Pair {
 fn two_signals() -> Numbers {
     Numbers {
         units: Units::Metric,
+        version: 1,
         parts: 100,
         cycle: pair(100, 100),
+        least_out: Frac::whole(0),
+        least_in: Frac::whole(0),
+        equal: false,
         signals: 2,
         links: 1,
         names: Names::Different,
@@ -105,13 +113,13 @@ fn make(alloc: Global, numbers: Numbers) -> Result<Artery, Flaw> {
     let head = Head {
         name: None,
         units: numbers.units,
-        version: 1,
+        version: numbers.version,
         parts: numbers.parts,
         cycle: numbers.cycle,
         ratio: Frac::whole(1),
-        least_out: Frac::whole(0),
-        least_in: Frac::whole(0),
-        equal: false,
+        least_out: numbers.least_out,
+        least_in: numbers.least_in,
+        equal: numbers.equal,
     };
     Artery::new(alloc, head, signals, links)
 }
@@ -268,6 +276,107 @@ fn a_value_outside_its_limits_is_named_first(rt: HostRuntime) {
         },
     );
     expect(&rt, made, Kind::OutOfRange, "link[1].change_out");
+}
+
+/// A least outbound band of the whole cycle, and equal bands.
+fn second_version() -> Numbers {
+    Numbers {
+        version: 2,
+        least_out: Frac::whole(1),
+        equal: true,
+        ..two_signals()
+    }
+}
+
+#[test]
+fn the_second_version_has_more(rt: HostRuntime) {
+    let Ok(artery) = make(rt.alloc(), second_version()) else {
+        panic!(rt; "no artery");
+    };
+    assert_eq!(rt; artery.version(), 2);
+    assert!(rt; artery.least_band(Dir::Outbound) == Frac::whole(1));
+    assert!(rt; artery.least_band(Dir::Inbound) == Frac::whole(0));
+    assert!(rt; artery.equal());
+    // So many signals pass, and then a name stands twice.
+    let made = make(
+        rt.alloc(),
+        Numbers {
+            signals: 24,
+            links: 23,
+            ..second_version()
+        },
+    );
+    expect(&rt, made, Kind::RepeatedName, "signal[4].name");
+    let made = make(
+        rt.alloc(),
+        Numbers {
+            signals: 25,
+            links: 24,
+            ..second_version()
+        },
+    );
+    expect(&rt, made, Kind::OutOfRange, "signal");
+}
+
+#[test]
+fn each_version_has_its_limits(rt: HostRuntime) {
+    let base = two_signals();
+    for version in [0, 3] {
+        let made = make(
+            rt.alloc(),
+            Numbers {
+                version,
+                signals: 1,
+                ..base
+            },
+        );
+        expect(&rt, made, Kind::OutOfRange, "version");
+    }
+    let made = make(
+        rt.alloc(),
+        Numbers {
+            least_out: Frac::whole(1),
+            equal: true,
+            ..base
+        },
+    );
+    expect(&rt, made, Kind::OutOfRange, "artery.least_out");
+    let made = make(
+        rt.alloc(),
+        Numbers {
+            least_in: Frac::whole(1),
+            equal: true,
+            ..base
+        },
+    );
+    expect(&rt, made, Kind::OutOfRange, "artery.least_in");
+    let made = make(
+        rt.alloc(),
+        Numbers {
+            equal: true,
+            names: Names::Empty,
+            ..base
+        },
+    );
+    expect(&rt, made, Kind::OutOfRange, "artery.equal");
+    let made = make(
+        rt.alloc(),
+        Numbers {
+            version: 2,
+            least_out: Frac::whole(2),
+            ..base
+        },
+    );
+    expect(&rt, made, Kind::OutOfRange, "artery.least_out");
+    let made = make(
+        rt.alloc(),
+        Numbers {
+            version: 2,
+            least_in: Frac::whole(-1),
+            ..base
+        },
+    );
+    expect(&rt, made, Kind::OutOfRange, "artery.least_in");
 }
 
 #[test]

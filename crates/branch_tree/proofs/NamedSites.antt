@@ -47,6 +47,7 @@ use Rattle.branch_and_bound.specs.Lines.{Line}
 use Rattle.branch_tree.specs.ArteryProgram.{outcome_of, program_of}
 use Rattle.branch_tree.specs.Ends.{end_leaf, end_point}
 use Rattle.branch_tree.specs.Sites.{step_at, sum_refusal, vertex_refusal, leaf_refusal, refusal_by, refusal_at}
+use Rattle.branch_tree.specs.laws.RunLaws.{point_columns}
 use Rattle.branch_tree.specs.SiteNames.{IsPlaceOf, IsTimingPart, IsPartOf}
 use Rattle.branch_tree.proofs.EachRefusal.{Each, each_some, each_none, each_earlier, each_first, each_map, each_if}
 use Rattle.branch_tree.proofs.NamedCells.{IsNamedStep, step_named}
@@ -79,11 +80,11 @@ module _ (a : Street) (v : IsValid a) (box : Area) (x : List ℚ) where
       (each_map (IsNamedOutcome a) Refused (product_test a x (place (count a) (ShiftOf (k + 1)))) (product_named _ (column (ShiftOf (k + 1)) (omega arith, omega arith))))
       (each_if (IsNamedOutcome a) _ _ tt))
 
-  units_named : Each (IsTimingPart a) (unit_tests a x)
-  units_named =
-      each_earlier (IsTimingPart a) (first_below (product_test a x) (width (count a))) _
-      (each_first (IsTimingPart a) (product_test a x) (width (count a)) product_named)
-      (each_first (IsTimingPart a) (unit_test a x) (width (count a)) (λ k l. each_if (IsTimingPart a) _ _ tt))
+  units_named : length x ≡ width (count a) → Each (IsTimingPart a) (unit_tests a x)
+  units_named e =
+      each_earlier (IsTimingPart a) (first_below (product_test a x) (length x)) _
+      (each_first (IsTimingPart a) (product_test a x) (length x) (λ k l. product_named k (subst (λ n. k < n) e l)))
+      (each_first (IsTimingPart a) (unit_test a x) (length x) (λ k l. each_if (IsTimingPart a) _ _ tt))
 
   runs_named : (d : Dir) → Each (IsTimingPart a) (run_tests a x d)
   runs_named d = each_first (IsTimingPart a) (λ j. column_test a x (RunOf d (j + 1))) (count a - 1) (λ k l. column_named (RunOf d (k + 1)) (omega arith, omega arith))
@@ -107,16 +108,16 @@ module _ (a : Street) (v : IsValid a) (box : Area) (x : List ℚ) where
       each_earlier (IsTimingPart a) _ _ (wait_named Outbound 1 _ (omega arith) (omega arith))
       (each_earlier (IsTimingPart a) (red_tests a x) _ reds_named (wait_named Inbound (count a) _ (omega arith) (omega arith)))
 
-  numbers_named : Each (IsTimingPart a) (number_tests a x)
-  numbers_named = each_earlier (IsTimingPart a) (unit_tests a x) _ units_named (each_earlier (IsTimingPart a) (column_tests a x) _ columns_named placed_named)
+  numbers_named : length x ≡ width (count a) → Each (IsTimingPart a) (number_tests a x)
+  numbers_named e = each_earlier (IsTimingPart a) (unit_tests a x) _ (units_named e) (each_earlier (IsTimingPart a) (column_tests a x) _ columns_named placed_named)
 
   box_named : Each (IsNamedOutcome a) (box_tests a box x)
   box_named = each_earlier (IsNamedOutcome a) (link_tests a x) (signal_tests a box x) links_named signals_named
 
-  outcome_named : (o : Outcome) → recovered a box x ≡ o → IsNamedOutcome a o
+  outcome_named : length x ≡ width (count a) → (o : Outcome) → recovered a box x ≡ o → IsNamedOutcome a o
   unfolding recovered
-  outcome_named o e = pick (earlier (box_tests a box x) (option_map Refused (number_tests a x))) e
-      (each_earlier (IsNamedOutcome a) (box_tests a box x) _ box_named (each_map (IsNamedOutcome a) Refused (number_tests a x) numbers_named))
+  outcome_named l o e = pick (earlier (box_tests a box x) (option_map Refused (number_tests a x))) e
+      (each_earlier (IsNamedOutcome a) (box_tests a box x) _ box_named (each_map (IsNamedOutcome a) Refused (number_tests a x) (numbers_named l)))
     where
       pick : (p : Option Outcome) → unwrap_or p (Gives (timing_of a x)) ≡ o → Each (IsNamedOutcome a) p → IsNamedOutcome a o
       pick None q h = subst (IsNamedOutcome a) q tt
@@ -210,7 +211,7 @@ part_named a line v k = pick (step_at (program_of a) line k) (step_named a line 
     pick : (s : Step) → IsNamedStep a s → Each (IsPartOf a) (refusal_by (program_of a) line s)
     pick steps.Optimal h =
         each_earlier (IsPartOf a) (leaf_refusal (program_of a) line) _ leaf
-        (vertex_named a line.area (recovered a line.area (end_point (program_of a) line)) (outcome_named a v line.area (end_point (program_of a) line) _ refl))
+        (vertex_named a line.area (recovered a line.area (end_point (program_of a) line)) (outcome_named a v line.area (end_point (program_of a) line) (point_columns (program_of a) line v) _ refl))
     pick (steps.Infeasible r) h = leaf
     pick (steps.Pivoted r j) h = each_none (IsPartOf a)
     pick (steps.Wide true w) h = each_some (IsPartOf a) (part.Ratio w) h

@@ -120,7 +120,7 @@ static TIMINGS: [Case; 15] = [
 ];
 
 /// Descriptions with another line.
-static DESCRIPTIONS: [Case; 17] = [
+static DESCRIPTIONS: [Case; 22] = [
     (
         "not UTF-8",
         &[(2, b"units = \"\xff\"")],
@@ -213,11 +213,66 @@ static DESCRIPTIONS: [Case; 17] = [
         b"refused BadNumber artery.cycle[1]\n",
     ),
     (
-        "version 2",
-        &[(1, b"version = 2\n[artery]")],
+        "version 3",
+        &[(1, b"version = 3\n[artery]")],
         &[],
         3,
         b"refused OutOfRange version\n",
+    ),
+    (
+        "version 2 without its keys",
+        &[(1, b"version = 2\n[artery]")],
+        &[],
+        0,
+        HOLDS,
+    ),
+    (
+        "least band of two cycles",
+        &[
+            (1, b"version = 2\n[artery]"),
+            (5, b"ratio = 1\nleast_out = 2"),
+            (16, b"distance_out = 250"),
+            (17, b"distance_in = 250"),
+        ],
+        &[],
+        3,
+        b"refused OutOfRange artery.least_out\n",
+    ),
+    (
+        "equal bands in version 1",
+        &[
+            (1, b"version = 1\n[artery]"),
+            (5, b"ratio = 1\nequal = true"),
+            (16, b"distance_out = 250"),
+            (17, b"distance_in = 250"),
+        ],
+        &[],
+        3,
+        b"refused UnknownKey artery.equal\n",
+    ),
+    (
+        "equal bands by a number",
+        &[
+            (1, b"version = 2\n[artery]"),
+            (5, b"ratio = 1\nequal = 1"),
+            (16, b"distance_out = 250"),
+            (17, b"distance_in = 250"),
+        ],
+        &[],
+        3,
+        b"refused WrongType artery.equal\n",
+    ),
+    (
+        "equal bands in a version by text",
+        &[
+            (1, b"version = \"2\"\n[artery]"),
+            (5, b"ratio = 1\nequal = true"),
+            (16, b"distance_out = 250"),
+            (17, b"distance_in = 250"),
+        ],
+        &[],
+        3,
+        b"refused UnknownKey artery.equal\n",
     ),
     (
         "red of the whole cycle",

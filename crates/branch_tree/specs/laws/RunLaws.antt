@@ -69,6 +69,11 @@ module _ {T W : Type 0} (p : Program T W) (line : Line) (s : p.IsSound) where
   each_named : length p.names ≡ height (last_table p line)
   each_named = sym (run_height (steps_of p line))
 
+  -- the point that is read has all columns
+  pub point_columns : length (end_point p line) ≡ p.columns
+  unfolding vertex_point
+  point_columns = length-columns_from _ 0 (width (last_table p line)) ∙ run_width (steps_of p line)
+
   -- ---- an optimal end
   module _ (e : end_move p line ≡ optimal) where
     bounds_low : (i : ℕ) → i < height (last_table p line) → whole (pos 0) ≤ℚ bound (last_table p line) i
@@ -84,8 +89,7 @@ module _ {T W : Type 0} (p : Program T W) (line : Line) (s : p.IsSound) where
         (met_at (end_point p line) (rows_for p line.area) k optimal_vertex.met (let l = length-map p.names (p.row line.area) in omega arith))
 
     pub vertex_columns : length (end_point p line) ≡ p.columns
-    unfolding vertex_point
-    vertex_columns = length-columns_from _ 0 (width (last_table p line)) ∙ run_width (steps_of p line)
+    vertex_columns = point_columns
 
     pub leaf_is : end_leaf p line ≡ goal_multipliers (named_last p line)
     unfolding end_leaf
