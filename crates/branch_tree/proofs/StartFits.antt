@@ -23,7 +23,7 @@ use Rattle.named_row.specs.declared.names.Place.TheVariants.{Cell, Bound}
 use Rattle.named_row.specs.declared.leaves.Weight.{Weight}
 use Rattle.loop_rows.specs.Writing.{written}
 use Rattle.loop_rows.proofs.Writing.{written_row}
-use Rattle.loop_rows.specs.Weights.{after_weight, weights_fault, leaf_fault, fault_of, with_weight}
+use Rattle.loop_rows.specs.Weights.{weights_fault, leaf_fault, fault_of, with_weight}
 use Rattle.loop_rows.proofs.LeafSums.{fault_free}
 use Rattle.simplex_theory.proofs.Signs.{one_positive}
 use Rattle.simplex_theory.proofs.Lines.{get_or-add, get_or-scale}

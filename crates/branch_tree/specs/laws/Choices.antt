@@ -1,5 +1,5 @@
 -- A box with a vertex has choices of block sums.
-use Rattle.std.specs.Prelude.{List, length}
+use Rattle.std.specs.Prelude.{List}
 use Rattle.std.proofs.Common.{arith}
 use Rattle.rational_theory.specs.Rational.{ℚ}
 use Rattle.progression.specs.Street.{Street}
