@@ -1,7 +1,7 @@
 //! Timings that `hold` tests, and descriptions that `show` refuses. The expected lines were worked by hand.
 
 use crate::running::{Case, Table};
-use crate::texts::{ARTERY, TIMING, WIDE, WIDE_TIMING};
+use crate::texts::{ARTERY, SEVENTEEN, SIXTEEN, TIMING, WIDE, WIDE_TIMING};
 
 const HOLD: &[&str] = &["hold", "a.toml", "b.txt"];
 
@@ -12,8 +12,26 @@ const LONG: &[u8] =
     b"grid 1111111111222222222233333333334444444444555555555566666666667777777777888888888899999999990000000000";
 
 /// Timings of two signals.
-static TIMINGS: [Case; 15] = [
+static TIMINGS: [Case; 16] = [
     ("as given", &[], &[], 0, HOLDS),
+    (
+        "no inbound band where a tenth is asked for",
+        &[
+            (1, b"version = 2\n[artery]"),
+            (5, b"ratio = 1\nleast_in = \"1/10\""),
+            (16, b"distance_out = 250"),
+            (17, b"distance_in = 250"),
+        ],
+        &[
+            (5, b"red 0 50"),
+            (6, b"run_out 50"),
+            (7, b"run_in 50"),
+            (8, b"first 100 150"),
+            (9, b"band 100 0"),
+        ],
+        4,
+        b"fails least in\n",
+    ),
     (
         "patterns without left turns",
         &[],
@@ -627,6 +645,9 @@ static LEFTS_AND_FEET: [Case; 9] = [
 /// A timing without a byte.
 static NO_TIMING: [Case; 1] = [("no bytes", &[], &[], 3, b"refused BadText line 1 Ended\n")];
 
+/// A signal more than the street has.
+static SEVENTEEN_SIGNALS: [Case; 1] = [("as given", &[], &[], 4, b"fails shape\n")];
+
 /// A description without a byte.
 static NO_DESCRIPTION: [Case; 1] = [("no bytes", &[], &[], 3, b"refused Missing artery\n")];
 
@@ -694,6 +715,13 @@ pub fn table(number: u32) -> Table {
             cases: &NO_DESCRIPTION,
         },
         6 => Table {
+            name: "seventeen signals",
+            words: HOLD,
+            first: SIXTEEN,
+            second: SEVENTEEN,
+            cases: &SEVENTEEN_SIGNALS,
+        },
+        7 => Table {
             name: "not shown",
             words: &["show", "a.toml"],
             first: ARTERY,

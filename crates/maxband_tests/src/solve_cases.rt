@@ -3,7 +3,7 @@
 use crate::running::Wanted::{Absent, End, Front, Whole};
 use crate::running::{Search, SearchTable, Wanted};
 use crate::shipped::Shipped;
-use crate::texts::{ARTERY, NEAR};
+use crate::texts::{ARTERY, LONGEST, NEAR};
 
 /// Four signals in feet and miles an hour, with left turns, a clearance, ranges of speeds and limits of their changes. The
 /// outbound green of Elm is 50 parts and the inbound green of Main is 48, and both are passed whole at a cycle of 60 seconds.
@@ -240,6 +240,57 @@ const NEAR_BY: &[Search] = &[
     ),
 ];
 
+/// What bands are asked for in version 2, of the same signals: together they are half a cycle wide at most.
+const ASKED: &[Search] = &[
+    (
+        "equal bands",
+        &[
+            (1, b"version = 2\n[artery]"),
+            (5, b"ratio = 1\nequal = true"),
+        ],
+        "",
+        0,
+        Front(b"verdict best\nweighted 1/2 = 0.500000\nband out 1/4 = 0.250000\nband in 1/4 = 0.250000\n"),
+        ANY,
+        Whole(b"accepted best 1/2\n"),
+    ),
+    (
+        "equal bands, ratio of 2",
+        &[
+            (1, b"version = 2\n[artery]"),
+            (5, b"ratio = 2\nequal = true"),
+        ],
+        "",
+        0,
+        Front(b"verdict best\nweighted 3/4 = 0.750000\nband out 1/4 = 0.250000\nband in 1/4 = 0.250000\n"),
+        ANY,
+        Whole(b"accepted best 3/4\n"),
+    ),
+    (
+        "least bands of three tenths",
+        &[
+            (1, b"version = 2\n[artery]"),
+            (5, b"ratio = 1\nleast_out = \"3/10\"\nleast_in = \"3/10\""),
+        ],
+        "",
+        1,
+        Whole(b"verdict none\n"),
+        Front(b"maxband-certificate 1\nverdict none\n"),
+        Whole(b"accepted none\n"),
+    ),
+];
+
+/// Twenty-four signals, 500 metres apart, with half a cycle between each two: a vehicle meets the green of all.
+const TWENTY_FOUR: &[Search] = &[(
+    "as given",
+    &[],
+    "",
+    0,
+    Front(b"verdict best\nweighted 1 = 1.000000\nband out 1/2 = 0.500000\nband in 1/2 = 0.500000\n"),
+    ANY,
+    Whole(b"accepted best 1\n"),
+)];
+
 /// The root costs 4 units, its low part 5 and its high part 6; with reds of 80 the root costs 5.
 const LIMITS: &[Search] = &[
     (
@@ -380,6 +431,18 @@ pub const TABLES: &[SearchTable] = &[
         artery: NEAR,
         put: "c.txt",
         cases: NEAR_BY,
+    },
+    SearchTable {
+        name: "asked",
+        artery: NEAR,
+        put: "c.txt",
+        cases: ASKED,
+    },
+    SearchTable {
+        name: "twenty-four signals",
+        artery: LONGEST,
+        put: "c.txt",
+        cases: TWENTY_FOUR,
     },
     SearchTable {
         name: "limits",

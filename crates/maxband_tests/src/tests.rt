@@ -12,7 +12,7 @@ use std::test::Fail;
 
 #[test]
 fn timings_and_descriptions(rt: HostRuntime) -> Result<(), Fail> {
-    for number in 0..8 {
+    for number in 0..9 {
         let table = hold_cases::table(number);
         assert_eq!(rt; first_wrong(rt.alloc(), &table)?, "", "{}", table.name);
     }

@@ -167,3 +167,121 @@ distance_in = 300
 speed_out = [40, 60]
 speed_in = [40, 60]
 ";
+
+/// The signals of version 2, as many as there may be: like the two, 500 metres apart.
+pub const LONGEST: &str = "version = 2
+signal = [
+    { name = \"A\", red = 50 },
+    { name = \"B\", red = 50 },
+    { name = \"C\", red = 50 },
+    { name = \"D\", red = 50 },
+    { name = \"E\", red = 50 },
+    { name = \"F\", red = 50 },
+    { name = \"G\", red = 50 },
+    { name = \"H\", red = 50 },
+    { name = \"I\", red = 50 },
+    { name = \"J\", red = 50 },
+    { name = \"K\", red = 50 },
+    { name = \"L\", red = 50 },
+    { name = \"M\", red = 50 },
+    { name = \"N\", red = 50 },
+    { name = \"O\", red = 50 },
+    { name = \"P\", red = 50 },
+    { name = \"Q\", red = 50 },
+    { name = \"R\", red = 50 },
+    { name = \"S\", red = 50 },
+    { name = \"T\", red = 50 },
+    { name = \"U\", red = 50 },
+    { name = \"V\", red = 50 },
+    { name = \"W\", red = 50 },
+    { name = \"X\", red = 50 },
+]
+link = [
+    { distance_out = 500, distance_in = 500, speed_out = [36, 36], speed_in = [36, 36] },
+    { distance_out = 500, distance_in = 500, speed_out = [36, 36], speed_in = [36, 36] },
+    { distance_out = 500, distance_in = 500, speed_out = [36, 36], speed_in = [36, 36] },
+    { distance_out = 500, distance_in = 500, speed_out = [36, 36], speed_in = [36, 36] },
+    { distance_out = 500, distance_in = 500, speed_out = [36, 36], speed_in = [36, 36] },
+    { distance_out = 500, distance_in = 500, speed_out = [36, 36], speed_in = [36, 36] },
+    { distance_out = 500, distance_in = 500, speed_out = [36, 36], speed_in = [36, 36] },
+    { distance_out = 500, distance_in = 500, speed_out = [36, 36], speed_in = [36, 36] },
+    { distance_out = 500, distance_in = 500, speed_out = [36, 36], speed_in = [36, 36] },
+    { distance_out = 500, distance_in = 500, speed_out = [36, 36], speed_in = [36, 36] },
+    { distance_out = 500, distance_in = 500, speed_out = [36, 36], speed_in = [36, 36] },
+    { distance_out = 500, distance_in = 500, speed_out = [36, 36], speed_in = [36, 36] },
+    { distance_out = 500, distance_in = 500, speed_out = [36, 36], speed_in = [36, 36] },
+    { distance_out = 500, distance_in = 500, speed_out = [36, 36], speed_in = [36, 36] },
+    { distance_out = 500, distance_in = 500, speed_out = [36, 36], speed_in = [36, 36] },
+    { distance_out = 500, distance_in = 500, speed_out = [36, 36], speed_in = [36, 36] },
+    { distance_out = 500, distance_in = 500, speed_out = [36, 36], speed_in = [36, 36] },
+    { distance_out = 500, distance_in = 500, speed_out = [36, 36], speed_in = [36, 36] },
+    { distance_out = 500, distance_in = 500, speed_out = [36, 36], speed_in = [36, 36] },
+    { distance_out = 500, distance_in = 500, speed_out = [36, 36], speed_in = [36, 36] },
+    { distance_out = 500, distance_in = 500, speed_out = [36, 36], speed_in = [36, 36] },
+    { distance_out = 500, distance_in = 500, speed_out = [36, 36], speed_in = [36, 36] },
+    { distance_out = 500, distance_in = 500, speed_out = [36, 36], speed_in = [36, 36] },
+]
+
+[artery]
+units = \"metric\"
+parts = 100
+cycle = [100, 100]
+ratio = 1
+";
+
+/// Sixteen of them, in version 1.
+pub const SIXTEEN: &str = "signal = [
+    { name = \"A\", red = 50 },
+    { name = \"B\", red = 50 },
+    { name = \"C\", red = 50 },
+    { name = \"D\", red = 50 },
+    { name = \"E\", red = 50 },
+    { name = \"F\", red = 50 },
+    { name = \"G\", red = 50 },
+    { name = \"H\", red = 50 },
+    { name = \"I\", red = 50 },
+    { name = \"J\", red = 50 },
+    { name = \"K\", red = 50 },
+    { name = \"L\", red = 50 },
+    { name = \"M\", red = 50 },
+    { name = \"N\", red = 50 },
+    { name = \"O\", red = 50 },
+    { name = \"P\", red = 50 },
+]
+link = [
+    { distance_out = 500, distance_in = 500, speed_out = [36, 36], speed_in = [36, 36] },
+    { distance_out = 500, distance_in = 500, speed_out = [36, 36], speed_in = [36, 36] },
+    { distance_out = 500, distance_in = 500, speed_out = [36, 36], speed_in = [36, 36] },
+    { distance_out = 500, distance_in = 500, speed_out = [36, 36], speed_in = [36, 36] },
+    { distance_out = 500, distance_in = 500, speed_out = [36, 36], speed_in = [36, 36] },
+    { distance_out = 500, distance_in = 500, speed_out = [36, 36], speed_in = [36, 36] },
+    { distance_out = 500, distance_in = 500, speed_out = [36, 36], speed_in = [36, 36] },
+    { distance_out = 500, distance_in = 500, speed_out = [36, 36], speed_in = [36, 36] },
+    { distance_out = 500, distance_in = 500, speed_out = [36, 36], speed_in = [36, 36] },
+    { distance_out = 500, distance_in = 500, speed_out = [36, 36], speed_in = [36, 36] },
+    { distance_out = 500, distance_in = 500, speed_out = [36, 36], speed_in = [36, 36] },
+    { distance_out = 500, distance_in = 500, speed_out = [36, 36], speed_in = [36, 36] },
+    { distance_out = 500, distance_in = 500, speed_out = [36, 36], speed_in = [36, 36] },
+    { distance_out = 500, distance_in = 500, speed_out = [36, 36], speed_in = [36, 36] },
+    { distance_out = 500, distance_in = 500, speed_out = [36, 36], speed_in = [36, 36] },
+]
+
+[artery]
+units = \"metric\"
+parts = 100
+cycle = [100, 100]
+ratio = 1
+";
+
+/// A timing of seventeen signals.
+pub const SEVENTEEN: &str = "maxband-timing 1
+grid 2
+unit 2
+pattern 1 1 1 1 1 1 1 1 1 1 1 1 1 1 1 1 1
+red 0 100 0 100 0 100 0 100 0 100 0 100 0 100 0 100 0
+run_out 100 100 100 100 100 100 100 100 100 100 100 100 100 100 100 100
+run_in 100 100 100 100 100 100 100 100 100 100 100 100 100 100 100 100
+first 100 200
+band 100 100
+end
+";
