@@ -8,7 +8,7 @@ use Rattle.maxband_run.specs.Reading.{Input, input}
 use Rattle.maxband_run.specs.declared.reader.Reader.TheVariants.{Description, Timing, Certificate}
 use Rattle.maxband_run.specs.declared.command.Command.{Command}
 use Rattle.maxband_run.specs.declared.command.Command.TheVariants as command
-use Rattle.artery_model.specs.Bounds.{least_signals, most_signals}
+use Rattle.artery_model.specs.Bounds.{least_signals, most_first_signals}
 
 pub data Request : Type 0 where
   Hold : List ℕ → List ℕ → Request  -- the names of a description and of a timing
@@ -49,8 +49,8 @@ shape (Some (Sweep artery table limit cycles)) = record { inputs = input Descrip
 -- a search has work to spend, 2 to 16 signals are made, and each cycle is one
 abbrev pub InLimits : Option Request → Type 0
 InLimits (Some (Solve artery certificate limit)) = IsBelow 0 limit
-InLimits (Some (Make signals seed)) = (least_signals ≤ signals) × (signals ≤ most_signals)
-InLimits (Some (Trial signals seed limit)) = ((least_signals ≤ signals) × (signals ≤ most_signals)) × IsBelow 0 limit
+InLimits (Some (Make signals seed)) = (least_signals ≤ signals) × (signals ≤ most_first_signals)
+InLimits (Some (Trial signals seed limit)) = ((least_signals ≤ signals) × (signals ≤ most_first_signals)) × IsBelow 0 limit
 InLimits (Some (Sweep artery table limit cycles)) = IsBelow 0 limit × SpellCycles cycles
 InLimits _ = Unit {0}
 

@@ -37,6 +37,9 @@ fault_name Order = codes "Order"
 abbrev pub link_text : List ℕ → Dir → ℕ → List ℕ
 link_text rule d i = rule ++ (codes " " ++ (dir_name d ++ (codes " link " ++ decimal i)))
 
+abbrev pub least_text : Dir → List ℕ
+least_text d = codes "least " ++ dir_name d
+
 abbrev pub failing_text : Failing → List ℕ
 failing_text failing.Shape = codes "shape"
 failing_text (failing.Pattern i) = codes "pattern signal " ++ decimal i
@@ -47,6 +50,8 @@ failing_text (failing.Slow d i) = link_text (codes "slow") d i
 failing_text (failing.Rise d i) = link_text (codes "rise") d i
 failing_text (failing.Drop d i) = link_text (codes "drop") d i
 failing_text failing.Ratio = codes "ratio"
+failing_text (failing.Least d) = least_text d
+failing_text failing.Equal = codes "equal"
 failing_text (failing.Outbound i x) = codes "outbound signal " ++ (decimal i ++ (codes " tick " ++ signed_decimal x))
 failing_text (failing.Inbound i x) = codes "inbound signal " ++ (decimal i ++ (codes " tick " ++ signed_decimal x))
 

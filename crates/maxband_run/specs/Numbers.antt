@@ -3,7 +3,7 @@ use Rattle.std.specs.Prelude.{ℕ, ◌-◌, ◌^◌, nat_le, ◌&&◌, List, Opt
 use Rattle.std.specs.Str.{bytes_eq}
 use Rattle.std.specs.Str.Parse.{digits_value}
 use Rattle.plan_text.specs.Numbers.{is_numeral}
-use Rattle.artery_model.specs.Bounds.{least_signals, most_signals}
+use Rattle.artery_model.specs.Bounds.{least_signals, most_first_signals}
 
 -- the number from the least to the most that a word spells
 unfoldable pub number_within : ℕ → ℕ → List ℕ → Option ℕ
@@ -12,7 +12,7 @@ number_within least most word =
 
 -- how many signals are made
 abbrev pub signals_of : List ℕ → Option ℕ
-signals_of word = number_within least_signals most_signals word
+signals_of word = number_within least_signals most_first_signals word
 
 -- the seed of what is made
 abbrev pub seed_of : List ℕ → Option ℕ

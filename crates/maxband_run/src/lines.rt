@@ -1,7 +1,7 @@
 //! The lines of each answer.
 
 ghost use Rattle.std.specs.Prelude.{◌≡◌, IfOk, string_bytes};
-ghost use Rattle.maxband_run.specs.Lines.{kind_name, fault_name, link_text, failing_text, fails_line, refused_line, bad_text_line, words_line, cannot_read_line, too_long_line, holds_lines};
+ghost use Rattle.maxband_run.specs.Lines.{kind_name, fault_name, least_text, link_text, failing_text, fails_line, refused_line, bad_text_line, words_line, cannot_read_line, too_long_line, holds_lines};
 
 use artery_model::{Dir, Kind, Refusal};
 use diagram_print::dir_name;
@@ -57,6 +57,8 @@ pub fn failing_text(alloc: Global, failing: Failing) -> Result<String, AllocErro
         Failing::Rise { dir, link } => link_text(alloc, "rise", dir, link),
         Failing::Drop { dir, link } => link_text(alloc, "drop", dir, link),
         Failing::Ratio => String::from_str(alloc, "ratio"),
+        Failing::Least { dir } => least_text(alloc, dir),
+        Failing::Equal => String::from_str(alloc, "equal"),
         Failing::Outbound { signal, tick } => format!(in alloc;
             "outbound signal {signal} tick {tick}"
         ),
@@ -64,6 +66,14 @@ pub fn failing_text(alloc: Global, failing: Failing) -> Result<String, AllocErro
             "inbound signal {signal} tick {tick}"
         ),
     }
+}
+
+/// The rule of the least band of a direction.
+fn least_text(alloc: Global, dir: Dir) -> Result<String, AllocError>
+    ensures { IfOk result (λ text. string_bytes text ≡ least_text dir) }
+{
+    let dir = dir_name(dir);
+    format!(in alloc; "least {dir}")
 }
 
 /// A rule of one link in one direction.

@@ -3,7 +3,7 @@
 ghost use Rattle.std.specs.Prelude.{◌≡◌, ◌≤◌, IfSome};
 ghost use Rattle.maxband_run.specs.Numbers.{number_within, signals_of, seed_of, limit_of};
 
-use artery_model::bounds::{LEAST_SIGNALS, MOST_SIGNALS};
+use artery_model::bounds::{LEAST_SIGNALS, MOST_FIRST_SIGNALS};
 use plan_text::is_numeral;
 
 /// The limit of the work where the words don't say one.
@@ -13,7 +13,7 @@ pub const USUAL_WORK: u64 = 100_000;
 pub fn signals_in(word: &str) -> Option<u32>
     ensures { result ≡ signals_of word.now }
 {
-    let signals = number_within(word, LEAST_SIGNALS as u64, MOST_SIGNALS as u64)?;
+    let signals = number_within(word, LEAST_SIGNALS as u64, MOST_FIRST_SIGNALS as u64)?;
     Some(signals as u32)
 }
 

@@ -3,7 +3,7 @@
 ghost use Rattle.std.specs.Prelude.{◌≡◌, ◌≤◌, None, IfOk, string_bytes};
 ghost use Rattle.work_meter.specs.Work.{IsBelow};
 ghost use Rattle.maxband_run.specs.Trial.{best_lines, bound_lines, between_lines, open_lines, claim_lines, trial_lines, IsTrial};
-ghost use Rattle.artery_model.specs.Bounds.{least_signals, most_signals};
+ghost use Rattle.artery_model.specs.Bounds.{least_signals, most_first_signals};
 
 use crate::answer::{Answer, told};
 use crate::searching::{cause_of, search_and_tell};
@@ -81,7 +81,7 @@ pub fn trial(
     limit: Option<u64>,
 ) -> Result<Answer<'static>, Memory>
     requires least { least_signals ≤ signals }
-    requires most { signals ≤ most_signals }
+    requires most { signals ≤ most_first_signals }
     requires limit { IsBelow 0 limit }
     ensures finds { IfOk result (λ a. IsTrial signals seed limit a.cause a.lines.items) }
     ensures no_put { IfOk result (λ a. a.put ≡ None) }
