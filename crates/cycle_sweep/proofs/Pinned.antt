@@ -57,7 +57,7 @@ module _ (a : Street) (cycle : ℚ) (q : IsQuantity (pos 1) (pos 3600) cycle) wh
   ranges_pass : first_fault (range_tests a) ≡ None → first_fault (range_tests (at_cycle a cycle)) ≡ None
   ranges_pass h =
       let all = each_none (range_tests a) h in
-      none_of (range_tests (at_cycle a cycle)) (all.0, (head_passes all.1.0, all.1.1))
+      none_of (range_tests (at_cycle a cycle)) (all.0, (all.1.0, (head_passes all.1.1.0, all.1.1.1)))
 
   rules_pass : first_fault (rule_tests a) ≡ None → first_fault (rule_tests (at_cycle a cycle)) ≡ None
   rules_pass h =
