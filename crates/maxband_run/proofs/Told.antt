@@ -1,6 +1,6 @@
 -- From the readings of a command's files, and what it finds of them, to its answer.
 use Rattle.std.proofs.Common.{◌≡◌, ℕ, List, [], ◌∷◌, Option, Some, None, Result, Ok, Err, inl, inr, refl, sym, ◌∙◌, ap, subst}
-use Rattle.std.specs.Prelude.{IfOk, option_map}
+use Rattle.std.specs.Prelude.{IfOk, OnErr, option_map}
 use Rattle.narrow_fraction.specs.declared.memory.Memory.{Memory}
 use Rattle.outer_edge.specs.Counts.{SameCounts}
 use Rattle.outer_edge.specs.Held.{SameFiles}
@@ -77,6 +77,19 @@ finds_put asked held before after name values (Err m) read counts e h = tt
 -- two steps leave the counts
 pub same_twice : (before mid after : List ℕ → ℕ) → SameCounts before mid → SameCounts mid after → SameCounts before after
 same_twice before mid after h k = λ name. k name ∙ h name
+
+-- where memory was wanting after two reads, neither failed
+pub counted_twice : (r : Result Answer Memory) (before mid after : List ℕ → ℕ) → SameCounts before mid → OnErr r (SameCounts mid after) → OnErr r (SameCounts before after)
+counted_twice (Ok a) before mid after h k = tt
+counted_twice (Err e) before mid after h k = same_twice before mid after h k
+
+pub counted_both : (r : Result Answer Memory) (before mid after : List ℕ → ℕ) → SameCounts before mid → SameCounts mid after → OnErr r (SameCounts before after)
+counted_both (Ok a) before mid after h k = tt
+counted_both (Err e) before mid after h k = same_twice before mid after h k
+
+-- two reads that leave the files alone
+pub held_twice : (before mid now : List ℕ → Option (List ℕ)) → SameFiles before mid → SameFiles mid now → SameFiles before now
+held_twice before mid now h k = λ name. k name ∙ h name
 
 -- a refusal tells why a file isn't read
 pub refused_unread : (i : Input) (place : ℕ) (held : List ℕ → Option (List ℕ)) (before after : List ℕ → ℕ) (c : Cause) (text : List ℕ) (r : Result Answer Memory)

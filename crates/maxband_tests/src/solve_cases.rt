@@ -250,7 +250,9 @@ const ASKED: &[Search] = &[
         ],
         "",
         0,
-        Front(b"verdict best\nweighted 1/2 = 0.500000\nband out 1/4 = 0.250000\nband in 1/4 = 0.250000\n"),
+        Front(
+            b"verdict best\nweighted 1/2 = 0.500000\nband out 1/4 = 0.250000\nband in 1/4 = 0.250000\n",
+        ),
         ANY,
         Whole(b"accepted best 1/2\n"),
     ),
@@ -262,7 +264,9 @@ const ASKED: &[Search] = &[
         ],
         "",
         0,
-        Front(b"verdict best\nweighted 3/4 = 0.750000\nband out 1/4 = 0.250000\nband in 1/4 = 0.250000\n"),
+        Front(
+            b"verdict best\nweighted 3/4 = 0.750000\nband out 1/4 = 0.250000\nband in 1/4 = 0.250000\n",
+        ),
         ANY,
         Whole(b"accepted best 3/4\n"),
     ),
@@ -286,7 +290,9 @@ const TWENTY_FOUR: &[Search] = &[(
     &[],
     "",
     0,
-    Front(b"verdict best\nweighted 1 = 1.000000\nband out 1/2 = 0.500000\nband in 1/2 = 0.500000\n"),
+    Front(
+        b"verdict best\nweighted 1 = 1.000000\nband out 1/2 = 0.500000\nband in 1/2 = 0.500000\n",
+    ),
     ANY,
     Whole(b"accepted best 1\n"),
 )];
