@@ -16,6 +16,7 @@ mod compare;
 mod divisor;
 mod frac;
 mod memory;
+mod multiple;
 mod operations;
 mod order;
 mod products;
@@ -27,5 +28,6 @@ mod wide;
 
 pub use frac::Frac;
 pub use memory::Memory;
+pub use multiple::common_multiple;
 pub use unfit::Unfit;
 pub use wide::{Op, Wide};

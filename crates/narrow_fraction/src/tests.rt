@@ -1,6 +1,6 @@
 //! Worked fractions, up to the greatest of 128 bits.
 
-use crate::{Frac, Op, Unfit, Wide};
+use crate::{Frac, Op, Unfit, Wide, common_multiple};
 use std::rt::HostRuntime;
 
 const TWO_63: i128 = 9_223_372_036_854_775_808;
@@ -126,4 +126,21 @@ fn order_and_whole_parts(rt: HostRuntime) {
     assert_eq!(rt; fraction(-7, 2).floor(), -4);
     assert_eq!(rt; fraction(7, 2).floor(), 3);
     assert!(rt; Frac::whole(-3).is_whole() && !fraction(1, 3).is_whole());
+}
+
+#[test]
+fn least_common_multiples(rt: HostRuntime) {
+    let power = 1u128 << 126;
+    let table = [
+        (4, 6, Some(12)),
+        (1, 7, Some(7)),
+        (0, 5, Some(0)),
+        (power, 1 << 100, Some(power)),
+        (power, 3, None),
+        (u128::MAX, u128::MAX, None),
+        (1 << 64, u128::MAX, None),
+    ];
+    for (left, right, want) in table {
+        assert_eq!(rt; common_multiple(left, right), want);
+    }
 }

@@ -1,25 +1,17 @@
 -- Numerators, and one step of the least common denominator.
 use Rattle.std.proofs.Common.{◌≡◌, ℕ, zero, suc, pos, ◌+◌, ◌/◌, ◌<◌, ◌≤◌, ◌^◌, List, length, Option, Some, None, Result, Ok, Err, refl, sym, ◌∙◌, ap, subst, arith, add-one}
 use native.Mathlib.Nat.{div-le_self}
-use Rattle.rational_theory.specs.Gcd.{gcd}
+use Rattle.rational_theory.specs.Gcd.{lcm}
 use Rattle.std.specs.Prelude.{nat_le, ◌==◌, if◌then◌else◌, SomeIff, OnOk}
 use Rattle.std.proofs.lemmas.Bool.Decides.{nat_tests}
 use Rattle.std.proofs.Common.{true, false}
 use Rattle.rational_theory.specs.Rational.{ℚ, over}
 use Rattle.narrow_fraction.specs.Attempt.{attempt, refusal_if}
 use Rattle.progression.specs.Street.{Street}
-use Rattle.recovery_theory.specs.Ticks.{in_parts, lcm, common, unit_of}
+use Rattle.recovery_theory.specs.Ticks.{in_parts, common, unit_of}
 use Rattle.offset_recovery.specs.declared.outcome.WideTiming.{WideTiming}
 use Rattle.offset_recovery.specs.declared.outcome.WideTiming.TheVariants as wide
 use Rattle.offset_recovery.specs.Tests.{unit_test}
-
-pub over_num : (m n : ℕ) → 0 < n → (over (pos m) n).num ≡ pos (m / gcd m n)
-unfolding over
-over_num m zero h = absurd (omega arith)
-over_num m (suc n) h = refl
-
-pub part_small : (m n : ℕ) → m < 2 ^ 80 → m / gcd m n < 2 ^ 80
-part_small m n h = let l : m / gcd m n ≤ m = div-le_self m (gcd m n) in omega arith
 
 -- ---- below the limit or not
 small : (n : ℕ) → n < 2 ^ 80 → nat_le (2 ^ 80) n ≡ false

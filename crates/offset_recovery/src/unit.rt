@@ -1,9 +1,9 @@
 //! Into how many ticks a part of the cycle is divided.
 
-ghost use Rattle.std.specs.Prelude.{◌≡◌, ◌==◌, if◌then◌else◌, ◌+◌, ◌/◌, ◌<◌, ◌≤◌, ◌^◌, ◌≤ℤ◌, nat_le, length, pos, suc, None, SomeIff, OnOk, unsigned_abs};
-ghost use Rattle.rational_theory.specs.Gcd.{gcd};
+ghost use Rattle.std.specs.Prelude.{◌≡◌, ◌==◌, if◌then◌else◌, ◌+◌, ◌<◌, ◌≤◌, ◌^◌, ◌≤ℤ◌, nat_le, length, pos, suc, None, SomeIff, OnOk, unsigned_abs};
+ghost use Rattle.rational_theory.specs.Gcd.{lcm};
 ghost use Rattle.narrow_fraction.specs.Attempt.{attempt, refusal_if, first_below};
-ghost use Rattle.recovery_theory.specs.Ticks.{lcm, common, in_parts, unit_of};
+ghost use Rattle.recovery_theory.specs.Ticks.{common, in_parts, unit_of};
 ghost use Rattle.offset_recovery.specs.Tests.{product_test, unit_test};
 ghost use Rattle.offset_recovery.specs.Recovered.{unit_tests};
 ghost use Rattle.offset_recovery.specs.Numbers.{ProductsFit};
@@ -12,7 +12,7 @@ use crate::outcome::WideTiming;
 use crate::products::{in_parts, product};
 use artery_model::Artery;
 use named_row::Point;
-use narrow_fraction::Frac;
+use narrow_fraction::{Frac, common_multiple};
 use time_space::LIMIT;
 
 /// How many columns a point has.
@@ -34,25 +34,12 @@ fn check_products(artery: &Artery, point: &Point) -> Result<(), WideTiming>
     Ok(())
 }
 
-/// What `common` does not share with `bottom`.
-fn own_part(common: u128, bottom: u128) -> u128
-    requires some { 0 < bottom }
-    requires common { common < 2 ^ 80 }
-    requires bottom { bottom < 2 ^ 127 }
-    ensures value { result ≡ common / gcd common bottom }
-    ensures small { result < 2 ^ 80 }
-{
-    Frac::reduced(common as i128, bottom).num().unsigned_abs()
-}
-
 /// The least common multiple, where it is below the limit.
 fn multiple(common: u128, bottom: u128) -> Option<u128>
-    requires some { 0 < bottom }
-    requires common { common < 2 ^ 80 }
-    requires bottom { bottom < 2 ^ 127 }
+    requires { 0 < bottom }
     ensures { SomeIff result (lcm common bottom < 2 ^ 80) (lcm common bottom) }
 {
-    match own_part(common, bottom).checked_mul(bottom) {
+    match common_multiple(common, bottom) {
         Some(multiple) if multiple < LIMIT => Some(multiple),
         _ => None,
     }

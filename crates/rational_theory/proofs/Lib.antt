@@ -11,3 +11,4 @@ pub mod Coprime
 pub mod Linear
 pub mod Fractions
 pub mod Rows
+pub mod Multiples

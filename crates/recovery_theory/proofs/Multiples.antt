@@ -2,33 +2,11 @@
 use Rattle.std.proofs.Common.{◌≡◌, ℕ, zero, suc, ◌*◌, ◌/◌, ◌<◌, ◌≤◌, ◌⊎◌, inl, inr, List, length, true, false, refl, sym, ◌∙◌, ap, subst, arith, mul-pos}
 use Rattle.std.specs.Prelude.{if◌then◌else◌, ◌==◌}
 use Rattle.std.proofs.lemmas.Bool.Decides.{nat_tests}
-use Rattle.rational_theory.specs.Gcd.{gcd}
+use Rattle.rational_theory.specs.Gcd.{lcm}
 use Rattle.rational_theory.specs.Rational.{ℚ}
-use Rattle.rational_theory.specs.laws.Fractions.{times_part}
-use Rattle.rational_theory.proofs.Fractions.{first_part_pos}
+use Rattle.rational_theory.proofs.Multiples.{IsMultiple, multiple_on, lcm_first, lcm_second, lcm_above}
 use Rattle.progression.specs.Street.{Street}
-use Rattle.recovery_theory.specs.Ticks.{in_parts, lcm, common, unit_of}
-
--- n is a whole number of times d
-pub record IsMultiple (n d : ℕ) : Type 0 where
-  pub times : ℕ
-  pub is : n ≡ times * d
-
-multiple_on : {n m d : ℕ} → IsMultiple n m → IsMultiple m d → IsMultiple n d
-multiple_on {n} {m} {d} h k = record { times = h.times * k.times; is = h.is ∙ ap (λ t. h.times * t) k.is ∙ omega arith }
-
-crossed : (g p q m n : ℕ) → g * p ≡ m → g * q ≡ n → p * n ≡ q * m
-crossed g p q m n h k = ap (λ t. p * t) (sym k) ∙ omega arith ∙ ap (λ t. q * t) h
-
--- the least common multiple is a multiple of both numbers, and above 0
-lcm_first : (m n : ℕ) → 0 < n → IsMultiple (lcm m n) m
-lcm_first m n h = let e = times_part m n h in record { times = n / gcd m n; is = crossed (gcd m n) (m / gcd m n) (n / gcd m n) m n e.0 e.1 }
-
-lcm_second : (m n : ℕ) → IsMultiple (lcm m n) n
-lcm_second m n = record { times = m / gcd m n; is = refl }
-
-lcm_above : (m n : ℕ) → 0 < m → 0 < n → 0 < lcm m n
-lcm_above m n h k = mul-pos (first_part_pos m n h k) k
+use Rattle.recovery_theory.specs.Ticks.{in_parts, common, unit_of}
 
 module _ (a : Street) (x : List ℚ) where
   pub common_above : (k : ℕ) → 0 < common a x k

@@ -1,6 +1,6 @@
 -- From the fractions of a point to whole ticks: the columns in parts, their least common denominator, and each column's ticks.
-use Rattle.std.specs.Prelude.{ℕ, zero, suc, ◌*◌, ◌/◌, ◌==◌, List, length, slice_index_or, unsigned_abs, if◌then◌else◌}
-use Rattle.rational_theory.specs.Gcd.{gcd}
+use Rattle.std.specs.Prelude.{ℕ, zero, suc, ◌*◌, ◌==◌, List, length, slice_index_or, unsigned_abs, if◌then◌else◌}
+use Rattle.rational_theory.specs.Gcd.{lcm}
 use Rattle.rational_theory.specs.Rational.{ℚ, ◌*ℚ◌}
 use Rattle.rational_theory.specs.Floor.{floor_ℚ}
 use Rattle.progression.specs.Street.{Street, count}
@@ -14,10 +14,6 @@ value_in x j = slice_index_or x j (number 0)
 
 abbrev pub in_parts : Street → List ℚ → ℕ → ℚ
 in_parts a x j = value_in x j *ℚ number a.head.parts
-
--- the least common multiple of two numbers above 0
-abbrev pub lcm : ℕ → ℕ → ℕ
-lcm m n = m / gcd m n * n
 
 -- the least common denominator of the first j columns in parts
 unfoldable pub common : Street → List ℚ → ℕ → ℕ
