@@ -7,6 +7,7 @@ pub mod Reading
 pub mod Families
 pub mod Warrants
 pub mod CertificateText
+pub mod SecondText
 pub mod CertificateReading
 pub mod Promises
 pub mod FirstBad
