@@ -1,20 +1,19 @@
 -- Whole runs without a fault end as they should, and faults are told.
-use Rattle.std.proofs.Common.{◌≡◌, ℕ, List, Option, Some, None, ◌⊎◌, inl, inr, refl, ◌∙◌, ap, subst, arith}
+use Rattle.std.proofs.Common.{◌≡◌, ℕ, List, [], ◌∷◌, Option, Some, None, ◌⊎◌, inl, inr, refl, ◌∙◌, ap, subst, arith}
 use Rattle.std.specs.Prelude.{IsSome, option_map}
-use Rattle.progression.specs.Street.{Street}
 use Rattle.description_reader.specs.Described as described
 use Rattle.outer_edge.specs.Counts.{next_count, Rose, SameCounts}
 use Rattle.workload_maker.specs.Made.{made_street}
-use Rattle.maxband_run.specs.Command.{Request, Solve, Make, Trial, Sweep, shape}
+use Rattle.maxband_run.specs.Command.{Request, Solve, Renew, Make, Trial, Sweep, shape}
 use Rattle.maxband_run.specs.Outside.{Outside, NamedBytes, named, IsDone, IsBroken}
-use Rattle.maxband_run.specs.Reading.{input, Reads, IsUnread}
-use Rattle.maxband_run.specs.Run.{Answers, Ends}
-use Rattle.maxband_run.specs.Laws.{IsFault, IsVerdict, FaultsAreTold, SolveIsComplete, MakeIsComplete, TrialIsComplete, SweepIsComplete}
-use Rattle.maxband_run.specs.declared.reader.Reader.TheVariants.{Description}
+use Rattle.maxband_run.specs.Reading.{Input, input, Value, Reads, IsUnread, StopsReading}
+use Rattle.maxband_run.specs.Run.{Answers, Answered, Ends}
+use Rattle.maxband_run.specs.Laws.{IsFault, IsVerdict, FaultsAreTold, SolveIsComplete, MakeIsComplete, TrialIsComplete, SweepIsComplete, RenewIsComplete}
+use Rattle.maxband_run.specs.declared.reader.Reader.TheVariants.{Description, Certificate}
 use Rattle.maxband_run.specs.declared.cause.Cause.{Cause}
 use Rattle.maxband_run.specs.declared.cause.Cause.TheVariants as cause
 use Rattle.maxband_run.proofs.Readers.{read_apart}
-use Rattle.maxband_run.proofs.Stopped.{stops_same}
+use Rattle.maxband_run.proofs.Stopped.{unread_stop, stops_same}
 use Rattle.maxband_run.proofs.Once.{verdict_cause, show_done}
 
 -- what was counted rose
@@ -62,51 +61,46 @@ no_name : (asked : Option Request) (held : List ℕ → Option (List ℕ)) (befo
 no_name asked held before after c lines p e (inl h) = let none = h.no_put in cc
 no_name asked held before after c lines p e (inr h) = let none : Some p ≡ None = h.put_is ∙ ap (option_map (λ n. named n h.bytes)) e in cc
 
-module _ (reader : described.OneAnswer) (before now : Outside) (artery certificate : List ℕ) (limit : Option ℕ) (a : Street) (told : IsSome (before.holds artery)) (r : Reads Description (before.holds artery) a)
-    (no_read : Rose (before.reads artery) (now.reads artery) → ⊥) where
-  -- a description that is read and of which no read failed leaves a verdict
-  solve_unread : (c : Cause) (lines : List ℕ) → IsUnread (input Description artery) 1 before.holds before.reads now.reads c lines → ⊥
-  solve_unread (cause.ReadFault file) lines h = no_read (rose (before.reads artery) (now.reads artery) h.1.once)
-  solve_unread (cause.TooLong file) lines h = read_apart reader before.holds before.reads now.reads (input Description artery) 1 a (cause.TooLong file) lines told tt r h
-  solve_unread (cause.Refused f) lines h = read_apart reader before.holds before.reads now.reads (input Description artery) 1 a (cause.Refused f) lines told tt r h
-  solve_unread c lines h = absurd h.1.2
+-- ---- a command that reads one file and puts one, where the file is read and no read of it failed
+module _ (reader : described.OneAnswer) (before now : Outside) (asked : Option Request) (i : Input) (name : List ℕ) (one : (shape asked).inputs ≡ i ∷ []) (puts : (shape asked).output ≡ Some name)
+    (v : Value i.reader) (told : IsSome (before.holds i.name)) (r : Reads i.reader (before.holds i.name) v) (no_read : Rose (before.reads i.name) (now.reads i.name) → ⊥) where
+  unread : (c : Cause) (lines : List ℕ) → IsUnread i 1 before.holds before.reads now.reads c lines → ⊥
+  unread (cause.ReadFault file) lines h = no_read (rose (before.reads i.name) (now.reads i.name) h.1.once)
+  unread cause.WriteFault lines h = unread_stop before.holds before.reads now.reads i 1 cause.WriteFault lines h
+  unread cause.Memory lines h = unread_stop before.holds before.reads now.reads i 1 cause.Memory lines h
+  unread c lines h = read_apart reader before.holds before.reads now.reads i 1 v c lines told tt r h
 
-  solve_verdict : (c : Cause) (lines : List ℕ) (put : Option NamedBytes) → Answers before.holds before.reads now.reads (Some (Solve artery certificate limit)) c lines put → IsVerdict c
-  solve_verdict c lines put (inl h) = absurd (elim h.stops [ inl k ↦ solve_unread c lines k | inr k ↦ k.2 ])
-  solve_verdict c lines put (inr h) = verdict_cause c h.finds.found.verdict h.finds.cause_is
+  not_stopped : (c : Cause) (lines : List ℕ) → StopsReading (i ∷ []) 1 before.holds before.reads now.reads c lines → ⊥
+  not_stopped c lines (inl h) = unread c lines h
+  not_stopped c lines (inr h) = h.2
 
-  pub solve_complete : (c : Cause) → (Rose (before.puts certificate) (now.puts certificate) → ⊥) → (Rose before.writes now.writes → ⊥)
-      → Ends before now (Some (Solve artery certificate limit)) c → IsVerdict c ⊎ (c ≡ cause.Memory)
-  solve_complete cause.WriteFault no_put no_write h =
-      absurd (not_broken before now no_write h.lines h.put
-      (λ p e rises. no_put (subst (λ name. Rose (before.puts name) (now.puts name))
-      (put_name (Some (Solve artery certificate limit)) before.holds before.reads now.reads h.reached h.lines certificate p refl
-      (subst (λ (o : Option NamedBytes). Answers before.holds before.reads now.reads (Some (Solve artery certificate limit)) h.reached h.lines o) e h.answer)) rises)) h.broken)
-  solve_complete cause.Memory no_put no_write h = inr refl
-  solve_complete c no_put no_write h = inl (solve_verdict c h.0 h.1 h.2)
+  -- so it ends by what it finds, or by want of memory
+  module _ (p : Cause → Type 0) (found : (c : Cause) (lines : List ℕ) (put : Option NamedBytes) → Answered before.holds before.reads now.reads asked c lines put → p c) where
+    finds_so : (c : Cause) (lines : List ℕ) (put : Option NamedBytes) → Answers before.holds before.reads now.reads asked c lines put → p c
+    finds_so c lines put (inl h) = absurd (not_stopped c lines (subst (λ (is : List Input). StopsReading is 1 before.holds before.reads now.reads c lines) one h.stops))
+    finds_so c lines put (inr h) = found c lines put h
+
+    ends_so : (c : Cause) → (Rose (before.puts name) (now.puts name) → ⊥) → (Rose before.writes now.writes → ⊥) → Ends before now asked c → p c ⊎ (c ≡ cause.Memory)
+    ends_so cause.WriteFault no_put no_write h =
+        absurd (not_broken before now no_write h.lines h.put
+        (λ b e rises. no_put (subst (λ n. Rose (before.puts n) (now.puts n))
+        (put_name asked before.holds before.reads now.reads h.reached h.lines name b puts
+        (subst (λ (o : Option NamedBytes). Answers before.holds before.reads now.reads asked h.reached h.lines o) e h.answer)) rises)) h.broken)
+    ends_so cause.Memory no_put no_write h = inr refl
+    ends_so c no_put no_write h = inl (finds_so c h.0 h.1 h.2)
 
 pub complete : described.OneAnswer → SolveIsComplete
-complete reader before now artery certificate limit a c told r no_read no_put no_write h = solve_complete reader before now artery certificate limit a told r no_read c no_put no_write h
-
-module _ (reader : described.OneAnswer) (before now : Outside) (artery table : List ℕ) (limit : Option ℕ) (cycles : List (List ℕ)) (a : Street) (told : IsSome (before.holds artery))
-    (r : Reads Description (before.holds artery) a) (no_read : Rose (before.reads artery) (now.reads artery) → ⊥) where
-  -- and leaves a table
-  sweep_done : (c : Cause) (lines : List ℕ) (put : Option NamedBytes) → Answers before.holds before.reads now.reads (Some (Sweep artery table limit cycles)) c lines put → c ≡ cause.Done
-  sweep_done c lines put (inl h) = absurd (elim h.stops [ inl k ↦ solve_unread reader before now artery table limit a told r no_read c lines k | inr k ↦ k.2 ])
-  sweep_done c lines put (inr h) = h.finds.cause_is
-
-  sweep_ends : (c : Cause) → (Rose (before.puts table) (now.puts table) → ⊥) → (Rose before.writes now.writes → ⊥)
-      → Ends before now (Some (Sweep artery table limit cycles)) c → (c ≡ cause.Done) ⊎ (c ≡ cause.Memory)
-  sweep_ends cause.WriteFault no_put no_write h =
-      absurd (not_broken before now no_write h.lines h.put
-      (λ p e rises. no_put (subst (λ name. Rose (before.puts name) (now.puts name))
-      (put_name (Some (Sweep artery table limit cycles)) before.holds before.reads now.reads h.reached h.lines table p refl
-      (subst (λ (o : Option NamedBytes). Answers before.holds before.reads now.reads (Some (Sweep artery table limit cycles)) h.reached h.lines o) e h.answer)) rises)) h.broken)
-  sweep_ends cause.Memory no_put no_write h = inr refl
-  sweep_ends c no_put no_write h = inl (sweep_done c h.0 h.1 h.2)
+complete reader before now artery certificate limit a c told r no_read no_put no_write h =
+    ends_so reader before now (Some (Solve artery certificate limit)) (input Description artery) certificate refl refl a told r no_read IsVerdict
+    (λ c lines put k. verdict_cause c k.finds.found.verdict k.finds.cause_is) c no_put no_write h
 
 pub sweep_complete : described.OneAnswer → SweepIsComplete
-sweep_complete reader before now artery table limit cycles a c told r no_read no_put no_write h = sweep_ends reader before now artery table limit cycles a told r no_read c no_put no_write h
+sweep_complete reader before now artery table limit cycles a c told r no_read no_put no_write h =
+    ends_so reader before now (Some (Sweep artery table limit cycles)) (input Description artery) table refl refl a told r no_read (λ c. c ≡ cause.Done) (λ c lines put k. k.finds.cause_is) c no_put no_write h
+
+pub renew_complete : described.OneAnswer → RenewIsComplete
+renew_complete reader before now certificate new w c told r no_read no_put no_write h =
+    ends_so reader before now (Some (Renew certificate new)) (input Certificate certificate) new refl refl w told r no_read (λ c. c ≡ cause.Done) (λ c lines put k. k.finds.cause_is) c no_put no_write h
 
 -- what puts nothing isn't broken but by a write
 quiet : (before now : Outside) (asked : Option Request) → (shape asked).output ≡ None → (Rose before.writes now.writes → ⊥) → Ends before now asked cause.WriteFault → ⊥

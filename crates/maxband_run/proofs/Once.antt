@@ -13,7 +13,7 @@ use Rattle.branch_tree.specs.declared.site.SitePart.{SitePart}
 use Rattle.workload_maker.specs.Made.{made_street}
 use Rattle.maxband_run.specs.Lines.{fails_line}
 use Rattle.maxband_run.specs.CheckLines.{rejected_line}
-use Rattle.maxband_run.specs.Command.{Request, Hold, Show, Check, Solve, Make, Trial, Sweep, shape}
+use Rattle.maxband_run.specs.Command.{Request, Hold, Show, Check, Solve, Renew, Make, Trial, Sweep, shape}
 use Rattle.maxband_run.specs.Reading.{Input, Values}
 use Rattle.maxband_run.specs.Searched.{cause_of}
 use Rattle.maxband_run.specs.Hold.{HoldFinds}
@@ -61,6 +61,7 @@ finds_reached (Some (Hold artery timing)) v c l bytes h = hold_reached v.0 v.1.0
 finds_reached (Some (Show artery)) v c l bytes h = show_reached v.0 c l h
 finds_reached (Some (Check artery certificate)) v c l bytes h = check_reached v.0 v.1.0 c l h
 finds_reached (Some (Solve artery certificate limit)) v c l bytes h = verdict_reached c (verdict_cause c h.found.verdict h.cause_is)
+finds_reached (Some (Renew certificate new)) v c l bytes h = subst (λ (d : Cause). IsReached d) (sym h.cause_is) tt
 finds_reached (Some (Make signals seed)) v c l bytes h = show_reached (made_street signals seed) c l h
 finds_reached (Some (Trial signals seed limit)) v c l bytes h = verdict_reached c (verdict_cause c h.found.verdict h.cause_is)
 finds_reached (Some (Sweep artery table limit cycles)) v c l bytes h = subst (λ (d : Cause). IsReached d) (sym h.cause_is) tt
@@ -103,6 +104,7 @@ finds_once one_text one_first rules apart once (Some (Show artery)) v c d x y s 
 finds_once one_text one_first rules apart once (Some (Check artery certificate)) v c d x y s t h k = check_once apart once v.0 v.1.0 c d x y h k
 finds_once one_text one_first rules apart once (Some (Solve artery certificate limit)) v c d x y s t h k =
     (verdict_cause c h.found.verdict h.cause_is, verdict_cause d k.found.verdict k.cause_is)
+finds_once one_text one_first rules apart once (Some (Renew certificate new)) v c d x y s t h k = (h.cause_is ∙ sym k.cause_is, h.lines_are ∙ sym k.lines_are)
 finds_once one_text one_first rules apart once (Some (Make signals seed)) v c d x y s t h k = show_once one_text (made_street signals seed) c d x y h k
 finds_once one_text one_first rules apart once (Some (Trial signals seed limit)) v c d x y s t h k =
     (verdict_cause c h.found.verdict h.cause_is, verdict_cause d k.found.verdict k.cause_is)

@@ -1,11 +1,12 @@
 -- What the numbers of the statuses say of the model.
-use Rattle.std.proofs.Common.{◌≡◌, ℕ, List, Option, Some, None, inl, inr, refl, sym, ◌∙◌, ap, subst}
+use Rattle.std.proofs.Common.{◌≡◌, ℕ, List, Option, Some, None, Ok, inl, inr, refl, sym, ◌∙◌, ap, subst}
 use Rattle.outer_edge.specs.Held.{HoldsExactly}
 use Rattle.outer_edge.specs.Taken.{Appends}
 use Rattle.rational_theory.specs.Rational.{ℚ}
 use Rattle.progression.specs.Street.{Street}
 use Rattle.progression.specs.Plan.{Plan}
 use Rattle.progression.specs.Best.{weighted_band}
+use Rattle.plan_text.specs.CertificateReading.{certificate_of}
 use Rattle.plan_text.specs.declared.certificate.Claim.{Claim}
 use Rattle.plan_text.specs.declared.certificate.Claim.TheVariants as claim
 use Rattle.time_space.specs.Failing.{FailsRulesOut}
@@ -17,12 +18,12 @@ use Rattle.branch_and_bound.specs.declared.found.Verdict.TheVariants.{Best, NoTi
 use Rattle.branch_tree.specs.declared.site.SitePart.{SitePart}
 use Rattle.branch_tree.specs.declared.found.Found.{Found}
 use Rattle.branch_tree.specs.Certified.{value_of, claim_by, warrant_of}
-use Rattle.maxband_run.specs.Command.{Hold, Check, Solve, shape}
+use Rattle.maxband_run.specs.Command.{Hold, Check, Solve, Renew, shape}
 use Rattle.maxband_run.specs.Outside.{Outside, NamedBytes, IsPut}
 use Rattle.certified_search.specs.Searched.{Proves}
 use Rattle.maxband_run.specs.Searched.{cause_of, IsTextOf}
 use Rattle.maxband_run.specs.Run.{Answered, Ends}
-use Rattle.maxband_run.specs.Laws.{IsVerdict, HoldsCertificate, PutsBest, PutsNone, PutsBound, SolveSays, HoldSays, CheckSays, SaysGood, SaysBroken, SaysAccepted, SaysRejected}
+use Rattle.maxband_run.specs.Laws.{IsVerdict, HoldsCertificate, PutsBest, PutsNone, PutsBound, SolveSays, HoldSays, CheckSays, SaysGood, SaysBroken, SaysAccepted, SaysRejected, PutsRenewed, RenewSays}
 use Rattle.maxband_run.specs.Status.{number_of}
 use Rattle.maxband_run.specs.declared.cause.Cause.{Cause}
 use Rattle.maxband_run.specs.declared.cause.Cause.TheVariants as cause
@@ -226,3 +227,19 @@ check_says apart before now artery certificate c h = (
   (λ e. says_accepted apart before now artery certificate (subst (λ (d : Cause). Ends before now (Some (Check artery certificate)) d) (zero_is c e) h)),
   (λ e. says_rejected apart before now artery certificate c e h),
 )
+
+-- ---- renew
+module _ (before now : Outside) (certificate new : List ℕ) where
+  puts_renewed : Completes before now (Some (Renew certificate new)) cause.Done → PutsRenewed before now certificate new
+  puts_renewed h =
+      let f = verdict_found before.holds before.reads now.reads (Some (Renew certificate new)) cause.Done h.0 h.1 tt h.2 in
+      let held = subst (λ (p : Option NamedBytes). IsPut p before.holds now.holds) f.put_is h.3.files in
+      record {
+        warrant = f.values.0;
+        text = f.read.0;
+        put = subst (λ (x : List ℕ). HoldsExactly (now.holds new) x) f.finds.text_is.written held.0;
+        read_back = subst (λ (x : List ℕ). certificate_of x ≡ Ok f.values.0) f.finds.text_is.written f.finds.text_is.read_back;
+      }
+
+pub renew_says : RenewSays
+renew_says before now certificate new c h e = puts_renewed before now certificate new (subst (λ (d : Cause). Ends before now (Some (Renew certificate new)) d) (zero_is c e) h)

@@ -31,7 +31,7 @@ refused_stop Certificate x (cause.BadText b) l h = tt
 refused_stop Certificate x c l h = absurd h
 
 module _ (held : List ℕ → Option (List ℕ)) (before after : List ℕ → ℕ) where
-  unread_stop : (i : Input) (place : ℕ) (c : Cause) (l : List ℕ) → IsUnread i place held before after c l → IsStop c
+  pub unread_stop : (i : Input) (place : ℕ) (c : Cause) (l : List ℕ) → IsUnread i place held before after c l → IsStop c
   unread_stop i place (cause.ReadFault f) l h = tt
   unread_stop i place (cause.TooLong f) l h = tt
   unread_stop i place c l h = refused_stop i.reader h.1.0 c l h.1.2

@@ -15,6 +15,7 @@ pub data Request : Type 0 where
   Show : List ℕ → Request  -- the name of a description
   Check : List ℕ → List ℕ → Request  -- the names of a description and of a certificate
   Solve : List ℕ → List ℕ → Option ℕ → Request  -- the names of a description and of a certificate, and the units that a search may spend, where there is a limit
+  Renew : List ℕ → List ℕ → Request  -- the names of a certificate and of the file for its second text
   Make : ℕ → ℕ → Request  -- how many signals, and the seed
   Trial : ℕ → ℕ → Option ℕ → Request  -- how many signals, the seed, and the same of a search
   Sweep : List ℕ → List ℕ → Option ℕ → List (List ℕ) → Request  -- the names of a description and of a table, the same of each search, and the words of the cycles
@@ -24,6 +25,7 @@ view (command.Hold artery timing) = Hold artery.now timing.now
 view (command.Show artery) = Show artery.now
 view (command.Check artery certificate) = Check artery.now certificate.now
 view (command.Solve artery certificate limit) = Solve artery.now certificate.now limit
+view (command.Renew certificate new) = Renew certificate.now new.now
 view (command.Make signals seed) = Make signals seed
 view (command.Trial signals seed limit) = Trial signals seed limit
 view (command.Sweep artery table limit cycles) = Sweep artery.now table.now limit (map string_bytes cycles.now)
@@ -42,6 +44,7 @@ shape (Some (Hold artery timing)) = record { inputs = input Description artery �
 shape (Some (Show artery)) = record { inputs = input Description artery ∷ []; output = None; searches = false }
 shape (Some (Check artery certificate)) = record { inputs = input Description artery ∷ input Certificate certificate ∷ []; output = None; searches = false }
 shape (Some (Solve artery certificate limit)) = record { inputs = input Description artery ∷ []; output = Some certificate; searches = true }
+shape (Some (Renew certificate new)) = record { inputs = input Certificate certificate ∷ []; output = Some new; searches = false }
 shape (Some (Make signals seed)) = record { inputs = []; output = None; searches = false }
 shape (Some (Trial signals seed limit)) = record { inputs = []; output = None; searches = true }
 shape (Some (Sweep artery table limit cycles)) = record { inputs = input Description artery ∷ []; output = Some table; searches = false }
@@ -69,7 +72,8 @@ with_two word first second =
     if bytes_eq word (codes "hold") then Some (Hold first second)
     else (if bytes_eq word (codes "check") then Some (Check first second)
     else (if bytes_eq word (codes "solve") then Some (Solve first second (Some usual_work))
-    else (if bytes_eq word (codes "make") then make_of first second else None)))
+    else (if bytes_eq word (codes "renew") then Some (Renew first second)
+    else (if bytes_eq word (codes "make") then make_of first second else None))))
 
 -- a first word with three more
 abbrev pub with_three : List ℕ → List ℕ → List ℕ → List ℕ → Option Request

@@ -11,6 +11,7 @@ use Rattle.progression.specs.Best.{Best, NoTiming, Bounded, weighted_band}
 use Rattle.time_space.specs.Failing.{Fails}
 use Rattle.time_space.specs.declared.failing.Failing.{Failing}
 use Rattle.plan_text.specs.Warrants.{Warrant}
+use Rattle.plan_text.specs.CertificateText.{certificate_text}
 use Rattle.plan_text.specs.CertificateReading.{certificate_of}
 use Rattle.plan_text.specs.declared.certificate.Claim.{Claim}
 use Rattle.plan_text.specs.declared.certificate.Claim.TheVariants as claim
@@ -25,7 +26,7 @@ use Rattle.branch_tree.specs.Certified.{value_of, warrant_of}
 use Rattle.maxband_run.specs.CheckLines.{accepted_line}
 use Rattle.maxband_run.specs.Lines.{holds_lines}
 use Rattle.maxband_run.specs.Outside.{Outside, NamedBytes}
-use Rattle.maxband_run.specs.Command.{Request, Hold, Check, Solve, Make, Trial, Sweep, shape}
+use Rattle.maxband_run.specs.Command.{Request, Hold, Check, Solve, Renew, Make, Trial, Sweep, shape}
 use Rattle.maxband_run.specs.Reading.{Input, most_bytes, Reads, AreTold}
 use Rattle.maxband_run.specs.declared.reader.Reader.TheVariants.{Description, Timing, Certificate}
 use Rattle.maxband_run.specs.Solve.{IsSolution}
@@ -100,6 +101,13 @@ SweepIsComplete = (before now : Outside) (artery table : List ℕ) (limit : Opti
     → IsSome (before.holds artery) → Reads Description (before.holds artery) a
     → ¬ Rose (before.reads artery) (now.reads artery) → ¬ Rose (before.puts table) (now.puts table) → ¬ Rose before.writes now.writes
     → Ends before now (Some (Sweep artery table limit cycles)) c → (c ≡ cause.Done) ⊎ (c ≡ cause.Memory)
+
+-- Where the file tells bytes that are a certificate, and no read of it, no put of the new file and no write failed, `renew` is done or ends by want of memory.
+abbrev pub RenewIsComplete : Type 0
+RenewIsComplete = (before now : Outside) (certificate new : List ℕ) (w : Warrant) (c : Cause)
+    → IsSome (before.holds certificate) → Reads Certificate (before.holds certificate) w
+    → ¬ Rose (before.reads certificate) (now.reads certificate) → ¬ Rose (before.puts new) (now.puts new) → ¬ Rose before.writes now.writes
+    → Ends before now (Some (Renew certificate new)) c → (c ≡ cause.Done) ⊎ (c ≡ cause.Memory)
 
 -- a search without a limit
 abbrev pub IsUnlimited : Request → Type 0
@@ -231,3 +239,14 @@ pub record SaysRejected (before : Outside) (artery certificate : List ℕ) (c : 
 abbrev pub CheckSays : Type 0
 CheckSays = (before now : Outside) (artery certificate : List ℕ) (c : Cause) → Ends before now (Some (Check artery certificate)) c
     → (number_of c ≡ 0 → SaysAccepted before now artery certificate) × (number_of c ≡ 4 → SaysRejected before artery certificate c)
+
+-- `renew` with status 0: the file that is put holds, where it is told, the second text of the certificate that the first file held, and that text is read as just
+-- this certificate
+pub record PutsRenewed (before now : Outside) (certificate new : List ℕ) : Type 0 where
+  pub warrant : Warrant
+  pub text : Reads Certificate (before.holds certificate) warrant
+  pub put : HoldsExactly (now.holds new) (certificate_text warrant)
+  pub read_back : certificate_of (certificate_text warrant) ≡ Ok warrant
+
+abbrev pub RenewSays : Type 0
+RenewSays = (before now : Outside) (certificate new : List ℕ) (c : Cause) → Ends before now (Some (Renew certificate new)) c → number_of c ≡ 0 → PutsRenewed before now certificate new

@@ -11,6 +11,7 @@ pub mod Show
 pub mod Check
 pub mod Searched
 pub mod Solve
+pub mod Renew
 pub mod Make
 pub mod Trial
 pub mod Sweep

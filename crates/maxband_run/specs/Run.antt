@@ -2,13 +2,14 @@
 use Rattle.std.specs.Prelude.{◌≡◌, ◌⊎◌, ℕ, List, [], Option, Some, None, option_map}
 use Rattle.outer_edge.specs.Counts.{SameCounts}
 use Rattle.maxband_run.specs.Outside.{Outside, NamedBytes, named, IsDone, IsUntouched, IsBroken}
-use Rattle.maxband_run.specs.Command.{Request, Hold, Show, Check, Solve, Make, Trial, Sweep, shape}
+use Rattle.maxband_run.specs.Command.{Request, Hold, Show, Check, Solve, Renew, Make, Trial, Sweep, shape}
 use Rattle.maxband_run.specs.Reading.{Input, Values, AreRead, StopsReading}
 use Rattle.maxband_run.specs.Lines.{words_line}
 use Rattle.maxband_run.specs.Hold.{HoldFinds}
 use Rattle.maxband_run.specs.Show.{Shows}
 use Rattle.maxband_run.specs.Check.{CheckFinds}
 use Rattle.maxband_run.specs.Solve.{IsSolution}
+use Rattle.maxband_run.specs.Renew.{IsRenewal}
 use Rattle.maxband_run.specs.Make.{Makes}
 use Rattle.maxband_run.specs.Trial.{IsTrial}
 use Rattle.maxband_run.specs.Sweep.{IsSweep}
@@ -22,6 +23,7 @@ Finds (Some (Hold artery timing)) v c lines bytes = HoldFinds v.0 v.1.0 c lines
 Finds (Some (Show artery)) v c lines bytes = Shows v.0 c lines
 Finds (Some (Check artery certificate)) v c lines bytes = CheckFinds v.0 v.1.0 c lines
 Finds (Some (Solve artery certificate limit)) v c lines bytes = IsSolution v.0 limit c lines bytes
+Finds (Some (Renew certificate new)) v c lines bytes = IsRenewal v.0 c lines bytes
 Finds (Some (Make signals seed)) v c lines bytes = Makes signals seed c lines
 Finds (Some (Trial signals seed limit)) v c lines bytes = IsTrial signals seed limit c lines
 Finds (Some (Sweep artery table limit cycles)) v c lines bytes = IsSweep v.0 limit cycles c lines bytes

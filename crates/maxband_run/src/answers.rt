@@ -6,7 +6,7 @@ ghost use Rattle.outer_edge.specs.Counts.{NoneFell, SameCounts};
 ghost use Rattle.outer_edge.specs.Held.{SameFiles};
 ghost use Rattle.maxband_run.specs.Lines.{words_line};
 ghost use Rattle.maxband_run.specs.Outside.{view};
-ghost use Rattle.maxband_run.specs.Command.{Hold, Show, Check, Solve, Sweep};
+ghost use Rattle.maxband_run.specs.Command.{Hold, Show, Check, Solve, Renew, Sweep};
 ghost use Rattle.maxband_run.specs.Cycles.{SpellCycles};
 ghost use Rattle.maxband_run.specs.Run.{Answers};
 
@@ -16,6 +16,7 @@ use crate::check::check;
 use crate::hold::hold;
 use crate::inputs::{artery_of, certificate_of, timing_of};
 use crate::lines::words_line;
+use crate::renew::renew;
 use crate::show::show;
 use crate::solve::solve;
 use crate::sweep::sweep;
@@ -118,6 +119,28 @@ pub fn solve_answer<'a, F: Files>(
         Err(end) => return end,
     };
     solve(alloc, &street, certificate, limit)
+}
+
+/// The answer of `renew`.
+pub fn renew_answer<'a, F: Files>(
+    alloc: Global,
+    files: &mut F,
+    certificate: &'a str,
+    new: &'a str,
+) -> Result<Answer<'a>, Memory>
+    ensures told { IfOk result (λ a. Answers (F.holds files.old) (F.read_faults files.old) (F.read_faults files.new) (Some (Renew certificate.now new.now)) a.cause a.lines.items (option_map view a.put)) }
+    ensures memory { OnErr result (SameCounts (F.read_faults files.old) (F.read_faults files.new)) }
+
+    // In every case.
+    ensures files { SameFiles (F.holds files.old) (F.holds files.new) }
+    ensures reads { NoneFell (F.read_faults files.old) (F.read_faults files.new) }
+    ensures puts { SameCounts (F.put_faults files.old) (F.put_faults files.new) }
+{
+    let warrant = match certificate_of(alloc, files, certificate, 1) {
+        Ok(warrant) => warrant,
+        Err(end) => return end,
+    };
+    renew(alloc, &warrant, new)
 }
 
 /// The answer of `sweep`.

@@ -32,6 +32,11 @@ pub enum Command<'a> {
         certificate: &'a str,
         limit: Option<u64>,
     },
+    /// Put the certificate of the first file, in whichever format it is, into the second in the second format.
+    Renew {
+        certificate: &'a str,
+        new: &'a str,
+    },
     /// Write the canonical description of the artery that is made with so many signals from the seed.
     Make {
         signals: u32,
@@ -95,6 +100,11 @@ fn with_two<'a>(word: &str, first: &'a str, second: &'a str) -> Option<Command<'
             artery: first,
             certificate: second,
             limit: Some(USUAL_WORK),
+        })
+    } else if word == "renew" {
+        Some(Command::Renew {
+            certificate: first,
+            new: second,
         })
     } else if word == "make" {
         make_of(first, second)
@@ -206,6 +216,7 @@ pub fn room_for_faults(command: Option<Command<'_>>) -> u64
             | Command::Solve { artery, .. }
             | Command::Sweep { artery, .. },
         ) => fault_bytes(artery),
+        Some(Command::Renew { certificate, .. }) => fault_bytes(certificate),
         Some(
             Command::Hold {
                 artery,

@@ -1,6 +1,6 @@
 //! The run of the program `maxband`: it finds best timings of the signals of one artery (`solve`), with certificates of what
 //! is claimed of all its good timings (`check`), tests timings against its time-space diagram (`hold`), writes the canonical
-//! description of an artery (`show`), and makes arteries from a seed, to be described (`make`) or searched (`trial`).
+//! description of an artery (`show`), writes certificates in the second format (`renew`), and makes arteries from a seed, to be described (`make`) or searched (`trial`).
 //!
 //! Start with `run`, which is the program over any files and any output. Its contract is the program's theorem: each status
 //! has its cause, and the output grows by exactly that answer's lines.
@@ -20,6 +20,7 @@ mod lines;
 mod make;
 mod numbers;
 mod reader;
+mod renew;
 mod searching;
 mod show;
 mod solve;
@@ -29,7 +30,8 @@ mod trial;
 
 pub use cause::{Cause, Status};
 pub use top::{
-    law_check_says, law_faults_are_told, law_hold_says, law_make_is_complete, law_one_answer,
-    law_put_is_accepted, law_solve_is_complete, law_solve_says, law_sweep_is_complete,
+    law_all_never_stops_by_work, law_check_says, law_faults_are_told, law_hold_says,
+    law_make_is_complete, law_one_answer, law_put_is_accepted, law_renew_is_complete,
+    law_renew_says, law_solve_is_complete, law_solve_says, law_sweep_is_complete,
     law_trial_is_complete, run,
 };

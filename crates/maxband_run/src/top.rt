@@ -8,11 +8,11 @@ ghost use Rattle.maxband_run.specs.Command as commands;
 ghost use Rattle.maxband_run.specs.Command.{request_of, shape, InLimits};
 ghost use Rattle.maxband_run.specs.Outside.{outside, view, OthersKept, PutsCounted};
 ghost use Rattle.maxband_run.specs.Run.{Answers, Ends, LeavesAlone};
-ghost use Rattle.maxband_run.specs.Laws.{OneAnswer, FaultsAreTold, SolveIsComplete, MakeIsComplete, TrialIsComplete, SweepIsComplete, PutIsAccepted, AllNeverStopsByWork, SolveSays, HoldSays, CheckSays};
+ghost use Rattle.maxband_run.specs.Laws.{OneAnswer, FaultsAreTold, SolveIsComplete, MakeIsComplete, TrialIsComplete, SweepIsComplete, RenewIsComplete, PutIsAccepted, AllNeverStopsByWork, SolveSays, HoldSays, CheckSays, RenewSays};
 
 use crate::answer::Answer;
 use crate::answers::{
-    check_answer, hold_answer, show_answer, solve_answer, sweep_answer, words_answer,
+    check_answer, hold_answer, renew_answer, show_answer, solve_answer, sweep_answer, words_answer,
 };
 use crate::cause::{Cause, Status};
 use crate::command::{Command, command_in, room_for_faults};
@@ -55,6 +55,7 @@ fn answer_to<'a, F: Files>(
                 limit,
             },
         ) => solve_answer(alloc, files, artery, certificate, limit),
+        Some(Command::Renew { certificate, new }) => renew_answer(alloc, files, certificate, new),
         Some(Command::Make { signals, seed }) => make(alloc, signals, seed),
         Some(
             Command::Trial {
@@ -89,7 +90,8 @@ fn status(cause: Cause) -> Status
 ///
 /// The status has its cause: what the bytes of the files are, which are those that they held at entry where they tell them, what
 /// is made from a seed, or which failed call was counted. The output grew by exactly that answer's lines, and no file changed but
-/// that `solve` put the text of its certificate, which is read back as the very certificate that was accepted, or `sweep` its table. What a command
+/// that `solve` put the text of its certificate, which is read back as the very certificate that was accepted, `renew` that of the
+/// certificate that it read, or `sweep` its table. What a command
 /// reads and puts is a table, `shape`. Each call that failed and was counted is told by the status: after any other no count has
 /// changed. After `Memory` no file changed and nothing was written; after `WriteFault` either the put failed and nothing was
 /// written, or a front of the lines of the answer that was reached went out.
@@ -166,6 +168,14 @@ pub fn law_sweep_is_complete()
     description_reader::law_one_answer();
 }
 
+/// A law over the definitions: where the first file of `renew` is a certificate and no fault is counted, the run is done or ends by want
+/// of memory.
+pub fn law_renew_is_complete()
+    ensures { RenewIsComplete }
+{
+    description_reader::law_one_answer();
+}
+
 /// A law over the definitions: `check` accepts the certificate that `solve` put, with the very claim of what was found.
 pub fn law_put_is_accepted()
     ensures { PutIsAccepted }
@@ -200,3 +210,8 @@ pub fn law_check_says()
 {
     certificate_checker::law_accepted_or_refused();
 }
+
+/// A law over the definitions: after status 0 of `renew` the file that it put holds the second text of the certificate that it read.
+pub fn law_renew_says()
+    ensures { RenewSays }
+{}

@@ -1,0 +1,5 @@
+use Rattle.maxband_run.proofs.Complete.{renew_complete}
+use Rattle.maxband_run.proofs.top.law_renew_is_complete.Goals as goal
+
+pub returns : goal.returns
+returns c = renew_complete c.law_one_answer.ensures

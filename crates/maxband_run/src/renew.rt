@@ -1,0 +1,34 @@
+//! The command `renew`.
+
+ghost use Rattle.std.specs.Prelude.{◌≡◌, ℕ, List, Some, IfOk, option_map, string_bytes};
+ghost use Rattle.maxband_run.specs.Outside.{named, view};
+ghost use Rattle.maxband_run.specs.Renew.{renewed_line, IsRenewal};
+
+use crate::answer::{Answer, Put};
+use crate::cause::Cause;
+use narrow_fraction::Memory;
+use plan_text::{Certificate, write_certificate};
+use std::alloc::{AllocError, Global};
+
+fn renewed_line(alloc: Global) -> Result<String, AllocError>
+    ensures { IfOk result (λ line. string_bytes line ≡ renewed_line) }
+{
+    String::from_str(alloc, "renewed\n")
+}
+
+/// The second text of the certificate is to be put into the file of this name.
+pub fn renew<'a>(
+    alloc: Global,
+    certificate: &Certificate,
+    name: &'a str,
+) -> Result<Answer<'a>, Memory>
+    ensures finds { IfOk result (λ a. (bytes : List ℕ) × IsRenewal certificate.now a.cause a.lines.items bytes × (option_map view a.put ≡ Some (named name.now bytes))) }
+{
+    let bytes = write_certificate(alloc, certificate)?;
+    let lines = renewed_line(alloc)?.into_bytes();
+    Ok(Answer {
+        cause: Cause::Done,
+        lines,
+        put: Some(Put { name, bytes }),
+    })
+}
