@@ -2,12 +2,15 @@
 
 use crate::running::Fault;
 use crate::running::Wanted::{Absent, Front, Whole};
+use crate::texts::SECOND_BEST;
 
 const HOLD: &[&str] = &["hold", "a.toml", "b.txt"];
 
 const CHECK: &[&str] = &["check", "near.toml", "best.txt"];
 
 const SOLVE: &[&str] = &["solve", "a.toml", "new.txt"];
+
+const RENEW: &[&str] = &["renew", "best.txt", "new.txt"];
 
 const SWEEP: &[&str] = &["sweep", "near.toml", "new.txt", "all", "100", "120"];
 
@@ -156,7 +159,52 @@ pub const FAULTS: &[Fault] = &[
         fail_writes: &[2],
         number: 7,
         written: b"verdict best\nwei",
-        kept: Front(b"maxband-certificate 1\nverdict best\n"),
+        kept: Front(b"maxband-certificate 2\nverdict best\n"),
+    },
+    Fault {
+        name: "renew without a fault",
+        words: RENEW,
+        fail_files: &[],
+        fail_writes: &[],
+        number: 0,
+        written: b"renewed\n",
+        kept: Whole(SECOND_BEST.as_bytes()),
+    },
+    Fault {
+        name: "renew, certificate",
+        words: RENEW,
+        fail_files: &[1],
+        fail_writes: &[],
+        number: 6,
+        written: b"cannot read best.txt\n",
+        kept: Absent,
+    },
+    Fault {
+        name: "renew, absent certificate",
+        words: &["renew", "absent.txt", "new.txt"],
+        fail_files: &[],
+        fail_writes: &[],
+        number: 6,
+        written: b"cannot read absent.txt\n",
+        kept: Absent,
+    },
+    Fault {
+        name: "renew, put",
+        words: RENEW,
+        fail_files: &[3],
+        fail_writes: &[],
+        number: 7,
+        written: b"",
+        kept: Absent,
+    },
+    Fault {
+        name: "renew, write",
+        words: RENEW,
+        fail_files: &[],
+        fail_writes: &[1],
+        number: 7,
+        written: b"",
+        kept: Whole(SECOND_BEST.as_bytes()),
     },
     Fault {
         name: "sweep without a fault",

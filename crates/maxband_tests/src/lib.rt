@@ -5,6 +5,8 @@
 #[cfg(test)]
 mod check_cases;
 #[cfg(test)]
+mod damage_cases;
+#[cfg(test)]
 mod fault_cases;
 #[cfg(test)]
 mod hold_cases;
@@ -14,6 +16,8 @@ mod length_cases;
 mod long_files;
 #[cfg(test)]
 mod made_cases;
+#[cfg(test)]
+mod renew_cases;
 #[cfg(test)]
 mod running;
 #[cfg(test)]

@@ -78,20 +78,28 @@ pub fn is_canonical(alloc: Global, case: &Canonical) -> Result<bool, Memory> {
     )
 }
 
-/// The number of signals, the seed, the work or `all`, the number of the status, and the lines of the verdict.
-pub type Trial = (&'static str, &'static str, &'static str, u8, &'static str);
+/// The number of signals, the seed, the work or `all`, the number of the status, the lines of the verdict, and how many bytes the
+/// certificate has.
+pub type Trial = (
+    &'static str,
+    &'static str,
+    &'static str,
+    u8,
+    &'static str,
+    usize,
+);
 
 /// One unit opens the root alone, whose first leaf has both greens of the first signal.
 pub const TRIALS: &[Trial] = &[
-    ("2", "0", "5000", 0, "verdict best\nweighted 22/25\n"),
-    ("4", "7", "5000", 0, "verdict best\nweighted 19/20\n"),
-    ("2", "0", "1", 2, "verdict open\nbound 131/100\n"),
-    ("2", "0", "all", 0, "verdict best\nweighted 22/25\n"),
+    ("2", "0", "5000", 0, "verdict best\nweighted 22/25\n", 284),
+    ("4", "7", "5000", 0, "verdict best\nweighted 19/20\n", 723),
+    ("2", "0", "1", 2, "verdict open\nbound 131/100\n", 105),
+    ("2", "0", "all", 0, "verdict best\nweighted 22/25\n", 284),
 ];
 
-/// The lines of a trial whose certificate has so many bytes.
-fn trial_lines(alloc: Global, trial: &Trial, bytes: usize) -> Result<String, AllocError> {
-    let (signals, seed, _, _, verdict) = trial;
+/// The lines of a trial.
+fn trial_lines(alloc: Global, trial: &Trial) -> Result<String, AllocError> {
+    let (signals, seed, _, _, verdict, bytes) = trial;
     format!(in alloc;
         "signals {signals}\nseed {seed}\n{verdict}certificate {bytes}\ncheck accepted\n"
     )
@@ -99,18 +107,19 @@ fn trial_lines(alloc: Global, trial: &Trial, bytes: usize) -> Result<String, All
 
 /// Whether a trial, each time, writes what `make` and `solve` come to.
 pub fn is_found(alloc: Global, trial: &Trial) -> Result<bool, Memory> {
-    let (signals, seed, work, number, _) = trial;
+    let (signals, seed, work, number, _, length) = trial;
     let mut files = SureFiles::new(alloc);
     let made = answered(alloc, &["make", *signals, *seed], &mut files)?;
     files.add("a.toml", made.out.bytes())?;
     let _ = answered(alloc, &["solve", "a.toml", "c.txt", *work], &mut files)?;
     let bytes = files.bytes("c.txt").unwrap_or(&[]).len();
-    let lines = trial_lines(alloc, trial, bytes)?;
+    let lines = trial_lines(alloc, trial)?;
     let words = ["trial", *signals, *seed, *work];
     let first = answered(alloc, &words, &mut files)?;
     let again = answered(alloc, &words, &mut files)?;
     Ok(
-        first.number == *number
+        bytes == *length
+            && first.number == *number
             && first.out.bytes() == lines.as_bytes()
             && again.number == *number
             && again.out.bytes() == lines.as_bytes(),

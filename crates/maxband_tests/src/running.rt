@@ -35,7 +35,7 @@ pub enum Wanted {
 }
 
 impl Wanted {
-    fn is(&self, bytes: Option<&[u8]>) -> bool {
+    pub fn is(&self, bytes: Option<&[u8]>) -> bool {
         match (self, bytes) {
             (Wanted::Whole(whole), Some(bytes)) => *whole == bytes,
             (Wanted::Front(front), Some(bytes)) => bytes.starts_with(front),
@@ -109,7 +109,7 @@ pub struct Answer {
 }
 
 /// A text with some of its lines replaced.
-fn with_lines(alloc: Global, text: &str, lines: &[(usize, &[u8])]) -> Result<Vec<u8>, Memory> {
+pub fn with_lines(alloc: Global, text: &str, lines: &[(usize, &[u8])]) -> Result<Vec<u8>, Memory> {
     let mut bytes = Vec::new(alloc);
     for (index, line) in text.lines().enumerate() {
         let mut new = line.as_bytes();

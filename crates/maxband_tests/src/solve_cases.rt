@@ -119,10 +119,10 @@ ratio = 1
 
 /// The certificate where the root alone was searched, and no timing was found.
 const ROOT_ALONE: &[u8] =
-    b"maxband-certificate 1\nverdict open\nbound 1\nno timing\ntree\nleaf 2\nwout 1 1\nwin 1 1\nend\n";
+    b"maxband-certificate 2\nverdict open\nbound 1\nno timing\nrows 2\nwout 1\nwin 1\ntree\nleaf 1 2\n1 1\n2 1\nend\n";
 
 /// Any certificate.
-const ANY: Wanted = Front(b"maxband-certificate 1\nverdict ");
+const ANY: Wanted = Front(b"maxband-certificate 2\nverdict ");
 
 /// The distance is 500, and a vehicle meets the green of both signals in both directions.
 const FAR: &[Search] = &[
@@ -279,7 +279,7 @@ const ASKED: &[Search] = &[
         "",
         1,
         Whole(b"verdict none\n"),
-        Front(b"maxband-certificate 1\nverdict none\n"),
+        Front(b"maxband-certificate 2\nverdict none\n"),
         Whole(b"accepted none\n"),
     ),
 ];
@@ -401,7 +401,7 @@ const OF_STREET: &[Search] = &[(
     "",
     0,
     Front(b"verdict best\nweighted 49/50 = 0.980000\n"),
-    Front(b"maxband-certificate 1\nverdict best\n"),
+    Front(b"maxband-certificate 2\nverdict best\n"),
     Whole(b"accepted best 49/50\n"),
 )];
 
@@ -411,7 +411,7 @@ const OVER_ITSELF: &[Search] = &[(
     "",
     0,
     Front(b"verdict best\n"),
-    Front(b"maxband-certificate 1\nverdict best\n"),
+    Front(b"maxband-certificate 2\nverdict best\n"),
     Whole(b"accepted best 1\n"),
 )];
 
@@ -493,7 +493,7 @@ pub const USUAL_LIMIT: SearchTable = SearchTable {
         "",
         2,
         Front(b"verdict open\nstopped work 100000\n"),
-        Front(b"maxband-certificate 1\nverdict open\n"),
+        Front(b"maxband-certificate 2\nverdict open\n"),
         Front(b"accepted open bound "),
     )],
 };

@@ -1,8 +1,12 @@
 //! Each table of cases in turn.
 
+use crate::damage_cases::{
+    DAMAGES, FILE_CALLS, LINES, WRITES, is_cut, is_cut_by_a_byte, is_faulty, is_told,
+};
 use crate::fault_cases::FAULTS;
 use crate::length_cases::{LINE_FEEDS, PADDED, is_checked, is_read};
 use crate::made_cases::{CANONICAL, TRIALS, is_canonical, is_found};
+use crate::renew_cases::{RENEWALS, is_renewed};
 use crate::running::{first_wrong, first_wrong_search, is_answered, is_reported};
 use crate::shipped::STREETS;
 use crate::sweep_cases::{COUNTS, SWEEPS, first_wrong_sweep, is_counted};
@@ -94,6 +98,42 @@ fn what_trials_find(rt: HostRuntime) -> Result<(), Fail> {
             trial.1,
             trial.2
         );
+    }
+    Ok(())
+}
+
+#[test]
+fn certificates_that_are_cut(rt: HostRuntime) -> Result<(), Fail> {
+    for lines in 0..LINES {
+        assert!(rt; is_cut(rt.alloc(), lines)?, "after line {lines}");
+    }
+    assert!(rt; is_cut_by_a_byte(rt.alloc())?);
+    Ok(())
+}
+
+#[test]
+fn certificates_that_are_damaged(rt: HostRuntime) -> Result<(), Fail> {
+    for damage in DAMAGES {
+        assert!(rt; is_told(rt.alloc(), damage)?, "{}", damage.0);
+    }
+    Ok(())
+}
+
+#[test]
+fn each_single_call_that_fails(rt: HostRuntime) -> Result<(), Fail> {
+    for call in 0..FILE_CALLS + 1 {
+        assert!(rt; is_faulty(rt.alloc(), call, 0)?, "file call {call}");
+    }
+    for write in 1..WRITES + 1 {
+        assert!(rt; is_faulty(rt.alloc(), 0, write)?, "write {write}");
+    }
+    Ok(())
+}
+
+#[test]
+fn certificates_that_are_renewed(rt: HostRuntime) -> Result<(), Fail> {
+    for renewal in RENEWALS {
+        assert!(rt; is_renewed(rt.alloc(), renewal)?, "{}", renewal.name);
     }
     Ok(())
 }

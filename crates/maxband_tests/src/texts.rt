@@ -143,6 +143,54 @@ turn_hi 1 1
 end
 ";
 
+/// The same certificate in the second format, renewed by hand.
+pub const SECOND_BEST: &str = "maxband-certificate 2
+verdict best
+value 1/2
+grid 2
+unit 2
+pattern 1 1
+red 0 50
+run_out 50
+run_in 50
+first 100 150
+band 100 0
+rows 14
+wout 1
+wout 2
+win 1
+win 2
+fast_out 1
+fast_in 1
+slow_out 1
+slow_in 1
+cycle_low
+cycle_high
+loop_lo 1
+loop_hi 1
+turn_hi 1
+turn_hi 2
+tree
+split loop 1 0
+leaf 1 7
+2 1
+4 1
+5 1
+6 1
+9 50
+12 1
+14 1
+leaf 1 7
+1 1
+3 1
+7 1
+8 1
+10 50
+11 1
+13 1
+end
+";
+
 /// The artery of two signals from the seed 0, as it was drawn by hand.
 pub const TWO_OF_ZERO: &str = "[artery]
 units = \"metric\"
