@@ -1,11 +1,11 @@
 -- Whole runs without a fault end as they should, and faults are told.
 use Rattle.std.proofs.Common.{◌≡◌, ℕ, List, [], ◌∷◌, Option, Some, None, ◌⊎◌, inl, inr, refl, ◌∙◌, ap, subst, arith}
-use Rattle.std.specs.Prelude.{IsSome, option_map}
+use Rattle.std.specs.Prelude.{IsSome}
 use Rattle.description_reader.specs.Described as described
 use Rattle.outer_edge.specs.Counts.{next_count, Rose, SameCounts}
 use Rattle.workload_maker.specs.Made.{made_street}
 use Rattle.maxband_run.specs.Command.{Request, Solve, Renew, Make, Trial, Sweep, shape}
-use Rattle.maxband_run.specs.Outside.{Outside, NamedBytes, named, IsDone, IsBroken}
+use Rattle.maxband_run.specs.Outside.{Outside, NamedBytes, named, put_of, IsDone, IsBroken}
 use Rattle.maxband_run.specs.Reading.{Input, input, Value, Reads, IsUnread, StopsReading}
 use Rattle.maxband_run.specs.Run.{Answers, Answered, Ends}
 use Rattle.maxband_run.specs.Laws.{IsFault, IsVerdict, FaultsAreTold, SolveIsComplete, MakeIsComplete, TrialIsComplete, SweepIsComplete, RenewIsComplete}
@@ -47,19 +47,22 @@ module _ (before now : Outside) (no_write : Rose before.writes now.writes → �
   not_broken lines (Some put) no_put (inl p) = no_put put refl (rose (before.puts put.name) (now.puts put.name) p.counted.once)
   not_broken lines (Some put) no_put (inr w) = no_write (rose before.writes now.writes w.counted)
 
+put_named : (name : List ℕ) (p : NamedBytes) (bytes : Option (List ℕ)) → Some p ≡ put_of (Some name) bytes → p.name ≡ name
+put_named name p None e = absurd cc
+put_named name p (Some bytes) e =
+    let is : p ≡ named name bytes = cc in
+    ap (λ (b : NamedBytes). b.name) is
+
 -- the name of what an answer puts is that of the table
 put_name : (asked : Option Request) (held : List ℕ → Option (List ℕ)) (before after : List ℕ → ℕ) (c : Cause) (lines : List ℕ) (name : List ℕ) (p : NamedBytes)
     → (shape asked).output ≡ Some name → Answers held before after asked c lines (Some p) → p.name ≡ name
 put_name asked held before after c lines name p e (inl h) = absurd (let none = h.no_put in cc)
-put_name asked held before after c lines name p e (inr h) =
-    let same : Some p ≡ Some (named name h.bytes) = h.put_is ∙ ap (option_map (λ n. named n h.bytes)) e in
-    let is : p ≡ named name h.bytes = cc in
-    ap (λ (b : NamedBytes). b.name) is
+put_name asked held before after c lines name p e (inr h) = put_named name p h.bytes (h.put_is ∙ ap (λ o. put_of o h.bytes) e)
 
 no_name : (asked : Option Request) (held : List ℕ → Option (List ℕ)) (before after : List ℕ → ℕ) (c : Cause) (lines : List ℕ) (p : NamedBytes)
     → (shape asked).output ≡ None → Answers held before after asked c lines (Some p) → ⊥
 no_name asked held before after c lines p e (inl h) = let none = h.no_put in cc
-no_name asked held before after c lines p e (inr h) = let none : Some p ≡ None = h.put_is ∙ ap (option_map (λ n. named n h.bytes)) e in cc
+no_name asked held before after c lines p e (inr h) = let none : Some p ≡ None = h.put_is ∙ ap (λ o. put_of o h.bytes) e in cc
 
 -- ---- a command that reads one file and puts one, where the file is read and no read of it failed
 module _ (reader : described.OneAnswer) (before now : Outside) (asked : Option Request) (i : Input) (name : List ℕ) (one : (shape asked).inputs ≡ i ∷ []) (puts : (shape asked).output ≡ Some name)
@@ -92,15 +95,15 @@ module _ (reader : described.OneAnswer) (before now : Outside) (asked : Option R
 pub complete : described.OneAnswer → SolveIsComplete
 complete reader before now artery certificate limit a c told r no_read no_put no_write h =
     ends_so reader before now (Some (Solve artery certificate limit)) (input Description artery) certificate refl refl a told r no_read IsVerdict
-    (λ c lines put k. verdict_cause c k.finds.found.verdict k.finds.cause_is) c no_put no_write h
+    (λ c lines put k. verdict_cause c k.finds.2.found.verdict k.finds.2.cause_is) c no_put no_write h
 
 pub sweep_complete : described.OneAnswer → SweepIsComplete
 sweep_complete reader before now artery table limit cycles a c told r no_read no_put no_write h =
-    ends_so reader before now (Some (Sweep artery table limit cycles)) (input Description artery) table refl refl a told r no_read (λ c. c ≡ cause.Done) (λ c lines put k. k.finds.cause_is) c no_put no_write h
+    ends_so reader before now (Some (Sweep artery table limit cycles)) (input Description artery) table refl refl a told r no_read (λ c. c ≡ cause.Done) (λ c lines put k. k.finds.2.cause_is) c no_put no_write h
 
 pub renew_complete : described.OneAnswer → RenewIsComplete
 renew_complete reader before now certificate new w c told r no_read no_put no_write h =
-    ends_so reader before now (Some (Renew certificate new)) (input Certificate certificate) new refl refl w told r no_read (λ c. c ≡ cause.Done) (λ c lines put k. k.finds.cause_is) c no_put no_write h
+    ends_so reader before now (Some (Renew certificate new)) (input Certificate certificate) new refl refl w told r no_read (λ c. c ≡ cause.Done) (λ c lines put k. k.finds.2.cause_is) c no_put no_write h
 
 -- what puts nothing isn't broken but by a write
 quiet : (before now : Outside) (asked : Option Request) → (shape asked).output ≡ None → (Rose before.writes now.writes → ⊥) → Ends before now asked cause.WriteFault → ⊥

@@ -55,16 +55,16 @@ check_reached a w cause.Done l h = tt
 check_reached a w (cause.Rejected r) l h = tt
 check_reached a w c l h = absurd h
 
-pub finds_reached : (asked : Option Request) (v : Values (shape asked).inputs) (c : Cause) (l bytes : List ℕ) → Finds asked v c l bytes → IsReached c
+pub finds_reached : (asked : Option Request) (v : Values (shape asked).inputs) (c : Cause) (l : List ℕ) (bytes : Option (List ℕ)) → Finds asked v c l bytes → IsReached c
 finds_reached None v c l bytes h = subst (λ (d : Cause). IsReached d) (sym h.0) tt
 finds_reached (Some (Hold artery timing)) v c l bytes h = hold_reached v.0 v.1.0 c l h
 finds_reached (Some (Show artery)) v c l bytes h = show_reached v.0 c l h
 finds_reached (Some (Check artery certificate)) v c l bytes h = check_reached v.0 v.1.0 c l h
-finds_reached (Some (Solve artery certificate limit)) v c l bytes h = verdict_reached c (verdict_cause c h.found.verdict h.cause_is)
-finds_reached (Some (Renew certificate new)) v c l bytes h = subst (λ (d : Cause). IsReached d) (sym h.cause_is) tt
+finds_reached (Some (Solve artery certificate limit)) v c l bytes h = verdict_reached c (verdict_cause c h.2.found.verdict h.2.cause_is)
+finds_reached (Some (Renew certificate new)) v c l bytes h = subst (λ (d : Cause). IsReached d) (sym h.2.cause_is) tt
 finds_reached (Some (Make signals seed)) v c l bytes h = show_reached (made_street signals seed) c l h
 finds_reached (Some (Trial signals seed limit)) v c l bytes h = verdict_reached c (verdict_cause c h.found.verdict h.cause_is)
-finds_reached (Some (Sweep artery table limit cycles)) v c l bytes h = subst (λ (d : Cause). IsReached d) (sym h.cause_is) tt
+finds_reached (Some (Sweep artery table limit cycles)) v c l bytes h = subst (λ (d : Cause). IsReached d) (sym h.2.cause_is) tt
 
 hold_once : OneFirst → FailsRulesOut → (a : Street) (t : Plan) (c d : Cause) (x y : List ℕ) → HoldFinds a t c x → HoldFinds a t d y → (c ≡ d) × (x ≡ y)
 hold_once one_first rules a t cause.Done cause.Done x y h k = (refl, h.1 ∙ sym k.1)
@@ -97,32 +97,32 @@ FoundAgree false c x d y = (c ≡ d) × (x ≡ y)
 FoundAgree true c x d y = IsVerdict c × IsVerdict d
 
 finds_once : OneText → OneFirst → FailsRulesOut → RefusedIsNotAccepted → OneFirstRefusal
-    → (asked : Option Request) (v : Values (shape asked).inputs) (c d : Cause) (x y s t : List ℕ) → Finds asked v c x s → Finds asked v d y t → FoundAgree (shape asked).searches c x d y
+    → (asked : Option Request) (v : Values (shape asked).inputs) (c d : Cause) (x y : List ℕ) (s t : Option (List ℕ)) → Finds asked v c x s → Finds asked v d y t → FoundAgree (shape asked).chooses c x d y
 finds_once one_text one_first rules apart once None v c d x y s t h k = (h.0 ∙ sym k.0, h.1 ∙ sym k.1)
 finds_once one_text one_first rules apart once (Some (Hold artery timing)) v c d x y s t h k = hold_once one_first rules v.0 v.1.0 c d x y h k
 finds_once one_text one_first rules apart once (Some (Show artery)) v c d x y s t h k = show_once one_text v.0 c d x y h k
 finds_once one_text one_first rules apart once (Some (Check artery certificate)) v c d x y s t h k = check_once apart once v.0 v.1.0 c d x y h k
 finds_once one_text one_first rules apart once (Some (Solve artery certificate limit)) v c d x y s t h k =
-    (verdict_cause c h.found.verdict h.cause_is, verdict_cause d k.found.verdict k.cause_is)
-finds_once one_text one_first rules apart once (Some (Renew certificate new)) v c d x y s t h k = (h.cause_is ∙ sym k.cause_is, h.lines_are ∙ sym k.lines_are)
+    (verdict_cause c h.2.found.verdict h.2.cause_is, verdict_cause d k.2.found.verdict k.2.cause_is)
+finds_once one_text one_first rules apart once (Some (Renew certificate new)) v c d x y s t h k = (h.2.cause_is ∙ sym k.2.cause_is, h.2.lines_are ∙ sym k.2.lines_are)
 finds_once one_text one_first rules apart once (Some (Make signals seed)) v c d x y s t h k = show_once one_text (made_street signals seed) c d x y h k
 finds_once one_text one_first rules apart once (Some (Trial signals seed limit)) v c d x y s t h k =
     (verdict_cause c h.found.verdict h.cause_is, verdict_cause d k.found.verdict k.cause_is)
-finds_once one_text one_first rules apart once (Some (Sweep artery table limit cycles)) v c d x y s t h k = (h.cause_is ∙ sym k.cause_is, h.lines_are ∙ sym k.lines_are)
+finds_once one_text one_first rules apart once (Some (Sweep artery table limit cycles)) v c d x y s t h k = (h.2.cause_is ∙ sym k.2.cause_is, h.2.lines_are ∙ sym k.2.lines_are)
 
-found_agree : (searches : Bool) (is : List Input) (c d : Cause) (x y : List ℕ) → FoundAgree searches c x d y → Agree searches is c x d y
+found_agree : (chooses : Bool) (is : List Input) (c d : Cause) (x y : List ℕ) → FoundAgree chooses c x d y → Agree chooses is c x d y
 found_agree false is c d x y h = h
 found_agree true [] c d x y h = h
 found_agree true (i ∷ is) c d x y h = inr h
 
 pub found_once : OneText → OneFirst → FailsRulesOut → RefusedIsNotAccepted → OneFirstRefusal
-    → (asked : Option Request) (v : Values (shape asked).inputs) (c d : Cause) (x y s t : List ℕ) → Finds asked v c x s → Finds asked v d y t
-    → Agree (shape asked).searches (shape asked).inputs c x d y
+    → (asked : Option Request) (v : Values (shape asked).inputs) (c d : Cause) (x y : List ℕ) (s t : Option (List ℕ)) → Finds asked v c x s → Finds asked v d y t
+    → Agree (shape asked).chooses (shape asked).inputs c x d y
 found_once one_text one_first rules apart once asked v c d x y s t h k =
-    found_agree (shape asked).searches (shape asked).inputs c d x y (finds_once one_text one_first rules apart once asked v c d x y s t h k)
+    found_agree (shape asked).chooses (shape asked).inputs c d x y (finds_once one_text one_first rules apart once asked v c d x y s t h k)
 
 -- files that stop the reading in one way
-pub stops_agree : (searches : Bool) (is : List Input) (c d : Cause) (x y : List ℕ) → (is ≡ [] → ⊥) → (c ≡ d) × (x ≡ y) → Agree searches is c x d y
+pub stops_agree : (chooses : Bool) (is : List Input) (c d : Cause) (x y : List ℕ) → (is ≡ [] → ⊥) → (c ≡ d) × (x ≡ y) → Agree chooses is c x d y
 stops_agree false is c d x y n e = e
 stops_agree true [] c d x y n e = absurd (n refl)
 stops_agree true (i ∷ is) c d x y n e = inl e

@@ -20,7 +20,7 @@ some_file held before after (i ∷ is) c l h e = absurd cc
 
 pub one_answer : described.OneAnswer → OneText → OneFirst → FailsRulesOut → RefusedIsNotAccepted → OneFirstRefusal → OneAnswer
 one_answer reader one_text one_first rules apart once held before after asked c d x y p q told n m (inl h) (inl k) =
-    stops_agree (shape asked).searches (shape asked).inputs c d x y (some_file held before after (shape asked).inputs c x h.stops)
+    stops_agree (shape asked).chooses (shape asked).inputs c d x y (some_file held before after (shape asked).inputs c x h.stops)
     (one_stop reader held before after (shape asked).inputs 1 c d x y told n m h.stops k.stops)
 one_answer reader one_text one_first rules apart once held before after asked c d x y p q told n m (inl h) (inr k) =
     absurd (all_apart reader held before after (shape asked).inputs 1 k.values c x told n k.read h.stops)

@@ -11,7 +11,7 @@ use Rattle.certificate_checker.specs.Accepted.{IsAccepted}
 use Rattle.certificate_checker.specs.Laws.{RefusedIsNotAccepted}
 use Rattle.branch_tree.specs.Certified.{warrant_of}
 use Rattle.maxband_run.specs.Command.{Request, Check, Solve, shape}
-use Rattle.maxband_run.specs.Outside.{Outside, NamedBytes, IsPut, IsDone}
+use Rattle.maxband_run.specs.Outside.{Outside, NamedBytes, put_of, IsPut, IsDone}
 use Rattle.maxband_run.specs.Reading.{most_bytes, Reads, Values}
 use Rattle.maxband_run.specs.Searched.{IsTextOf}
 use Rattle.maxband_run.specs.Check.{Accepts, CheckFinds}
@@ -59,11 +59,11 @@ pub put_accepted : described.OneAnswer → RefusedIsNotAccepted → PutIsAccepte
 put_accepted reader apart before between now artery certificate limit c d two told put_told few v h m k =
     let s = reached_ends before between (Some (Solve artery certificate limit)) c (verdict_reached c v) h in
     let f = verdict_found before.holds before.reads between.reads (Some (Solve artery certificate limit)) c s.0 s.1 v s.2 in
-    let files = subst (λ (p : Option NamedBytes). IsPut p before.holds between.holds) f.put_is s.3.files in
+    let files = subst (λ (p : Option NamedBytes). IsPut p before.holds between.holds) (f.put_is ∙ ap (put_of (Some certificate)) f.finds.1) s.3.files in
     let kept : between.holds artery ≡ before.holds artery = files.1 artery two in
     let a : Street = f.values.0 in
-    let w : Warrant = warrant_of a f.finds.found in
-    let reads = reads_text (between.holds certificate) f.bytes w put_told few files.0 f.finds.certificate_is in
+    let w : Warrant = warrant_of a f.finds.2.found in
+    let reads = reads_text (between.holds certificate) f.finds.0 w put_told few files.0 f.finds.2.certificate_is in
     let first = subst (λ o. Reads Description o a) (sym kept) f.read.0 in
     let e = reached_ends between now (Some (Check artery certificate)) d m k in
     let asked : Option Request = Some (Check artery certificate) in
@@ -72,13 +72,13 @@ put_accepted reader apart before between now artery certificate limit c d two to
       | inl stops ↦ absurd (all_apart reader between.holds between.reads now.reads (shape asked).inputs 1 (a, (w, tt)) d e.0 both m (first, (reads, tt)) stops.stops)
       | inr found ↦
           let same = same_values reader between.holds between.reads now.reads (shape asked).inputs found.values (a, (w, tt)) both found.read (first, (reads, tt)) in
-          let done = accepted_done apart a w d e.0 f.finds.searched.accepted (subst (λ (z : Values (shape asked).inputs). CheckFinds z.0 z.1.0 d e.0) same found.finds) in
+          let done = accepted_done apart a w d e.0 f.finds.2.searched.accepted (subst (λ (z : Values (shape asked).inputs). CheckFinds z.0 z.1.0 d e.0) same found.finds) in
           record {
             street = a;
             lines = s.0;
-            text = f.bytes;
+            text = f.finds.0;
             description = f.read.0;
-            solution = f.finds;
+            solution = f.finds.2;
             done = done.0;
             certificate_is = reads;
             accepted = done.1.accepted;

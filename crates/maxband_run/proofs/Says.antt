@@ -19,7 +19,7 @@ use Rattle.branch_tree.specs.declared.site.SitePart.{SitePart}
 use Rattle.branch_tree.specs.declared.found.Found.{Found}
 use Rattle.branch_tree.specs.Certified.{value_of, claim_by, warrant_of}
 use Rattle.maxband_run.specs.Command.{Hold, Check, Solve, Renew, shape}
-use Rattle.maxband_run.specs.Outside.{Outside, NamedBytes, IsPut}
+use Rattle.maxband_run.specs.Outside.{Outside, NamedBytes, put_of, IsPut}
 use Rattle.certified_search.specs.Searched.{Proves}
 use Rattle.maxband_run.specs.Searched.{cause_of, IsTextOf}
 use Rattle.maxband_run.specs.Run.{Answered, Ends}
@@ -72,16 +72,18 @@ module _ (before now : Outside) (artery certificate : List ℕ) (limit : Option 
       → Answered before.holds before.reads now.reads (Some (Solve artery certificate limit)) c h.0 h.1
   found_of c v h = verdict_found before.holds before.reads now.reads (Some (Solve artery certificate limit)) c h.0 h.1 v h.2
 
-  held_of : (c : Cause) (v : IsVerdict c) (h : Completes before now (Some (Solve artery certificate limit)) c) → HoldsExactly (now.holds certificate) (found_of c v h).bytes
-  held_of c v h = (subst (λ (p : Option NamedBytes). IsPut p before.holds now.holds) (found_of c v h).put_is h.3.files).0
+  held_of : (c : Cause) (v : IsVerdict c) (h : Completes before now (Some (Solve artery certificate limit)) c) → HoldsExactly (now.holds certificate) (found_of c v h).finds.0
+  held_of c v h =
+      let f = found_of c v h in
+      (subst (λ (p : Option NamedBytes). IsPut p before.holds now.holds) (f.put_is ∙ ap (put_of (Some certificate)) f.finds.1) h.3.files).0
 
   puts_best : Completes before now (Some (Solve artery certificate limit)) cause.Done → PutsBest before now artery certificate
   puts_best h =
       let f = found_of cause.Done tt h in
       let a : Street = f.values.0 in
-      let found = f.finds.found in
-      let is = verdict_done found.verdict f.finds.cause_is in
-      let best = best_plan a found.timing found.bound (subst (λ (v : Verdict SitePart). Proves a found.timing found.bound v) is f.finds.searched.proves) in
+      let found = f.finds.2.found in
+      let is = verdict_done found.verdict f.finds.2.cause_is in
+      let best = best_plan a found.timing found.bound (subst (λ (v : Verdict SitePart). Proves a found.timing found.bound v) is f.finds.2.searched.proves) in
       let claimed : (warrant_of a found).claim ≡ claim.Best (weighted_band a best.0) =
       ap (λ (v : Verdict SitePart). claim_by v found.bound (value_of a found.timing)) is ∙ ap (λ (t : Option Plan). claim_by Best found.bound (value_of a t)) best.1 in
       record {
@@ -90,32 +92,32 @@ module _ (before now : Outside) (artery certificate : List ℕ) (limit : Option 
         description = f.read.0;
         best = best.2.0;
         put = subst (λ (t : Option Plan). HoldsCertificate (now.holds certificate) (claim.Best (weighted_band a best.0)) t) best.1
-            (put_has a found f.bytes (now.holds certificate) (claim.Best (weighted_band a best.0)) (held_of cause.Done tt h) f.finds.certificate_is claimed);
+            (put_has a found f.finds.0 (now.holds certificate) (claim.Best (weighted_band a best.0)) (held_of cause.Done tt h) f.finds.2.certificate_is claimed);
       }
 
   puts_none : Completes before now (Some (Solve artery certificate limit)) cause.NoTiming → PutsNone before now artery certificate
   puts_none h =
       let f = found_of cause.NoTiming tt h in
       let a : Street = f.values.0 in
-      let found = f.finds.found in
-      let is = verdict_none found.verdict f.finds.cause_is in
-      let none = subst (λ (v : Verdict SitePart). Proves a found.timing found.bound v) is f.finds.searched.proves in
+      let found = f.finds.2.found in
+      let is = verdict_none found.verdict f.finds.2.cause_is in
+      let none = subst (λ (v : Verdict SitePart). Proves a found.timing found.bound v) is f.finds.2.searched.proves in
       let claimed : (warrant_of a found).claim ≡ claim.NoTiming = ap (λ (v : Verdict SitePart). claim_by v found.bound (value_of a found.timing)) is in
       record {
         street = a;
         description = f.read.0;
         none = none.1;
         put = subst (λ (t : Option Plan). HoldsCertificate (now.holds certificate) claim.NoTiming t) none.0
-            (put_has a found f.bytes (now.holds certificate) claim.NoTiming (held_of cause.NoTiming tt h) f.finds.certificate_is claimed);
+            (put_has a found f.finds.0 (now.holds certificate) claim.NoTiming (held_of cause.NoTiming tt h) f.finds.2.certificate_is claimed);
       }
 
   puts_bound : (stop : Stop SitePart) → Completes before now (Some (Solve artery certificate limit)) (cause.Stopped stop) → PutsBound before now artery certificate (cause.Stopped stop)
   puts_bound stop h =
       let f = found_of (cause.Stopped stop) tt h in
       let a : Street = f.values.0 in
-      let found = f.finds.found in
-      let is = verdict_stopped stop found.verdict f.finds.cause_is in
-      let bound = subst (λ (v : Verdict SitePart). Proves a found.timing found.bound v) is.1 f.finds.searched.proves in
+      let found = f.finds.2.found in
+      let is = verdict_stopped stop found.verdict f.finds.2.cause_is in
+      let bound = subst (λ (v : Verdict SitePart). Proves a found.timing found.bound v) is.1 f.finds.2.searched.proves in
       let claimed : (warrant_of a found).claim ≡ claim.Stopped found.bound (value_of a found.timing) = ap (λ (v : Verdict SitePart). claim_by v found.bound (value_of a found.timing)) is.1 in
       record {
         street = a;
@@ -125,7 +127,7 @@ module _ (before now : Outside) (artery certificate : List ℕ) (limit : Option 
         description = f.read.0;
         bounded = bound.0;
         good = bound.1;
-        put = put_has a found f.bytes (now.holds certificate) (claim.Stopped found.bound (value_of a found.timing)) (held_of (cause.Stopped stop) tt h) f.finds.certificate_is claimed;
+        put = put_has a found f.finds.0 (now.holds certificate) (claim.Stopped found.bound (value_of a found.timing)) (held_of (cause.Stopped stop) tt h) f.finds.2.certificate_is claimed;
         cause_is = refl;
       }
 
@@ -233,12 +235,12 @@ module _ (before now : Outside) (certificate new : List ℕ) where
   puts_renewed : Completes before now (Some (Renew certificate new)) cause.Done → PutsRenewed before now certificate new
   puts_renewed h =
       let f = verdict_found before.holds before.reads now.reads (Some (Renew certificate new)) cause.Done h.0 h.1 tt h.2 in
-      let held = subst (λ (p : Option NamedBytes). IsPut p before.holds now.holds) f.put_is h.3.files in
+      let held = subst (λ (p : Option NamedBytes). IsPut p before.holds now.holds) (f.put_is ∙ ap (put_of (Some new)) f.finds.1) h.3.files in
       record {
         warrant = f.values.0;
         text = f.read.0;
-        put = subst (λ (x : List ℕ). HoldsExactly (now.holds new) x) f.finds.text_is.written held.0;
-        read_back = subst (λ (x : List ℕ). certificate_of x ≡ Ok f.values.0) f.finds.text_is.written f.finds.text_is.read_back;
+        put = subst (λ (x : List ℕ). HoldsExactly (now.holds new) x) f.finds.2.text_is.written held.0;
+        read_back = subst (λ (x : List ℕ). certificate_of x ≡ Ok f.values.0) f.finds.2.text_is.written f.finds.2.text_is.read_back;
       }
 
 pub renew_says : RenewSays

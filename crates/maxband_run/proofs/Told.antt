@@ -4,7 +4,7 @@ use Rattle.std.specs.Prelude.{IfOk, OnErr, option_map}
 use Rattle.narrow_fraction.specs.declared.memory.Memory.{Memory}
 use Rattle.outer_edge.specs.Counts.{SameCounts}
 use Rattle.outer_edge.specs.Held.{SameFiles}
-use Rattle.maxband_run.specs.Outside.{NamedBytes, named, view}
+use Rattle.maxband_run.specs.Outside.{NamedBytes, named, put_of, view}
 use Rattle.maxband_run.specs.Command.{Request, shape}
 use Rattle.maxband_run.specs.Reading.{Input, Value, Values, AreRead, Reads, IsUnread, StopsReading}
 use Rattle.maxband_run.specs.Run.{Finds, Answers}
@@ -40,22 +40,22 @@ module _ (asked : Option Request) (held : List ℕ → Option (List ℕ)) (befor
 
   -- all files are read
   module _ (values : Values (shape asked).inputs) (read : AreRead (shape asked).inputs held values) (counts : SameCounts before after) where
-    pub finds : (shape asked).output ≡ None → IfOk r (λ a. Finds asked values a.cause a.lines.items []) → IfOk r (λ a. a.put ≡ None)
+    pub finds : (shape asked).output ≡ None → IfOk r (λ a. Finds asked values a.cause a.lines.items None) → IfOk r (λ a. a.put ≡ None)
         → IfOk r (λ a. Answers held before after asked a.cause a.lines.items (option_map view a.put))
-    finds none h n = put_nothing (λ c lines. Finds asked values c lines []) (Answers held before after asked) r
+    finds none h n = put_nothing (λ c lines. Finds asked values c lines None) (Answers held before after asked) r
         (λ c lines k. inr (record {
           values = values;
           read = read;
           counts = counts;
-          bytes = [];
+          bytes = None;
           finds = k;
-          put_is = sym (ap (option_map (λ name. named name [])) none);
+          put_is = sym (ap (λ o. put_of o None) none);
         })) h n
 
--- what is found is put
+-- what is found is put, where there are bytes
 found_puts : (asked : Option Request) (held : List ℕ → Option (List ℕ)) (before after : List ℕ → ℕ) (name : List ℕ) (values : Values (shape asked).inputs)
-    → AreRead (shape asked).inputs held values → SameCounts before after → (shape asked).output ≡ Some name → (a : Answer) (bytes : List ℕ)
-    → Finds asked values a.cause a.lines.items bytes → option_map view a.put ≡ Some (named name bytes)
+    → AreRead (shape asked).inputs held values → SameCounts before after → (shape asked).output ≡ Some name → (a : Answer) (bytes : Option (List ℕ))
+    → Finds asked values a.cause a.lines.items bytes → option_map view a.put ≡ put_of (Some name) bytes
     → Answers held before after asked a.cause a.lines.items (option_map view a.put)
 found_puts asked held before after name values read counts e a bytes f p =
     inr (record {
@@ -64,15 +64,23 @@ found_puts asked held before after name values read counts e a bytes f p =
       counts = counts;
       bytes = bytes;
       finds = f;
-      put_is = p ∙ sym (ap (option_map (λ n. named n bytes)) e);
+      put_is = p ∙ sym (ap (λ o. put_of o bytes) e);
     })
 
-pub finds_put : (asked : Option Request) (held : List ℕ → Option (List ℕ)) (before after : List ℕ → ℕ) (name : List ℕ) (values : Values (shape asked).inputs) (r : Result Answer Memory)
-    → AreRead (shape asked).inputs held values → SameCounts before after → (shape asked).output ≡ Some name
-    → IfOk r (λ a. (bytes : List ℕ) × Finds asked values a.cause a.lines.items bytes × (option_map view a.put ≡ Some (named name bytes)))
-    → IfOk r (λ a. Answers held before after asked a.cause a.lines.items (option_map view a.put))
-finds_put asked held before after name values (Ok a) read counts e h = found_puts asked held before after name values read counts e a h.0 h.1 h.2
-finds_put asked held before after name values (Err m) read counts e h = tt
+module _ (asked : Option Request) (held : List ℕ → Option (List ℕ)) (before after : List ℕ → ℕ) (name : List ℕ) (values : Values (shape asked).inputs) where
+  pub finds_may_put : (r : Result Answer Memory) → AreRead (shape asked).inputs held values → SameCounts before after → (shape asked).output ≡ Some name
+      → IfOk r (λ a. (bytes : Option (List ℕ)) × Finds asked values a.cause a.lines.items bytes × (option_map view a.put ≡ put_of (Some name) bytes))
+      → IfOk r (λ a. Answers held before after asked a.cause a.lines.items (option_map view a.put))
+  finds_may_put (Ok a) read counts e h = found_puts asked held before after name values read counts e a h.0 h.1 h.2
+  finds_may_put (Err m) read counts e h = tt
+
+  pub finds_put : (r : Result Answer Memory) (p : Cause → List ℕ → List ℕ → Type 0)
+      → ((c : Cause) (lines bytes : List ℕ) → p c lines bytes → Finds asked values c lines (Some bytes))
+      → AreRead (shape asked).inputs held values → SameCounts before after → (shape asked).output ≡ Some name
+      → IfOk r (λ a. (bytes : List ℕ) × p a.cause a.lines.items bytes × (option_map view a.put ≡ Some (named name bytes)))
+      → IfOk r (λ a. Answers held before after asked a.cause a.lines.items (option_map view a.put))
+  finds_put (Ok a) p k read counts e h = found_puts asked held before after name values read counts e a (Some h.0) (k a.cause a.lines.items h.0 h.1) h.2
+  finds_put (Err m) p k read counts e h = tt
 
 -- two steps leave the counts
 pub same_twice : (before mid after : List ℕ → ℕ) → SameCounts before mid → SameCounts mid after → SameCounts before after

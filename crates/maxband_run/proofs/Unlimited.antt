@@ -37,7 +37,7 @@ unread_end artery held before after c lines h = absurd h.1.2
 answer_end : (asked : Request) → IsUnlimited asked → (held : List ℕ → Option (List ℕ)) (before after : List ℕ → ℕ) (c : Cause) (lines : List ℕ) (put : Option NamedBytes)
     → Answers held before after (Some asked) c lines put → EndsOtherThanByWork c
 answer_end (Solve artery certificate None) u held before after c lines put (inl h) = elim h.stops [ inl k ↦ unread_end artery held before after c lines k | inr k ↦ absurd k.2 ]
-answer_end (Solve artery certificate None) u held before after c lines put (inr h) = found_end h.values.0 c h.finds.found.verdict h.finds.cause_is h.finds.searched.enough
+answer_end (Solve artery certificate None) u held before after c lines put (inr h) = found_end h.values.0 c h.finds.2.found.verdict h.finds.2.cause_is h.finds.2.searched.enough
 answer_end (Trial signals seed None) u held before after c lines put (inl h) = absurd h.stops
 answer_end (Trial signals seed None) u held before after c lines put (inr h) = found_end (made_street signals seed) c h.finds.found.verdict h.finds.cause_is h.finds.searched.enough
 answer_end asked u held before after c lines put h = absurd u

@@ -35,19 +35,19 @@ view (command.Sweep artery table limit cycles) = Sweep artery.now table.now limi
 pub record Shape : Type 0 where
   pub inputs : List Input
   pub output : Option (List ℕ)
-  pub searches : Bool
+  pub chooses : Bool
 
 -- words that ask for nothing neither read nor put
 abbrev pub shape : Option Request → Shape
-shape None = record { inputs = []; output = None; searches = false }
-shape (Some (Hold artery timing)) = record { inputs = input Description artery ∷ input Timing timing ∷ []; output = None; searches = false }
-shape (Some (Show artery)) = record { inputs = input Description artery ∷ []; output = None; searches = false }
-shape (Some (Check artery certificate)) = record { inputs = input Description artery ∷ input Certificate certificate ∷ []; output = None; searches = false }
-shape (Some (Solve artery certificate limit)) = record { inputs = input Description artery ∷ []; output = Some certificate; searches = true }
-shape (Some (Renew certificate new)) = record { inputs = input Certificate certificate ∷ []; output = Some new; searches = false }
-shape (Some (Make signals seed)) = record { inputs = []; output = None; searches = false }
-shape (Some (Trial signals seed limit)) = record { inputs = []; output = None; searches = true }
-shape (Some (Sweep artery table limit cycles)) = record { inputs = input Description artery ∷ []; output = Some table; searches = false }
+shape None = record { inputs = []; output = None; chooses = false }
+shape (Some (Hold artery timing)) = record { inputs = input Description artery ∷ input Timing timing ∷ []; output = None; chooses = false }
+shape (Some (Show artery)) = record { inputs = input Description artery ∷ []; output = None; chooses = false }
+shape (Some (Check artery certificate)) = record { inputs = input Description artery ∷ input Certificate certificate ∷ []; output = None; chooses = false }
+shape (Some (Solve artery certificate limit)) = record { inputs = input Description artery ∷ []; output = Some certificate; chooses = true }
+shape (Some (Renew certificate new)) = record { inputs = input Certificate certificate ∷ []; output = Some new; chooses = false }
+shape (Some (Make signals seed)) = record { inputs = []; output = None; chooses = false }
+shape (Some (Trial signals seed limit)) = record { inputs = []; output = None; chooses = true }
+shape (Some (Sweep artery table limit cycles)) = record { inputs = input Description artery ∷ []; output = Some table; chooses = false }
 
 -- a search has work to spend, 2 to 16 signals are made, and each cycle is one
 abbrev pub InLimits : Option Request → Type 0

@@ -68,7 +68,7 @@ Agree true (i ∷ is) c x d y = ((c ≡ d) × (x ≡ y)) ⊎ (IsVerdict c × IsV
 abbrev pub OneAnswer : Type 0
 OneAnswer = (held : List ℕ → Option (List ℕ)) (before after : List ℕ → ℕ) (asked : Option Request) (c d : Cause) (x y : List ℕ) (p q : Option NamedBytes)
     → AreTold held (shape asked).inputs → IsReached c → IsReached d
-    → Answers held before after asked c x p → Answers held before after asked d y q → Agree (shape asked).searches (shape asked).inputs c x d y
+    → Answers held before after asked c x p → Answers held before after asked d y q → Agree (shape asked).chooses (shape asked).inputs c x d y
 
 -- ---- faults
 -- Unless the run ends by a fault no count has changed: each failed read, put and write is told.

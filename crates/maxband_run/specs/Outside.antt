@@ -24,6 +24,12 @@ pub record NamedBytes : Type 0 where
 abbrev pub named : List ℕ → List ℕ → NamedBytes
 named n xs = record { name = n; bytes = xs }
 
+-- into this file, where there is one, these bytes, where there are any
+abbrev pub put_of : Option (List ℕ) → Option (List ℕ) → Option NamedBytes
+put_of None bytes = None
+put_of (Some name) None = None
+put_of (Some name) (Some bytes) = Some (named name bytes)
+
 abbrev pub view : Put → NamedBytes
 view put = named put.name.now put.bytes.items
 

@@ -1,7 +1,7 @@
 -- What a run comes to: the cause of its status, what stands behind it, what is put, and by which lines the output grew.
-use Rattle.std.specs.Prelude.{◌≡◌, ◌⊎◌, ℕ, List, [], Option, Some, None, option_map}
+use Rattle.std.specs.Prelude.{◌≡◌, ◌⊎◌, ℕ, List, [], Option, Some, None}
 use Rattle.outer_edge.specs.Counts.{SameCounts}
-use Rattle.maxband_run.specs.Outside.{Outside, NamedBytes, named, IsDone, IsUntouched, IsBroken}
+use Rattle.maxband_run.specs.Outside.{Outside, NamedBytes, put_of, IsDone, IsUntouched, IsBroken}
 use Rattle.maxband_run.specs.Command.{Request, Hold, Show, Check, Solve, Renew, Make, Trial, Sweep, shape}
 use Rattle.maxband_run.specs.Reading.{Input, Values, AreRead, StopsReading}
 use Rattle.maxband_run.specs.Lines.{words_line}
@@ -16,17 +16,21 @@ use Rattle.maxband_run.specs.Sweep.{IsSweep}
 use Rattle.maxband_run.specs.declared.cause.Cause.{Cause}
 use Rattle.maxband_run.specs.declared.cause.Cause.TheVariants as cause
 
+-- there are bytes, and this holds of them
+abbrev pub With : (List ℕ → Type 0) → Option (List ℕ) → Type 0
+With p put = (bytes : List ℕ) × (put ≡ Some bytes) × p bytes
+
 -- What each command finds of the values that its files are read as: the cause, the lines, and the bytes of the file that it puts, where it puts one.
-abbrev pub Finds : (asked : Option Request) → Values (shape asked).inputs → Cause → List ℕ → List ℕ → Type 0
-Finds None v c lines bytes = (c ≡ cause.Words) × (lines ≡ words_line)
-Finds (Some (Hold artery timing)) v c lines bytes = HoldFinds v.0 v.1.0 c lines
-Finds (Some (Show artery)) v c lines bytes = Shows v.0 c lines
-Finds (Some (Check artery certificate)) v c lines bytes = CheckFinds v.0 v.1.0 c lines
-Finds (Some (Solve artery certificate limit)) v c lines bytes = IsSolution v.0 limit c lines bytes
-Finds (Some (Renew certificate new)) v c lines bytes = IsRenewal v.0 c lines bytes
-Finds (Some (Make signals seed)) v c lines bytes = Makes signals seed c lines
-Finds (Some (Trial signals seed limit)) v c lines bytes = IsTrial signals seed limit c lines
-Finds (Some (Sweep artery table limit cycles)) v c lines bytes = IsSweep v.0 limit cycles c lines bytes
+abbrev pub Finds : (asked : Option Request) → Values (shape asked).inputs → Cause → List ℕ → Option (List ℕ) → Type 0
+Finds None v c lines put = (c ≡ cause.Words) × (lines ≡ words_line)
+Finds (Some (Hold artery timing)) v c lines put = HoldFinds v.0 v.1.0 c lines
+Finds (Some (Show artery)) v c lines put = Shows v.0 c lines
+Finds (Some (Check artery certificate)) v c lines put = CheckFinds v.0 v.1.0 c lines
+Finds (Some (Solve artery certificate limit)) v c lines put = With (IsSolution v.0 limit c lines) put
+Finds (Some (Renew certificate new)) v c lines put = With (IsRenewal v.0 c lines) put
+Finds (Some (Make signals seed)) v c lines put = Makes signals seed c lines
+Finds (Some (Trial signals seed limit)) v c lines put = IsTrial signals seed limit c lines
+Finds (Some (Sweep artery table limit cycles)) v c lines put = With (IsSweep v.0 limit cycles c lines) put
 
 -- a file isn't read: nothing is put
 pub record Stops (held : List ℕ → Option (List ℕ)) (before after : List ℕ → ℕ) (asked : Option Request) (c : Cause) (lines : List ℕ) (put : Option NamedBytes) : Type 0 where
@@ -38,9 +42,9 @@ pub record Answered (held : List ℕ → Option (List ℕ)) (before after : List
   pub values : Values (shape asked).inputs
   pub read : AreRead (shape asked).inputs held values
   pub counts : SameCounts before after
-  pub bytes : List ℕ
+  pub bytes : Option (List ℕ)
   pub finds : Finds asked values c lines bytes
-  pub put_is : put ≡ option_map (λ name. named name bytes) (shape asked).output
+  pub put_is : put ≡ put_of (shape asked).output bytes
 
 -- The answer to the words, its lines, and what it puts. `held` is what the files held at entry, `before` and `after` count the failed reads of each name.
 abbrev pub Answers : (List ℕ → Option (List ℕ)) → (List ℕ → ℕ) → (List ℕ → ℕ) → Option Request → Cause → List ℕ → Option NamedBytes → Type 0
