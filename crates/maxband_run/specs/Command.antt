@@ -1,4 +1,4 @@
--- What the words after the program's name ask for, and what that reads, puts and searches.
+-- What the words after the program's name ask for, and what that reads and puts.
 use Rattle.std.specs.Prelude.{ℕ, ◌≤◌, Bool, true, false, List, [], ◌∷◌, Option, Some, None, codes, map, string_bytes, option_map, option_and_then, if◌then◌else◌}
 use Rattle.std.specs.Str.{bytes_eq}
 use Rattle.work_meter.specs.Work.{IsBelow}
@@ -16,6 +16,8 @@ pub data Request : Type 0 where
   Check : List ℕ → List ℕ → Request  -- the names of a description and of a certificate
   Solve : List ℕ → List ℕ → Option ℕ → Request  -- the names of a description and of a certificate, and the units that a search may spend, where there is a limit
   Renew : List ℕ → List ℕ → Request  -- the names of a certificate and of the file for its second text
+  Bands : List ℕ → List ℕ → Request  -- the names of a description and of a timing
+  Half : List ℕ → List ℕ → List ℕ → Request  -- the same, and the name of the file for a half-cycle plan
   Make : ℕ → ℕ → Request  -- how many signals, and the seed
   Trial : ℕ → ℕ → Option ℕ → Request  -- how many signals, the seed, and the same of a search
   Sweep : List ℕ → List ℕ → Option ℕ → List (List ℕ) → Request  -- the names of a description and of a table, the same of each search, and the words of the cycles
@@ -26,12 +28,14 @@ view (command.Show artery) = Show artery.now
 view (command.Check artery certificate) = Check artery.now certificate.now
 view (command.Solve artery certificate limit) = Solve artery.now certificate.now limit
 view (command.Renew certificate new) = Renew certificate.now new.now
+view (command.Bands artery timing) = Bands artery.now timing.now
+view (command.Half artery timing new) = Half artery.now timing.now new.now
 view (command.Make signals seed) = Make signals seed
 view (command.Trial signals seed limit) = Trial signals seed limit
 view (command.Sweep artery table limit cycles) = Sweep artery.now table.now limit (map string_bytes cycles.now)
 
 -- ---- what it does with files
--- the files that are read, in this order; the file that is put once all were read, where there is one; and whether the verdict of a search is told
+-- the files that are read, in this order; the file that may be put once all were read, where there is one; and whether any of several best answers may be told
 pub record Shape : Type 0 where
   pub inputs : List Input
   pub output : Option (List ℕ)
@@ -45,6 +49,8 @@ shape (Some (Show artery)) = record { inputs = input Description artery ∷ []; 
 shape (Some (Check artery certificate)) = record { inputs = input Description artery ∷ input Certificate certificate ∷ []; output = None; chooses = false }
 shape (Some (Solve artery certificate limit)) = record { inputs = input Description artery ∷ []; output = Some certificate; chooses = true }
 shape (Some (Renew certificate new)) = record { inputs = input Certificate certificate ∷ []; output = Some new; chooses = false }
+shape (Some (Bands artery timing)) = record { inputs = input Description artery ∷ input Timing timing ∷ []; output = None; chooses = false }
+shape (Some (Half artery timing new)) = record { inputs = input Description artery ∷ input Timing timing ∷ []; output = Some new; chooses = true }
 shape (Some (Make signals seed)) = record { inputs = []; output = None; chooses = false }
 shape (Some (Trial signals seed limit)) = record { inputs = []; output = None; chooses = true }
 shape (Some (Sweep artery table limit cycles)) = record { inputs = input Description artery ∷ []; output = Some table; chooses = false }
@@ -73,13 +79,15 @@ with_two word first second =
     else (if bytes_eq word (codes "check") then Some (Check first second)
     else (if bytes_eq word (codes "solve") then Some (Solve first second (Some usual_work))
     else (if bytes_eq word (codes "renew") then Some (Renew first second)
-    else (if bytes_eq word (codes "make") then make_of first second else None))))
+    else (if bytes_eq word (codes "bands") then Some (Bands first second)
+    else (if bytes_eq word (codes "make") then make_of first second else None)))))
 
 -- a first word with three more
 abbrev pub with_three : List ℕ → List ℕ → List ℕ → List ℕ → Option Request
 with_three word first second third =
     if bytes_eq word (codes "solve") then option_map (Solve first second) (limit_of third)
-    else (if bytes_eq word (codes "trial") then trial_of first second third else None)
+    else (if bytes_eq word (codes "half") then Some (Half first second third)
+    else (if bytes_eq word (codes "trial") then trial_of first second third else None))
 
 -- the words for the limit and for the cycles
 abbrev pub sweep_of : List ℕ → List ℕ → List ℕ → List (List ℕ) → Option Request

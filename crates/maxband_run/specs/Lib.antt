@@ -12,6 +12,8 @@ pub mod Check
 pub mod Searched
 pub mod Solve
 pub mod Renew
+pub mod Bands
+pub mod Half
 pub mod Make
 pub mod Trial
 pub mod Sweep

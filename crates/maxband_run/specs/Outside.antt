@@ -24,6 +24,10 @@ pub record NamedBytes : Type 0 where
 abbrev pub named : List ℕ → List ℕ → NamedBytes
 named n xs = record { name = n; bytes = xs }
 
+-- there are bytes, and this holds of them
+abbrev pub With : (List ℕ → Type 0) → Option (List ℕ) → Type 0
+With p put = (bytes : List ℕ) × (put ≡ Some bytes) × p bytes
+
 -- into this file, where there is one, these bytes, where there are any
 abbrev pub put_of : Option (List ℕ) → Option (List ℕ) → Option NamedBytes
 put_of None bytes = None

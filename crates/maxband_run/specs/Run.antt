@@ -1,8 +1,8 @@
 -- What a run comes to: the cause of its status, what stands behind it, what is put, and by which lines the output grew.
 use Rattle.std.specs.Prelude.{◌≡◌, ◌⊎◌, ℕ, List, [], Option, Some, None}
 use Rattle.outer_edge.specs.Counts.{SameCounts}
-use Rattle.maxband_run.specs.Outside.{Outside, NamedBytes, put_of, IsDone, IsUntouched, IsBroken}
-use Rattle.maxband_run.specs.Command.{Request, Hold, Show, Check, Solve, Renew, Make, Trial, Sweep, shape}
+use Rattle.maxband_run.specs.Outside.{Outside, NamedBytes, With, put_of, IsDone, IsUntouched, IsBroken}
+use Rattle.maxband_run.specs.Command.{Request, Hold, Show, Check, Solve, Renew, Bands, Half, Make, Trial, Sweep, shape}
 use Rattle.maxband_run.specs.Reading.{Input, Values, AreRead, StopsReading}
 use Rattle.maxband_run.specs.Lines.{words_line}
 use Rattle.maxband_run.specs.Hold.{HoldFinds}
@@ -10,15 +10,13 @@ use Rattle.maxband_run.specs.Show.{Shows}
 use Rattle.maxband_run.specs.Check.{CheckFinds}
 use Rattle.maxband_run.specs.Solve.{IsSolution}
 use Rattle.maxband_run.specs.Renew.{IsRenewal}
+use Rattle.maxband_run.specs.Bands.{BandsFinds}
+use Rattle.maxband_run.specs.Half.{HalfFinds}
 use Rattle.maxband_run.specs.Make.{Makes}
 use Rattle.maxband_run.specs.Trial.{IsTrial}
 use Rattle.maxband_run.specs.Sweep.{IsSweep}
 use Rattle.maxband_run.specs.declared.cause.Cause.{Cause}
 use Rattle.maxband_run.specs.declared.cause.Cause.TheVariants as cause
-
--- there are bytes, and this holds of them
-abbrev pub With : (List ℕ → Type 0) → Option (List ℕ) → Type 0
-With p put = (bytes : List ℕ) × (put ≡ Some bytes) × p bytes
 
 -- What each command finds of the values that its files are read as: the cause, the lines, and the bytes of the file that it puts, where it puts one.
 abbrev pub Finds : (asked : Option Request) → Values (shape asked).inputs → Cause → List ℕ → Option (List ℕ) → Type 0
@@ -28,6 +26,8 @@ Finds (Some (Show artery)) v c lines put = Shows v.0 c lines
 Finds (Some (Check artery certificate)) v c lines put = CheckFinds v.0 v.1.0 c lines
 Finds (Some (Solve artery certificate limit)) v c lines put = With (IsSolution v.0 limit c lines) put
 Finds (Some (Renew certificate new)) v c lines put = With (IsRenewal v.0 c lines) put
+Finds (Some (Bands artery timing)) v c lines put = BandsFinds v.0 v.1.0 c lines
+Finds (Some (Half artery timing new)) v c lines put = HalfFinds v.0 v.1.0 c lines put
 Finds (Some (Make signals seed)) v c lines put = Makes signals seed c lines
 Finds (Some (Trial signals seed limit)) v c lines put = IsTrial signals seed limit c lines
 Finds (Some (Sweep artery table limit cycles)) v c lines put = With (IsSweep v.0 limit cycles c lines) put

@@ -6,13 +6,15 @@ ghost use Rattle.outer_edge.specs.Counts.{NoneFell, SameCounts};
 ghost use Rattle.outer_edge.specs.Held.{SameFiles};
 ghost use Rattle.maxband_run.specs.Lines.{words_line};
 ghost use Rattle.maxband_run.specs.Outside.{view};
-ghost use Rattle.maxband_run.specs.Command.{Hold, Show, Check, Solve, Renew, Sweep};
+ghost use Rattle.maxband_run.specs.Command.{Hold, Show, Check, Solve, Renew, Bands, Half, Sweep};
 ghost use Rattle.maxband_run.specs.Cycles.{SpellCycles};
 ghost use Rattle.maxband_run.specs.Run.{Answers};
 
 use crate::answer::{Answer, told};
+use crate::bands::bands;
 use crate::cause::Cause;
 use crate::check::check;
+use crate::half::half_cycle;
 use crate::hold::hold;
 use crate::inputs::{artery_of, certificate_of, timing_of};
 use crate::lines::words_line;
@@ -141,6 +143,59 @@ pub fn renew_answer<'a, F: Files>(
         Err(end) => return end,
     };
     renew(alloc, &warrant, new)
+}
+
+/// The answer of `bands`.
+pub fn bands_answer<F: Files>(
+    alloc: Global,
+    files: &mut F,
+    artery: &str,
+    timing: &str,
+) -> Result<Answer<'static>, Memory>
+    ensures told { IfOk result (λ a. Answers (F.holds files.old) (F.read_faults files.old) (F.read_faults files.new) (Some (Bands artery.now timing.now)) a.cause a.lines.items (option_map view a.put)) }
+    ensures memory { OnErr result (SameCounts (F.read_faults files.old) (F.read_faults files.new)) }
+
+    // In every case.
+    ensures files { SameFiles (F.holds files.old) (F.holds files.new) }
+    ensures reads { NoneFell (F.read_faults files.old) (F.read_faults files.new) }
+    ensures puts { SameCounts (F.put_faults files.old) (F.put_faults files.new) }
+{
+    let street = match artery_of(alloc, files, artery, 1) {
+        Ok(street) => street,
+        Err(end) => return end,
+    };
+    let plan = match timing_of(alloc, files, timing, 2) {
+        Ok(plan) => plan,
+        Err(end) => return end,
+    };
+    bands(alloc, &street, &plan)
+}
+
+/// The answer of `half`.
+pub fn half_answer<'a, F: Files>(
+    alloc: Global,
+    files: &mut F,
+    artery: &'a str,
+    timing: &'a str,
+    new: &'a str,
+) -> Result<Answer<'a>, Memory>
+    ensures told { IfOk result (λ a. Answers (F.holds files.old) (F.read_faults files.old) (F.read_faults files.new) (Some (Half artery.now timing.now new.now)) a.cause a.lines.items (option_map view a.put)) }
+    ensures memory { OnErr result (SameCounts (F.read_faults files.old) (F.read_faults files.new)) }
+
+    // In every case.
+    ensures files { SameFiles (F.holds files.old) (F.holds files.new) }
+    ensures reads { NoneFell (F.read_faults files.old) (F.read_faults files.new) }
+    ensures puts { SameCounts (F.put_faults files.old) (F.put_faults files.new) }
+{
+    let street = match artery_of(alloc, files, artery, 1) {
+        Ok(street) => street,
+        Err(end) => return end,
+    };
+    let plan = match timing_of(alloc, files, timing, 2) {
+        Ok(plan) => plan,
+        Err(end) => return end,
+    };
+    half_cycle(alloc, &street, &plan, new)
 }
 
 /// The answer of `sweep`.

@@ -6,6 +6,7 @@ ghost use Rattle.maxband_run.specs.Status.{number_of};
 use artery_model::Refusal;
 use branch_tree::Stop;
 use certificate_checker::Reject;
+use half_integer::HalfEnd;
 use plan_text::BadText;
 use time_space::Failing;
 
@@ -37,6 +38,8 @@ pub enum Cause {
     Memory,
     /// This file has more bytes than its limit.
     TooLong { file: u8 },
+    /// The timing has no half-cycle plan: the first reason.
+    Unmatched(HalfEnd),
 }
 
 /// How a run ends: a number for the system, and the cause.
@@ -62,6 +65,7 @@ impl Cause {
             Cause::WriteFault => 7,
             Cause::Memory => 8,
             Cause::TooLong { .. } => 9,
+            Cause::Unmatched(_) => 11,
         }
     }
     /// Whether memory was wanting.
@@ -80,7 +84,8 @@ impl Cause {
             | Cause::Words
             | Cause::ReadFault { .. }
             | Cause::WriteFault
-            | Cause::TooLong { .. } => false,
+            | Cause::TooLong { .. }
+            | Cause::Unmatched(_) => false,
         }
     }
 }

@@ -37,6 +37,17 @@ pub enum Command<'a> {
         certificate: &'a str,
         new: &'a str,
     },
+    /// Measure the widest bands on the offsets of the timing of the second file, on the artery of the first.
+    Bands {
+        artery: &'a str,
+        timing: &'a str,
+    },
+    /// Find the widest equal bands over all offsets of that timing, and put the plan that has them in the third.
+    Half {
+        artery: &'a str,
+        timing: &'a str,
+        new: &'a str,
+    },
     /// Write the canonical description of the artery that is made with so many signals from the seed.
     Make {
         signals: u32,
@@ -106,6 +117,11 @@ fn with_two<'a>(word: &str, first: &'a str, second: &'a str) -> Option<Command<'
             certificate: first,
             new: second,
         })
+    } else if word == "bands" {
+        Some(Command::Bands {
+            artery: first,
+            timing: second,
+        })
     } else if word == "make" {
         make_of(first, second)
     } else {
@@ -114,7 +130,12 @@ fn with_two<'a>(word: &str, first: &'a str, second: &'a str) -> Option<Command<'
 }
 
 /// The command of a word with three more.
-fn with_three<'a>(word: &str, first: &'a str, second: &'a str, third: &str) -> Option<Command<'a>>
+fn with_three<'a>(
+    word: &str,
+    first: &'a str,
+    second: &'a str,
+    third: &'a str,
+) -> Option<Command<'a>>
     ensures { option_map view result ≡ with_three word.now first.now second.now third.now }
 {
     if word == "solve" {
@@ -123,6 +144,12 @@ fn with_three<'a>(word: &str, first: &'a str, second: &'a str, third: &str) -> O
             artery: first,
             certificate: second,
             limit,
+        })
+    } else if word == "half" {
+        Some(Command::Half {
+            artery: first,
+            timing: second,
+            new: third,
         })
     } else if word == "trial" {
         trial_of(first, second, third)
@@ -225,6 +252,15 @@ pub fn room_for_faults(command: Option<Command<'_>>) -> u64
             | Command::Check {
                 artery,
                 certificate: second,
+            }
+            | Command::Bands {
+                artery,
+                timing: second,
+            }
+            | Command::Half {
+                artery,
+                timing: second,
+                ..
             },
         ) => fault_bytes(artery).max(fault_bytes(second)),
         Some(Command::Make { .. } | Command::Trial { .. }) | None => 0,

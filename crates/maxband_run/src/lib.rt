@@ -8,12 +8,14 @@
 
 mod answer;
 mod answers;
+mod bands;
 mod cause;
 mod check;
 mod check_lines;
 mod command;
 mod cycles;
 mod finish;
+mod half;
 mod hold;
 mod inputs;
 mod lines;

@@ -12,7 +12,7 @@ ghost use Rattle.maxband_run.specs.Laws.{OneAnswer, FaultsAreTold, SolveIsComple
 
 use crate::answer::Answer;
 use crate::answers::{
-    check_answer, hold_answer, renew_answer, show_answer, solve_answer, sweep_answer, words_answer,
+    bands_answer, check_answer, half_answer, hold_answer, renew_answer, show_answer, solve_answer, sweep_answer, words_answer,
 };
 use crate::cause::{Cause, Status};
 use crate::command::{Command, command_in, room_for_faults};
@@ -56,6 +56,14 @@ fn answer_to<'a, F: Files>(
             },
         ) => solve_answer(alloc, files, artery, certificate, limit),
         Some(Command::Renew { certificate, new }) => renew_answer(alloc, files, certificate, new),
+        Some(Command::Bands { artery, timing }) => bands_answer(alloc, files, artery, timing),
+        Some(
+            Command::Half {
+                artery,
+                timing,
+                new,
+            },
+        ) => half_answer(alloc, files, artery, timing, new),
         Some(Command::Make { signals, seed }) => make(alloc, signals, seed),
         Some(
             Command::Trial {
