@@ -19,24 +19,30 @@ put_nothing : (p : Cause → List ℕ → Type 0) (q : Cause → List ℕ → Op
 put_nothing p q (Ok a) k h n = subst (λ (o : Option NamedBytes). q a.cause a.lines.items o) (sym (ap (option_map view) n)) (k a.cause a.lines.items h)
 put_nothing p q (Err m) k h n = tt
 
+-- of two files the first isn't read, or the second
+pub first_unread : (i j : Input) (held : List ℕ → Option (List ℕ)) (before after : List ℕ → ℕ) (r : Result Answer Memory)
+    → IfOk r (λ a. IsUnread i 1 held before after a.cause a.lines.items) → IfOk r (λ a. StopsReading (i ∷ j ∷ []) 1 held before after a.cause a.lines.items)
+first_unread i j held before after (Ok a) h = inl h
+first_unread i j held before after (Err m) h = tt
+
+pub second_unread : (i j : Input) (held now : List ℕ → Option (List ℕ)) (before mid after : List ℕ → ℕ) (v : Value i.reader)
+    → SameFiles held now → SameCounts before mid → Reads i.reader (held i.name) v → (r : Result Answer Memory)
+    → IfOk r (λ a. IsUnread j 2 now mid after a.cause a.lines.items) → IfOk r (λ a. StopsReading (i ∷ j ∷ []) 1 held before after a.cause a.lines.items)
+second_unread i j held now before mid after v same counts first (Ok a) h = inr (v, first, inl (unread_later j 2 held now before mid after a.cause a.lines.items same counts h))
+second_unread i j held now before mid after v same counts first (Err m) h = tt
+
 module _ (asked : Option Request) (held : List ℕ → Option (List ℕ)) (before after : List ℕ → ℕ) (r : Result Answer Memory) where
+  -- a file isn't read
+  pub stops : IfOk r (λ a. StopsReading (shape asked).inputs 1 held before after a.cause a.lines.items) → IfOk r (λ a. a.put ≡ None)
+      → IfOk r (λ a. Answers held before after asked a.cause a.lines.items (option_map view a.put))
+  stops h n = put_nothing (StopsReading (shape asked).inputs 1 held before after) (Answers held before after asked) r (λ c lines k. inl (record { stops = k; no_put = refl })) h n
+
   -- the first file isn't read
   pub first_stops : (i : Input) (is : List Input) → (shape asked).inputs ≡ i ∷ is
       → IfOk r (λ a. IsUnread i 1 held before after a.cause a.lines.items) → IfOk r (λ a. a.put ≡ None)
       → IfOk r (λ a. Answers held before after asked a.cause a.lines.items (option_map view a.put))
   first_stops i is e h n = put_nothing (IsUnread i 1 held before after) (Answers held before after asked) r
       (λ c lines k. inl (record { stops = subst (λ (js : List Input). StopsReading js 1 held before after c lines) (sym e) (inl k); no_put = refl })) h n
-
-  -- the second file isn't read
-  pub second_stops : (now : List ℕ → Option (List ℕ)) (mid : List ℕ → ℕ) (i j : Input) (is : List Input) (v : Value i.reader) → (shape asked).inputs ≡ i ∷ j ∷ is
-      → SameFiles held now → SameCounts before mid → Reads i.reader (held i.name) v
-      → IfOk r (λ a. IsUnread j 2 now mid after a.cause a.lines.items) → IfOk r (λ a. a.put ≡ None)
-      → IfOk r (λ a. Answers held before after asked a.cause a.lines.items (option_map view a.put))
-  second_stops now mid i j is v e same counts first h n = put_nothing (IsUnread j 2 now mid after) (Answers held before after asked) r
-      (λ c lines k. inl (record {
-        stops = subst (λ (js : List Input). StopsReading js 1 held before after c lines) (sym e) (inr (v, first, inl (unread_later j 2 held now before mid after c lines same counts k)));
-        no_put = refl;
-      })) h n
 
   -- all files are read
   module _ (values : Values (shape asked).inputs) (read : AreRead (shape asked).inputs held values) (counts : SameCounts before after) where

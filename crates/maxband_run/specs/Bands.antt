@@ -7,6 +7,7 @@ use Rattle.progression.specs.Plan.{Plan, cycle}
 use Rattle.progression.specs.Good.{IsBase}
 use Rattle.progression.specs.declared.parts.Dir.{Dir}
 use Rattle.progression.specs.declared.parts.Dir.TheVariants.{Outbound, Inbound}
+use Rattle.artery_model.specs.Valid.{IsValid}
 use Rattle.time_space.specs.FirstFailing.{IsFirstFailing, rule_order, last_base_rule}
 use Rattle.time_space.specs.declared.failing.Failing.{Failing}
 use Rattle.diagram_print.specs.Measures.{dir_name, measure_text}
@@ -27,6 +28,8 @@ widest_line a t d (Some w) = measure_text (codes "band " ++ dir_name d) (over (p
 
 -- the timing keeps the rules that speak of no band, and these are the widest bands of both directions
 pub record IsMeasured (a : Street) (t : Plan) (lines : List ℕ) : Type 0 where
+  pub valid : IsValid a
+  pub unit : 2 ≤ t.unit
   pub base : IsBase a t
   pub outbound : Option Widest
   pub inbound : Option Widest

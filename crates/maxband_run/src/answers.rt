@@ -16,7 +16,7 @@ use crate::cause::Cause;
 use crate::check::check;
 use crate::half::half_cycle;
 use crate::hold::hold;
-use crate::inputs::{artery_of, certificate_of, timing_of};
+use crate::inputs::{artery_and_certificate, artery_and_timing, artery_of, certificate_of};
 use crate::lines::words_line;
 use crate::renew::renew;
 use crate::show::show;
@@ -41,12 +41,8 @@ pub fn hold_answer<F: Files>(
     ensures reads { NoneFell (F.read_faults files.old) (F.read_faults files.new) }
     ensures puts { SameCounts (F.put_faults files.old) (F.put_faults files.new) }
 {
-    let street = match artery_of(alloc, files, artery, 1) {
-        Ok(street) => street,
-        Err(end) => return end,
-    };
-    let plan = match timing_of(alloc, files, timing, 2) {
-        Ok(plan) => plan,
+    let (street, plan) = match artery_and_timing(alloc, files, artery, timing) {
+        Ok(both) => both,
         Err(end) => return end,
     };
     hold(alloc, &street, &plan)
@@ -88,12 +84,8 @@ pub fn check_answer<F: Files>(
     ensures reads { NoneFell (F.read_faults files.old) (F.read_faults files.new) }
     ensures puts { SameCounts (F.put_faults files.old) (F.put_faults files.new) }
 {
-    let street = match artery_of(alloc, files, artery, 1) {
-        Ok(street) => street,
-        Err(end) => return end,
-    };
-    let warrant = match certificate_of(alloc, files, certificate, 2) {
-        Ok(warrant) => warrant,
+    let (street, warrant) = match artery_and_certificate(alloc, files, artery, certificate) {
+        Ok(both) => both,
         Err(end) => return end,
     };
     check(alloc, &street, &warrant)
@@ -160,12 +152,8 @@ pub fn bands_answer<F: Files>(
     ensures reads { NoneFell (F.read_faults files.old) (F.read_faults files.new) }
     ensures puts { SameCounts (F.put_faults files.old) (F.put_faults files.new) }
 {
-    let street = match artery_of(alloc, files, artery, 1) {
-        Ok(street) => street,
-        Err(end) => return end,
-    };
-    let plan = match timing_of(alloc, files, timing, 2) {
-        Ok(plan) => plan,
+    let (street, plan) = match artery_and_timing(alloc, files, artery, timing) {
+        Ok(both) => both,
         Err(end) => return end,
     };
     bands(alloc, &street, &plan)
@@ -187,12 +175,8 @@ pub fn half_answer<'a, F: Files>(
     ensures reads { NoneFell (F.read_faults files.old) (F.read_faults files.new) }
     ensures puts { SameCounts (F.put_faults files.old) (F.put_faults files.new) }
 {
-    let street = match artery_of(alloc, files, artery, 1) {
-        Ok(street) => street,
-        Err(end) => return end,
-    };
-    let plan = match timing_of(alloc, files, timing, 2) {
-        Ok(plan) => plan,
+    let (street, plan) = match artery_and_timing(alloc, files, artery, timing) {
+        Ok(both) => both,
         Err(end) => return end,
     };
     half_cycle(alloc, &street, &plan, new)

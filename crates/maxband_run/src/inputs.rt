@@ -1,9 +1,9 @@
 //! The files that a command reads, one after the other.
 
-ghost use Rattle.std.specs.Prelude.{◌≡◌, None, IfOk, IfErr, OnOk, OnErr};
+ghost use Rattle.std.specs.Prelude.{◌≡◌, [], ◌∷◌, None, IfOk, IfErr, OnOk, OnErr};
 ghost use Rattle.outer_edge.specs.Counts.{NoneFell, SameCounts};
 ghost use Rattle.outer_edge.specs.Held.{SameFiles};
-ghost use Rattle.maxband_run.specs.Reading.{input, most_bytes, IsWithinLimit, Reads, IsUnread};
+ghost use Rattle.maxband_run.specs.Reading.{input, most_bytes, IsWithinLimit, Reads, IsUnread, StopsReading};
 ghost use Rattle.maxband_run.specs.Lines.{refused_line, bad_text_line, too_long_line};
 
 use crate::answer::{Unread, told};
@@ -166,5 +166,63 @@ pub fn certificate_of<F: Files>(
         Ok(certificate) => Ok(certificate),
         Err(TextEnd::Bad(bad)) => Err(bad_text(alloc, bad)),
         Err(TextEnd::Memory) => Err(Err(Memory)),
+    }
+}
+
+/// The artery and the timing of the two files, or why one of them isn't read.
+pub fn artery_and_timing<F: Files>(
+    alloc: Global,
+    files: &mut F,
+    artery: &str,
+    timing: &str,
+) -> Result<(Artery, Timing), Unread>
+    ensures first { IfOk result (λ v. Reads Reader.Description (F.holds files.old artery.now) v.0) }
+    ensures second { IfOk result (λ v. Reads Reader.Timing (F.holds files.old timing.now) v.1) }
+    ensures none_failed { OnOk result (SameCounts (F.read_faults files.old) (F.read_faults files.new)) }
+    ensures unread { IfErr result (λ end. IfOk end (λ a. StopsReading (input Reader.Description artery.now ∷ input Reader.Timing timing.now ∷ []) 1 (F.holds files.old) (F.read_faults files.old) (F.read_faults files.new) a.cause a.lines.items)) }
+    ensures no_put { IfErr result (λ end. IfOk end (λ a. a.put ≡ None)) }
+    ensures memory { IfErr result (λ end. OnErr end (SameCounts (F.read_faults files.old) (F.read_faults files.new))) }
+
+    // In every case.
+    ensures files { SameFiles (F.holds files.old) (F.holds files.new) }
+    ensures reads { NoneFell (F.read_faults files.old) (F.read_faults files.new) }
+    ensures puts { SameCounts (F.put_faults files.old) (F.put_faults files.new) }
+{
+    let first = match artery_of(alloc, files, artery, 1) {
+        Ok(first) => first,
+        Err(end) => return Err(end),
+    };
+    match timing_of(alloc, files, timing, 2) {
+        Ok(second) => Ok((first, second)),
+        Err(end) => Err(end),
+    }
+}
+
+/// The artery and the certificate of the two files, or why one of them isn't read.
+pub fn artery_and_certificate<F: Files>(
+    alloc: Global,
+    files: &mut F,
+    artery: &str,
+    certificate: &str,
+) -> Result<(Artery, Certificate), Unread>
+    ensures first { IfOk result (λ v. Reads Reader.Description (F.holds files.old artery.now) v.0) }
+    ensures second { IfOk result (λ v. Reads Reader.Certificate (F.holds files.old certificate.now) v.1) }
+    ensures none_failed { OnOk result (SameCounts (F.read_faults files.old) (F.read_faults files.new)) }
+    ensures unread { IfErr result (λ end. IfOk end (λ a. StopsReading (input Reader.Description artery.now ∷ input Reader.Certificate certificate.now ∷ []) 1 (F.holds files.old) (F.read_faults files.old) (F.read_faults files.new) a.cause a.lines.items)) }
+    ensures no_put { IfErr result (λ end. IfOk end (λ a. a.put ≡ None)) }
+    ensures memory { IfErr result (λ end. OnErr end (SameCounts (F.read_faults files.old) (F.read_faults files.new))) }
+
+    // In every case.
+    ensures files { SameFiles (F.holds files.old) (F.holds files.new) }
+    ensures reads { NoneFell (F.read_faults files.old) (F.read_faults files.new) }
+    ensures puts { SameCounts (F.put_faults files.old) (F.put_faults files.new) }
+{
+    let first = match artery_of(alloc, files, artery, 1) {
+        Ok(first) => first,
+        Err(end) => return Err(end),
+    };
+    match certificate_of(alloc, files, certificate, 2) {
+        Ok(second) => Ok((first, second)),
+        Err(end) => Err(end),
     }
 }

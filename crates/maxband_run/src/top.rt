@@ -141,6 +141,9 @@ pub fn law_one_answer()
     time_space::law_one_first();
     time_space::law_fails_rules_out();
     certificate_checker::law_accepted_or_refused();
+    band_measure::law_one_widest();
+    band_measure::law_finer_pairs();
+    half_integer::law_one_end();
 }
 
 /// A law over the definitions: where the description of `solve` is one of an artery and no fault is counted, the run ends

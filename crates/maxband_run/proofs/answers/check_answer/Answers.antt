@@ -1,37 +1,14 @@
-use Rattle.std.proofs.Common.{[], Some, refl}
+use Rattle.std.proofs.Common.{Some, refl}
 use Rattle.maxband_run.specs.Command.{Check}
-use Rattle.maxband_run.specs.Reading.{input}
-use Rattle.maxband_run.specs.declared.reader.Reader.TheVariants.{Description, Certificate}
-use Rattle.maxband_run.proofs.Stopped.{reads_later}
-use Rattle.maxband_run.proofs.Told.{counted_twice, counted_both, held_twice, second_stops, finds, same_twice}
+use Rattle.maxband_run.proofs.Told.{stops, finds}
 use Rattle.maxband_run.proofs.answers.check_answer.Goals as goal
 
-pub returns-in-Err-certificate_of-clause-told : goal.returns-in-Err-certificate_of-clause-told
-returns-in-Err-certificate_of-clause-told g c =
-    second_stops (Some (Check c.args.artery.now c.args.certificate.now)) (g.F.Files.holds c.args.files.now) (g.F.Files.read_faults c.args.files.now) (g.F.Files.read_faults c.certificate_of.new.files) c.in-Err-certificate_of.end
-    (g.F.Files.holds c.artery_of.new.files) (g.F.Files.read_faults c.artery_of.new.files) (input Description c.args.artery.now) (input Certificate c.args.certificate.now) [] c.in-Ok.street refl
-    c.in-Ok.ensures.files c.in-Ok.ensures.none_failed c.in-Ok.ensures.ok c.in-Err-certificate_of.ensures.unread c.in-Err-certificate_of.ensures.no_put
+pub returns-in-Err-clause-told : goal.returns-in-Err-clause-told
+returns-in-Err-clause-told g c =
+    stops (Some (Check c.args.artery.now c.args.certificate.now)) (g.F.Files.holds c.args.files.now) (g.F.Files.read_faults c.args.files.now) (g.F.Files.read_faults c.artery_and_certificate.new.files) c.in-Err.end
+    c.in-Err.ensures.unread c.in-Err.ensures.no_put
 
 pub returns-clause-told : goal.returns-clause-told
 returns-clause-told g c =
-    let second = reads_later Certificate c.args.certificate.now (g.F.Files.holds c.args.files.now) (g.F.Files.holds c.artery_of.new.files) c.in-Ok-certificate_of.warrant c.in-Ok.ensures.files c.in-Ok-certificate_of.ensures.ok in
-    finds (Some (Check c.args.artery.now c.args.certificate.now)) (g.F.Files.holds c.args.files.now) (g.F.Files.read_faults c.args.files.now) (g.F.Files.read_faults c.certificate_of.new.files) c.check.result (c.in-Ok.street, (c.in-Ok-certificate_of.warrant, tt))
-    (c.in-Ok.ensures.ok, (second, tt)) (same_twice _ _ _ c.in-Ok.ensures.none_failed c.in-Ok-certificate_of.ensures.none_failed) refl c.check.ensures.finds c.check.ensures.no_put
-
-pub returns-in-Err-certificate_of-clause-memory : goal.returns-in-Err-certificate_of-clause-memory
-returns-in-Err-certificate_of-clause-memory g c =
-    counted_twice c.in-Err-certificate_of.end (g.F.Files.read_faults c.args.files.now) (g.F.Files.read_faults c.artery_of.new.files) (g.F.Files.read_faults c.certificate_of.new.files)
-    c.in-Ok.ensures.none_failed c.in-Err-certificate_of.ensures.memory
-
-pub returns-in-Err-certificate_of-clause-files : goal.returns-in-Err-certificate_of-clause-files
-returns-in-Err-certificate_of-clause-files g c =
-    held_twice (g.F.Files.holds c.args.files.now) (g.F.Files.holds c.artery_of.new.files) (g.F.Files.holds c.certificate_of.new.files) c.in-Ok.ensures.files c.in-Err-certificate_of.ensures.files
-
-pub returns-clause-memory : goal.returns-clause-memory
-returns-clause-memory g c =
-    counted_both c.check.result (g.F.Files.read_faults c.args.files.now) (g.F.Files.read_faults c.artery_of.new.files) (g.F.Files.read_faults c.certificate_of.new.files)
-    c.in-Ok.ensures.none_failed c.in-Ok-certificate_of.ensures.none_failed
-
-pub returns-clause-files : goal.returns-clause-files
-returns-clause-files g c =
-    held_twice (g.F.Files.holds c.args.files.now) (g.F.Files.holds c.artery_of.new.files) (g.F.Files.holds c.certificate_of.new.files) c.in-Ok.ensures.files c.in-Ok-certificate_of.ensures.files
+    finds (Some (Check c.args.artery.now c.args.certificate.now)) (g.F.Files.holds c.args.files.now) (g.F.Files.read_faults c.args.files.now) (g.F.Files.read_faults c.artery_and_certificate.new.files) c.check.result (c.in-Ok.street, (c.in-Ok.warrant, tt))
+    (c.in-Ok.ensures.first, (c.in-Ok.ensures.second, tt)) c.in-Ok.ensures.none_failed refl c.check.ensures.finds c.check.ensures.no_put

@@ -1,0 +1,14 @@
+use Rattle.std.proofs.Common.{Some, refl}
+use Rattle.maxband_run.specs.Command.{Half}
+use Rattle.maxband_run.proofs.Told.{stops, finds_may_put}
+use Rattle.maxband_run.proofs.answers.half_answer.Goals as goal
+
+pub returns-in-Err-clause-told : goal.returns-in-Err-clause-told
+returns-in-Err-clause-told g c =
+    stops (Some (Half c.args.artery.now c.args.timing.now c.args.new.now)) (g.F.Files.holds c.args.files.now) (g.F.Files.read_faults c.args.files.now) (g.F.Files.read_faults c.artery_and_timing.new.files) c.in-Err.end
+    c.in-Err.ensures.unread c.in-Err.ensures.no_put
+
+pub returns-clause-told : goal.returns-clause-told
+returns-clause-told g c =
+    finds_may_put (Some (Half c.args.artery.now c.args.timing.now c.args.new.now)) (g.F.Files.holds c.args.files.now) (g.F.Files.read_faults c.args.files.now) (g.F.Files.read_faults c.artery_and_timing.new.files) c.args.new.now (c.in-Ok.street, (c.in-Ok.plan, tt)) c.half_cycle.result
+    (c.in-Ok.ensures.first, (c.in-Ok.ensures.second, tt)) c.in-Ok.ensures.none_failed refl c.half_cycle.ensures.finds

@@ -1,0 +1,15 @@
+use Rattle.std.proofs.Common.{[], refl}
+use Rattle.maxband_run.specs.Reading.{input}
+use Rattle.maxband_run.specs.declared.reader.Reader.TheVariants.{Description, Timing}
+use Rattle.maxband_run.proofs.Stopped.{reads_later}
+use Rattle.maxband_run.proofs.Told.{counted_twice, held_twice, same_twice, first_unread, second_unread}
+use Rattle.maxband_run.proofs.inputs.artery_and_timing.Goals as goal
+
+pub returns-in-Err-clause-unread : goal.returns-in-Err-clause-unread
+returns-in-Err-clause-unread g c =
+    first_unread (input Description c.args.artery.now) (input Timing c.args.timing.now) (g.F.Files.holds c.args.files.now) (g.F.Files.read_faults c.args.files.now) (g.F.Files.read_faults c.artery_of.new.files) c.in-Err.end c.in-Err.ensures.unread
+
+pub returns-in-Err-timing_of-clause-unread : goal.returns-in-Err-timing_of-clause-unread
+returns-in-Err-timing_of-clause-unread g c =
+    second_unread (input Description c.args.artery.now) (input Timing c.args.timing.now) (g.F.Files.holds c.args.files.now) (g.F.Files.holds c.artery_of.new.files) (g.F.Files.read_faults c.args.files.now) (g.F.Files.read_faults c.artery_of.new.files) (g.F.Files.read_faults c.timing_of.new.files)
+    c.in-Ok.first c.in-Ok.ensures.files c.in-Ok.ensures.none_failed c.in-Ok.ensures.ok c.in-Err-timing_of.end c.in-Err-timing_of.ensures.unread
