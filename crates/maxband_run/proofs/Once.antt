@@ -157,13 +157,8 @@ half_once one_first ends a t (cause.Unmatched e) d x y s u h k = absurd k
 half_once one_first ends a t c d x y s u h k = absurd h
 
 -- ---- every command
--- one answer, or where a search is made two verdicts
-abbrev FoundAgree : Bool → Cause → List ℕ → Cause → List ℕ → Type 0
-FoundAgree false c x d y = (c ≡ d) × (x ≡ y)
-FoundAgree true c x d y = ((c ≡ d) × (x ≡ y)) ⊎ (IsVerdict c × IsVerdict d)
-
-finds_once : OneText → OneFirst → FailsRulesOut → RefusedIsNotAccepted → OneFirstRefusal → OneWidest → FinerPairs → OneEnd
-    → (asked : Option Request) (v : Values (shape asked).inputs) (c d : Cause) (x y : List ℕ) (s t : Option (List ℕ)) → Finds asked v c x s → Finds asked v d y t → FoundAgree (shape asked).chooses c x d y
+pub finds_once : OneText → OneFirst → FailsRulesOut → RefusedIsNotAccepted → OneFirstRefusal → OneWidest → FinerPairs → OneEnd
+    → (asked : Option Request) (v : Values (shape asked).inputs) (c d : Cause) (x y : List ℕ) (s t : Option (List ℕ)) → Finds asked v c x s → Finds asked v d y t → Agree (shape asked).chooses (shape asked).inputs c x d y
 finds_once one_text one_first rules apart once widest finer ends None v c d x y s t h k = (h.0 ∙ sym k.0, h.1 ∙ sym k.1)
 finds_once one_text one_first rules apart once widest finer ends (Some (Hold artery timing)) v c d x y s t h k = hold_once one_first rules v.0 v.1.0 c d x y h k
 finds_once one_text one_first rules apart once widest finer ends (Some (Show artery)) v c d x y s t h k = show_once one_text v.0 c d x y h k
@@ -175,18 +170,8 @@ finds_once one_text one_first rules apart once widest finer ends (Some (Bands ar
 finds_once one_text one_first rules apart once widest finer ends (Some (Half artery timing new)) v c d x y s t h k = half_once one_first ends v.0 v.1.0 c d x y s t h k
 finds_once one_text one_first rules apart once widest finer ends (Some (Make signals seed)) v c d x y s t h k = show_once one_text (made_street signals seed) c d x y h k
 finds_once one_text one_first rules apart once widest finer ends (Some (Trial signals seed limit)) v c d x y s t h k =
-    inr (verdict_cause c h.found.verdict h.cause_is, verdict_cause d k.found.verdict k.cause_is)
+    (verdict_cause c h.found.verdict h.cause_is, verdict_cause d k.found.verdict k.cause_is)
 finds_once one_text one_first rules apart once widest finer ends (Some (Sweep artery table limit cycles)) v c d x y s t h k = (h.2.cause_is ∙ sym k.2.cause_is, h.2.lines_are ∙ sym k.2.lines_are)
-
-found_agree : (chooses : Bool) (is : List Input) (c d : Cause) (x y : List ℕ) → FoundAgree chooses c x d y → Agree chooses is c x d y
-found_agree false is c d x y h = h
-found_agree true (i ∷ is) c d x y h = h
-
-pub found_once : OneText → OneFirst → FailsRulesOut → RefusedIsNotAccepted → OneFirstRefusal → OneWidest → FinerPairs → OneEnd
-    → (asked : Option Request) (v : Values (shape asked).inputs) (c d : Cause) (x y : List ℕ) (s t : Option (List ℕ)) → Finds asked v c x s → Finds asked v d y t
-    → Agree (shape asked).chooses (shape asked).inputs c x d y
-found_once one_text one_first rules apart once widest finer ends asked v c d x y s t h k =
-    found_agree (shape asked).chooses (shape asked).inputs c d x y (finds_once one_text one_first rules apart once widest finer ends asked v c d x y s t h k)
 
 -- files that stop the reading in one way
 pub stops_agree : (chooses : Bool) (is : List Input) (c d : Cause) (x y : List ℕ) → (is ≡ [] → ⊥) → (c ≡ d) × (x ≡ y) → Agree chooses is c x d y

@@ -14,7 +14,7 @@ use Rattle.maxband_run.specs.Run.{Finds}
 use Rattle.maxband_run.specs.Laws.{OneAnswer}
 use Rattle.maxband_run.specs.declared.cause.Cause.{Cause}
 use Rattle.maxband_run.proofs.Readers.{one_stop, all_apart, same_values}
-use Rattle.maxband_run.proofs.Once.{found_once, stops_agree}
+use Rattle.maxband_run.proofs.Once.{finds_once, stops_agree}
 
 -- where there is no file no reading stops
 some_file : (held : List ℕ → Option (List ℕ)) (before after : List ℕ → ℕ) (is : List Input) (c : Cause) (l : List ℕ) → StopsReading is 1 held before after c l → is ≡ [] → ⊥
@@ -31,4 +31,4 @@ one_answer reader one_text one_first rules apart once widest finer ends held bef
     absurd (all_apart reader held before after (shape asked).inputs 1 h.values d y told m h.read k.stops)
 one_answer reader one_text one_first rules apart once widest finer ends held before after asked c d x y p q told n m (inr h) (inr k) =
     let e = same_values reader held before after (shape asked).inputs h.values k.values told h.read k.read in
-    found_once one_text one_first rules apart once widest finer ends asked k.values c d x y h.bytes k.bytes (subst (λ (v : Values (shape asked).inputs). Finds asked v c x h.bytes) e h.finds) k.finds
+    finds_once one_text one_first rules apart once widest finer ends asked k.values c d x y h.bytes k.bytes (subst (λ (v : Values (shape asked).inputs). Finds asked v c x h.bytes) e h.finds) k.finds
