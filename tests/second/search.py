@@ -419,7 +419,7 @@ class Opened:
             tableau.step(r, places)
             self.pivots += 1
         multipliers = tableau.multipliers(tableau.goal if r is None else r)
-        self.leaf = [f"{rows[number][0]} {times}" for number, times in multipliers.items()]
+        self.leaf = {rows[number][0]: times for number, times in multipliers.items()}
         bound = leaf_bound(street, rows, multipliers)
         if r is None:
             self.bound, self.variables = bound, set(tableau.basic)
@@ -472,7 +472,7 @@ class Search:
         return max(bounds + [self.best.weighted()] if self.best else bounds)
 
     def certificate(self):
-        yield "maxband-certificate 1"
+        yield "maxband-certificate 2"
         yield f"verdict {self.verdict()}"
         if self.stopped:
             yield f"bound {self.bound()}"
@@ -481,12 +481,12 @@ class Search:
             yield from self.best.lines()
         elif self.stopped:
             yield "no timing"
-        yield "tree"
         # The order of the ways is that of the tree.
-        for _, node in sorted(self.tree.items()):
-            yield from [node] if isinstance(node, str) else leaf_lines(node.leaf)
-        if not self.tree:
-            yield from leaf_lines(["wout 1 1"] + [f"win 1 {self.street.ratio}"] * (self.street.ratio != 0))
+        nodes = [node if isinstance(node, str) else node.leaf for _, node in sorted(self.tree.items())]
+        if not nodes:
+            nodes = [{"wout 1": ONE, "win 1": self.street.ratio} if self.street.ratio else {"wout 1": ONE}]
+        names = [name for name, _, _ in self.street.rows(self.street.root())]
+        yield from tree_lines(names, nodes)
         yield "end"
 
     def report(self):
@@ -503,8 +503,25 @@ class Search:
             yield "no timing"
 
 
-def leaf_lines(rows):
-    return [f"leaf {len(rows)}", *rows]
+def tree_lines(names, nodes):
+    """The list of rows and the tree. A node is the line of a split, or a leaf's multipliers by the names of their rows."""
+    named = set().union(*(node for node in nodes if not isinstance(node, str)))
+    listed = [name for name in names if name in named]
+    place = {name: at for at, name in enumerate(listed, 1)}
+    yield f"rows {len(listed)}"
+    yield from listed
+    yield "tree"
+    for node in nodes:
+        yield from [node] if isinstance(node, str) else leaf_lines({place[name]: times for name, times in node.items()})
+
+
+def leaf_lines(leaf):
+    """The lines of a leaf, whose multipliers stand by the places of their rows."""
+    common = math.lcm(*(times.denominator for times in leaf.values()))
+    whole = {at: times.numerator * (common // times.denominator) for at, times in leaf.items()}
+    if all(abs(number) < SIZE for number in (common, *whole.values())):
+        return [f"leaf {common} {len(leaf)}", *(f"{at} {number}" for at, number in whole.items())]
+    return [f"plain {len(leaf)}", *(f"{at} {times}" for at, times in leaf.items())]
 
 
 # The report.
