@@ -1,10 +1,10 @@
 -- The gaps of a plan: a pair runs exactly where it lies in a gap of each signal, here and on a finer grid.
-use Rattle.std.proofs.Common.{◌≡◌, ℕ, zero, suc, ℤ, pos, ◌+ℤ◌, ◌-ℤ◌, ◌*ℤ◌, ◌+◌, ◌-◌, ◌*◌, ◌<◌, ◌≤◌, refl, sym, subst, ap, arith, add-one}
+use Rattle.std.proofs.Common.{◌≡◌, ℕ, zero, suc, ℤ, pos, ◌+ℤ◌, ◌-ℤ◌, ◌*ℤ◌, ◌+◌, ◌-◌, ◌*◌, ◌<◌, ◌≤◌, refl, ap, arith, add-one}
 use Rattle.std.specs.Prelude.{◌↔◌}
 use Rattle.std.proofs.lemmas.Int.{ints}
 use Rattle.progression.specs.Street.{Street, count, red_parts}
 use Rattle.progression.specs.Plan.{Plan, cycle, first, band}
-use Rattle.progression.specs.Green.{BandIsGreen, red_start, red_ticks}
+use Rattle.progression.specs.Green.{red_start, red_ticks}
 use Rattle.progression.specs.Lines.{stop, advance, crossing, IsGreenAt}
 use Rattle.progression.specs.declared.parts.Dir.{Dir}
 use Rattle.progression.specs.declared.parts.Dir.TheVariants.{Outbound, Inbound}
@@ -31,17 +31,13 @@ module _ (a : Street) (t : Plan) (x : ℤ) (b : ℕ) where
   crossing_with Inbound zero = omega (arith, ints)
   crossing_with d (suc j) = let e = crossing_with d j in let f = advance_with d j in omega (arith, ints, e, f)
 
-  pub green_with : (d : Dir) (j : ℕ) → IsGreenAt a (with_pair x b t) d j → IsGreenFrom a t d x b j
-  green_with Outbound j g = subst (λ y. BandIsGreen (cycle a t) (red_start a t Outbound (stop Outbound (count a) j)) (red_ticks a t Outbound (stop Outbound (count a) j)) y b) (crossing_with Outbound j) g
-  green_with Inbound j g = subst (λ y. BandIsGreen (cycle a t) (red_start a t Inbound (stop Inbound (count a) j)) (red_ticks a t Inbound (stop Inbound (count a) j)) y b) (crossing_with Inbound j) g
-
-  pub with_green : (d : Dir) (j : ℕ) → IsGreenFrom a t d x b j → IsGreenAt a (with_pair x b t) d j
-  with_green Outbound j g = subst (λ y. BandIsGreen (cycle a t) (red_start a t Outbound (stop Outbound (count a) j)) (red_ticks a t Outbound (stop Outbound (count a) j)) y b) (sym (crossing_with Outbound j)) g
-  with_green Inbound j g = subst (λ y. BandIsGreen (cycle a t) (red_start a t Inbound (stop Inbound (count a) j)) (red_ticks a t Inbound (stop Inbound (count a) j)) y b) (sym (crossing_with Inbound j)) g
+  green_both : (d : Dir) (j : ℕ) → IsGreenAt a (with_pair x b t) d j ↔ IsGreenFrom a t d x b j
+  green_both Outbound j = ((λ g. rw (crossing_with Outbound j) at g), (λ g. rw (crossing_with Outbound j) g))
+  green_both Inbound j = ((λ g. rw (crossing_with Inbound j) at g), (λ g. rw (crossing_with Inbound j) g))
 
   -- a pair runs exactly where its band is green from each of its crossings
   pub runs_is : (d : Dir) → RunsOn a t d x b ↔ ((j : ℕ) → j < count a → IsGreenFrom a t d x b j)
-  runs_is d = ((λ g j l. green_with d j (g j l)), (λ g j l. with_green d j (g j l)))
+  runs_is d = ((λ g j l. (green_both d j).0 (g j l)), (λ g j l. (green_both d j).1 (g j l)))
 
 -- the crossings of the timing's own line
 crossing_own : (a : Street) (t : Plan) (d : Dir) (j : ℕ) → crossing a t d j ≡ first t d +ℤ way a t d j
@@ -56,13 +52,6 @@ own_pair a t d = (
   (λ g j l. rw (crossing_own a t d j) ((runs_is a t (first t d) (band t d) d).0 g j l)),
 )
 
--- ---- the same on a finer grid
-module _ (a : Street) (t : Plan) (m : ℕ) where
-  way_finer : (d : Dir) (j : ℕ) → way a (finer m t) d j ≡ way a t d j *ℤ pos m
-  way_finer d zero = omega (arith, ints)
-  way_finer d (suc j) = rw (way_finer d j, advance_finer a t m d j) (plus_scale (way a t d j) (advance a t d j) m)
-
--- ---- gaps of each signal
 -- the start of the j-th signal's red, seen from the first crossing, and the red's length
 abbrev pub seen : Street → Plan → Dir → ℕ → ℤ
 seen a t d j = red_start a t d (stop d (count a) j) -ℤ way a t d j
@@ -70,6 +59,28 @@ seen a t d j = red_start a t d (stop d (count a) j) -ℤ way a t d j
 abbrev pub long : Street → Plan → Dir → ℕ → ℕ
 long a t d j = red_ticks a t d (stop d (count a) j)
 
+-- the same on a finer grid
+module _ (a : Street) (t : Plan) (m : ℕ) (d : Dir) where
+  way_finer : (j : ℕ) → way a (finer m t) d j ≡ way a t d j *ℤ pos m
+  way_finer zero = omega (arith, ints)
+  way_finer (suc j) = rw (way_finer j, advance_finer a t m d j) (plus_scale (way a t d j) (advance a t d j) m)
+
+  seen_finer : (j : ℕ) → seen a (finer m t) d j ≡ seen a t d j *ℤ pos m
+  seen_finer j =
+      let start = red_start_finer a t m d (stop d (count a) j) in
+      let there = way_finer j in
+      let both = minus_scale (red_start a t d (stop d (count a) j)) (way a t d j) m in
+      omega (arith, ints, start, there, both)
+
+  -- a finer grid's gaps are m times as large
+  gap_finer : (j : ℕ) (x : ℤ) (b : ℕ)
+      → Gap (cycle a (finer m t)) (seen a (finer m t) d j) (long a (finer m t) d j) x b ↔ Gap (cycle a t * m) (seen a t d j *ℤ pos m) (long a t d j * m) x b
+  gap_finer j x b = let reds = red_ticks_finer a t m d (stop d (count a) j) in (
+    (λ g. rw (cycle_finer a t m, reds, seen_finer j) at g),
+    (λ g. rw (cycle_finer a t m, reds, seen_finer j) g),
+  )
+
+-- ---- red and green of each signal
 mul-lt : {a b c : ℕ} → a < b → 0 < c → a * c < b * c
 mul-lt {a} {b} {c} h k = grind arith
 
@@ -97,29 +108,6 @@ module _ (a : Street) (t : Plan) (h : IsValid a) (u : 2 ≤ t.unit) (d : Dir) (j
       green_from_gap (cycle a t) (long a t d j) (red_start a t d (stop d (count a) j)) (x +ℤ w) b long_least long_most
       (gap_later (cycle a t) (long a t d j) (seen a t d j) x b g (red_start a t d (stop d (count a) j)) (x +ℤ w) w (omega (arith, ints)) (omega (arith, ints)))
 
--- a finer grid's gaps are m times as large
-gap_finer : (a : Street) (t : Plan) (m : ℕ) (d : Dir) (j : ℕ) (x : ℤ) (b : ℕ)
-    → Gap (cycle a (finer m t)) (seen a (finer m t) d j) (long a (finer m t) d j) x b
-    → Gap (cycle a t * m) (seen a t d j *ℤ pos m) (long a t d j * m) x b
-gap_finer a t m d j x b g =
-    let i = stop d (count a) j in
-    let s = red_start_finer a t m d i in
-    let w = way_finer a t m d j in
-    let e = minus_scale (red_start a t d i) (way a t d j) m in
-    let same : seen a (finer m t) d j ≡ seen a t d j *ℤ pos m = omega (arith, ints, s, w, e) in
-    rw (cycle_finer a t m, red_ticks_finer a t m d i, same) at g
-
-gap_refined : (a : Street) (t : Plan) (m : ℕ) (d : Dir) (j : ℕ) (x : ℤ) (b : ℕ)
-    → Gap (cycle a t * m) (seen a t d j *ℤ pos m) (long a t d j * m) x b
-    → Gap (cycle a (finer m t)) (seen a (finer m t) d j) (long a (finer m t) d j) x b
-gap_refined a t m d j x b g =
-    let i = stop d (count a) j in
-    let s = red_start_finer a t m d i in
-    let w = way_finer a t m d j in
-    let e = minus_scale (red_start a t d i) (way a t d j) m in
-    let same : seen a (finer m t) d j ≡ seen a t d j *ℤ pos m = omega (arith, ints, s, w, e) in
-    rw (cycle_finer a t m, red_ticks_finer a t m d i, same) g
-
 module _ (a : Street) (t : Plan) (h : IsValid a) (u : 2 ≤ t.unit) (d : Dir) where
   pub gaps_of : (x : ℤ) (b : ℕ) → RunsOn a t d x b → (k : ℕ) → k < count a → Gap (cycle a t) (seen a t d k) (long a t d k) x b
   gaps_of x b g k l = gap_from_line a t h u d k l x b ((runs_is a t x b d).0 g k l)
@@ -130,9 +118,9 @@ module _ (a : Street) (t : Plan) (h : IsValid a) (u : 2 ≤ t.unit) (d : Dir) wh
   pub finer_gaps : (m : ℕ) (x : ℤ) (b : ℕ) → 1 ≤ m → RunsOn a (finer m t) d x b → (k : ℕ) → k < count a → Gap (cycle a t * m) (seen a t d k *ℤ pos m) (long a t d k * m) x b
   finer_gaps m x b q g k l =
       let two : 2 ≤ t.unit * m = let e = mul-le u q in omega (arith, e) in
-      gap_finer a t m d k x b (gap_from_line a (finer m t) h two d k l x b ((runs_is a (finer m t) x b d).0 g k l))
+      (gap_finer a t m d k x b).0 (gap_from_line a (finer m t) h two d k l x b ((runs_is a (finer m t) x b d).0 g k l))
 
   pub finer_runs : (m : ℕ) (x : ℤ) (b : ℕ) → 1 ≤ m → ((k : ℕ) → k < count a → Gap (cycle a t * m) (seen a t d k *ℤ pos m) (long a t d k * m) x b) → RunsOn a (finer m t) d x b
   finer_runs m x b q g =
       let two : 2 ≤ t.unit * m = let e = mul-le u q in omega (arith, e) in
-      (runs_is a (finer m t) x b d).1 (λ k l. line_from_gap a (finer m t) h two d k l x b (gap_refined a t m d k x b (g k l)))
+      (runs_is a (finer m t) x b d).1 (λ k l. line_from_gap a (finer m t) h two d k l x b ((gap_finer a t m d k x b).1 (g k l)))

@@ -20,4 +20,5 @@ pub record IsWidest (a : Street) (t : Plan) (d : Dir) (first band : ℕ) : Type 
 
 -- At most one pair is the widest.
 abbrev pub OneWidest : Type 0
-OneWidest = (a : Street) (t : Plan) (d : Dir) (f b g c : ℕ) → IsValid a → 2 ≤ t.unit → IsWidest a t d f b → IsWidest a t d g c → (f ≡ g) × (b ≡ c)
+OneWidest = (a : Street) (t : Plan) (d : Dir) (first band other_first other_band : ℕ) → IsValid a → 2 ≤ t.unit
+    → IsWidest a t d first band → IsWidest a t d other_first other_band → (first ≡ other_first) × (band ≡ other_band)

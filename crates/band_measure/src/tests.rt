@@ -1,6 +1,6 @@
 //! Worked rows: two signals, 100 parts of 2 ticks, and runs of half a cycle.
 
-use crate::{Widest, widest};
+use crate::{Widest, base_holds, widest};
 use artery_model::Artery;
 use progression::Dir;
 use sample_streets::{plain_head, plain_link, plain_signal, two_signals};
@@ -44,10 +44,9 @@ fn timing(alloc: Global, second: u128) -> Result<Timing, Fail> {
 fn measured(alloc: Global, reds: Reds, dir: Dir) -> Result<Option<Widest>, Fail> {
     let artery = artery(alloc, reds.parts)?;
     let timing = timing(alloc, reds.second)?;
-    if timing.count() == artery.count() {
-        Ok(widest(&artery, &timing, dir))
-    } else {
-        Err("another count".into())
+    match base_holds(&artery, &timing) {
+        Ok(()) => Ok(widest(&artery, &timing, dir)),
+        Err(_) => Err("a rule fails".into()),
     }
 }
 
