@@ -55,10 +55,6 @@ struct FullFile {
     room: usize,
 }
 
-fn unsupported() -> io::Error {
-    io::Error::from(ErrorKind::Unsupported)
-}
-
 impl Read for FullFile {
     fn read(&mut self, buf: &mut [u8]) -> io::Result<usize> {
         self.file.read(buf)
@@ -118,7 +114,7 @@ impl rt::Files for FullDisk {
 
     fn open_dir(&self, path: &str) -> io::Result<FullFile> {
         let _ = path;
-        Err(unsupported())
+        Err(io::Error::from(ErrorKind::Unsupported))
     }
 
     fn metadata(&self, path: &str) -> io::Result<Metadata> {
@@ -130,8 +126,7 @@ impl rt::Files for FullDisk {
     }
 
     fn copy(&self, from: &str, to: &str) -> io::Result<u64> {
-        let _ = (from, to);
-        Err(unsupported())
+        self.rt.copy(from, to)
     }
 
     fn rename(&self, from: &str, to: &str) -> io::Result<()> {
@@ -143,18 +138,15 @@ impl rt::Files for FullDisk {
     }
 
     fn create_dir(&self, path: &str) -> io::Result<()> {
-        let _ = path;
-        Err(unsupported())
+        self.rt.create_dir(path)
     }
 
     fn remove_dir(&self, path: &str) -> io::Result<()> {
-        let _ = path;
-        Err(unsupported())
+        self.rt.remove_dir(path)
     }
 
     fn remove_dir_all<B: Allocator>(&self, alloc: B, path: &str) -> io::Result<()> {
-        let _ = (alloc, path);
-        Err(unsupported())
+        self.rt.remove_dir_all(alloc, path)
     }
 }
 
