@@ -1,5 +1,5 @@
 -- The promise is kept.
-use Rattle.std.proofs.Common.{◌*◌, ◌<◌, ◌≤◌, arith}
+use Rattle.std.proofs.Common.{inl, inr, ◌*◌, ◌<◌, ◌≤◌, arith}
 use Rattle.progression.specs.Street.{Street}
 use Rattle.progression.specs.Plan.{Plan, cycle}
 use Rattle.time_space.proofs.FinerGrids.{mul-le}
@@ -21,7 +21,9 @@ half_cycles_suffice = record {
   candidates = λ a t h x b r.
       let e = runs_there a t (some_cycle a t h) (let f = h.valid.few in omega arith) x b r in
       record { signal = e.signal; there = e.there; runs = e.runs };
-  phases = λ a t h s best d i f g.
-      let e = cycle_kept a t 2 s best.has.keeps in
-      phases_apart a s d i (cycle a t) (some_cycle a t h) (omega (arith, e)) f g;
+  phases = λ a t h s best d i at.
+      let e = cycle_kept a t 2 s best.has.keeps in (
+        (λ f g. phases_apart a s d i (cycle a t) (some_cycle a t h) (omega (arith, e)) g f),
+        (λ n. elim (best.centred d i at) [ | inl f ↦ absurd (n f) | inr f ↦ f ]),
+      );
 }

@@ -1,6 +1,6 @@
 -- What half-integer synchronisation promises: reds centred in phase or half a cycle apart are enough, on a grid that is twice as
 -- fine, and each signal may choose its phase by itself.
-use Rattle.std.specs.Prelude.{ℕ, ◌≤◌, ◌⊎◌, ℤ, pos, ◌+ℤ◌}
+use Rattle.std.specs.Prelude.{ℕ, ◌≤◌, ◌⊎◌, ◌↔◌, ℤ, pos, ◌+ℤ◌}
 use Rattle.progression.specs.Street.{Street, HasSignal}
 use Rattle.progression.specs.Plan.{Plan, cycle}
 use Rattle.progression.specs.declared.parts.Dir.{Dir}
@@ -30,5 +30,6 @@ pub record HalfCyclesSuffice : Type 0 where
   pub turned : (a : Street) (t : Plan) → IsSubject a t → (x : ℤ) (b : ℕ) → Runs a t x b → Runs a t (x +ℤ pos (cycle a t)) b
   -- where a band runs, one as wide runs on a line that crosses some signal at the end of its red
   pub candidates : (a : Street) (t : Plan) → IsSubject a t → (x : ℤ) (b : ℕ) → Runs a t x b → RunsAtCandidate a t b
-  -- of such a timing each red has one phase alone
-  pub phases : (a : Street) (t : Plan) → IsSubject a t → (s : Plan) → IsHalfCycleBest a t s → (d : Dir) (i : ℕ) → IsCentred a s d i (pos 0) → ¬ IsCentred a s d i (pos (cycle a t))
+  -- of such a timing each red that isn't centred at 0 is centred half a cycle later, and no other
+  pub phases : (a : Street) (t : Plan) → IsSubject a t → (s : Plan) → IsHalfCycleBest a t s → (d : Dir) (i : ℕ) → HasSignal a i
+      → IsCentred a s d i (pos (cycle a t)) ↔ ¬ IsCentred a s d i (pos 0)
