@@ -45,7 +45,7 @@ split_or_not p = elim (cases_eq p 1) [
   | inl e ↦ inl (inl e)
   | inr n ↦ elim (cases_eq p 2) [
     | inl e ↦ inl (inr e)
-    | inr k ↦ inr (λ s. elim s [ | inl e ↦ n e | inr e ↦ k e ])
+    | inr k ↦ inr (λ s. elim s [ inl e ↦ n e | inr e ↦ k e ])
   ]
 ]
 
@@ -65,7 +65,7 @@ module _ (a : Street) (t : Plan) (i : ℕ) (u : 1 ≤ t.unit) (l : 1 ≤ pattern
   one_red : left_against a Outbound i ≡ left_against a Inbound i → (left_against a Outbound i ≡ 0) ⊎ ¬ IsSplit (pattern_of t i) → IsOneRed a t i
   one_red e w =
       let ticks : left_against a Outbound i * t.unit ≡ left_against a Inbound i * t.unit = ap (λ k. k * t.unit) e in
-      let none : (left_against a Outbound i * t.unit ≡ 0) ⊎ ¬ IsSplit (pattern_of t i) = elim w [ | inl z ↦ inl (no_ticks (left_against a Outbound i) t.unit z) | inr n ↦ inr n ] in
+      let none : (left_against a Outbound i * t.unit ≡ 0) ⊎ ¬ IsSplit (pattern_of t i) = elim w [ inl z ↦ inl (no_ticks (left_against a Outbound i) t.unit z) | inr n ↦ inr n ] in
       record {
         start = ap (λ k. common_red t i -ℤ pos k) (both_ahead (pattern_of t i) (left_against a Outbound i * t.unit) (left_against a Inbound i * t.unit) l m ticks none);
         length = ap (λ k. ((signal_of a i).red + k) * t.unit) e;

@@ -1,6 +1,7 @@
 //! Half-cycle plans, with their refusals.
 
-ghost use Rattle.std.specs.Prelude.{IfOk, IfErr, MatchOption};
+ghost use Rattle.std.specs.Prelude.{◌≡◌, IfOk, IfErr, IfSome, MatchOption, length};
+ghost use Rattle.progression.specs.Street.{count};
 ghost use Rattle.progression.specs.Good.{IsBase};
 ghost use Rattle.mirror_theory.specs.EqualBands.{HasNone, IsHalfCycleBest};
 ghost use Rattle.half_integer.specs.Answers.{IsReady, Refuses};
@@ -12,7 +13,7 @@ use std::alloc::Global;
 use time_space::{Failing, Timing, base_holds};
 
 /// Why there is no answer.
-#[derive(Clone, Copy, Debug)]
+#[derive(Clone, Copy, Debug, PartialEq, Eq)]
 pub enum HalfFault {
     /// The first rule up to the changes of pace that the timing breaks.
     Fails(Failing),
@@ -30,6 +31,7 @@ pub fn half(alloc: Global, artery: &Artery, timing: &Timing) -> Result<Option<Ti
     ensures base { IfOk result (λ found. IsBase artery.now timing.now) }
     ensures ready { IfOk result (λ found. IsReady artery.now timing.now) }
     ensures best { IfOk result (λ found. MatchOption found (HasNone artery.now timing.now) (λ s. IsHalfCycleBest artery.now timing.now s)) }
+    ensures shape { IfOk result (λ found. IfSome found (λ s. length s.patterns ≡ count artery.now)) }
     ensures refused { IfErr result (λ fault. Refuses artery.now timing.now fault) }
 {
     if let Err(failing) = base_holds(artery, timing) {
