@@ -1,0 +1,6 @@
+pub mod HalfPlan
+pub mod Lines
+pub mod Fitting
+pub mod Uneven
+pub mod TooFine
+pub mod Answers
