@@ -19,6 +19,7 @@ pub enum HalfFault {
     Fails(Failing),
     /// The timing keeps these rules, and has no half-cycle plan.
     End(HalfEnd),
+    /// There was no memory.
     Memory,
 }
 

@@ -28,7 +28,7 @@ struct Times {
     runs: [u128; 2],
 }
 
-/// What becomes of a timing. The band is in ticks of the doubled grid, which has 400 in a cycle of 200.
+/// What becomes of a timing. The band is in ticks of the doubled grid, which has 400 in the cycle.
 #[derive(Clone, Copy, Debug, PartialEq)]
 enum Outcome {
     Band(u128),

@@ -24,6 +24,6 @@ half_cycles_suffice = record {
   phases = λ a t h s best d i at.
       let e = cycle_kept a t 2 s best.has.keeps in (
         (λ f g. phases_apart a s d i (cycle a t) (some_cycle a t h) (omega (arith, e)) g f),
-        (λ n. elim (best.centred d i at) [ | inl f ↦ absurd (n f) | inr f ↦ f ]),
+        (λ n. elim (best.centred d i at) [ inl f ↦ absurd (n f) | inr f ↦ f ]),
       );
 }

@@ -30,6 +30,6 @@ pub record HalfCyclesSuffice : Type 0 where
   pub turned : (a : Street) (t : Plan) → IsSubject a t → (x : ℤ) (b : ℕ) → Runs a t x b → Runs a t (x +ℤ pos (cycle a t)) b
   -- where a band runs, one as wide runs on a line that crosses some signal at the end of its red
   pub candidates : (a : Street) (t : Plan) → IsSubject a t → (x : ℤ) (b : ℕ) → Runs a t x b → RunsAtCandidate a t b
-  -- of such a timing each red that isn't centred at 0 is centred half a cycle later, and no other
+  -- a red of such a timing is centred half a cycle after 0 exactly where it isn't centred at 0
   pub phases : (a : Street) (t : Plan) → IsSubject a t → (s : Plan) → IsHalfCycleBest a t s → (d : Dir) (i : ℕ) → HasSignal a i
       → IsCentred a s d i (pos (cycle a t)) ↔ ¬ IsCentred a s d i (pos 0)
