@@ -7,3 +7,5 @@ pub mod Meaning
 pub mod Firsts
 pub mod Fronts
 pub mod Preorders
+pub mod Spans
+pub mod Ways

@@ -3,3 +3,4 @@ pub mod Refusals
 pub mod Claims
 pub mod Laws
 pub mod ProofTrees
+pub mod Owed

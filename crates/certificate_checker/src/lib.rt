@@ -16,6 +16,7 @@ mod reject;
 #[cfg(test)]
 mod tests;
 mod walk;
+mod way;
 
 pub use checking::check;
 pub use laws::{law_accepted_or_refused, law_proofs_are_trees};

@@ -40,6 +40,14 @@ const WHOLE_TREE: [&str; 5] = [SPLIT, LOW_LEAF, HIGH_LEAF, "", ""];
 /// The third node has the block sum 1 alone.
 const SPLIT_AGAIN: [&str; 5] = [SPLIT, LOW_LEAF, SPLIT, HIGH_LEAF, HIGH_LEAF];
 
+/// No weighted band is above 1, in any box.
+const ONE_LEAF: &str = "leaf 2\nwout 1 1\nwin 1 1\n";
+
+const TWO_LEAVES: &str = "leaf 2\nwout 1 1\nwin 1 1\nleaf 2\nwout 1 1\nwin 1 1\n";
+
+/// Of the block sums 0 to 2 those up to 1 come first, and of these 0.
+const SPLIT_TWICE: &str = "split loop 1 1\nsplit loop 1 0\n";
+
 /// In column 0 the sum with the second row needs the denominator 2^100 * 3^70.
 const WIDE_LEAF: &str =
     "leaf 2\nwout 1 1/1267650600228229401496703205376\nwout 2 1/2503155504993241601315571986085849\n";
@@ -220,6 +228,52 @@ fn certificates(rt: HostRuntime) -> Result<(), Fail> {
         near(above, HALF_BAND, WHOLE_TREE, Ok(())),
         near(below, HALF_BAND, WHOLE_TREE, bound_below(less, half)),
         near(open, "", SPLIT_AGAIN, Err(Reject::SplitOutside { node: 3 })),
+        // 500 metres apart the block sum is 0 to 2. The boxes 0, 1 and 2; the third is none to split, at node 5.
+        a_case(
+            50,
+            500,
+            high_open,
+            "",
+            [SPLIT_TWICE, TWO_LEAVES, ONE_LEAF, "", ""],
+            Ok(()),
+        ),
+        a_case(
+            50,
+            500,
+            high_open,
+            "",
+            [SPLIT_TWICE, TWO_LEAVES, "split loop 1 1\n", TWO_LEAVES, ""],
+            Err(Reject::SplitOutside { node: 5 }),
+        ),
+        // The second of them is none either, at node 4, and the box from 1 on is split.
+        a_case(
+            50,
+            500,
+            high_open,
+            "",
+            [
+                SPLIT_TWICE,
+                ONE_LEAF,
+                "split loop 1 1\n",
+                TWO_LEAVES,
+                ONE_LEAF,
+            ],
+            Err(Reject::SplitOutside { node: 4 }),
+        ),
+        a_case(
+            50,
+            500,
+            high_open,
+            "",
+            [
+                "split loop 1 0\n",
+                ONE_LEAF,
+                "split loop 1 1\n",
+                TWO_LEAVES,
+                "",
+            ],
+            Ok(()),
+        ),
         // Faults of the second leaf, which is the third node.
         near(
             open,

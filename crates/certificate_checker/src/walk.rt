@@ -1,12 +1,13 @@
 //! The nodes of a tree, one after another.
 
-ghost use Rattle.std.specs.Prelude.{◌≡◌, ◌+◌, ◌<◌, ◌≤◌, ◌^◌, [], ◌∷◌, List, length, map, All, None, OnOk, IfOk, IfErr};
+ghost use Rattle.std.specs.Prelude.{◌≡◌, ◌+◌, ◌<◌, ◌≤◌, ◌^◌, [], ◌∷◌, List, length, drop, map, All, None, OnOk, IfOk, IfErr};
 ghost use Rattle.linear_theory.specs.Boxes.{IsBoxOf, root_box};
 ghost use Rattle.linear_theory.specs.Counts.{IsStreet};
 ghost use Rattle.linear_theory.specs.Rows.{goal_form};
 ghost use Rattle.loop_rows.specs.Writing.{written};
 ghost use Rattle.search_box.specs.Places.{low_part, high_part};
 ghost use Rattle.plan_text.specs.Warrants.{Node, node_of, AreTrees};
+ghost use Rattle.certificate_checker.specs.Owed.{first_of};
 ghost use Rattle.certificate_checker.specs.Refusals.{split_refusal, nodes_refusal, IsFirst};
 
 use crate::leaves::{Aim, check_leaf};
@@ -33,27 +34,21 @@ fn start(alloc: Global, artery: &Artery) -> Result<Walk, Memory>
     ensures street { IsStreet artery.now }
 {
     let root = SearchBox::root(alloc, artery)?;
-    let owed = Owed::new(alloc, root)?;
+    let owed = Owed::new(alloc, root);
     Ok(Walk { owed, leaves: 0 })
 }
 
-/// Splits the box of the node with this number, and puts its parts on the stack.
-fn split(
-    alloc: Global,
-    owed: &mut Owed,
-    area: &SearchBox,
-    place: At,
-    number: u64,
-) -> Result<(), Reject>
-    ensures none { OnOk result (split_refusal area.now number place ≡ None) }
-    ensures parts { OnOk result (owed.new ≡ low_part area.now place ∷ high_part area.now place ∷ owed.old) }
-    ensures first { IfErr result (λ reject. IsFirst (split_refusal area.now number place) reject) }
+/// The parts of the next box, which is that of the node with this number, are wanted in its place.
+fn split(owed: &mut Owed, place: At, number: u64) -> Result<(), Reject>
+    requires some { 0 < length owed.old }
+    ensures none { OnOk result (split_refusal (first_of owed.old) number place ≡ None) }
+    ensures parts { OnOk result (owed.new ≡ low_part (first_of owed.old) place ∷ high_part (first_of owed.old) place ∷ drop 1 owed.old) }
+    ensures first { IfErr result (λ reject. IsFirst (split_refusal (first_of owed.old) number place) reject) }
 {
-    let Some((low, high)) = area.split(alloc, place)? else {
+    if !owed.first().is_place(place) {
         return Err(Reject::SplitOutside { node: number });
-    };
-    owed.put(high)?;
-    owed.put(low)?;
+    }
+    owed.split(place)?;
     Ok(())
 }
 
@@ -78,14 +73,11 @@ fn read(
     ensures boxed { OnOk result (All (IsBoxOf artery.now) walk.new.owed) }
     ensures leaves { OnOk result (walk.new.leaves ≤ before + 1) }
 {
-    let area = match walk.owed.take() {
-        Some(area) => area,
-        None => unreachable!(),
-    };
     match node {
-        CertNode::Split(place) => split(alloc, &mut walk.owed, &area, *place, before + 1),
+        CertNode::Split(place) => split(&mut walk.owed, *place, before + 1),
         CertNode::Leaf(leaf) => {
-            check_leaf(alloc, artery, aim, &area, walk.leaves + 1, leaf)?;
+            check_leaf(alloc, artery, aim, walk.owed.first(), walk.leaves + 1, leaf)?;
+            walk.owed.done();
             walk.leaves += 1;
             Ok(())
         }
