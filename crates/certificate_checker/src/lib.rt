@@ -3,8 +3,8 @@
 //!
 //! Start with `check`, which answers Ok exactly for the accepted certificates (`specs/Accepted.antt`) and else the first
 //! refusal (`specs/Refusals.antt`). Where it answers Ok, what is claimed holds of the artery (`specs/Claims.antt`), on
-//! any grid. It uses no tableau and no search, and nothing calls itself: the nodes are read one after another, with a
-//! stack of the boxes that still want a tree.
+//! any grid. It uses no tableau and no search, and nothing calls itself: the nodes are read one after another, with the
+//! next box that wants a tree and, for each split on the way down to it, the span that was there before.
 #![tactic(auto)]
 
 mod checking;
