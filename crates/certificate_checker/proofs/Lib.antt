@@ -1,6 +1,7 @@
 pub mod PlaceTests
 pub mod Shown
 pub mod LeafRefusals
+pub mod ArteryLeaves
 pub mod NodeRefusals
 pub mod Acceptance
 pub mod Meaning

@@ -1,3 +1,5 @@
+pub mod TreeProofs
+pub mod TreeRefusals
 pub mod Accepted
 pub mod Refusals
 pub mod Claims

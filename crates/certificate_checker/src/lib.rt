@@ -4,7 +4,8 @@
 //! Start with `check`, which answers Ok exactly for the accepted certificates (`specs/Accepted.antt`) and else the first
 //! refusal (`specs/Refusals.antt`). Where it answers Ok, what is claimed holds of the artery (`specs/Claims.antt`), on
 //! any grid. It uses no tableau and no search, and nothing calls itself: the nodes are read one after another, with the
-//! next box that wants a tree and, for each split on the way down to it, the span that was there before.
+//! next box that wants a tree and, for each split on the way down to it, the span that was there before. `check_tree` does
+//! that over any rows (`TreeRows`), for any goal and limit (`specs/TreeProofs.antt`, `specs/TreeRefusals.antt`).
 #![tactic(auto)]
 
 mod checking;
@@ -13,6 +14,7 @@ mod laws;
 mod leaves;
 mod owed;
 mod reject;
+mod rows;
 #[cfg(test)]
 mod tests;
 mod walk;
@@ -20,4 +22,7 @@ mod way;
 
 pub use checking::check;
 pub use laws::{law_accepted_or_refused, law_proofs_are_trees};
-pub use reject::Reject;
+pub use leaves::Aim;
+pub use reject::{Reject, TreeReject};
+pub use rows::{ArteryRows, TreeRows};
+pub use walk::check_tree;
