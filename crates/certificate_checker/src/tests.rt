@@ -1,12 +1,19 @@
 //! Worked certificates of two signals: 100 parts, a cycle of 100 seconds, 36 kilometres an hour, one link each way. With
 //! reds of 50 and 250 metres the block sum is 0 or 1, and no weighted band is above 1/2.
 
-use crate::{Reject, check};
+ghost use Rattle.std.specs.Prelude.{IfOk, length, ◌≡◌};
+ghost use Rattle.progression.specs.Street.{count};
+ghost use Rattle.linear_theory.specs.Boxes.{IsBoxOf};
+ghost use Rattle.linear_theory.specs.Places.{width};
+
+use crate::{Aim, ArteryRows, Reject, TreeReject, check, check_tree};
 use artery_model::{Artery, Dir};
-use named_row::{Place, RowId, WideAt};
+use loop_rows::column_count;
+use named_row::{Leaf, Place, Row, RowId, WideAt};
 use narrow_fraction::{Frac, Op, Wide};
-use plan_text::read_certificate;
+use plan_text::{CertNode, read_certificate};
 use sample_streets::{SampleHead, plain_head, plain_link, plain_signal, two_signals};
+use search_box::SearchBox;
 use std::alloc::Global;
 use std::rt::HostRuntime;
 use std::test::Fail;
@@ -396,5 +403,49 @@ fn rows_of_least_bands(rt: HostRuntime) -> Result<(), Fail> {
     // Nor has an artery of the first version such a row.
     let first = near(none, "", narrow, no_least);
     assert_eq!(rt; answer(alloc, &first)?, first.expected);
+    Ok(())
+}
+
+fn root(alloc: Global, artery: &Artery) -> Result<SearchBox, Fail>
+    ensures { IfOk result (λ area. IsBoxOf artery.now area) }
+{
+    match SearchBox::root(alloc, artery) {
+        Ok(area) => Ok(area),
+        Err(_) => Err("no memory".into()),
+    }
+}
+
+/// The goal that is 0 at each point.
+fn no_goal(alloc: Global, artery: &Artery) -> Result<Row, Fail>
+    ensures { IfOk result (λ goal. length goal.coefs ≡ width (count artery.now)) }
+{
+    match Row::zero(alloc, column_count(artery)) {
+        Ok(goal) => Ok(goal),
+        Err(_) => Err("no memory".into()),
+    }
+}
+
+#[test]
+fn trees_with_another_goal(rt: HostRuntime) -> Result<(), Fail> {
+    let alloc = rt.alloc();
+    let artery = artery(alloc, 50, 250)?;
+    let weak = |place| Err(TreeReject::LeafTooWeak { leaf: 1, place });
+    // A sum of no rows keeps it down to 0, to nothing less, and rules no box out.
+    let rows = [
+        (Some(Frac::whole(0)), Ok(())),
+        (Some(Frac::whole(-1)), weak(Place::Bound)),
+        (None, weak(Place::Bound)),
+    ];
+    for (limit, expected) in rows {
+        let aim = Aim {
+            goal: no_goal(alloc, &artery)?,
+            limit,
+        };
+        let multipliers = Vec::new(alloc);
+        let nodes = [CertNode::Leaf(Leaf { multipliers })];
+        let root = root(alloc, &artery)?;
+        let rows = ArteryRows { artery: &artery };
+        assert_eq!(rt; check_tree(alloc, &rows, root, &aim, &nodes), expected);
+    }
     Ok(())
 }
