@@ -1,0 +1,7 @@
+pub mod Gaps
+pub mod Coarse
+pub mod Lines
+pub mod AllGrids
+pub mod Rooms
+pub mod Tries
+pub mod Pairs

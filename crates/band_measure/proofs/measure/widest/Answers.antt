@@ -1,0 +1,19 @@
+use Rattle.std.proofs.Common.{◌≡◌, ◌≤◌, arith, subst}
+use Rattle.progression.specs.Street.{count}
+use Rattle.band_measure.specs.Tried.{FoundOfEdges}
+use Rattle.band_measure.proofs.Tries.{widest_of_edges, some_run, first_below_cycle, band_below_cycle}
+use Rattle.band_measure.proofs.measure.widest.Goals as goal
+
+pub returns : goal.returns
+returns c =
+    let end = c.loop-place.auto.place-end in
+    let test = c.loop-place-test.false in
+    let all : c.loop-place.place ≡ count c.args.artery.now = omega (arith, c.count-place-end.ensures.value, end, test) in
+    let two : 2 ≤ c.args.timing.now.unit = omega (arith, c.unit.ensures.value, c.unit.ensures.least) in
+    let found = subst (λ n. FoundOfEdges c.args.artery.now c.args.timing.now c.args.dir n c.loop-place.best) all c.loop-place.invariant.best in
+    record {
+      widest = widest_of_edges c.args.artery.now c.args.timing.now c.args.dir c.loop-place.best c.head.ensures.valid two found;
+      some = some_run c.args.artery.now c.args.timing.now c.args.dir c.loop-place.best c.head.ensures.valid two found;
+      first = first_below_cycle c.args.artery.now c.args.timing.now c.args.dir c.loop-place.best found;
+      band = band_below_cycle c.args.artery.now c.args.timing.now c.args.dir c.loop-place.best c.head.ensures.valid two found;
+    }

@@ -1,0 +1,5 @@
+pub mod Pairs
+pub mod Widest
+pub mod Edges
+pub mod Rooms
+pub mod Tried

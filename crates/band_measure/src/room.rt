@@ -1,0 +1,98 @@
+//! How wide a band is that begins at a line: at one signal, and at all.
+
+ghost use Rattle.std.specs.Prelude.{◌≡◌, ◌+◌, ◌-◌, ◌*◌, ◌<◌, ◌≤◌, ◌^◌, ℕ, ℤ, length, pos, ◌+ℤ◌, unsigned_abs, MatchOption};
+ghost use Rattle.progression.specs.Street.{count};
+ghost use Rattle.progression.specs.Plan.{cycle};
+ghost use Rattle.progression.specs.Green.{BandIsGreen};
+ghost use Rattle.time_space.specs.Sizes.{IsWithin};
+ghost use Rattle.band_measure.specs.Pairs.{RunsOn};
+ghost use Rattle.band_measure.specs.Edges.{way, IsGreenFrom};
+ghost use Rattle.band_measure.specs.Rooms.{IsRoom, IsRoomAt, IsWidestFrom};
+
+use crate::ways::way_beyond;
+use artery_model::Artery;
+use progression::Dir;
+use time_space::{Timing, cycle, red_start, red_ticks, since_start, stop};
+
+/// The widest band at one signal whose first line crosses it at this tick.
+fn room(cycle: u128, start: i128, red: u128, line: i128) -> Option<u128>
+    requires red { 2 ≤ red }
+    requires cycle { red < cycle }
+    requires room { cycle < 2 ^ 100 }
+    requires start { IsWithin start }
+    requires line { IsWithin line }
+    ensures { MatchOption result ((b : ℕ) → ¬ BandIsGreen cycle start red line b) (λ w. IsRoom cycle start red line w) }
+{
+    let since = since_start(cycle, start, line);
+    if since == 0 {
+        Some(0)
+    } else if since < red {
+        None
+    } else {
+        Some(cycle - since)
+    }
+}
+
+/// The tick at which the line that crosses the first signal at `first` crosses one that is so much later.
+fn line(first: u128, later: i128) -> i128
+    requires first { first < 2 ^ 92 }
+    requires near { unsigned_abs later < 2 ^ 98 }
+    ensures value { result ≡ pos first +ℤ later }
+    ensures small { IsWithin result }
+{
+    first as i128 + later
+}
+
+/// The widest band at a place in travel order whose first line crosses the first signal at `first`.
+fn room_at(
+    artery: &Artery,
+    timing: &Timing,
+    dir: Dir,
+    place: u32,
+    first: u128,
+    later: i128,
+) -> Option<u128>
+    requires on_way { place < count artery.now }
+    requires shape { length timing.now.patterns ≡ count artery.now }
+    requires first { first < 2 ^ 92 }
+    requires here { later ≡ way artery.now timing.now dir place }
+    requires near { unsigned_abs later < 2 ^ 98 }
+    ensures { MatchOption result ((b : ℕ) → ¬ IsGreenFrom artery.now timing.now dir (pos first) b place)
+        (λ w. IsRoomAt artery.now timing.now dir (pos first) place w) }
+{
+    let signal = stop(dir, artery.count(), place);
+    let start = red_start(artery, timing, dir, signal);
+    let red = red_ticks(artery, timing, dir, signal);
+    let crossed = line(first, later);
+    room(cycle(artery, timing), start, red, crossed)
+}
+
+/// The lesser of two widths.
+fn lesser(one: u128, other: u128) -> u128
+    ensures one { result ≤ one }
+    ensures other { result ≤ other }
+    ensures most { (b : ℕ) → b ≤ one → b ≤ other → b ≤ result }
+{
+    if one < other { one } else { other }
+}
+
+/// The widest band whose first line crosses the first signal of its way at `first`, or None where some signal is red then.
+pub fn band_from(artery: &Artery, timing: &Timing, dir: Dir, first: u128) -> Option<u128>
+    requires shape { length timing.now.patterns ≡ count artery.now }
+    requires first { first < 2 ^ 92 }
+    ensures { MatchOption result ((b : ℕ) → ¬ RunsOn artery.now timing.now dir (pos first) b)
+        (λ w. IsWidestFrom artery.now timing.now dir (pos first) w) }
+{
+    let _ = artery.head();
+    let _ = timing.unit();
+    let mut band = cycle(artery, timing);
+    let mut later = 0;
+    for place in 0..artery.count() {
+        let Some(room) = room_at(artery, timing, dir, place, first, later) else {
+            return None;
+        };
+        band = lesser(band, room);
+        later = way_beyond(artery, timing, dir, place, later);
+    }
+    Some(band)
+}
