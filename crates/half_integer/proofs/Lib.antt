@@ -5,3 +5,4 @@ pub mod Made
 pub mod Twice
 pub mod Lefts
 pub mod Centred
+pub mod Ends

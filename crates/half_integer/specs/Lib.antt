@@ -3,4 +3,5 @@ pub mod Lines
 pub mod Fitting
 pub mod Uneven
 pub mod TooFine
+pub mod Phases
 pub mod Answers

@@ -25,9 +25,6 @@ pub fn half_end(artery: &Artery, timing: &Timing) -> Option<HalfEnd>
     requires shape { length timing.now.patterns ≡ count artery.now }
     ensures { MatchOption result (IsReady artery.now timing.now) (λ end. Ends artery.now timing.now end) }
 {
-    let head = artery.head();
-    let unit = timing.unit();
-    let patterns = timing.patterns();
     if let Some(signal) = first_uneven(artery, timing) {
         return Some(HalfEnd::Uneven { signal });
     }

@@ -15,6 +15,6 @@ mod too_fine;
 mod uneven;
 
 pub use end::HalfEnd;
-pub use laws::law_uneven_is_two_reds;
+pub use laws::{law_one_end, law_phases_say, law_uneven_is_two_reds};
 pub use phase::half_of;
 pub use plan::{HalfFault, half};

@@ -5,6 +5,7 @@ ghost use Rattle.progression.specs.Street.{count};
 ghost use Rattle.progression.specs.declared.parts.Dir.TheVariants.{Outbound};
 ghost use Rattle.time_space.specs.Sizes.{IsWithin};
 ghost use Rattle.mirror_theory.specs.EqualBands.{IsCentred};
+ghost use Rattle.half_integer.specs.Phases.{is_later};
 
 use artery_model::Artery;
 use progression::Dir;
@@ -24,7 +25,8 @@ pub fn half_of(artery: &Artery, timing: &Timing, signal: u32) -> bool
     requires first { 1 ≤ signal }
     requires last { signal ≤ count artery.now }
     requires shape { length timing.now.patterns ≡ count artery.now }
-    ensures { IsTrue result ↔ ¬ IsCentred artery.now timing.now Outbound signal (pos 0) }
+    ensures test { result ≡ is_later artery.now timing.now signal }
+    ensures centred { IsTrue result ↔ ¬ IsCentred artery.now timing.now Outbound signal (pos 0) }
 {
     let start = red_start(artery, timing, Dir::Outbound, signal);
     let red = red_ticks(artery, timing, Dir::Outbound, signal);

@@ -41,6 +41,9 @@ pub fn half(alloc: Global, artery: &Artery, timing: &Timing) -> Result<Option<Ti
     if let Some(end) = half_end(artery, timing) {
         return Err(HalfFault::End(end));
     }
+    let head = artery.head();
+    let unit = timing.unit();
+    let patterns = timing.patterns();
     match half_plan(alloc, artery, timing) {
         Ok(found) => Ok(found),
         Err(_) => Err(HalfFault::Memory),
