@@ -16,7 +16,8 @@ use Rattle.artery_model.specs.Valid.{IsValid}
 use Rattle.linear_theory.proofs.Windows.{wait_after, wait_before, window_after, window_before}
 use Rattle.mirror_theory.specs.Built.{IsSameTick, phase_of, mirrored, IsBuilt}
 use Rattle.mirror_theory.specs.EqualBands.{IsEven, HasEqualGreenBands, IsCentred, IsHalfCycleBest}
-use Rattle.mirror_theory.specs.Runs.{way, far, wait_in_phase, taken, Runs, IsWidest}
+use Rattle.band_measure.specs.Edges.{way}
+use Rattle.mirror_theory.specs.Runs.{far, wait_in_phase, taken, Runs, IsWidest}
 use Rattle.mirror_theory.proofs.Ways.{crossing_out, crossing_in, cycle_kept, way_kept, red_ticks_kept, even_kept}
 use Rattle.mirror_theory.proofs.Carried.{red_fits}
 use Rattle.time_space.proofs.FinerGrids.{mul-le}
@@ -98,11 +99,11 @@ module _ (a : Street) (t : Plan) (v : IsValid a) (u : 2 ≤ t.unit) (even : IsEv
   unit_twice = rw h.keeps.unit (omega arith)
 
   -- from signal 1 to signal j + 1
-  far_kept : (j : ℕ) → way a s j ≡ far a t (j + 1)
+  far_kept : (j : ℕ) → way a s Outbound j ≡ far a t (j + 1)
   far_kept j =
       let e = way_kept a t 2 s h.keeps j in
       let one : (j + 1) - 1 ≡ j = omega arith in
-      let d = *ℤ-+ℤ (way a t j) (pos 1) (pos 1) in
+      let d = *ℤ-+ℤ (way a t Outbound j) (pos 1) (pos 1) in
       rw one (omega (arith, ints, e, d))
 
   red_from : (i : ℕ) (at : HasSignal a i) → red_start a s Outbound i ≡ pos (phase_of a t x i) -ℤ pos (red_ticks a t Outbound i) +ℤ quot_ℤ (red_start a s Outbound i -ℤ (pos (phase_of a t x i) -ℤ pos (red_ticks a t Outbound i))) twice *ℤ pos twice
@@ -143,7 +144,7 @@ module _ (a : Street) (t : Plan) (v : IsValid a) (u : 2 ≤ t.unit) (even : IsEv
       let nothing : count a - (count a - 1 + 1) ≡ 0 = omega arith in
       let ends : crossing a s Inbound (count a - (count a - 1 + 1)) ≡ s.first_in = ap (crossing a s Inbound) nothing in
       let w = far_kept j in
-      let z : way a s (count a - 1) ≡ far a t (count a) = far_kept (count a - 1) ∙ ap (far a t) whole in
+      let z : way a s Outbound (count a - 1) ≡ far a t (count a) = far_kept (count a - 1) ∙ ap (far a t) whole in
       let g : q ≡ neg_ℤ (x +ℤ far a t i) -ℤ pos b +ℤ quot_ℤ (s.first_in -ℤ mirrored a t x b) twice *ℤ pos twice = omega (arith, ints, p, here, back, ends, w, z) in
       let e = wait_in_is twice r (phase_of a t x i) b (x +ℤ far a t i) (red_start a s Outbound i) q q _ (pos 0) _ some (red_from i at) g (phase_half a t x i) in
       let room = room_at i at in

@@ -9,8 +9,8 @@ use Rattle.progression.specs.Green.{mod_ℤ, red_ticks}
 use Rattle.progression.proofs.Remainders.{split_ℤ, mod_below, mod_unique, mod-turns, quot_ℤ}
 use Rattle.progression.specs.declared.parts.Dir.TheVariants.{Outbound}
 use Rattle.mirror_theory.specs.EqualBands.{travel}
-use Rattle.mirror_theory.specs.Runs.{phase_wait, way, far, wait_in_phase, taken, Runs}
-use Rattle.mirror_theory.specs.Runs.{candidate}
+use Rattle.band_measure.specs.Edges.{way}
+use Rattle.mirror_theory.specs.Runs.{phase_wait, far, wait_in_phase, taken, Runs, candidate}
 use Rattle.mirror_theory.proofs.Widest.{least}
 
 module _ (a : Street) (t : Plan) (c : 0 < cycle a t) where
@@ -89,12 +89,12 @@ module _ (a : Street) (t : Plan) (c : 0 < cycle a t) where
   wait_at_one x phase = ap (λ z. phase_wait (cycle a t) (red_ticks a t Outbound 1) z phase) (omega (arith, ints))
 
 -- the way to the next signal
-way_next : (a : Street) (t : Plan) (i : ℕ) → 1 ≤ i → way a t i ≡ way a t (i - 1) +ℤ travel a t Outbound i
+way_next : (a : Street) (t : Plan) (i : ℕ) → 1 ≤ i → way a t Outbound i ≡ way a t Outbound (i - 1) +ℤ travel a t Outbound i
 way_next a t zero h = absurd (omega arith)
 way_next a t (suc i) h =
     let f : i ≡ suc i - 1 = omega arith in
     let g : i + 1 ≡ suc i = omega arith in
-    ap (λ k. way a t i +ℤ travel a t Outbound k) g ∙ ap (λ k. way a t k +ℤ travel a t Outbound (suc i)) f
+    ap (λ k. way a t Outbound i +ℤ travel a t Outbound k) g ∙ ap (λ k. way a t Outbound k +ℤ travel a t Outbound (suc i)) f
 
 twice_sum : (x y z : ℤ) → x ≡ y +ℤ z → x +ℤ x ≡ y +ℤ y +ℤ (z +ℤ z)
 twice_sum x y z e = omega (arith, ints, e)
@@ -102,4 +102,4 @@ twice_sum x y z e = omega (arith, ints, e)
 pub far_next : (a : Street) (t : Plan) (i : ℕ) → 1 ≤ i → far a t (i + 1) ≡ far a t i +ℤ (travel a t Outbound i +ℤ travel a t Outbound i)
 far_next a t i h =
     let e : i + 1 - 1 ≡ i = omega arith in
-    ap (λ k. way a t k +ℤ way a t k) e ∙ twice_sum (way a t i) (way a t (i - 1)) (travel a t Outbound i) (way_next a t i h)
+    ap (λ k. way a t Outbound k +ℤ way a t Outbound k) e ∙ twice_sum (way a t Outbound i) (way a t Outbound (i - 1)) (travel a t Outbound i) (way_next a t i h)

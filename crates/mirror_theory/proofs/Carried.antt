@@ -15,7 +15,8 @@ use Rattle.artery_model.specs.Valid.{IsValid}
 use Rattle.linear_theory.proofs.Windows.{window_after}
 use Rattle.mirror_theory.specs.EqualBands.{IsEven, HasEqualGreenBands}
 use Rattle.mirror_theory.proofs.Centring.{HasPhase, centring}
-use Rattle.mirror_theory.specs.Runs.{way, far, wait_in_phase, taken}
+use Rattle.band_measure.specs.Edges.{way}
+use Rattle.mirror_theory.specs.Runs.{far, wait_in_phase, taken}
 use Rattle.mirror_theory.proofs.Ways.{crossing_out, crossing_in, cycle_kept, way_kept, red_ticks_kept, even_kept}
 
 -- in ticks a red has at least two, and leaves some green
@@ -54,8 +55,8 @@ module _ (a : Street) (t : Plan) (v : IsValid a) (u : 2 ≤ t.unit) (even : IsEv
       let w = way_kept a t m s h.keeps j in
       let p = split_ℤ mirrored_first m o in
       let one : (j + 1) - 1 ≡ j = omega arith in
-      let d1 = +ℤ-*ℤ carried_first (way a t j +ℤ way a t j) (pos m) in
-      let d2 = +ℤ-*ℤ (way a t j) (way a t j) (pos m) in
+      let d1 = +ℤ-*ℤ carried_first (way a t Outbound j +ℤ way a t Outbound j) (pos m) in
+      let d2 = +ℤ-*ℤ (way a t Outbound j) (way a t Outbound j) (pos m) in
       rw one (omega (arith, ints, e, f, w, p, d1, d2))
 
   -- at signal j + 1 one of the phases has room

@@ -9,14 +9,14 @@ use Rattle.progression.specs.Green.{ahead, red_ticks}
 use Rattle.progression.specs.Lines.{crossing}
 use Rattle.time_space.proofs.Scale.{minus_scale}
 use Rattle.time_space.proofs.FinerGrids.{cycle_finer, run_finer, ahead_finer, red_ticks_finer}
-use Rattle.mirror_theory.specs.Runs.{way}
+use Rattle.band_measure.specs.Edges.{way}
 use Rattle.progression.proofs.Crossings.{crossing_next}
 use Rattle.progression.specs.declared.parts.Dir.{Dir}
 use Rattle.progression.specs.declared.parts.Dir.TheVariants.{Outbound, Inbound}
 use Rattle.mirror_theory.specs.EqualBands.{travel, IsEven, Keeps}
 
 -- an outbound line is where it began, and its way
-pub crossing_out : (a : Street) (t : Plan) (j : ℕ) → crossing a t Outbound j ≡ t.first_out +ℤ way a t j
+pub crossing_out : (a : Street) (t : Plan) (j : ℕ) → crossing a t Outbound j ≡ t.first_out +ℤ way a t Outbound j
 crossing_out a t zero = omega (arith, ints)
 crossing_out a t (suc j) = let e = crossing_out a t j in omega (arith, ints, e)
 
@@ -35,7 +35,7 @@ crossing_in_step a t j h =
 
 -- so at signal j + 1 the inbound line is as much earlier as the outbound line is later
 pub crossing_in : (a : Street) (t : Plan) → ((i : ℕ) → (1 ≤ i) × (i < count a) → travel a t Outbound i ≡ travel a t Inbound i) → (j : ℕ) → j < count a
-    → crossing a t Inbound (count a - (j + 1)) +ℤ way a t j ≡ crossing a t Inbound (count a - 1)
+    → crossing a t Inbound (count a - (j + 1)) +ℤ way a t Outbound j ≡ crossing a t Inbound (count a - 1)
 crossing_in a t h zero l = omega (arith, ints)
 crossing_in a t h (suc j) l =
     let e = crossing_in a t h j (omega arith) in
@@ -61,10 +61,10 @@ module _ (a : Street) (t : Plan) (m : ℕ) (s : Plan) (k : Keeps t m s) where
       let assoc : clearance a Inbound i * (t.unit * m) ≡ clearance a Inbound i * t.unit * m = omega arith in
       rw (run_kept Inbound i, k.unit, assoc) (minus_scale (pos (run t Inbound i)) (pos (clearance a Inbound i * t.unit)) m)
 
-  pub way_kept : (j : ℕ) → way a s j ≡ way a t j *ℤ pos m
+  pub way_kept : (j : ℕ) → way a s Outbound j ≡ way a t Outbound j *ℤ pos m
   way_kept zero = omega (arith, ints)
   way_kept (suc j) =
-      let d = +ℤ-*ℤ (way a t j) (travel a t Outbound (j + 1)) (pos m) in
+      let d = +ℤ-*ℤ (way a t Outbound j) (travel a t Outbound (j + 1)) (pos m) in
       let e = way_kept j in
       let f = travel_kept Outbound (j + 1) in
       omega (arith, ints, d, e, f)

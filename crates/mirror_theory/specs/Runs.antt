@@ -1,24 +1,19 @@
 -- Which bands run on the doubled grid, where each signal chooses its phase by itself. Numbers of t stand for twice as many ticks
 -- there, so a cycle of t is half a cycle, and the red of a signal reaches as far as its ticks on either side of its centre.
-use Rattle.std.specs.Prelude.{ℕ, zero, suc, ◌+◌, ◌-◌, ◌≤◌, min, ℤ, pos, ◌+ℤ◌, ◌-ℤ◌}
+use Rattle.std.specs.Prelude.{ℕ, ◌+◌, ◌-◌, ◌≤◌, min, ℤ, pos, ◌+ℤ◌, ◌-ℤ◌}
 use Rattle.progression.specs.Street.{Street, HasSignal}
 use Rattle.progression.specs.Plan.{Plan, cycle}
 use Rattle.progression.specs.Green.{mod_ℤ, red_ticks}
 use Rattle.progression.specs.declared.parts.Dir.TheVariants.{Outbound}
-use Rattle.mirror_theory.specs.EqualBands.{travel}
-
--- the ticks that an outbound line takes from signal 1 to signal j + 1
-abbrev pub way : Street → Plan → ℕ → ℤ
-way a t zero = pos 0
-way a t (suc j) = way a t j +ℤ travel a t Outbound (j + 1)
+use Rattle.band_measure.specs.Edges.{way}
 
 -- from the end of a red of r ticks to either side of its centre, on the cycle of c + c ticks, to a line at x
 abbrev pub phase_wait : (c r : ℕ) → ℤ → ℕ → ℕ
 phase_wait c r x phase = mod_ℤ (x -ℤ pos (phase + r)) (c + c)
 
--- from signal 1 to signal i, in ticks of the doubled grid
+-- how much later than signal 1 an outbound line crosses signal i, in ticks of the doubled grid
 abbrev pub far : Street → Plan → ℕ → ℤ
-far a t i = way a t (i - 1) +ℤ way a t (i - 1)
+far a t i = way a t Outbound (i - 1) +ℤ way a t Outbound (i - 1)
 
 -- the wait of a line that crosses signal 1 at x, at signal i, after a red centred at the phase (0, or half a cycle)
 abbrev pub wait_in_phase : Street → Plan → ℤ → ℕ → ℕ → ℕ
