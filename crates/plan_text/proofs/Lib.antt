@@ -1,5 +1,8 @@
 pub mod Cuts
 pub mod Spellings
+pub mod RowOrder
+pub mod ListedRows
+pub mod Places
 pub mod Loop
 pub mod Pieces
 pub mod Fields
@@ -21,4 +24,6 @@ pub mod GrownTimings
 pub mod GrownCertificates
 pub mod Wholes
 pub mod FirstBads
+pub mod Forms
 pub mod Digits
+pub mod Denominators
