@@ -27,3 +27,6 @@ pub mod FirstBads
 pub mod Forms
 pub mod Digits
 pub mod Denominators
+pub mod Multipliers
+pub mod NamedRows
+pub mod RowLists

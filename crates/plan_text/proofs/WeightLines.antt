@@ -14,7 +14,7 @@ use Rattle.plan_text.specs.Lines.{◌>>=◌, fault, words_at}
 use Rattle.plan_text.specs.Families.{Table, family_name_in, family_in, is_lone_in, is_after, IsNamedIn}
 use Rattle.plan_text.specs.Warrants.{Ascend}
 use Rattle.plan_text.specs.CertificateText.{row_words_in, weight_words, weight_line, IsHeldWeight}
-use Rattle.plan_text.specs.CertificateReading.{or_number, range_of, index_of, lone_row, indexed_row, in_family, row_of, last_after, cut_last, weight_by, weight_of, weight_after, weights_at}
+use Rattle.plan_text.specs.CertificateReading.{or_number, range_of, index_of, lone_row, indexed_row, in_family, row_of, last_after, cut_last, last_after, cut_last}
 use Rattle.plan_text.proofs.Fields.{bind_ok, guard_ok, moved, number_takes, number_again}
 use Rattle.plan_text.proofs.ExactWords.{exact_takes, exact_again, exact_word, decimal_word}
 use Rattle.plan_text.proofs.FamilyNames.{Tells, family_takes}
@@ -136,35 +136,6 @@ last_at (w ∷ []) (suc k) d e = absurd (omega arith)
 last_at (w ∷ v ∷ ws) zero d e = absurd (omega arith)
 last_at (w ∷ v ∷ ws) (suc k) d e = ap (last_after w.now) (last_at (v ∷ ws) k d (omega arith))
 
--- ---- a row and its multiplier
-
-pub record WeightOf (table : Table) (ws : List (List ℕ)) (w : Weight) : Type 0 where
-  pub spelled : ws ≡ weight_words table w
-  pub named : IsNamedIn table w.row
-  pub held : IsHeldWeight w
-
-weight_by_takes : (table : Table) (line : ℕ) (ws : List (List ℕ)) (w : Weight) (o : Option (List (List ℕ) × List ℕ)) → cut_last ws ≡ o → weight_by table line o ≡ Ok w → WeightOf table ws w
-weight_by_takes table line ws w None k e = absurd cc
-weight_by_takes table line ws w (Some p) k e =
-    let a = bind_ok (row_of table line p.0) (λ row. or_number line (exact p.1) >>= λ by. Ok (record { row = row; by = by })) w e in
-    let b = bind_ok (or_number line (exact p.1)) (λ by. Ok (record { row = a.0; by = by })) w a.2 in
-    let r = row_takes table line p.0 a.0 a.1 in
-    let s = exact_takes p.1 b.0 (number_ok line (exact p.1) b.0 b.1) in
-    moved (WeightOf table ws) (record { row = a.0; by = b.0 }) w b.2 (record {
-      spelled = cut_last_takes ws p k ∙ (λ i. r.spelled i ++ s.spelled i ∷ []);
-      named = r.named;
-      held = record { index = r.index; by = s.fits };
-    })
-
-pub weight_takes : (table : Table) (line : ℕ) (ws : List (List ℕ)) (w : Weight) → weight_of table line ws ≡ Ok w → WeightOf table ws w
-unfolding weight_of
-weight_takes table line ws w e = weight_by_takes table line ws w (cut_last ws) refl e
-
-pub weight_again : (table : Table) (line : ℕ) (w : Weight) → Tells table → IsNamedIn table w.row → IsHeldWeight w → weight_of table line (weight_words table w) ≡ Ok w
-unfolding weight_of
-weight_again table line w tells named held =
-    ap (weight_by table line) (cut_last_again (row_words_in table w.row) (exact_spelling w.by)) ∙ rw (row_again table line w.row tells named held.index, exact_again w.by held.by) refl
-
 -- the words of a row's line
 pub are_words : (table : Table) (row : RowId) (b : Bool) (more : List (List ℕ)) → Tells table → IsNamedIn table row → row.index < 2 ^ 32 → AreWords more → AreWords ((if b then family_name_in table row.family ∷ [] else family_name_in table row.family ∷ decimal row.index ∷ []) ++ more)
 are_words table row true more tells named few rest = (tells.word row.family named.first named.last, rest)
@@ -178,55 +149,3 @@ row_line_by table line row false more rest tells named few k = words_again line 
 -- a row's name and more words
 pub row_line_again : (table : Table) (line : ℕ) (row : RowId) (more : List (List ℕ)) (rest : List ℕ) → Tells table → IsNamedIn table row → row.index < 2 ^ 32 → AreWords more → words_at line (line_of (row_words_in table row ++ more) ++ 10 ∷ rest) ≡ Ok (row_words_in table row ++ more, rest)
 row_line_again table line row more rest tells named few k = row_line_by table line row (is_lone_in table row.family) more rest tells named few k
-
-weight_line_again : (table : Table) (line : ℕ) (w : Weight) (rest : List ℕ) → Tells table → IsNamedIn table w.row → IsHeldWeight w → words_at line (weight_line table w ++ 10 ∷ rest) ≡ Ok (weight_words table w, rest)
-weight_line_again table line w rest tells named held = row_line_again table line w.row (exact_spelling w.by ∷ []) rest tells named held.index (exact_word w.by held.by, tt)
-
--- ---- rows in order
-
-after_takes : (names : Table) (last : Option RowId) (line : ℕ) (ws : List (List ℕ)) (w : Weight) → weight_after names last line ws ≡ Ok w → WeightOf names ws w × (is_after last w.row ≡ true)
-unfolding weight_after
-after_takes names last line ws w e =
-    let a = bind_ok (weight_of names line ws) (λ w. if is_after last w.row then Ok w else fault line Order) w e in
-    let g = guard_ok (is_after last a.0.row) line Order (Ok a.0) w a.2 in
-    moved (λ (w : Weight). WeightOf names ws w × (is_after last w.row ≡ true)) a.0 w g.1 (weight_takes names line ws a.0 a.1, g.0)
-
-after_again : (names : Table) (last : Option RowId) (line : ℕ) (w : Weight) → Tells names → IsNamedIn names w.row → IsHeldWeight w → is_after last w.row ≡ true → weight_after names last line (weight_words names w) ≡ Ok w
-unfolding weight_after
-after_again names last line w tells named held after = rw (weight_again names line w tells named held, after) refl
-
-pub record WeightsOf (names : Table) (n : ℕ) (last : Option RowId) (bytes : List ℕ) (x : List Weight × List ℕ) : Type 0 where
-  pub parts : bytes ≡ ended_and (map (weight_line names) x.0) x.1
-  pub count : length x.0 ≡ n
-  pub lines : n + length x.1 ≤ length bytes
-  pub ascend : Ascend last x.0
-  pub named : AllByRecursion (λ w. IsNamedIn names w.row) x.0
-  pub held : AllByRecursion IsHeldWeight x.0
-
-pub weights_take : (names : Table) (n : ℕ) (last : Option RowId) (line : ℕ) (bytes : List ℕ) (x : List Weight × List ℕ) → weights_at names n last line bytes ≡ Ok x → WeightsOf names n last bytes x
-unfolding weights_at
-weights_take names zero last line bytes x e = moved (WeightsOf names 0 last bytes) ([], bytes) x e (record { parts = refl; count = refl; lines = omega arith; ascend = tt; named = tt; held = tt })
-weights_take names (suc n) last line bytes x e =
-    let a = bind_ok (words_at line bytes) (λ l. weight_after names last line l.0 >>= λ w. weights_at names n (Some w.row) (line + 1) l.1 >>= λ ws. Ok (w ∷ ws.0, ws.1)) x e in
-    let b = bind_ok (weight_after names last line a.0.0) (λ w. weights_at names n (Some w.row) (line + 1) a.0.1 >>= λ ws. Ok (w ∷ ws.0, ws.1)) x a.2 in
-    let d = bind_ok (weights_at names n (Some b.0.row) (line + 1) a.0.1) (λ ws. Ok (b.0 ∷ ws.0, ws.1)) x b.2 in
-    let w = after_takes names last line a.0.0 b.0 b.1 in
-    let more = weights_take names n (Some b.0.row) (line + 1) a.0.1 d.0 d.1 in
-    let shorter = words_shorter line bytes a.0 a.1 in
-    let few = more.lines in
-    let count = more.count in
-    moved (WeightsOf names (suc n) last bytes) (b.0 ∷ d.0.0, d.0.1) x d.2 (record {
-      parts = words_take line bytes a.0 a.1 ∙ (λ i. line_of (w.0.spelled i) ++ 10 ∷ more.parts i);
-      count = omega arith;
-      lines = omega arith;
-      ascend = (w.1, more.ascend);
-      named = (w.0.named, more.named);
-      held = (w.0.held, more.held);
-    })
-
-pub weights_again : (names : Table) (ws : List Weight) (last : Option RowId) (line : ℕ) (rest : List ℕ) → Tells names → Ascend last ws → AllByRecursion (λ w. IsNamedIn names w.row) ws → AllByRecursion IsHeldWeight ws
-    → weights_at names (length ws) last line (ended_and (map (weight_line names) ws) rest) ≡ Ok (ws, rest)
-unfolding weights_at
-weights_again names [] last line rest tells ascend named held = refl
-weights_again names (w ∷ ws) last line rest tells ascend named held =
-    rw (weight_line_again names line w (ended_and (map (weight_line names) ws) rest) tells named.0 held.0, after_again names last line w tells named.0 held.0 ascend.0, weights_again names ws (Some w.row) (line + 1) rest tells ascend.1 named.1 held.1) refl
