@@ -4,6 +4,7 @@ pub mod RowOrder
 pub mod ListedRows
 pub mod Places
 pub mod Loop
+pub mod SecondLines
 pub mod Pieces
 pub mod Fields
 pub mod Timings

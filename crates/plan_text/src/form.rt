@@ -48,6 +48,16 @@ fn fits(denominator: u128, multiplier: Frac) -> bool
     }
 }
 
+/// A multiplier times a multiple of its denominator.
+pub fn whole_over(denominator: u128, multiplier: Frac) -> i128
+    requires small { denominator < 2 ^ 127 }
+    requires whole { unsigned_abs (times_denominator denominator multiplier) < 2 ^ 127 }
+    ensures { result ≡ times_denominator denominator multiplier }
+{
+    let times = (denominator / bottom(multiplier)) as i128;
+    multiplier.num() * times
+}
+
 /// Whether all multipliers times a multiple of their denominators do.
 fn all_fit(denominator: u128, weights: &[Weight]) -> bool
     ensures { IsTrue result ↔ All (IsWhole denominator) weights.now }

@@ -22,6 +22,7 @@ mod listed;
 mod number;
 mod reading;
 mod row;
+mod second_writing;
 mod tree;
 mod writing;
 
@@ -33,11 +34,14 @@ pub use fault::{BadText, TextEnd, TextFault};
 pub use laws::{law_first_bad, law_one_text, law_reads_back};
 pub use number::is_numeral;
 pub use reading::read_timing;
+pub use second_writing::write_second;
 pub use writing::write_timing;
 
 #[cfg(test)]
 mod cert_tests;
 #[cfg(test)]
 mod limit_tests;
+#[cfg(test)]
+mod second_tests;
 #[cfg(test)]
 mod tests;
