@@ -28,3 +28,4 @@ pub mod FirstBads
 pub mod Forms
 pub mod Digits
 pub mod Denominators
+pub mod Divisors

@@ -8,6 +8,7 @@ pub mod Families
 pub mod Warrants
 pub mod CertificateText
 pub mod SecondText
+pub mod DivisorRule
 pub mod CertificateReading
 pub mod Promises
 pub mod FirstBad

@@ -7,7 +7,7 @@ use named_row::Weight;
 use narrow_fraction::{Frac, common_multiple};
 
 /// The greatest size of a number of a leaf.
-const MOST: u128 = 170_141_183_460_469_231_731_687_303_715_884_105_727;
+const MOST: u128 = i128::MAX as u128;
 
 /// How the multipliers of a leaf are written.
 #[derive(Clone, Copy, Debug, PartialEq, Eq)]
