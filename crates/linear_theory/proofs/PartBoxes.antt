@@ -19,7 +19,7 @@ narrower root s least most (inr w) o l m = let f = w.1 in let g = w.2 in inr (o,
 
 module _ (a : Street) (box : Area) (b : IsBoxOf a box) where
   -- with another span for link i
-  loop_boxed : (i : ℕ) (s : Span) → 1 ≤ i → i - 1 < length box.loops → IsSpanOf (root_span a i) s → IsBoxOf a (with_loop box i s)
+  pub loop_boxed : (i : ℕ) (s : Span) → 1 ≤ i → i - 1 < length box.loops → IsSpanOf (root_span a i) s → IsBoxOf a (with_loop box i s)
   loop_boxed i s k l w = record {
     loops_count = let n = b.loops_count in let m = length-set box.loops (i - 1) s in omega arith;
     turns_count = b.turns_count;
@@ -32,7 +32,7 @@ module _ (a : Street) (box : Area) (b : IsBoxOf a box) where
   }
 
   -- with other ranks for signal i
-  turn_boxed : (i : ℕ) (s : Ranks) → 1 ≤ i → i - 1 < length box.turns → s.least ≤ s.most → s.most < shift_count a i → IsBoxOf a (with_turn box i s)
+  pub turn_boxed : (i : ℕ) (s : Ranks) → 1 ≤ i → i - 1 < length box.turns → s.least ≤ s.most → s.most < shift_count a i → IsBoxOf a (with_turn box i s)
   turn_boxed i s k l o m = record {
     loops_count = b.loops_count;
     turns_count = length-set box.turns (i - 1) s ∙ b.turns_count;

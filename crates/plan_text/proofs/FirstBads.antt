@@ -6,6 +6,7 @@ use Rattle.plan_text.specs.declared.fault.BadText.{BadText}
 use Rattle.plan_text.specs.Spelling.{head_line}
 use Rattle.plan_text.specs.Lines.{◌>>=◌, line_at, fixed_at}
 use Rattle.plan_text.specs.Reading.{plan_at, timing_of}
+use Rattle.plan_text.specs.Families.{Table, ordinary}
 use Rattle.plan_text.specs.Warrants.{Node, Warrant}
 use Rattle.plan_text.specs.CertificateText.{certificate_line, tree_line}
 use Rattle.plan_text.specs.CertificateReading.{nodes_at, Beginning, claim_at, tree_at, certificate_of}
@@ -43,39 +44,39 @@ Nodes = List Node × ℕ × List ℕ
 abbrev close_tree : Nodes → Result (List Node) BadText
 close_tree nodes = closing nodes.0 nodes.1 nodes.2
 
-abbrev tree_then : ℕ → List ℕ → Result (List Node) BadText
-tree_then line rest = nodes_at (length rest) 1 (line + 1) rest >>= close_tree
+abbrev tree_then : Table → ℕ → List ℕ → Result (List Node) BadText
+tree_then names line rest = nodes_at names (length rest) 1 (line + 1) rest >>= close_tree
 
-tree_then_whole : (last line : ℕ) (rest z : List ℕ) → line + 1 + lines_in rest ≡ last → Whole last (tree_then line rest) (tree_then line (rest ++ z))
-tree_then_whole last line rest z e =
+tree_then_whole : (names : Table) (last line : ℕ) (rest z : List ℕ) → line + 1 + lines_in rest ≡ last → Whole last (tree_then names line rest) (tree_then names line (rest ++ z))
+tree_then_whole names last line rest z e =
     let steps = length (rest ++ z) in
     let longer : length (rest ++ z) ≡ length rest + length z = length-append rest z in
-    subst (λ (y : Result Nodes BadText). Whole last (y >>= close_tree) (tree_then line (rest ++ z))) (enough steps (length rest) 1 (line + 1) rest (omega arith) (omega arith))
-    (whole_then numbered last z (nodes_at steps 1 (line + 1) rest) (nodes_at steps 1 (line + 1) (rest ++ z)) close_tree close_tree (nodes_grow steps 1 last (line + 1) rest z (omega arith) e)
+    subst (λ (y : Result Nodes BadText). Whole last (y >>= close_tree) (tree_then names line (rest ++ z))) (enough names steps (length rest) 1 (line + 1) rest (omega arith) (omega arith))
+    (whole_then numbered last z (nodes_at names steps 1 (line + 1) rest) (nodes_at names steps 1 (line + 1) (rest ++ z)) close_tree close_tree (nodes_grow names steps 1 last (line + 1) rest z (omega arith) e)
     (λ ns end. closing_whole ns.0 last ns.1 ns.2 z end)
     (λ ns here. closing_later ns.0 last ns.1 ns.2 (omega arith)))
 
-tree_then_later : (last line : ℕ) (rest : List ℕ) → last < line + 1 → NotBefore last (tree_then line rest)
-tree_then_later last line rest before =
-    not_before numbered last (nodes_at (length rest) 1 (line + 1) rest) close_tree (nodes_later (length rest) 1 last (line + 1) rest before) (λ ns here. closing_later ns.0 last ns.1 ns.2 (omega arith))
+tree_then_later : (names : Table) (last line : ℕ) (rest : List ℕ) → last < line + 1 → NotBefore last (tree_then names line rest)
+tree_then_later names last line rest before =
+    not_before numbered last (nodes_at names (length rest) 1 (line + 1) rest) close_tree (nodes_later names (length rest) 1 last (line + 1) rest before) (λ ns here. closing_later ns.0 last ns.1 ns.2 (omega arith))
 
-tree_whole : (last line : ℕ) (bytes z : List ℕ) → line + lines_in bytes ≡ last → Whole last (tree_at line bytes) (tree_at line (bytes ++ z))
+tree_whole : (names : Table) (last line : ℕ) (bytes z : List ℕ) → line + lines_in bytes ≡ last → Whole last (tree_at names line bytes) (tree_at names line (bytes ++ z))
 unfolding tree_at
-tree_whole last line bytes z e =
-    whole_then (after_line (line + 1)) last z (fixed_at line tree_line bytes) (fixed_at line tree_line (bytes ++ z)) (tree_then line) (tree_then line) (fixed_grows last line tree_line bytes z e)
-    (λ rest end. tree_then_whole last line rest z end)
-    (λ rest here. tree_then_later last line rest here)
+tree_whole names last line bytes z e =
+    whole_then (after_line (line + 1)) last z (fixed_at line tree_line bytes) (fixed_at line tree_line (bytes ++ z)) (tree_then names line) (tree_then names line) (fixed_grows last line tree_line bytes z e)
+    (λ rest end. tree_then_whole names last line rest z end)
+    (λ rest here. tree_then_later names last line rest here)
 
-tree_later : (last line : ℕ) (bytes : List ℕ) → last ≤ line → NotBefore last (tree_at line bytes)
+tree_later : (names : Table) (last line : ℕ) (bytes : List ℕ) → last ≤ line → NotBefore last (tree_at names line bytes)
 unfolding tree_at
-tree_later last line bytes before =
-    not_before (after_line (line + 1)) last (fixed_at line tree_line bytes) (tree_then line) (fixed_later last line tree_line bytes before) (λ rest here. tree_then_later last line rest here)
+tree_later names last line bytes before =
+    not_before (after_line (line + 1)) last (fixed_at line tree_line bytes) (tree_then names line) (fixed_later last line tree_line bytes before) (λ rest here. tree_then_later names last line rest here)
 
 abbrev make_warrant : Beginning → List Node → Warrant
 make_warrant opening nodes = record { claim = opening.0; timing = opening.1; nodes = nodes }
 
 abbrev opening_then : Beginning → Result Warrant BadText
-opening_then opening = tree_at opening.2 opening.3 >>= λ nodes. Ok (make_warrant opening nodes)
+opening_then opening = tree_at ordinary opening.2 opening.3 >>= λ nodes. Ok (make_warrant opening nodes)
 
 certificate_whole : (bytes z : List ℕ) → Whole (lines_in bytes + 1) (certificate_of bytes) (certificate_of (bytes ++ z))
 unfolding certificate_of
@@ -83,10 +84,10 @@ certificate_whole bytes z =
     let last = lines_in bytes + 1 in
     whole_then (after_line 2) last z (fixed_at 1 certificate_line bytes) (fixed_at 1 certificate_line (bytes ++ z)) (λ rest. claim_at rest >>= opening_then) (λ rest. claim_at rest >>= opening_then) (fixed_grows last 1 certificate_line bytes z (omega arith))
     (λ rest end. whole_then opened last z (claim_at rest) (claim_at (rest ++ z)) opening_then opening_then (claim_grows last rest z end)
-    (λ o k. whole_made last (tree_at o.2 o.3) (tree_at o.2 (o.3 ++ z)) (make_warrant o) (tree_whole last o.2 o.3 z k))
-    (λ o here. not_before_made last (tree_at o.2 o.3) (make_warrant o) (tree_later last o.2 o.3 (omega arith))))
+    (λ o k. whole_made last (tree_at ordinary o.2 o.3) (tree_at ordinary o.2 (o.3 ++ z)) (make_warrant o) (tree_whole ordinary last o.2 o.3 z k))
+    (λ o here. not_before_made last (tree_at ordinary o.2 o.3) (make_warrant o) (tree_later ordinary last o.2 o.3 (omega arith))))
     (λ rest here. not_before opened last (claim_at rest) opening_then (claim_later last rest (omega arith))
-    (λ o k. not_before_made last (tree_at o.2 o.3) (make_warrant o) (tree_later last o.2 o.3 (omega arith))))
+    (λ o k. not_before_made last (tree_at ordinary o.2 o.3) (make_warrant o) (tree_later ordinary last o.2 o.3 (omega arith))))
 
 certificate_first : NamesFirstBad certificate_of
 unfolding certificate_of fixed_at line_at

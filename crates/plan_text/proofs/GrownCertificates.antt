@@ -17,10 +17,10 @@ use Rattle.plan_text.specs.Numbers.{number}
 use Rattle.plan_text.specs.Fractions.{integer, exact}
 use Rattle.plan_text.specs.Lines.{◌>>=◌, fault, line_at, words_at, fixed_at, ranged}
 use Rattle.plan_text.specs.Reading.{plan_at}
-use Rattle.plan_text.specs.Families.{family_of, is_lone, is_after}
+use Rattle.plan_text.specs.Families.{Table, family_in, is_lone_in, is_after}
 use Rattle.plan_text.specs.Warrants.{Node, LeafOf}
 use Rattle.plan_text.specs.CertificateText.{best_line, none_line, open_line, no_timing_line, value_key, bound_key, split_key, loop_key, turn_key, leaf_key}
-use Rattle.plan_text.specs.CertificateReading.{or_number, range_of, index_of, fraction_of, lone_of, indexed_of, in_family, weight_of, weight_after, weights_at, split_of, head_of, rest_of, node_at, owed_after, nodes_at, Beginning, best_at, begins_with, found_at, missing_at, open_at, verdict_of, claim_at}
+use Rattle.plan_text.specs.CertificateReading.{or_number, range_of, index_of, fraction_of, lone_row, indexed_row, in_family, row_of, cut_last, weight_by, weight_of, weight_after, weights_at, split_of, head_of, rest_of, node_at, owed_after, nodes_at, Beginning, best_at, begins_with, found_at, missing_at, open_at, verdict_of, claim_at}
 use Rattle.plan_text.specs.FirstBad.{lines_in}
 use Rattle.plan_text.proofs.NodeLines.{node_takes}
 use Rattle.plan_text.proofs.Grown.{Part, Grows, Reaches, IsAt, grows_by, grows_then, reaches_then, at_then, at_if, at_choice, tested, tested_later, chosen, chosen_later, after_line, one_and, numbered, line_grows, line_later, words_grow, words_later, fixed_grows, fixed_later, ranged_here}
@@ -43,33 +43,39 @@ fraction_here key line (k ∷ []) = (refl, tt)
 fraction_here key line (k ∷ w ∷ []) = at_if line (is_text k key) Shape (or_number line (exact w)) tt (or_number_here line (exact w))
 fraction_here key line (k ∷ w ∷ v ∷ ws) = (refl, tt)
 
-lone_here : (line family : ℕ) (ws : List (List ℕ)) → IsAt line (lone_of line family ws)
-unfolding lone_of
-lone_here line family [] = (refl, tt)
-lone_here line family (x ∷ []) = at_then line (or_number line (exact x)) (λ by. Ok (record { row = record { family = family; index = 0 }; by = by })) (or_number_here line (exact x)) (λ by. tt)
-lone_here line family (x ∷ y ∷ ws) = (refl, tt)
+lone_here : (line family : ℕ) (ws : List (List ℕ)) → IsAt line (lone_row line family ws)
+unfolding lone_row
+lone_here line family [] = tt
+lone_here line family (x ∷ ws) = (refl, tt)
 
-indexed_here : (line family : ℕ) (ws : List (List ℕ)) → IsAt line (indexed_of line family ws)
-unfolding indexed_of
+indexed_here : (line family : ℕ) (ws : List (List ℕ)) → IsAt line (indexed_row line family ws)
+unfolding indexed_row
 indexed_here line family [] = (refl, tt)
-indexed_here line family (i ∷ []) = (refl, tt)
-indexed_here line family (i ∷ x ∷ []) =
-    at_then line (index_of line i) (λ index. or_number line (exact x) >>= λ by. Ok (record { row = record { family = family; index = index }; by = by })) (index_here line i)
-    (λ index. at_then line (or_number line (exact x)) (λ by. Ok (record { row = record { family = family; index = index }; by = by })) (or_number_here line (exact x)) (λ by. tt))
-indexed_here line family (i ∷ x ∷ y ∷ ws) = (refl, tt)
+indexed_here line family (i ∷ []) = at_then line (index_of line i) (λ index. Ok (record { family = family; index = index })) (index_here line i) (λ index. tt)
+indexed_here line family (i ∷ x ∷ ws) = (refl, tt)
 
-in_family_here : (line : ℕ) (ws : List (List ℕ)) (o : Option ℕ) → IsAt line (in_family line ws o)
-in_family_here line ws None = (refl, tt)
-in_family_here line ws (Some family) = at_choice line (is_lone family) (lone_of line family ws) (indexed_of line family ws) (lone_here line family ws) (indexed_here line family ws)
+in_family_here : (table : Table) (line : ℕ) (ws : List (List ℕ)) (o : Option ℕ) → IsAt line (in_family table line ws o)
+in_family_here table line ws None = (refl, tt)
+in_family_here table line ws (Some family) = at_choice line (is_lone_in table family) (lone_row line family ws) (indexed_row line family ws) (lone_here line family ws) (indexed_here line family ws)
 
-weight_here : (line : ℕ) (ws : List (List ℕ)) → IsAt line (weight_of line ws)
+pub row_here : (table : Table) (line : ℕ) (ws : List (List ℕ)) → IsAt line (row_of table line ws)
+unfolding row_of
+row_here table line [] = (refl, tt)
+row_here table line (name ∷ ws) = in_family_here table line ws (family_in table name)
+
+weight_by_here : (table : Table) (line : ℕ) (o : Option (List (List ℕ) × List ℕ)) → IsAt line (weight_by table line o)
+weight_by_here table line None = (refl, tt)
+weight_by_here table line (Some p) =
+    at_then line (row_of table line p.0) (λ row. or_number line (exact p.1) >>= λ by. Ok (record { row = row; by = by })) (row_here table line p.0)
+    (λ row. at_then line (or_number line (exact p.1)) (λ by. Ok (record { row = row; by = by })) (or_number_here line (exact p.1)) (λ by. tt))
+
+weight_here : (table : Table) (line : ℕ) (ws : List (List ℕ)) → IsAt line (weight_of table line ws)
 unfolding weight_of
-weight_here line [] = (refl, tt)
-weight_here line (name ∷ ws) = in_family_here line ws (family_of name)
+weight_here table line ws = weight_by_here table line (cut_last ws)
 
-after_here : (above : Option RowId) (line : ℕ) (ws : List (List ℕ)) → IsAt line (weight_after above line ws)
+after_here : (table : Table) (above : Option RowId) (line : ℕ) (ws : List (List ℕ)) → IsAt line (weight_after table above line ws)
 unfolding weight_after
-after_here above line ws = at_then line (weight_of line ws) (λ w. if is_after above w.row then Ok w else fault line Order) (weight_here line ws) (λ w. at_if line (is_after above w.row) Order (Ok w) tt tt)
+after_here table above line ws = at_then line (weight_of table line ws) (λ w. if is_after above w.row then Ok w else fault line Order) (weight_here table line ws) (λ w. at_if line (is_after above w.row) Order (Ok w) tt tt)
 
 split_here : (line : ℕ) (kind i place : List ℕ) → IsAt line (split_of line kind i place)
 unfolding split_of
@@ -101,95 +107,95 @@ Rows = List Weight × List ℕ
 abbrev and_row : Weight → Rows → Result Rows BadText
 and_row w ws = Ok (w ∷ ws.0, ws.1)
 
-abbrev rows_after : ℕ → ℕ → List ℕ → Weight → Result Rows BadText
-rows_after n line bytes w = weights_at n (Some w.row) (line + 1) bytes >>= and_row w
+abbrev rows_after : Table → ℕ → ℕ → List ℕ → Weight → Result Rows BadText
+rows_after names n line bytes w = weights_at names n (Some w.row) (line + 1) bytes >>= and_row w
 
-abbrev row_then : ℕ → Option RowId → ℕ → List (List ℕ) × List ℕ → Result Rows BadText
-row_then n above line l = weight_after above line l.0 >>= rows_after n line l.1
+abbrev row_then : Table → ℕ → Option RowId → ℕ → List (List ℕ) × List ℕ → Result Rows BadText
+row_then names n above line l = weight_after names above line l.0 >>= rows_after names n line l.1
 
-weights_later : (count : ℕ) (above : Option RowId) (last line : ℕ) (bytes : List ℕ) → last < line → Reaches (one_and (line + count)) last (weights_at count above line bytes)
+weights_later : (names : Table) (count : ℕ) (above : Option RowId) (last line : ℕ) (bytes : List ℕ) → last < line → Reaches (one_and (line + count)) last (weights_at names count above line bytes)
 unfolding weights_at
-weights_later zero above last line bytes here = omega arith
-weights_later (suc n) above last line bytes here =
-    reaches_then (one_and (line + 1)) (one_and (line + suc n)) last (words_at line bytes) (row_then n above line) (words_later last line bytes (omega arith))
-    (λ l more. tested_later (one_and (line + suc n)) last line (weight_after above line l.0) (rows_after n line l.1) (after_here above line l.0) (omega arith)
-    (λ w. reaches_then (one_and (line + 1 + n)) (one_and (line + suc n)) last (weights_at n (Some w.row) (line + 1) l.1) (and_row w) (weights_later n (Some w.row) last (line + 1) l.1 more) (λ ws k. omega arith)))
+weights_later names zero above last line bytes here = omega arith
+weights_later names (suc n) above last line bytes here =
+    reaches_then (one_and (line + 1)) (one_and (line + suc n)) last (words_at line bytes) (row_then names n above line) (words_later last line bytes (omega arith))
+    (λ l more. tested_later (one_and (line + suc n)) last line (weight_after names above line l.0) (rows_after names n line l.1) (after_here names above line l.0) (omega arith)
+    (λ w. reaches_then (one_and (line + 1 + n)) (one_and (line + suc n)) last (weights_at names n (Some w.row) (line + 1) l.1) (and_row w) (weights_later names n (Some w.row) last (line + 1) l.1 more) (λ ws k. omega arith)))
 
-weights_grow : (count : ℕ) (above : Option RowId) (last line : ℕ) (bytes z : List ℕ) → line + lines_in bytes ≡ last → Grows (one_and (line + count)) last z (weights_at count above line bytes) (weights_at count above line (bytes ++ z))
+weights_grow : (names : Table) (count : ℕ) (above : Option RowId) (last line : ℕ) (bytes z : List ℕ) → line + lines_in bytes ≡ last → Grows (one_and (line + count)) last z (weights_at names count above line bytes) (weights_at names count above line (bytes ++ z))
 unfolding weights_at
-weights_grow zero above last line bytes z e = (omega arith, refl)
-weights_grow (suc n) above last line bytes z e =
-    grows_then (one_and (line + 1)) (one_and (line + suc n)) last z (words_at line bytes) (words_at line (bytes ++ z)) (row_then n above line) (words_grow last line bytes z e)
-    (λ l end. tested (one_and (line + suc n)) last line z (weight_after above line l.0) (rows_after n line l.1) (rows_after n line (l.1 ++ z)) (after_here above line l.0) (omega arith)
-    (λ w. grows_then (one_and (line + 1 + n)) (one_and (line + suc n)) last z (weights_at n (Some w.row) (line + 1) l.1) (weights_at n (Some w.row) (line + 1) (l.1 ++ z)) (and_row w) (weights_grow n (Some w.row) last (line + 1) l.1 z end) (λ ws k. (omega arith, refl)) (λ ws k. omega arith)))
-    (λ l more. tested_later (one_and (line + suc n)) last line (weight_after above line l.0) (rows_after n line l.1) (after_here above line l.0) (omega arith)
-    (λ w. reaches_then (one_and (line + 1 + n)) (one_and (line + suc n)) last (weights_at n (Some w.row) (line + 1) l.1) (and_row w) (weights_later n (Some w.row) last (line + 1) l.1 more) (λ ws k. omega arith)))
+weights_grow names zero above last line bytes z e = (omega arith, refl)
+weights_grow names (suc n) above last line bytes z e =
+    grows_then (one_and (line + 1)) (one_and (line + suc n)) last z (words_at line bytes) (words_at line (bytes ++ z)) (row_then names n above line) (words_grow last line bytes z e)
+    (λ l end. tested (one_and (line + suc n)) last line z (weight_after names above line l.0) (rows_after names n line l.1) (rows_after names n line (l.1 ++ z)) (after_here names above line l.0) (omega arith)
+    (λ w. grows_then (one_and (line + 1 + n)) (one_and (line + suc n)) last z (weights_at names n (Some w.row) (line + 1) l.1) (weights_at names n (Some w.row) (line + 1) (l.1 ++ z)) (and_row w) (weights_grow names n (Some w.row) last (line + 1) l.1 z end) (λ ws k. (omega arith, refl)) (λ ws k. omega arith)))
+    (λ l more. tested_later (one_and (line + suc n)) last line (weight_after names above line l.0) (rows_after names n line l.1) (after_here names above line l.0) (omega arith)
+    (λ w. reaches_then (one_and (line + 1 + n)) (one_and (line + suc n)) last (weights_at names n (Some w.row) (line + 1) l.1) (and_row w) (weights_later names n (Some w.row) last (line + 1) l.1 more) (λ ws k. omega arith)))
 
 -- ---- nodes
 
 abbrev as_leaf : ℕ → ℕ → Rows → Result (Node × ℕ × List ℕ) BadText
 as_leaf line count ws = Ok (LeafOf ws.0, line + count, ws.1)
 
-rest_later : (head : Head) (last line : ℕ) (bytes : List ℕ) → last < line → Reaches numbered last (rest_of head line bytes)
+rest_later : (names : Table) (head : Head) (last line : ℕ) (bytes : List ℕ) → last < line → Reaches numbered last (rest_of names head line bytes)
 unfolding rest_of
-rest_later (heads.Split at) last line bytes here = here
-rest_later (heads.Leaf count) last line bytes here = reaches_then (one_and (line + count)) numbered last (weights_at count None line bytes) (as_leaf line count) (weights_later count None last line bytes here) (λ ws more. more)
+rest_later names (heads.Split at) last line bytes here = here
+rest_later names (heads.Leaf count) last line bytes here = reaches_then (one_and (line + count)) numbered last (weights_at names count None line bytes) (as_leaf line count) (weights_later names count None last line bytes here) (λ ws more. more)
 
-rest_grows : (head : Head) (last line : ℕ) (bytes z : List ℕ) → line + lines_in bytes ≡ last → Grows numbered last z (rest_of head line bytes) (rest_of head line (bytes ++ z))
+rest_grows : (names : Table) (head : Head) (last line : ℕ) (bytes z : List ℕ) → line + lines_in bytes ≡ last → Grows numbered last z (rest_of names head line bytes) (rest_of names head line (bytes ++ z))
 unfolding rest_of
-rest_grows (heads.Split at) last line bytes z e = (e, refl)
-rest_grows (heads.Leaf count) last line bytes z e =
-    grows_then (one_and (line + count)) numbered last z (weights_at count None line bytes) (weights_at count None line (bytes ++ z)) (as_leaf line count) (weights_grow count None last line bytes z e) (λ ws end. (end, refl)) (λ ws here. here)
+rest_grows names (heads.Split at) last line bytes z e = (e, refl)
+rest_grows names (heads.Leaf count) last line bytes z e =
+    grows_then (one_and (line + count)) numbered last z (weights_at names count None line bytes) (weights_at names count None line (bytes ++ z)) (as_leaf line count) (weights_grow names count None last line bytes z e) (λ ws end. (end, refl)) (λ ws here. here)
 
-abbrev head_then : ℕ → List (List ℕ) × List ℕ → Result (Node × ℕ × List ℕ) BadText
-head_then line l = head_of line l.0 >>= λ head. rest_of head (line + 1) l.1
+abbrev head_then : Table → ℕ → List (List ℕ) × List ℕ → Result (Node × ℕ × List ℕ) BadText
+head_then names line l = head_of line l.0 >>= λ head. rest_of names head (line + 1) l.1
 
-head_later : (last line : ℕ) (l : List (List ℕ) × List ℕ) → last < line + 1 → Reaches numbered last (head_then line l)
-head_later last line l here = tested_later numbered last line (head_of line l.0) (λ head. rest_of head (line + 1) l.1) (head_here line l.0) (omega arith) (λ head. rest_later head last (line + 1) l.1 here)
+head_later : (names : Table) (last line : ℕ) (l : List (List ℕ) × List ℕ) → last < line + 1 → Reaches numbered last (head_then names line l)
+head_later names last line l here = tested_later numbered last line (head_of line l.0) (λ head. rest_of names head (line + 1) l.1) (head_here line l.0) (omega arith) (λ head. rest_later names head last (line + 1) l.1 here)
 
-node_later : (last line : ℕ) (bytes : List ℕ) → last ≤ line → Reaches numbered last (node_at line bytes)
+node_later : (names : Table) (last line : ℕ) (bytes : List ℕ) → last ≤ line → Reaches numbered last (node_at names line bytes)
 unfolding node_at
-node_later last line bytes here = reaches_then (one_and (line + 1)) numbered last (words_at line bytes) (head_then line) (words_later last line bytes here) (head_later last line)
+node_later names last line bytes here = reaches_then (one_and (line + 1)) numbered last (words_at line bytes) (head_then names line) (words_later last line bytes here) (head_later names last line)
 
-node_grows : (last line : ℕ) (bytes z : List ℕ) → line + lines_in bytes ≡ last → Grows numbered last z (node_at line bytes) (node_at line (bytes ++ z))
+node_grows : (names : Table) (last line : ℕ) (bytes z : List ℕ) → line + lines_in bytes ≡ last → Grows numbered last z (node_at names line bytes) (node_at names line (bytes ++ z))
 unfolding node_at
-node_grows last line bytes z e =
-    grows_then (one_and (line + 1)) numbered last z (words_at line bytes) (words_at line (bytes ++ z)) (head_then line) (words_grow last line bytes z e)
-    (λ l end. tested numbered last line z (head_of line l.0) (λ head. rest_of head (line + 1) l.1) (λ head. rest_of head (line + 1) (l.1 ++ z)) (head_here line l.0) (omega arith) (λ head. rest_grows head last (line + 1) l.1 z end))
-    (head_later last line)
+node_grows names last line bytes z e =
+    grows_then (one_and (line + 1)) numbered last z (words_at line bytes) (words_at line (bytes ++ z)) (head_then names line) (words_grow last line bytes z e)
+    (λ l end. tested numbered last line z (head_of line l.0) (λ head. rest_of names head (line + 1) l.1) (λ head. rest_of names head (line + 1) (l.1 ++ z)) (head_here line l.0) (omega arith) (λ head. rest_grows names head last (line + 1) l.1 z end))
+    (head_later names last line)
 
 abbrev and_node : Node → List Node × ℕ × List ℕ → Result (List Node × ℕ × List ℕ) BadText
 and_node n ns = Ok (n ∷ ns.0, ns.1, ns.2)
 
-abbrev node_then : ℕ → ℕ → Node × ℕ × List ℕ → Result (List Node × ℕ × List ℕ) BadText
-node_then steps others n = nodes_at steps (owed_after n.0 others) n.1 n.2 >>= and_node n.0
+abbrev node_then : Table → ℕ → ℕ → Node × ℕ × List ℕ → Result (List Node × ℕ × List ℕ) BadText
+node_then names steps others n = nodes_at names steps (owed_after n.0 others) n.1 n.2 >>= and_node n.0
 
-pub nodes_later : (steps owed last line : ℕ) (bytes : List ℕ) → last < line → Reaches numbered last (nodes_at steps owed line bytes)
+pub nodes_later : (names : Table) (steps owed last line : ℕ) (bytes : List ℕ) → last < line → Reaches numbered last (nodes_at names steps owed line bytes)
 unfolding nodes_at
-nodes_later zero zero last line bytes here = here
-nodes_later (suc steps) zero last line bytes here = here
-nodes_later zero (suc others) last line bytes here = omega arith
-nodes_later (suc steps) (suc others) last line bytes here =
-    reaches_then numbered numbered last (node_at line bytes) (node_then steps others) (node_later last line bytes (omega arith))
-    (λ n more. reaches_then numbered numbered last (nodes_at steps (owed_after n.0 others) n.1 n.2) (and_node n.0) (nodes_later steps (owed_after n.0 others) last n.1 n.2 more) (λ ns k. k))
+nodes_later names zero zero last line bytes here = here
+nodes_later names (suc steps) zero last line bytes here = here
+nodes_later names zero (suc others) last line bytes here = omega arith
+nodes_later names (suc steps) (suc others) last line bytes here =
+    reaches_then numbered numbered last (node_at names line bytes) (node_then names steps others) (node_later names last line bytes (omega arith))
+    (λ n more. reaches_then numbered numbered last (nodes_at names steps (owed_after n.0 others) n.1 n.2) (and_node n.0) (nodes_later names steps (owed_after n.0 others) last n.1 n.2 more) (λ ns k. k))
 
 no_lines : (bytes : List ℕ) → length bytes ≤ 0 → lines_in bytes ≡ 0
 no_lines [] none = refl
 no_lines (b ∷ bs) none = absurd (omega arith)
 
-pub nodes_grow : (steps owed last line : ℕ) (bytes z : List ℕ) → length bytes ≤ steps → line + lines_in bytes ≡ last → Grows numbered last z (nodes_at steps owed line bytes) (nodes_at steps owed line (bytes ++ z))
+pub nodes_grow : (names : Table) (steps owed last line : ℕ) (bytes z : List ℕ) → length bytes ≤ steps → line + lines_in bytes ≡ last → Grows numbered last z (nodes_at names steps owed line bytes) (nodes_at names steps owed line (bytes ++ z))
 unfolding nodes_at
-nodes_grow zero zero last line bytes z few e = (e, refl)
-nodes_grow (suc steps) zero last line bytes z few e = (e, refl)
-nodes_grow zero (suc others) last line bytes z few e =
+nodes_grow names zero zero last line bytes z few e = (e, refl)
+nodes_grow names (suc steps) zero last line bytes z few e = (e, refl)
+nodes_grow names zero (suc others) last line bytes z few e =
     let none = no_lines bytes few in
     let is : line ≡ last = omega arith in
     inr (ap (λ (n : ℕ). record { line = n; kind = Ended }) is, omega arith)
-nodes_grow (suc steps) (suc others) last line bytes z few e =
-    grows_by numbered numbered last z (node_at line bytes) (node_at line (bytes ++ z)) (node_then steps others) (node_then steps others) (node_grows last line bytes z e)
-    (λ n is end. let shorter = (node_takes line bytes n is).shorter in
-    grows_then numbered numbered last z (nodes_at steps (owed_after n.0 others) n.1 n.2) (nodes_at steps (owed_after n.0 others) n.1 (n.2 ++ z)) (and_node n.0) (nodes_grow steps (owed_after n.0 others) last n.1 n.2 z (omega arith) end) (λ ns k. (k, refl)) (λ ns k. k))
-    (λ n more. reaches_then numbered numbered last (nodes_at steps (owed_after n.0 others) n.1 n.2) (and_node n.0) (nodes_later steps (owed_after n.0 others) last n.1 n.2 more) (λ ns k. k))
+nodes_grow names (suc steps) (suc others) last line bytes z few e =
+    grows_by numbered numbered last z (node_at names line bytes) (node_at names line (bytes ++ z)) (node_then names steps others) (node_then names steps others) (node_grows names last line bytes z e)
+    (λ n is end. let shorter = (node_takes names line bytes n is).shorter in
+    grows_then numbered numbered last z (nodes_at names steps (owed_after n.0 others) n.1 n.2) (nodes_at names steps (owed_after n.0 others) n.1 (n.2 ++ z)) (and_node n.0) (nodes_grow names steps (owed_after n.0 others) last n.1 n.2 z (omega arith) end) (λ ns k. (k, refl)) (λ ns k. k))
+    (λ n more. reaches_then numbered numbered last (nodes_at names steps (owed_after n.0 others) n.1 n.2) (and_node n.0) (nodes_later names steps (owed_after n.0 others) last n.1 n.2 more) (λ ns k. k))
 
 -- ---- the claim
 

@@ -14,13 +14,14 @@ use Rattle.plan_text.specs.Words.{is_text, line_of}
 use Rattle.plan_text.specs.Numbers.{number}
 use Rattle.plan_text.specs.Fractions.{integer}
 use Rattle.plan_text.specs.Lines.{◌>>=◌, fault, ranged, line_at, words_at}
-use Rattle.plan_text.specs.Families.{IsNamed}
-use Rattle.plan_text.specs.Warrants.{Node, SplitAt, LeafOf, AreTrees, IsNode}
+use Rattle.plan_text.specs.Families.{Table, IsNamedIn}
+use Rattle.plan_text.specs.Warrants.{Node, SplitAt, LeafOf, AreTrees, IsNodeIn, IsNode}
 use Rattle.plan_text.specs.CertificateText.{split_key, loop_key, turn_key, leaf_key, split_words, weight_line, node_lines, IsHeldWeight, IsHeldNode}
 use Rattle.plan_text.specs.CertificateReading.{or_number, range_of, index_of, split_of, head_of, rest_of, node_at, weights_at, owed_after, nodes_at}
 use Rattle.plan_text.proofs.Fields.{bind_ok, guard_ok, moved, same_text, number_takes, number_again}
 use Rattle.plan_text.proofs.ExactWords.{integer_takes, integer_again, integer_word, decimal_word}
 use Rattle.plan_text.proofs.WordLines.{number_ok, words_take, words_shorter, words_again, ended_and, ended_more}
+use Rattle.plan_text.proofs.FamilyNames.{Tells}
 use Rattle.plan_text.proofs.WeightLines.{index_takes, index_again, weights_take, weights_again}
 
 -- ---- the first line of a node
@@ -127,44 +128,44 @@ leaf_line line n rest few = words_again line leaf_key (decimal n ∷ []) rest (r
 
 -- ---- a node
 
-pub record NodeOf (line : ℕ) (bytes : List ℕ) (x : Node × ℕ × List ℕ) : Type 0 where
-  pub parts : bytes ≡ ended_and (node_lines x.0) x.2
+pub record NodeOf (names : Table) (line : ℕ) (bytes : List ℕ) (x : Node × ℕ × List ℕ) : Type 0 where
+  pub parts : bytes ≡ ended_and (node_lines names x.0) x.2
   pub shorter : length x.2 < length bytes
   pub lines : x.1 + length x.2 ≤ line + length bytes
-  pub kept : IsNode x.0
+  pub kept : IsNodeIn names x.0
   pub held : IsHeldNode x.0
 
-node_from : (line : ℕ) (bytes : List ℕ) (ws : List (List ℕ)) (after : List ℕ) (h : Head) (x : Node × ℕ × List ℕ) → bytes ≡ line_of ws ++ 10 ∷ after → length after + 1 ≤ length bytes → HeadOf ws h → rest_of h (line + 1) after ≡ Ok x → NodeOf line bytes x
+node_from : (names : Table) (line : ℕ) (bytes : List ℕ) (ws : List (List ℕ)) (after : List ℕ) (h : Head) (x : Node × ℕ × List ℕ) → bytes ≡ line_of ws ++ 10 ∷ after → length after + 1 ≤ length bytes → HeadOf ws h → rest_of names h (line + 1) after ≡ Ok x → NodeOf names line bytes x
 unfolding rest_of node_lines
-node_from line bytes ws after (heads.Split at) x parts shorter h e =
-    moved (NodeOf line bytes) (SplitAt at, line + 1, after) x e (record {
+node_from names line bytes ws after (heads.Split at) x parts shorter h e =
+    moved (NodeOf names line bytes) (SplitAt at, line + 1, after) x e (record {
       parts = parts ∙ ap (λ (v : List (List ℕ)). line_of v ++ 10 ∷ after) h.spelled;
       shorter = omega arith;
       lines = omega arith;
       kept = h.kept;
       held = h.held;
     })
-node_from line bytes ws after (heads.Leaf n) x parts shorter h e =
-    let a = bind_ok (weights_at n None (line + 1) after) (λ ws. Ok (LeafOf ws.0, line + 1 + n, ws.1)) x e in
-    let t = weights_take n None (line + 1) after a.0 a.1 in
+node_from names line bytes ws after (heads.Leaf n) x parts shorter h e =
+    let a = bind_ok (weights_at names n None (line + 1) after) (λ ws. Ok (LeafOf ws.0, line + 1 + n, ws.1)) x e in
+    let t = weights_take names n None (line + 1) after a.0 a.1 in
     let few = t.lines in
     let count = t.count in
     let bound = h.1 in
     let words : ws ≡ leaf_key ∷ decimal (length a.0.0) ∷ [] = h.0 ∙ ap (λ (k : ℕ). leaf_key ∷ decimal k ∷ []) (sym count) in
-    moved (NodeOf line bytes) (LeafOf a.0.0, line + 1 + n, a.0.1) x a.2 (record {
+    moved (NodeOf names line bytes) (LeafOf a.0.0, line + 1 + n, a.0.1) x a.2 (record {
       parts = parts ∙ (λ i. line_of (words i) ++ 10 ∷ t.parts i);
       shorter = omega arith;
       lines = omega arith;
-      kept = (omega arith, t.ascend, All-from_recursion (λ w. IsNamed w.row) a.0.0 t.named);
+      kept = (omega arith, t.ascend, All-from_recursion (λ w. IsNamedIn names w.row) a.0.0 t.named);
       held = All-from_recursion IsHeldWeight a.0.0 t.held;
     })
 
-pub node_takes : (line : ℕ) (bytes : List ℕ) (x : Node × ℕ × List ℕ) → node_at line bytes ≡ Ok x → NodeOf line bytes x
+pub node_takes : (names : Table) (line : ℕ) (bytes : List ℕ) (x : Node × ℕ × List ℕ) → node_at names line bytes ≡ Ok x → NodeOf names line bytes x
 unfolding node_at
-node_takes line bytes x e =
-    let a = bind_ok (words_at line bytes) (λ l. head_of line l.0 >>= λ head. rest_of head (line + 1) l.1) x e in
-    let b = bind_ok (head_of line a.0.0) (λ head. rest_of head (line + 1) a.0.1) x a.2 in
-    node_from line bytes a.0.0 a.0.1 b.0 x (words_take line bytes a.0 a.1) (words_shorter line bytes a.0 a.1) (head_takes line a.0.0 b.0 b.1) b.2
+node_takes names line bytes x e =
+    let a = bind_ok (words_at line bytes) (λ l. head_of line l.0 >>= λ head. rest_of names head (line + 1) l.1) x e in
+    let b = bind_ok (head_of line a.0.0) (λ head. rest_of names head (line + 1) a.0.1) x a.2 in
+    node_from names line bytes a.0.0 a.0.1 b.0 x (words_take line bytes a.0 a.1) (words_shorter line bytes a.0 a.1) (head_takes line a.0.0 b.0 b.1) b.2
 
 -- the number of the line after a node, and after many
 abbrev pub line_after : Node → ℕ → ℕ
@@ -175,22 +176,22 @@ abbrev pub line_after_all : List Node → ℕ → ℕ
 line_after_all [] line = line
 line_after_all (n ∷ ns) line = line_after_all ns (line_after n line)
 
-pub node_again : (line : ℕ) (n : Node) (rest : List ℕ) → IsNode n → IsHeldNode n → node_at line (ended_and (node_lines n) rest) ≡ Ok (n, line_after n line, rest)
+pub node_again : (names : Table) (line : ℕ) (n : Node) (rest : List ℕ) → Tells names → IsNodeIn names n → IsHeldNode n → node_at names line (ended_and (node_lines names n) rest) ≡ Ok (n, line_after n line, rest)
 unfolding node_at rest_of node_lines
-node_again line (SplitAt at) rest kept held = rw (split_line line at rest held, split_again line at kept held) refl
-node_again line (LeafOf ws) rest kept held =
+node_again names line (SplitAt at) rest tells kept held = rw (split_line line at rest held, split_again line at kept held) refl
+node_again names line (LeafOf ws) rest tells kept held =
     rw (
-      leaf_line line (length ws) (ended_and (map weight_line ws) rest) kept.0,
+      leaf_line line (length ws) (ended_and (map (weight_line names) ws) rest) kept.0,
       leaf_again line (length ws) kept.0,
-      weights_again ws None (line + 1) rest kept.1 (recursion_from_All (λ w. IsNamed w.row) ws kept.2) (recursion_from_All IsHeldWeight ws held),
+      weights_again names ws None (line + 1) rest tells kept.1 (recursion_from_All (λ w. IsNamedIn names w.row) ws kept.2) (recursion_from_All IsHeldWeight ws held),
     ) refl
 
 -- ---- trees
 
-pub record NodesOf (owed : ℕ) (bytes : List ℕ) (x : List Node × ℕ × List ℕ) : Type 0 where
-  pub parts : bytes ≡ ended_and (flat_map node_lines x.0) x.2
+pub record NodesOf (names : Table) (owed : ℕ) (bytes : List ℕ) (x : List Node × ℕ × List ℕ) : Type 0 where
+  pub parts : bytes ≡ ended_and (flat_map (node_lines names) x.0) x.2
   pub trees : AreTrees owed x.0
-  pub kept : AllByRecursion IsNode x.0
+  pub kept : AllByRecursion (IsNodeIn names) x.0
   pub held : AllByRecursion IsHeldNode x.0
 
 -- one node more
@@ -202,36 +203,36 @@ trees_less : (n : Node) (others : ℕ) (ns : List Node) → AreTrees (suc others
 trees_less (SplitAt at) others ns t = t
 trees_less (LeafOf ws) others ns t = t
 
-pub nodes_take : (steps owed line : ℕ) (bytes : List ℕ) (x : List Node × ℕ × List ℕ) → nodes_at steps owed line bytes ≡ Ok x → NodesOf owed bytes x
+pub nodes_take : (names : Table) (steps owed line : ℕ) (bytes : List ℕ) (x : List Node × ℕ × List ℕ) → nodes_at names steps owed line bytes ≡ Ok x → NodesOf names owed bytes x
 unfolding nodes_at
-nodes_take zero zero line bytes x e = moved (NodesOf 0 bytes) ([], line, bytes) x e (record { parts = refl; trees = tt; kept = tt; held = tt })
-nodes_take (suc steps) zero line bytes x e = moved (NodesOf 0 bytes) ([], line, bytes) x e (record { parts = refl; trees = tt; kept = tt; held = tt })
-nodes_take zero (suc others) line bytes x e = absurd cc
-nodes_take (suc steps) (suc others) line bytes x e =
-    let a = bind_ok (node_at line bytes) (λ n. nodes_at steps (owed_after n.0 others) n.1 n.2 >>= λ ns. Ok (n.0 ∷ ns.0, ns.1, ns.2)) x e in
-    let b = bind_ok (nodes_at steps (owed_after a.0.0 others) a.0.1 a.0.2) (λ ns. Ok (a.0.0 ∷ ns.0, ns.1, ns.2)) x a.2 in
-    let n = node_takes line bytes a.0 a.1 in
-    let more = nodes_take steps (owed_after a.0.0 others) a.0.1 a.0.2 b.0 b.1 in
-    moved (NodesOf (suc others) bytes) (a.0.0 ∷ b.0.0, b.0.1, b.0.2) x b.2 (record {
-      parts = n.parts ∙ ap (ended_and (node_lines a.0.0)) more.parts ∙ sym (ended_more (node_lines a.0.0) (flat_map node_lines b.0.0) b.0.2);
+nodes_take names zero zero line bytes x e = moved (NodesOf names 0 bytes) ([], line, bytes) x e (record { parts = refl; trees = tt; kept = tt; held = tt })
+nodes_take names (suc steps) zero line bytes x e = moved (NodesOf names 0 bytes) ([], line, bytes) x e (record { parts = refl; trees = tt; kept = tt; held = tt })
+nodes_take names zero (suc others) line bytes x e = absurd cc
+nodes_take names (suc steps) (suc others) line bytes x e =
+    let a = bind_ok (node_at names line bytes) (λ n. nodes_at names steps (owed_after n.0 others) n.1 n.2 >>= λ ns. Ok (n.0 ∷ ns.0, ns.1, ns.2)) x e in
+    let b = bind_ok (nodes_at names steps (owed_after a.0.0 others) a.0.1 a.0.2) (λ ns. Ok (a.0.0 ∷ ns.0, ns.1, ns.2)) x a.2 in
+    let n = node_takes names line bytes a.0 a.1 in
+    let more = nodes_take names steps (owed_after a.0.0 others) a.0.1 a.0.2 b.0 b.1 in
+    moved (NodesOf names (suc others) bytes) (a.0.0 ∷ b.0.0, b.0.1, b.0.2) x b.2 (record {
+      parts = n.parts ∙ ap (ended_and (node_lines names a.0.0)) more.parts ∙ sym (ended_more (node_lines names a.0.0) (flat_map (node_lines names) b.0.0) b.0.2);
       trees = trees_more a.0.0 others b.0.0 more.trees;
       kept = (n.kept, more.kept);
       held = (n.held, more.held);
     })
 
-pub nodes_again : (steps owed line : ℕ) (ns : List Node) (rest : List ℕ) → length ns ≤ steps → AreTrees owed ns → AllByRecursion IsNode ns → AllByRecursion IsHeldNode ns
-    → nodes_at steps owed line (ended_and (flat_map node_lines ns) rest) ≡ Ok (ns, line_after_all ns line, rest)
+pub nodes_again : (names : Table) (steps owed line : ℕ) (ns : List Node) (rest : List ℕ) → length ns ≤ steps → AreTrees owed ns → Tells names → AllByRecursion (IsNodeIn names) ns → AllByRecursion IsHeldNode ns
+    → nodes_at names steps owed line (ended_and (flat_map (node_lines names) ns) rest) ≡ Ok (ns, line_after_all ns line, rest)
 unfolding nodes_at
-nodes_again zero zero line [] rest few trees kept held = refl
-nodes_again (suc steps) zero line [] rest few trees kept held = refl
-nodes_again steps zero line (n ∷ ns) rest few trees kept held = absurd trees
-nodes_again steps (suc others) line [] rest few trees kept held = absurd trees
-nodes_again zero (suc others) line (n ∷ ns) rest few trees kept held = absurd (omega arith)
-nodes_again (suc steps) (suc others) line (n ∷ ns) rest few trees kept held =
+nodes_again names zero zero line [] rest few trees tells kept held = refl
+nodes_again names (suc steps) zero line [] rest few trees tells kept held = refl
+nodes_again names steps zero line (n ∷ ns) rest few trees tells kept held = absurd trees
+nodes_again names steps (suc others) line [] rest few trees tells kept held = absurd trees
+nodes_again names zero (suc others) line (n ∷ ns) rest few trees tells kept held = absurd (omega arith)
+nodes_again names (suc steps) (suc others) line (n ∷ ns) rest few trees tells kept held =
     rw (
-      ended_more (node_lines n) (flat_map node_lines ns) rest,
-      node_again line n (ended_and (flat_map node_lines ns) rest) kept.0 held.0,
-      nodes_again steps (owed_after n others) (line_after n line) ns rest (omega arith) (trees_less n others ns trees) kept.1 held.1,
+      ended_more (node_lines names n) (flat_map (node_lines names) ns) rest,
+      node_again names line n (ended_and (flat_map (node_lines names) ns) rest) tells kept.0 held.0,
+      nodes_again names steps (owed_after n others) (line_after n line) ns rest (omega arith) (trees_less n others ns trees) tells kept.1 held.1,
     ) refl
 
 -- ---- as many steps as there are bytes are enough
@@ -240,32 +241,32 @@ bind_same : {A B : Type 0} (r : Result A BadText) (f g : A → Result B BadText)
 bind_same (Ok x) f g h = h x refl
 bind_same (Err e) f g h = refl
 
-no_node : (line : ℕ) (bytes : List ℕ) → length bytes ≤ 0 → node_at line bytes ≡ fault line Ended
+no_node : (names : Table) (line : ℕ) (bytes : List ℕ) → length bytes ≤ 0 → node_at names line bytes ≡ fault line Ended
 unfolding node_at words_at line_at
-no_node line [] none = refl
-no_node line (b ∷ bs) none = absurd (omega arith)
+no_node names line [] none = refl
+no_node names line (b ∷ bs) none = absurd (omega arith)
 
 -- what is read after a node
-abbrev pub nodes_then : ℕ → ℕ → Node × ℕ × List ℕ → Result (List Node × ℕ × List ℕ) BadText
-nodes_then steps others n = nodes_at steps (owed_after n.0 others) n.1 n.2 >>= λ ns. Ok (n.0 ∷ ns.0, ns.1, ns.2)
+abbrev pub nodes_then : Table → ℕ → ℕ → Node × ℕ × List ℕ → Result (List Node × ℕ × List ℕ) BadText
+nodes_then names steps others n = nodes_at names steps (owed_after n.0 others) n.1 n.2 >>= λ ns. Ok (n.0 ∷ ns.0, ns.1, ns.2)
 
-pub enough : (s t owed line : ℕ) (bytes : List ℕ) → length bytes ≤ s → length bytes ≤ t → nodes_at s owed line bytes ≡ nodes_at t owed line bytes
+pub enough : (names : Table) (s t owed line : ℕ) (bytes : List ℕ) → length bytes ≤ s → length bytes ≤ t → nodes_at names s owed line bytes ≡ nodes_at names t owed line bytes
 unfolding nodes_at
-enough zero zero owed line bytes p q = refl
-enough zero (suc t) zero line bytes p q = refl
-enough (suc s) zero zero line bytes p q = refl
-enough (suc s) (suc t) zero line bytes p q = refl
-enough zero (suc t) (suc others) line bytes p q = sym (ap (λ r. r >>= nodes_then t others) (no_node line bytes p))
-enough (suc s) zero (suc others) line bytes p q = ap (λ r. r >>= nodes_then s others) (no_node line bytes q)
-enough (suc s) (suc t) (suc others) line bytes p q =
-    bind_same (node_at line bytes) (nodes_then s others) (nodes_then t others) (λ n e.
-    let shorter = (node_takes line bytes n e).shorter in
-    ap (λ r. r >>= λ ns. Ok (n.0 ∷ ns.0, ns.1, ns.2)) (enough s t (owed_after n.0 others) n.1 n.2 (omega arith) (omega arith)))
+enough names zero zero owed line bytes p q = refl
+enough names zero (suc t) zero line bytes p q = refl
+enough names (suc s) zero zero line bytes p q = refl
+enough names (suc s) (suc t) zero line bytes p q = refl
+enough names zero (suc t) (suc others) line bytes p q = sym (ap (λ r. r >>= nodes_then names t others) (no_node names line bytes p))
+enough names (suc s) zero (suc others) line bytes p q = ap (λ r. r >>= nodes_then names s others) (no_node names line bytes q)
+enough names (suc s) (suc t) (suc others) line bytes p q =
+    bind_same (node_at names line bytes) (nodes_then names s others) (nodes_then names t others) (λ n e.
+    let shorter = (node_takes names line bytes n e).shorter in
+    ap (λ r. r >>= λ ns. Ok (n.0 ∷ ns.0, ns.1, ns.2)) (enough names s t (owed_after n.0 others) n.1 n.2 (omega arith) (omega arith)))
 
-pub first_node : (others line : ℕ) (bytes : List ℕ) → nodes_at (length bytes) (suc others) line bytes ≡ (node_at line bytes >>= λ n. nodes_then (length n.2) others n)
+pub first_node : (names : Table) (others line : ℕ) (bytes : List ℕ) → nodes_at names (length bytes) (suc others) line bytes ≡ (node_at names line bytes >>= λ n. nodes_then names (length n.2) others n)
 unfolding nodes_at
-first_node others line [] = sym (ap (λ r. r >>= λ n. nodes_then (length n.2) others n) (no_node line [] (omega arith)))
-first_node others line (b ∷ bs) =
-    bind_same (node_at line (b ∷ bs)) (nodes_then (length bs) others) (λ n. nodes_then (length n.2) others n) (λ n e.
-    let shorter = (node_takes line (b ∷ bs) n e).shorter in
-    ap (λ r. r >>= λ ns. Ok (n.0 ∷ ns.0, ns.1, ns.2)) (enough (length bs) (length n.2) (owed_after n.0 others) n.1 n.2 (omega arith) (omega arith)))
+first_node names others line [] = sym (ap (λ r. r >>= λ n. nodes_then names (length n.2) others n) (no_node names line [] (omega arith)))
+first_node names others line (b ∷ bs) =
+    bind_same (node_at names line (b ∷ bs)) (nodes_then names (length bs) others) (λ n. nodes_then names (length n.2) others n) (λ n e.
+    let shorter = (node_takes names line (b ∷ bs) n e).shorter in
+    ap (λ r. r >>= λ ns. Ok (n.0 ∷ ns.0, ns.1, ns.2)) (enough names (length bs) (length n.2) (owed_after n.0 others) n.1 n.2 (omega arith) (omega arith)))

@@ -1,28 +1,11 @@
--- The second text of a certificate, written piece by piece, and lists that are written item by item, each by one line or by several.
-use Rattle.std.proofs.Common.{◌≡◌, ℕ, ◌+◌, ◌<◌, map, length, get_or, take, List, [], ◌∷◌, ◌++◌, sym, ap, ◌∙◌, append_assoc}
+-- The second text of a certificate, written piece by piece.
+use Rattle.std.proofs.Common.{◌≡◌, ℕ, List, [], ◌∷◌, ◌++◌, sym, ap, ◌∙◌, append_assoc}
 use Rattle.std.specs.Prelude.{flat_map}
-use Rattle.std.proofs.lemmas.List.{flat_map_more, take_more, map-append}
 use Rattle.plan_text.specs.Spelling.{ended, end_line}
 use Rattle.plan_text.specs.Warrants.{Warrant}
 use Rattle.plan_text.specs.CertificateText.{claim_lines, tree_line}
 use Rattle.plan_text.specs.SecondText.{second_line, row_lines, rows_of, listed_node_lines, second_text}
 use Rattle.plan_text.proofs.Written.{more_lines, ended-append}
-
--- one more item
-map_more : {X Y : Type 0} (f : X → Y) (xs : List X) (i : ℕ) (d x : X) → i < length xs → x ≡ get_or xs i d → map f (take (i + 1) xs) ≡ map f (take i xs) ++ f x ∷ []
-map_more {X} f xs i d x lt is = ap (map f) (take_more xs i d lt ∙ ap (λ (y : X). take i xs ++ y ∷ []) (sym is)) ∙ map-append f (take i xs) (x ∷ [])
-
--- by one line
-pub more_mapped : {X : Type 0} (f : X → List ℕ) (old : List ℕ) (xs : List X) (i : ℕ) (d x : X) (before after : List ℕ) → i < length xs → x ≡ get_or xs i d → before ≡ old ++ ended (map f (take i xs)) → after ≡ before ++ ended (f x ∷ []) → after ≡ old ++ ended (map f (take (i + 1) xs))
-more_mapped f old xs i d x before after lt is e g =
-    more_lines old (map f (take i xs)) (f x ∷ []) before after e g
-    ∙ ap (λ (y : List (List ℕ)). old ++ ended y) (sym (map_more f xs i d x lt is))
-
--- by the lines of what it is seen as
-pub more_flat : {X Y : Type 0} (view : X → Y) (f : Y → List (List ℕ)) (old : List ℕ) (xs : List X) (i : ℕ) (d x : X) (before after : List ℕ) → i < length xs → x ≡ get_or xs i d → before ≡ old ++ ended (flat_map f (map view (take i xs))) → after ≡ before ++ ended (f (view x)) → after ≡ old ++ ended (flat_map f (map view (take (i + 1) xs)))
-more_flat view f old xs i d x before after lt is e g =
-    more_lines old (flat_map f (map view (take i xs))) (f (view x)) before after e g
-    ∙ ap (λ (y : List (List ℕ)). old ++ ended y) (flat_map_more f [] (map view (take i xs)) (view x) ∙ ap (flat_map f) (sym (map_more view xs i d x lt is)))
 
 -- the whole
 pub second_written : (first second third fourth fifth after : List ℕ) (c : Warrant) → first ≡ ended (second_line ∷ []) → second ≡ first ++ ended (claim_lines c.claim c.timing) → third ≡ second ++ ended (row_lines (rows_of c.nodes)) → fourth ≡ third ++ ended (tree_line ∷ []) → fifth ≡ fourth ++ ended (flat_map (listed_node_lines (rows_of c.nodes)) c.nodes) → after ≡ fifth ++ ended (end_line ∷ [])

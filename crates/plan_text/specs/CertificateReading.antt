@@ -19,7 +19,7 @@ use Rattle.plan_text.specs.Fractions.{integer, exact}
 use Rattle.plan_text.specs.Spelling.{end_line}
 use Rattle.plan_text.specs.Lines.{◌>>=◌, fault, line_at, words_at, fixed_at, nothing_at, ranged}
 use Rattle.plan_text.specs.Reading.{plan_at}
-use Rattle.plan_text.specs.Families.{family_of, is_lone, is_after}
+use Rattle.plan_text.specs.Families.{Table, ordinary, family_in, is_lone_in, is_after}
 use Rattle.plan_text.specs.Warrants.{Node, SplitAt, LeafOf, Warrant}
 use Rattle.plan_text.specs.CertificateText.{certificate_line, best_line, none_line, open_line, no_timing_line, tree_line, value_key, bound_key, split_key, loop_key, turn_key, leaf_key}
 
@@ -44,41 +44,59 @@ fraction_of key line ws = fault line Shape
 
 -- ---- a row of a leaf
 
--- what follows the name of a family of one row, and that of another family
-unfoldable pub lone_of : ℕ → ℕ → List (List ℕ) → Result Weight BadText
-lone_of line family (x ∷ []) = do
-  by ← or_number line (exact x)
-  Ok (record { row = record { family = family; index = 0 }; by = by })
-lone_of line family ws = fault line Shape
+-- the row of a family with one row, and one of another family, by the words after the family's name
+unfoldable pub lone_row : ℕ → ℕ → List (List ℕ) → Result RowId BadText
+lone_row line family [] = Ok (record { family = family; index = 0 })
+lone_row line family ws = fault line Shape
 
-unfoldable pub indexed_of : ℕ → ℕ → List (List ℕ) → Result Weight BadText
-indexed_of line family (i ∷ x ∷ []) = do
+unfoldable pub indexed_row : ℕ → ℕ → List (List ℕ) → Result RowId BadText
+indexed_row line family (i ∷ []) = do
   index ← index_of line i
-  by ← or_number line (exact x)
-  Ok (record { row = record { family = family; index = index }; by = by })
-indexed_of line family ws = fault line Shape
+  Ok (record { family = family; index = index })
+indexed_row line family ws = fault line Shape
 
-abbrev pub in_family : ℕ → List (List ℕ) → Option ℕ → Result Weight BadText
-in_family line ws None = fault line Shape
-in_family line ws (Some family) = if is_lone family then lone_of line family ws else indexed_of line family ws
+abbrev pub in_family : Table → ℕ → List (List ℕ) → Option ℕ → Result RowId BadText
+in_family table line ws None = fault line Shape
+in_family table line ws (Some family) = if is_lone_in table family then lone_row line family ws else indexed_row line family ws
 
-unfoldable pub weight_of : ℕ → List (List ℕ) → Result Weight BadText
-weight_of line [] = fault line Shape
-weight_of line (name ∷ ws) = in_family line ws (family_of name)
+-- the row of this name
+unfoldable pub row_of : Table → ℕ → List (List ℕ) → Result RowId BadText
+row_of table line [] = fault line Shape
+row_of table line (name ∷ ws) = in_family table line ws (family_in table name)
+
+-- the words before the last one, and the last one
+abbrev pub last_after : List ℕ → Option (List (List ℕ) × List ℕ) → Option (List (List ℕ) × List ℕ)
+last_after w None = Some ([], w)
+last_after w (Some p) = Some (w ∷ p.0, p.1)
+
+abbrev pub cut_last : List (List ℕ) → Option (List (List ℕ) × List ℕ)
+cut_last [] = None
+cut_last (w ∷ ws) = last_after w (cut_last ws)
+
+-- a row's name, and its multiplier as the last word
+abbrev pub weight_by : Table → ℕ → Option (List (List ℕ) × List ℕ) → Result Weight BadText
+weight_by table line None = fault line Shape
+weight_by table line (Some p) = do
+  row ← row_of table line p.0
+  by ← or_number line (exact p.1)
+  Ok (record { row = row; by = by })
+
+unfoldable pub weight_of : Table → ℕ → List (List ℕ) → Result Weight BadText
+weight_of table line ws = weight_by table line (cut_last ws)
 
 -- a row that comes after the last one
-unfoldable pub weight_after : Option RowId → ℕ → List (List ℕ) → Result Weight BadText
-weight_after last line ws = do
-  w ← weight_of line ws
+unfoldable pub weight_after : Table → Option RowId → ℕ → List (List ℕ) → Result Weight BadText
+weight_after table last line ws = do
+  w ← weight_of table line ws
   if is_after last w.row then Ok w else fault line Order
 
 -- so many rows
-unfoldable pub weights_at : ℕ → Option RowId → ℕ → List ℕ → Result (List Weight × List ℕ) BadText
-weights_at zero last line bytes = Ok ([], bytes)
-weights_at (suc n) last line bytes = do
+unfoldable pub weights_at : Table → ℕ → Option RowId → ℕ → List ℕ → Result (List Weight × List ℕ) BadText
+weights_at names zero last line bytes = Ok ([], bytes)
+weights_at names (suc n) last line bytes = do
   l ← words_at line bytes
-  w ← weight_after last line l.0
-  ws ← weights_at n (Some w.row) (line + 1) l.1
+  w ← weight_after names last line l.0
+  ws ← weights_at names n (Some w.row) (line + 1) l.1
   Ok (w ∷ ws.0, ws.1)
 
 -- ---- a node
@@ -95,17 +113,17 @@ head_of line (key ∷ kind ∷ i ∷ place ∷ []) = if is_text key split_key th
 head_of line ws = fault line Shape
 
 -- the node that begins so, the number of the line after it, and what follows
-unfoldable pub rest_of : Head → ℕ → List ℕ → Result (Node × ℕ × List ℕ) BadText
-rest_of (heads.Split at) line bytes = Ok (SplitAt at, line, bytes)
-rest_of (heads.Leaf count) line bytes = do
-  ws ← weights_at count None line bytes
+unfoldable pub rest_of : Table → Head → ℕ → List ℕ → Result (Node × ℕ × List ℕ) BadText
+rest_of names (heads.Split at) line bytes = Ok (SplitAt at, line, bytes)
+rest_of names (heads.Leaf count) line bytes = do
+  ws ← weights_at names count None line bytes
   Ok (LeafOf ws.0, line + count, ws.1)
 
-unfoldable pub node_at : ℕ → List ℕ → Result (Node × ℕ × List ℕ) BadText
-node_at line bytes = do
+unfoldable pub node_at : Table → ℕ → List ℕ → Result (Node × ℕ × List ℕ) BadText
+node_at names line bytes = do
   l ← words_at line bytes
   head ← head_of line l.0
-  rest_of head (line + 1) l.1
+  rest_of names head (line + 1) l.1
 
 -- how many trees are owed after the first node of one, when so many others were
 abbrev pub owed_after : Node → ℕ → ℕ
@@ -113,12 +131,12 @@ owed_after (SplitAt at) others = suc (suc others)
 owed_after (LeafOf ws) others = others
 
 -- the nodes of so many trees; a node takes at least one byte, so as many steps as there are bytes are enough
-unfoldable pub nodes_at : ℕ → ℕ → ℕ → List ℕ → Result (List Node × ℕ × List ℕ) BadText
-nodes_at steps zero line bytes = Ok ([], line, bytes)
-nodes_at zero (suc others) line bytes = fault line Ended
-nodes_at (suc steps) (suc others) line bytes = do
-  n ← node_at line bytes
-  ns ← nodes_at steps (owed_after n.0 others) n.1 n.2
+unfoldable pub nodes_at : Table → ℕ → ℕ → ℕ → List ℕ → Result (List Node × ℕ × List ℕ) BadText
+nodes_at names steps zero line bytes = Ok ([], line, bytes)
+nodes_at names zero (suc others) line bytes = fault line Ended
+nodes_at names (suc steps) (suc others) line bytes = do
+  n ← node_at names line bytes
+  ns ← nodes_at names steps (owed_after n.0 others) n.1 n.2
   Ok (n.0 ∷ ns.0, ns.1, ns.2)
 
 -- ---- the claim
@@ -170,10 +188,10 @@ claim_at bytes = do
 -- ---- the whole
 
 -- the line `tree`, one tree, and the line `end`, after which nothing stands
-unfoldable pub tree_at : ℕ → List ℕ → Result (List Node) BadText
-tree_at line bytes = do
+unfoldable pub tree_at : Table → ℕ → List ℕ → Result (List Node) BadText
+tree_at names line bytes = do
   rest ← fixed_at line tree_line bytes
-  nodes ← nodes_at (length rest) 1 (line + 1) rest
+  nodes ← nodes_at names (length rest) 1 (line + 1) rest
   more ← fixed_at nodes.1 end_line nodes.2
   nothing ← nothing_at (nodes.1 + 1) more
   Ok nodes.0
@@ -182,5 +200,5 @@ unfoldable pub certificate_of : List ℕ → Result Warrant BadText
 certificate_of bytes = do
   rest ← fixed_at 1 certificate_line bytes
   opening ← claim_at rest
-  nodes ← tree_at opening.2 opening.3
+  nodes ← tree_at ordinary opening.2 opening.3
   Ok (record { claim = opening.0; timing = opening.1; nodes = nodes })

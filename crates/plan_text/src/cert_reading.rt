@@ -1,17 +1,28 @@
 //! The text of a certificate, read.
 
-ghost use Rattle.std.specs.Prelude.{◌≡◌, IfOk, Ok};
+ghost use Rattle.std.specs.Prelude.{◌≡◌, ◌≤◌, map, IfOk, Ok};
 ghost use Rattle.plan_text.specs.Lines.{Gives};
-ghost use Rattle.plan_text.specs.Warrants.{Warrant};
+ghost use Rattle.plan_text.specs.Families.{ordinary};
+ghost use Rattle.plan_text.specs.Warrants.{Warrant, node_of};
 ghost use Rattle.plan_text.specs.CertificateText.{certificate_text, IsHeldWarrant};
-ghost use Rattle.plan_text.specs.CertificateReading.{certificate_of};
+ghost use Rattle.plan_text.specs.CertificateReading.{tree_at, certificate_of};
 
-use crate::certificate::Certificate;
+use crate::certificate::{CertNode, Certificate};
 use crate::claim::claim_at;
+use crate::family::FAMILIES;
 use crate::fault::TextEnd;
 use crate::lines::fixed_at;
 use crate::tree::tree_at;
 use std::alloc::Global;
+
+/// The tree of an ordinary certificate.
+#[tactic(auto, unfolding(crate::specs::Families::ordinary))]
+fn named_tree_at(alloc: Global, line: u64, bytes: &[u8]) -> Result<Vec<CertNode>, TextEnd>
+    requires { line ≤ 13 }
+    ensures { Gives (λ x. map node_of x.items) result (tree_at ordinary line bytes.now) }
+{
+    tree_at(alloc, &FAMILIES, line, bytes)
+}
 
 #[tactic(auto, unfolding(crate::specs::CertificateReading::certificate_of))]
 fn certificate_of(alloc: Global, bytes: &[u8]) -> Result<Certificate, TextEnd>
@@ -19,7 +30,7 @@ fn certificate_of(alloc: Global, bytes: &[u8]) -> Result<Certificate, TextEnd>
 {
     let rest = fixed_at(1, b"maxband-certificate 1", bytes)?;
     let opening = claim_at(alloc, rest)?;
-    let nodes = tree_at(alloc, opening.line, opening.rest)?;
+    let nodes = named_tree_at(alloc, opening.line, opening.rest)?;
     Ok(Certificate {
         claim: opening.claim,
         timing: opening.timing,

@@ -11,6 +11,7 @@ ghost use Rattle.plan_text.specs.SecondText.{AscendRows, place_of_row, multiplie
 
 use crate::cert_writing::{push, push_claim, push_fraction, push_line, push_name, push_split};
 use crate::certificate::{CertNode, Certificate};
+use crate::family::FAMILIES;
 use crate::form::{Form, form_of, whole_over};
 use crate::listed::{place_of_row, rows_of};
 use named_row::{RowId, Weight};
@@ -18,11 +19,12 @@ use narrow_fraction::Memory;
 use std::alloc::Global;
 
 /// Writes the line of a row's name.
+#[tactic(auto, unfolding(crate::specs::Families::ordinary))]
 fn push_row(alloc: Global, out: &mut Vec<u8>, row: RowId) -> Result<(), Memory>
     requires { IsNamed row }
     ensures { OnOk result (out.new.items ≡ out.old.items ++ ended (row_line row ∷ [])) }
 {
-    push_name(alloc, out, row)?;
+    push_name(alloc, out, &FAMILIES, row)?;
     push(out, b"\n")
 }
 

@@ -4,10 +4,12 @@ ghost use Rattle.std.specs.Prelude.{◌≡◌, ◌+◌, ◌-◌, ◌≤◌, ◌<
 ghost use Rattle.plan_text.specs.Lines.{Gives, ranged};
 ghost use Rattle.plan_text.specs.Numbers.{number};
 ghost use Rattle.plan_text.specs.Fractions.{integer};
+ghost use Rattle.plan_text.specs.Families.{table_of};
 ghost use Rattle.plan_text.specs.Warrants.{node_of};
 ghost use Rattle.plan_text.specs.CertificateReading.{or_number, split_of, head_of, rest_of, node_at, owed_after, nodes_at, tree_at};
 
 use crate::certificate::CertNode;
+use crate::family::FamilyName;
 use crate::fault::{TextEnd, TextFault};
 use crate::fraction::integer;
 use crate::lines::{bad, fixed_at, nothing_at, words_at};
@@ -74,19 +76,21 @@ fn head_of(line: u64, words: &[&[u8]]) -> Result<Head, TextEnd>
 
 /// The node that begins so, the number of the line after it, and what follows.
 #[tactic(auto, unfolding(crate::specs::CertificateReading::rest_of))]
-fn rest_of(
+fn rest_of<'a>(
     alloc: Global,
+    names: &[FamilyName],
     head: Head,
     line: u64,
-    bytes: &[u8],
-) -> Result<(CertNode, u64, &[u8]), TextEnd>
-    requires { line + 2 ^ 32 < 2 ^ 64 }
-    ensures { Gives (λ x. (node_of x.0, x.1, x.2.now)) result (rest_of head line bytes.now) }
+    bytes: &'a [u8],
+) -> Result<(CertNode, u64, &'a [u8]), TextEnd>
+    requires names { length names.now < 2 ^ 8 }
+    requires lines { line + 2 ^ 32 < 2 ^ 64 }
+    ensures { Gives (λ x. (node_of x.0, x.1, x.2.now)) result (rest_of (table_of names.now) head line bytes.now) }
 {
     match head {
         Head::Split(at) => Ok((CertNode::Split(at), line, bytes)),
         Head::Leaf(count) => {
-            let (multipliers, rest) = weights_at(alloc, count, line, bytes)?;
+            let (multipliers, rest) = weights_at(alloc, names, count, line, bytes)?;
             let node = CertNode::Leaf(Leaf { multipliers });
             Ok((node, line + count as u64, rest))
         }
@@ -94,23 +98,35 @@ fn rest_of(
 }
 
 #[tactic(auto, unfolding(crate::specs::CertificateReading::node_at))]
-fn node_from(alloc: Global, line: u64, bytes: &[u8]) -> Result<(CertNode, u64, &[u8]), TextEnd>
-    requires { line + 2 ^ 33 < 2 ^ 64 }
-    ensures { Gives (λ x. (node_of x.0, x.1, x.2.now)) result (node_at line bytes.now) }
+fn node_from<'a>(
+    alloc: Global,
+    names: &[FamilyName],
+    line: u64,
+    bytes: &'a [u8],
+) -> Result<(CertNode, u64, &'a [u8]), TextEnd>
+    requires names { length names.now < 2 ^ 8 }
+    requires lines { line + 2 ^ 33 < 2 ^ 64 }
+    ensures { Gives (λ x. (node_of x.0, x.1, x.2.now)) result (node_at (table_of names.now) line bytes.now) }
 {
     let (words, rest) = words_at(alloc, line, bytes)?;
     let head = head_of(line, words.as_slice())?;
-    rest_of(alloc, head, line + 1, rest)
+    rest_of(alloc, names, head, line + 1, rest)
 }
 
 /// The next node, the number of the line after it, and what follows.
-fn node_at(alloc: Global, line: u64, bytes: &[u8]) -> Result<(CertNode, u64, &[u8]), TextEnd>
-    requires { line + 2 ^ 33 < 2 ^ 64 }
-    ensures exact { Gives (λ x. (node_of x.0, x.1, x.2.now)) result (node_at line bytes.now) }
+fn node_at<'a>(
+    alloc: Global,
+    names: &[FamilyName],
+    line: u64,
+    bytes: &'a [u8],
+) -> Result<(CertNode, u64, &'a [u8]), TextEnd>
+    requires names { length names.now < 2 ^ 8 }
+    requires lines { line + 2 ^ 33 < 2 ^ 64 }
+    ensures exact { Gives (λ x. (node_of x.0, x.1, x.2.now)) result (node_at (table_of names.now) line bytes.now) }
     ensures shorter { IfOk result (λ x. length x.2.now < length bytes.now) }
     ensures lines { IfOk result (λ x. x.1 + length x.2.now ≤ line + length bytes.now) }
 {
-    node_from(alloc, line, bytes)
+    node_from(alloc, names, line, bytes)
 }
 
 /// How many trees are owed after the first node of one, when so many others were.
@@ -125,9 +141,15 @@ fn owed_after(node: &CertNode, others: usize) -> usize
 }
 
 /// The nodes of one tree, the number of the line after them, and what follows.
-fn nodes_at(alloc: Global, line: u64, bytes: &[u8]) -> Result<(Vec<CertNode>, u64, &[u8]), TextEnd>
-    requires { line + 2 ^ 34 < 2 ^ 64 - length bytes.now }
-    ensures exact { Gives (λ x. (map node_of x.0.items, x.1, x.2.now)) result (nodes_at (length bytes.now) 1 line bytes.now) }
+fn nodes_at<'a>(
+    alloc: Global,
+    names: &[FamilyName],
+    line: u64,
+    bytes: &'a [u8],
+) -> Result<(Vec<CertNode>, u64, &'a [u8]), TextEnd>
+    requires names { length names.now < 2 ^ 8 }
+    requires lines { line + 2 ^ 34 < 2 ^ 64 - length bytes.now }
+    ensures exact { Gives (λ x. (map node_of x.0.items, x.1, x.2.now)) result (nodes_at (table_of names.now) (length bytes.now) 1 line bytes.now) }
     ensures lines { IfOk result (λ x. x.1 + length x.2.now ≤ line + length bytes.now) }
 {
     let mut nodes = Vec::new(alloc);
@@ -135,7 +157,7 @@ fn nodes_at(alloc: Global, line: u64, bytes: &[u8]) -> Result<(Vec<CertNode>, u6
     let mut line = line;
     let mut rest = bytes;
     'trees: while owed > 0 {
-        let (node, next, after) = node_at(alloc, line, rest)?;
+        let (node, next, after) = node_at(alloc, names, line, rest)?;
         owed = owed_after(&node, owed - 1);
         nodes.push(node)?;
         line = next;
@@ -144,14 +166,21 @@ fn nodes_at(alloc: Global, line: u64, bytes: &[u8]) -> Result<(Vec<CertNode>, u6
     Ok((nodes, line, rest))
 }
 
-/// The tree of a certificate, with which its text ends.
+/// The tree with which the text of a certificate ends, from the line `tree` on, which has this number: its rows are named
+/// over a table.
 #[tactic(auto, unfolding(crate::specs::CertificateReading::tree_at))]
-pub fn tree_at(alloc: Global, line: u64, bytes: &[u8]) -> Result<Vec<CertNode>, TextEnd>
-    requires { line ≤ 13 }
-    ensures { Gives (λ x. map node_of x.items) result (tree_at line bytes.now) }
+pub fn tree_at(
+    alloc: Global,
+    names: &[FamilyName],
+    line: u64,
+    bytes: &[u8],
+) -> Result<Vec<CertNode>, TextEnd>
+    requires names { length names.now < 2 ^ 8 }
+    requires lines { line + 2 ^ 35 < 2 ^ 64 - length bytes.now }
+    ensures { Gives (λ x. map node_of x.items) result (tree_at (table_of names.now) line bytes.now) }
 {
     let rest = fixed_at(line, b"tree", bytes)?;
-    let (nodes, line, rest) = nodes_at(alloc, line + 1, rest)?;
+    let (nodes, line, rest) = nodes_at(alloc, names, line + 1, rest)?;
     let rest = fixed_at(line, b"end", rest)?;
     nothing_at(line + 1, rest)?;
     Ok(nodes)

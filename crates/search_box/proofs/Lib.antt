@@ -6,3 +6,4 @@ pub mod Ranked
 pub mod Parts
 pub mod Streets
 pub mod SharedLists
+pub mod SpanBoxes

@@ -1,8 +1,8 @@
 -- The two parts of a box at a place.
-use Rattle.std.specs.Prelude.{◌↔◌, ◌⊎◌, ◌≡◌, ℕ, ◌-◌, ◌≤◌, ℤ, pos, ◌≤ℤ◌, List, length, slice_index, slice_index_or, All}
+use Rattle.std.specs.Prelude.{◌↔◌, ◌⊎◌, ◌≡◌, ℕ, ◌-◌, ◌≤◌, ◌^◌, ℤ, pos, ◌≤ℤ◌, ◌<ℤ◌, unsigned_abs, List, length, slice_index, slice_index_or, All}
 use Rattle.progression.specs.Street.{Street}
 use Rattle.progression.specs.Plan.{Plan}
-use Rattle.linear_theory.specs.Boxes.{Area, IsBoxOf, InBox, IsLoopPlace, IsTurnPlace, low_loop, high_loop, low_turn, high_turn, Span, Ranks, loop_span, turn_span}
+use Rattle.linear_theory.specs.Boxes.{Area, IsBoxOf, IsSpanOf, InBox, IsLoopPlace, IsTurnPlace, low_loop, high_loop, low_turn, high_turn, Span, Ranks, loop_span, turn_span, with_loop, with_turn, root_box}
 use Rattle.search_box.specs.declared.span.At.{At}
 use Rattle.search_box.specs.declared.span.At.TheVariants.{Loop, Turn}
 
@@ -18,6 +18,34 @@ low_part box (Turn i rank) = low_turn box i rank
 abbrev pub high_part : Area → At → Area
 high_part box (Loop i at) = high_loop box i at
 high_part box (Turn i rank) = high_turn box i rank
+
+-- ---- the span of a place's link or signal; the place's own number plays no part in it
+-- the link or signal is there
+abbrev pub HasSpan : Area → At → Type 0
+HasSpan box (Loop i at) = (1 ≤ i) × (i ≤ length box.loops)
+HasSpan box (Turn i rank) = (1 ≤ i) × (i ≤ length box.turns)
+
+-- ranks are whole numbers here, like block sums
+abbrev pub span_at : Area → At → Span
+span_at box (Loop i at) = loop_span box i
+span_at box (Turn i rank) = record { least = pos (turn_span box i).least; most = pos (turn_span box i).most }
+
+-- the same box with another span there
+abbrev pub with_span : Area → At → Span → Area
+with_span box (Loop i at) s = with_loop box i s
+with_span box (Turn i rank) s = with_turn box i (record { least = unsigned_abs s.least; most = unsigned_abs s.most })
+
+-- both ends are numbers of 32 bits from 0 on; at a signal they have to be
+abbrev pub AreRanks : Span → Type 0
+AreRanks s = (pos 0 ≤ℤ s.least) × (s.least <ℤ pos (2 ^ 32)) × (pos 0 ≤ℤ s.most) × (s.most <ℤ pos (2 ^ 32))
+
+abbrev pub FitsAt : At → Span → Type 0
+FitsAt (Loop i at) s = Unit {0}
+FitsAt (Turn i rank) s = AreRanks s
+
+-- it is the root box's span there, or is not empty and lies within it
+abbrev pub IsSpanAt : Street → At → Span → Type 0
+IsSpanAt a place s = IsSpanOf (span_at (root_box a) place) s
 
 -- a block sum within a span, and a rank within ranks
 pub record IsWithin (s : Span) (sum : ℤ) : Type 0 where

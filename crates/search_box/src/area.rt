@@ -4,6 +4,7 @@ ghost use Rattle.std.specs.Prelude.{◌≡◌, ◌↔◌, ◌≤◌, length, All
 ghost use Rattle.progression.specs.Plan.{Plan};
 ghost use Rattle.progression.specs.Good.{Good};
 ghost use Rattle.linear_theory.specs.Counts.{IsStreet};
+ghost use Rattle.search_box.specs.Places.{AreRanks};
 ghost use Rattle.linear_theory.specs.Boxes.{root_box, IsRoot, IsBoxOf, InBox, loop_span, turn_span, with_loop, with_turn};
 
 use crate::lists::{copied, replaced};
@@ -21,11 +22,25 @@ pub(crate) struct RankSpan {
     pub(crate) most: u32,
 }
 
+impl RankSpan {
+    ghost use Rattle.search_box.specs.Seen.{ranks_of, span_of, span_of_ranks};
+
+    pub(crate) fn as_span(self) -> Span
+        ensures value { result ≡ span_of_ranks (ranks_of self) }
+        ensures ranks { AreRanks (span_of result) }
+    {
+        Span {
+            least: i64::from(self.least),
+            most: i64::from(self.most),
+        }
+    }
+}
+
 /// A box, seen as an `Area`: a span of block sums of each link, and a span of shift ranks of each signal.
 #[derive(Debug, Drop)]
 pub struct SearchBox {
-    loops: Vec<Span>,
-    turns: Vec<RankSpan>,
+    pub(crate) loops: Vec<Span>,
+    pub(crate) turns: Vec<RankSpan>,
 }
 
 impl Model for SearchBox {
@@ -94,11 +109,7 @@ impl SearchBox {
         requires last { signal ≤ length self.now.turns }
         ensures { result ≡ span_of_ranks (turn_span self.now signal) }
     {
-        let ranks = self.ranks(signal);
-        Span {
-            least: i64::from(ranks.least),
-            most: i64::from(ranks.most),
-        }
+        self.ranks(signal).as_span()
     }
 
     pub(crate) fn has_link(&self, link: u32) -> bool

@@ -3,12 +3,13 @@
 //! The block sum of a link is what two neighbouring signals and the two lines between them add up to, in fractions of
 //! the cycle; in a good timing it is a whole number. The distinct shifts of a signal's allowed patterns are ranked
 //! upwards from 0. Contracts see a `SearchBox` as an `Area` of the linear model. Start with `SearchBox::root`, which has
-//! room for every good timing, and cut it by `SearchBox::split`.
+//! room for every good timing, and cut it by `SearchBox::split`, or in place by `SearchBox::replace`.
 #![tactic(auto)]
 
 mod area;
 mod laws;
 mod lists;
+mod replace;
 mod root;
 mod share;
 mod shifts;

@@ -31,6 +31,16 @@ impl SearchBox {
         ranks.least <= rank && rank < ranks.most
     }
 
+    /// Whether the box can be split there: there is such a link or signal, and `least <= at < most` in its span.
+    pub fn is_place(&self, place: At) -> bool
+        ensures { IsTrue result ↔ IsPlace self.now place }
+    {
+        match place {
+            At::Loop { link, at } => self.is_loop_place(link, at),
+            At::Turn { signal, rank } => self.is_turn_place(signal, rank),
+        }
+    }
+
     fn split_loop(
         &self,
         alloc: Global,

@@ -1,7 +1,9 @@
 //! Worked boxes: two signals A and B, parts 100, unless a row says otherwise.
 
-ghost use Rattle.std.specs.Prelude.{IfOk, IfSome};
+ghost use Rattle.std.specs.Prelude.{IfOk, IfSome, IsTrue};
 ghost use Rattle.linear_theory.specs.Boxes.{IsBoxOf};
+ghost use Rattle.search_box.specs.Seen.{span_of};
+ghost use Rattle.search_box.specs.Places.{AreRanks};
 
 use crate::{
     At, SearchBox, Span, law_shifts_are_ranked, law_valid_street, root_span, shift_at, shift_count,
@@ -275,6 +277,60 @@ fn splits(rt: HostRuntime) -> Result<(), Fail> {
     ];
     for (street, place, expected) in rows {
         assert!(rt; parts(rt.alloc(), street, place)? == expected);
+    }
+    Ok(())
+}
+
+/// The span that stood at a place of the root box, and the one that stands there after another was put; None where
+/// either box can't be split there.
+fn replaced(
+    alloc: Global,
+    street: Street,
+    place: At,
+    new: Span,
+) -> Result<Option<(Span, Span)>, Fail> {
+    let artery = artery(alloc, street)?;
+    let mut area = root(alloc, &artery)?;
+    if !area.is_place(place) || !are_ranks(new) {
+        return Ok(None);
+    }
+    let former = area.replace(place, new);
+    if !area.is_place(place) {
+        return Ok(None);
+    }
+    Ok(Some((former, area.span_at(place))))
+}
+
+fn are_ranks(span: Span) -> bool
+    ensures { IsTrue result → AreRanks (span_of span) }
+{
+    0 <= span.least && span.least <= 9 && 0 <= span.most && span.most <= 9
+}
+
+#[test]
+fn replacements(rt: HostRuntime) -> Result<(), Fail> {
+    let sums = At::Loop { link: 1, at: 0 };
+    let ranks = At::Turn { signal: 2, rank: 1 };
+    let rows = [
+        (near(), sums, span(0, 3), Some((span(0, 1), span(0, 3)))),
+        (near(), sums, span(1, 1), None),
+        (near(), At::Loop { link: 2, at: 0 }, span(0, 3), None),
+        (
+            with_lefts(),
+            sums,
+            span(0, 2),
+            Some((span(0, 1), span(0, 2))),
+        ),
+        (
+            with_lefts(),
+            ranks,
+            span(1, 2),
+            Some((span(0, 2), span(1, 2))),
+        ),
+        (with_lefts(), ranks, span(0, 1), None),
+    ];
+    for (street, place, new, expected) in rows {
+        assert!(rt; replaced(rt.alloc(), street, place, new)? == expected);
     }
     Ok(())
 }

@@ -2,7 +2,7 @@ use Rattle.std.proofs.Common.{subst}
 use Rattle.std.proofs.lemmas.List.Elements.{All-more}
 use Rattle.plan_text.specs.CertificateText.{IsHeldWeight}
 use Rattle.plan_text.specs.SecondText.{listed_line}
-use Rattle.plan_text.proofs.SecondLines.{more_mapped}
+use Rattle.plan_text.proofs.Written.{more_mapped}
 use Rattle.plan_text.proofs.second_writing.push_multipliers.Goals as goal
 
 pub loop-weight-preserved : goal.loop-weight-preserved

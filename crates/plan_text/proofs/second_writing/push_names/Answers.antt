@@ -1,6 +1,6 @@
 use Rattle.std.proofs.Common.{refl}
 use Rattle.plan_text.specs.SecondText.{row_line}
-use Rattle.plan_text.proofs.SecondLines.{more_mapped}
+use Rattle.plan_text.proofs.Written.{more_mapped}
 use Rattle.plan_text.proofs.second_writing.push_names.Goals as goal
 
 pub loop-row-preserved : goal.loop-row-preserved

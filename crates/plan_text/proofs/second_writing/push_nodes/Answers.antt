@@ -1,6 +1,6 @@
 use Rattle.plan_text.specs.Warrants.{node_of}
 use Rattle.plan_text.specs.SecondText.{listed_node_lines}
-use Rattle.plan_text.proofs.SecondLines.{more_flat}
+use Rattle.plan_text.proofs.Written.{more_flat}
 use Rattle.plan_text.proofs.WrittenTexts.{more_held}
 use Rattle.plan_text.proofs.second_writing.push_nodes.Goals as goal
 
