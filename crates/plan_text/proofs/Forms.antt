@@ -1,13 +1,13 @@
 -- What the form of a leaf says of its multipliers.
 use Rattle.std.proofs.Common.{◌≡◌, ℕ, ◌<◌, ◌≤◌, ◌^◌, Bool, true, false, List, [], ◌∷◌, All, refl, sym, ◌∙◌, ap, subst, arith, unsigned_abs, inl, inr}
-use Rattle.std.specs.Prelude.{◌||◌, ◌⊎◌, nat_le, if◌then◌else◌}
+use Rattle.std.specs.Prelude.{◌||◌, ◌⊎◌, if◌then◌else◌}
 use Rattle.std.specs.List.{list_any}
-use Rattle.std.proofs.lemmas.List.Elements.{All-nil, All-cons, All-head, All-tail}
+use Rattle.std.proofs.lemmas.List.Elements.{All-nil, All-cons, All-head, All-tail, All-weaker}
 use Rattle.std.proofs.lemmas.Bool.Decides.{leb_tells}
 use Rattle.named_row.specs.declared.leaves.Weight.{Weight}
 use Rattle.plan_text.specs.declared.form.Form.{Form}
 use Rattle.plan_text.specs.declared.form.Form.TheVariants.{Over, Plain}
-use Rattle.plan_text.specs.SecondText.{denominator_of, times_denominator, IsWhole, is_wide, is_plain, form_of}
+use Rattle.plan_text.specs.SecondText.{denominator_of, times_denominator, IsWhole, is_wide, form_of, IsWritable}
 
 -- a number fits or is wide
 fits_or_wide : (n : ℕ) → ((is_wide n ≡ true) × (2 ^ 127 ≤ n)) ⊎ ((is_wide n ≡ false) × (n < 2 ^ 127))
@@ -81,3 +81,8 @@ over_from d ws false false e f g =
 
 pub over_says : (d : ℕ) (ws : List Weight) → form_of ws ≡ Over d → IsOver d ws
 over_says d ws e = over_from d ws (is_wide (denominator_of ws)) (any_wide (denominator_of ws) ws) refl refl (sym (form_from ws (is_wide (denominator_of ws)) (any_wide (denominator_of ws) ws) refl refl) ∙ e)
+
+-- so the multipliers can be written in the form of their leaf
+pub writable : (ws : List Weight) (form : Form) → form ≡ form_of ws → All (IsWritable form) ws
+writable ws Plain e = λ k d lt. tt
+writable ws (Over d) e = let h = over_says d ws (sym e) in All-weaker (IsWhole d) (IsWritable (Over d)) (λ w k. (h.small, k)) ws h.wholes

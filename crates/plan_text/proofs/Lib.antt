@@ -4,6 +4,7 @@ pub mod RowOrder
 pub mod ListedRows
 pub mod Places
 pub mod Loop
+pub mod SecondLines
 pub mod Pieces
 pub mod Fields
 pub mod Timings
@@ -30,3 +31,4 @@ pub mod Denominators
 pub mod Multipliers
 pub mod NamedRows
 pub mod RowLists
+pub mod Divisors

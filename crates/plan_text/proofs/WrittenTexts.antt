@@ -1,11 +1,10 @@
 -- The text of a certificate, written piece by piece.
-use Rattle.std.proofs.lemmas.List.{flat_map_more, take_more, map-append, length-map, get_or-map}
+use Rattle.std.proofs.lemmas.List.{length-map, get_or-map}
 use Rattle.std.proofs.lemmas.List.Elements.{All-get_or, All-same, All-push}
 use Rattle.std.proofs.Common.{◌≡◌, ℕ, ◌+◌, ◌<◌, map, length, get_or, take, All, List, [], ◌∷◌, ◌++◌, Option, None, Some, sym, ap, subst, ◌∙◌, arith}
 use Rattle.std.specs.Prelude.{flat_map}
 use Rattle.rational_theory.specs.Rational.{ℚ}
 use Rattle.progression.specs.Plan.{Plan}
-use Rattle.named_row.specs.declared.leaves.Weight.{Weight}
 use Rattle.plan_text.specs.declared.certificate.Claim.{Claim}
 use Rattle.plan_text.specs.declared.certificate.Claim.TheVariants.{Best, NoTiming, Stopped}
 use Rattle.plan_text.specs.declared.certificate.CertNode.{CertNode}
@@ -13,27 +12,12 @@ use Rattle.plan_text.specs.Words.{line_of}
 use Rattle.plan_text.specs.Spelling.{ended, end_line}
 use Rattle.plan_text.specs.Families.{Table, ordinary}
 use Rattle.plan_text.specs.Warrants.{Node, node_of, IsNodeIn, HasTiming, Warrant}
-use Rattle.plan_text.specs.CertificateText.{best_line, open_line, no_timing_line, certificate_line, tree_line, value_key, bound_key, fraction_words, weight_line, node_lines, tree_lines, timing_part, claim_lines, certificate_text, IsHeldTiming, IsHeldNode}
-use Rattle.plan_text.proofs.Written.{more_lines, ended-append}
-
--- one more row
-pub more_rows : (names : Table) (old : List ℕ) (ws : List Weight) (i : ℕ) (d w : Weight) (before after : List ℕ) → i < length ws → w ≡ get_or ws i d → before ≡ old ++ ended (map (weight_line names) (take i ws)) → after ≡ before ++ ended (weight_line names w ∷ []) → after ≡ old ++ ended (map (weight_line names) (take (i + 1) ws))
-more_rows names old ws i d w before after lt is e f =
-    let made : take (i + 1) ws ≡ take i ws ++ w ∷ [] = take_more ws i d lt ∙ ap (λ (y : Weight). take i ws ++ y ∷ []) (sym is) in
-    more_lines old (map (weight_line names) (take i ws)) (weight_line names w ∷ []) before after e f
-    ∙ ap (λ (y : List (List ℕ)). old ++ ended y) (sym (ap (map (weight_line names)) made ∙ map-append (weight_line names) (take i ws) (w ∷ [])))
+use Rattle.plan_text.specs.CertificateText.{best_line, open_line, no_timing_line, certificate_line, tree_line, value_key, bound_key, fraction_words, node_lines, tree_lines, timing_part, claim_lines, certificate_text, IsHeldTiming, IsHeldNode}
+use Rattle.plan_text.proofs.Written.{map_more, more_lines, ended-append}
 
 -- one more node
-nodes_more : (ns : List CertNode) (i : ℕ) (d n : CertNode) → i < length ns → n ≡ get_or ns i d → map node_of (take (i + 1) ns) ≡ map node_of (take i ns) ++ node_of n ∷ []
-nodes_more ns i d n lt is = ap (map node_of) (take_more ns i d lt ∙ ap (λ (y : CertNode). take i ns ++ y ∷ []) (sym is)) ∙ map-append node_of (take i ns) (n ∷ [])
-
-pub more_nodes : (names : Table) (old : List ℕ) (ns : List CertNode) (i : ℕ) (d n : CertNode) (before after : List ℕ) → i < length ns → n ≡ get_or ns i d → before ≡ old ++ ended (flat_map (node_lines names) (map node_of (take i ns))) → after ≡ before ++ ended (node_lines names (node_of n)) → after ≡ old ++ ended (flat_map (node_lines names) (map node_of (take (i + 1) ns)))
-more_nodes names old ns i d n before after lt is e f =
-    more_lines old (flat_map (node_lines names) (map node_of (take i ns))) (node_lines names (node_of n)) before after e f
-    ∙ ap (λ (y : List (List ℕ)). old ++ ended y) (flat_map_more (node_lines names) [] (map node_of (take i ns)) (node_of n) ∙ ap (flat_map (node_lines names)) (sym (nodes_more ns i d n lt is)))
-
 pub more_held : (ns : List CertNode) (i : ℕ) (d n : CertNode) → i < length ns → n ≡ get_or ns i d → All IsHeldNode (map node_of (take i ns)) → IsHeldNode (node_of n) → All IsHeldNode (map node_of (take (i + 1) ns))
-more_held ns i d n lt is before here = All-same IsHeldNode _ _ (nodes_more ns i d n lt is) (All-push IsHeldNode (map node_of (take i ns)) (node_of n) before here)
+more_held ns i d n lt is before here = All-same IsHeldNode _ _ (map_more node_of ns i d n lt is) (All-push IsHeldNode (map node_of (take i ns)) (node_of n) before here)
 
 -- a node of a list is one
 pub node_here : (names : Table) (ns : List CertNode) (i : ℕ) (d n : CertNode) → i < length ns → n ≡ get_or ns i d → All (IsNodeIn names) (map node_of ns) → IsNodeIn names (node_of n)

@@ -97,6 +97,11 @@ abbrev pub multiplier_word : Form → Weight → List ℕ
 multiplier_word Plain w = exact_spelling w.by
 multiplier_word (Over d) w = signed_decimal (times_denominator d w.by)
 
+-- that a leaf of this form can have
+abbrev pub IsWritable : Form → Weight → Type 0
+IsWritable Plain w = Unit {0}
+IsWritable (Over d) w = (d < 2 ^ 127) × IsWhole d w
+
 -- a row by its place in the list, and its multiplier
 abbrev pub listed_line : List RowId → Form → Weight → List ℕ
 listed_line rows form w = line_of (decimal (place_of_row rows w.row) ∷ multiplier_word form w ∷ [])
@@ -108,9 +113,12 @@ unfoldable pub listed_node_lines : List RowId → Node → List (List ℕ)
 listed_node_lines rows (SplitAt at) = line_of (split_words at) ∷ []
 listed_node_lines rows (LeafOf ws) = leaf_lines rows (form_of ws) ws
 
+abbrev pub row_line : RowId → List ℕ
+row_line row = line_of (row_words row)
+
 -- the number of rows, and their names
 abbrev pub row_lines : List RowId → List (List ℕ)
-row_lines rows = line_of (rows_key ∷ decimal (length rows) ∷ []) ∷ map (λ row. line_of (row_words row)) rows
+row_lines rows = line_of (rows_key ∷ decimal (length rows) ∷ []) ∷ map row_line rows
 
 abbrev pub second_lines : Warrant → List (List ℕ)
 second_lines c =

@@ -22,7 +22,7 @@ use std::alloc::Global;
 use time_space::Timing;
 
 /// Writes bytes at the end.
-fn push(out: &mut Vec<u8>, bytes: &[u8]) -> Result<(), Memory>
+pub(crate) fn push(out: &mut Vec<u8>, bytes: &[u8]) -> Result<(), Memory>
     ensures { OnOk result (out.new.items ≡ out.old.items ++ bytes.now) }
 {
     out.extend_from_slice(bytes)?;
@@ -30,7 +30,7 @@ fn push(out: &mut Vec<u8>, bytes: &[u8]) -> Result<(), Memory>
 }
 
 /// Writes a line at the end.
-fn push_line(out: &mut Vec<u8>, line: &[u8]) -> Result<(), Memory>
+pub(crate) fn push_line(out: &mut Vec<u8>, line: &[u8]) -> Result<(), Memory>
     ensures { OnOk result (out.new.items ≡ out.old.items ++ ended (line.now ∷ [])) }
 {
     push(out, line)?;
@@ -38,7 +38,7 @@ fn push_line(out: &mut Vec<u8>, line: &[u8]) -> Result<(), Memory>
 }
 
 /// Writes a fraction after a space, and the end of its line.
-fn push_fraction(alloc: Global, out: &mut Vec<u8>, value: Frac) -> Result<(), Memory>
+pub(crate) fn push_fraction(alloc: Global, out: &mut Vec<u8>, value: Frac) -> Result<(), Memory>
     ensures text { OnOk result (out.new.items ≡ out.old.items ++ 32 ∷ (exact_spelling value ++ 10 ∷ [])) }
     ensures held { OnOk result (FitsFrac value) }
 {
@@ -65,7 +65,7 @@ fn push_index(alloc: Global, out: &mut Vec<u8>, index: u32) -> Result<(), Memory
 }
 
 /// Writes the name of a row.
-fn push_name(
+pub(crate) fn push_name(
     alloc: Global,
     out: &mut Vec<u8>,
     names: &[FamilyName],
@@ -115,7 +115,7 @@ fn push_weights(
 }
 
 /// Writes the line of a split.
-fn push_split(alloc: Global, out: &mut Vec<u8>, place: At) -> Result<(), Memory>
+pub(crate) fn push_split(alloc: Global, out: &mut Vec<u8>, place: At) -> Result<(), Memory>
     ensures text { OnOk result (out.new.items ≡ out.old.items ++ ended (line_of (split_words place) ∷ [])) }
     ensures held { IsHeldNode (SplitAt place) }
 {
@@ -210,7 +210,7 @@ fn push_timing(alloc: Global, out: &mut Vec<u8>, timing: &Option<Timing>) -> Res
 
 /// Writes the lines of a claim and its timing.
 #[tactic(auto, unfolding(crate::specs::CertificateText::claim_lines))]
-fn push_claim(
+pub(crate) fn push_claim(
     alloc: Global,
     out: &mut Vec<u8>,
     claim: &Claim,

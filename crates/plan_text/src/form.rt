@@ -7,7 +7,7 @@ use named_row::Weight;
 use narrow_fraction::{Frac, common_multiple};
 
 /// The greatest size of a number of a leaf.
-const MOST: u128 = 170_141_183_460_469_231_731_687_303_715_884_105_727;
+const MOST: u128 = i128::MAX as u128;
 
 /// How the multipliers of a leaf are written.
 #[derive(Clone, Copy, Debug, PartialEq, Eq)]
@@ -46,6 +46,16 @@ fn fits(denominator: u128, multiplier: Frac) -> bool
         Some(size) => size <= MOST,
         None => false,
     }
+}
+
+/// A multiplier times a multiple of its denominator.
+pub fn whole_over(denominator: u128, multiplier: Frac) -> i128
+    requires small { denominator < 2 ^ 127 }
+    requires whole { unsigned_abs (times_denominator denominator multiplier) < 2 ^ 127 }
+    ensures { result ≡ times_denominator denominator multiplier }
+{
+    let times = (denominator / bottom(multiplier)) as i128;
+    multiplier.num() * times
 }
 
 /// Whether all multipliers times a multiple of their denominators do.
