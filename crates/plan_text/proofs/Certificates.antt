@@ -1,12 +1,11 @@
 -- The two laws of the texts of a certificate: what is read is spelled so, and what is spelled so is read.
-use Rattle.std.proofs.Common.{◌≡◌, ℕ, zero, suc, ◌+◌, ◌*◌, ◌<◌, ◌≤◌, ◌^◌, Bool, true, false, List, [], ◌∷◌, ◌++◌, map, length, All, Option, Some, None, Result, Ok, Err, refl, sym, ap, subst, ◌∙◌, eqb-true, inl, inr, arith}
-use Rattle.std.specs.Prelude.{◌⊎◌, ◌==◌, ◌&&◌, flat_map, IfOk, if◌then◌else◌}
+use Rattle.std.proofs.Common.{◌≡◌, ℕ, ◌+◌, ◌<◌, ◌≤◌, ◌^◌, Bool, true, false, List, [], ◌∷◌, ◌++◌, length, All, None, Result, Ok, Err, refl, sym, ap, subst, ◌∙◌, eqb-true, inl, inr, arith}
+use Rattle.std.specs.Prelude.{◌⊎◌, ◌==◌, flat_map, IfOk, if◌then◌else◌}
 use Rattle.std.specs.Cmp.Lexicographic.{pointwise}
 use Rattle.std.specs.List.{AllByRecursion}
 use Rattle.std.proofs.lemmas.Bool.{and_parts, eq-eqb}
 use Rattle.std.proofs.lemmas.List.Elements.{All-from_recursion, recursion_from_All}
 use Rattle.rational_theory.proofs.Multiples.{IsMultiple}
-use Rattle.narrow_fraction.specs.Fraction.{FitsFrac}
 use Rattle.named_row.specs.declared.leaves.Weight.{Weight}
 use Rattle.named_row.specs.declared.names.RowId.{RowId}
 use Rattle.plan_text.specs.declared.form.Form.{Form}
@@ -19,19 +18,19 @@ use Rattle.plan_text.specs.Lines.{◌>>=◌, Gives, fault, line_at, fixed_at, no
 use Rattle.plan_text.specs.Families.{Table, ordinary, IsNamedIn}
 use Rattle.plan_text.specs.Warrants.{Node, SplitAt, LeafOf, Warrant, AreTrees, IsNodeIn, IsNode, IsCertificate}
 use Rattle.plan_text.specs.CertificateText.{certificate_line, tree_line, claim_lines, node_lines, tree_lines, certificate_lines, certificate_text, IsHeldWeight, IsHeldNode, IsHeldWarrant}
-use Rattle.plan_text.specs.SecondText.{second_line, AscendRows, denominator_of, IsWhole, form_of, rows_of, row_lines, listed_node_lines, second_lines, second_text}
+use Rattle.plan_text.specs.SecondText.{second_line, AscendRows, IsWhole, form_of, rows_of, row_lines, listed_node_lines, second_lines, second_text}
 use Rattle.plan_text.specs.Namings.{Naming, Named, Listed, IsFormed, same_row, is_list}
 use Rattle.plan_text.specs.CertificateReading.{nodes_at, rows_at, Beginning, claim_at, ends_after, tree_at, first_of, second_of, text_by, certificate_of}
-use Rattle.plan_text.proofs.Fields.{bind_ok, guard_ok, moved, same_text, text_same, line_takes, line_again, fixed_takes, fixed_again, nothing_takes}
+use Rattle.plan_text.proofs.Fields.{bind_ok, guard_ok, moved, same_text, line_takes, line_again, fixed_takes, fixed_again, nothing_takes}
 use Rattle.plan_text.proofs.WordLines.{ended_and, ended_is, ended_more}
 use Rattle.plan_text.proofs.FamilyNames.{ordinary_tells}
 use Rattle.plan_text.proofs.Denominators.{denominator_above}
 use Rattle.plan_text.proofs.Forms.{over_says}
 use Rattle.plan_text.proofs.ListedRows.{IsListed, AreListed, rows_ascend, rows_have}
 use Rattle.plan_text.proofs.Multipliers.{Suits, each_divides}
-use Rattle.plan_text.proofs.NamedRows.{IsRowIn, IsOver, IsTold}
+use Rattle.plan_text.proofs.NamedRows.{IsOver}
 use Rattle.plan_text.proofs.RowLists.{list_lines, rows_take, rows_again, all_rows, few_rows}
-use Rattle.plan_text.proofs.NodeLines.{lines_by, form_by, ToldWeight, ToldNode, nodes_take, nodes_again, enough, line_after_all}
+use Rattle.plan_text.proofs.NodeLines.{lines_by, ToldWeight, ToldNode, nodes_take, nodes_again, enough, line_after_all}
 use Rattle.plan_text.proofs.Claims.{claim_takes, claim_again, claim_end}
 
 -- ---- the tree

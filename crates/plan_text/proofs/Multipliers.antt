@@ -1,10 +1,10 @@
 -- A multiplier that is read is the one that was written, and what was written is read again.
-use Rattle.std.proofs.Common.{◌≡◌, ℕ, ℤ, pos, negsuc, zero, suc, ◌+◌, ◌*◌, ◌/◌, ◌<◌, ◌≤◌, ◌^◌, Bool, true, false, List, [], ◌∷◌, ◌++◌, Option, Some, None, Result, Ok, eqb-true, lt-ltb, refl, sym, ap, subst, ◌∙◌, unsigned_abs, append-nil, arith}
+use Rattle.std.proofs.Common.{◌≡◌, ℕ, ℤ, pos, negsuc, zero, suc, ◌+◌, ◌*◌, ◌/◌, ◌<◌, ◌≤◌, ◌^◌, Bool, true, false, List, [], ◌∷◌, ◌++◌, Option, Some, None, Ok, eqb-true, lt-ltb, refl, sym, ap, subst, ◌∙◌, unsigned_abs, append-nil, arith}
 use Rattle.std.specs.Prelude.{◌==◌, ◌&&◌, ◌*ℤ◌, int_lt, int_div, if◌then◌else◌}
 use Rattle.std.specs.List.{AllByRecursion}
 use Rattle.std.specs.Fmt.{decimal, signed_decimal}
 use Rattle.std.proofs.Math.IntN.{*ℤ_comm}
-use Rattle.std.proofs.lemmas.Bool.{and_parts, eq-eqb}
+use Rattle.std.proofs.lemmas.Bool.{eq-eqb}
 use Rattle.std.proofs.lemmas.Int.{ints}
 use Prim.Native.Nat.{◌∣◌}
 use native.Mathlib.Nat.{mul-div_cancel', eq_of_mul-eq-mul_right, dvd-mul_left}
@@ -26,7 +26,7 @@ use Rattle.plan_text.specs.Fractions.{exact}
 use Rattle.plan_text.specs.SecondText.{denominator_from, times_denominator, multiplier_word}
 use Rattle.plan_text.specs.Namings.{IsFormed}
 use Rattle.plan_text.specs.CertificateReading.{or_number, over_whole, multiplier_of, above_zero}
-use Rattle.plan_text.proofs.Fields.{bind_ok, IsKey}
+use Rattle.plan_text.proofs.Fields.{IsKey}
 use Rattle.plan_text.proofs.ExactWords.{exact_takes, exact_again, exact_word}
 use Rattle.plan_text.proofs.WordLines.{number_ok}
 use Rattle.plan_text.proofs.Denominators.{denominator_multiple}

@@ -1,6 +1,6 @@
 -- A row that a leaf names is the row that was written, and what was written is read again.
-use Rattle.std.proofs.Common.{◌≡◌, ℕ, zero, suc, ◌+◌, ◌-◌, ◌<◌, ◌≤◌, ◌^◌, Bor, Bool, true, false, List, [], ◌∷◌, ◌++◌, length, get_or, Option, Some, None, Result, Ok, refl, sym, ap, subst, ◌∙◌, ltb, ltb-true, ltb-false, inl, inr, arith}
-use Rattle.std.specs.Prelude.{◌⊎◌, slice_get, slice_index_or}
+use Rattle.std.proofs.Common.{◌≡◌, ℕ, zero, suc, ◌-◌, ◌<◌, ◌≤◌, ◌^◌, List, [], ◌∷◌, ◌++◌, length, get_or, Option, Some, None, Ok, refl, sym, ap, subst, ◌∙◌, arith}
+use Rattle.std.specs.Prelude.{slice_get, slice_index_or}
 use Rattle.std.specs.Fmt.{decimal}
 use Rattle.std.specs.List.{AllByRecursion}
 use Rattle.named_row.specs.declared.leaves.Weight.{Weight}
@@ -13,15 +13,15 @@ use Rattle.plan_text.specs.Families.{Table, IsNamedIn}
 use Rattle.plan_text.specs.CertificateText.{row_words_in}
 use Rattle.plan_text.specs.SecondText.{AscendRows, place_of_row, multiplier_word}
 use Rattle.plan_text.specs.Namings.{Naming, Named, Listed, IsFormed}
-use Rattle.plan_text.specs.CertificateReading.{or_number, range_of, row_of, listed_row, row_in, multiplier_of, cut_last, weight_by, weight_of}
-use Rattle.plan_text.proofs.Fields.{bind_ok, moved, number_takes, number_again, IsKey}
+use Rattle.plan_text.specs.CertificateReading.{or_number, range_of, listed_row, row_in, multiplier_of, cut_last, weight_by, weight_of}
+use Rattle.plan_text.proofs.Fields.{bind_ok, moved, number_takes, number_again}
 use Rattle.plan_text.proofs.ExactWords.{decimal_word}
 use Rattle.plan_text.proofs.WordLines.{number_ok, AreWords, words_again}
 use Rattle.plan_text.proofs.FamilyNames.{Tells}
 use Rattle.plan_text.proofs.WeightLines.{row_takes, row_again, row_line_again, cut_last_again, cut_last_takes}
 use Rattle.plan_text.proofs.ListedRows.{IsListed}
 use Rattle.plan_text.proofs.Places.{place_at, place_of_listed}
-use Rattle.plan_text.proofs.Multipliers.{MultiplierOf, multiplier_takes, Suits, multiplier_again, multiplier_is_word}
+use Rattle.plan_text.proofs.Multipliers.{multiplier_takes, Suits, multiplier_again, multiplier_is_word}
 use Rattle.plan_text.proofs.RowLoop.{ReadsAs}
 use Rattle.narrow_fraction.specs.Fraction.{FitsFrac}
 

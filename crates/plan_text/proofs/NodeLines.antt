@@ -4,7 +4,7 @@ use Rattle.std.specs.Prelude.{if◌then◌else◌, flat_map}
 use Rattle.std.proofs.lemmas.Bool.{eq-eqb}
 use Rattle.std.specs.Fmt.{decimal, signed_decimal}
 use Rattle.std.specs.List.{AllByRecursion}
-use Rattle.std.proofs.lemmas.List.Elements.{All-from_recursion, recursion_from_All}
+use Rattle.std.proofs.lemmas.List.Elements.{All-from_recursion}
 use Rattle.search_box.specs.declared.span.At.{At}
 use Rattle.search_box.specs.declared.span.At.TheVariants.{Loop, Turn}
 use Rattle.plan_text.specs.declared.fault.BadText.{BadText}
@@ -21,7 +21,7 @@ use Rattle.plan_text.specs.Fractions.{integer, exact}
 use Rattle.plan_text.specs.Lines.{◌>>=◌, fault, ranged, line_at, words_at}
 use Rattle.plan_text.specs.Families.{Table, IsNamedIn}
 use Rattle.plan_text.specs.Warrants.{Node, SplitAt, LeafOf, AreTrees, Ascend, IsNodeIn, IsNode}
-use Rattle.plan_text.specs.CertificateText.{split_key, loop_key, turn_key, leaf_key, split_words, weight_line, node_lines, IsHeldWeight, IsHeldNode}
+use Rattle.plan_text.specs.CertificateText.{split_key, loop_key, turn_key, leaf_key, split_words, node_lines, IsHeldWeight, IsHeldNode}
 use Rattle.plan_text.specs.SecondText.{plain_key, head_words, form_of, listed_node_lines}
 use Rattle.plan_text.specs.Namings.{Naming, Named, Listed, fractions_key, IsFormed, same_form, is_form}
 use Rattle.plan_text.specs.CertificateReading.{row_of_weight, weight_of, above_zero, leaf_count, over_head, or_number, range_of, index_of, split_of, head_of, rest_of, node_at, weights_at, owed_after, nodes_at}

@@ -1,6 +1,6 @@
 -- The list of rows that is read is the one that was written, and what was written is read again.
-use Rattle.std.proofs.Common.{◌≡◌, ℕ, zero, suc, ◌+◌, ◌*◌, ◌-◌, ◌<◌, ◌≤◌, ◌^◌, true, List, [], ◌∷◌, ◌++◌, map, length, All, Option, None, Some, Ok, refl, sym, ap, subst, ◌∙◌, append-nil, inl, inr, arith}
-use Rattle.std.specs.Prelude.{◌⊎◌, ◌==◌, ◌||◌, ◌&&◌, nat_lt, if◌then◌else◌}
+use Rattle.std.proofs.Common.{◌≡◌, ℕ, ◌+◌, ◌*◌, ◌-◌, ◌<◌, ◌^◌, true, List, [], ◌∷◌, ◌++◌, map, length, All, Option, None, Some, Ok, refl, sym, ap, subst, ◌∙◌, append-nil, inl, inr, arith}
+use Rattle.std.specs.Prelude.{◌⊎◌, ◌==◌, ◌||◌, ◌&&◌, nat_lt}
 use Rattle.std.specs.Fmt.{decimal}
 use Rattle.std.specs.List.{AllByRecursion}
 use Rattle.std.proofs.lemmas.Bool.Decides.{nat_tests}
@@ -11,7 +11,7 @@ use Rattle.plan_text.specs.declared.fault.TextFault.TheVariants.{Shape}
 use Rattle.plan_text.specs.Words.{is_text, line_of}
 use Rattle.plan_text.specs.Numbers.{number}
 use Rattle.plan_text.specs.Lines.{◌>>=◌, ranged, words_at}
-use Rattle.plan_text.specs.Families.{Table, ordinary, IsNamed, IsNamedIn, is_after}
+use Rattle.plan_text.specs.Families.{Table, ordinary, IsNamed, IsNamedIn}
 use Rattle.plan_text.specs.Warrants.{Node, SplitAt, LeafOf, IsNode}
 use Rattle.plan_text.specs.CertificateText.{row_words_in, IsHeldWeight, IsHeldNode}
 use Rattle.plan_text.specs.SecondText.{rows_key, rows_of, AscendRows}

@@ -1,24 +1,18 @@
 -- A row that is read is the row that was written, and what was written is read again.
-use Rattle.std.proofs.Common.{Bor, take, ◌≡◌, ℕ, zero, suc, ◌+◌, ◌-◌, ◌<◌, ◌≤◌, ◌^◌, Bool, true, false, List, [], ◌∷◌, ◌++◌, map, length, Option, Some, None, Ok, refl, sym, ap, subst, ◌∙◌, arith}
+use Rattle.std.proofs.Common.{Bor, take, ◌≡◌, ℕ, zero, suc, ◌-◌, ◌<◌, ◌≤◌, ◌^◌, Bool, true, false, List, [], ◌∷◌, ◌++◌, map, length, Option, Some, None, Ok, refl, sym, ap, subst, ◌∙◌, arith}
 use Rattle.std.specs.Prelude.{if◌then◌else◌, slice_index_or}
 use Rattle.std.specs.Fmt.{decimal}
-use Rattle.std.specs.List.{AllByRecursion}
 use Rattle.std.proofs.lemmas.Bool.{true≢false}
-use Rattle.named_row.specs.declared.leaves.Weight.{Weight}
 use Rattle.named_row.specs.declared.names.RowId.{RowId}
-use Rattle.quantity_text.specs.Exact.{exact_spelling}
-use Rattle.plan_text.specs.declared.fault.TextFault.TheVariants.{Order}
 use Rattle.plan_text.specs.Words.{line_of}
-use Rattle.plan_text.specs.Fractions.{exact}
-use Rattle.plan_text.specs.Lines.{◌>>=◌, fault, words_at}
-use Rattle.plan_text.specs.Families.{Table, family_name_in, family_in, is_lone_in, is_after, IsNamedIn}
-use Rattle.plan_text.specs.Warrants.{Ascend}
-use Rattle.plan_text.specs.CertificateText.{row_words_in, weight_words, weight_line, IsHeldWeight}
-use Rattle.plan_text.specs.CertificateReading.{or_number, range_of, index_of, lone_row, indexed_row, in_family, row_of, last_after, cut_last, last_after, cut_last}
-use Rattle.plan_text.proofs.Fields.{bind_ok, guard_ok, moved, number_takes, number_again}
-use Rattle.plan_text.proofs.ExactWords.{exact_takes, exact_again, exact_word, decimal_word}
+use Rattle.plan_text.specs.Lines.{words_at}
+use Rattle.plan_text.specs.Families.{Table, family_name_in, family_in, is_lone_in, IsNamedIn}
+use Rattle.plan_text.specs.CertificateText.{row_words_in}
+use Rattle.plan_text.specs.CertificateReading.{range_of, index_of, lone_row, indexed_row, in_family, row_of, last_after, cut_last, last_after, cut_last}
+use Rattle.plan_text.proofs.Fields.{bind_ok, moved, number_takes, number_again}
+use Rattle.plan_text.proofs.ExactWords.{decimal_word}
 use Rattle.plan_text.proofs.FamilyNames.{Tells, family_takes}
-use Rattle.plan_text.proofs.WordLines.{number_ok, AreWords, words_take, words_shorter, words_again, ended_and}
+use Rattle.plan_text.proofs.WordLines.{AreWords, words_again}
 
 -- ---- an index
 

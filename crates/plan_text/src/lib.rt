@@ -48,6 +48,8 @@ mod cert_tests;
 #[cfg(test)]
 mod limit_tests;
 #[cfg(test)]
+mod second_reading_tests;
+#[cfg(test)]
 mod second_tests;
 #[cfg(test)]
 mod tests;

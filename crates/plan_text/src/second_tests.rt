@@ -1,4 +1,4 @@
-//! Certificates in format 2, as they are written.
+//! Certificates in format 2, as they are written and read again.
 
 use super::*;
 use std::alloc::Global;
@@ -284,9 +284,21 @@ fn is_written_so(alloc: Global, case: &Case) -> bool {
     }
 }
 
+/// Whether the second text is read as the certificate with this first text.
+fn is_read_so(alloc: Global, case: &Case) -> bool {
+    let Ok(certificate) = read_certificate(alloc, case.second.as_bytes()) else {
+        return false;
+    };
+    match write_certificate(alloc, &certificate) {
+        Ok(text) => text.as_slice() == case.first.as_bytes(),
+        Err(_) => false,
+    }
+}
+
 #[test]
 fn texts_in_format_2(rt: HostRuntime) {
     for case in &CASES {
         assert!(rt; is_written_so(rt.alloc(), case), "{}", case.first);
+        assert!(rt; is_read_so(rt.alloc(), case), "{}", case.second);
     }
 }

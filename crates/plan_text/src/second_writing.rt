@@ -1,13 +1,14 @@
 //! The text of a certificate in format 2, written.
 
-ghost use Rattle.std.specs.Prelude.{◌≡◌, ◌++◌, ◌∷◌, [], All, None, map, flat_map, IfOk, OnOk};
+ghost use Rattle.std.specs.Prelude.{◌≡◌, ◌++◌, ◌∷◌, [], All, None, Ok, map, flat_map, IfOk, OnOk};
 ghost use Rattle.std.specs.Fmt.{decimal, signed_decimal};
 ghost use Rattle.plan_text.specs.Words.{line_of};
 ghost use Rattle.plan_text.specs.Spelling.{ended};
 ghost use Rattle.plan_text.specs.Families.{IsNamed};
 ghost use Rattle.plan_text.specs.Warrants.{node_of};
-ghost use Rattle.plan_text.specs.CertificateText.{IsHeldWeight, IsHeldNode, IsHeldWarrant};
+ghost use Rattle.plan_text.specs.CertificateText.{IsHeldWeight, IsHeldNode};
 ghost use Rattle.plan_text.specs.SecondText.{AscendRows, place_of_row, multiplier_word, IsWritable, head_words, listed_line, leaf_lines, form_of, listed_node_lines, row_line, row_lines, second_text};
+ghost use Rattle.plan_text.specs.CertificateReading.{certificate_of};
 
 use crate::cert_writing::{push, push_claim, push_fraction, push_line, push_name, push_split};
 use crate::certificate::{CertNode, Certificate};
@@ -182,11 +183,11 @@ fn push_nodes(
     Ok(())
 }
 
-/// The one text of a certificate in format 2: the rows that its leaves name are listed once, and a leaf has whole numbers
+/// The one text of a certificate in format 2, which is read again as that very certificate: the rows that its leaves name are listed once, and a leaf has whole numbers
 /// over their least common denominator, or fractions where these don't all fit.
 pub fn write_second(alloc: Global, certificate: &Certificate) -> Result<Vec<u8>, Memory>
     ensures text { IfOk result (λ v. v.items ≡ second_text certificate.now) }
-    ensures held { OnOk result (IsHeldWarrant certificate.now) }
+    ensures read_back { IfOk result (λ v. certificate_of v.items ≡ Ok certificate.now) }
 {
     let rows = rows_of(alloc, certificate.nodes.as_slice())?;
     let mut out = Vec::new(alloc);

@@ -21,8 +21,8 @@ returns-in_err-row-clause-exact c =
 pub loop-place-preserved : goal.loop-place-preserved
 loop-place-preserved c = record {
   read =
-    rw c.in_ok-push.ensures.items (goes_on own_row (row_of (table_of c.args.names.now)) c.loop-place.rows.items c.args.count c.loop-place.place c.loop-place.last c.args.line c.loop-place.rest.now (map (λ w. w.now) c.as_slice.result.now, c.in_ok-words.after.now) c.in_ok-row.row
-    (names_at (table_of c.args.names.now) c.args.count None c.args.line c.args.bytes.now) c.loop-place-test.true (words_are c.as_slice.result.now c.in_ok-words.words.items c.in_ok-words.after.now _ c.as_slice.ensures.value c.in_ok-words.ensures) c.in_ok-row.ensures c.loop-place.invariant.read);
+      rw c.in_ok-push.ensures.items (goes_on own_row (row_of (table_of c.args.names.now)) c.loop-place.rows.items c.args.count c.loop-place.place c.loop-place.last c.args.line c.loop-place.rest.now (map (λ w. w.now) c.as_slice.result.now, c.in_ok-words.after.now) c.in_ok-row.row
+      (names_at (table_of c.args.names.now) c.args.count None c.args.line c.args.bytes.now) c.loop-place-test.true (words_are c.as_slice.result.now c.in_ok-words.words.items c.in_ok-words.after.now _ c.as_slice.ensures.value c.in_ok-words.ensures) c.in_ok-row.ensures c.loop-place.invariant.read);
   lines = omega (arith, c.loop-place.invariant.lines, words_shorter (c.args.line + c.loop-place.place) c.loop-place.rest.now (map (λ w. w.now) c.in_ok-words.words.items, c.in_ok-words.after.now) c.in_ok-words.ensures);
 }
 

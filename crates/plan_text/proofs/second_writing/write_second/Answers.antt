@@ -7,6 +7,8 @@ use Rattle.plan_text.specs.Families.{IsNamed}
 use Rattle.plan_text.specs.Warrants.{Warrant, node_of}
 use Rattle.plan_text.specs.CertificateText.{IsHeldNode, IsHeldWarrant}
 use Rattle.plan_text.specs.SecondText.{second_line, row_lines, rows_of, listed_node_lines, second_text}
+use Rattle.plan_text.specs.CertificateReading.{certificate_of}
+use Rattle.plan_text.proofs.Certificates.{second_text_again}
 use Rattle.plan_text.proofs.ListedRows.{rows_named}
 use Rattle.plan_text.proofs.SecondLines.{second_written}
 use Rattle.plan_text.proofs.second_writing.write_second.Goals as goal
@@ -36,4 +38,5 @@ returns c =
       timing = c.in_ok-push_claim.ensures.timing;
       nodes = subst (λ (y : List CertNode). All IsHeldNode (map node_of y)) c.as_slice-4.ensures.value c.in_ok-push_nodes.ensures.held;
     } in
-    record { text = text ∙ ap second_text c.certificate.view_is; held = subst IsHeldWarrant c.certificate.view_is held }
+    let whole = text ∙ ap second_text c.certificate.view_is in
+    record { text = whole; read_back = ap certificate_of whole ∙ second_text_again _ (subst IsHeldWarrant c.certificate.view_is held) }
