@@ -12,30 +12,44 @@ mod cert_writing;
 mod certificate;
 mod claim;
 mod cut;
+mod divisor_law;
 mod family;
 mod fault;
+mod form;
 mod fraction;
 mod laws;
 mod lines;
+mod listed;
+mod naming;
 mod number;
 mod reading;
 mod row;
+mod row_list;
+mod second_writing;
 mod tree;
 mod writing;
 
 pub use cert_reading::read_certificate;
-pub use cert_writing::write_certificate;
+pub use cert_writing::{push_tree, write_certificate};
 pub use certificate::{CertNode, Certificate, Claim};
-pub use family::{family_name, is_lone};
+pub use divisor_law::law_divisor_rule;
+pub use family::{FAMILIES, FamilyName, family_name, is_lone};
 pub use fault::{BadText, TextEnd, TextFault};
 pub use laws::{law_first_bad, law_one_text, law_reads_back};
+pub use naming::Naming;
 pub use number::is_numeral;
 pub use reading::read_timing;
+pub use second_writing::write_second;
+pub use tree::tree_at;
 pub use writing::write_timing;
 
 #[cfg(test)]
 mod cert_tests;
 #[cfg(test)]
 mod limit_tests;
+#[cfg(test)]
+mod second_reading_tests;
+#[cfg(test)]
+mod second_tests;
 #[cfg(test)]
 mod tests;
