@@ -11,7 +11,7 @@ use Rattle.progression.specs.Best.{Best, NoTiming, Bounded, weighted_band}
 use Rattle.time_space.specs.Failing.{Fails}
 use Rattle.time_space.specs.declared.failing.Failing.{Failing}
 use Rattle.plan_text.specs.Warrants.{Warrant}
-use Rattle.plan_text.specs.CertificateText.{certificate_text}
+use Rattle.plan_text.specs.SecondText.{second_text}
 use Rattle.plan_text.specs.CertificateReading.{certificate_of}
 use Rattle.plan_text.specs.declared.certificate.Claim.{Claim}
 use Rattle.plan_text.specs.declared.certificate.Claim.TheVariants as claim
@@ -245,8 +245,8 @@ CheckSays = (before now : Outside) (artery certificate : List ℕ) (c : Cause) �
 pub record PutsRenewed (before now : Outside) (certificate new : List ℕ) : Type 0 where
   pub warrant : Warrant
   pub text : Reads Certificate (before.holds certificate) warrant
-  pub put : HoldsExactly (now.holds new) (certificate_text warrant)
-  pub read_back : certificate_of (certificate_text warrant) ≡ Ok warrant
+  pub put : HoldsExactly (now.holds new) (second_text warrant)
+  pub read_back : certificate_of (second_text warrant) ≡ Ok warrant
 
 abbrev pub RenewSays : Type 0
 RenewSays = (before now : Outside) (certificate new : List ℕ) (c : Cause) → Ends before now (Some (Renew certificate new)) c → number_of c ≡ 0 → PutsRenewed before now certificate new

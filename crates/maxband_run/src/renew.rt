@@ -7,7 +7,7 @@ ghost use Rattle.maxband_run.specs.Renew.{renewed_line, IsRenewal};
 use crate::answer::{Answer, Put};
 use crate::cause::Cause;
 use narrow_fraction::Memory;
-use plan_text::{Certificate, write_certificate};
+use plan_text::{Certificate, write_second};
 use std::alloc::{AllocError, Global};
 
 fn renewed_line(alloc: Global) -> Result<String, AllocError>
@@ -24,7 +24,7 @@ pub fn renew<'a>(
 ) -> Result<Answer<'a>, Memory>
     ensures finds { IfOk result (λ a. (bytes : List ℕ) × IsRenewal certificate.now a.cause a.lines.items bytes × (option_map view a.put ≡ Some (named name.now bytes))) }
 {
-    let bytes = write_certificate(alloc, certificate)?;
+    let bytes = write_second(alloc, certificate)?;
     let lines = renewed_line(alloc)?.into_bytes();
     Ok(Answer {
         cause: Cause::Done,

@@ -12,7 +12,7 @@ use artery_model::Artery;
 use branch_tree::{Found, Verdict};
 use certified_search::{Searched, search_and_check};
 use narrow_fraction::Memory;
-use plan_text::{Claim, write_certificate};
+use plan_text::{Claim, write_second};
 use std::alloc::Global;
 
 /// What a search found, what its certificate claims, and the text of that certificate.
@@ -44,7 +44,7 @@ pub fn search_and_tell(alloc: Global, artery: &Artery, limit: Option<u64>) -> Re
     ensures good { IfOk result (λ s. IfSome s.found.timing (λ plan. Good artery.now plan)) }
 {
     let Searched { found, certificate } = search_and_check(alloc, artery, limit)?;
-    let text = write_certificate(alloc, &certificate)?;
+    let text = write_second(alloc, &certificate)?;
     Ok(Told {
         found,
         claim: certificate.claim,
