@@ -1,5 +1,5 @@
 -- The plan keeps the rules that speak of no band, and of the others only a least band may fail.
-use Rattle.std.proofs.Common.{◌≡◌, ℕ, zero, suc, ℤ, pos, ◌+ℤ◌, ◌*◌, ◌≤◌, List, length, refl, sym, ◌∙◌, ap, subst, arith}
+use Rattle.std.proofs.Common.{◌≡◌, ℕ, zero, suc, ℤ, pos, unsigned_abs, ◌+ℤ◌, ◌≤ℤ◌, ◌*◌, ◌≤◌, List, length, refl, sym, ◌∙◌, ap, subst, arith}
 use Rattle.std.proofs.lemmas.List.{length-map}
 use Rattle.std.proofs.lemmas.Int.{ints}
 use Rattle.std.proofs.Math.Nat.{mul-le-mul_right}
@@ -23,9 +23,15 @@ use Rattle.time_space.specs.declared.failing.Failing.TheVariants as failing
 use Rattle.time_space.proofs.FinerGrids.{base_both}
 use Rattle.time_space.proofs.Firsts.{not_both}
 use Rattle.time_space.proofs.RulesOut.{not_base}
-use Rattle.band_measure.specs.Pairs.{RunsOn, with_pair, with_pairs}
+use Rattle.band_measure.specs.Pairs.{RunsOn, OwnPair, with_pair, with_pairs}
 use Rattle.second_plan.specs.Seconds.{IsWholeCycle}
+use Rattle.second_plan.specs.Cut.{IsCut}
+use Rattle.second_plan.specs.declared.bands.Bands.{Bands}
+use Rattle.second_plan.proofs.Cuts.{cut_ratio, cut_equal}
 use Rattle.second_plan.specs.Grid.{fineness, in_seconds}
+
+pub natural : (z : ℤ) → pos 0 ≤ℤ z → pos (unsigned_abs z) ≡ z
+natural z h = omega (arith, ints)
 
 module _ (a : Street) (t : Plan) (valid : IsValid a) (base : IsBase a t) (k : ℕ) (offsets : List ℕ) (whole_cycle : IsWholeCycle a k) (some : 1 ≤ k) (long : length offsets ≡ count a) where
   fine_least : 1 ≤ fineness a
@@ -35,7 +41,7 @@ module _ (a : Street) (t : Plan) (valid : IsValid a) (base : IsBase a t) (k : �
   fine_base : IsBase a (finer (fineness a) t)
   fine_base = (base_both a t (fineness a) valid base.plan.unit fine_least).0 base
 
-  unit_least : 2 ≤ 2 * k * t.grid
+  pub unit_least : 2 ≤ 2 * k * t.grid
   unit_least = let g = base.plan.grid in let m : 1 * 1 ≤ k * t.grid = grind (arith, mul-le-mul_right) in omega (arith, m)
 
   cycle_is : cycle a (in_seconds a t k offsets) ≡ k * (t.grid * fineness a)
@@ -108,3 +114,20 @@ module _ (a : Street) (p : Plan) (base : IsBase a p) (ratio : RatioHolds a.head.
   only_least (failing.Outbound i tick) h = let w = h.fails in absurd (not_both a p Outbound w.at w.here.after (outbound w.at w.on_way) w.here.blocked)
   only_least (failing.Inbound i tick) h = let w = h.fails in absurd (not_both a p Inbound w.at w.here.after (inbound w.at w.on_way) w.here.blocked)
   only_least f h = absurd (not_base a p f h (omega arith) base)
+
+-- ---- of a plan whose bands are cut
+module _ (a : Street) (t : Plan) (valid : IsValid a) (base : IsBase a t) (k : ℕ) (offsets : List ℕ) (whole_cycle : IsWholeCycle a k) (some : 1 ≤ k) (long : length offsets ≡ count a) (own : OwnPair) where
+  pub least_alone : (x : ℕ) (o : ℕ) (y : ℕ) (i : ℕ) (wide bands : Bands) → IsCut a wide bands → o ≤ wide.outbound → i ≤ wide.inbound → o ≡ bands.outbound → i ≡ bands.inbound
+      → RunsOn a (in_seconds a t k offsets) Outbound (pos x) wide.outbound → RunsOn a (in_seconds a t k offsets) Inbound (pos y) wide.inbound
+      → (p : Plan) → p ≡ with_pairs (pos x) o (pos y) i (in_seconds a t k offsets) → (f : Failing) → IsFirstFailing a p f → (d : Dir) × (f ≡ failing.Least d)
+  least_alone x o y i wide bands cut l m q r out inward p is f first =
+      let plan = with_pairs (pos x) o (pos y) i (in_seconds a t k offsets) in
+      let n = unsigned_abs a.head.ratio.num in
+      let e = natural a.head.ratio.num (let w = valid.ratio.least in omega (arith, ints)) in
+      only_least a plan
+      (plan_base a t valid base k offsets whole_cycle some long (pos x) o (pos y) i)
+      (subst (λ v. RatioHolds a.head.ratio o v) (sym r) (subst (λ v. RatioHolds a.head.ratio v bands.inbound) (sym q) (cut_ratio a n e wide bands cut)))
+      (λ equal. q ∙ cut_equal a n e wide bands cut equal ∙ sym r)
+      ((own a plan Outbound).1 (runs_narrow a (in_seconds a t k offsets) (pos x) wide.outbound o Outbound l out))
+      ((own a plan Inbound).1 (runs_narrow a (in_seconds a t k offsets) (pos y) wide.inbound i Inbound m inward))
+      f (subst (λ r. IsFirstFailing a r f) is first)

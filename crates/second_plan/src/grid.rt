@@ -130,6 +130,8 @@ pub fn timed(
         (in_seconds artery.now timing.now seconds offsets.now)) }
 {
     artery.known_valid();
+    // its contract says what a timing's lists are
+    let _ = timing.count();
     let fineness = fineness(artery);
     let grid = grid(artery, timing);
     let unit = unit(timing, seconds);

@@ -53,7 +53,6 @@ fn with_cut_bands(
     law_pairs_make_good();
     law_finer_pairs();
     law_own_pair();
-    let _ratio = artery.ratio();
     let bands = cut(
         artery,
         Bands {
@@ -134,7 +133,10 @@ pub fn plan(
         return Err(PlanFault::End(PlanEnd::TooFine { ticks }));
     }
     let offsets = offsets(alloc, artery, timing, seconds)?;
-    let plan = planned(alloc, artery, timing, seconds, offsets.as_slice())?;
+    let plan = match planned(alloc, artery, timing, seconds, offsets.as_slice()) {
+        Ok(plan) => plan,
+        Err(fault) => return Err(fault),
+    };
     match claim.minus(value(artery, &plan)) {
         Ok(loss) => Ok(Plan {
             seconds,
