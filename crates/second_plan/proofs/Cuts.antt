@@ -211,6 +211,7 @@ module _ (k : ℚ) (n : ℕ) (e : pos n ≡ k.num) (b c : Bands) (h : IsCutByRat
     where
       kept_out : (n d o i p q : ℕ) → 1 ≤ n → p ≡ min o (i * d / n) → q ≡ i → n * p ≤ d * q
       kept_out n d o i p q s u v = let f : p * n ≤ i * d = (le-div_iff_mul-le s).0 (omega arith) in rw v (omega (arith, f))
+
       kept_in : (n d o i p q : ℕ) → 0 < d → p ≡ o → q ≡ min i (o * n / d) → d * q ≤ n * p
       kept_in n d o i p q s u v = let f : q * d ≤ o * n = (le-div_iff_mul-le s).0 (omega arith) in rw u (omega (arith, f))
 
@@ -228,6 +229,7 @@ module _ (k : ℚ) (n : ℕ) (e : pos n ≡ k.num) (b c : Bands) (h : IsCutByRat
       most_out n d bo bi p o i s u l m r =
           let f = mul-le-mul_left d m in
           let g : o ≤ bi * d / n = (le-div_iff_mul-le s).1 (omega (arith, f, r)) in omega (arith, g)
+
       most_in : (n d bo bi q o i : ℕ) → 0 < d → q ≡ min bi (bo * n / d) → o ≤ bo → i ≤ bi → d * i ≤ n * o → i ≤ q
       most_in n d bo bi q o i s u l m r =
           let f = mul-le-mul_left n l in

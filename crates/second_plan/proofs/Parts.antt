@@ -22,7 +22,7 @@ part_of x p d r =
     pinned (floor_ℚ x) (p / d)
     ((floor_is (pos (p / d)) x).0 (≤ℚ_in _ _ _ _ _ _ _ _ (whole_ratio (pos (p / d))) r (let e = (le-div_iff_mul-le r.above).0 (self (p / d)) in omega (arith, e))))
     (λ h. let c = ≤ℚ_out _ _ _ _ _ _ _ _ (whole_ratio (pos (suc (p / d)))) r ((floor_is (pos (suc (p / d))) x).1 h) in
-        let e : suc (p / d) ≤ p / d = (le-div_iff_mul-le r.above).1 (omega (arith, c)) in absurd (omega (arith, e)))
+    let e : suc (p / d) ≤ p / d = (le-div_iff_mul-le r.above).1 (omega (arith, c)) in absurd (omega (arith, e)))
   where
     self : (n : ℕ) → n ≤ n
     self n = omega arith

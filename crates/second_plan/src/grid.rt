@@ -91,10 +91,12 @@ fn reds(alloc: Global, offsets: &[u64], grid: u128) -> Result<Vec<u128>, Memory>
     requires grid { grid < 2 ^ 93 }
     ensures { IfOk result (λ made. made.items ≡ map (λ offset. offset * grid) offsets.now) }
 {
-    Ok(offsets
-        .iter()
-        .map(|offset| u128::from(*offset) * grid)
-        .collect(alloc)?)
+    Ok(
+        offsets
+            .iter()
+            .map(|offset| u128::from(*offset) * grid)
+            .collect(alloc)?,
+    )
 }
 
 fn patterns(alloc: Global, timing: &Timing) -> Result<Vec<u32>, Memory>

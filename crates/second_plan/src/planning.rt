@@ -17,9 +17,7 @@ use crate::bands::{Bands, cut};
 use crate::grid::{timed, too_fine};
 use crate::seconds::{offsets, whole_cycle};
 use artery_model::Artery;
-use band_measure::{
-    Widest, law_finer_pairs, law_own_pair, law_pairs_make_good, widest,
-};
+use band_measure::{Widest, law_finer_pairs, law_own_pair, law_pairs_make_good, widest};
 use narrow_fraction::Frac;
 use progression::Dir;
 use std::alloc::Global;
@@ -114,12 +112,7 @@ fn planned(
 /// The plan is good, and no good timing with its grid, unit, patterns, reds and runs has a greater weighted band. Where the claim
 /// bounds the artery the loss is at least 0. The first `PlanEnd` that applies is told, in the order of `PlanEnd`; of the
 /// directions outbound is looked at first.
-pub fn plan(
-    alloc: Global,
-    artery: &Artery,
-    claim: Frac,
-    timing: &Timing,
-) -> Result<Plan, PlanFault>
+pub fn plan(alloc: Global, artery: &Artery, claim: Frac, timing: &Timing) -> Result<Plan, PlanFault>
     requires good { Good artery.now timing.now }
     ensures plan { IfOk result (λ p. IsAnswer artery.now claim timing.now p) }
     ensures best { IfOk result (λ p. IsBestOfOffsets artery.now p.timing) }

@@ -38,9 +38,9 @@ pub returns-in-Err-clause-faults : goal.returns-in-Err-clause-faults
 returns-in-Err-clause-faults c = λ claim.
     let a = c.args.artery.now in let t = c.args.timing.now in
     let least = least_alone a t c.known_valid.ensures c.requires.base c.args.seconds c.args.offsets.now c.requires.whole.seconds.allowed c.requires.some c.requires.whole.rounded.each_has c.law_own_pair.ensures
-        c.args.outbound.first c.cut-bands.result.outbound c.args.inbound.first c.cut-bands.result.inbound
-        (record { outbound = c.args.outbound.band; inbound = c.args.inbound.band }) c.cut-bands.result c.cut-bands.ensures.cut c.cut-bands.ensures.outbound c.cut-bands.ensures.inbound refl refl
-        c.requires.outbound.runs c.requires.inbound.runs c.in_ok-plan.plan c.in_ok-plan.ensures c.in-Err.failing c.in-Err.ensures.first in
+    c.args.outbound.first c.cut-bands.result.outbound c.args.inbound.first c.cut-bands.result.inbound
+    (record { outbound = c.args.outbound.band; inbound = c.args.inbound.band }) c.cut-bands.result c.cut-bands.ensures.cut c.cut-bands.ensures.outbound c.cut-bands.ensures.inbound refl refl
+    c.requires.outbound.runs c.requires.inbound.runs c.in_ok-plan.plan c.in_ok-plan.ensures c.in-Err.failing c.in-Err.ensures.first in
     record {
       k = c.args.seconds;
       offsets = c.args.offsets.now;
