@@ -1,0 +1,6 @@
+mod Rounding
+mod Parts
+mod Cuts
+mod Fine
+mod Rules
+mod Best

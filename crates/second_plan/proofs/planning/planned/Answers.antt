@@ -1,0 +1,22 @@
+use Rattle.std.proofs.Common.{subst}
+use Rattle.progression.specs.declared.parts.Dir.TheVariants.{Outbound, Inbound}
+use Rattle.band_measure.specs.Widest.{NoneRuns}
+use Rattle.second_plan.proofs.planning.planned.Goals as goal
+
+pub returns-in_default-clause-faults : goal.returns-in_default-clause-faults
+returns-in_default-clause-faults c = λ claim. record {
+  k = c.args.seconds;
+  offsets = c.args.offsets.now;
+  whole = c.requires.whole;
+  none = subst (λ p. NoneRuns c.args.artery.now p Outbound) c.in_ok-frame.ensures c.in_default.ensures.widest;
+  before = λ e. absurd (cc);
+}
+
+pub returns-in_default-widest-clause-faults : goal.returns-in_default-widest-clause-faults
+returns-in_default-widest-clause-faults c = λ claim. record {
+  k = c.args.seconds;
+  offsets = c.args.offsets.now;
+  whole = c.requires.whole;
+  none = subst (λ p. NoneRuns c.args.artery.now p Inbound) c.in_ok-frame.ensures c.in_default-widest.ensures.widest;
+  before = λ e. subst (λ p. ¬ NoneRuns c.args.artery.now p Outbound) c.in_ok-frame.ensures c.in-Some.ensures.some;
+}

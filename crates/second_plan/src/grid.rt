@@ -1,0 +1,159 @@
+//! The plan's grid: whether a timing can hold its numbers, and the timing of these numbers.
+
+ghost use Rattle.std.specs.Prelude.{◌≡◌, ◌+◌, ◌<◌, ◌≤◌, ◌*◌, ◌^◌, ℕ, pos, length, map, find, nat_le, [], ◌∷◌, All, None, IfOk};
+ghost use Rattle.progression.specs.Street.{count};
+ghost use Rattle.progression.specs.Plan.{cycle};
+ghost use Rattle.artery_model.specs.Bounds.{most_parts};
+ghost use Rattle.band_measure.specs.Pairs.{with_pairs};
+ghost use Rattle.second_plan.specs.Grid.{fineness, in_seconds, too_fine};
+
+use artery_model::Artery;
+use band_measure::Widest;
+use narrow_fraction::Memory;
+use std::alloc::Global;
+use time_space::{LIMIT, Timing};
+
+/// How many ticks of the plan a tick of the timing has.
+fn fineness(artery: &Artery) -> u128
+    ensures value { result ≡ fineness artery.now }
+    ensures small { result ≤ 7200 }
+{
+    2 * u128::from(artery.parts())
+}
+
+/// The plan's ticks in a second.
+fn grid(artery: &Artery, timing: &Timing) -> u128
+    ensures value { result ≡ timing.now.grid * fineness artery.now }
+    ensures small { result < 2 ^ 93 }
+{
+    timing.grid() * fineness(artery)
+}
+
+/// The plan's ticks in a part.
+fn unit(timing: &Timing, seconds: u64) -> u128
+    requires small { seconds ≤ 3600 }
+    ensures value { result ≡ 2 * seconds * timing.now.grid }
+    ensures small { result < 2 ^ 93 }
+{
+    2 * u128::from(seconds) * timing.grid()
+}
+
+/// The number, where a timing can't hold it.
+fn large(ticks: u128) -> Option<u128>
+    ensures { result ≡ find (λ n. nat_le (2 ^ 80) n) (ticks ∷ []) }
+{
+    if LIMIT <= ticks { Some(ticks) } else { None }
+}
+
+/// The first of the runs on the plan's grid that a timing can't hold.
+fn large_run(runs: &[u128], fineness: u128) -> Option<u128>
+    requires runs { All (λ n. n < 2 ^ 80) runs.now }
+    requires fineness { fineness ≤ 7200 }
+    ensures { result ≡ find (λ n. nat_le (2 ^ 80) n) (map (λ n. n * fineness) runs.now) }
+{
+    runs.iter()
+        .map(|run| *run * fineness)
+        .find(|ticks| LIMIT <= *ticks)
+}
+
+/// The plan's cycle in ticks, where a timing can't hold it.
+fn large_cycle(artery: &Artery, timing: &Timing, seconds: u64) -> Option<u128>
+    requires small { seconds ≤ 3600 }
+    ensures { result ≡ find (λ n. nat_le (2 ^ 80) n) (cycle artery.now (in_seconds artery.now timing.now seconds []) ∷ []) }
+{
+    large(u128::from(artery.parts()) * unit(timing, seconds))
+}
+
+/// The first number of the plan that a timing can't hold.
+pub fn too_fine(artery: &Artery, timing: &Timing, seconds: u64) -> Option<u128>
+    requires small { seconds ≤ 3600 }
+    ensures { result ≡ too_fine artery.now timing.now seconds }
+{
+    let fineness = fineness(artery);
+    large(grid(artery, timing))
+        .or(large_run(timing.run_out(), fineness))
+        .or(large_run(timing.run_in(), fineness))
+        .or(large_cycle(artery, timing, seconds))
+}
+
+/// Each of the numbers so many times.
+fn multiples(alloc: Global, numbers: &[u128], by: u128) -> Result<Vec<u128>, Memory>
+    requires numbers { All (λ n. n < 2 ^ 80) numbers.now }
+    requires by { by ≤ 7200 }
+    ensures { IfOk result (λ made. made.items ≡ map (λ n. n * by) numbers.now) }
+{
+    Ok(numbers.iter().map(|number| *number * by).collect(alloc)?)
+}
+
+/// The starts of the reds, in ticks of the plan.
+fn reds(alloc: Global, offsets: &[u64], grid: u128) -> Result<Vec<u128>, Memory>
+    requires offsets { All (λ n. n < 3600) offsets.now }
+    requires grid { grid < 2 ^ 93 }
+    ensures { IfOk result (λ made. made.items ≡ map (λ offset. offset * grid) offsets.now) }
+{
+    Ok(
+        offsets
+            .iter()
+            .map(|offset| u128::from(*offset) * grid)
+            .collect(alloc)?,
+    )
+}
+
+fn patterns(alloc: Global, timing: &Timing) -> Result<Vec<u32>, Memory>
+    ensures value { IfOk result (λ copy. copy.items ≡ timing.now.patterns) }
+    ensures each { IfOk result (λ copy. All (λ p. (1 ≤ p) × (p ≤ 4)) copy.items) }
+{
+    let mut copy = Vec::new(alloc);
+    copy.extend_from_slice(timing.patterns())?;
+    Ok(copy)
+}
+
+/// The timing of the plan with these pairs.
+pub fn timed(
+    alloc: Global,
+    artery: &Artery,
+    timing: &Timing,
+    seconds: u64,
+    offsets: &[u64],
+    outbound: Widest,
+    inbound: Widest,
+) -> Result<Timing, Memory>
+    requires some { 1 ≤ seconds }
+    requires small { seconds ≤ 3600 }
+    requires fine { too_fine artery.now timing.now seconds ≡ None }
+    requires shape { length timing.now.patterns ≡ count artery.now }
+    requires offsets { length offsets.now ≡ count artery.now }
+    requires below { All (λ n. n < seconds) offsets.now }
+    requires first_out { outbound.first < 2 ^ 80 }
+    requires band_out { outbound.band < 2 ^ 80 }
+    requires first_in { inbound.first < 2 ^ 80 }
+    requires band_in { inbound.band < 2 ^ 80 }
+    ensures { IfOk result (λ plan. plan ≡ with_pairs (pos outbound.first) outbound.band (pos inbound.first) inbound.band
+        (in_seconds artery.now timing.now seconds offsets.now)) }
+{
+    artery.known_valid();
+    // its contract says what a timing's lists are
+    let _ = timing.count();
+    let fineness = fineness(artery);
+    let grid = grid(artery, timing);
+    let unit = unit(timing, seconds);
+    let patterns = patterns(alloc, timing)?;
+    let reds = reds(alloc, offsets, grid)?;
+    let run_out = multiples(alloc, timing.run_out(), fineness)?;
+    let run_in = multiples(alloc, timing.run_in(), fineness)?;
+    match Timing::new(
+        grid,
+        unit,
+        patterns,
+        reds,
+        run_out,
+        run_in,
+        outbound.first,
+        inbound.first,
+        outbound.band,
+        inbound.band,
+    ) {
+        Some(plan) => Ok(plan),
+        None => unreachable!(),
+    }
+}

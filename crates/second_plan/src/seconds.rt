@@ -1,0 +1,111 @@
+//! The cycle and the offsets in whole seconds.
+
+ghost use Rattle.std.specs.Prelude.{◌≡◌, ◌+◌, ◌<◌, ◌≤◌, ◌*◌, ◌-◌, ◌^◌, ◌↔◌, ℕ, ℤ, pos, ◌≤ℤ◌, ◌*ℤ◌, length, All, IfOk, IfSome, MatchOption};
+ghost use Rattle.rational_theory.specs.Rational.{◌≤ℚ◌};
+ghost use Rattle.progression.specs.Street.{count};
+ghost use Rattle.progression.specs.Speeds.{number};
+ghost use Rattle.progression.specs.Plan.{cycle};
+ghost use Rattle.artery_model.specs.Bounds.{most_signals};
+ghost use Rattle.second_plan.specs.Nearest.{IsNearest};
+ghost use Rattle.second_plan.specs.Seconds.{IsWholeCycle, IsSeconds, IsOffset, AreOffsets, red_after};
+
+use crate::nearest::nearest;
+use artery_model::Artery;
+use narrow_fraction::{Frac, Memory};
+use std::alloc::Global;
+use time_space::{Timing, cycle, since_start};
+
+/// The greatest whole number that is not above a limit of the cycle.
+#[tactic(auto, using(crate::proofs::Rounding::most_is))]
+fn most_seconds(limit: Frac) -> u64
+    requires above { pos 1 ≤ℤ limit.num }
+    requires most { limit.num ≤ℤ (pos 3600 *ℤ pos limit.den) }
+    ensures limit { (k : ℕ) → (number k ≤ℚ limit) ↔ (k ≤ result) }
+    ensures small { result ≤ 3600 }
+{
+    let (top, bottom) = (limit.num() as u128, limit.den() as u128);
+    (top / bottom) as u64
+}
+
+/// The least whole number that is not below a limit of the cycle.
+#[tactic(auto, using(crate::proofs::Rounding::least_is))]
+fn least_seconds(limit: Frac) -> u64
+    requires above { pos 1 ≤ℤ limit.num }
+    requires most { limit.num ≤ℤ (pos 3600 *ℤ pos limit.den) }
+    ensures limit { (k : ℕ) → (limit ≤ℚ number k) ↔ (result ≤ k) }
+    ensures some { 1 ≤ result }
+    ensures small { result ≤ 3600 }
+{
+    let (top, bottom) = (limit.num() as u128, limit.den() as u128);
+    ((top - 1) / bottom) as u64 + 1
+}
+
+/// The number, or the nearest from `least` to `most`.
+#[tactic(auto, using(crate::proofs::Rounding::nearest_at, crate::proofs::Rounding::nearest_low, crate::proofs::Rounding::nearest_high))]
+fn nearest_within(number: u128, by: u128, least: u64, most: u64) -> u64
+    requires by { 0 < by }
+    requires room { number < 2 ^ 126 }
+    requires some { least ≤ most }
+    ensures near { IsNearest (λ k. (least ≤ k) × (k ≤ most)) number by result }
+{
+    let rounded = nearest(number, by);
+    if rounded < u128::from(least) {
+        least
+    } else if u128::from(most) < rounded {
+        most
+    } else {
+        rounded as u64
+    }
+}
+
+/// The whole number of seconds within the limits of the cycle that is nearest to the timing's cycle, of two the lesser.
+/// None comes exactly where there is none.
+pub fn whole_cycle(artery: &Artery, timing: &Timing) -> Option<u64>
+    ensures nearest { MatchOption result ((k : ℕ) → ¬ IsWholeCycle artery.now k) (λ k. IsSeconds artery.now timing.now k) }
+    ensures some { IfSome result (λ k. 1 ≤ k) }
+    ensures small { IfSome result (λ k. k ≤ 3600) }
+{
+    let limits = artery.cycle();
+    let least = least_seconds(limits.least);
+    let most = most_seconds(limits.most);
+    if most < least {
+        return None;
+    }
+    Some(nearest_within(cycle(artery, timing), timing.grid(), least, most))
+}
+
+/// The offset of a signal in whole seconds, from 0 to `seconds - 1`.
+fn offset(artery: &Artery, timing: &Timing, seconds: u64, signal: u32) -> u64
+    requires some { 1 ≤ seconds }
+    requires small { seconds ≤ 3600 }
+    requires shape { length timing.now.patterns ≡ count artery.now }
+    requires first { 1 ≤ signal }
+    requires last { signal ≤ count artery.now }
+    ensures value { IsOffset artery.now timing.now seconds signal result }
+    ensures below { result < seconds }
+{
+    let cycle = cycle(artery, timing);
+    let after = since_start(cycle, timing.common_red(1), timing.common_red(signal));
+    let rounded = nearest(u128::from(seconds) * after, cycle);
+    (rounded % u128::from(seconds)) as u64
+}
+
+/// Each signal's offset in whole seconds.
+pub fn offsets(
+    alloc: Global,
+    artery: &Artery,
+    timing: &Timing,
+    seconds: u64,
+) -> Result<Vec<u64>, Memory>
+    requires some { 1 ≤ seconds }
+    requires small { seconds ≤ 3600 }
+    requires shape { length timing.now.patterns ≡ count artery.now }
+    ensures value { IfOk result (λ offsets. AreOffsets artery.now timing.now seconds offsets.items) }
+    ensures below { IfOk result (λ offsets. All (λ n. n < seconds) offsets.items) }
+{
+    let mut offsets = Vec::new(alloc);
+    for place in 0..artery.count() {
+        offsets.push(offset(artery, timing, seconds, place + 1))?;
+    }
+    Ok(offsets)
+}
