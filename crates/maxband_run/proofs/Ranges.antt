@@ -4,7 +4,7 @@ use Rattle.std.specs.Prelude.{option_map, option_and_then, if◌then◌else◌}
 use Rattle.std.specs.Str.{bytes_eq}
 use Rattle.work_meter.specs.Work.{IsBelow}
 use Rattle.maxband_run.specs.Numbers.{usual_work, number_within, signals_of, seed_of, limit_of}
-use Rattle.maxband_run.specs.Command.{Request, Hold, Show, Check, Solve, Renew, Bands, Half, Make, Trial, Sweep, make_of, trial_of, sweep_of, with_two, with_three, with_more, request_of, InLimits}
+use Rattle.maxband_run.specs.Command.{Request, Hold, Show, Check, Solve, Renew, Bands, Round, Half, Make, Trial, Sweep, make_of, trial_of, sweep_of, with_two, with_three, with_more, request_of, InLimits}
 use Rattle.maxband_run.specs.Cycles.{are_cycles, SpellCycles}
 use Rattle.maxband_run.proofs.Spelled.{in_limits}
 use Rattle.maxband_run.proofs.Cycling.{cycles_spelled}
@@ -63,9 +63,10 @@ two_limits word first second =
 three_limits : (word first second third : List ℕ) → InLimits (with_three word first second third)
 three_limits word first second third =
     either (bytes_eq word (codes "solve")) (option_map (Solve first second) (limit_of third)) _ (solve_limits first second (limit_of third) (some_limit third))
+    (either (bytes_eq word (codes "round")) (Some (Round first second third)) _ tt
     (either (bytes_eq word (codes "half")) (Some (Half first second third)) _ tt
     (either (bytes_eq word (codes "trial")) (trial_of first second third) None
-    (trial_limits (signals_of first) (seed_of second) (limit_of third) (in_limits 2 16 first) (some_limit third)) tt))
+    (trial_limits (signals_of first) (seed_of second) (limit_of third) (in_limits 2 16 first) (some_limit third)) tt)))
 
 more_limits : (word first second third : List ℕ) (more : List (List ℕ)) → InLimits (with_more word first second third more)
 more_limits word first second third more =

@@ -17,7 +17,8 @@ pub data Request : Type 0 where
   Solve : List ℕ → List ℕ → Option ℕ → Request  -- the names of a description and of a certificate, and the units that a search may spend, where there is a limit
   Renew : List ℕ → List ℕ → Request  -- the names of a certificate and of the file for its second text
   Bands : List ℕ → List ℕ → Request  -- the names of a description and of a timing
-  Half : List ℕ → List ℕ → List ℕ → Request  -- the same, and the name of the file for a half-cycle plan
+  Round : List ℕ → List ℕ → List ℕ → Request  -- the names of a description and of a certificate, and of the file for a plan in whole seconds
+  Half : List ℕ → List ℕ → List ℕ → Request  -- the names of a description and of a timing, and of the file for a half-cycle plan
   Make : ℕ → ℕ → Request  -- how many signals, and the seed
   Trial : ℕ → ℕ → Option ℕ → Request  -- how many signals, the seed, and the same of a search
   Sweep : List ℕ → List ℕ → Option ℕ → List (List ℕ) → Request  -- the names of a description and of a table, the same of each search, and the words of the cycles
@@ -29,6 +30,7 @@ view (command.Check artery certificate) = Check artery.now certificate.now
 view (command.Solve artery certificate limit) = Solve artery.now certificate.now limit
 view (command.Renew certificate new) = Renew certificate.now new.now
 view (command.Bands artery timing) = Bands artery.now timing.now
+view (command.Round artery certificate plan) = Round artery.now certificate.now plan.now
 view (command.Half artery timing new) = Half artery.now timing.now new.now
 view (command.Make signals seed) = Make signals seed
 view (command.Trial signals seed limit) = Trial signals seed limit
@@ -50,6 +52,7 @@ shape (Some (Check artery certificate)) = record { inputs = input Description ar
 shape (Some (Solve artery certificate limit)) = record { inputs = input Description artery ∷ []; output = Some certificate; chooses = true }
 shape (Some (Renew certificate new)) = record { inputs = input Certificate certificate ∷ []; output = Some new; chooses = false }
 shape (Some (Bands artery timing)) = record { inputs = input Description artery ∷ input Timing timing ∷ []; output = None; chooses = false }
+shape (Some (Round artery certificate plan)) = record { inputs = input Description artery ∷ input Certificate certificate ∷ []; output = Some plan; chooses = false }
 shape (Some (Half artery timing new)) = record { inputs = input Description artery ∷ input Timing timing ∷ []; output = Some new; chooses = true }
 shape (Some (Make signals seed)) = record { inputs = []; output = None; chooses = false }
 shape (Some (Trial signals seed limit)) = record { inputs = []; output = None; chooses = true }
@@ -86,8 +89,9 @@ with_two word first second =
 abbrev pub with_three : List ℕ → List ℕ → List ℕ → List ℕ → Option Request
 with_three word first second third =
     if bytes_eq word (codes "solve") then option_map (Solve first second) (limit_of third)
+    else (if bytes_eq word (codes "round") then Some (Round first second third)
     else (if bytes_eq word (codes "half") then Some (Half first second third)
-    else (if bytes_eq word (codes "trial") then trial_of first second third else None))
+    else (if bytes_eq word (codes "trial") then trial_of first second third else None)))
 
 -- the words for the limit and for the cycles
 abbrev pub sweep_of : List ℕ → List ℕ → List ℕ → List (List ℕ) → Option Request

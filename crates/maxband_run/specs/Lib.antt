@@ -13,6 +13,7 @@ pub mod Searched
 pub mod Solve
 pub mod Renew
 pub mod Bands
+pub mod Round
 pub mod Half
 pub mod Make
 pub mod Trial

@@ -2,7 +2,7 @@
 use Rattle.std.specs.Prelude.{◌≡◌, ◌⊎◌, ℕ, List, [], Option, Some, None}
 use Rattle.outer_edge.specs.Counts.{SameCounts}
 use Rattle.maxband_run.specs.Outside.{Outside, NamedBytes, With, put_of, IsDone, IsUntouched, IsBroken}
-use Rattle.maxband_run.specs.Command.{Request, Hold, Show, Check, Solve, Renew, Bands, Half, Make, Trial, Sweep, shape}
+use Rattle.maxband_run.specs.Command.{Request, Hold, Show, Check, Solve, Renew, Bands, Round, Half, Make, Trial, Sweep, shape}
 use Rattle.maxband_run.specs.Reading.{Input, Values, AreRead, StopsReading}
 use Rattle.maxband_run.specs.Lines.{words_line}
 use Rattle.maxband_run.specs.Hold.{HoldFinds}
@@ -11,6 +11,7 @@ use Rattle.maxband_run.specs.Check.{CheckFinds}
 use Rattle.maxband_run.specs.Solve.{IsSolution}
 use Rattle.maxband_run.specs.Renew.{IsRenewal}
 use Rattle.maxband_run.specs.Bands.{BandsFinds}
+use Rattle.maxband_run.specs.Round.{RoundFinds}
 use Rattle.maxband_run.specs.Half.{HalfFinds}
 use Rattle.maxband_run.specs.Make.{Makes}
 use Rattle.maxband_run.specs.Trial.{IsTrial}
@@ -27,6 +28,7 @@ Finds (Some (Check artery certificate)) v c lines put = CheckFinds v.0 v.1.0 c l
 Finds (Some (Solve artery certificate limit)) v c lines put = With (IsSolution v.0 limit c lines) put
 Finds (Some (Renew certificate new)) v c lines put = With (IsRenewal v.0 c lines) put
 Finds (Some (Bands artery timing)) v c lines put = BandsFinds v.0 v.1.0 c lines
+Finds (Some (Round artery certificate plan)) v c lines put = RoundFinds v.0 v.1.0 c lines put
 Finds (Some (Half artery timing new)) v c lines put = HalfFinds v.0 v.1.0 c lines put
 Finds (Some (Make signals seed)) v c lines put = Makes signals seed c lines
 Finds (Some (Trial signals seed limit)) v c lines put = IsTrial signals seed limit c lines

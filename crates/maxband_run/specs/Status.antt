@@ -16,4 +16,5 @@ number_of (cause.ReadFault file) = 6
 number_of cause.WriteFault = 7
 number_of cause.Memory = 8
 number_of (cause.TooLong file) = 9
+number_of (cause.Unplanned end) = 10
 number_of (cause.Unmatched end) = 11

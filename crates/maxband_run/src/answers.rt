@@ -6,7 +6,7 @@ ghost use Rattle.outer_edge.specs.Counts.{NoneFell, SameCounts};
 ghost use Rattle.outer_edge.specs.Held.{SameFiles};
 ghost use Rattle.maxband_run.specs.Lines.{words_line};
 ghost use Rattle.maxband_run.specs.Outside.{view};
-ghost use Rattle.maxband_run.specs.Command.{Hold, Show, Check, Solve, Renew, Bands, Half, Sweep};
+ghost use Rattle.maxband_run.specs.Command.{Hold, Show, Check, Solve, Renew, Bands, Round, Half, Sweep};
 ghost use Rattle.maxband_run.specs.Cycles.{SpellCycles};
 ghost use Rattle.maxband_run.specs.Run.{Answers};
 
@@ -19,6 +19,7 @@ use crate::hold::hold;
 use crate::inputs::{artery_and_certificate, artery_and_timing, artery_of, certificate_of};
 use crate::lines::words_line;
 use crate::renew::renew;
+use crate::round::round;
 use crate::show::show;
 use crate::solve::solve;
 use crate::sweep::sweep;
@@ -157,6 +158,29 @@ pub fn bands_answer<F: Files>(
         Err(end) => return end,
     };
     bands(alloc, &street, &plan)
+}
+
+/// The answer of `round`.
+pub fn round_answer<'a, F: Files>(
+    alloc: Global,
+    files: &mut F,
+    artery: &'a str,
+    certificate: &'a str,
+    plan: &'a str,
+) -> Result<Answer<'a>, Memory>
+    ensures told { IfOk result (λ a. Answers (F.holds files.old) (F.read_faults files.old) (F.read_faults files.new) (Some (Round artery.now certificate.now plan.now)) a.cause a.lines.items (option_map view a.put)) }
+    ensures memory { OnErr result (SameCounts (F.read_faults files.old) (F.read_faults files.new)) }
+
+    // In every case.
+    ensures files { SameFiles (F.holds files.old) (F.holds files.new) }
+    ensures reads { NoneFell (F.read_faults files.old) (F.read_faults files.new) }
+    ensures puts { SameCounts (F.put_faults files.old) (F.put_faults files.new) }
+{
+    let (street, warrant) = match artery_and_certificate(alloc, files, artery, certificate) {
+        Ok(both) => both,
+        Err(end) => return end,
+    };
+    round(alloc, &street, &warrant, plan)
 }
 
 /// The answer of `half`.

@@ -8,6 +8,7 @@ use branch_tree::Stop;
 use certificate_checker::Reject;
 use half_integer::HalfEnd;
 use plan_text::BadText;
+use second_plan::PlanEnd;
 use time_space::Failing;
 
 /// Why a run ends with its status. `file` is 1 or 2: the first or the second file that the command
@@ -38,6 +39,8 @@ pub enum Cause {
     Memory,
     /// This file has more bytes than its limit.
     TooLong { file: u8 },
+    /// No plan in whole seconds is made of the accepted certificate: the first reason.
+    Unplanned(PlanEnd),
     /// The timing has no half-cycle plan: the first reason.
     Unmatched(HalfEnd),
 }
@@ -65,6 +68,7 @@ impl Cause {
             Cause::WriteFault => 7,
             Cause::Memory => 8,
             Cause::TooLong { .. } => 9,
+            Cause::Unplanned(_) => 10,
             Cause::Unmatched(_) => 11,
         }
     }
@@ -85,6 +89,7 @@ impl Cause {
             | Cause::ReadFault { .. }
             | Cause::WriteFault
             | Cause::TooLong { .. }
+            | Cause::Unplanned(_)
             | Cause::Unmatched(_) => false,
         }
     }

@@ -1,15 +1,36 @@
 //! The command `check`.
 
-ghost use Rattle.std.specs.Prelude.{◌≡◌, None, IfOk};
+ghost use Rattle.std.specs.Prelude.{◌≡◌, ◌≢◌, None, IfOk};
+ghost use Rattle.progression.specs.Street.{count};
 ghost use Rattle.maxband_run.specs.Check.{CheckFinds};
+ghost use Rattle.maxband_run.specs.CheckLines.{rejected_line};
 
 use crate::answer::{Answer, told};
 use crate::cause::Cause;
 use crate::check_lines::{accepted_line, rejected_line};
 use artery_model::Artery;
+use certificate_checker::Reject;
 use narrow_fraction::Memory;
 use plan_text::Certificate;
 use std::alloc::Global;
+
+/// The answer where a certificate is rejected.
+pub fn rejected(
+    alloc: Global,
+    artery: &Artery,
+    reject: Reject,
+) -> Result<Answer<'static>, Memory>
+    ensures cause { IfOk result (λ a. a.cause ≡ Cause.Rejected reject) }
+    ensures kept { IfOk result (λ a. reject ≢ Reject.Memory) }
+    ensures lines { IfOk result (λ a. a.lines.items ≡ rejected_line (count artery.now) reject) }
+    ensures no_put { IfOk result (λ a. a.put ≡ None) }
+{
+    if reject.is_memory() {
+        return Err(Memory);
+    }
+    let lines = rejected_line(alloc, artery.count(), &reject)?.into_bytes();
+    Ok(told(Cause::Rejected(reject), lines))
+}
 
 /// Checks the certificate for the artery: the answer has what is claimed where it is accepted, else the first refusal.
 pub fn check(
@@ -25,12 +46,6 @@ pub fn check(
             let lines = accepted_line(alloc, certificate.claim)?.into_bytes();
             Ok(told(Cause::Done, lines))
         }
-        Err(reject) => {
-            if reject.is_memory() {
-                return Err(Memory);
-            }
-            let lines = rejected_line(alloc, artery.count(), &reject)?.into_bytes();
-            Ok(told(Cause::Rejected(reject), lines))
-        }
+        Err(reject) => rejected(alloc, artery, reject),
     }
 }

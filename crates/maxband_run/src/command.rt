@@ -42,7 +42,13 @@ pub enum Command<'a> {
         artery: &'a str,
         timing: &'a str,
     },
-    /// Find the widest equal bands over all offsets of that timing, and put the plan that has them in the third.
+    /// Make a plan in whole seconds of the certificate of the second file, for the artery of the first, and put it in the third.
+    Round {
+        artery: &'a str,
+        certificate: &'a str,
+        plan: &'a str,
+    },
+    /// Find the widest equal bands over all offsets of the timing of the second file, and put the plan that has them in the third.
     Half {
         artery: &'a str,
         timing: &'a str,
@@ -144,6 +150,12 @@ fn with_three<'a>(
             artery: first,
             certificate: second,
             limit,
+        })
+    } else if word == "round" {
+        Some(Command::Round {
+            artery: first,
+            certificate: second,
+            plan: third,
         })
     } else if word == "half" {
         Some(Command::Half {
@@ -252,6 +264,11 @@ pub fn room_for_faults(command: Option<Command<'_>>) -> u64
             | Command::Check {
                 artery,
                 certificate: second,
+            }
+            | Command::Round {
+                artery,
+                certificate: second,
+                ..
             }
             | Command::Bands {
                 artery,

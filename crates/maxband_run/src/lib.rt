@@ -23,6 +23,7 @@ mod make;
 mod numbers;
 mod reader;
 mod renew;
+mod round;
 mod searching;
 mod show;
 mod solve;

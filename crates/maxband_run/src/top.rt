@@ -12,7 +12,7 @@ ghost use Rattle.maxband_run.specs.Laws.{OneAnswer, FaultsAreTold, SolveIsComple
 
 use crate::answer::Answer;
 use crate::answers::{
-    bands_answer, check_answer, half_answer, hold_answer, renew_answer, show_answer, solve_answer, sweep_answer, words_answer,
+    bands_answer, check_answer, half_answer, hold_answer, renew_answer, round_answer, show_answer, solve_answer, sweep_answer, words_answer,
 };
 use crate::cause::{Cause, Status};
 use crate::command::{Command, command_in, room_for_faults};
@@ -57,6 +57,13 @@ fn answer_to<'a, F: Files>(
         ) => solve_answer(alloc, files, artery, certificate, limit),
         Some(Command::Renew { certificate, new }) => renew_answer(alloc, files, certificate, new),
         Some(Command::Bands { artery, timing }) => bands_answer(alloc, files, artery, timing),
+        Some(
+            Command::Round {
+                artery,
+                certificate,
+                plan,
+            },
+        ) => round_answer(alloc, files, artery, certificate, plan),
         Some(
             Command::Half {
                 artery,
@@ -144,6 +151,9 @@ pub fn law_one_answer()
     band_measure::law_one_widest();
     band_measure::law_finer_pairs();
     half_integer::law_one_end();
+    second_plan::law_one_end();
+    second_plan::law_plan_or_end();
+    second_plan::law_one_plan();
 }
 
 /// A law over the definitions: where the description of `solve` is one of an artery and no fault is counted, the run ends

@@ -1,0 +1,14 @@
+use Rattle.std.proofs.Common.{Some, refl}
+use Rattle.maxband_run.specs.Command.{Round}
+use Rattle.maxband_run.proofs.Told.{stops, finds_may_put}
+use Rattle.maxband_run.proofs.answers.round_answer.Goals as goal
+
+pub returns-in-Err-clause-told : goal.returns-in-Err-clause-told
+returns-in-Err-clause-told g c =
+    stops (Some (Round c.args.artery.now c.args.certificate.now c.args.plan.now)) (g.F.Files.holds c.args.files.now) (g.F.Files.read_faults c.args.files.now) (g.F.Files.read_faults c.artery_and_certificate.new.files) c.in-Err.end
+    c.in-Err.ensures.unread c.in-Err.ensures.no_put
+
+pub returns-clause-told : goal.returns-clause-told
+returns-clause-told g c =
+    finds_may_put (Some (Round c.args.artery.now c.args.certificate.now c.args.plan.now)) (g.F.Files.holds c.args.files.now) (g.F.Files.read_faults c.args.files.now) (g.F.Files.read_faults c.artery_and_certificate.new.files) c.args.plan.now (c.in-Ok.street, (c.in-Ok.warrant, tt)) c.round.result
+    (c.in-Ok.ensures.first, (c.in-Ok.ensures.second, tt)) c.in-Ok.ensures.none_failed refl c.round.ensures.finds
