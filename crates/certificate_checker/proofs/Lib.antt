@@ -1,9 +1,12 @@
 pub mod PlaceTests
 pub mod Shown
 pub mod LeafRefusals
+pub mod ArteryLeaves
 pub mod NodeRefusals
 pub mod Acceptance
 pub mod Meaning
 pub mod Firsts
 pub mod Fronts
 pub mod Preorders
+pub mod Spans
+pub mod Ways

@@ -1,41 +1,70 @@
 -- The nodes, one after another.
-use Rattle.std.proofs.Common.{◌≡◌, ℕ, ◌+◌, ◌<◌, Option, None, Some, List, [], ◌∷◌, length, map, drop, get_or, refl, sym, ap, ap₂, subst}
+use Rattle.std.proofs.Common.{◌≡◌, ℕ, ◌+◌, ◌<◌, Option, None, Some, option_map, List, [], ◌∷◌, length, map, drop, get_or, refl, sym, ap, ap₂, subst}
 use Rattle.rational_theory.specs.Rational.{ℚ}
 use Rattle.progression.specs.Street.{Street}
 use Rattle.linear_theory.specs.Boxes.{Area}
 use Rattle.narrow_fraction.specs.Attempt.{earlier}
 use Rattle.narrow_fraction.proofs.Attempt.{neither}
+use Rattle.named_row.specs.declared.leaves.Weight.{Weight}
 use Rattle.search_box.specs.Places.{low_part, high_part}
 use Rattle.plan_text.specs.declared.certificate.CertNode.{CertNode}
 use Rattle.plan_text.specs.Warrants.{Node, SplitAt, LeafOf, node_of, AreTrees}
+use Rattle.loop_rows.specs.Weights.{Source, artery_rows}
 use Rattle.loop_rows.proofs.LeafSums.{at_left}
-use Rattle.certificate_checker.specs.Accepted.{AreProofs}
-use Rattle.certificate_checker.specs.Refusals.{nodes_refusal, IsFirst}
+use Rattle.certificate_checker.specs.Accepted.{IsProof, AreProofs}
+use Rattle.certificate_checker.specs.Refusals.{nodes_refusal, aim_of, reject_from, IsFirst}
+use Rattle.certificate_checker.specs.TreeProofs.{ProveAll, IsLeafProof, IsTreeProof}
+use Rattle.certificate_checker.specs.TreeRefusals.{tree_refusal, IsFirstOf}
+use Rattle.certificate_checker.specs.declared.leaves.Aim.{Aim}
+use Rattle.certificate_checker.specs.declared.reject.TreeReject.{TreeReject}
+use Rattle.certificate_checker.specs.declared.reject.TreeReject.TheVariants as tree
 use Rattle.certificate_checker.specs.declared.reject.Reject.{Reject}
 use Rattle.certificate_checker.specs.declared.reject.Reject.TheVariants.{TimingFails, ValueDiffers, BoundBelow, SplitOutside, NoSuchRow, Negative, Wide, LeafTooWeak, Memory}
 use Rattle.certificate_checker.proofs.PlaceTests.{place_in, place_out}
-use Rattle.certificate_checker.proofs.LeafRefusals.{proof_in, proof_out}
+use Rattle.certificate_checker.proofs.LeafRefusals.{proof_in, proof_out, map_none}
+use Rattle.certificate_checker.proofs.ArteryLeaves.{leaf_in, leaf_out}
 
 -- ---- nodes that are not refused, as many trees as boxes, are proofs, and back
+module _ (rows : Area → Source) (aim : Aim) where
+  pub tree_in : (nodes leaves : ℕ) (boxes : List Area) (ns : List Node) → AreTrees (length boxes) ns → tree_refusal rows aim nodes leaves boxes ns ≡ None → IsTreeProof rows aim boxes ns
+  tree_in nodes leaves [] [] t e = tt
+  tree_in nodes leaves [] (n ∷ ns) t e = absurd t
+  tree_in nodes leaves (box ∷ boxes) [] t e = absurd t
+  tree_in nodes leaves (box ∷ boxes) (SplitAt at ∷ ns) t e =
+      let p = neither _ _ e in
+      (place_in box (nodes + 1) at p.0, tree_in (nodes + 1) leaves (low_part box at ∷ high_part box at ∷ boxes) ns t p.1)
+  tree_in nodes leaves (box ∷ boxes) (LeafOf ws ∷ ns) t e =
+      let p = neither _ _ e in
+      (proof_in (rows box) aim (leaves + 1) ws p.0, tree_in (nodes + 1) (leaves + 1) boxes ns t p.1)
+
+  pub tree_out : (nodes leaves : ℕ) (boxes : List Area) (ns : List Node) → IsTreeProof rows aim boxes ns → tree_refusal rows aim nodes leaves boxes ns ≡ None
+  tree_out nodes leaves [] [] h = refl
+  tree_out nodes leaves [] (n ∷ ns) h = refl
+  tree_out nodes leaves (box ∷ boxes) [] h = refl
+  tree_out nodes leaves (box ∷ boxes) (SplitAt at ∷ ns) h =
+      ap₂ earlier (place_out box (nodes + 1) at h.0) (tree_out (nodes + 1) leaves (low_part box at ∷ high_part box at ∷ boxes) ns h.1)
+  tree_out nodes leaves (box ∷ boxes) (LeafOf ws ∷ ns) h =
+      ap₂ earlier (proof_out (rows box) aim (leaves + 1) ws h.0) (tree_out (nodes + 1) (leaves + 1) boxes ns h.1)
+
+-- where more holds of each leaf
+more_proved : (P Q : Area → List Weight → Type 0) → ((box : Area) (ws : List Weight) → P box ws → Q box ws) → (boxes : List Area) (ns : List Node) → ProveAll P boxes ns → ProveAll Q boxes ns
+more_proved P Q f [] [] h = tt
+more_proved P Q f [] (n ∷ ns) h = absurd h
+more_proved P Q f (box ∷ boxes) [] h = absurd h
+more_proved P Q f (box ∷ boxes) (SplitAt at ∷ ns) h = (h.0, more_proved P Q f (low_part box at ∷ high_part box at ∷ boxes) ns h.1)
+more_proved P Q f (box ∷ boxes) (LeafOf ws ∷ ns) h = (f box ws h.0, more_proved P Q f boxes ns h.1)
+
+-- of an artery
 pub proofs_in : (a : Street) (limit : Option ℚ) (nodes leaves : ℕ) (boxes : List Area) (ns : List Node) → AreTrees (length boxes) ns → nodes_refusal a limit nodes leaves boxes ns ≡ None → AreProofs a limit boxes ns
-proofs_in a limit nodes leaves [] [] t e = tt
-proofs_in a limit nodes leaves [] (n ∷ ns) t e = absurd t
-proofs_in a limit nodes leaves (box ∷ boxes) [] t e = absurd t
-proofs_in a limit nodes leaves (box ∷ boxes) (SplitAt at ∷ ns) t e =
-    let p = neither _ _ e in
-    (place_in box (nodes + 1) at p.0, proofs_in a limit (nodes + 1) leaves (low_part box at ∷ high_part box at ∷ boxes) ns t p.1)
-proofs_in a limit nodes leaves (box ∷ boxes) (LeafOf ws ∷ ns) t e =
-    let p = neither _ _ e in
-    (proof_in a limit box (leaves + 1) ws p.0, proofs_in a limit (nodes + 1) (leaves + 1) boxes ns t p.1)
+proofs_in a limit nodes leaves boxes ns t e =
+    more_proved (λ box ws. IsLeafProof (artery_rows a box) (aim_of a limit) ws) (IsProof a limit) (leaf_in a limit) boxes ns
+    (tree_in (artery_rows a) (aim_of a limit) nodes leaves boxes ns t (map_none reject_from (tree_refusal (artery_rows a) (aim_of a limit) nodes leaves boxes ns) e))
 
 pub proofs_out : (a : Street) (limit : Option ℚ) (nodes leaves : ℕ) (boxes : List Area) (ns : List Node) → AreProofs a limit boxes ns → nodes_refusal a limit nodes leaves boxes ns ≡ None
-proofs_out a limit nodes leaves [] [] h = refl
-proofs_out a limit nodes leaves [] (n ∷ ns) h = refl
-proofs_out a limit nodes leaves (box ∷ boxes) [] h = refl
-proofs_out a limit nodes leaves (box ∷ boxes) (SplitAt at ∷ ns) h =
-    ap₂ earlier (place_out box (nodes + 1) at h.0) (proofs_out a limit (nodes + 1) leaves (low_part box at ∷ high_part box at ∷ boxes) ns h.1)
-proofs_out a limit nodes leaves (box ∷ boxes) (LeafOf ws ∷ ns) h =
-    ap₂ earlier (proof_out a limit box (leaves + 1) ws h.0) (proofs_out a limit (nodes + 1) (leaves + 1) boxes ns h.1)
+proofs_out a limit nodes leaves boxes ns h =
+    ap (option_map reject_from)
+    (tree_out (artery_rows a) (aim_of a limit) nodes leaves boxes ns
+    (more_proved (IsProof a limit) (λ box ws. IsLeafProof (artery_rows a box) (aim_of a limit) ws) (leaf_out a limit) boxes ns h))
 
 -- ---- the first refusal
 pub is_first : (o : Option Reject) (r : Reject) → o ≡ Some r → IsFirst o r
@@ -52,6 +81,18 @@ is_first o Memory e = tt
 -- of an equal one
 pub first_moved : (o p : Option Reject) (r : Reject) → p ≡ o → IsFirst o r → IsFirst p r
 first_moved o p r e h = subst (λ q. IsFirst q r) (sym e) h
+
+-- of a tree
+pub tree_moved : (o p : Option TreeReject) (r : TreeReject) → p ≡ o → IsFirstOf o r → IsFirstOf p r
+tree_moved o p r e h = subst (λ q. IsFirstOf q r) (sym e) h
+
+pub first_from : (o : Option TreeReject) (r : TreeReject) → IsFirstOf o r → IsFirst (option_map reject_from o) (reject_from r)
+first_from o (tree.SplitOutside node) h = ap (option_map reject_from) h
+first_from o (tree.NoSuchRow leaf row) h = ap (option_map reject_from) h
+first_from o (tree.Negative leaf row) h = ap (option_map reject_from) h
+first_from o (tree.Wide leaf row at) h = ap (option_map reject_from) h
+first_from o (tree.LeafTooWeak leaf place) h = ap (option_map reject_from) h
+first_from o tree.Memory h = tt
 
 -- ---- reading
 -- the next node is read

@@ -1,4 +1,4 @@
--- The test of a place says that it lies in the box, and the parts there are boxes of the artery.
+-- The test of a place says that it lies in the box.
 use Rattle.std.proofs.Common.{◌≡◌, ℕ, ℤ, ◌≤ℤ◌, ◌<ℤ◌, Result, Ok, Err, OnOk, subst, Bool, true, false, not, ◌&&◌, List, ◌∷◌, length, None, refl, sym, All, arith}
 use Rattle.std.specs.Prelude.{nat_le, nat_lt, int_le, int_lt}
 use Rattle.std.specs.Bool.{Decides}
@@ -7,14 +7,12 @@ use Rattle.std.proofs.lemmas.Bool.{leb-true, le-leb}
 use Rattle.std.proofs.lemmas.Bool.Decides.{Decides-and, Decides-ltb}
 use Rattle.std.proofs.lemmas.List.Elements.{All-cons}
 use Rattle.narrow_fraction.proofs.Attempt.{not_refused}
-use Rattle.progression.specs.Street.{Street}
-use Rattle.linear_theory.specs.Boxes.{Area, IsBoxOf, loop_span, turn_span, low_loop, high_loop, low_turn, high_turn}
-use Rattle.linear_theory.proofs.PartBoxes.{low_loop_boxed, high_loop_boxed, low_turn_boxed, high_turn_boxed}
+use Rattle.linear_theory.specs.Boxes.{Area, loop_span, turn_span}
 use Rattle.search_box.specs.Places.{IsPlace, low_part, high_part}
 use Rattle.search_box.specs.declared.span.At.{At}
 use Rattle.search_box.specs.declared.span.At.TheVariants.{Loop, Turn}
-use Rattle.certificate_checker.specs.declared.reject.Reject.{Reject}
-use Rattle.certificate_checker.specs.Refusals.{is_place, split_refusal}
+use Rattle.certificate_checker.specs.declared.reject.TreeReject.{TreeReject}
+use Rattle.certificate_checker.specs.TreeRefusals.{is_place, split_refusal}
 
 -- ---- tests of whole numbers
 int_le_decided : (x y : ℤ) → Decides (int_le x y) (x ≤ℤ y)
@@ -45,7 +43,7 @@ place_decided box (Turn i rank) =
     all_four (nat_le 1 i) (nat_le i (length box.turns)) (nat_le (turn_span box i).least rank) (nat_lt rank (turn_span box i).most)
     (leb-true 1 i, le-leb 1 i) (leb-true i (length box.turns), le-leb i (length box.turns)) (leb-true (turn_span box i).least rank, le-leb (turn_span box i).least rank) (Decides-ltb rank (turn_span box i).most)
 
-not_out : (b : Bool) → not b ≡ false → b ≡ true
+pub not_out : (b : Bool) → not b ≡ false → b ≡ true
 not_out true e = refl
 not_out false e = sym e
 
@@ -56,16 +54,11 @@ place_in box node at e = (place_decided box at).0 (not_out (is_place box at) (no
 pub place_out : (box : Area) (node : ℕ) (at : At) → IsPlace box at → split_refusal box node at ≡ None
 place_out box node at p = rw ((place_decided box at).1 p) refl
 
--- its two parts are boxes of the artery
-pub parts_boxed : (a : Street) (box : Area) (boxes : List Area) (at : At) → IsPlace box at → IsBoxOf a box → All (IsBoxOf a) boxes → All (IsBoxOf a) (low_part box at ∷ high_part box at ∷ boxes)
-parts_boxed a box boxes (Loop i at) p b h =
-    All-cons (IsBoxOf a) (low_loop box i at) (high_loop box i at ∷ boxes) (low_loop_boxed a box b i at p)
-    (All-cons (IsBoxOf a) (high_loop box i at) boxes (high_loop_boxed a box b i at p) h)
-parts_boxed a box boxes (Turn i rank) p b h =
-    All-cons (IsBoxOf a) (low_turn box i rank) (high_turn box i rank ∷ boxes) (low_turn_boxed a box b i rank p)
-    (All-cons (IsBoxOf a) (high_turn box i rank) boxes (high_turn_boxed a box b i rank p) h)
-
-pub split_boxed : (a : Street) (box : Area) (boxes new : List Area) (node : ℕ) (at : At) (r : Result (Unit {0}) Reject) → IsBoxOf a box → All (IsBoxOf a) boxes
-    → OnOk r (split_refusal box node at ≡ None) → OnOk r (new ≡ low_part box at ∷ high_part box at ∷ boxes) → OnOk r (All (IsBoxOf a) new)
-split_boxed a box boxes new node at (Ok x) b h e p = subst (All (IsBoxOf a)) (sym p) (parts_boxed a box boxes at (place_in box node at e) b h)
-split_boxed a box boxes new node at (Err r) b h e p = tt
+-- what holds of a box holds of its two parts
+pub split_ready : (Ready : Area → Type 0) → ((box : Area) (at : At) → IsPlace box at → Ready box → Ready (low_part box at) × Ready (high_part box at))
+    → (box : Area) (boxes new : List Area) (node : ℕ) (at : At) (r : Result (Unit {0}) TreeReject) → Ready box → All Ready boxes
+    → OnOk r (split_refusal box node at ≡ None) → OnOk r (new ≡ low_part box at ∷ high_part box at ∷ boxes) → OnOk r (All Ready new)
+split_ready Ready parts box boxes new node at (Ok x) b h e p =
+    let both = parts box at (place_in box node at e) b in
+    subst (All Ready) (sym p) (All-cons Ready (low_part box at) (high_part box at ∷ boxes) both.0 (All-cons Ready (high_part box at) boxes both.1 h))
+split_ready Ready parts box boxes new node at (Err r) b h e p = tt

@@ -11,13 +11,12 @@ use Rattle.linear_theory.specs.Boxes.{Area, root_box}
 use Rattle.linear_theory.specs.Covering.{CoversGoal, RefutesAll}
 use Rattle.linear_theory.specs.Trees.{leaf_sum, AreWeights}
 use Rattle.named_row.specs.Sheets.{Sheet, blank}
-use Rattle.named_row.specs.Refusals.{sum_refusal}
 use Rattle.named_row.specs.declared.leaves.Weight.{Weight}
-use Rattle.loop_rows.specs.Weights.{named, row_at, after_weight}
-use Rattle.search_box.specs.Places.{IsPlace, low_part, high_part}
+use Rattle.loop_rows.specs.Weights.{named, artery_rows}
 use Rattle.plan_text.specs.declared.certificate.Claim.{Claim}
 use Rattle.plan_text.specs.declared.certificate.Claim.TheVariants.{Best, NoTiming, Stopped}
-use Rattle.plan_text.specs.Warrants.{Warrant, Node, SplitAt, LeafOf}
+use Rattle.plan_text.specs.Warrants.{Warrant, Node}
+use Rattle.certificate_checker.specs.TreeProofs.{FitAlong, ProveAll}
 
 -- ---- the claim
 -- the value that is claimed for the timing, and the number that no weighted band is claimed to exceed
@@ -48,8 +47,7 @@ IsBoundAbove (Stopped bound (Some value)) = value ≤ℚ bound
 -- ---- leaves
 -- no operation of the sum leaves 128 bits, from this sum on
 abbrev pub FitsAlong : Street → Area → Sheet → List Weight → Type 0
-FitsAlong a box sum [] = Unit {0}
-FitsAlong a box sum (w ∷ ws) = (sum_refusal w.by (row_at a box w.row) sum ≡ None) × FitsAlong a box (after_weight a box sum w) ws
+FitsAlong a box = FitAlong (artery_rows a box)
 
 -- no point meets the row, or the row keeps the weighted band down to the limit
 abbrev pub Shows : Street → Option ℚ → maths.Row → Type 0
@@ -66,11 +64,7 @@ pub record IsProof (a : Street) (limit : Option ℚ) (box : Area) (ws : List Wei
 -- the nodes, read in their order, are whole trees for these boxes: each split's place lies in its box, and its two parts
 -- are the next boxes; each leaf is a proof for its box
 abbrev pub AreProofs : Street → Option ℚ → List Area → List Node → Type 0
-AreProofs a limit [] [] = Unit {0}
-AreProofs a limit [] (n ∷ ns) = ⊥
-AreProofs a limit (box ∷ boxes) [] = ⊥
-AreProofs a limit (box ∷ boxes) (SplitAt at ∷ ns) = IsPlace box at × AreProofs a limit (low_part box at ∷ high_part box at ∷ boxes) ns
-AreProofs a limit (box ∷ boxes) (LeafOf ws ∷ ns) = IsProof a limit box ws × AreProofs a limit boxes ns
+AreProofs a limit = ProveAll (IsProof a limit)
 
 pub record IsAccepted (a : Street) (c : Warrant) : Type 0 where
   pub timing : IsTimed a c.timing (value_of c.claim)

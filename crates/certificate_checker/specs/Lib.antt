@@ -1,5 +1,8 @@
+pub mod TreeProofs
+pub mod TreeRefusals
 pub mod Accepted
 pub mod Refusals
 pub mod Claims
 pub mod Laws
 pub mod ProofTrees
+pub mod Owed

@@ -1,22 +1,27 @@
 //! The check of a whole certificate.
 
-ghost use Rattle.std.specs.Prelude.{◌≡◌, length, false, IfOk, IfErr, OnOk};
+ghost use Rattle.std.specs.Prelude.{◌≡◌, [], ◌∷◌, length, map, None, IfOk, IfErr, OnOk};
 ghost use Rattle.progression.specs.Street.{count};
+ghost use Rattle.linear_theory.specs.Boxes.{root_box};
+ghost use Rattle.linear_theory.specs.Counts.{IsStreet};
 ghost use Rattle.linear_theory.specs.Rows.{goal_form};
 ghost use Rattle.loop_rows.specs.Writing.{written};
 ghost use Rattle.certificate_checker.specs.Accepted.{IsAccepted};
-ghost use Rattle.certificate_checker.specs.Refusals.{IsFirstRefusal};
+ghost use Rattle.plan_text.specs.Warrants.{node_of, AreTrees};
+ghost use Rattle.certificate_checker.specs.Refusals.{nodes_refusal, IsFirst, IsFirstRefusal};
 ghost use Rattle.certificate_checker.specs.Claims.{ClaimHolds};
 
 use crate::claims::{check_bound, check_timing, check_value, limit_of, value_of};
 use crate::leaves::Aim;
 use crate::reject::Reject;
-use crate::walk::check_nodes;
+use crate::rows::ArteryRows;
+use crate::walk::check_tree;
 use artery_model::Artery;
 use loop_rows::{column_count, fill_goal};
 use named_row::Row;
 use narrow_fraction::{Frac, Memory};
-use plan_text::Certificate;
+use plan_text::{CertNode, Certificate};
+use search_box::SearchBox;
 use std::alloc::Global;
 
 /// The row of the weighted band.
@@ -26,6 +31,19 @@ fn goal_row(alloc: Global, artery: &Artery) -> Result<Row, Memory>
     let mut row = Row::zero(alloc, column_count(artery))?;
     fill_goal(artery, &mut row);
     Ok(row)
+}
+
+/// Checks the nodes of an artery's tree, the root box being that of the first.
+fn check_nodes(alloc: Global, artery: &Artery, aim: &Aim, nodes: &[CertNode]) -> Result<(), Reject>
+    requires goal { aim.now.goal ≡ written artery.now (goal_form artery.now) }
+    requires tree { AreTrees 1 (map node_of nodes.now) }
+    ensures none { OnOk result (nodes_refusal artery.now aim.now.limit 0 0 (root_box artery.now ∷ []) (map node_of nodes.now) ≡ None) }
+    ensures first { IfErr result (λ reject. IsFirst (nodes_refusal artery.now aim.now.limit 0 0 (root_box artery.now ∷ []) (map node_of nodes.now)) reject) }
+    ensures street { IsStreet artery.now }
+{
+    let root = SearchBox::root(alloc, artery)?;
+    check_tree(alloc, &ArteryRows { artery }, root, aim, nodes)?;
+    Ok(())
 }
 
 /// Checks a certificate for an artery. Ok comes exactly for the accepted certificates; then what is claimed holds of

@@ -1,23 +1,18 @@
 //! One leaf with its box.
 
 ghost use Rattle.std.specs.Prelude.{◌≡◌, length, false, IfErr, OnOk, None};
-ghost use Rattle.progression.specs.Street.{count};
-ghost use Rattle.linear_theory.specs.Places.{width};
-ghost use Rattle.linear_theory.specs.Boxes.{IsBoxOf};
-ghost use Rattle.linear_theory.specs.Rows.{goal_form};
 ghost use Rattle.narrow_fraction.specs.Attempt.{attempt};
-ghost use Rattle.loop_rows.specs.Writing.{written};
-ghost use Rattle.certificate_checker.specs.Refusals.{weakness, leaf_refusal, reject_of, IsFirst};
+ghost use Rattle.certificate_checker.specs.TreeRefusals.{weakness, leaf_refusal, reject_of, IsFirstOf};
 
-use crate::reject::Reject;
-use artery_model::Artery;
-use loop_rows::{SumFault, leaf_sum};
+use crate::reject::TreeReject;
+use crate::rows::TreeRows;
+use loop_rows::SumFault;
 use named_row::{Leaf, Place, Row};
 use narrow_fraction::Frac;
 use search_box::SearchBox;
 use std::alloc::Global;
 
-/// What each leaf must show: that its box has no timing or, where there is a limit, that no weighted band is above it.
+/// What each leaf must show: that its box has no point or, where there is a limit, that the goal is above it at none.
 #[derive(Drop)]
 pub struct Aim {
     pub goal: Row,
@@ -25,14 +20,14 @@ pub struct Aim {
 }
 
 /// A sum's fault, of the leaf with this number.
-fn rejected(leaf: u64, fault: SumFault) -> Reject
+fn rejected(leaf: u64, fault: SumFault) -> TreeReject
     ensures { result ≡ reject_of leaf fault }
 {
     match fault {
-        SumFault::NoSuchRow { row } => Reject::NoSuchRow { leaf, row },
-        SumFault::Negative { row } => Reject::Negative { leaf, row },
-        SumFault::Wide { row, at } => Reject::Wide { leaf, row, at },
-        SumFault::Memory => Reject::Memory,
+        SumFault::NoSuchRow { row } => TreeReject::NoSuchRow { leaf, row },
+        SumFault::Negative { row } => TreeReject::Negative { leaf, row },
+        SumFault::Wide { row, at } => TreeReject::Wide { leaf, row, at },
+        SumFault::Memory => TreeReject::Memory,
     }
 }
 
@@ -52,26 +47,26 @@ fn shown(sum: &Row, aim: &Aim) -> Result<(), Place>
 }
 
 /// Checks a leaf for a box. The leaf's number is that among the leaves.
-pub fn check_leaf(
+pub fn check_leaf<R: TreeRows>(
     alloc: Global,
-    artery: &Artery,
+    rows: &R,
     aim: &Aim,
     area: &SearchBox,
     number: u64,
     leaf: &Leaf,
-) -> Result<(), Reject>
-    requires boxed { IsBoxOf artery.now area.now }
-    requires goal { aim.now.goal ≡ written artery.now (goal_form artery.now) }
-    ensures none { OnOk result (leaf_refusal artery.now aim.now.limit area.now number leaf.now.multipliers.items ≡ None) }
-    ensures first { IfErr result (λ reject. IsFirst (leaf_refusal artery.now aim.now.limit area.now number leaf.now.multipliers.items) reject) }
+) -> Result<(), TreeReject>
+    requires ready { R.Ready rows.now area.now }
+    requires width { length aim.now.goal.coefs ≡ (R.rows rows.now area.now).width }
+    ensures none { OnOk result (leaf_refusal (R.rows rows.now area.now) aim.now number leaf.now.multipliers.items ≡ None) }
+    ensures first { IfErr result (λ reject. IsFirstOf (leaf_refusal (R.rows rows.now area.now) aim.now number leaf.now.multipliers.items) reject) }
 {
-    let sum = match leaf_sum(alloc, artery, area, leaf) {
+    let sum = match rows.sum(alloc, area, leaf) {
         Ok(sum) => sum,
         Err(fault) => return Err(rejected(number, fault)),
     };
     match shown(&sum, aim) {
         Ok(()) => Ok(()),
-        Err(place) => Err(Reject::LeafTooWeak {
+        Err(place) => Err(TreeReject::LeafTooWeak {
             leaf: number,
             place,
         }),

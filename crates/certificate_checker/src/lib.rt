@@ -3,8 +3,9 @@
 //!
 //! Start with `check`, which answers Ok exactly for the accepted certificates (`specs/Accepted.antt`) and else the first
 //! refusal (`specs/Refusals.antt`). Where it answers Ok, what is claimed holds of the artery (`specs/Claims.antt`), on
-//! any grid. It uses no tableau and no search, and nothing calls itself: the nodes are read one after another, with a
-//! stack of the boxes that still want a tree.
+//! any grid. It uses no tableau and no search, and nothing calls itself: the nodes are read one after another, with the
+//! next box that wants a tree and, for each split on the way down to it, the span that was there before. `check_tree` does
+//! that over any rows (`TreeRows`), for any goal and limit (`specs/TreeProofs.antt`, `specs/TreeRefusals.antt`).
 #![tactic(auto)]
 
 mod checking;
@@ -13,10 +14,15 @@ mod laws;
 mod leaves;
 mod owed;
 mod reject;
+mod rows;
 #[cfg(test)]
 mod tests;
 mod walk;
+mod way;
 
 pub use checking::check;
 pub use laws::{law_accepted_or_refused, law_proofs_are_trees};
-pub use reject::Reject;
+pub use leaves::Aim;
+pub use reject::{Reject, TreeReject};
+pub use rows::{ArteryRows, TreeRows};
+pub use walk::check_tree;

@@ -1,49 +1,141 @@
 //! The boxes that still want a tree.
 
-ghost use Rattle.std.specs.Prelude.{◌≡◌, [], ◌∷◌, IfOk, OnOk, MatchOption};
+ghost use Rattle.std.specs.Prelude.{◌≡◌, ◌<◌, [], ◌∷◌, length, drop, IfOk, OnOk};
+ghost use Rattle.search_box.specs.Seen.{span_of};
+ghost use Rattle.search_box.specs.Places.{IsPlace, FitsAt, low_part, high_part, span_at, with_span};
+ghost use Rattle.certificate_checker.specs.Owed.{AreSplits, number_at, first_of, owed_of, waiting};
 
+use crate::way::{Entry, Way};
 use narrow_fraction::Memory;
-use search_box::SearchBox;
+use search_box::{At, SearchBox, Span};
 use std::alloc::Global;
 use std::marker::Model;
 
-/// A stack of boxes, seen as their list with the next one first.
+/// The boxes that still want a tree, seen as their list with the next one first.
+///
+/// Only that one is kept, with the splits on the way down to it, so a level of a tree takes the memory of an entry.
 #[derive(Drop)]
 pub struct Owed {
-    boxes: Vec<SearchBox>,
+    area: SearchBox,
+    way: Way,
+    wanted: bool,
 }
 
 impl Model for Owed {
-    ghost use Rattle.std.specs.Prelude.{List, reverse};
+    ghost use Rattle.std.specs.Prelude.{List};
     ghost use Rattle.linear_theory.specs.Boxes.{Area};
+    ghost use Rattle.certificate_checker.specs.Owed.{AreSplits, owed_of};
 
     ghost Value = { List Area };
 
-    ghost view = { λ o. reverse o.boxes.items };
+    ghost view = { λ o. owed_of o.wanted o.area o.way };
+
+    ghost invariant = { λ o. AreSplits o.area o.way };
+}
+
+/// A place's number.
+fn number(place: At) -> i64
+    ensures { result ≡ number_at place }
+{
+    match place {
+        At::Loop { at, .. } => at,
+        At::Turn { rank, .. } => i64::from(rank),
+    }
+}
+
+/// Narrows a box to its low part, and answers the span that it had there.
+fn to_low(area: &mut SearchBox, place: At) -> Span
+    requires place { IsPlace area.old place }
+    ensures low { area.new ≡ low_part area.old place }
+    ensures former { span_of result ≡ span_at area.old place }
+    ensures fits { FitsAt place (span_of result) }
+{
+    let former = area.span_at(place);
+    area.replace(
+        place,
+        Span {
+            least: former.least,
+            most: number(place),
+        },
+    )
+}
+
+/// From within a split to the high part of its box.
+fn to_high(area: &mut SearchBox, place: At, former: Span)
+    requires fits { FitsAt place (span_of former) }
+    requires place { IsPlace (with_span area.old place (span_of former)) place }
+    ensures high { area.new ≡ high_part (with_span area.old place (span_of former)) place }
+{
+    area.replace(
+        place,
+        Span {
+            least: number(place) + 1,
+            most: former.most,
+        },
+    );
+}
+
+/// From a box whose tree was read to the next box that waits, if there is one, and answers whether there is.
+fn next(area: &mut SearchBox, way: &mut Way) -> bool
+    requires splits { AreSplits area.old way.old }
+    ensures next { owed_of result area.new way.new ≡ waiting area.old way.old }
+    ensures splits { AreSplits area.new way.new }
+{
+    while let Some(entry) = way.innermost() {
+        if !entry.on_high {
+            to_high(area, entry.place, entry.former);
+            way.replace(Entry {
+                on_high: true,
+                ..entry
+            });
+            return true;
+        }
+        area.replace(entry.place, entry.former);
+        way.pop();
+    }
+    false
 }
 
 impl Owed {
-    /// One box. The error is want of memory.
-    pub fn new(alloc: Global, area: SearchBox) -> Result<Owed, Memory>
-        ensures { IfOk result (λ owed. owed ≡ area ∷ []) }
+    /// One box.
+    pub fn new(alloc: Global, area: SearchBox) -> Owed
+        ensures { result ≡ area ∷ [] }
     {
-        let mut boxes = Vec::new(alloc);
-        boxes.push(area)?;
-        Ok(Owed { boxes })
+        Owed {
+            area,
+            way: Way::new(alloc),
+            wanted: true,
+        }
     }
 
-    /// Puts a box before all others. The error is want of memory.
-    pub fn put(&mut self, area: SearchBox) -> Result<(), Memory>
-        ensures { OnOk result (self.new ≡ area ∷ self.old) }
+    /// The next box.
+    pub fn first(&self) -> &SearchBox
+        requires { 0 < length self.now }
+        ensures { self.now ≡ result.now ∷ drop 1 self.now }
     {
-        self.boxes.push(area)?;
+        &self.area
+    }
+
+    /// The next box gives way to its two parts. The error is want of memory.
+    pub fn split(&mut self, place: At) -> Result<(), Memory>
+        requires some { 0 < length self.old }
+        requires place { IsPlace (first_of self.old) place }
+        ensures { OnOk result (self.new ≡ low_part (first_of self.old) place ∷ high_part (first_of self.old) place ∷ drop 1 self.old) }
+    {
+        self.way.push(Entry {
+            place,
+            former: self.area.span_at(place),
+            on_high: false,
+        })?;
+        to_low(&mut self.area, place);
         Ok(())
     }
 
-    /// Takes the next box, if there is one.
-    pub fn take(&mut self) -> Option<SearchBox>
-        ensures { MatchOption result (self.old ≡ []) (λ area. self.old ≡ area ∷ self.new) }
+    /// The next box has its tree.
+    pub fn done(&mut self)
+        requires { 0 < length self.old }
+        ensures { self.new ≡ drop 1 self.old }
     {
-        self.boxes.pop()
+        self.wanted = next(&mut self.area, &mut self.way);
     }
 }

@@ -31,6 +31,51 @@ pub enum Reject {
     Memory,
 }
 
+/// Why a tree is refused: a node or leaf of it. They are counted as in `Reject`, whose own refusals mean the same.
+#[derive(Clone, Copy, Debug, PartialEq, Eq)]
+pub enum TreeReject {
+    /// The node's box can't be split at its place.
+    SplitOutside { node: u64 },
+    /// The leaf names a row that isn't there.
+    NoSuchRow { leaf: u64, row: RowId },
+    /// The leaf's multiplier of this row is below 0.
+    Negative { leaf: u64, row: RowId },
+    /// The leaf's sum with this row leaves 128 bits, first at this place.
+    Wide { leaf: u64, row: RowId, at: WideAt },
+    /// The leaf's sum doesn't rule out its box and, where there is a limit, doesn't keep the goal down to it. This is the
+    /// first place where it fails to: without a limit, where it fails to rule out.
+    LeafTooWeak { leaf: u64, place: Place },
+    /// Want of memory.
+    Memory,
+}
+
+impl From<Memory> for TreeReject {
+    ghost use Rattle.certificate_checker.specs.declared.reject.TreeReject.TheVariants as tree;
+
+    ghost from_gives = { λ _ reject. reject ≡ tree.Memory };
+
+    fn from(_: Memory) -> TreeReject {
+        TreeReject::Memory
+    }
+}
+
+impl From<TreeReject> for Reject {
+    ghost use Rattle.certificate_checker.specs.Refusals.{reject_from};
+
+    ghost from_gives = { λ refused reject. reject ≡ reject_from refused };
+
+    fn from(refused: TreeReject) -> Reject {
+        match refused {
+            TreeReject::SplitOutside { node } => Reject::SplitOutside { node },
+            TreeReject::NoSuchRow { leaf, row } => Reject::NoSuchRow { leaf, row },
+            TreeReject::Negative { leaf, row } => Reject::Negative { leaf, row },
+            TreeReject::Wide { leaf, row, at } => Reject::Wide { leaf, row, at },
+            TreeReject::LeafTooWeak { leaf, place } => Reject::LeafTooWeak { leaf, place },
+            TreeReject::Memory => Reject::Memory,
+        }
+    }
+}
+
 impl From<Memory> for Reject {
     ghost from_gives = { λ _ reject. reject ≡ Memory };
 

@@ -1,12 +1,19 @@
 //! Worked certificates of two signals: 100 parts, a cycle of 100 seconds, 36 kilometres an hour, one link each way. With
 //! reds of 50 and 250 metres the block sum is 0 or 1, and no weighted band is above 1/2.
 
-use crate::{Reject, check};
+ghost use Rattle.std.specs.Prelude.{IfOk, length, ◌≡◌};
+ghost use Rattle.progression.specs.Street.{count};
+ghost use Rattle.linear_theory.specs.Boxes.{IsBoxOf};
+ghost use Rattle.linear_theory.specs.Places.{width};
+
+use crate::{Aim, ArteryRows, Reject, TreeReject, check, check_tree};
 use artery_model::{Artery, Dir};
-use named_row::{Place, RowId, WideAt};
+use loop_rows::column_count;
+use named_row::{Leaf, Place, Row, RowId, WideAt};
 use narrow_fraction::{Frac, Op, Wide};
-use plan_text::read_certificate;
+use plan_text::{CertNode, read_certificate};
 use sample_streets::{SampleHead, plain_head, plain_link, plain_signal, two_signals};
+use search_box::SearchBox;
 use std::alloc::Global;
 use std::rt::HostRuntime;
 use std::test::Fail;
@@ -39,6 +46,14 @@ const WHOLE_TREE: [&str; 5] = [SPLIT, LOW_LEAF, HIGH_LEAF, "", ""];
 
 /// The third node has the block sum 1 alone.
 const SPLIT_AGAIN: [&str; 5] = [SPLIT, LOW_LEAF, SPLIT, HIGH_LEAF, HIGH_LEAF];
+
+/// No weighted band is above 1, in any box.
+const ONE_LEAF: &str = "leaf 2\nwout 1 1\nwin 1 1\n";
+
+const TWO_LEAVES: &str = "leaf 2\nwout 1 1\nwin 1 1\nleaf 2\nwout 1 1\nwin 1 1\n";
+
+/// Of the block sums 0 to 2 those up to 1 come first, and of these 0.
+const SPLIT_TWICE: &str = "split loop 1 1\nsplit loop 1 0\n";
 
 /// In column 0 the sum with the second row needs the denominator 2^100 * 3^70.
 const WIDE_LEAF: &str =
@@ -220,6 +235,52 @@ fn certificates(rt: HostRuntime) -> Result<(), Fail> {
         near(above, HALF_BAND, WHOLE_TREE, Ok(())),
         near(below, HALF_BAND, WHOLE_TREE, bound_below(less, half)),
         near(open, "", SPLIT_AGAIN, Err(Reject::SplitOutside { node: 3 })),
+        // 500 metres apart the block sum is 0 to 2. The boxes 0, 1 and 2; the third is none to split, at node 5.
+        a_case(
+            50,
+            500,
+            high_open,
+            "",
+            [SPLIT_TWICE, TWO_LEAVES, ONE_LEAF, "", ""],
+            Ok(()),
+        ),
+        a_case(
+            50,
+            500,
+            high_open,
+            "",
+            [SPLIT_TWICE, TWO_LEAVES, "split loop 1 1\n", TWO_LEAVES, ""],
+            Err(Reject::SplitOutside { node: 5 }),
+        ),
+        // The second of them is none either, at node 4, and the box from 1 on is split.
+        a_case(
+            50,
+            500,
+            high_open,
+            "",
+            [
+                SPLIT_TWICE,
+                ONE_LEAF,
+                "split loop 1 1\n",
+                TWO_LEAVES,
+                ONE_LEAF,
+            ],
+            Err(Reject::SplitOutside { node: 4 }),
+        ),
+        a_case(
+            50,
+            500,
+            high_open,
+            "",
+            [
+                "split loop 1 0\n",
+                ONE_LEAF,
+                "split loop 1 1\n",
+                TWO_LEAVES,
+                "",
+            ],
+            Ok(()),
+        ),
         // Faults of the second leaf, which is the third node.
         near(
             open,
@@ -342,5 +403,49 @@ fn rows_of_least_bands(rt: HostRuntime) -> Result<(), Fail> {
     // Nor has an artery of the first version such a row.
     let first = near(none, "", narrow, no_least);
     assert_eq!(rt; answer(alloc, &first)?, first.expected);
+    Ok(())
+}
+
+fn root(alloc: Global, artery: &Artery) -> Result<SearchBox, Fail>
+    ensures { IfOk result (λ area. IsBoxOf artery.now area) }
+{
+    match SearchBox::root(alloc, artery) {
+        Ok(area) => Ok(area),
+        Err(_) => Err("no memory".into()),
+    }
+}
+
+/// The goal that is 0 at each point.
+fn no_goal(alloc: Global, artery: &Artery) -> Result<Row, Fail>
+    ensures { IfOk result (λ goal. length goal.coefs ≡ width (count artery.now)) }
+{
+    match Row::zero(alloc, column_count(artery)) {
+        Ok(goal) => Ok(goal),
+        Err(_) => Err("no memory".into()),
+    }
+}
+
+#[test]
+fn trees_with_another_goal(rt: HostRuntime) -> Result<(), Fail> {
+    let alloc = rt.alloc();
+    let artery = artery(alloc, 50, 250)?;
+    let weak = |place| Err(TreeReject::LeafTooWeak { leaf: 1, place });
+    // A sum of no rows keeps it down to 0, to nothing less, and rules no box out.
+    let rows = [
+        (Some(Frac::whole(0)), Ok(())),
+        (Some(Frac::whole(-1)), weak(Place::Bound)),
+        (None, weak(Place::Bound)),
+    ];
+    for (limit, expected) in rows {
+        let aim = Aim {
+            goal: no_goal(alloc, &artery)?,
+            limit,
+        };
+        let multipliers = Vec::new(alloc);
+        let nodes = [CertNode::Leaf(Leaf { multipliers })];
+        let root = root(alloc, &artery)?;
+        let rows = ArteryRows { artery: &artery };
+        assert_eq!(rt; check_tree(alloc, &rows, root, &aim, &nodes), expected);
+    }
     Ok(())
 }

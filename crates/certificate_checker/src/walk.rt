@@ -1,19 +1,17 @@
 //! The nodes of a tree, one after another.
 
-ghost use Rattle.std.specs.Prelude.{◌≡◌, ◌+◌, ◌<◌, ◌≤◌, ◌^◌, [], ◌∷◌, List, length, map, All, None, OnOk, IfOk, IfErr};
-ghost use Rattle.linear_theory.specs.Boxes.{IsBoxOf, root_box};
-ghost use Rattle.linear_theory.specs.Counts.{IsStreet};
-ghost use Rattle.linear_theory.specs.Rows.{goal_form};
-ghost use Rattle.loop_rows.specs.Writing.{written};
+ghost use Rattle.std.specs.Prelude.{◌≡◌, ◌+◌, ◌<◌, ◌≤◌, ◌^◌, [], ◌∷◌, List, length, drop, map, All, None, OnOk, IfErr};
+ghost use Rattle.linear_theory.specs.Boxes.{Area};
 ghost use Rattle.search_box.specs.Places.{low_part, high_part};
 ghost use Rattle.plan_text.specs.Warrants.{Node, node_of, AreTrees};
-ghost use Rattle.certificate_checker.specs.Refusals.{split_refusal, nodes_refusal, IsFirst};
+ghost use Rattle.certificate_checker.specs.Owed.{first_of};
+ghost use Rattle.certificate_checker.specs.TreeProofs.{IsTreeProof};
+ghost use Rattle.certificate_checker.specs.TreeRefusals.{split_refusal, tree_refusal, IsFirstOf};
 
 use crate::leaves::{Aim, check_leaf};
 use crate::owed::Owed;
-use crate::reject::Reject;
-use artery_model::Artery;
-use narrow_fraction::Memory;
+use crate::reject::TreeReject;
+use crate::rows::TreeRows;
 use plan_text::CertNode;
 use search_box::{At, SearchBox};
 use std::alloc::Global;
@@ -25,89 +23,76 @@ struct Walk {
     leaves: u64,
 }
 
-/// The root box wants a tree.
-fn start(alloc: Global, artery: &Artery) -> Result<Walk, Memory>
-    ensures owed { IfOk result (λ walk. walk.owed ≡ root_box artery.now ∷ []) }
-    ensures boxed { IfOk result (λ walk. All (IsBoxOf artery.now) walk.owed) }
-    ensures leaves { IfOk result (λ walk. walk.leaves ≡ 0) }
-    ensures street { IsStreet artery.now }
+/// The parts of the next box, which is that of the node with this number, are wanted in its place.
+fn split(owed: &mut Owed, place: At, number: u64) -> Result<(), TreeReject>
+    requires some { 0 < length owed.old }
+    ensures none { OnOk result (split_refusal (first_of owed.old) number place ≡ None) }
+    ensures parts { OnOk result (owed.new ≡ low_part (first_of owed.old) place ∷ high_part (first_of owed.old) place ∷ drop 1 owed.old) }
+    ensures first { IfErr result (λ reject. IsFirstOf (split_refusal (first_of owed.old) number place) reject) }
 {
-    let root = SearchBox::root(alloc, artery)?;
-    let owed = Owed::new(alloc, root)?;
-    Ok(Walk { owed, leaves: 0 })
-}
-
-/// Splits the box of the node with this number, and puts its parts on the stack.
-fn split(
-    alloc: Global,
-    owed: &mut Owed,
-    area: &SearchBox,
-    place: At,
-    number: u64,
-) -> Result<(), Reject>
-    ensures none { OnOk result (split_refusal area.now number place ≡ None) }
-    ensures parts { OnOk result (owed.new ≡ low_part area.now place ∷ high_part area.now place ∷ owed.old) }
-    ensures first { IfErr result (λ reject. IsFirst (split_refusal area.now number place) reject) }
-{
-    let Some((low, high)) = area.split(alloc, place)? else {
-        return Err(Reject::SplitOutside { node: number });
-    };
-    owed.put(high)?;
-    owed.put(low)?;
+    if !owed.first().is_place(place) {
+        return Err(TreeReject::SplitOutside { node: number });
+    }
+    owed.split(place)?;
     Ok(())
 }
 
 /// Reads a node, for the next box, after so many nodes.
-fn read(
+fn read<R: TreeRows>(
     alloc: Global,
-    artery: &Artery,
+    rows: &R,
     aim: &Aim,
     walk: &mut Walk,
     before: u64,
     node: &CertNode,
-) -> Result<(), Reject>
-    requires goal { aim.now.goal ≡ written artery.now (goal_form artery.now) }
+) -> Result<(), TreeReject>
+    requires width { (box : Area) → length aim.now.goal.coefs ≡ (R.rows rows.now box).width }
     requires some { 0 < length walk.old.owed }
-    requires boxed { All (IsBoxOf artery.now) walk.old.owed }
+    requires ready { All (R.Ready rows.now) walk.old.owed }
     requires leaves { walk.old.leaves ≤ before }
     requires before { before + 1 < 2 ^ 64 }
-    ensures right { OnOk result ((rest : List Node) → nodes_refusal artery.now aim.now.limit before walk.old.leaves walk.old.owed (node_of node.now ∷ rest)
-        ≡ nodes_refusal artery.now aim.now.limit (before + 1) walk.new.leaves walk.new.owed rest) }
-    ensures first { IfErr result (λ reject. (rest : List Node) → IsFirst (nodes_refusal artery.now aim.now.limit before walk.old.leaves walk.old.owed (node_of node.now ∷ rest)) reject) }
+    ensures right { OnOk result ((rest : List Node) → tree_refusal (R.rows rows.now) aim.now before walk.old.leaves walk.old.owed (node_of node.now ∷ rest)
+        ≡ tree_refusal (R.rows rows.now) aim.now (before + 1) walk.new.leaves walk.new.owed rest) }
+    ensures first { IfErr result (λ reject. (rest : List Node) → IsFirstOf (tree_refusal (R.rows rows.now) aim.now before walk.old.leaves walk.old.owed (node_of node.now ∷ rest)) reject) }
     ensures trees { OnOk result ((rest : List Node) → AreTrees (length walk.old.owed) (node_of node.now ∷ rest) → AreTrees (length walk.new.owed) rest) }
-    ensures boxed { OnOk result (All (IsBoxOf artery.now) walk.new.owed) }
+    ensures ready { OnOk result (All (R.Ready rows.now) walk.new.owed) }
     ensures leaves { OnOk result (walk.new.leaves ≤ before + 1) }
 {
-    let area = match walk.owed.take() {
-        Some(area) => area,
-        None => unreachable!(),
-    };
     match node {
-        CertNode::Split(place) => split(alloc, &mut walk.owed, &area, *place, before + 1),
+        CertNode::Split(place) => split(&mut walk.owed, *place, before + 1),
         CertNode::Leaf(leaf) => {
-            check_leaf(alloc, artery, aim, &area, walk.leaves + 1, leaf)?;
+            check_leaf(alloc, rows, aim, walk.owed.first(), walk.leaves + 1, leaf)?;
+            walk.owed.done();
             walk.leaves += 1;
             Ok(())
         }
     }
 }
 
-/// Checks the nodes of a tree, the root box being that of the first.
-pub fn check_nodes(
+/// Checks the nodes of a tree over any rows, from the box of the first node on. The goal is as wide as the rows. Ok comes
+/// exactly where each split lies in its box and each leaf shows what it must, and else the first refusal.
+///
+/// Want of memory may come in place of any answer.
+pub fn check_tree<R: TreeRows>(
     alloc: Global,
-    artery: &Artery,
+    rows: &R,
+    root: SearchBox,
     aim: &Aim,
     nodes: &[CertNode],
-) -> Result<(), Reject>
-    requires goal { aim.now.goal ≡ written artery.now (goal_form artery.now) }
+) -> Result<(), TreeReject>
+    requires ready { R.Ready rows.now root }
+    requires width { (box : Area) → length aim.now.goal.coefs ≡ (R.rows rows.now box).width }
     requires tree { AreTrees 1 (map node_of nodes.now) }
-    ensures none { OnOk result (nodes_refusal artery.now aim.now.limit 0 0 (root_box artery.now ∷ []) (map node_of nodes.now) ≡ None) }
-    ensures first { IfErr result (λ reject. IsFirst (nodes_refusal artery.now aim.now.limit 0 0 (root_box artery.now ∷ []) (map node_of nodes.now)) reject) }
-    ensures street { IsStreet artery.now }
+    ensures none { OnOk result (tree_refusal (R.rows rows.now) aim.now 0 0 (root ∷ []) (map node_of nodes.now) ≡ None) }
+    ensures first { IfErr result (λ reject. IsFirstOf (tree_refusal (R.rows rows.now) aim.now 0 0 (root ∷ []) (map node_of nodes.now)) reject) }
+    ensures proof { OnOk result (IsTreeProof (R.rows rows.now) aim.now (root ∷ []) (map node_of nodes.now)) }
 {
-    let mut walk = start(alloc, artery)?;
+    let mut walk = Walk {
+        owed: Owed::new(alloc, root),
+        leaves: 0,
+    };
     for (index, node) in nodes.iter().enumerate() {
-        read(alloc, artery, aim, &mut walk, index as u64, node)?;
+        read(alloc, rows, aim, &mut walk, index as u64, node)?;
     }
     Ok(())
 }

@@ -14,6 +14,7 @@ mod numbered;
 mod reading;
 mod real_files;
 mod real_out;
+mod replacing;
 mod sink;
 mod stored;
 mod sure_files;

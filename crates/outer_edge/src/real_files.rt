@@ -1,9 +1,11 @@
 //! The system's files.
 
-ghost use Rattle.std.specs.Prelude.{◌≡◌, ◌<◌, ◌≤◌, length, None, IfOk, IsErrOf, is_err};
+ghost use Rattle.std.specs.Prelude.{◌≡◌, ◌<◌, ◌≤◌, length, None, IfOk, IsErrOf, OnOk, is_err};
+ghost use Rattle.outer_edge.specs.Counts.{next_count};
 ghost use Rattle.outer_edge.specs.Device.{count_if};
 
 use crate::files::{FileEnd, Files};
+use crate::replacing::{Unreplaced, replace};
 use narrow_fraction::Memory;
 use std::alloc::Global;
 use std::io::{self, Read, Seek, SeekFrom};
@@ -12,9 +14,24 @@ use std::{fs, rt};
 
 /// The files of the system. It tells no contents, and gives one count of failed reads and one of
 /// failed puts as the count of every name.
+///
+/// A put writes a new file in the same folder, and gives it the name when all of it is stored. So a put that fails, as on
+/// a full disk, leaves what stood there, and the new file is removed. Until then it is named as the file, with `.new1` at
+/// the end, or with the next number up to 100 where there are such files; a program that is killed in the midst of a put
+/// may leave it behind. Permissions stay those of the old file; what a system keeps besides them, as access lists, isn't
+/// carried over. A symbolic link stays, and the file that it names is replaced.
+///
+/// Written in place, so that a put that fails may leave neither the old bytes nor the new ones, are
+/// - devices, pipes and all else that is no regular file, the links below `/dev` and `/proc`, and links to a file that isn't there;
+/// - a file of several names (hard links), or with another owner or group than a new file would have;
+/// - a file beside which no new one can be made or given its name for another reason than a full disk: the folder can't
+///   be written to, the longer name isn't allowed, all hundred names are taken.
+///
+/// A file that may not be written to is never replaced: its put fails.
 #[derive(Drop)]
 pub struct RealFiles<R: rt::Files + Clone + Drop> {
     rt: R,
+    alloc: Global,
     read_faults: u64,
     put_faults: u64,
 }
@@ -32,9 +49,9 @@ impl<R: rt::Files + Clone + Drop> RealFiles<R> {
     pub fn new(rt: &R, alloc: Global) -> Result<RealFiles<R>, Memory>
         ensures { IfOk result (λ files. files ≡ record { reads = 0; puts = 0 }) }
     {
-        let _ = alloc;
         Ok(RealFiles {
             rt: rt.clone()?,
+            alloc,
             read_faults: 0,
             put_faults: 0,
         })
@@ -47,6 +64,19 @@ fn read_at<R: rt::Files>(rt: &R, name: &str, into: &mut [u8], at: u64) -> io::Re
     let mut file = fs::open(rt, name)?;
     file.seek(SeekFrom::Start(at))?;
     file.read(into)
+}
+
+/// Replaces the file by a new one, or writes it in place where none may take its place.
+fn put_text<R: rt::Files>(rt: &R, alloc: Global, name: &str, bytes: &[u8]) -> Result<(), FileEnd> {
+    match replace(rt, alloc, name, bytes) {
+        Ok(()) => Ok(()),
+        Err(Unreplaced::Memory) => Err(FileEnd::Memory),
+        Err(Unreplaced::Failed) => Err(FileEnd::Failed),
+        Err(Unreplaced::Unfit) => match fs::write(rt, name, bytes) {
+            Ok(()) => Ok(()),
+            Err(_) => Err(FileEnd::Failed),
+        },
+    }
 }
 
 impl<R: rt::Files + Clone + Drop> Files for RealFiles<R> {
@@ -73,16 +103,17 @@ impl<R: rt::Files + Clone + Drop> Files for RealFiles<R> {
     }
 
     fn put(&mut self, name: &str, bytes: &[u8]) -> Result<(), FileEnd>
-        ensures counts { self.new ≡ record self.old { puts = count_if (is_err result) self.old.puts } }
+        ensures none_failed { OnOk result (self.new ≡ self.old) }
+        ensures failed { IsErrOf result FileEnd.Failed → self.new ≡ record self.old { puts = next_count self.old.puts } }
+        ensures memory { IsErrOf result FileEnd.Memory → self.new ≡ self.old }
         ensures puts { self.old.puts ≤ self.new.puts }
-        ensures not_memory { IsErrOf result FileEnd.Memory → ⊥ }
     {
-        match fs::write(&self.rt, name, bytes) {
-            Ok(()) => Ok(()),
-            Err(_) => {
+        match put_text(&self.rt, self.alloc, name, bytes) {
+            Err(FileEnd::Failed) => {
                 self.put_faults = self.put_faults.saturating_add(1);
                 Err(FileEnd::Failed)
             }
+            end => end,
         }
     }
 }

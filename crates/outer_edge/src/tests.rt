@@ -4,10 +4,14 @@ use crate::{
     Failed, FileEnd, Files, MemFiles, MemSink, ReadEnd, RealFiles, RealOut, Sink, SureFiles,
     SureSink, read_whole, write_whole,
 };
+use std::alloc::Allocator;
 use std::cell::Cell;
 use std::fmt::Display;
+use std::fs::{Metadata, OpenFile, OpenOptions};
+use std::io::{ErrorKind, Read, Seek, SeekFrom, Write};
+use std::os::unix::fs::{MetadataExt, OpenOptionsExt, symlink};
 use std::test::Fail;
-use std::{fs, io};
+use std::{fs, io, rt};
 
 /// A pipe that takes at most four bytes a call and sixteen in all, and tells how many it took.
 #[derive(Clone, Drop)]
@@ -36,6 +40,113 @@ impl Print for Narrow<'_> {
         let count = bytes.len().min(4).min(16usize.saturating_sub(before));
         self.taken.set(before.saturating_add(count));
         Ok(count)
+    }
+}
+
+/// The system's files on a disk that is full: each takes four bytes more.
+#[derive(Clone, Drop)]
+struct FullDisk {
+    rt: HostRuntime,
+}
+
+#[derive(Drop)]
+struct FullFile {
+    file: fs::File,
+    room: usize,
+}
+
+impl Read for FullFile {
+    fn read(&mut self, buf: &mut [u8]) -> io::Result<usize> {
+        self.file.read(buf)
+    }
+}
+
+impl Write for FullFile {
+    fn write(&mut self, buf: &[u8]) -> io::Result<usize> {
+        if self.room == 0 {
+            return Err(io::Error::from(ErrorKind::StorageFull));
+        }
+        let count = self.file.write(&buf[..buf.len().min(self.room)])?;
+        self.room = self.room.saturating_sub(count);
+        Ok(count)
+    }
+
+    fn flush(&mut self) -> io::Result<()> {
+        Ok(())
+    }
+}
+
+impl Seek for FullFile {
+    fn seek(&mut self, to: SeekFrom) -> io::Result<u64> {
+        self.file.seek(to)
+    }
+}
+
+impl OpenFile for FullFile {
+    fn metadata(&self) -> io::Result<Metadata> {
+        self.file.metadata()
+    }
+
+    fn set_len(&self, size: u64) -> io::Result<()> {
+        self.file.set_len(size)
+    }
+
+    fn sync_all(&self) -> io::Result<()> {
+        self.file.sync_all()
+    }
+
+    fn sync_data(&self) -> io::Result<()> {
+        self.file.sync_data()
+    }
+}
+
+impl rt::Files for FullDisk {
+    type File = FullFile;
+
+    type Dir = FullFile;
+
+    fn open_file(&self, how: &OpenOptions, path: &str) -> io::Result<FullFile> {
+        Ok(FullFile {
+            file: self.rt.open_file(how, path)?,
+            room: 4,
+        })
+    }
+
+    fn open_dir(&self, path: &str) -> io::Result<FullFile> {
+        let _ = path;
+        Err(io::Error::from(ErrorKind::Unsupported))
+    }
+
+    fn metadata(&self, path: &str) -> io::Result<Metadata> {
+        self.rt.metadata(path)
+    }
+
+    fn symlink_metadata(&self, path: &str) -> io::Result<Metadata> {
+        self.rt.symlink_metadata(path)
+    }
+
+    fn copy(&self, from: &str, to: &str) -> io::Result<u64> {
+        self.rt.copy(from, to)
+    }
+
+    fn rename(&self, from: &str, to: &str) -> io::Result<()> {
+        self.rt.rename(from, to)
+    }
+
+    fn remove_file(&self, path: &str) -> io::Result<()> {
+        self.rt.remove_file(path)
+    }
+
+    fn create_dir(&self, path: &str) -> io::Result<()> {
+        self.rt.create_dir(path)
+    }
+
+    fn remove_dir(&self, path: &str) -> io::Result<()> {
+        self.rt.remove_dir(path)
+    }
+
+    fn remove_dir_all<B: Allocator>(&self, alloc: B, path: &str) -> io::Result<()> {
+        self.rt.remove_dir_all(alloc, path)
     }
 }
 
@@ -121,6 +232,54 @@ fn a_file_of_the_system_is_read_back(rt: HostRuntime) -> Result<(), Fail> {
         Err(FileEnd::Failed)
     );
     assert_eq!(rt; files.put("no/such/folder", b"x"), Err(FileEnd::Failed));
+    Ok(())
+}
+
+#[test]
+fn a_full_disk_leaves_the_old_file(rt: HostRuntime) -> Result<(), Fail> {
+    let mut files = RealFiles::new(&FullDisk { rt: rt.clone()? }, rt.alloc())?;
+    files.put("outer_edge.full", b"old")?;
+    assert_eq!(rt;
+        files.put("outer_edge.full", b"newer"),
+        Err(FileEnd::Failed)
+    );
+    assert_eq!(rt;
+        fs::read(&rt, "outer_edge.full")?.as_slice(),
+        b"old".as_slice()
+    );
+    assert!(rt; !fs::exists(&rt, "outer_edge.full.new1")?);
+    fs::remove_file(&rt, "outer_edge.full")?;
+    assert_eq!(rt;
+        files.put("outer_edge.full", b"newer"),
+        Err(FileEnd::Failed)
+    );
+    assert!(rt; !fs::exists(&rt, "outer_edge.full")?);
+    Ok(())
+}
+
+#[test]
+fn a_put_keeps_links_permissions_and_other_files(rt: HostRuntime) -> Result<(), Fail> {
+    let mut private = OpenOptions::new();
+    private.write(true).create_new(true).mode(0o600);
+    private.open(&rt, "outer_edge.kept")?;
+    fs::write(&rt, "outer_edge.kept.new1", b"another's")?;
+    symlink(&rt, "outer_edge.kept", "outer_edge.link")?;
+    let mut files = RealFiles::new(&rt, rt.alloc())?;
+    files.put("outer_edge.link", b"through the link")?;
+    assert!(rt; fs::symlink_metadata(&rt, "outer_edge.link")?.is_symlink());
+    assert_eq!(rt;
+        fs::read(&rt, "outer_edge.kept")?.as_slice(),
+        b"through the link".as_slice()
+    );
+    assert_eq!(rt; fs::metadata(&rt, "outer_edge.kept")?.mode() & 0o777, 0o600);
+    assert_eq!(rt;
+        fs::read(&rt, "outer_edge.kept.new1")?.as_slice(),
+        b"another's".as_slice()
+    );
+    assert!(rt; !fs::exists(&rt, "outer_edge.kept.new2")?);
+    for name in ["outer_edge.link", "outer_edge.kept", "outer_edge.kept.new1"] {
+        fs::remove_file(&rt, name)?;
+    }
     Ok(())
 }
 

@@ -1,20 +1,24 @@
-use Rattle.std.proofs.Common.{◌+◌}
+use Rattle.std.proofs.Common.{◌+◌, drop, sym, subst, All}
 use Rattle.std.proofs.lemmas.List.Elements.{All-head, All-tail}
-use Rattle.linear_theory.specs.Boxes.{IsBoxOf}
-use Rattle.certificate_checker.proofs.PlaceTests.{split_boxed}
+use Rattle.certificate_checker.specs.Owed.{first_of}
+use Rattle.certificate_checker.proofs.PlaceTests.{split_ready}
+use Rattle.certificate_checker.proofs.Ways.{begins}
 use Rattle.certificate_checker.proofs.walk.read.Goals as goal
 
-pub returns-in-Split-clause-boxed : goal.returns-in-Split-clause-boxed
-returns-in-Split-clause-boxed c =
-    let boxed = rw c.in-Some.ensures at c.requires.boxed in
-    split_boxed c.args.artery.now c.in-Some.area c.take.new.self c.split.new.owed (c.args.before + 1) _ c.split.result
-    (All-head (IsBoxOf c.args.artery.now) c.in-Some.area c.take.new.self boxed) (All-tail (IsBoxOf c.args.artery.now) c.in-Some.area c.take.new.self boxed)
-    c.split.ensures.none c.split.ensures.parts
+pub check_leaf-requires-clause-ready : goal.check_leaf-requires-clause-ready
+check_leaf-requires-clause-ready g c =
+    let Ready = g.R.TreeRows.Ready c.args.rows.now in
+    All-head Ready c.first.result.now (drop 1 c.args.walk.now.owed) (subst (All Ready) c.first.ensures c.requires.ready)
 
-pub check_leaf-requires-clause-boxed : goal.check_leaf-requires-clause-boxed
-check_leaf-requires-clause-boxed c =
-    All-head (IsBoxOf c.args.artery.now) c.in-Some.area c.take.new.self (rw c.in-Some.ensures at c.requires.boxed)
+pub returns-in-Split-clause-ready : goal.returns-in-Split-clause-ready
+returns-in-Split-clause-ready g c =
+    let Ready = g.R.TreeRows.Ready c.args.rows.now in
+    let old = c.args.walk.now.owed in
+    let ready = subst (All Ready) (begins old c.requires.some) c.requires.ready in
+    split_ready Ready (g.met.R.TreeRows.parts c.args.rows.now) (first_of old) (drop 1 old) c.split.new.owed (c.args.before + 1) _ c.split.result
+    (All-head Ready (first_of old) (drop 1 old) ready) (All-tail Ready (first_of old) (drop 1 old) ready) c.split.ensures.none c.split.ensures.parts
 
-pub returns-clause-boxed : goal.returns-clause-boxed
-returns-clause-boxed c =
-    All-tail (IsBoxOf c.args.artery.now) c.in-Some.area c.take.new.self (rw c.in-Some.ensures at c.requires.boxed)
+pub returns-in_ok-check_leaf-in-Leaf-clause-ready : goal.returns-in_ok-check_leaf-in-Leaf-clause-ready
+returns-in_ok-check_leaf-in-Leaf-clause-ready g c =
+    let Ready = g.R.TreeRows.Ready c.args.rows.now in
+    subst (All Ready) (sym c.done.ensures) (All-tail Ready c.first.result.now (drop 1 c.args.walk.now.owed) (subst (All Ready) c.first.ensures c.requires.ready))

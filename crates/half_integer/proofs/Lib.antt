@@ -1,0 +1,8 @@
+pub mod HalfPlan
+pub mod Rooms
+pub mod Lists
+pub mod Made
+pub mod Twice
+pub mod Lefts
+pub mod Centred
+pub mod Ends

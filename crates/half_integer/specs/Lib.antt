@@ -1,0 +1,7 @@
+pub mod HalfPlan
+pub mod Lines
+pub mod Fitting
+pub mod Uneven
+pub mod TooFine
+pub mod Phases
+pub mod Answers

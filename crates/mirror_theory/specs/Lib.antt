@@ -1,0 +1,4 @@
+pub mod EqualBands
+pub mod Runs
+pub mod Built
+pub mod Promises
