@@ -149,27 +149,52 @@ pub record CutsIn (n d : ℕ) (b c : Bands) : Type 0 where
   pub out : c.outbound ≡ b.outbound
   pub back : c.inbound ≡ min b.inbound (b.outbound * n / d)
 
-module _ (k : ℚ) (n : ℕ) (e : pos n ≡ k.num) (b c : Bands) (h : IsCutByRatio k b c) where
+module _ (k : ℚ) (n : ℕ) (e : pos n ≡ k.num) where
   is_ratio : IsRatio k n 0 k.den
   is_ratio = as_ratio k n e
 
+  is_zero : n ≡ 0 → k ≡ number 0
+  is_zero z = same_ratio _ _ _ _ _ _ _ _ is_ratio (whole_ratio (pos 0)) (omega arith)
+
+  is_one : n ≡ k.den → k ≡ number 1
+  is_one z = same_ratio _ _ _ _ _ _ _ _ is_ratio (whole_ratio (pos 1)) (omega arith)
+
+  is_some : 1 ≤ n → number 0 <ℚ k
+  is_some p = not-≤ℚ _ _ (λ w. let f = ≤ℚ_out _ _ _ _ _ _ _ _ is_ratio (whole_ratio (pos 0)) w in absurd (omega (arith, f)))
+
+  is_below : n < k.den → k <ℚ number 1
+  is_below l = not-≤ℚ _ _ (λ w. let f = ≤ℚ_out _ _ _ _ _ _ _ _ (whole_ratio (pos 1)) is_ratio w in absurd (omega (arith, f)))
+
+  is_above : k.den < n → number 1 <ℚ k
+  is_above l = not-≤ℚ _ _ (λ w. let f = ≤ℚ_out _ _ _ _ _ _ _ _ is_ratio (whole_ratio (pos 1)) w in absurd (omega (arith, f)))
+
+  -- the ratio cuts in one way
+  pub one_cut : (w b c : Bands) → IsCutByRatio k w b → IsCutByRatio k w c → b ≡ c
+  one_cut w b c h g = elim (cases_eq n 0) [
+    | inl z ↦ h.else (inl (is_zero z)) ∙ sym (g.else (inl (is_zero z)))
+    | inr z ↦ elim (cases_lt n k.den) [
+      | inl l ↦ (let p : 1 ≤ n = omega arith in h.below (is_some p) (is_below l) ∙ sym (g.below (is_some p) (is_below l)))
+      | inr l ↦ elim (cases_eq n k.den) [
+        | inl s ↦ h.else (inr (is_one s)) ∙ sym (g.else (inr (is_one s)))
+        | inr s ↦ (let m : k.den < n = omega arith in h.above (is_above m) ∙ sym (g.above (is_above m)))
+      ]
+    ]
+  ]
+
+module _ (k : ℚ) (n : ℕ) (e : pos n ≡ k.num) (b c : Bands) (h : IsCutByRatio k b c) where
   view_zero : n ≡ 0 → Stays n k.den b c
   view_zero z =
-      let zero_is : k ≡ number 0 = same_ratio _ _ _ _ _ _ _ _ is_ratio (whole_ratio (pos 0)) (omega arith) in
-      let same = h.else (inl zero_is) in
+      let same = h.else (inl (is_zero k n e z)) in
       record { ratio = inl z; out = ap (λ (s : Bands). s.outbound) same; back = ap (λ (s : Bands). s.inbound) same }
 
   view_one : n ≡ k.den → Stays n k.den b c
   view_one z =
-      let one_is : k ≡ number 1 = same_ratio _ _ _ _ _ _ _ _ is_ratio (whole_ratio (pos 1)) (omega arith) in
-      let same = h.else (inr one_is) in
+      let same = h.else (inr (is_one k n e z)) in
       record { ratio = inr z; out = ap (λ (s : Bands). s.outbound) same; back = ap (λ (s : Bands). s.inbound) same }
 
   view_below : 1 ≤ n → n < k.den → CutsOut n k.den b c
   view_below p l =
-      let above : number 0 <ℚ k = not-≤ℚ _ _ (λ w. let f = ≤ℚ_out _ _ _ _ _ _ _ _ is_ratio (whole_ratio (pos 0)) w in absurd (omega (arith, f))) in
-      let under : k <ℚ number 1 = not-≤ℚ _ _ (λ w. let f = ≤ℚ_out _ _ _ _ _ _ _ _ (whole_ratio (pos 1)) is_ratio w in absurd (omega (arith, f))) in
-      let same = h.below above under in
+      let same = h.below (is_some k n e p) (is_below k n e l) in
       record {
         some = p;
         below = l;
@@ -179,8 +204,7 @@ module _ (k : ℚ) (n : ℕ) (e : pos n ≡ k.num) (b c : Bands) (h : IsCutByRat
 
   view_above : k.den < n → CutsIn n k.den b c
   view_above l =
-      let above : number 1 <ℚ k = not-≤ℚ _ _ (λ w. let f = ≤ℚ_out _ _ _ _ _ _ _ _ is_ratio (whole_ratio (pos 1)) w in absurd (omega (arith, f))) in
-      let same = h.above above in
+      let same = h.above (is_above k n e l) in
       record {
         above = l;
         out = ap (λ (s : Bands). s.outbound) same;
@@ -258,3 +282,11 @@ module _ (a : Street) (n : ℕ) (e : pos n ≡ a.head.ratio.num) (b c : Bands) (
 
   pub cut_most : (o i : ℕ) → o ≤ b.outbound → i ≤ b.inbound → RatioHolds a.head.ratio o i → (IsTrue a.head.equal → o ≡ i) → (o ≤ c.outbound) × (i ≤ c.inbound)
   cut_most = most_by a.head.equal refl
+
+-- a cut is determined
+cut_by : (a : Street) (n : ℕ) → pos n ≡ a.head.ratio.num → (w b c : Bands) → IsCut a w b → IsCut a w c → (v : Bool) → a.head.equal ≡ v → b ≡ c
+cut_by a n e w b c h g true is = h.equal is ∙ sym (g.equal is)
+cut_by a n e w b c h g false is = one_cut a.head.ratio n e w b c (h.ratio is) (g.ratio is)
+
+pub one_cut_of : (a : Street) (n : ℕ) → pos n ≡ a.head.ratio.num → (w b c : Bands) → IsCut a w b → IsCut a w c → b ≡ c
+one_cut_of a n e w b c h g = cut_by a n e w b c h g a.head.equal refl

@@ -4,3 +4,4 @@ mod Cuts
 mod Fine
 mod Rules
 mod Best
+mod Once

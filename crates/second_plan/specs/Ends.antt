@@ -10,13 +10,15 @@ use Rattle.progression.specs.Good.{Good}
 use Rattle.progression.specs.Best.{weighted_band}
 use Rattle.progression.specs.declared.parts.Dir.{Dir}
 use Rattle.progression.specs.declared.parts.Dir.TheVariants.{Outbound, Inbound}
+use Rattle.artery_model.specs.Valid.{IsValid}
 use Rattle.time_space.specs.FirstFailing.{IsFirstFailing}
 use Rattle.time_space.specs.declared.failing.Failing.{Failing}
 use Rattle.time_space.specs.declared.failing.Failing.TheVariants.{Least}
 use Rattle.band_measure.specs.Widest.{NoneRuns}
 use Rattle.second_plan.specs.Seconds.{IsWholeCycle, IsSeconds}
 use Rattle.second_plan.specs.Grid.{in_seconds, too_fine}
-use Rattle.second_plan.specs.Planned.{AreWhole, IsPlanned}
+use Rattle.second_plan.specs.Planned.{AreWhole, IsPlanned, IsAnswer}
+use Rattle.second_plan.specs.declared.answer.Plan.{Plan as Answer}
 use Rattle.second_plan.specs.declared.answer.PlanEnd.{PlanEnd}
 use Rattle.second_plan.specs.declared.answer.PlanEnd.TheVariants as end
 use Rattle.second_plan.specs.declared.answer.PlanFault.{PlanFault}
@@ -68,3 +70,14 @@ Ends a claim t (end.Wide w) = IsPastLoss a claim t w
 abbrev pub Faults : Street → ℚ → Plan → PlanFault → Type 0
 Faults a claim t (fault.End e) = Ends a claim t e
 Faults a claim t fault.Memory = Unit {0}
+
+-- Of a good timing at most one end comes, none comes where there is a plan, and the plan's numbers are determined.
+abbrev pub OneEnd : Type 0
+OneEnd = (a : Street) (claim : ℚ) (t : Plan) (e f : PlanEnd) → IsValid a → Good a t → Ends a claim t e → Ends a claim t f → e ≡ f
+
+abbrev pub PlanOrEnd : Type 0
+PlanOrEnd = (a : Street) (claim : ℚ) (t : Plan) (p : Answer) (e : PlanEnd) → IsValid a → Good a t → IsAnswer a claim t p → ¬ Ends a claim t e
+
+abbrev pub OnePlan : Type 0
+OnePlan = (a : Street) (claim : ℚ) (t : Plan) (p q : Answer) → IsValid a → Good a t → IsAnswer a claim t p → IsAnswer a claim t q
+    → (p.seconds ≡ q.seconds) × (p.offsets.items ≡ q.offsets.items) × (p.timing ≡ q.timing) × (p.loss ≡ q.loss)

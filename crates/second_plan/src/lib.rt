@@ -6,6 +6,7 @@
 mod answer;
 mod bands;
 mod grid;
+mod laws;
 mod nearest;
 mod planning;
 mod seconds;
@@ -13,4 +14,5 @@ mod seconds;
 mod tests;
 
 pub use answer::{Plan, PlanEnd, PlanFault};
+pub use laws::{law_one_end, law_one_plan, law_plan_or_end};
 pub use planning::plan;
