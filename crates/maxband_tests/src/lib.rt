@@ -17,6 +17,8 @@ mod long_files;
 #[cfg(test)]
 mod made_cases;
 #[cfg(test)]
+mod plan_cases;
+#[cfg(test)]
 mod renew_cases;
 #[cfg(test)]
 mod running;

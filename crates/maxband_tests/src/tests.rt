@@ -6,6 +6,7 @@ use crate::damage_cases::{
 use crate::fault_cases::FAULTS;
 use crate::length_cases::{LINE_FEEDS, PADDED, is_checked, is_read};
 use crate::made_cases::{CANONICAL, TRIALS, is_canonical, is_found};
+use crate::plan_cases::{HALVED, MEASURES, ROUNDED, is_as_planned};
 use crate::renew_cases::{RENEWALS, is_renewed};
 use crate::running::{first_wrong, first_wrong_search, is_answered, is_reported};
 use crate::shipped::STREETS;
@@ -170,6 +171,30 @@ fn certificates_about_their_greatest_length(rt: HostRuntime) -> Result<(), Fail>
             is_checked(rt.alloc(), *length, *number, *written)?,
             "{length}"
         );
+    }
+    Ok(())
+}
+
+#[test]
+fn measures_of_plans(rt: HostRuntime) -> Result<(), Fail> {
+    for case in &MEASURES {
+        assert!(rt; is_as_planned(rt.alloc(), case)?, "{}", case.name);
+    }
+    Ok(())
+}
+
+#[test]
+fn plans_in_whole_seconds(rt: HostRuntime) -> Result<(), Fail> {
+    for case in &ROUNDED {
+        assert!(rt; is_as_planned(rt.alloc(), case)?, "{}", case.name);
+    }
+    Ok(())
+}
+
+#[test]
+fn half_cycle_plans(rt: HostRuntime) -> Result<(), Fail> {
+    for case in &HALVED {
+        assert!(rt; is_as_planned(rt.alloc(), case)?, "{}", case.name);
     }
     Ok(())
 }
