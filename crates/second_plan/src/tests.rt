@@ -1,4 +1,4 @@
-//! Worked rows: two signals and a cycle of 100 parts, with a metre to a tenth of a second.
+//! Worked rows: two signals and a cycle of 100 parts, where a metre takes a tenth of a second.
 
 use crate::{Plan, PlanEnd, PlanFault, plan};
 use artery_model::{Artery, Pair};
@@ -9,7 +9,8 @@ use std::alloc::Global;
 use std::test::Fail;
 use time_space::{Failing, Timing, holds};
 
-/// What differs between the streets. Both signals have so many parts of red; the ratio and the least bands are fractions.
+/// What differs between the streets: the red of both signals in parts, the distances outbound and inbound, the limits of the cycle in
+/// tenths of a second, the ratio as a fraction, and the least bands in hundredths of the cycle.
 #[derive(Clone, Copy)]
 struct Street {
     red: u32,
@@ -21,7 +22,7 @@ struct Street {
     equal: bool,
 }
 
-/// What differs between the timings, whose bands are lines but in the first row.
+/// What differs between the timings: the start of the second red, and the numbers of both directions.
 #[derive(Clone, Copy)]
 struct Times {
     grid: u128,
