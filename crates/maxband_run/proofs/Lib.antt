@@ -14,3 +14,4 @@ pub mod Ranges
 pub mod Tried
 pub mod Cycling
 pub mod Unlimited
+pub mod Planning
