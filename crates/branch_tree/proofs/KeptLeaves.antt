@@ -21,7 +21,7 @@ use Rattle.program_builder.specs.BoxRows.{rows_of, name_at}
 use Rattle.program_builder.proofs.RowOrder.{rows_ascending, rows_there}
 use Rattle.program_builder.proofs.RowCounts.{rows_most}
 use Rattle.dual_leaf.specs.Leaves.{multiplier, multipliers_below}
-use Rattle.plan_text.specs.Families.{IsNamed, is_lone, is_after}
+use Rattle.plan_text.specs.Families.{IsNamed, ordinary, is_after}
 use Rattle.plan_text.specs.Warrants.{Ascend, IsNode, LeafOf}
 use Rattle.branch_tree.specs.ArteryProgram.{program_of}
 use Rattle.branch_tree.specs.Ends.{named_last, end_move, leaf_by, end_leaf}
@@ -46,7 +46,7 @@ below_test r s (inr h) = or_right _ _ (and_both _ _ (eq-eqb _ _ h.0) (lt-ltb _ _
 
 -- a row of the artery has a name
 named_row : (a : Street) (f i : ℕ) → HasRow a (name_of f i) → IsNamed (record { family = f; index = i })
-unfolding is_lone
+unfolding ordinary
 named_row a f i h =
     let x = row_index a f i h in
     record { first = family_least a f i h; last = family_most a f i h; lone = x.none; indexed = x.some }

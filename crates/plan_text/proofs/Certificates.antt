@@ -1,104 +1,282 @@
--- The two laws of the text of a certificate: what is read is spelled so, and what is spelled so is read.
-use Rattle.std.proofs.Common.{◌≡◌, ℕ, ◌+◌, List, [], ◌∷◌, ◌++◌, length, All, Result, Ok, Err, refl, sym, ap, ◌∙◌, arith}
-use Rattle.std.specs.Prelude.{flat_map, IfOk}
+-- The two laws of the texts of a certificate: what is read is spelled so, and what is spelled so is read.
+use Rattle.std.proofs.Common.{◌≡◌, ℕ, ◌+◌, ◌<◌, ◌≤◌, ◌^◌, Bool, true, false, List, [], ◌∷◌, ◌++◌, length, All, None, Result, Ok, Err, refl, sym, ap, subst, ◌∙◌, eqb-true, inl, inr, arith}
+use Rattle.std.specs.Prelude.{◌⊎◌, ◌==◌, flat_map, IfOk, if◌then◌else◌}
+use Rattle.std.specs.Cmp.Lexicographic.{pointwise}
+use Rattle.std.specs.List.{AllByRecursion}
+use Rattle.std.proofs.lemmas.Bool.{and_parts, eq-eqb}
 use Rattle.std.proofs.lemmas.List.Elements.{All-from_recursion, recursion_from_All}
+use Rattle.rational_theory.proofs.Multiples.{IsMultiple}
+use Rattle.named_row.specs.declared.leaves.Weight.{Weight}
+use Rattle.named_row.specs.declared.names.RowId.{RowId}
+use Rattle.search_box.specs.declared.span.At.TheVariants.{Loop, Turn}
+use Rattle.plan_text.specs.declared.form.Form.{Form}
+use Rattle.plan_text.specs.declared.form.Form.TheVariants.{Over, Plain}
+use Rattle.plan_text.specs.declared.fault.TextFault.TheVariants.{Shape}
 use Rattle.plan_text.specs.declared.fault.TextEnd.{TextEnd}
+use Rattle.plan_text.specs.Words.{is_text}
 use Rattle.plan_text.specs.Spelling.{end_line}
-use Rattle.plan_text.specs.Lines.{◌>>=◌, Gives, fixed_at, nothing_at}
-use Rattle.plan_text.specs.Warrants.{Node, Warrant, AreTrees, IsNode, IsCertificate}
-use Rattle.plan_text.specs.CertificateText.{certificate_line, tree_line, claim_lines, node_lines, certificate_lines, certificate_text, IsHeldNode, IsHeldWarrant}
-use Rattle.plan_text.specs.CertificateReading.{nodes_at, Beginning, claim_at, tree_at, certificate_of}
-use Rattle.plan_text.proofs.Fields.{bind_ok, moved, fixed_takes, fixed_again, nothing_takes}
+use Rattle.plan_text.specs.Lines.{◌>>=◌, Gives, fault, line_at, fixed_at, nothing_at}
+use Rattle.plan_text.specs.Families.{Table, ordinary, IsNamedIn}
+use Rattle.plan_text.specs.Warrants.{Node, SplitAt, LeafOf, Warrant, AreTrees, IsNodeIn, IsNode, IsCertificate}
+use Rattle.plan_text.specs.CertificateText.{certificate_line, tree_line, claim_lines, node_lines, tree_lines, certificate_lines, certificate_text, IsHeldWeight, IsHeldNode, IsHeldWarrant}
+use Rattle.plan_text.specs.SecondText.{second_line, AscendRows, IsWhole, form_of, rows_of, row_lines, listed_node_lines, second_lines, second_text}
+use Rattle.plan_text.specs.Namings.{Naming, Named, Listed, IsFormed, same_row, is_list}
+use Rattle.plan_text.specs.CertificateReading.{nodes_at, rows_at, Beginning, claim_at, ends_after, tree_at, first_of, second_of, text_by, certificate_of}
+use Rattle.plan_text.proofs.Fields.{bind_ok, guard_ok, moved, same_text, line_takes, line_again, fixed_takes, fixed_again, nothing_takes}
 use Rattle.plan_text.proofs.WordLines.{ended_and, ended_is, ended_more}
-use Rattle.plan_text.proofs.NodeLines.{nodes_take, nodes_again, enough, line_after_all}
+use Rattle.plan_text.proofs.FamilyNames.{Tells, ordinary_tells}
+use Rattle.plan_text.proofs.Denominators.{denominator_above}
+use Rattle.plan_text.proofs.Forms.{over_says}
+use Rattle.plan_text.proofs.ListedRows.{IsListed, AreListed, rows_ascend, rows_have}
+use Rattle.plan_text.proofs.Multipliers.{Suits, each_divides}
+use Rattle.plan_text.proofs.NamedRows.{IsOver}
+use Rattle.plan_text.proofs.RowLists.{list_lines, rows_take, rows_again, all_rows, few_rows}
+use Rattle.plan_text.proofs.NodeLines.{lines_by, ToldWeight, ToldNode, nodes_take, nodes_again, enough, line_after_all}
 use Rattle.plan_text.proofs.Claims.{claim_takes, claim_again, claim_end}
 
 -- ---- the tree
 
 -- the lines of the nodes, and the last line
-abbrev tree_and_end : List Node → List ℕ
-tree_and_end ns = tree_line ++ 10 ∷ ended_and (flat_map node_lines ns) (end_line ++ 10 ∷ [])
+abbrev pub tree_and_end : Naming → List Node → List ℕ
+tree_and_end names ns = tree_line ++ 10 ∷ ended_and (flat_map (lines_by names) ns) (end_line ++ 10 ∷ [])
 
-record TreeOf (bytes : List ℕ) (ns : List Node) : Type 0 where
-  parts : bytes ≡ tree_and_end ns
-  trees : AreTrees 1 ns
-  kept : All IsNode ns
-  held : All IsHeldNode ns
+pub record TreeOf (names : Naming) (table : Table) (bytes : List ℕ) (ns : List Node) : Type 0 where
+  pub parts : bytes ≡ tree_and_end names ns
+  pub trees : AreTrees 1 ns
+  pub kept : All (IsNodeIn table) ns
+  pub held : All IsHeldNode ns
+  pub list : is_list names ns ≡ true
 
-tree_takes : (line : ℕ) (bytes : List ℕ) (ns : List Node) → tree_at line bytes ≡ Ok ns → TreeOf bytes ns
+pub tree_takes : (names : Naming) (table : Table) (line : ℕ) (bytes : List ℕ) (ns : List Node) → IsOver names table → tree_at names line bytes ≡ Ok ns → TreeOf names table bytes ns
 unfolding tree_at
-tree_takes line bytes ns e =
-    let a = bind_ok (fixed_at line tree_line bytes) (λ rest. nodes_at (length rest) 1 (line + 1) rest >>= λ nodes. fixed_at nodes.1 end_line nodes.2 >>= λ more. nothing_at (nodes.1 + 1) more >>= λ nothing. Ok nodes.0) ns e in
-    let b = bind_ok (nodes_at (length a.0) 1 (line + 1) a.0) (λ nodes. fixed_at nodes.1 end_line nodes.2 >>= λ more. nothing_at (nodes.1 + 1) more >>= λ nothing. Ok nodes.0) ns a.2 in
-    let d = bind_ok (fixed_at b.0.1 end_line b.0.2) (λ more. nothing_at (b.0.1 + 1) more >>= λ nothing. Ok b.0.0) ns b.2 in
-    let f = bind_ok (nothing_at (b.0.1 + 1) d.0) (λ nothing. Ok b.0.0) ns d.2 in
-    let n = nodes_take (length a.0) 1 (line + 1) a.0 b.0 b.1 in
+tree_takes names table line bytes ns over e =
+    let a = bind_ok (fixed_at line tree_line bytes) (λ rest. nodes_at names (length rest) 1 (line + 1) rest >>= λ nodes. fixed_at nodes.1 end_line nodes.2 >>= λ more. ends_after names nodes.0 nodes.1 more) ns e in
+    let b = bind_ok (nodes_at names (length a.0) 1 (line + 1) a.0) (λ nodes. fixed_at nodes.1 end_line nodes.2 >>= λ more. ends_after names nodes.0 nodes.1 more) ns a.2 in
+    let d = bind_ok (fixed_at b.0.1 end_line b.0.2) (λ more. ends_after names b.0.0 b.0.1 more) ns b.2 in
+    let g = guard_ok (is_list names b.0.0) b.0.1 Shape (nothing_at (b.0.1 + 1) d.0 >>= λ nothing. Ok b.0.0) ns d.2 in
+    let f = bind_ok (nothing_at (b.0.1 + 1) d.0) (λ nothing. Ok b.0.0) ns g.1 in
+    let n = nodes_take names table over (length a.0) 1 (line + 1) a.0 b.0 b.1 in
     let last : b.0.2 ≡ end_line ++ 10 ∷ [] = fixed_takes b.0.1 end_line b.0.2 d.0 d.1 ∙ ap (λ (r : List ℕ). end_line ++ 10 ∷ r) (nothing_takes (b.0.1 + 1) d.0 f.0 f.1) in
-    moved (TreeOf bytes) b.0.0 ns f.2 (record {
-      parts = fixed_takes line tree_line bytes a.0 a.1 ∙ ap (λ (y : List ℕ). tree_line ++ 10 ∷ y) (n.parts ∙ ap (ended_and (flat_map node_lines b.0.0)) last);
+    moved (TreeOf names table bytes) b.0.0 ns f.2 (record {
+      parts = fixed_takes line tree_line bytes a.0 a.1 ∙ ap (λ (y : List ℕ). tree_line ++ 10 ∷ y) (n.parts ∙ ap (ended_and (flat_map (lines_by names) b.0.0)) last);
       trees = n.trees;
-      kept = All-from_recursion IsNode b.0.0 n.kept;
+      kept = All-from_recursion (IsNodeIn table) b.0.0 n.kept;
       held = All-from_recursion IsHeldNode b.0.0 n.held;
+      list = g.0;
     })
 
-tree_again : (line : ℕ) (ns : List Node) → AreTrees 1 ns → All IsNode ns → All IsHeldNode ns → tree_at line (tree_and_end ns) ≡ Ok ns
+pub tree_again : (names : Naming) (line : ℕ) (ns : List Node) → AreTrees 1 ns → AllByRecursion (ToldNode names) ns → is_list names ns ≡ true → tree_at names line (tree_and_end names ns) ≡ Ok ns
 unfolding tree_at nothing_at
-tree_again line ns trees kept held =
+tree_again names line ns trees told list =
     let last = end_line ++ 10 ∷ [] in
-    let rest = ended_and (flat_map node_lines ns) last in
+    let rest = ended_and (flat_map (lines_by names) ns) last in
     let first = fixed_again line tree_line rest refl in
-    let second = enough (length rest) (length rest + length ns) 1 (line + 1) rest (omega arith) (omega arith)
-    ∙ nodes_again (length rest + length ns) 1 (line + 1) ns last (omega arith) trees (recursion_from_All IsNode ns kept) (recursion_from_All IsHeldNode ns held) in
-    rw (first, second, fixed_again (line_after_all ns (line + 1)) end_line [] refl) refl
+    let second = enough names (length rest) (length rest + length ns) 1 (line + 1) rest (omega arith) (omega arith)
+    ∙ nodes_again names (length rest + length ns) 1 (line + 1) ns last (omega arith) trees told in
+    rw (first, second, fixed_again (line_after_all ns (line + 1)) end_line [] refl, list) refl
+
+-- ---- the list of rows is that of the nodes
+
+same_row_is : (r s : RowId) → same_row r s ≡ true → r ≡ s
+same_row_is r s e =
+    let p = and_parts (r.family == s.family) (r.index == s.index) e in
+    λ i. record { family = eqb-true r.family s.family p.0 i; index = eqb-true r.index s.index p.1 i }
+
+rows_same : (rs ss : List RowId) → pointwise same_row rs ss ≡ true → rs ≡ ss
+rows_same [] [] e = refl
+rows_same [] (s ∷ ss) e = absurd cc
+rows_same (r ∷ rs) [] e = absurd cc
+rows_same (r ∷ rs) (s ∷ ss) e =
+    let p = and_parts (same_row r s) (pointwise same_row rs ss) e in
+    λ i. same_row_is r s p.0 i ∷ rows_same rs ss p.1 i
+
+same_rows : (rs : List RowId) → pointwise same_row rs rs ≡ true
+same_rows [] = refl
+same_rows (r ∷ rs) = rw (eq-eqb r.family r.family refl, eq-eqb r.index r.index refl, same_rows rs) refl
+
+-- ---- nodes that can be written so
+
+told_named_rows : (table : Table) → Tells table → (ws : List Weight) → AllByRecursion (λ w. IsNamedIn table w.row) ws → AllByRecursion IsHeldWeight ws → AllByRecursion (ToldWeight (Named table) Plain) ws
+told_named_rows table tells [] named held = tt
+told_named_rows table tells (w ∷ ws) named held = (((tells, record { named = named.0; index = held.0.index }), held.0.by), told_named_rows table tells ws named.1 held.1)
+
+told_named : (table : Table) → Tells table → (n : Node) → IsNodeIn table n → IsHeldNode n → ToldNode (Named table) n
+told_named table tells (SplitAt (Loop link at)) kept held = (kept, held)
+told_named table tells (SplitAt (Turn signal rank)) kept held = (kept, held)
+told_named table tells (LeafOf ws) kept held = (kept.0, kept.1, tt, told_named_rows table tells ws (recursion_from_All (λ w. IsNamedIn table w.row) ws kept.2) (recursion_from_All IsHeldWeight ws held))
+
+pub all_told_named : (table : Table) → Tells table → (ns : List Node) → AllByRecursion (IsNodeIn table) ns → AllByRecursion IsHeldNode ns → AllByRecursion (ToldNode (Named table)) ns
+all_told_named table tells [] kept held = tt
+all_told_named table tells (n ∷ ns) kept held = (told_named table tells n kept.0 held.0, all_told_named table tells ns kept.1 held.1)
+
+told_rows : (rows : List RowId) (form : Form) (ws : List Weight) → AscendRows None rows → length rows < 2 ^ 64 → AllByRecursion (λ w. IsListed rows w.row) ws → AllByRecursion (Suits form) ws → AllByRecursion (ToldWeight (Listed rows) form) ws
+told_rows rows form [] ascend few listed suits = tt
+told_rows rows form (w ∷ ws) ascend few listed suits = (((ascend, listed.0, few), suits.0), told_rows rows form ws ascend few listed.1 suits.1)
+
+plain_suits : (ws : List Weight) → AllByRecursion IsHeldWeight ws → AllByRecursion (Suits Plain) ws
+plain_suits [] held = tt
+plain_suits (w ∷ ws) held = (held.0.by, plain_suits ws held.1)
+
+over_suits : (d : ℕ) (vs : List Weight) → 0 < d → AllByRecursion (λ (w : Weight). IsMultiple d w.by.den) vs → AllByRecursion (IsWhole d) vs → AllByRecursion (Suits (Over d)) vs
+over_suits d [] above divides wholes = tt
+over_suits d (v ∷ vs) above divides wholes = ((above, divides.0, wholes.0), over_suits d vs above divides.1 wholes.1)
+
+leaf_told : (rows : List RowId) (ws : List Weight) (form : Form) → form_of ws ≡ form → AscendRows None rows → length rows < 2 ^ 64 → AllByRecursion (λ w. IsListed rows w.row) ws → AllByRecursion IsHeldWeight ws
+    → IsFormed form × AllByRecursion (ToldWeight (Listed rows) form) ws
+leaf_told rows ws Plain e ascend few listed held = (tt, told_rows rows Plain ws ascend few listed (plain_suits ws held))
+leaf_told rows ws (Over d) e ascend few listed held =
+    let h = over_says d ws e in
+    let above : 1 ≤ d = subst (λ (n : ℕ). 1 ≤ n) (sym h.denominator) (denominator_above 1 ws (omega arith)) in
+    let divides = subst (λ (n : ℕ). AllByRecursion (λ (w : Weight). IsMultiple n w.by.den) ws) (sym h.denominator) (each_divides 1 ws) in
+    ((above, h.small), told_rows rows (Over d) ws ascend few listed (over_suits d ws (omega (arith, above)) divides (recursion_from_All (IsWhole d) ws h.wholes)))
+
+told_second : (rows : List RowId) (n : Node) → AscendRows None rows → length rows < 2 ^ 64 → IsNode n → IsHeldNode n → AreListed rows n → ToldNode (Listed rows) n
+told_second rows (SplitAt at) ascend few kept held listed = (kept, held)
+told_second rows (LeafOf ws) ascend few kept held listed =
+    let t = leaf_told rows ws (form_of ws) refl ascend few (recursion_from_All (λ (w : Weight). IsListed rows w.row) ws listed) (recursion_from_All IsHeldWeight ws held) in
+    (kept.0, kept.1, t.0, t.1)
+
+all_told_second : (rows : List RowId) (ns : List Node) → AscendRows None rows → length rows < 2 ^ 64 → AllByRecursion IsNode ns → AllByRecursion IsHeldNode ns → AllByRecursion (AreListed rows) ns → AllByRecursion (ToldNode (Listed rows)) ns
+all_told_second rows [] ascend few kept held listed = tt
+all_told_second rows (n ∷ ns) ascend few kept held listed = (told_second rows n ascend few kept.0 held.0 listed.0, all_told_second rows ns ascend few kept.1 held.1 listed.1)
+
+-- ---- the first text
+
+first_is : (c : Warrant) → certificate_line ++ 10 ∷ ended_and (claim_lines c.claim c.timing) (tree_and_end (Named ordinary) c.nodes) ≡ certificate_text c
+first_is c =
+    ap (λ (y : List ℕ). certificate_line ++ 10 ∷ y)
+    (ap (λ (y : List ℕ). ended_and (claim_lines c.claim c.timing) (tree_line ++ 10 ∷ y)) (sym (ended_more (flat_map (node_lines ordinary) c.nodes) (end_line ∷ []) []))
+    ∙ sym (ended_more (claim_lines c.claim c.timing) (tree_lines ordinary c.nodes) []))
+    ∙ ended_is (certificate_lines c)
+
+record FirstOf (bytes : List ℕ) (c : Warrant) : Type 0 where
+  parts : certificate_line ++ 10 ∷ bytes ≡ certificate_text c
+  held : IsHeldWarrant c
+
+first_takes : (bytes : List ℕ) (c : Warrant) → first_of bytes ≡ Ok c → FirstOf bytes c
+unfolding first_of
+first_takes bytes c e =
+    let b = bind_ok (claim_at bytes) (λ opening. tree_at (Named ordinary) opening.2 opening.3 >>= λ nodes. Ok (record { claim = opening.0; timing = opening.1; nodes = nodes })) c e in
+    let d = bind_ok (tree_at (Named ordinary) b.0.2 b.0.3) (λ nodes. Ok (record { claim = b.0.0; timing = b.0.1; nodes = nodes })) c b.2 in
+    let k = claim_takes bytes b.0 b.1 in
+    let t = tree_takes (Named ordinary) ordinary b.0.2 b.0.3 d.0 refl d.1 in
+    let made : Warrant = record { claim = b.0.0; timing = b.0.1; nodes = d.0 } in
+    moved (FirstOf bytes) made c d.2 (record {
+      parts = ap (λ (y : List ℕ). certificate_line ++ 10 ∷ y) (k.parts ∙ ap (ended_and (claim_lines b.0.0 b.0.1)) t.parts) ∙ first_is made;
+      held = record { kept = record { timing = k.timing; tree = t.trees; nodes = t.kept }; claim = k.claim; timing = k.held; nodes = t.held };
+    })
+
+first_again : (c : Warrant) → IsHeldWarrant c → first_of (ended_and (claim_lines c.claim c.timing) (tree_and_end (Named ordinary) c.nodes)) ≡ Ok c
+unfolding first_of
+first_again c h =
+    let tail = tree_and_end (Named ordinary) c.nodes in
+    let second = claim_again c.claim c.timing tail h.kept.timing h.claim h.timing in
+    let told = all_told_named ordinary ordinary_tells c.nodes (recursion_from_All IsNode c.nodes h.kept.nodes) (recursion_from_All IsHeldNode c.nodes h.nodes) in
+    rw (second, tree_again (Named ordinary) (claim_end c.claim) c.nodes h.kept.tree told refl) refl
+
+-- ---- the second text
+
+abbrev rows_and_tree : List RowId → List Node → List ℕ
+rows_and_tree rows ns = ended_and (list_lines ordinary rows) (tree_and_end (Listed rows) ns)
+
+second_is : (c : Warrant) → second_line ++ 10 ∷ ended_and (claim_lines c.claim c.timing) (rows_and_tree (rows_of c.nodes) c.nodes) ≡ second_text c
+second_is c =
+    let rows = rows_of c.nodes in
+    let nodes = flat_map (listed_node_lines rows) c.nodes in
+    ap (λ (y : List ℕ). second_line ++ 10 ∷ y)
+    (ap (λ (y : List ℕ). ended_and (claim_lines c.claim c.timing) (ended_and (row_lines rows) (tree_line ++ 10 ∷ y))) (sym (ended_more nodes (end_line ∷ []) []))
+    ∙ ap (ended_and (claim_lines c.claim c.timing)) (sym (ended_more (row_lines rows) (tree_line ∷ (nodes ++ end_line ∷ [])) []))
+    ∙ sym (ended_more (claim_lines c.claim c.timing) (row_lines rows ++ tree_line ∷ (nodes ++ end_line ∷ [])) []))
+    ∙ ended_is (second_lines c)
+
+record SecondOf (bytes : List ℕ) (c : Warrant) : Type 0 where
+  parts : second_line ++ 10 ∷ bytes ≡ second_text c
+  held : IsHeldWarrant c
+
+second_takes : (bytes : List ℕ) (c : Warrant) → second_of bytes ≡ Ok c → SecondOf bytes c
+unfolding second_of
+second_takes bytes c e =
+    let b = bind_ok (claim_at bytes) (λ opening. rows_at ordinary opening.2 opening.3 >>= λ rows. tree_at (Listed rows.0) rows.1 rows.2 >>= λ nodes. Ok (record { claim = opening.0; timing = opening.1; nodes = nodes })) c e in
+    let f = bind_ok (rows_at ordinary b.0.2 b.0.3) (λ rows. tree_at (Listed rows.0) rows.1 rows.2 >>= λ nodes. Ok (record { claim = b.0.0; timing = b.0.1; nodes = nodes })) c b.2 in
+    let d = bind_ok (tree_at (Listed f.0.0) f.0.1 f.0.2) (λ nodes. Ok (record { claim = b.0.0; timing = b.0.1; nodes = nodes })) c f.2 in
+    let k = claim_takes bytes b.0 b.1 in
+    let r = rows_take ordinary b.0.2 b.0.3 f.0 f.1 in
+    let t = tree_takes (Listed f.0.0) ordinary f.0.1 f.0.2 d.0 (r.ascend, r.rows) d.1 in
+    let own : f.0.0 ≡ rows_of d.0 = sym (rows_same (rows_of d.0) f.0.0 t.list) in
+    let made : Warrant = record { claim = b.0.0; timing = b.0.1; nodes = d.0 } in
+    let body : b.0.3 ≡ rows_and_tree (rows_of d.0) d.0 = r.parts ∙ ap (ended_and (list_lines ordinary f.0.0)) t.parts ∙ ap (λ (y : List RowId). rows_and_tree y d.0) own in
+    moved (SecondOf bytes) made c d.2 (record {
+      parts = ap (λ (y : List ℕ). second_line ++ 10 ∷ y) (k.parts ∙ ap (ended_and (claim_lines b.0.0 b.0.1)) body) ∙ second_is made;
+      held = record { kept = record { timing = k.timing; tree = t.trees; nodes = t.kept }; claim = k.claim; timing = k.held; nodes = t.held };
+    })
+
+second_again : (c : Warrant) → IsHeldWarrant c → second_of (ended_and (claim_lines c.claim c.timing) (rows_and_tree (rows_of c.nodes) c.nodes)) ≡ Ok c
+unfolding second_of
+second_again c h =
+    let rows = rows_of c.nodes in
+    let first = claim_again c.claim c.timing (rows_and_tree rows c.nodes) h.kept.timing h.claim h.timing in
+    let all = all_rows c.nodes h.kept.nodes h.nodes in
+    let ascend = rows_ascend c.nodes in
+    let few = few_rows rows ascend all in
+    let second = rows_again ordinary (claim_end c.claim) rows (tree_and_end (Listed rows) c.nodes) ordinary_tells few ascend all in
+    let told = all_told_second rows c.nodes ascend few (recursion_from_All IsNode c.nodes h.kept.nodes) (recursion_from_All IsHeldNode c.nodes h.nodes) (recursion_from_All (AreListed rows) c.nodes (rows_have c.nodes)) in
+    rw (first, second, tree_again (Listed rows) (claim_end c.claim + 1 + length rows) c.nodes h.kept.tree told (same_rows rows)) refl
 
 -- ---- the whole
 
-text_is : (c : Warrant) → certificate_line ++ 10 ∷ ended_and (claim_lines c.claim c.timing) (tree_and_end c.nodes) ≡ certificate_text c
-text_is c =
-    ap (λ (y : List ℕ). certificate_line ++ 10 ∷ y)
-    (ap (λ (y : List ℕ). ended_and (claim_lines c.claim c.timing) (tree_line ++ 10 ∷ y)) (sym (ended_more (flat_map node_lines c.nodes) (end_line ∷ []) []))
-    ∙ sym (ended_more (claim_lines c.claim c.timing) (tree_line ∷ (flat_map node_lines c.nodes ++ end_line ∷ [])) []))
-    ∙ ended_is (certificate_lines c)
-
--- what was read keeps what each certificate keeps
-pub is_kept : (line : ℕ) (first second : List ℕ) (x : Beginning) (ns : List Node) → claim_at first ≡ Ok x → tree_at line second ≡ Ok ns → IsCertificate (record { claim = x.0; timing = x.1; nodes = ns })
-is_kept line first second x ns e f =
-    let t = tree_takes line second ns f in
-    record { timing = (claim_takes first x e).timing; tree = t.trees; nodes = t.kept }
-
 pub record WarrantOf (bytes : List ℕ) (c : Warrant) : Type 0 where
-  pub parts : bytes ≡ certificate_text c
+  pub parts : (bytes ≡ certificate_text c) ⊎ (bytes ≡ second_text c)
   pub held : IsHeldWarrant c
+
+text_takes : (bytes text after : List ℕ) (c : Warrant) (a b : Bool) → bytes ≡ text ++ 10 ∷ after → (a ≡ true → text ≡ certificate_line) → (b ≡ true → text ≡ second_line) → (if a then first_of after else (if b then second_of after else fault 1 Shape)) ≡ Ok c → WarrantOf bytes c
+text_takes bytes text after c true b parts is other e =
+    let f = first_takes after c e in
+    record { parts = inl (parts ∙ ap (λ (y : List ℕ). y ++ 10 ∷ after) (is refl) ∙ f.parts); held = f.held }
+text_takes bytes text after c false true parts is other e =
+    let f = second_takes after c e in
+    record { parts = inr (parts ∙ ap (λ (y : List ℕ). y ++ 10 ∷ after) (other refl) ∙ f.parts); held = f.held }
+text_takes bytes text after c false false parts is other e = absurd cc
 
 pub certificate_takes : (bytes : List ℕ) (c : Warrant) → certificate_of bytes ≡ Ok c → WarrantOf bytes c
 unfolding certificate_of
 certificate_takes bytes c e =
-    let a = bind_ok (fixed_at 1 certificate_line bytes) (λ rest. claim_at rest >>= λ opening. tree_at opening.2 opening.3 >>= λ nodes. Ok (record { claim = opening.0; timing = opening.1; nodes = nodes })) c e in
-    let b = bind_ok (claim_at a.0) (λ opening. tree_at opening.2 opening.3 >>= λ nodes. Ok (record { claim = opening.0; timing = opening.1; nodes = nodes })) c a.2 in
-    let d = bind_ok (tree_at b.0.2 b.0.3) (λ nodes. Ok (record { claim = b.0.0; timing = b.0.1; nodes = nodes })) c b.2 in
-    let k = claim_takes a.0 b.0 b.1 in
-    let t = tree_takes b.0.2 b.0.3 d.0 d.1 in
-    let made : Warrant = record { claim = b.0.0; timing = b.0.1; nodes = d.0 } in
-    moved (WarrantOf bytes) made c d.2 (record {
-      parts = fixed_takes 1 certificate_line bytes a.0 a.1 ∙ ap (λ (y : List ℕ). certificate_line ++ 10 ∷ y) (k.parts ∙ ap (ended_and (claim_lines b.0.0 b.0.1)) t.parts) ∙ text_is made;
-      held = record { kept = is_kept b.0.2 a.0 b.0.3 b.0 d.0 b.1 d.1; claim = k.claim; timing = k.held; nodes = t.held };
-    })
+    let a = bind_ok (line_at 1 bytes) text_by c e in
+    text_takes bytes a.0.0 a.0.1 c (is_text a.0.0 certificate_line) (is_text a.0.0 second_line) (line_takes 1 bytes a.0 a.1) (same_text a.0.0 certificate_line) (same_text a.0.0 second_line) a.2
 
 pub certificate_again : (c : Warrant) → IsHeldWarrant c → certificate_of (certificate_text c) ≡ Ok c
 unfolding certificate_of
 certificate_again c h =
-    let tail = tree_and_end c.nodes in
-    let body = ended_and (claim_lines c.claim c.timing) tail in
-    let first = fixed_again 1 certificate_line body refl in
-    let second = claim_again c.claim c.timing tail h.kept.timing h.claim h.timing in
-    let third = tree_again (claim_end c.claim) c.nodes h.kept.tree h.kept.nodes h.nodes in
-    ap certificate_of (sym (text_is c)) ∙ rw (first, second, third) refl
+    let body = ended_and (claim_lines c.claim c.timing) (tree_and_end (Named ordinary) c.nodes) in
+    ap certificate_of (sym (first_is c)) ∙ rw (line_again 1 certificate_line body refl) (first_again c h)
 
-pub is_found : (bytes : List ℕ) (r : Result Warrant TextEnd) → Gives (λ c. c) r (certificate_of bytes) → IfOk r (λ c. bytes ≡ certificate_text c)
+pub second_text_again : (c : Warrant) → IsHeldWarrant c → certificate_of (second_text c) ≡ Ok c
+unfolding certificate_of
+second_text_again c h =
+    let body = ended_and (claim_lines c.claim c.timing) (rows_and_tree (rows_of c.nodes) c.nodes) in
+    ap certificate_of (sym (second_is c)) ∙ rw (line_again 1 second_line body refl) (second_again c h)
+
+pub is_found : (bytes : List ℕ) (r : Result Warrant TextEnd) → Gives (λ c. c) r (certificate_of bytes) → IfOk r (λ c. (bytes ≡ certificate_text c) ⊎ (bytes ≡ second_text c))
 is_found bytes (Ok c) given = (certificate_takes bytes c given).parts
 is_found bytes (Err e) given = tt
 
--- what the code read
-pub is_read : (bytes rest : List ℕ) (x : Beginning) (ns : List Node) → fixed_at 1 certificate_line bytes ≡ Ok rest → claim_at rest ≡ Ok x → tree_at x.2 x.3 ≡ Ok ns → certificate_of bytes ≡ Ok (record { claim = x.0; timing = x.1; nodes = ns })
-unfolding certificate_of
-is_read bytes rest x ns e f g = rw (e, f, g) refl
+-- ---- what the code read
+
+-- it keeps what each certificate keeps
+pub first_kept : (line : ℕ) (first second : List ℕ) (x : Beginning) (ns : List Node) → claim_at first ≡ Ok x → tree_at (Named ordinary) line second ≡ Ok ns → IsCertificate (record { claim = x.0; timing = x.1; nodes = ns })
+first_kept line first second x ns e f =
+    let t = tree_takes (Named ordinary) ordinary line second ns refl f in
+    record { timing = (claim_takes first x e).timing; tree = t.trees; nodes = t.kept }
+
+pub second_kept : (line : ℕ) (first second : List ℕ) (x : Beginning) (rows : List RowId × ℕ × List ℕ) (ns : List Node) → claim_at first ≡ Ok x → rows_at ordinary line second ≡ Ok rows → tree_at (Listed rows.0) rows.1 rows.2 ≡ Ok ns → IsCertificate (record { claim = x.0; timing = x.1; nodes = ns })
+second_kept line first second x rows ns e g f =
+    let r = rows_take ordinary line second rows g in
+    let t = tree_takes (Listed rows.0) ordinary rows.1 rows.2 ns (r.ascend, r.rows) f in
+    record { timing = (claim_takes first x e).timing; tree = t.trees; nodes = t.kept }
+
+pub first_read : (bytes : List ℕ) (x : Beginning) (ns : List Node) → claim_at bytes ≡ Ok x → tree_at (Named ordinary) x.2 x.3 ≡ Ok ns → first_of bytes ≡ Ok (record { claim = x.0; timing = x.1; nodes = ns })
+unfolding first_of
+first_read bytes x ns e f = rw (e, f) refl
+
+pub second_read : (bytes : List ℕ) (x : Beginning) (rows : List RowId × ℕ × List ℕ) (ns : List Node) → claim_at bytes ≡ Ok x → rows_at ordinary x.2 x.3 ≡ Ok rows → tree_at (Listed rows.0) rows.1 rows.2 ≡ Ok ns → second_of bytes ≡ Ok (record { claim = x.0; timing = x.1; nodes = ns })
+unfolding second_of
+second_read bytes x rows ns e g f = rw (e, g, f) refl

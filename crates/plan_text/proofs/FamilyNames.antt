@@ -1,16 +1,17 @@
 -- Each family has one name, and each name is of one family.
-use Rattle.std.proofs.lemmas.List.{drop_more, drop_all}
-use Rattle.std.proofs.lemmas.Bool.{and_parts, eqb-true, true≢false}
-use Rattle.std.proofs.Common.{◌≡◌, ℕ, zero, suc, ◌+◌, ◌-◌, ◌<◌, ◌≤◌, ◌⊎◌, inl, inr, Bor, Bool, true, false, List, [], ◌∷◌, map, drop, get_or, length, Option, Some, None, refl, sym, ap, ◌∙◌, subst, arith}
-use Rattle.std.specs.Prelude.{if◌then◌else◌, slice_index_or, ◌==◌, ◌&&◌}
-use Rattle.linear_theory.specs.Names.{last_family}
+use Rattle.std.proofs.lemmas.List.{drop_more, drop_all, length-map}
+use Rattle.std.proofs.lemmas.Bool.{and_parts, eqb-true, true≢false, eq-eqb}
+use Rattle.std.proofs.lemmas.Bool.Decides.{nat_tests}
+use Rattle.std.proofs.Common.{◌≡◌, ℕ, zero, suc, ◌+◌, ◌-◌, ◌<◌, ◌≤◌, ◌⊎◌, inl, inr, Bool, true, false, List, [], ◌∷◌, drop, get_or, length, Option, Some, None, refl, sym, ap, ◌∙◌, subst, ltb, ltb-true, ltb-false, arith}
+use Rattle.std.specs.Prelude.{if◌then◌else◌, slice_index_or, ◌==◌, ◌&&◌, ◌||◌}
 use Rattle.plan_text.specs.Words.{is_text}
-use Rattle.plan_text.specs.Families.{family_names, family_name, number_in, family_of}
+use Rattle.plan_text.specs.declared.family.FamilyName.{FamilyName}
+use Rattle.plan_text.specs.Families.{Table, Family, named, table_of, texts, ordinary, family_name_in, lone_among, is_lone_in, number_in, family_in}
 use Rattle.plan_text.proofs.Pieces.{lacks}
 use Rattle.plan_text.proofs.Fields.{same_text, IsKey}
 
 -- a test that is true of each number up to n
-abbrev holds_to : ℕ → (ℕ → Bool) → Bool
+abbrev pub holds_to : ℕ → (ℕ → Bool) → Bool
 holds_to zero test = true
 holds_to (suc n) test = test (suc n) && holds_to n test
 
@@ -25,8 +26,14 @@ test_is (suc n) test e f l m = last_or_before (cases f n m) (test_is n test (and
     last_or_before (inl q) before = subst (λ k. test k ≡ true) (sym q) (and_parts (test (suc n)) (holds_to n test) e).0
     last_or_before (inr k) before = before k
 
+lt-eqb : (n k : ℕ) → n < k → (k == n) ≡ false
+lt-eqb n k lt = grind (arith, nat_tests)
+
+gt-eqb : (n k : ℕ) → k < n → (k == n) ≡ false
+gt-eqb n k lt = grind (arith, nat_tests)
+
 -- a number is this one
-abbrev is_some_of : ℕ → Option ℕ → Bool
+abbrev pub is_some_of : ℕ → Option ℕ → Bool
 is_some_of n None = false
 is_some_of n (Some m) = m == n
 
@@ -34,15 +41,28 @@ some_of : (n : ℕ) (o : Option ℕ) → is_some_of n o ≡ true → o ≡ Some 
 some_of n None e = absurd (true≢false (sym e))
 some_of n (Some m) e = ap Some (eqb-true m n e)
 
-pub family_again : (f : ℕ) → 1 ≤ f → f ≤ last_family → family_of (family_name f) ≡ Some f
-unfolding family_of family_name family_names
-family_again f l m = some_of f (family_of (family_name f)) (test_is last_family (λ n. is_some_of n (family_of (family_name n))) refl f l m)
+-- each name of a table is one word, and the first such name is its own
+pub record Tells (table : Table) : Type 0 where
+  pub again : (f : ℕ) → 1 ≤ f → f ≤ length table → family_in table (family_name_in table f) ≡ Some f
+  pub word : (f : ℕ) → 1 ≤ f → f ≤ length table → IsKey (family_name_in table f)
 
--- a family's name is one word
-pub family_word : (f : ℕ) → 1 ≤ f → f ≤ last_family → IsKey (family_name f)
-unfolding family_name family_names
-family_word f l m =
-    record { spaces = test_is last_family (λ n. lacks 32 (family_name n)) refl f l m; feeds = test_is last_family (λ n. lacks 10 (family_name n)) refl f l m }
+-- as a test of a number
+abbrev pub tells : Table → ℕ → Bool
+tells table n = is_some_of n (family_in table (family_name_in table n)) && (lacks 32 (family_name_in table n) && lacks 10 (family_name_in table n))
+
+pub tells_by : (table : Table) → holds_to (length table) (tells table) ≡ true → Tells table
+tells_by table e =
+    let each : (f : ℕ) → 1 ≤ f → f ≤ length table → tells table f ≡ true = test_is (length table) (tells table) e in
+    record {
+      again = λ f l m. some_of f (family_in table (family_name_in table f)) (and_parts _ _ (each f l m)).0;
+      word = λ f l m.
+          let p = and_parts _ _ (and_parts (is_some_of f (family_in table (family_name_in table f))) _ (each f l m)).1 in
+          record { spaces = p.0; feeds = p.1 };
+    }
+
+pub ordinary_tells : Tells ordinary
+unfolding ordinary
+ordinary_tells = tells_by ordinary refl
 
 -- a number that is found stands where its name does
 pub record IsFound (n : ℕ) (names : List (List ℕ)) (w : List ℕ) (f : ℕ) : Type 0 where
@@ -73,38 +93,92 @@ number_takes n [] w f e = absurd cc
 number_takes n (name ∷ names) w f e = found_by n name names w f (is_text name w) (same_text name w) (number_takes (n + 1) names w f) e
 
 -- a word that names a family is its name
-pub record Names (w : List ℕ) (f : ℕ) : Type 0 where
+pub record Names (table : Table) (w : List ℕ) (f : ℕ) : Type 0 where
   pub first : 1 ≤ f
-  pub last : f ≤ last_family
-  pub name : w ≡ family_name f
+  pub last : f ≤ length table
+  pub name : w ≡ family_name_in table f
 
-pub family_takes : (w : List ℕ) (f : ℕ) → family_of w ≡ Some f → Names w f
-unfolding family_of family_name family_names
-family_takes w f e =
-    let p = number_takes 1 family_names w f e in
+pub family_takes : (table : Table) (w : List ℕ) (f : ℕ) → family_in table w ≡ Some f → Names table w f
+family_takes table w f e =
+    let p = number_takes 1 (texts table) w f e in
     let l = p.least in
     let m = p.most in
-    record { first = omega arith; last = omega arith; name = p.name }
+    record { first = l; last = omega (arith, length-map table (λ (g : Family). g.text)); name = p.name }
 
 -- ---- what the code finds
 
--- the bytes of words
-abbrev pub bytes_of : List (Bor (List ℕ)) → List (List ℕ)
-bytes_of words = map (λ w. w.now) words
-
-pub goes_on : (i : ℕ) (names : List (Bor (List ℕ))) (w : List ℕ) (d : Bor (List ℕ)) (total : Option ℕ) → i < length names → is_text (get_or names i d).now w ≡ false
-    → total ≡ number_in (i + 1) (bytes_of (drop i names)) w → total ≡ number_in (i + 1 + 1) (bytes_of (drop (i + 1) names)) w
+pub goes_on : (i : ℕ) (names : List FamilyName) (w : List ℕ) (d : FamilyName) (total : Option ℕ) → i < length names → is_text (get_or names i d).text.now w ≡ false
+    → total ≡ number_in (i + 1) (texts (table_of (drop i names))) w → total ≡ number_in (i + 1 + 1) (texts (table_of (drop (i + 1) names))) w
 goes_on i names w d total lt other so_far = so_far ∙ rw (drop_more names i d lt, other) refl
 
-pub stops : (i : ℕ) (names : List (Bor (List ℕ))) (w : List ℕ) (d : Bor (List ℕ)) (total : Option ℕ) → i < length names → is_text (get_or names i d).now w ≡ true
-    → total ≡ number_in (i + 1) (bytes_of (drop i names)) w → Some (i + 1) ≡ total
+pub stops : (i : ℕ) (names : List FamilyName) (w : List ℕ) (d : FamilyName) (total : Option ℕ) → i < length names → is_text (get_or names i d).text.now w ≡ true
+    → total ≡ number_in (i + 1) (texts (table_of (drop i names))) w → Some (i + 1) ≡ total
 stops i names w d total lt same so_far = sym (so_far ∙ rw (drop_more names i d lt, same) refl)
 
-pub is_done : (i : ℕ) (names : List (Bor (List ℕ))) (w : List ℕ) (total : Option ℕ) → length names ≤ i → total ≡ number_in (i + 1) (bytes_of (drop i names)) w → None ≡ total
+pub is_done : (i : ℕ) (names : List FamilyName) (w : List ℕ) (total : Option ℕ) → length names ≤ i → total ≡ number_in (i + 1) (texts (table_of (drop i names))) w → None ≡ total
 is_done i names w total le so_far = sym (so_far ∙ rw (drop_all i names le) refl)
 
--- a word of a list, and the same of their bytes
-pub at_index : (names : List (Bor (List ℕ))) (i : ℕ) (d : Bor (List ℕ)) → i < length names → (get_or names i d).now ≡ slice_index_or (bytes_of names) i []
+-- the name of a family that is there
+pub at_index : (names : List FamilyName) (i : ℕ) (d : FamilyName) → i < length names → (get_or names i d).text.now ≡ slice_index_or (texts (table_of names)) i []
 at_index [] i d lt = absurd (omega arith)
 at_index (n ∷ ns) zero d lt = refl
 at_index (n ∷ ns) (suc i) d lt = at_index ns i d (omega arith)
+
+-- and whether it has one row alone
+later_lone : (n : ℕ) (f : FamilyName) (fs : List FamilyName) (k : ℕ) (b : Bool) → n < k → (if b then (k == n) || lone_among (n + 1) (table_of fs) k else lone_among (n + 1) (table_of fs) k) ≡ lone_among (n + 1) (table_of fs) k
+later_lone n f fs k true lt = rw (lt-eqb n k lt) refl
+later_lone n f fs k false lt = refl
+
+none_lone : (n : ℕ) (table : Table) (k : ℕ) → k < n → lone_among n table k ≡ false
+none_lone n [] k lt = refl
+none_lone n (f ∷ fs) k lt = none_by f.lone (none_lone (n + 1) fs k (omega arith))
+  where
+    none_by : (b : Bool) → lone_among (n + 1) fs k ≡ false → (if b then (k == n) || lone_among (n + 1) fs k else lone_among (n + 1) fs k) ≡ false
+    none_by true more = rw (gt-eqb n k lt, more) refl
+    none_by false more = more
+
+first_lone : (n : ℕ) (f : FamilyName) (fs : List FamilyName) (b : Bool) → (if b then (n == n) || lone_among (n + 1) (table_of fs) n else lone_among (n + 1) (table_of fs) n) ≡ b
+first_lone n f fs true = rw (eq-eqb n n refl) refl
+first_lone n f fs false = none_lone (n + 1) (table_of fs) n (omega arith)
+
+pub lone_at : (n : ℕ) (names : List FamilyName) (i : ℕ) (d : FamilyName) → i < length names → lone_among n (table_of names) (n + i) ≡ (get_or names i d).is_lone
+lone_at n [] i d lt = absurd (omega arith)
+lone_at n (f ∷ fs) zero d lt =
+    let e : n + 0 ≡ n = omega arith in
+    ap (λ (k : ℕ). lone_among n (table_of (f ∷ fs)) k) e ∙ first_lone n f fs f.is_lone
+lone_at n (f ∷ fs) (suc i) d lt =
+    let e : n + suc i ≡ n + 1 + i = omega arith in
+    ap (λ (k : ℕ). lone_among n (table_of (f ∷ fs)) k) e ∙ later_lone n f fs (n + 1 + i) f.is_lone (omega arith) ∙ lone_at (n + 1) fs i d (omega arith)
+
+pub past_lone : (n : ℕ) (table : Table) (k : ℕ) → n + length table ≤ k → lone_among n table k ≡ false
+past_lone n [] k le = refl
+past_lone n (f ∷ fs) k le = past_by f.lone (past_lone (n + 1) fs k (omega arith))
+  where
+    past_by : (b : Bool) → lone_among (n + 1) fs k ≡ false → (if b then (k == n) || lone_among (n + 1) fs k else lone_among (n + 1) fs k) ≡ false
+    past_by true more = rw (lt-eqb n k (omega arith), more) refl
+    past_by false more = more
+
+pub zero_lone : (table : Table) → lone_among 1 table 0 ≡ false
+zero_lone table = none_lone 1 table 0 (omega arith)
+
+-- as an index looks them up
+pub name_here : (names : List FamilyName) (i family : ℕ) (f d : FamilyName) → true ≡ ltb i (length names) → f ≡ slice_index_or names i d → i ≡ family - 1 → f.text.now ≡ family_name_in (table_of names) family
+name_here names i family f d lt is at = ap (λ (g : FamilyName). g.text.now) is ∙ at_index names i d (ltb-true _ _ (sym lt)) ∙ ap (λ (k : ℕ). slice_index_or (texts (table_of names)) k []) at
+
+pub lone_here : (names : List FamilyName) (i family : ℕ) (f d : FamilyName) → true ≡ ltb i (length names) → f ≡ slice_index_or names i d → i ≡ family - 1 → (family ≡ 0 → ⊥) → f.is_lone ≡ is_lone_in (table_of names) family
+lone_here names i family f d lt is at some =
+    let e : 1 + i ≡ family = one_more family some (omega arith) in
+    ap (λ (g : FamilyName). g.is_lone) is ∙ sym (lone_at 1 names i d (ltb-true _ _ (sym lt))) ∙ ap (λ (k : ℕ). is_lone_in (table_of names) k) e
+  where
+    one_more : (n : ℕ) → (n ≡ 0 → ⊥) → i ≡ n - 1 → 1 + i ≡ n
+    one_more zero h k = absurd (h refl)
+    one_more (suc n) h k = omega arith
+
+pub lone_past : (names : List FamilyName) (i family : ℕ) → false ≡ ltb i (length names) → i ≡ family - 1 → (family ≡ 0 → ⊥) → false ≡ is_lone_in (table_of names) family
+lone_past names i family ge at some =
+    let le : length names ≤ i = ltb-false _ _ (sym ge) in
+    sym (past_lone 1 (table_of names) family (one_more family some (omega arith)))
+  where
+    one_more : (n : ℕ) → (n ≡ 0 → ⊥) → i ≡ n - 1 → 1 + length (table_of names) ≤ n
+    one_more zero h k = absurd (h refl)
+    one_more (suc n) h k = omega (arith, ltb-false i (length names) (sym ge), length-map names named)

@@ -1,12 +1,12 @@
 -- A line that is read is the line that was written, and what was written is read again.
-use Rattle.std.proofs.Common.{◌≡◌, Bor, ℕ, ◌<◌, ◌≤◌, ◌^◌, Bool, true, false, leb, List, [], ◌∷◌, ◌++◌, map, length, All, Option, Some, None, Result, Ok, Err, refl, ap, subst, ◌∙◌, arith}
+use Rattle.std.proofs.Common.{◌≡◌, Bor, ℕ, ◌+◌, ◌<◌, ◌≤◌, ◌^◌, Bool, true, false, leb, List, [], ◌∷◌, ◌++◌, map, length, All, Option, Some, None, Result, Ok, Err, refl, ap, subst, ◌∙◌, arith}
 use Rattle.std.specs.Prelude.{◌&&◌, if◌then◌else◌, IfOk}
 use Rattle.std.specs.Cmp.Lexicographic.{bytes_decides}
 use Rattle.std.specs.Fmt.{decimal}
 use Rattle.std.specs.Global.{Vec}
 use Rattle.std.specs.List.{AllByRecursion}
 use Rattle.std.proofs.lemmas.Bool.{leb-true, le-leb, and_parts}
-use Rattle.std.proofs.lemmas.List.{length-map}
+use Rattle.std.proofs.lemmas.List.{length-map, length-append}
 use Rattle.std.proofs.lemmas.List.Elements.{All-from_recursion}
 use Rattle.plan_text.specs.declared.fault.BadText.{BadText}
 use Rattle.plan_text.specs.declared.fault.TextFault.{TextFault}
@@ -72,6 +72,10 @@ fixed_takes line text bytes rest e =
 pub fixed_again : (line : ℕ) (text rest : List ℕ) → lacks 10 text ≡ true → fixed_at line text (text ++ 10 ∷ rest) ≡ Ok rest
 unfolding fixed_at
 fixed_again line text rest e = rw (line_again line text rest e, text_same text) refl
+
+-- what follows is shorter
+pub fixed_shorter : (line : ℕ) (text bytes rest : List ℕ) → fixed_at line text bytes ≡ Ok rest → length rest + 1 ≤ length bytes
+fixed_shorter line text bytes rest e = omega (arith, ap length (fixed_takes line text bytes rest e), length-append text (10 ∷ rest))
 
 -- ---- the end
 

@@ -1,22 +1,29 @@
 -- The first bad line of a text of a timing, and of a certificate.
 use Rattle.std.proofs.Common.{◌≡◌, ℕ, ◌+◌, ◌<◌, ◌≤◌, List, ◌++◌, length, Result, Ok, Err, refl, sym, ap, subst, ◌∙◌, arith}
+use Rattle.std.specs.Prelude.{if◌then◌else◌}
 use Rattle.std.proofs.lemmas.List.{length-append}
 use Rattle.progression.specs.Plan.{Plan}
 use Rattle.plan_text.specs.declared.fault.BadText.{BadText}
-use Rattle.plan_text.specs.Spelling.{head_line}
-use Rattle.plan_text.specs.Lines.{◌>>=◌, line_at, fixed_at}
+use Rattle.plan_text.specs.Spelling.{head_line, end_line}
+use Rattle.plan_text.specs.Lines.{◌>>=◌, fault, line_at, fixed_at, nothing_at}
 use Rattle.plan_text.specs.Reading.{plan_at, timing_of}
+use Rattle.named_row.specs.declared.names.RowId.{RowId}
+use Rattle.plan_text.specs.declared.fault.TextFault.TheVariants.{Shape}
+use Rattle.plan_text.specs.Words.{is_text}
+use Rattle.plan_text.specs.SecondText.{second_line}
+use Rattle.plan_text.specs.Namings.{Naming, Named, Listed, is_list}
+use Rattle.plan_text.specs.Families.{ordinary}
 use Rattle.plan_text.specs.Warrants.{Node, Warrant}
 use Rattle.plan_text.specs.CertificateText.{certificate_line, tree_line}
-use Rattle.plan_text.specs.CertificateReading.{nodes_at, Beginning, claim_at, tree_at, certificate_of}
+use Rattle.plan_text.specs.CertificateReading.{nodes_at, Beginning, rows_at, claim_at, ends_after, tree_at, first_of, second_of, text_by, certificate_of}
 use Rattle.plan_text.specs.FirstBad.{lines_in, NamesFirstBad, FirstBad}
 use Rattle.plan_text.proofs.Timings.{timing_again}
-use Rattle.plan_text.proofs.Certificates.{certificate_again}
+use Rattle.plan_text.proofs.Certificates.{certificate_again, second_text_again}
 use Rattle.plan_text.proofs.NodeLines.{enough}
-use Rattle.plan_text.proofs.Grown.{after_line, one_and, numbered, fixed_grows, fixed_later}
+use Rattle.plan_text.proofs.Grown.{after_line, one_and, numbered, line_grows, fixed_grows, fixed_later}
 use Rattle.plan_text.proofs.GrownTimings.{plan_grows, plan_later}
-use Rattle.plan_text.proofs.GrownCertificates.{opened, nodes_grow, nodes_later, claim_grows, claim_later}
-use Rattle.plan_text.proofs.Wholes.{Whole, NotBefore, whole_then, whole_made, not_before, not_before_made, closing, closing_whole, closing_later, names_first}
+use Rattle.plan_text.proofs.GrownCertificates.{opened, rows_grow, rows_later, nodes_grow, nodes_later, claim_grows, claim_later}
+use Rattle.plan_text.proofs.Wholes.{Whole, NotBefore, whole_then, whole_made, not_before, not_before_made, closing, closing_whole, closing_later, nothing_whole, nothing_later, guard_whole, guard_not_before, chosen_whole, chosen_not_before, names_first}
 
 -- ---- a timing
 
@@ -40,53 +47,109 @@ timing_first = names_first timing_of timing_whole refl
 abbrev Nodes : Type 0
 Nodes = List Node × ℕ × List ℕ
 
-abbrev close_tree : Nodes → Result (List Node) BadText
-close_tree nodes = closing nodes.0 nodes.1 nodes.2
+abbrev nothing_more : List Node → ℕ → List ℕ → Result (List Node) BadText
+nothing_more ns line bytes = nothing_at (line + 1) bytes >>= λ nothing. Ok ns
 
-abbrev tree_then : ℕ → List ℕ → Result (List Node) BadText
-tree_then line rest = nodes_at (length rest) 1 (line + 1) rest >>= close_tree
+abbrev close_tree : Naming → Nodes → Result (List Node) BadText
+close_tree names nodes = fixed_at nodes.1 end_line nodes.2 >>= ends_after names nodes.0 nodes.1
 
-tree_then_whole : (last line : ℕ) (rest z : List ℕ) → line + 1 + lines_in rest ≡ last → Whole last (tree_then line rest) (tree_then line (rest ++ z))
-tree_then_whole last line rest z e =
+close_whole : (names : Naming) (last : ℕ) (nodes : Nodes) (z : List ℕ) → nodes.1 + lines_in nodes.2 ≡ last → Whole last (close_tree names nodes) (close_tree names (nodes.0, nodes.1, nodes.2 ++ z))
+close_whole names last nodes z e =
+    let line = nodes.1 in
+    whole_then (after_line (line + 1)) last z (fixed_at line end_line nodes.2) (fixed_at line end_line (nodes.2 ++ z)) (ends_after names nodes.0 line) (ends_after names nodes.0 line) (fixed_grows last line end_line nodes.2 z e)
+    (λ r end. guard_whole last line (is_list names nodes.0) (nothing_more nodes.0 line r) (nothing_more nodes.0 line (r ++ z)) (omega arith) (whole_made last (nothing_at (line + 1) r) (nothing_at (line + 1) (r ++ z)) (λ n. nodes.0) (nothing_whole last (line + 1) r z end)))
+    (λ r here. guard_not_before last line (is_list names nodes.0) (nothing_more nodes.0 line r) (omega arith) (not_before_made last (nothing_at (line + 1) r) (λ n. nodes.0) (nothing_later last (line + 1) r (omega arith))))
+
+close_later : (names : Naming) (last : ℕ) (nodes : Nodes) → last ≤ nodes.1 → NotBefore last (close_tree names nodes)
+close_later names last nodes before =
+    let line = nodes.1 in
+    not_before (after_line (line + 1)) last (fixed_at line end_line nodes.2) (ends_after names nodes.0 line) (fixed_later last line end_line nodes.2 before)
+    (λ r here. guard_not_before last line (is_list names nodes.0) (nothing_more nodes.0 line r) before (not_before_made last (nothing_at (line + 1) r) (λ n. nodes.0) (nothing_later last (line + 1) r (omega arith))))
+
+abbrev tree_then : Naming → ℕ → List ℕ → Result (List Node) BadText
+tree_then names line rest = nodes_at names (length rest) 1 (line + 1) rest >>= close_tree names
+
+tree_then_whole : (names : Naming) (last line : ℕ) (rest z : List ℕ) → line + 1 + lines_in rest ≡ last → Whole last (tree_then names line rest) (tree_then names line (rest ++ z))
+tree_then_whole names last line rest z e =
     let steps = length (rest ++ z) in
     let longer : length (rest ++ z) ≡ length rest + length z = length-append rest z in
-    subst (λ (y : Result Nodes BadText). Whole last (y >>= close_tree) (tree_then line (rest ++ z))) (enough steps (length rest) 1 (line + 1) rest (omega arith) (omega arith))
-    (whole_then numbered last z (nodes_at steps 1 (line + 1) rest) (nodes_at steps 1 (line + 1) (rest ++ z)) close_tree close_tree (nodes_grow steps 1 last (line + 1) rest z (omega arith) e)
-    (λ ns end. closing_whole ns.0 last ns.1 ns.2 z end)
-    (λ ns here. closing_later ns.0 last ns.1 ns.2 (omega arith)))
+    subst (λ (y : Result Nodes BadText). Whole last (y >>= close_tree names) (tree_then names line (rest ++ z))) (enough names steps (length rest) 1 (line + 1) rest (omega arith) (omega arith))
+    (whole_then numbered last z (nodes_at names steps 1 (line + 1) rest) (nodes_at names steps 1 (line + 1) (rest ++ z)) (close_tree names) (close_tree names) (nodes_grow names steps 1 last (line + 1) rest z (omega arith) e)
+    (λ ns end. close_whole names last ns z end)
+    (λ ns here. close_later names last ns (omega arith)))
 
-tree_then_later : (last line : ℕ) (rest : List ℕ) → last < line + 1 → NotBefore last (tree_then line rest)
-tree_then_later last line rest before =
-    not_before numbered last (nodes_at (length rest) 1 (line + 1) rest) close_tree (nodes_later (length rest) 1 last (line + 1) rest before) (λ ns here. closing_later ns.0 last ns.1 ns.2 (omega arith))
+tree_then_later : (names : Naming) (last line : ℕ) (rest : List ℕ) → last < line + 1 → NotBefore last (tree_then names line rest)
+tree_then_later names last line rest before =
+    not_before numbered last (nodes_at names (length rest) 1 (line + 1) rest) (close_tree names) (nodes_later names (length rest) 1 last (line + 1) rest before) (λ ns here. close_later names last ns (omega arith))
 
-tree_whole : (last line : ℕ) (bytes z : List ℕ) → line + lines_in bytes ≡ last → Whole last (tree_at line bytes) (tree_at line (bytes ++ z))
+tree_whole : (names : Naming) (last line : ℕ) (bytes z : List ℕ) → line + lines_in bytes ≡ last → Whole last (tree_at names line bytes) (tree_at names line (bytes ++ z))
 unfolding tree_at
-tree_whole last line bytes z e =
-    whole_then (after_line (line + 1)) last z (fixed_at line tree_line bytes) (fixed_at line tree_line (bytes ++ z)) (tree_then line) (tree_then line) (fixed_grows last line tree_line bytes z e)
-    (λ rest end. tree_then_whole last line rest z end)
-    (λ rest here. tree_then_later last line rest here)
+tree_whole names last line bytes z e =
+    whole_then (after_line (line + 1)) last z (fixed_at line tree_line bytes) (fixed_at line tree_line (bytes ++ z)) (tree_then names line) (tree_then names line) (fixed_grows last line tree_line bytes z e)
+    (λ rest end. tree_then_whole names last line rest z end)
+    (λ rest here. tree_then_later names last line rest here)
 
-tree_later : (last line : ℕ) (bytes : List ℕ) → last ≤ line → NotBefore last (tree_at line bytes)
+tree_later : (names : Naming) (last line : ℕ) (bytes : List ℕ) → last ≤ line → NotBefore last (tree_at names line bytes)
 unfolding tree_at
-tree_later last line bytes before =
-    not_before (after_line (line + 1)) last (fixed_at line tree_line bytes) (tree_then line) (fixed_later last line tree_line bytes before) (λ rest here. tree_then_later last line rest here)
+tree_later names last line bytes before =
+    not_before (after_line (line + 1)) last (fixed_at line tree_line bytes) (tree_then names line) (fixed_later last line tree_line bytes before) (λ rest here. tree_then_later names last line rest here)
 
 abbrev make_warrant : Beginning → List Node → Warrant
 make_warrant opening nodes = record { claim = opening.0; timing = opening.1; nodes = nodes }
 
-abbrev opening_then : Beginning → Result Warrant BadText
-opening_then opening = tree_at opening.2 opening.3 >>= λ nodes. Ok (make_warrant opening nodes)
+-- a tree, whose warrant is made
+warrant_whole : (opening : Beginning) (names : Naming) (last line : ℕ) (bytes z : List ℕ) → line + lines_in bytes ≡ last → Whole last (tree_at names line bytes >>= λ nodes. Ok (make_warrant opening nodes)) (tree_at names line (bytes ++ z) >>= λ nodes. Ok (make_warrant opening nodes))
+warrant_whole opening names last line bytes z e = whole_made last (tree_at names line bytes) (tree_at names line (bytes ++ z)) (make_warrant opening) (tree_whole names last line bytes z e)
+
+warrant_later : (opening : Beginning) (names : Naming) (last line : ℕ) (bytes : List ℕ) → last ≤ line → NotBefore last (tree_at names line bytes >>= λ nodes. Ok (make_warrant opening nodes))
+warrant_later opening names last line bytes before = not_before_made last (tree_at names line bytes) (make_warrant opening) (tree_later names last line bytes before)
+
+abbrev first_then : Beginning → Result Warrant BadText
+first_then opening = tree_at (Named ordinary) opening.2 opening.3 >>= λ nodes. Ok (make_warrant opening nodes)
+
+first_whole : (last : ℕ) (bytes z : List ℕ) → 2 + lines_in bytes ≡ last → Whole last (first_of bytes) (first_of (bytes ++ z))
+unfolding first_of
+first_whole last bytes z end =
+    whole_then opened last z (claim_at bytes) (claim_at (bytes ++ z)) first_then first_then (claim_grows last bytes z end)
+    (λ o k. warrant_whole o (Named ordinary) last o.2 o.3 z k)
+    (λ o here. warrant_later o (Named ordinary) last o.2 o.3 (omega arith))
+
+first_later : (last : ℕ) (bytes : List ℕ) → last ≤ 2 → NotBefore last (first_of bytes)
+unfolding first_of
+first_later last bytes before = not_before opened last (claim_at bytes) first_then (claim_later last bytes before) (λ o here. warrant_later o (Named ordinary) last o.2 o.3 (omega arith))
+
+abbrev listed_then : Beginning → List RowId × ℕ × List ℕ → Result Warrant BadText
+listed_then opening rows = tree_at (Listed rows.0) rows.1 rows.2 >>= λ nodes. Ok (make_warrant opening nodes)
+
+abbrev second_then : Beginning → Result Warrant BadText
+second_then opening = rows_at ordinary opening.2 opening.3 >>= listed_then opening
+
+second_then_later : (o : Beginning) (last : ℕ) → last ≤ o.2 → NotBefore last (second_then o)
+second_then_later o last before =
+    not_before numbered last (rows_at ordinary o.2 o.3) (listed_then o) (rows_later ordinary last o.2 o.3 before) (λ rs here. warrant_later o (Listed rs.0) last rs.1 rs.2 (omega arith))
+
+second_whole : (last : ℕ) (bytes z : List ℕ) → 2 + lines_in bytes ≡ last → Whole last (second_of bytes) (second_of (bytes ++ z))
+unfolding second_of
+second_whole last bytes z end =
+    whole_then opened last z (claim_at bytes) (claim_at (bytes ++ z)) second_then second_then (claim_grows last bytes z end)
+    (λ o k. whole_then numbered last z (rows_at ordinary o.2 o.3) (rows_at ordinary o.2 (o.3 ++ z)) (listed_then o) (listed_then o) (rows_grow ordinary last o.2 o.3 z k)
+    (λ rs m. warrant_whole o (Listed rs.0) last rs.1 rs.2 z m)
+    (λ rs here. warrant_later o (Listed rs.0) last rs.1 rs.2 (omega arith)))
+    (λ o here. second_then_later o last (omega arith))
+
+second_later : (last : ℕ) (bytes : List ℕ) → last ≤ 2 → NotBefore last (second_of bytes)
+unfolding second_of
+second_later last bytes before = not_before opened last (claim_at bytes) second_then (claim_later last bytes before) (λ o here. second_then_later o last (omega arith))
 
 certificate_whole : (bytes z : List ℕ) → Whole (lines_in bytes + 1) (certificate_of bytes) (certificate_of (bytes ++ z))
 unfolding certificate_of
 certificate_whole bytes z =
     let last = lines_in bytes + 1 in
-    whole_then (after_line 2) last z (fixed_at 1 certificate_line bytes) (fixed_at 1 certificate_line (bytes ++ z)) (λ rest. claim_at rest >>= opening_then) (λ rest. claim_at rest >>= opening_then) (fixed_grows last 1 certificate_line bytes z (omega arith))
-    (λ rest end. whole_then opened last z (claim_at rest) (claim_at (rest ++ z)) opening_then opening_then (claim_grows last rest z end)
-    (λ o k. whole_made last (tree_at o.2 o.3) (tree_at o.2 (o.3 ++ z)) (make_warrant o) (tree_whole last o.2 o.3 z k))
-    (λ o here. not_before_made last (tree_at o.2 o.3) (make_warrant o) (tree_later last o.2 o.3 (omega arith))))
-    (λ rest here. not_before opened last (claim_at rest) opening_then (claim_later last rest (omega arith))
-    (λ o k. not_before_made last (tree_at o.2 o.3) (make_warrant o) (tree_later last o.2 o.3 (omega arith))))
+    whole_then (one_and 2) last z (line_at 1 bytes) (line_at 1 (bytes ++ z)) text_by text_by (line_grows last 1 bytes z (omega arith))
+    (λ l end. chosen_whole last (is_text l.0 certificate_line) (first_of l.1) (first_of (l.1 ++ z)) (if is_text l.0 second_line then second_of l.1 else fault 1 Shape) (if is_text l.0 second_line then second_of (l.1 ++ z) else fault 1 Shape) (first_whole last l.1 z end)
+    (guard_whole last 1 (is_text l.0 second_line) (second_of l.1) (second_of (l.1 ++ z)) (omega arith) (second_whole last l.1 z end)))
+    (λ l here. chosen_not_before last (is_text l.0 certificate_line) (first_of l.1) (if is_text l.0 second_line then second_of l.1 else fault 1 Shape) (first_later last l.1 (omega arith))
+    (guard_not_before last 1 (is_text l.0 second_line) (second_of l.1) (omega arith) (second_later last l.1 (omega arith))))
 
 certificate_first : NamesFirstBad certificate_of
 unfolding certificate_of fixed_at line_at
@@ -103,4 +166,5 @@ first_bad = record {
   certificate = certificate_first;
   no_timing = λ start rest other b t e early held text. never t b (timing_of (start ++ other)) (ap timing_of (sym text) ∙ timing_again t held) (timing_first.here start rest other b e early);
   no_certificate = λ start rest other b c e early held text. never c b (certificate_of (start ++ other)) (ap certificate_of (sym text) ∙ certificate_again c held) (certificate_first.here start rest other b e early);
+  no_second = λ start rest other b c e early held text. never c b (certificate_of (start ++ other)) (ap certificate_of (sym text) ∙ second_text_again c held) (certificate_first.here start rest other b e early);
 }

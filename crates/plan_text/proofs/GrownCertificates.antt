@@ -1,13 +1,15 @@
 -- The text of a certificate up to its last line, and the same with more bytes.
 use Rattle.std.proofs.Common.{◌≡◌, ℕ, suc, zero, ◌+◌, ◌-◌, ◌^◌, ◌<◌, ◌≤◌, List, [], ◌∷◌, ◌++◌, length, Option, None, Some, Result, Ok, refl, ap, inl, inr, arith}
-use Rattle.std.specs.Prelude.{if◌then◌else◌}
+use Rattle.std.specs.Prelude.{if◌then◌else◌, slice_get}
 use Rattle.rational_theory.specs.Rational.{ℚ}
 use Rattle.progression.specs.Plan.{Plan}
 use Rattle.named_row.specs.declared.leaves.Weight.{Weight}
 use Rattle.named_row.specs.declared.names.RowId.{RowId}
 use Rattle.search_box.specs.declared.span.At.TheVariants.{Loop, Turn}
-use Rattle.plan_text.specs.declared.fault.TextFault.TheVariants.{Ended, Shape, Order}
+use Rattle.plan_text.specs.declared.fault.TextFault.TheVariants.{Ended, Shape, Number, Order}
 use Rattle.plan_text.specs.declared.fault.BadText.{BadText}
+use Rattle.plan_text.specs.declared.form.Form.{Form}
+use Rattle.plan_text.specs.declared.form.Form.TheVariants.{Over, Plain}
 use Rattle.plan_text.specs.declared.tree.Head.{Head}
 use Rattle.plan_text.specs.declared.tree.Head.TheVariants as heads
 use Rattle.plan_text.specs.declared.certificate.Claim.{Claim}
@@ -17,13 +19,15 @@ use Rattle.plan_text.specs.Numbers.{number}
 use Rattle.plan_text.specs.Fractions.{integer, exact}
 use Rattle.plan_text.specs.Lines.{◌>>=◌, fault, line_at, words_at, fixed_at, ranged}
 use Rattle.plan_text.specs.Reading.{plan_at}
-use Rattle.plan_text.specs.Families.{family_of, is_lone, is_after}
+use Rattle.plan_text.specs.Families.{Table, family_in, is_lone_in, is_after}
 use Rattle.plan_text.specs.Warrants.{Node, LeafOf}
 use Rattle.plan_text.specs.CertificateText.{best_line, none_line, open_line, no_timing_line, value_key, bound_key, split_key, loop_key, turn_key, leaf_key}
-use Rattle.plan_text.specs.CertificateReading.{or_number, range_of, index_of, fraction_of, lone_of, indexed_of, in_family, weight_of, weight_after, weights_at, split_of, head_of, rest_of, node_at, owed_after, nodes_at, Beginning, best_at, begins_with, found_at, missing_at, open_at, verdict_of, claim_at}
+use Rattle.plan_text.specs.SecondText.{rows_key}
+use Rattle.plan_text.specs.Namings.{Naming, Named, Listed, fractions_key, is_form}
+use Rattle.plan_text.specs.CertificateReading.{or_number, range_of, index_of, fraction_of, lone_row, indexed_row, in_family, row_of, listed_row, row_in, over_whole, multiplier_of, cut_last, weight_by, weight_of, read_after, rising_at, own_row, row_of_weight, weights_at, names_at, row_count, rows_at, split_of, leaf_count, above_zero, over_head, head_of, rest_of, node_at, owed_after, nodes_at, Beginning, best_at, begins_with, found_at, missing_at, open_at, verdict_of, claim_at}
 use Rattle.plan_text.specs.FirstBad.{lines_in}
-use Rattle.plan_text.proofs.NodeLines.{node_takes}
-use Rattle.plan_text.proofs.Grown.{Part, Grows, Reaches, IsAt, grows_by, grows_then, reaches_then, at_then, at_if, at_choice, tested, tested_later, chosen, chosen_later, after_line, one_and, numbered, line_grows, line_later, words_grow, words_later, fixed_grows, fixed_later, ranged_here}
+use Rattle.plan_text.proofs.NodeLines.{node_lengths}
+use Rattle.plan_text.proofs.Grown.{Part, Grows, Reaches, IsAt, grows_by, grows_then, reaches_then, at_then, at_if, at_choice, tested, tested_later, chosen, chosen_later, guarded, guarded_later, after_line, one_and, numbered, line_grows, line_later, words_grow, words_later, fixed_grows, fixed_later, ranged_here}
 use Rattle.plan_text.proofs.GrownTimings.{plan_grows, plan_later}
 
 -- ---- the tests of one line
@@ -43,33 +47,51 @@ fraction_here key line (k ∷ []) = (refl, tt)
 fraction_here key line (k ∷ w ∷ []) = at_if line (is_text k key) Shape (or_number line (exact w)) tt (or_number_here line (exact w))
 fraction_here key line (k ∷ w ∷ v ∷ ws) = (refl, tt)
 
-lone_here : (line family : ℕ) (ws : List (List ℕ)) → IsAt line (lone_of line family ws)
-unfolding lone_of
-lone_here line family [] = (refl, tt)
-lone_here line family (x ∷ []) = at_then line (or_number line (exact x)) (λ by. Ok (record { row = record { family = family; index = 0 }; by = by })) (or_number_here line (exact x)) (λ by. tt)
-lone_here line family (x ∷ y ∷ ws) = (refl, tt)
+lone_here : (line family : ℕ) (ws : List (List ℕ)) → IsAt line (lone_row line family ws)
+unfolding lone_row
+lone_here line family [] = tt
+lone_here line family (x ∷ ws) = (refl, tt)
 
-indexed_here : (line family : ℕ) (ws : List (List ℕ)) → IsAt line (indexed_of line family ws)
-unfolding indexed_of
+indexed_here : (line family : ℕ) (ws : List (List ℕ)) → IsAt line (indexed_row line family ws)
+unfolding indexed_row
 indexed_here line family [] = (refl, tt)
-indexed_here line family (i ∷ []) = (refl, tt)
-indexed_here line family (i ∷ x ∷ []) =
-    at_then line (index_of line i) (λ index. or_number line (exact x) >>= λ by. Ok (record { row = record { family = family; index = index }; by = by })) (index_here line i)
-    (λ index. at_then line (or_number line (exact x)) (λ by. Ok (record { row = record { family = family; index = index }; by = by })) (or_number_here line (exact x)) (λ by. tt))
-indexed_here line family (i ∷ x ∷ y ∷ ws) = (refl, tt)
+indexed_here line family (i ∷ []) = at_then line (index_of line i) (λ index. Ok (record { family = family; index = index })) (index_here line i) (λ index. tt)
+indexed_here line family (i ∷ x ∷ ws) = (refl, tt)
 
-in_family_here : (line : ℕ) (ws : List (List ℕ)) (o : Option ℕ) → IsAt line (in_family line ws o)
-in_family_here line ws None = (refl, tt)
-in_family_here line ws (Some family) = at_choice line (is_lone family) (lone_of line family ws) (indexed_of line family ws) (lone_here line family ws) (indexed_here line family ws)
+in_family_here : (table : Table) (line : ℕ) (ws : List (List ℕ)) (o : Option ℕ) → IsAt line (in_family table line ws o)
+in_family_here table line ws None = (refl, tt)
+in_family_here table line ws (Some family) = at_choice line (is_lone_in table family) (lone_row line family ws) (indexed_row line family ws) (lone_here line family ws) (indexed_here line family ws)
 
-weight_here : (line : ℕ) (ws : List (List ℕ)) → IsAt line (weight_of line ws)
+pub row_here : (table : Table) (line : ℕ) (ws : List (List ℕ)) → IsAt line (row_of table line ws)
+unfolding row_of
+row_here table line [] = (refl, tt)
+row_here table line (name ∷ ws) = in_family_here table line ws (family_in table name)
+
+listed_here : (rows : List RowId) (line : ℕ) (ws : List (List ℕ)) → IsAt line (listed_row rows line ws)
+unfolding listed_row
+listed_here rows line [] = (refl, tt)
+listed_here rows line (i ∷ []) =
+    at_then line (ranged (range_of line 1 (2 ^ 64 - 1)) (number i)) (λ place. or_number line (slice_get rows (place - 1))) (ranged_here (range_of line 1 (2 ^ 64 - 1)) (number i)) (λ place. or_number_here line (slice_get rows (place - 1)))
+listed_here rows line (i ∷ x ∷ ws) = (refl, tt)
+
+row_in_here : (names : Naming) (line : ℕ) (ws : List (List ℕ)) → IsAt line (row_in names line ws)
+row_in_here (Named table) line ws = row_here table line ws
+row_in_here (Listed rows) line ws = listed_here rows line ws
+
+multiplier_here : (form : Form) (line : ℕ) (w : List ℕ) → IsAt line (multiplier_of form line w)
+unfolding multiplier_of
+multiplier_here Plain line w = or_number_here line (exact w)
+multiplier_here (Over d) line w = or_number_here line (over_whole d (exact w))
+
+weight_by_here : (names : Naming) (form : Form) (line : ℕ) (o : Option (List (List ℕ) × List ℕ)) → IsAt line (weight_by names form line o)
+weight_by_here names form line None = (refl, tt)
+weight_by_here names form line (Some p) =
+    at_then line (row_in names line p.0) (λ row. multiplier_of form line p.1 >>= λ by. Ok (record { row = row; by = by })) (row_in_here names line p.0)
+    (λ row. at_then line (multiplier_of form line p.1) (λ by. Ok (record { row = row; by = by })) (multiplier_here form line p.1) (λ by. tt))
+
+weight_here : (names : Naming) (form : Form) (line : ℕ) (ws : List (List ℕ)) → IsAt line (weight_of names form line ws)
 unfolding weight_of
-weight_here line [] = (refl, tt)
-weight_here line (name ∷ ws) = in_family_here line ws (family_of name)
-
-after_here : (above : Option RowId) (line : ℕ) (ws : List (List ℕ)) → IsAt line (weight_after above line ws)
-unfolding weight_after
-after_here above line ws = at_then line (weight_of line ws) (λ w. if is_after above w.row then Ok w else fault line Order) (weight_here line ws) (λ w. at_if line (is_after above w.row) Order (Ok w) tt tt)
+weight_here names form line ws = weight_by_here names form line (cut_last ws)
 
 split_here : (line : ℕ) (kind i place : List ℕ) → IsAt line (split_of line kind i place)
 unfolding split_of
@@ -80,116 +102,165 @@ split_here line kind i place =
     (at_then line (index_of line i) (λ signal. ranged (range_of line 0 (2 ^ 32 - 1)) (number place) >>= λ rank. Ok (Turn signal rank)) (index_here line i)
     (λ signal. at_then line (ranged (range_of line 0 (2 ^ 32 - 1)) (number place)) (λ rank. Ok (Turn signal rank)) (ranged_here (range_of line 0 (2 ^ 32 - 1)) (number place)) (λ rank. tt))))
 
-head_here : (line : ℕ) (ws : List (List ℕ)) → IsAt line (head_of line ws)
+count_of_leaf : (line : ℕ) (n : List ℕ) (form : Form) → IsAt line (leaf_count line n >>= λ count. Ok (heads.Leaf count form))
+count_of_leaf line n form = at_then line (leaf_count line n) (λ count. Ok (heads.Leaf count form)) (ranged_here (range_of line 0 10000) (number n)) (λ count. tt)
+
+over_here : (names : Naming) (line : ℕ) (key d n : List ℕ) → IsAt line (over_head names line key d n)
+unfolding over_head
+over_here (Named table) line key d n = (refl, tt)
+over_here (Listed rows) line key d n =
+    at_if line (is_text key leaf_key) Shape (or_number line (above_zero (exact d)) >>= λ denominator. leaf_count line n >>= λ count. Ok (heads.Leaf count (Over denominator))) tt
+    (at_then line (or_number line (above_zero (exact d))) (λ denominator. leaf_count line n >>= λ count. Ok (heads.Leaf count (Over denominator))) (or_number_here line (above_zero (exact d))) (λ denominator. count_of_leaf line n (Over denominator)))
+
+head_here : (names : Naming) (line : ℕ) (ws : List (List ℕ)) → IsAt line (head_of names line ws)
 unfolding head_of
-head_here line [] = (refl, tt)
-head_here line (key ∷ []) = (refl, tt)
-head_here line (key ∷ n ∷ []) =
-    at_if line (is_text key leaf_key) Shape (ranged (range_of line 0 10000) (number n) >>= λ count. Ok (heads.Leaf count)) tt
-    (at_then line (ranged (range_of line 0 10000) (number n)) (λ count. Ok (heads.Leaf count)) (ranged_here (range_of line 0 10000) (number n)) (λ count. tt))
-head_here line (key ∷ kind ∷ i ∷ []) = (refl, tt)
-head_here line (key ∷ kind ∷ i ∷ place ∷ []) =
+head_here names line [] = (refl, tt)
+head_here names line (key ∷ []) = (refl, tt)
+head_here names line (key ∷ n ∷ []) = at_if line (is_text key (fractions_key names)) Shape (leaf_count line n >>= λ count. Ok (heads.Leaf count Plain)) tt (count_of_leaf line n Plain)
+head_here names line (key ∷ kind ∷ i ∷ []) = over_here names line key kind i
+head_here names line (key ∷ kind ∷ i ∷ place ∷ []) =
     at_if line (is_text key split_key) Shape (split_of line kind i place >>= λ at. Ok (heads.Split at)) tt
     (at_then line (split_of line kind i place) (λ at. Ok (heads.Split at)) (split_here line kind i place) (λ at. tt))
-head_here line (key ∷ kind ∷ i ∷ place ∷ x ∷ ws) = (refl, tt)
+head_here names line (key ∷ kind ∷ i ∷ place ∷ x ∷ ws) = (refl, tt)
 
--- ---- the rows of a leaf
+-- ---- lines whose rows ascend
 
-abbrev Rows : Type 0
-Rows = List Weight × List ℕ
+module _ {A : Type 0} (row : A → RowId) (read : ℕ → List (List ℕ) → Result A BadText) (here : (line : ℕ) (ws : List (List ℕ)) → IsAt line (read line ws)) where
+  after_here : (above : Option RowId) (line : ℕ) (ws : List (List ℕ)) → IsAt line (read_after row read above line ws)
+  unfolding read_after
+  after_here above line ws = at_then line (read line ws) (λ x. if is_after above (row x) then Ok x else fault line Order) (here line ws) (λ x. at_if line (is_after above (row x)) Order (Ok x) tt tt)
 
-abbrev and_row : Weight → Rows → Result Rows BadText
-and_row w ws = Ok (w ∷ ws.0, ws.1)
+  abbrev and_item : A → List A × List ℕ → Result (List A × List ℕ) BadText
+  and_item x xs = Ok (x ∷ xs.0, xs.1)
 
-abbrev rows_after : ℕ → ℕ → List ℕ → Weight → Result Rows BadText
-rows_after n line bytes w = weights_at n (Some w.row) (line + 1) bytes >>= and_row w
+  abbrev items_after : ℕ → ℕ → List ℕ → A → Result (List A × List ℕ) BadText
+  items_after n line bytes x = rising_at row read n (Some (row x)) (line + 1) bytes >>= and_item x
 
-abbrev row_then : ℕ → Option RowId → ℕ → List (List ℕ) × List ℕ → Result Rows BadText
-row_then n above line l = weight_after above line l.0 >>= rows_after n line l.1
+  abbrev item_then : ℕ → Option RowId → ℕ → List (List ℕ) × List ℕ → Result (List A × List ℕ) BadText
+  item_then n above line l = read_after row read above line l.0 >>= items_after n line l.1
 
-weights_later : (count : ℕ) (above : Option RowId) (last line : ℕ) (bytes : List ℕ) → last < line → Reaches (one_and (line + count)) last (weights_at count above line bytes)
-unfolding weights_at
-weights_later zero above last line bytes here = omega arith
-weights_later (suc n) above last line bytes here =
-    reaches_then (one_and (line + 1)) (one_and (line + suc n)) last (words_at line bytes) (row_then n above line) (words_later last line bytes (omega arith))
-    (λ l more. tested_later (one_and (line + suc n)) last line (weight_after above line l.0) (rows_after n line l.1) (after_here above line l.0) (omega arith)
-    (λ w. reaches_then (one_and (line + 1 + n)) (one_and (line + suc n)) last (weights_at n (Some w.row) (line + 1) l.1) (and_row w) (weights_later n (Some w.row) last (line + 1) l.1 more) (λ ws k. omega arith)))
+  rising_later : (count : ℕ) (above : Option RowId) (last line : ℕ) (bytes : List ℕ) → last < line → Reaches (one_and (line + count)) last (rising_at row read count above line bytes)
+  unfolding rising_at
+  rising_later zero above last line bytes late = omega arith
+  rising_later (suc n) above last line bytes late =
+      reaches_then (one_and (line + 1)) (one_and (line + suc n)) last (words_at line bytes) (item_then n above line) (words_later last line bytes (omega arith))
+      (λ l more. tested_later (one_and (line + suc n)) last line (read_after row read above line l.0) (items_after n line l.1) (after_here above line l.0) (omega arith)
+      (λ w. reaches_then (one_and (line + 1 + n)) (one_and (line + suc n)) last (rising_at row read n (Some (row w)) (line + 1) l.1) (and_item w) (rising_later n (Some (row w)) last (line + 1) l.1 more) (λ ws k. omega arith)))
 
-weights_grow : (count : ℕ) (above : Option RowId) (last line : ℕ) (bytes z : List ℕ) → line + lines_in bytes ≡ last → Grows (one_and (line + count)) last z (weights_at count above line bytes) (weights_at count above line (bytes ++ z))
-unfolding weights_at
-weights_grow zero above last line bytes z e = (omega arith, refl)
-weights_grow (suc n) above last line bytes z e =
-    grows_then (one_and (line + 1)) (one_and (line + suc n)) last z (words_at line bytes) (words_at line (bytes ++ z)) (row_then n above line) (words_grow last line bytes z e)
-    (λ l end. tested (one_and (line + suc n)) last line z (weight_after above line l.0) (rows_after n line l.1) (rows_after n line (l.1 ++ z)) (after_here above line l.0) (omega arith)
-    (λ w. grows_then (one_and (line + 1 + n)) (one_and (line + suc n)) last z (weights_at n (Some w.row) (line + 1) l.1) (weights_at n (Some w.row) (line + 1) (l.1 ++ z)) (and_row w) (weights_grow n (Some w.row) last (line + 1) l.1 z end) (λ ws k. (omega arith, refl)) (λ ws k. omega arith)))
-    (λ l more. tested_later (one_and (line + suc n)) last line (weight_after above line l.0) (rows_after n line l.1) (after_here above line l.0) (omega arith)
-    (λ w. reaches_then (one_and (line + 1 + n)) (one_and (line + suc n)) last (weights_at n (Some w.row) (line + 1) l.1) (and_row w) (weights_later n (Some w.row) last (line + 1) l.1 more) (λ ws k. omega arith)))
+  rising_grow : (count : ℕ) (above : Option RowId) (last line : ℕ) (bytes z : List ℕ) → line + lines_in bytes ≡ last → Grows (one_and (line + count)) last z (rising_at row read count above line bytes) (rising_at row read count above line (bytes ++ z))
+  unfolding rising_at
+  rising_grow zero above last line bytes z e = (omega arith, refl)
+  rising_grow (suc n) above last line bytes z e =
+      grows_then (one_and (line + 1)) (one_and (line + suc n)) last z (words_at line bytes) (words_at line (bytes ++ z)) (item_then n above line) (words_grow last line bytes z e)
+      (λ l end. tested (one_and (line + suc n)) last line z (read_after row read above line l.0) (items_after n line l.1) (items_after n line (l.1 ++ z)) (after_here above line l.0) (omega arith)
+      (λ w. grows_then (one_and (line + 1 + n)) (one_and (line + suc n)) last z (rising_at row read n (Some (row w)) (line + 1) l.1) (rising_at row read n (Some (row w)) (line + 1) (l.1 ++ z)) (and_item w) (rising_grow n (Some (row w)) last (line + 1) l.1 z end) (λ ws k. (omega arith, refl)) (λ ws k. omega arith)))
+      (λ l more. tested_later (one_and (line + suc n)) last line (read_after row read above line l.0) (items_after n line l.1) (after_here above line l.0) (omega arith)
+      (λ w. reaches_then (one_and (line + 1 + n)) (one_and (line + suc n)) last (rising_at row read n (Some (row w)) (line + 1) l.1) (and_item w) (rising_later n (Some (row w)) last (line + 1) l.1 more) (λ ws k. omega arith)))
+
+-- ---- the list of rows
+
+row_count_here : (line : ℕ) (ws : List (List ℕ)) → IsAt line (row_count line ws)
+unfolding row_count
+row_count_here line [] = (refl, tt)
+row_count_here line (key ∷ []) = (refl, tt)
+row_count_here line (key ∷ n ∷ []) = at_if line (is_text key rows_key) Shape (ranged (range_of line 0 (2 ^ 64 - 1)) (number n)) tt (ranged_here (range_of line 0 (2 ^ 64 - 1)) (number n))
+row_count_here line (key ∷ n ∷ x ∷ ws) = (refl, tt)
+
+abbrev as_rows : ℕ → ℕ → List RowId × List ℕ → Result (List RowId × ℕ × List ℕ) BadText
+as_rows line n rs = Ok (rs.0, line + 1 + n, rs.1)
+
+abbrev rows_rest : Table → ℕ → List ℕ → ℕ → Result (List RowId × ℕ × List ℕ) BadText
+rows_rest table line bytes n = names_at table n None (line + 1) bytes >>= as_rows line n
+
+abbrev rows_then : Table → ℕ → List (List ℕ) × List ℕ → Result (List RowId × ℕ × List ℕ) BadText
+rows_then table line l = row_count line l.0 >>= rows_rest table line l.1
+
+rows_then_later : (table : Table) (last line : ℕ) (l : List (List ℕ) × List ℕ) → last < line + 1 → Reaches numbered last (rows_then table line l)
+rows_then_later table last line l late =
+    tested_later numbered last line (row_count line l.0) (rows_rest table line l.1) (row_count_here line l.0) (omega arith)
+    (λ n. reaches_then (one_and (line + 1 + n)) numbered last (names_at table n None (line + 1) l.1) (as_rows line n) (rising_later own_row (row_of table) (row_here table) n None last (line + 1) l.1 late) (λ rs k. k))
+
+pub rows_later : (table : Table) (last line : ℕ) (bytes : List ℕ) → last ≤ line → Reaches numbered last (rows_at table line bytes)
+unfolding rows_at
+rows_later table last line bytes late = reaches_then (one_and (line + 1)) numbered last (words_at line bytes) (rows_then table line) (words_later last line bytes late) (rows_then_later table last line)
+
+pub rows_grow : (table : Table) (last line : ℕ) (bytes z : List ℕ) → line + lines_in bytes ≡ last → Grows numbered last z (rows_at table line bytes) (rows_at table line (bytes ++ z))
+unfolding rows_at
+rows_grow table last line bytes z e =
+    grows_then (one_and (line + 1)) numbered last z (words_at line bytes) (words_at line (bytes ++ z)) (rows_then table line) (words_grow last line bytes z e)
+    (λ l end. tested numbered last line z (row_count line l.0) (rows_rest table line l.1) (rows_rest table line (l.1 ++ z)) (row_count_here line l.0) (omega arith)
+    (λ n. grows_then (one_and (line + 1 + n)) numbered last z (names_at table n None (line + 1) l.1) (names_at table n None (line + 1) (l.1 ++ z)) (as_rows line n) (rising_grow own_row (row_of table) (row_here table) n None last (line + 1) l.1 z end) (λ rs k. (k, refl)) (λ rs k. k)))
+    (rows_then_later table last line)
 
 -- ---- nodes
 
-abbrev as_leaf : ℕ → ℕ → Rows → Result (Node × ℕ × List ℕ) BadText
-as_leaf line count ws = Ok (LeafOf ws.0, line + count, ws.1)
+abbrev leaf_then : Naming → Form → ℕ → ℕ → List Weight × List ℕ → Result (Node × ℕ × List ℕ) BadText
+leaf_then names form line count ws = if is_form names form ws.0 then Ok (LeafOf ws.0, line + 1 + count, ws.1) else fault (line + count) Number
 
-rest_later : (head : Head) (last line : ℕ) (bytes : List ℕ) → last < line → Reaches numbered last (rest_of head line bytes)
+rest_later : (names : Naming) (head : Head) (last line : ℕ) (bytes : List ℕ) → last < line + 1 → Reaches numbered last (rest_of names head line bytes)
 unfolding rest_of
-rest_later (heads.Split at) last line bytes here = here
-rest_later (heads.Leaf count) last line bytes here = reaches_then (one_and (line + count)) numbered last (weights_at count None line bytes) (as_leaf line count) (weights_later count None last line bytes here) (λ ws more. more)
+rest_later names (heads.Split at) last line bytes here = here
+rest_later names (heads.Leaf count form) last line bytes here =
+    reaches_then (one_and (line + 1 + count)) numbered last (weights_at names form count None (line + 1) bytes) (leaf_then names form line count) (rising_later row_of_weight (weight_of names form) (weight_here names form) count None last (line + 1) bytes here)
+    (λ ws more. guarded_later numbered last (line + count) (is_form names form ws.0) Number (Ok (LeafOf ws.0, line + 1 + count, ws.1)) (omega arith) more)
 
-rest_grows : (head : Head) (last line : ℕ) (bytes z : List ℕ) → line + lines_in bytes ≡ last → Grows numbered last z (rest_of head line bytes) (rest_of head line (bytes ++ z))
+rest_grows : (names : Naming) (head : Head) (last line : ℕ) (bytes z : List ℕ) → line + 1 + lines_in bytes ≡ last → Grows numbered last z (rest_of names head line bytes) (rest_of names head line (bytes ++ z))
 unfolding rest_of
-rest_grows (heads.Split at) last line bytes z e = (e, refl)
-rest_grows (heads.Leaf count) last line bytes z e =
-    grows_then (one_and (line + count)) numbered last z (weights_at count None line bytes) (weights_at count None line (bytes ++ z)) (as_leaf line count) (weights_grow count None last line bytes z e) (λ ws end. (end, refl)) (λ ws here. here)
+rest_grows names (heads.Split at) last line bytes z e = (e, refl)
+rest_grows names (heads.Leaf count form) last line bytes z e =
+    grows_then (one_and (line + 1 + count)) numbered last z (weights_at names form count None (line + 1) bytes) (weights_at names form count None (line + 1) (bytes ++ z)) (leaf_then names form line count) (rising_grow row_of_weight (weight_of names form) (weight_here names form) count None last (line + 1) bytes z e)
+    (λ ws end. guarded numbered last (line + count) z (is_form names form ws.0) Number (Ok (LeafOf ws.0, line + 1 + count, ws.1)) (Ok (LeafOf ws.0, line + 1 + count, ws.1 ++ z)) tt (omega arith) (end, refl))
+    (λ ws here. guarded_later numbered last (line + count) (is_form names form ws.0) Number (Ok (LeafOf ws.0, line + 1 + count, ws.1)) (omega arith) here)
 
-abbrev head_then : ℕ → List (List ℕ) × List ℕ → Result (Node × ℕ × List ℕ) BadText
-head_then line l = head_of line l.0 >>= λ head. rest_of head (line + 1) l.1
+abbrev head_then : Naming → ℕ → List (List ℕ) × List ℕ → Result (Node × ℕ × List ℕ) BadText
+head_then names line l = head_of names line l.0 >>= λ head. rest_of names head line l.1
 
-head_later : (last line : ℕ) (l : List (List ℕ) × List ℕ) → last < line + 1 → Reaches numbered last (head_then line l)
-head_later last line l here = tested_later numbered last line (head_of line l.0) (λ head. rest_of head (line + 1) l.1) (head_here line l.0) (omega arith) (λ head. rest_later head last (line + 1) l.1 here)
+head_later : (names : Naming) (last line : ℕ) (l : List (List ℕ) × List ℕ) → last < line + 1 → Reaches numbered last (head_then names line l)
+head_later names last line l here = tested_later numbered last line (head_of names line l.0) (λ head. rest_of names head line l.1) (head_here names line l.0) (omega arith) (λ head. rest_later names head last line l.1 here)
 
-node_later : (last line : ℕ) (bytes : List ℕ) → last ≤ line → Reaches numbered last (node_at line bytes)
+node_later : (names : Naming) (last line : ℕ) (bytes : List ℕ) → last ≤ line → Reaches numbered last (node_at names line bytes)
 unfolding node_at
-node_later last line bytes here = reaches_then (one_and (line + 1)) numbered last (words_at line bytes) (head_then line) (words_later last line bytes here) (head_later last line)
+node_later names last line bytes here = reaches_then (one_and (line + 1)) numbered last (words_at line bytes) (head_then names line) (words_later last line bytes here) (head_later names last line)
 
-node_grows : (last line : ℕ) (bytes z : List ℕ) → line + lines_in bytes ≡ last → Grows numbered last z (node_at line bytes) (node_at line (bytes ++ z))
+node_grows : (names : Naming) (last line : ℕ) (bytes z : List ℕ) → line + lines_in bytes ≡ last → Grows numbered last z (node_at names line bytes) (node_at names line (bytes ++ z))
 unfolding node_at
-node_grows last line bytes z e =
-    grows_then (one_and (line + 1)) numbered last z (words_at line bytes) (words_at line (bytes ++ z)) (head_then line) (words_grow last line bytes z e)
-    (λ l end. tested numbered last line z (head_of line l.0) (λ head. rest_of head (line + 1) l.1) (λ head. rest_of head (line + 1) (l.1 ++ z)) (head_here line l.0) (omega arith) (λ head. rest_grows head last (line + 1) l.1 z end))
-    (head_later last line)
+node_grows names last line bytes z e =
+    grows_then (one_and (line + 1)) numbered last z (words_at line bytes) (words_at line (bytes ++ z)) (head_then names line) (words_grow last line bytes z e)
+    (λ l end. tested numbered last line z (head_of names line l.0) (λ head. rest_of names head line l.1) (λ head. rest_of names head line (l.1 ++ z)) (head_here names line l.0) (omega arith) (λ head. rest_grows names head last line l.1 z end))
+    (head_later names last line)
 
 abbrev and_node : Node → List Node × ℕ × List ℕ → Result (List Node × ℕ × List ℕ) BadText
 and_node n ns = Ok (n ∷ ns.0, ns.1, ns.2)
 
-abbrev node_then : ℕ → ℕ → Node × ℕ × List ℕ → Result (List Node × ℕ × List ℕ) BadText
-node_then steps others n = nodes_at steps (owed_after n.0 others) n.1 n.2 >>= and_node n.0
+abbrev node_then : Naming → ℕ → ℕ → Node × ℕ × List ℕ → Result (List Node × ℕ × List ℕ) BadText
+node_then names steps others n = nodes_at names steps (owed_after n.0 others) n.1 n.2 >>= and_node n.0
 
-pub nodes_later : (steps owed last line : ℕ) (bytes : List ℕ) → last < line → Reaches numbered last (nodes_at steps owed line bytes)
+pub nodes_later : (names : Naming) (steps owed last line : ℕ) (bytes : List ℕ) → last < line → Reaches numbered last (nodes_at names steps owed line bytes)
 unfolding nodes_at
-nodes_later zero zero last line bytes here = here
-nodes_later (suc steps) zero last line bytes here = here
-nodes_later zero (suc others) last line bytes here = omega arith
-nodes_later (suc steps) (suc others) last line bytes here =
-    reaches_then numbered numbered last (node_at line bytes) (node_then steps others) (node_later last line bytes (omega arith))
-    (λ n more. reaches_then numbered numbered last (nodes_at steps (owed_after n.0 others) n.1 n.2) (and_node n.0) (nodes_later steps (owed_after n.0 others) last n.1 n.2 more) (λ ns k. k))
+nodes_later names zero zero last line bytes here = here
+nodes_later names (suc steps) zero last line bytes here = here
+nodes_later names zero (suc others) last line bytes here = omega arith
+nodes_later names (suc steps) (suc others) last line bytes here =
+    reaches_then numbered numbered last (node_at names line bytes) (node_then names steps others) (node_later names last line bytes (omega arith))
+    (λ n more. reaches_then numbered numbered last (nodes_at names steps (owed_after n.0 others) n.1 n.2) (and_node n.0) (nodes_later names steps (owed_after n.0 others) last n.1 n.2 more) (λ ns k. k))
 
 no_lines : (bytes : List ℕ) → length bytes ≤ 0 → lines_in bytes ≡ 0
 no_lines [] none = refl
 no_lines (b ∷ bs) none = absurd (omega arith)
 
-pub nodes_grow : (steps owed last line : ℕ) (bytes z : List ℕ) → length bytes ≤ steps → line + lines_in bytes ≡ last → Grows numbered last z (nodes_at steps owed line bytes) (nodes_at steps owed line (bytes ++ z))
+pub nodes_grow : (names : Naming) (steps owed last line : ℕ) (bytes z : List ℕ) → length bytes ≤ steps → line + lines_in bytes ≡ last → Grows numbered last z (nodes_at names steps owed line bytes) (nodes_at names steps owed line (bytes ++ z))
 unfolding nodes_at
-nodes_grow zero zero last line bytes z few e = (e, refl)
-nodes_grow (suc steps) zero last line bytes z few e = (e, refl)
-nodes_grow zero (suc others) last line bytes z few e =
+nodes_grow names zero zero last line bytes z few e = (e, refl)
+nodes_grow names (suc steps) zero last line bytes z few e = (e, refl)
+nodes_grow names zero (suc others) last line bytes z few e =
     let none = no_lines bytes few in
     let is : line ≡ last = omega arith in
     inr (ap (λ (n : ℕ). record { line = n; kind = Ended }) is, omega arith)
-nodes_grow (suc steps) (suc others) last line bytes z few e =
-    grows_by numbered numbered last z (node_at line bytes) (node_at line (bytes ++ z)) (node_then steps others) (node_then steps others) (node_grows last line bytes z e)
-    (λ n is end. let shorter = (node_takes line bytes n is).shorter in
-    grows_then numbered numbered last z (nodes_at steps (owed_after n.0 others) n.1 n.2) (nodes_at steps (owed_after n.0 others) n.1 (n.2 ++ z)) (and_node n.0) (nodes_grow steps (owed_after n.0 others) last n.1 n.2 z (omega arith) end) (λ ns k. (k, refl)) (λ ns k. k))
-    (λ n more. reaches_then numbered numbered last (nodes_at steps (owed_after n.0 others) n.1 n.2) (and_node n.0) (nodes_later steps (owed_after n.0 others) last n.1 n.2 more) (λ ns k. k))
+nodes_grow names (suc steps) (suc others) last line bytes z few e =
+    grows_by numbered numbered last z (node_at names line bytes) (node_at names line (bytes ++ z)) (node_then names steps others) (node_then names steps others) (node_grows names last line bytes z e)
+    (λ n is end. let shorter = (node_lengths names line bytes n is).shorter in
+    grows_then numbered numbered last z (nodes_at names steps (owed_after n.0 others) n.1 n.2) (nodes_at names steps (owed_after n.0 others) n.1 (n.2 ++ z)) (and_node n.0) (nodes_grow names steps (owed_after n.0 others) last n.1 n.2 z (omega arith) end) (λ ns k. (k, refl)) (λ ns k. k))
+    (λ n more. reaches_then numbered numbered last (nodes_at names steps (owed_after n.0 others) n.1 n.2) (and_node n.0) (nodes_later names steps (owed_after n.0 others) last n.1 n.2 more) (λ ns k. k))
 
 -- ---- the claim
 

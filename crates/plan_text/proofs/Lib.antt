@@ -1,6 +1,10 @@
 pub mod Cuts
 pub mod Spellings
+pub mod RowOrder
+pub mod ListedRows
+pub mod Places
 pub mod Loop
+pub mod SecondLines
 pub mod Pieces
 pub mod Fields
 pub mod Timings
@@ -21,4 +25,10 @@ pub mod GrownTimings
 pub mod GrownCertificates
 pub mod Wholes
 pub mod FirstBads
+pub mod Forms
 pub mod Digits
+pub mod Denominators
+pub mod Multipliers
+pub mod NamedRows
+pub mod RowLists
+pub mod Divisors

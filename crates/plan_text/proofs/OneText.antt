@@ -1,5 +1,5 @@
 -- What is read is held and spelled so, and what is held and spelled so is read.
-use Rattle.std.proofs.Common.{◌≡◌, ℕ, List, Ok, ap, ◌∙◌}
+use Rattle.std.proofs.Common.{◌≡◌, ℕ, List, Ok, ap, ◌∙◌, inl, inr}
 use Rattle.progression.specs.Plan.{Plan}
 use Rattle.plan_text.specs.Spelling.{head_line, end_line, IsHeld}
 use Rattle.plan_text.specs.Lines.{◌>>=◌, fixed_at, nothing_at}
@@ -8,7 +8,7 @@ use Rattle.plan_text.specs.CertificateReading.{certificate_of}
 use Rattle.plan_text.specs.Promises.{OneText, ReadsBack}
 use Rattle.plan_text.proofs.Fields.{bind_ok, moved}
 use Rattle.plan_text.proofs.Timings.{plan_takes, timing_takes, timing_again}
-use Rattle.plan_text.proofs.Certificates.{certificate_takes, certificate_again}
+use Rattle.plan_text.proofs.Certificates.{certificate_takes, certificate_again, second_text_again}
 
 timing_held : (bytes : List ℕ) (t : Plan) → timing_of bytes ≡ Ok t → IsHeld t
 unfolding timing_of
@@ -24,9 +24,9 @@ one_text = record {
   timing = λ x t. ((λ e. (timing_held x t e, timing_takes x t e)), (λ p. ap timing_of p.1 ∙ timing_again t p.0));
   certificate = λ x w. (
     (λ e. let taken = certificate_takes x w e in (taken.held, taken.parts)),
-    (λ p. ap certificate_of p.1 ∙ certificate_again w p.0),
+    (λ p. elim p.1 [ inl e ↦ ap certificate_of e ∙ certificate_again w p.0 | inr e ↦ ap certificate_of e ∙ second_text_again w p.0 ]),
   );
 }
 
 pub reads_back : ReadsBack
-reads_back = record { timing = timing_again; certificate = certificate_again }
+reads_back = record { timing = timing_again; certificate = certificate_again; second = second_text_again }

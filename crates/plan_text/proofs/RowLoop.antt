@@ -1,12 +1,18 @@
 -- Reading rows one after the other, as a loop does.
-use Rattle.std.proofs.Common.{◌≡◌, ℕ, suc, ◌+◌, ◌-◌, ◌<◌, ◌≤◌, Bor, map, List, [], ◌∷◌, ◌++◌, Option, None, Some, Result, Ok, Err, refl, sym, ap, ◌∙◌, subst, append_assoc, append-nil, arith}
-use Rattle.named_row.specs.declared.leaves.Weight.{Weight}
+use Rattle.std.specs.Prelude.{if◌then◌else◌}
+use Rattle.std.specs.List.{AllByRecursion}
+use Rattle.std.proofs.Common.{true, zero, length, ◌≡◌, ℕ, suc, ◌+◌, ◌-◌, ◌<◌, ◌≤◌, Bor, map, List, [], ◌∷◌, ◌++◌, Option, None, Some, Result, Ok, Err, refl, sym, ap, ◌∙◌, subst, append_assoc, append-nil, arith}
 use Rattle.named_row.specs.declared.names.RowId.{RowId}
 use Rattle.plan_text.specs.declared.fault.BadText.{BadText}
 use Rattle.plan_text.specs.declared.fault.TextEnd.{TextEnd}
 use Rattle.plan_text.specs.declared.fault.TextEnd.TheVariants as ends
-use Rattle.plan_text.specs.Lines.{◌>>=◌, Fails, words_at}
-use Rattle.plan_text.specs.CertificateReading.{weight_after, weights_at}
+use Rattle.plan_text.specs.declared.fault.TextFault.TheVariants.{Order}
+use Rattle.plan_text.specs.Words.{line_of}
+use Rattle.plan_text.specs.Lines.{◌>>=◌, Fails, fault, words_at}
+use Rattle.plan_text.specs.Families.{is_after}
+use Rattle.plan_text.proofs.Fields.{bind_ok, guard_ok, moved}
+use Rattle.plan_text.proofs.WordLines.{words_take, words_shorter, ended_and}
+use Rattle.plan_text.specs.CertificateReading.{read_after, rising_at}
 
 -- ---- what failed, and what follows it
 
@@ -28,63 +34,123 @@ words_are slice words after read same e = e ∙ ap (λ (v : List (Bor (List ℕ)
 -- ---- rows
 
 -- the rows before, and those that are still read
-abbrev pub with_rows : List Weight → Result (List Weight × List ℕ) BadText → Result (List Weight × List ℕ) BadText
-with_rows front read = read >>= λ x. Ok (front ++ x.0, x.1)
+abbrev pub with_front : {A : Type 0} → List A → Result (List A × List ℕ) BadText → Result (List A × List ℕ) BadText
+with_front front read = read >>= λ x. Ok (front ++ x.0, x.1)
 
-without_rows : (read : Result (List Weight × List ℕ) BadText) → with_rows [] read ≡ read
-without_rows (Ok x) = refl
-without_rows (Err e) = refl
+without_front : {A : Type 0} (read : Result (List A × List ℕ) BadText) → with_front [] read ≡ read
+without_front (Ok x) = refl
+without_front (Err e) = refl
 
-regroup : (front : List Weight) (w : Weight) (read : Result (List Weight × List ℕ) BadText) → with_rows front (read >>= λ x. Ok (w ∷ x.0, x.1)) ≡ with_rows (front ++ w ∷ []) read
-regroup front w (Ok x) = ap (λ (y : List Weight). Ok (y, x.1)) (simp append_assoc)
+regroup : {A : Type 0} (front : List A) (w : A) (read : Result (List A × List ℕ) BadText) → with_front front (read >>= λ x. Ok (w ∷ x.0, x.1)) ≡ with_front (front ++ w ∷ []) read
+regroup {A = A} front w (Ok x) = ap (λ (y : List A). Ok (y, x.1)) (simp append_assoc)
 regroup front w (Err e) = refl
 
 -- what follows a row's line
-abbrev row_then : ℕ → Option RowId → ℕ → List (List ℕ) × List ℕ → Result (List Weight × List ℕ) BadText
-row_then n last line l = weight_after last line l.0 >>= λ w. weights_at n (Some w.row) (line + 1) l.1 >>= λ x. Ok (w ∷ x.0, x.1)
+abbrev row_then : {A : Type 0} → (A → RowId) → (ℕ → List (List ℕ) → Result A BadText) → ℕ → Option RowId → ℕ → List (List ℕ) × List ℕ → Result (List A × List ℕ) BadText
+row_then row read n last line l = read_after row read last line l.0 >>= λ w. rising_at row read n (Some (row w)) (line + 1) l.1 >>= λ x. Ok (w ∷ x.0, x.1)
 
-step : (n : ℕ) (last : Option RowId) (line : ℕ) (bytes : List ℕ) → weights_at (suc n) last line bytes ≡ (words_at line bytes >>= row_then n last line)
-unfolding weights_at
-step n last line bytes = refl
+step : {A : Type 0} (row : A → RowId) (read : ℕ → List (List ℕ) → Result A BadText) (n : ℕ) (last : Option RowId) (line : ℕ) (bytes : List ℕ) → rising_at row read (suc n) last line bytes ≡ (words_at line bytes >>= row_then row read n last line)
+unfolding rising_at
+step row read n last line bytes = refl
 
 -- one of count rows is read after i
-next : (count i : ℕ) (last : Option RowId) (line : ℕ) (bytes : List ℕ) → i < count → weights_at (count - i) last (line + i) bytes ≡ (words_at (line + i) bytes >>= row_then (count - (i + 1)) last (line + i))
-next count i last line bytes lt =
+next : {A : Type 0} (row : A → RowId) (read : ℕ → List (List ℕ) → Result A BadText) (count i : ℕ) (last : Option RowId) (line : ℕ) (bytes : List ℕ) → i < count → rising_at row read (count - i) last (line + i) bytes ≡ (words_at (line + i) bytes >>= row_then row read (count - (i + 1)) last (line + i))
+next row read count i last line bytes lt =
     let e : count - i ≡ suc (count - (i + 1)) = omega arith in
-    ap (λ (n : ℕ). weights_at n last (line + i) bytes) e ∙ step (count - (i + 1)) last (line + i) bytes
+    ap (λ (n : ℕ). rising_at row read n last (line + i) bytes) e ∙ step row read (count - (i + 1)) last (line + i) bytes
 
-pub begins : (count line : ℕ) (bytes : List ℕ) → with_rows [] (weights_at (count - 0) None (line + 0) bytes) ≡ weights_at count None line bytes
-begins count line bytes =
+pub begins : {A : Type 0} (row : A → RowId) (read : ℕ → List (List ℕ) → Result A BadText) (count line : ℕ) (bytes : List ℕ) → with_front [] (rising_at row read (count - 0) None (line + 0) bytes) ≡ rising_at row read count None line bytes
+begins row read count line bytes =
     let n : count - 0 ≡ count = omega arith in
     let l : line + 0 ≡ line = omega arith in
-    without_rows (weights_at (count - 0) None (line + 0) bytes) ∙ (λ i. weights_at (n i) None (l i) bytes)
+    without_front (rising_at row read (count - 0) None (line + 0) bytes) ∙ (λ i. rising_at row read (n i) None (l i) bytes)
 
-pub goes_on : (front : List Weight) (count i : ℕ) (last : Option RowId) (line : ℕ) (bytes : List ℕ) (l : List (List ℕ) × List ℕ) (w : Weight) (total : Result (List Weight × List ℕ) BadText) → i < count → words_at (line + i) bytes ≡ Ok l → weight_after last (line + i) l.0 ≡ Ok w
-    → with_rows front (weights_at (count - i) last (line + i) bytes) ≡ total → with_rows (front ++ w ∷ []) (weights_at (count - (i + 1)) (Some w.row) (line + (i + 1)) l.1) ≡ total
-goes_on front count i last line bytes l w total lt p q so_far =
+pub goes_on : {A : Type 0} (row : A → RowId) (read : ℕ → List (List ℕ) → Result A BadText) (front : List A) (count i : ℕ) (last : Option RowId) (line : ℕ) (bytes : List ℕ) (l : List (List ℕ) × List ℕ) (w : A) (total : Result (List A × List ℕ) BadText) → i < count → words_at (line + i) bytes ≡ Ok l → read_after row read last (line + i) l.0 ≡ Ok w
+    → with_front front (rising_at row read (count - i) last (line + i) bytes) ≡ total → with_front (front ++ w ∷ []) (rising_at row read (count - (i + 1)) (Some (row w)) (line + (i + 1)) l.1) ≡ total
+goes_on row read front count i last line bytes l w total lt p q so_far =
     let k : line + (i + 1) ≡ line + i + 1 = omega arith in
-    let more = weights_at (count - (i + 1)) (Some w.row) (line + i + 1) l.1 in
-    let one : weights_at (count - i) last (line + i) bytes ≡ (more >>= λ x. Ok (w ∷ x.0, x.1))
-    = next count i last line bytes lt ∙ then_ok (words_at (line + i) bytes) l (row_then (count - (i + 1)) last (line + i)) p ∙ then_ok (weight_after last (line + i) l.0) w (λ w. weights_at (count - (i + 1)) (Some w.row) (line + i + 1) l.1 >>= λ x. Ok (w ∷ x.0, x.1)) q in
-    ap (λ (n : ℕ). with_rows (front ++ w ∷ []) (weights_at (count - (i + 1)) (Some w.row) n l.1)) k ∙ sym (regroup front w more) ∙ ap (with_rows front) (sym one) ∙ so_far
+    let more = rising_at row read (count - (i + 1)) (Some (row w)) (line + i + 1) l.1 in
+    let one : rising_at row read (count - i) last (line + i) bytes ≡ (more >>= λ x. Ok (w ∷ x.0, x.1))
+    = next row read count i last line bytes lt ∙ then_ok (words_at (line + i) bytes) l (row_then row read (count - (i + 1)) last (line + i)) p ∙ then_ok (read_after row read last (line + i) l.0) w (λ w. rising_at row read (count - (i + 1)) (Some (row w)) (line + i + 1) l.1 >>= λ x. Ok (w ∷ x.0, x.1)) q in
+    ap (λ (n : ℕ). with_front (front ++ w ∷ []) (rising_at row read (count - (i + 1)) (Some (row w)) n l.1)) k ∙ sym (regroup front w more) ∙ ap (with_front front) (sym one) ∙ so_far
 
-pub no_words : (e : TextEnd) (front : List Weight) (count i : ℕ) (last : Option RowId) (line : ℕ) (bytes : List ℕ) (total : Result (List Weight × List ℕ) BadText) → i < count → Fails e (words_at (line + i) bytes)
-    → with_rows front (weights_at (count - i) last (line + i) bytes) ≡ total → Fails e total
-no_words e front count i last line bytes total lt h so_far =
-    let x = fails_then e (words_at (line + i) bytes) (row_then (count - (i + 1)) last (line + i)) h in
-    let y = fails_as e _ (weights_at (count - i) last (line + i) bytes) (sym (next count i last line bytes lt)) x in
-    fails_as e _ total so_far (fails_then e (weights_at (count - i) last (line + i) bytes) (λ x. Ok (front ++ x.0, x.1)) y)
+pub no_words : {A : Type 0} (row : A → RowId) (read : ℕ → List (List ℕ) → Result A BadText) (e : TextEnd) (front : List A) (count i : ℕ) (last : Option RowId) (line : ℕ) (bytes : List ℕ) (total : Result (List A × List ℕ) BadText) → i < count → Fails e (words_at (line + i) bytes)
+    → with_front front (rising_at row read (count - i) last (line + i) bytes) ≡ total → Fails e total
+no_words row read e front count i last line bytes total lt h so_far =
+    let x = fails_then e (words_at (line + i) bytes) (row_then row read (count - (i + 1)) last (line + i)) h in
+    let y = fails_as e _ (rising_at row read (count - i) last (line + i) bytes) (sym (next row read count i last line bytes lt)) x in
+    fails_as e _ total so_far (fails_then e (rising_at row read (count - i) last (line + i) bytes) (λ x. Ok (front ++ x.0, x.1)) y)
 
-pub no_weight : (e : TextEnd) (front : List Weight) (count i : ℕ) (last : Option RowId) (line : ℕ) (bytes : List ℕ) (l : List (List ℕ) × List ℕ) (total : Result (List Weight × List ℕ) BadText) → i < count → words_at (line + i) bytes ≡ Ok l → Fails e (weight_after last (line + i) l.0)
-    → with_rows front (weights_at (count - i) last (line + i) bytes) ≡ total → Fails e total
-no_weight e front count i last line bytes l total lt p h so_far =
-    let x = fails_then e (weight_after last (line + i) l.0) (λ w. weights_at (count - (i + 1)) (Some w.row) (line + i + 1) l.1 >>= λ x. Ok (w ∷ x.0, x.1)) h in
-    let one : (words_at (line + i) bytes >>= row_then (count - (i + 1)) last (line + i)) ≡ row_then (count - (i + 1)) last (line + i) l = then_ok (words_at (line + i) bytes) l (row_then (count - (i + 1)) last (line + i)) p in
-    let y = fails_as e _ (weights_at (count - i) last (line + i) bytes) (sym (next count i last line bytes lt ∙ one)) x in
-    fails_as e _ total so_far (fails_then e (weights_at (count - i) last (line + i) bytes) (λ x. Ok (front ++ x.0, x.1)) y)
+pub no_weight : {A : Type 0} (row : A → RowId) (read : ℕ → List (List ℕ) → Result A BadText) (e : TextEnd) (front : List A) (count i : ℕ) (last : Option RowId) (line : ℕ) (bytes : List ℕ) (l : List (List ℕ) × List ℕ) (total : Result (List A × List ℕ) BadText) → i < count → words_at (line + i) bytes ≡ Ok l → Fails e (read_after row read last (line + i) l.0)
+    → with_front front (rising_at row read (count - i) last (line + i) bytes) ≡ total → Fails e total
+no_weight row read e front count i last line bytes l total lt p h so_far =
+    let x = fails_then e (read_after row read last (line + i) l.0) (λ w. rising_at row read (count - (i + 1)) (Some (row w)) (line + i + 1) l.1 >>= λ x. Ok (w ∷ x.0, x.1)) h in
+    let one : (words_at (line + i) bytes >>= row_then row read (count - (i + 1)) last (line + i)) ≡ row_then row read (count - (i + 1)) last (line + i) l = then_ok (words_at (line + i) bytes) l (row_then row read (count - (i + 1)) last (line + i)) p in
+    let y = fails_as e _ (rising_at row read (count - i) last (line + i) bytes) (sym (next row read count i last line bytes lt ∙ one)) x in
+    fails_as e _ total so_far (fails_then e (rising_at row read (count - i) last (line + i) bytes) (λ x. Ok (front ++ x.0, x.1)) y)
 
-pub is_done : (front : List Weight) (count i : ℕ) (last : Option RowId) (line : ℕ) (bytes : List ℕ) (total : Result (List Weight × List ℕ) BadText) → count ≤ i → with_rows front (weights_at (count - i) last (line + i) bytes) ≡ total → total ≡ Ok (front, bytes)
-unfolding weights_at
-is_done front count i last line bytes total le so_far =
+pub is_done : {A : Type 0} (row : A → RowId) (read : ℕ → List (List ℕ) → Result A BadText) (front : List A) (count i : ℕ) (last : Option RowId) (line : ℕ) (bytes : List ℕ) (total : Result (List A × List ℕ) BadText) → count ≤ i → with_front front (rising_at row read (count - i) last (line + i) bytes) ≡ total → total ≡ Ok (front, bytes)
+unfolding rising_at
+is_done {A = A} row read front count i last line bytes total le so_far =
     let n : count - i ≡ 0 = omega arith in
-    sym so_far ∙ ap (λ (n : ℕ). with_rows front (weights_at n last (line + i) bytes)) n ∙ ap (λ (y : List Weight). Ok (y, bytes)) (append-nil front)
+    sym so_far ∙ ap (λ (n : ℕ). with_front front (rising_at row read n last (line + i) bytes)) n ∙ ap (λ (y : List A). Ok (y, bytes)) (append-nil front)
+
+-- ---- how many there are
+
+pub rising_lengths : {A : Type 0} (row : A → RowId) (read : ℕ → List (List ℕ) → Result A BadText) (n : ℕ) (last : Option RowId) (line : ℕ) (bytes : List ℕ) (x : List A × List ℕ) → rising_at row read n last line bytes ≡ Ok x → (length x.0 ≡ n) × (n + length x.1 ≤ length bytes)
+unfolding rising_at
+rising_lengths row read zero last line bytes x e = moved (λ y. (length y.0 ≡ 0) × (0 + length y.1 ≤ length bytes)) ([], bytes) x e (refl, omega arith)
+rising_lengths row read (suc n) last line bytes x e =
+    let a = bind_ok (words_at line bytes) (row_then row read n last line) x e in
+    let b = bind_ok (read_after row read last line a.0.0) (λ w. rising_at row read n (Some (row w)) (line + 1) a.0.1 >>= λ ws. Ok (w ∷ ws.0, ws.1)) x a.2 in
+    let d = bind_ok (rising_at row read n (Some (row b.0)) (line + 1) a.0.1) (λ ws. Ok (b.0 ∷ ws.0, ws.1)) x b.2 in
+    let more = rising_lengths row read n (Some (row b.0)) (line + 1) a.0.1 d.0 d.1 in
+    let shorter = words_shorter line bytes a.0 a.1 in
+    moved (λ y. (length y.0 ≡ suc n) × (suc n + length y.1 ≤ length bytes)) (b.0 ∷ d.0.0, d.0.1) x d.2 (omega (arith, more.0), omega (arith, more.1))
+
+-- ---- what is read is spelled so, and what is spelled so is read
+
+abbrev pub AscendBy : {A : Type 0} → (A → RowId) → Option RowId → List A → Type 0
+AscendBy row last [] = Unit {0}
+AscendBy row last (x ∷ xs) = (is_after last (row x) ≡ true) × AscendBy row (Some (row x)) xs
+
+pub record LinesOf {A : Type 0} (row : A → RowId) (spell : A → List (List ℕ)) (Kept : A → Type 0) (last : Option RowId) (bytes : List ℕ) (x : List A × List ℕ) : Type 0 where
+  pub parts : bytes ≡ ended_and (map (λ a. line_of (spell a)) x.0) x.1
+  pub ascend : AscendBy row last x.0
+  pub kept : AllByRecursion Kept x.0
+
+after_takes : {A : Type 0} (row : A → RowId) (read : ℕ → List (List ℕ) → Result A BadText) (last : Option RowId) (line : ℕ) (ws : List (List ℕ)) (x : A) → read_after row read last line ws ≡ Ok x → (read line ws ≡ Ok x) × (is_after last (row x) ≡ true)
+unfolding read_after
+after_takes row read last line ws x e =
+    let a = bind_ok (read line ws) (λ w. if is_after last (row w) then Ok w else fault line Order) x e in
+    let g = guard_ok (is_after last (row a.0)) line Order (Ok a.0) x a.2 in
+    moved (λ y. (read line ws ≡ Ok y) × (is_after last (row y) ≡ true)) a.0 x g.1 (a.1, g.0)
+
+pub rising_takes : {A : Type 0} (row : A → RowId) (read : ℕ → List (List ℕ) → Result A BadText) (spell : A → List (List ℕ)) (Kept : A → Type 0) → ((line : ℕ) (ws : List (List ℕ)) (x : A) → read line ws ≡ Ok x → (ws ≡ spell x) × Kept x)
+    → (n : ℕ) (last : Option RowId) (line : ℕ) (bytes : List ℕ) (x : List A × List ℕ) → rising_at row read n last line bytes ≡ Ok x → LinesOf row spell Kept last bytes x
+unfolding rising_at
+rising_takes row read spell Kept takes zero last line bytes x e = moved (LinesOf row spell Kept last bytes) ([], bytes) x e (record { parts = refl; ascend = tt; kept = tt })
+rising_takes row read spell Kept takes (suc n) last line bytes x e =
+    let a = bind_ok (words_at line bytes) (row_then row read n last line) x e in
+    let b = bind_ok (read_after row read last line a.0.0) (λ w. rising_at row read n (Some (row w)) (line + 1) a.0.1 >>= λ ws. Ok (w ∷ ws.0, ws.1)) x a.2 in
+    let d = bind_ok (rising_at row read n (Some (row b.0)) (line + 1) a.0.1) (λ ws. Ok (b.0 ∷ ws.0, ws.1)) x b.2 in
+    let f = after_takes row read last line a.0.0 b.0 b.1 in
+    let t = takes line a.0.0 b.0 f.0 in
+    let more = rising_takes row read spell Kept takes n (Some (row b.0)) (line + 1) a.0.1 d.0 d.1 in
+    moved (LinesOf row spell Kept last bytes) (b.0 ∷ d.0.0, d.0.1) x d.2 (record {
+      parts = words_take line bytes a.0 a.1 ∙ (λ i. line_of (t.0 i) ++ 10 ∷ more.parts i);
+      ascend = (f.1, more.ascend);
+      kept = (t.1, more.kept);
+    })
+
+-- a line that is read as this
+pub record ReadsAs {A : Type 0} (read : ℕ → List (List ℕ) → Result A BadText) (spell : A → List (List ℕ)) (x : A) : Type 0 where
+  pub again : (line : ℕ) → read line (spell x) ≡ Ok x
+  pub words : (line : ℕ) (rest : List ℕ) → words_at line (line_of (spell x) ++ 10 ∷ rest) ≡ Ok (spell x, rest)
+
+pub rising_again : {A : Type 0} (row : A → RowId) (read : ℕ → List (List ℕ) → Result A BadText) (spell : A → List (List ℕ)) (xs : List A) (last : Option RowId) (line : ℕ) (rest : List ℕ) → AscendBy row last xs → AllByRecursion (ReadsAs read spell) xs
+    → rising_at row read (length xs) last line (ended_and (map (λ a. line_of (spell a)) xs) rest) ≡ Ok (xs, rest)
+unfolding rising_at read_after
+rising_again row read spell [] last line rest ascend reads = refl
+rising_again row read spell (x ∷ xs) last line rest ascend reads =
+    rw (reads.0.words line (ended_and (map (λ a. line_of (spell a)) xs) rest), reads.0.again line, ascend.0, rising_again row read spell xs (Some (row x)) (line + 1) rest ascend.1 reads.1) refl

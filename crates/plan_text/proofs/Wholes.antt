@@ -1,6 +1,6 @@
 -- Whole texts: how the answers to a text and to the same with more bytes go together, and what follows for the first bad line.
-use Rattle.std.proofs.Common.{◌≡◌, ℕ, ◌+◌, ◌<◌, ◌≤◌, List, [], ◌∷◌, ◌++◌, Option, None, Some, Result, Ok, Err, refl, sym, ap, subst, ◌∙◌, inl, inr, arith}
-use Rattle.std.specs.Prelude.{◌⊎◌}
+use Rattle.std.proofs.Common.{◌≡◌, ℕ, ◌+◌, ◌<◌, ◌≤◌, Bool, true, false, List, [], ◌∷◌, ◌++◌, Option, None, Some, Result, Ok, Err, refl, sym, ap, subst, ◌∙◌, inl, inr, arith}
+use Rattle.std.specs.Prelude.{◌⊎◌, if◌then◌else◌}
 use Rattle.std.proofs.lemmas.Bool.{cases_lt}
 use Rattle.plan_text.specs.declared.fault.TextFault.TheVariants.{Ended, Shape}
 use Rattle.plan_text.specs.declared.fault.BadText.{BadText}
@@ -97,6 +97,24 @@ closing_whole x last line bytes z e =
     whole_then (after_line (line + 1)) last z (fixed_at line end_line bytes) (fixed_at line end_line (bytes ++ z)) (nothing_then x (line + 1)) (nothing_then x (line + 1)) (fixed_grows last line end_line bytes z e)
     (λ r end. whole_made last (nothing_at (line + 1) r) (nothing_at (line + 1) (r ++ z)) (λ n. x) (nothing_whole last (line + 1) r z end))
     (λ r here. not_before_made last (nothing_at (line + 1) r) (λ n. x) (nothing_later last (line + 1) r (omega arith)))
+
+-- ---- a test of a line that was read
+
+pub guard_whole : {A : Type 0} (last line : ℕ) (c : Bool) (r s : Result A BadText) → line < last → Whole last r s → Whole last (if c then r else fault line Shape) (if c then s else fault line Shape)
+guard_whole last line true r s before h = h
+guard_whole last line false r s before h = inl (tt, before, refl)
+
+pub guard_not_before : {A : Type 0} (last line : ℕ) (c : Bool) (r : Result A BadText) → last ≤ line → NotBefore last r → NotBefore last (if c then r else fault line Shape)
+guard_not_before last line true r after h = h
+guard_not_before last line false r after h = after
+
+pub chosen_whole : {A : Type 0} (last : ℕ) (c : Bool) (r s t u : Result A BadText) → Whole last r s → Whole last t u → Whole last (if c then r else t) (if c then s else u)
+chosen_whole last true r s t u first second = first
+chosen_whole last false r s t u first second = second
+
+pub chosen_not_before : {A : Type 0} (last : ℕ) (c : Bool) (r t : Result A BadText) → NotBefore last r → NotBefore last t → NotBefore last (if c then r else t)
+chosen_not_before last true r t first second = first
+chosen_not_before last false r t first second = second
 
 -- ---- what follows for the first bad line
 

@@ -1,6 +1,6 @@
 -- A text that is written line by line.
-use Rattle.std.proofs.lemmas.List.{flat_map_more, take_more, take_all}
-use Rattle.std.proofs.Common.{◌≡◌, ℕ, ◌+◌, ◌<◌, ◌≤◌, length, get_or, take, List, [], ◌∷◌, ◌++◌, refl, sym, ap, ◌∙◌, append_assoc, append-nil}
+use Rattle.std.proofs.lemmas.List.{flat_map_more, take_more, take_all, map-append}
+use Rattle.std.proofs.Common.{◌≡◌, ℕ, ◌+◌, ◌<◌, ◌≤◌, length, map, get_or, take, List, [], ◌∷◌, ◌++◌, refl, sym, ap, ◌∙◌, append_assoc, append-nil}
 use Rattle.std.specs.Fmt.{decimal}
 use Rattle.std.specs.List.{flat_map}
 use Rattle.plan_text.specs.Spelling.{spelled, ended}
@@ -26,6 +26,22 @@ more_lines old lines more before after e f =
 -- one more line
 pub one_more : (old : List ℕ) (lines : List (List ℕ)) (line before after : List ℕ) → before ≡ old ++ ended lines → after ≡ before ++ (line ++ 10 ∷ []) → after ≡ old ++ ended (lines ++ line ∷ [])
 one_more old lines line before after e f = more_lines old lines (line ∷ []) before after e f
+
+-- a list that is written item by item: one more item
+pub map_more : {X Y : Type 0} (f : X → Y) (xs : List X) (i : ℕ) (d x : X) → i < length xs → x ≡ get_or xs i d → map f (take (i + 1) xs) ≡ map f (take i xs) ++ f x ∷ []
+map_more {X} f xs i d x lt is = ap (map f) (take_more xs i d lt ∙ ap (λ (y : X). take i xs ++ y ∷ []) (sym is)) ∙ map-append f (take i xs) (x ∷ [])
+
+-- by one line
+pub more_mapped : {X : Type 0} (f : X → List ℕ) (old : List ℕ) (xs : List X) (i : ℕ) (d x : X) (before after : List ℕ) → i < length xs → x ≡ get_or xs i d → before ≡ old ++ ended (map f (take i xs)) → after ≡ before ++ ended (f x ∷ []) → after ≡ old ++ ended (map f (take (i + 1) xs))
+more_mapped f old xs i d x before after lt is e g =
+    more_lines old (map f (take i xs)) (f x ∷ []) before after e g
+    ∙ ap (λ (y : List (List ℕ)). old ++ ended y) (sym (map_more f xs i d x lt is))
+
+-- by the lines of what it is seen as
+pub more_flat : {X Y : Type 0} (view : X → Y) (f : Y → List (List ℕ)) (old : List ℕ) (xs : List X) (i : ℕ) (d x : X) (before after : List ℕ) → i < length xs → x ≡ get_or xs i d → before ≡ old ++ ended (flat_map f (map view (take i xs))) → after ≡ before ++ ended (f (view x)) → after ≡ old ++ ended (flat_map f (map view (take (i + 1) xs)))
+more_flat view f old xs i d x before after lt is e g =
+    more_lines old (flat_map f (map view (take i xs))) (f (view x)) before after e g
+    ∙ ap (λ (y : List (List ℕ)). old ++ ended y) (flat_map_more f [] (map view (take i xs)) (view x) ∙ ap (flat_map f) (sym (map_more view xs i d x lt is)))
 
 -- one more number
 pub pushed : (front ns : List ℕ) (i : ℕ) (before word after : List ℕ) → i < length ns → before ≡ front ++ flat_map spaced (take i ns) → word ≡ spaced (get_or ns i 0) → after ≡ before ++ word

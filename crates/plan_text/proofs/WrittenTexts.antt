@@ -1,42 +1,27 @@
 -- The text of a certificate, written piece by piece.
-use Rattle.std.proofs.lemmas.List.{flat_map_more, take_more, map-append, length-map, get_or-map}
+use Rattle.std.proofs.lemmas.List.{length-map, get_or-map}
 use Rattle.std.proofs.lemmas.List.Elements.{All-get_or, All-same, All-push}
-use Rattle.std.proofs.Common.{◌≡◌, ℕ, ◌+◌, ◌<◌, map, length, get_or, take, All, List, [], ◌∷◌, ◌++◌, Option, None, Some, sym, ap, subst, ◌∙◌, append_assoc, arith}
+use Rattle.std.proofs.Common.{◌≡◌, ℕ, ◌+◌, ◌<◌, map, length, get_or, take, All, List, [], ◌∷◌, ◌++◌, Option, None, Some, sym, ap, subst, ◌∙◌, arith}
 use Rattle.std.specs.Prelude.{flat_map}
 use Rattle.rational_theory.specs.Rational.{ℚ}
 use Rattle.progression.specs.Plan.{Plan}
-use Rattle.named_row.specs.declared.leaves.Weight.{Weight}
 use Rattle.plan_text.specs.declared.certificate.Claim.{Claim}
 use Rattle.plan_text.specs.declared.certificate.Claim.TheVariants.{Best, NoTiming, Stopped}
 use Rattle.plan_text.specs.declared.certificate.CertNode.{CertNode}
 use Rattle.plan_text.specs.Words.{line_of}
 use Rattle.plan_text.specs.Spelling.{ended, end_line}
-use Rattle.plan_text.specs.Warrants.{node_of, IsNode, HasTiming, Warrant}
-use Rattle.plan_text.specs.CertificateText.{best_line, open_line, no_timing_line, certificate_line, tree_line, value_key, bound_key, fraction_words, weight_line, node_lines, timing_part, claim_lines, certificate_text, IsHeldTiming, IsHeldNode}
-use Rattle.plan_text.proofs.Written.{more_lines, ended-append}
-
--- one more row
-pub more_rows : (old : List ℕ) (ws : List Weight) (i : ℕ) (d w : Weight) (before after : List ℕ) → i < length ws → w ≡ get_or ws i d → before ≡ old ++ ended (map weight_line (take i ws)) → after ≡ before ++ ended (weight_line w ∷ []) → after ≡ old ++ ended (map weight_line (take (i + 1) ws))
-more_rows old ws i d w before after lt is e f =
-    let made : take (i + 1) ws ≡ take i ws ++ w ∷ [] = take_more ws i d lt ∙ ap (λ (y : Weight). take i ws ++ y ∷ []) (sym is) in
-    more_lines old (map weight_line (take i ws)) (weight_line w ∷ []) before after e f
-    ∙ ap (λ (y : List (List ℕ)). old ++ ended y) (sym (ap (map weight_line) made ∙ map-append weight_line (take i ws) (w ∷ [])))
+use Rattle.plan_text.specs.Families.{Table, ordinary}
+use Rattle.plan_text.specs.Warrants.{Node, node_of, IsNodeIn, HasTiming, Warrant}
+use Rattle.plan_text.specs.CertificateText.{best_line, open_line, no_timing_line, certificate_line, tree_line, value_key, bound_key, fraction_words, node_lines, tree_lines, timing_part, claim_lines, certificate_text, IsHeldTiming, IsHeldNode}
+use Rattle.plan_text.proofs.Written.{map_more, more_lines, ended-append}
 
 -- one more node
-nodes_more : (ns : List CertNode) (i : ℕ) (d n : CertNode) → i < length ns → n ≡ get_or ns i d → map node_of (take (i + 1) ns) ≡ map node_of (take i ns) ++ node_of n ∷ []
-nodes_more ns i d n lt is = ap (map node_of) (take_more ns i d lt ∙ ap (λ (y : CertNode). take i ns ++ y ∷ []) (sym is)) ∙ map-append node_of (take i ns) (n ∷ [])
-
-pub more_nodes : (old : List ℕ) (ns : List CertNode) (i : ℕ) (d n : CertNode) (before after : List ℕ) → i < length ns → n ≡ get_or ns i d → before ≡ old ++ ended (flat_map node_lines (map node_of (take i ns))) → after ≡ before ++ ended (node_lines (node_of n)) → after ≡ old ++ ended (flat_map node_lines (map node_of (take (i + 1) ns)))
-more_nodes old ns i d n before after lt is e f =
-    more_lines old (flat_map node_lines (map node_of (take i ns))) (node_lines (node_of n)) before after e f
-    ∙ ap (λ (y : List (List ℕ)). old ++ ended y) (flat_map_more node_lines [] (map node_of (take i ns)) (node_of n) ∙ ap (flat_map node_lines) (sym (nodes_more ns i d n lt is)))
-
 pub more_held : (ns : List CertNode) (i : ℕ) (d n : CertNode) → i < length ns → n ≡ get_or ns i d → All IsHeldNode (map node_of (take i ns)) → IsHeldNode (node_of n) → All IsHeldNode (map node_of (take (i + 1) ns))
-more_held ns i d n lt is before here = All-same IsHeldNode _ _ (nodes_more ns i d n lt is) (All-push IsHeldNode (map node_of (take i ns)) (node_of n) before here)
+more_held ns i d n lt is before here = All-same IsHeldNode _ _ (map_more node_of ns i d n lt is) (All-push IsHeldNode (map node_of (take i ns)) (node_of n) before here)
 
 -- a node of a list is one
-pub node_here : (ns : List CertNode) (i : ℕ) (d n : CertNode) → i < length ns → n ≡ get_or ns i d → All IsNode (map node_of ns) → IsNode (node_of n)
-node_here ns i d n lt is all = subst IsNode (get_or-map node_of ns i d (node_of d) lt ∙ ap node_of (sym is)) (All-get_or IsNode (map node_of ns) i (node_of d) (omega (arith, length-map ns node_of)) all)
+pub node_here : (names : Table) (ns : List CertNode) (i : ℕ) (d n : CertNode) → i < length ns → n ≡ get_or ns i d → All (IsNodeIn names) (map node_of ns) → IsNodeIn names (node_of n)
+node_here names ns i d n lt is all = subst (IsNodeIn names) (get_or-map node_of ns i d (node_of d) lt ∙ ap node_of (sym is)) (All-get_or (IsNodeIn names) (map node_of ns) i (node_of d) (omega (arith, length-map ns node_of)) all)
 
 -- ---- claims
 
@@ -77,13 +62,12 @@ missing_held bound (Some t) has = absurd has
 
 -- ---- the whole
 
-pub certificate_written : (first second third fourth after : List ℕ) (c : Warrant) → first ≡ ended (certificate_line ∷ []) → second ≡ first ++ ended (claim_lines c.claim c.timing) → third ≡ second ++ ended (tree_line ∷ []) → fourth ≡ third ++ ended (flat_map node_lines c.nodes) → after ≡ fourth ++ ended (end_line ∷ [])
-    → after ≡ certificate_text c
-certificate_written first second third fourth after c e f g h k =
+pub tree_written : (old first second after : List ℕ) (names : Table) (ns : List Node) → first ≡ old ++ ended (tree_line ∷ []) → second ≡ first ++ ended (flat_map (node_lines names) ns) → after ≡ second ++ ended (end_line ∷ []) → after ≡ old ++ ended (tree_lines names ns)
+tree_written old first second after names ns e f g =
+    let body = more_lines old (tree_line ∷ []) (flat_map (node_lines names) ns) first second e f in
+    more_lines old (tree_line ∷ flat_map (node_lines names) ns) (end_line ∷ []) second after body g
+
+pub certificate_written : (first second after : List ℕ) (c : Warrant) → first ≡ ended (certificate_line ∷ []) → second ≡ first ++ ended (claim_lines c.claim c.timing) → after ≡ second ++ ended (tree_lines ordinary c.nodes) → after ≡ certificate_text c
+certificate_written first second after c e f g =
     let claim = claim_lines c.claim c.timing in
-    let nodes = flat_map node_lines c.nodes in
-    let body : third ≡ ended (certificate_line ∷ []) ++ ended (claim ++ tree_line ∷ []) = more_lines (ended (certificate_line ∷ [])) claim (tree_line ∷ []) second third (f ∙ ap (λ (y : List ℕ). y ++ ended claim) e) g in
-    let tree : fourth ≡ ended (certificate_line ∷ []) ++ ended ((claim ++ tree_line ∷ []) ++ nodes) = more_lines (ended (certificate_line ∷ [])) (claim ++ tree_line ∷ []) nodes third fourth body h in
-    let all : after ≡ ended (certificate_line ∷ []) ++ ended (((claim ++ tree_line ∷ []) ++ nodes) ++ end_line ∷ []) = more_lines (ended (certificate_line ∷ [])) ((claim ++ tree_line ∷ []) ++ nodes) (end_line ∷ []) fourth after tree k in
-    all ∙ sym (ended-append (certificate_line ∷ []) (((claim ++ tree_line ∷ []) ++ nodes) ++ end_line ∷ []))
-    ∙ ap (λ (y : List (List ℕ)). ended (certificate_line ∷ y)) (simp append_assoc)
+    more_lines (ended (certificate_line ∷ [])) claim (tree_lines ordinary c.nodes) second after (f ∙ ap (λ (y : List ℕ). y ++ ended claim) e) g ∙ sym (ended-append (certificate_line ∷ []) (claim ++ tree_lines ordinary c.nodes))

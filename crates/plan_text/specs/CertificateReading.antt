@@ -1,6 +1,6 @@
 -- Reading the text of a certificate from its first line on.
-use Rattle.std.specs.Prelude.{ℕ, ◌+◌, ◌-◌, ◌^◌, suc, zero, List, [], ◌∷◌, length, Bool, false, Option, None, Some, Result, Ok, if◌then◌else◌}
-use Rattle.rational_theory.specs.Rational.{ℚ}
+use Rattle.std.specs.Prelude.{ℕ, pos, ◌==◌, ◌&&◌, int_lt, unsigned_abs, slice_get, ◌+◌, ◌-◌, ◌^◌, suc, zero, List, [], ◌∷◌, length, Bool, false, Option, None, Some, Result, Ok, if◌then◌else◌}
+use Rattle.rational_theory.specs.Rational.{ℚ, over}
 use Rattle.progression.specs.Plan.{Plan}
 use Rattle.named_row.specs.declared.leaves.Weight.{Weight}
 use Rattle.named_row.specs.declared.names.RowId.{RowId}
@@ -13,14 +13,18 @@ use Rattle.plan_text.specs.declared.tree.Head.{Head}
 use Rattle.plan_text.specs.declared.tree.Head.TheVariants as heads
 use Rattle.plan_text.specs.declared.certificate.Claim.{Claim}
 use Rattle.plan_text.specs.declared.certificate.Claim.TheVariants.{Best, NoTiming, Stopped}
+use Rattle.plan_text.specs.declared.form.Form.{Form}
+use Rattle.plan_text.specs.declared.form.Form.TheVariants.{Over, Plain}
 use Rattle.plan_text.specs.Words.{is_text}
 use Rattle.plan_text.specs.Numbers.{number}
 use Rattle.plan_text.specs.Fractions.{integer, exact}
 use Rattle.plan_text.specs.Spelling.{end_line}
 use Rattle.plan_text.specs.Lines.{◌>>=◌, fault, line_at, words_at, fixed_at, nothing_at, ranged}
 use Rattle.plan_text.specs.Reading.{plan_at}
-use Rattle.plan_text.specs.Families.{family_of, is_lone, is_after}
+use Rattle.plan_text.specs.Families.{Table, ordinary, family_in, is_lone_in, is_after}
 use Rattle.plan_text.specs.Warrants.{Node, SplitAt, LeafOf, Warrant}
+use Rattle.plan_text.specs.SecondText.{second_line, rows_key}
+use Rattle.plan_text.specs.Namings.{Naming, Named, Listed, fractions_key, IsFormed, is_form, is_list}
 use Rattle.plan_text.specs.CertificateText.{certificate_line, best_line, none_line, open_line, no_timing_line, tree_line, value_key, bound_key, split_key, loop_key, turn_key, leaf_key}
 
 -- a value, or a bad number in this line
@@ -44,42 +48,109 @@ fraction_of key line ws = fault line Shape
 
 -- ---- a row of a leaf
 
--- what follows the name of a family of one row, and that of another family
-unfoldable pub lone_of : ℕ → ℕ → List (List ℕ) → Result Weight BadText
-lone_of line family (x ∷ []) = do
-  by ← or_number line (exact x)
-  Ok (record { row = record { family = family; index = 0 }; by = by })
-lone_of line family ws = fault line Shape
+-- the row of a family with one row, and one of another family, by the words after the family's name
+unfoldable pub lone_row : ℕ → ℕ → List (List ℕ) → Result RowId BadText
+lone_row line family [] = Ok (record { family = family; index = 0 })
+lone_row line family ws = fault line Shape
 
-unfoldable pub indexed_of : ℕ → ℕ → List (List ℕ) → Result Weight BadText
-indexed_of line family (i ∷ x ∷ []) = do
+unfoldable pub indexed_row : ℕ → ℕ → List (List ℕ) → Result RowId BadText
+indexed_row line family (i ∷ []) = do
   index ← index_of line i
-  by ← or_number line (exact x)
-  Ok (record { row = record { family = family; index = index }; by = by })
-indexed_of line family ws = fault line Shape
+  Ok (record { family = family; index = index })
+indexed_row line family ws = fault line Shape
 
-abbrev pub in_family : ℕ → List (List ℕ) → Option ℕ → Result Weight BadText
-in_family line ws None = fault line Shape
-in_family line ws (Some family) = if is_lone family then lone_of line family ws else indexed_of line family ws
+abbrev pub in_family : Table → ℕ → List (List ℕ) → Option ℕ → Result RowId BadText
+in_family table line ws None = fault line Shape
+in_family table line ws (Some family) = if is_lone_in table family then lone_row line family ws else indexed_row line family ws
 
-unfoldable pub weight_of : ℕ → List (List ℕ) → Result Weight BadText
-weight_of line [] = fault line Shape
-weight_of line (name ∷ ws) = in_family line ws (family_of name)
+-- the row of this name
+unfoldable pub row_of : Table → ℕ → List (List ℕ) → Result RowId BadText
+row_of table line [] = fault line Shape
+row_of table line (name ∷ ws) = in_family table line ws (family_in table name)
 
--- a row that comes after the last one
-unfoldable pub weight_after : Option RowId → ℕ → List (List ℕ) → Result Weight BadText
-weight_after last line ws = do
-  w ← weight_of line ws
-  if is_after last w.row then Ok w else fault line Order
+-- the row at this place of a list
+unfoldable pub listed_row : List RowId → ℕ → List (List ℕ) → Result RowId BadText
+listed_row rows line (i ∷ []) = do
+  place ← ranged (range_of line 1 (2 ^ 64 - 1)) (number i)
+  or_number line (slice_get rows (place - 1))
+listed_row rows line ws = fault line Shape
 
--- so many rows
-unfoldable pub weights_at : ℕ → Option RowId → ℕ → List ℕ → Result (List Weight × List ℕ) BadText
-weights_at zero last line bytes = Ok ([], bytes)
-weights_at (suc n) last line bytes = do
+abbrev pub row_in : Naming → ℕ → List (List ℕ) → Result RowId BadText
+row_in (Named table) line ws = row_of table line ws
+row_in (Listed rows) line ws = listed_row rows line ws
+
+-- a whole number over a denominator
+abbrev pub over_whole : ℕ → Option ℚ → Option ℚ
+over_whole d None = None
+over_whole d (Some x) = if x.den == 1 then Some (over x.num d) else None
+
+unfoldable pub multiplier_of : Form → ℕ → List ℕ → Result ℚ BadText
+multiplier_of Plain line w = or_number line (exact w)
+multiplier_of (Over d) line w = or_number line (over_whole d (exact w))
+
+-- the words before the last one, and the last one
+abbrev pub last_after : List ℕ → Option (List (List ℕ) × List ℕ) → Option (List (List ℕ) × List ℕ)
+last_after w None = Some ([], w)
+last_after w (Some p) = Some (w ∷ p.0, p.1)
+
+abbrev pub cut_last : List (List ℕ) → Option (List (List ℕ) × List ℕ)
+cut_last [] = None
+cut_last (w ∷ ws) = last_after w (cut_last ws)
+
+-- a row, and its multiplier as the last word
+abbrev pub weight_by : Naming → Form → ℕ → Option (List (List ℕ) × List ℕ) → Result Weight BadText
+weight_by names form line None = fault line Shape
+weight_by names form line (Some p) = do
+  row ← row_in names line p.0
+  by ← multiplier_of form line p.1
+  Ok (record { row = row; by = by })
+
+unfoldable pub weight_of : Naming → Form → ℕ → List (List ℕ) → Result Weight BadText
+weight_of names form line ws = weight_by names form line (cut_last ws)
+
+-- ---- lines whose rows ascend
+
+unfoldable pub read_after : {A : Type 0} → (A → RowId) → (ℕ → List (List ℕ) → Result A BadText) → Option RowId → ℕ → List (List ℕ) → Result A BadText
+read_after row read last line ws = do
+  x ← read line ws
+  if is_after last (row x) then Ok x else fault line Order
+
+-- so many lines, each with a row after that of the line before
+unfoldable pub rising_at : {A : Type 0} → (A → RowId) → (ℕ → List (List ℕ) → Result A BadText) → ℕ → Option RowId → ℕ → List ℕ → Result (List A × List ℕ) BadText
+rising_at row read zero last line bytes = Ok ([], bytes)
+rising_at row read (suc n) last line bytes = do
   l ← words_at line bytes
-  w ← weight_after last line l.0
-  ws ← weights_at n (Some w.row) (line + 1) l.1
-  Ok (w ∷ ws.0, ws.1)
+  x ← read_after row read last line l.0
+  xs ← rising_at row read n (Some (row x)) (line + 1) l.1
+  Ok (x ∷ xs.0, xs.1)
+
+abbrev pub own_row : RowId → RowId
+own_row row = row
+
+abbrev pub row_of_weight : Weight → RowId
+row_of_weight w = w.row
+
+-- the rows of a leaf, so many
+abbrev pub weights_at : Naming → Form → ℕ → Option RowId → ℕ → List ℕ → Result (List Weight × List ℕ) BadText
+weights_at names form n last line bytes = rising_at row_of_weight (weight_of names form) n last line bytes
+
+-- and so many names of rows
+abbrev pub names_at : Table → ℕ → Option RowId → ℕ → List ℕ → Result (List RowId × List ℕ) BadText
+names_at table n last line bytes = rising_at own_row (row_of table) n last line bytes
+
+-- ---- a list of rows
+
+unfoldable pub row_count : ℕ → List (List ℕ) → Result ℕ BadText
+row_count line (key ∷ n ∷ []) = if is_text key rows_key then ranged (range_of line 0 (2 ^ 64 - 1)) (number n) else fault line Shape
+row_count line ws = fault line Shape
+
+-- how many there are, and their names
+unfoldable pub rows_at : Table → ℕ → List ℕ → Result (List RowId × ℕ × List ℕ) BadText
+rows_at table line bytes = do
+  l ← words_at line bytes
+  count ← row_count line l.0
+  rows ← names_at table count None (line + 1) l.1
+  Ok (rows.0, line + 1 + count, rows.1)
 
 -- ---- a node
 
@@ -88,24 +159,42 @@ split_of line kind i place =
     if is_text kind loop_key then (index_of line i >>= λ link. or_number line (integer place) >>= λ at. Ok (Loop link at))
     else (if is_text kind turn_key then (index_of line i >>= λ signal. ranged (range_of line 0 (2 ^ 32 - 1)) (number place) >>= λ rank. Ok (Turn signal rank)) else fault line Shape)
 
+abbrev pub leaf_count : ℕ → List ℕ → Result ℕ BadText
+leaf_count line n = ranged (range_of line 0 10000) (number n)
+
+abbrev pub above_zero : Option ℚ → Option ℕ
+above_zero None = None
+above_zero (Some x) = if (x.den == 1) && int_lt (pos 0) x.num then Some (unsigned_abs x.num) else None
+
+-- a leaf with so many rows, whose multipliers are whole numbers over a denominator
+unfoldable pub over_head : Naming → ℕ → List ℕ → List ℕ → List ℕ → Result Head BadText
+over_head (Named table) line key d n = fault line Shape
+over_head (Listed rows) line key d n =
+    if is_text key leaf_key then (or_number line (above_zero (exact d)) >>= λ denominator. leaf_count line n >>= λ count. Ok (heads.Leaf count (Over denominator))) else fault line Shape
+
 -- a split, or a leaf with so many rows
-unfoldable pub head_of : ℕ → List (List ℕ) → Result Head BadText
-head_of line (key ∷ n ∷ []) = if is_text key leaf_key then (ranged (range_of line 0 10000) (number n) >>= λ count. Ok (heads.Leaf count)) else fault line Shape
-head_of line (key ∷ kind ∷ i ∷ place ∷ []) = if is_text key split_key then (split_of line kind i place >>= λ at. Ok (heads.Split at)) else fault line Shape
-head_of line ws = fault line Shape
+unfoldable pub head_of : Naming → ℕ → List (List ℕ) → Result Head BadText
+head_of names line (key ∷ n ∷ []) = if is_text key (fractions_key names) then (leaf_count line n >>= λ count. Ok (heads.Leaf count Plain)) else fault line Shape
+head_of names line (key ∷ d ∷ n ∷ []) = over_head names line key d n
+head_of names line (key ∷ kind ∷ i ∷ place ∷ []) = if is_text key split_key then (split_of line kind i place >>= λ at. Ok (heads.Split at)) else fault line Shape
+head_of names line ws = fault line Shape
 
--- the node that begins so, the number of the line after it, and what follows
-unfoldable pub rest_of : Head → ℕ → List ℕ → Result (Node × ℕ × List ℕ) BadText
-rest_of (heads.Split at) line bytes = Ok (SplitAt at, line, bytes)
-rest_of (heads.Leaf count) line bytes = do
-  ws ← weights_at count None line bytes
-  Ok (LeafOf ws.0, line + count, ws.1)
+abbrev pub IsHead : Head → Type 0
+IsHead (heads.Split at) = Unit {0}
+IsHead (heads.Leaf count form) = IsFormed form
 
-unfoldable pub node_at : ℕ → List ℕ → Result (Node × ℕ × List ℕ) BadText
-node_at line bytes = do
+-- the node that begins so at this line, the number of the line after it, and what follows; a leaf that had to be written otherwise is bad at its last line
+unfoldable pub rest_of : Naming → Head → ℕ → List ℕ → Result (Node × ℕ × List ℕ) BadText
+rest_of names (heads.Split at) line bytes = Ok (SplitAt at, line + 1, bytes)
+rest_of names (heads.Leaf count form) line bytes = do
+  ws ← weights_at names form count None (line + 1) bytes
+  if is_form names form ws.0 then Ok (LeafOf ws.0, line + 1 + count, ws.1) else fault (line + count) Number
+
+unfoldable pub node_at : Naming → ℕ → List ℕ → Result (Node × ℕ × List ℕ) BadText
+node_at names line bytes = do
   l ← words_at line bytes
-  head ← head_of line l.0
-  rest_of head (line + 1) l.1
+  head ← head_of names line l.0
+  rest_of names head line l.1
 
 -- how many trees are owed after the first node of one, when so many others were
 abbrev pub owed_after : Node → ℕ → ℕ
@@ -113,12 +202,12 @@ owed_after (SplitAt at) others = suc (suc others)
 owed_after (LeafOf ws) others = others
 
 -- the nodes of so many trees; a node takes at least one byte, so as many steps as there are bytes are enough
-unfoldable pub nodes_at : ℕ → ℕ → ℕ → List ℕ → Result (List Node × ℕ × List ℕ) BadText
-nodes_at steps zero line bytes = Ok ([], line, bytes)
-nodes_at zero (suc others) line bytes = fault line Ended
-nodes_at (suc steps) (suc others) line bytes = do
-  n ← node_at line bytes
-  ns ← nodes_at steps (owed_after n.0 others) n.1 n.2
+unfoldable pub nodes_at : Naming → ℕ → ℕ → ℕ → List ℕ → Result (List Node × ℕ × List ℕ) BadText
+nodes_at names steps zero line bytes = Ok ([], line, bytes)
+nodes_at names zero (suc others) line bytes = fault line Ended
+nodes_at names (suc steps) (suc others) line bytes = do
+  n ← node_at names line bytes
+  ns ← nodes_at names steps (owed_after n.0 others) n.1 n.2
   Ok (n.0 ∷ ns.0, ns.1, ns.2)
 
 -- ---- the claim
@@ -169,18 +258,36 @@ claim_at bytes = do
 
 -- ---- the whole
 
--- the line `tree`, one tree, and the line `end`, after which nothing stands
-unfoldable pub tree_at : ℕ → List ℕ → Result (List Node) BadText
-tree_at line bytes = do
+-- that the list of rows is that of the nodes, and that nothing stands after the line `end`, which has this number
+abbrev pub ends_after : Naming → List Node → ℕ → List ℕ → Result (List Node) BadText
+ends_after names ns line bytes = if is_list names ns then (nothing_at (line + 1) bytes >>= λ nothing. Ok ns) else fault line Shape
+
+-- the line `tree`, one tree, and the line `end`
+unfoldable pub tree_at : Naming → ℕ → List ℕ → Result (List Node) BadText
+tree_at names line bytes = do
   rest ← fixed_at line tree_line bytes
-  nodes ← nodes_at (length rest) 1 (line + 1) rest
+  nodes ← nodes_at names (length rest) 1 (line + 1) rest
   more ← fixed_at nodes.1 end_line nodes.2
-  nothing ← nothing_at (nodes.1 + 1) more
-  Ok nodes.0
+  ends_after names nodes.0 nodes.1 more
+
+-- what follows the first line of the first text, and of the second
+unfoldable pub first_of : List ℕ → Result Warrant BadText
+first_of bytes = do
+  opening ← claim_at bytes
+  nodes ← tree_at (Named ordinary) opening.2 opening.3
+  Ok (record { claim = opening.0; timing = opening.1; nodes = nodes })
+
+unfoldable pub second_of : List ℕ → Result Warrant BadText
+second_of bytes = do
+  opening ← claim_at bytes
+  rows ← rows_at ordinary opening.2 opening.3
+  nodes ← tree_at (Listed rows.0) rows.1 rows.2
+  Ok (record { claim = opening.0; timing = opening.1; nodes = nodes })
+
+abbrev pub text_by : List ℕ × List ℕ → Result Warrant BadText
+text_by l = if is_text l.0 certificate_line then first_of l.1 else (if is_text l.0 second_line then second_of l.1 else fault 1 Shape)
 
 unfoldable pub certificate_of : List ℕ → Result Warrant BadText
 certificate_of bytes = do
-  rest ← fixed_at 1 certificate_line bytes
-  opening ← claim_at rest
-  nodes ← tree_at opening.2 opening.3
-  Ok (record { claim = opening.0; timing = opening.1; nodes = nodes })
+  l ← line_at 1 bytes
+  text_by l

@@ -1,4 +1,4 @@
--- The one text of a certificate: its claim, its timing, its tree and a last line, each line ended by a line feed.
+-- The first text of a certificate: its claim, its timing, its tree and a last line, each line ended by a line feed.
 use Rattle.std.specs.Prelude.{ℕ, ◌<◌, ◌^◌, List, [], ◌∷◌, ◌++◌, length, map, flat_map, All, codes, Option, None, Some, FitsSigned, if◌then◌else◌}
 use Rattle.std.specs.Int.{w64}
 use Rattle.std.specs.Fmt.{decimal, signed_decimal}
@@ -14,7 +14,7 @@ use Rattle.plan_text.specs.declared.certificate.Claim.{Claim}
 use Rattle.plan_text.specs.declared.certificate.Claim.TheVariants.{Best, NoTiming, Stopped}
 use Rattle.plan_text.specs.Words.{line_of}
 use Rattle.plan_text.specs.Spelling.{ended, plan_lines, end_line, IsHeld}
-use Rattle.plan_text.specs.Families.{family_name, is_lone}
+use Rattle.plan_text.specs.Families.{Table, ordinary, family_name_in, is_lone_in}
 use Rattle.plan_text.specs.Warrants.{Node, SplitAt, LeafOf, Warrant, IsCertificate}
 
 -- lines that stand as they are
@@ -60,22 +60,29 @@ abbrev pub fraction_words : List ℕ → ℚ → List (List ℕ)
 fraction_words key x = key ∷ exact_spelling x ∷ []
 
 -- a row's name: its family's, and its index where the family has one
-abbrev pub row_words : RowId → List (List ℕ)
-row_words row = if is_lone row.family then family_name row.family ∷ [] else family_name row.family ∷ decimal row.index ∷ []
+abbrev pub row_words_in : Table → RowId → List (List ℕ)
+row_words_in table row = if is_lone_in table row.family then family_name_in table row.family ∷ [] else family_name_in table row.family ∷ decimal row.index ∷ []
 
-abbrev pub weight_words : Weight → List (List ℕ)
-weight_words w = row_words w.row ++ exact_spelling w.by ∷ []
+abbrev pub row_words : RowId → List (List ℕ)
+row_words row = row_words_in ordinary row
+
+abbrev pub weight_words : Table → Weight → List (List ℕ)
+weight_words table w = row_words_in table w.row ++ exact_spelling w.by ∷ []
 
 abbrev pub split_words : At → List (List ℕ)
 split_words (Loop link at) = split_key ∷ loop_key ∷ decimal link ∷ signed_decimal at ∷ []
 split_words (Turn signal rank) = split_key ∷ turn_key ∷ decimal signal ∷ decimal rank ∷ []
 
-abbrev pub weight_line : Weight → List ℕ
-weight_line w = line_of (weight_words w)
+abbrev pub weight_line : Table → Weight → List ℕ
+weight_line table w = line_of (weight_words table w)
 
-unfoldable pub node_lines : Node → List (List ℕ)
-node_lines (SplitAt at) = line_of (split_words at) ∷ []
-node_lines (LeafOf ws) = line_of (leaf_key ∷ decimal (length ws) ∷ []) ∷ map weight_line ws
+unfoldable pub node_lines : Table → Node → List (List ℕ)
+node_lines table (SplitAt at) = line_of (split_words at) ∷ []
+node_lines table (LeafOf ws) = line_of (leaf_key ∷ decimal (length ws) ∷ []) ∷ map (weight_line table) ws
+
+-- the line `tree`, the nodes, and the line `end`
+abbrev pub tree_lines : Table → List Node → List (List ℕ)
+tree_lines table ns = tree_line ∷ (flat_map (node_lines table) ns ++ end_line ∷ [])
 
 abbrev pub timing_part : Option Plan → List (List ℕ)
 timing_part None = []
@@ -89,7 +96,7 @@ claim_lines (Stopped bound None) timing = open_line ∷ line_of (fraction_words 
 claim_lines (Stopped bound (Some value)) timing = open_line ∷ line_of (fraction_words bound_key bound) ∷ line_of (fraction_words value_key value) ∷ timing_part timing
 
 abbrev pub certificate_lines : Warrant → List (List ℕ)
-certificate_lines c = certificate_line ∷ (claim_lines c.claim c.timing ++ tree_line ∷ (flat_map node_lines c.nodes ++ end_line ∷ []))
+certificate_lines c = certificate_line ∷ (claim_lines c.claim c.timing ++ tree_lines ordinary c.nodes)
 
 abbrev pub certificate_text : Warrant → List ℕ
 certificate_text c = ended (certificate_lines c)

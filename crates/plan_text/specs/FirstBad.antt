@@ -8,6 +8,7 @@ use Rattle.plan_text.specs.Lines.{fault}
 use Rattle.plan_text.specs.Reading.{timing_of}
 use Rattle.plan_text.specs.Warrants.{Warrant}
 use Rattle.plan_text.specs.CertificateText.{certificate_text, IsHeldWarrant}
+use Rattle.plan_text.specs.SecondText.{second_text}
 use Rattle.plan_text.specs.CertificateReading.{certificate_of}
 
 -- how many whole lines a text has
@@ -37,3 +38,4 @@ pub record FirstBad : Type 0 where
   -- so the text of no timing, and of no certificate, begins with the lines up to a bad one
   pub no_timing : (start rest other : List ℕ) (b : BadText) (t : Plan) → timing_of (start ++ rest) ≡ Err b → b.line ≤ lines_in start → IsHeld t → timing_text t ≡ start ++ other → ⊥
   pub no_certificate : (start rest other : List ℕ) (b : BadText) (c : Warrant) → certificate_of (start ++ rest) ≡ Err b → b.line ≤ lines_in start → IsHeldWarrant c → certificate_text c ≡ start ++ other → ⊥
+  pub no_second : (start rest other : List ℕ) (b : BadText) (c : Warrant) → certificate_of (start ++ rest) ≡ Err b → b.line ≤ lines_in start → IsHeldWarrant c → second_text c ≡ start ++ other → ⊥

@@ -8,6 +8,8 @@ pub mod Families
 pub mod Warrants
 pub mod CertificateText
 pub mod SecondText
+pub mod Namings
+pub mod DivisorRule
 pub mod CertificateReading
 pub mod Promises
 pub mod FirstBad

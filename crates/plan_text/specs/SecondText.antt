@@ -1,7 +1,7 @@
 -- The second text of a certificate. The rows that its leaves name are listed once, each by its name, in their order, and a leaf names a row by its place in
 -- that list, counted from 1. A leaf's multipliers are whole numbers over their least common denominator; where these numbers aren't all of 128 bits the leaf
 -- is plain and has fractions.
-use Rattle.std.specs.Prelude.{ℕ, ℤ, pos, suc, ◌^◌, ◌/◌, ◌*ℤ◌, ◌==◌, ◌||◌, nat_le, unsigned_abs, List, [], ◌∷◌, ◌++◌, length, map, flat_map, codes, Bool, if◌then◌else◌}
+use Rattle.std.specs.Prelude.{◌≡◌, ℕ, ℤ, pos, suc, ◌<◌, ◌^◌, ◌/◌, ◌*ℤ◌, ◌||◌, nat_le, unsigned_abs, List, [], ◌∷◌, ◌++◌, length, map, flat_map, codes, Bool, true, Option, Some, if◌then◌else◌}
 use Rattle.std.specs.Fmt.{decimal, signed_decimal}
 use Rattle.std.specs.List.{list_any}
 use Rattle.rational_theory.specs.Rational.{ℚ}
@@ -10,8 +10,11 @@ use Rattle.quantity_text.specs.Exact.{exact_spelling}
 use Rattle.named_row.specs.Order.{is_below}
 use Rattle.named_row.specs.declared.leaves.Weight.{Weight}
 use Rattle.named_row.specs.declared.names.RowId.{RowId}
+use Rattle.plan_text.specs.declared.form.Form.{Form}
+use Rattle.plan_text.specs.declared.form.Form.TheVariants.{Over, Plain}
 use Rattle.plan_text.specs.Words.{line_of}
 use Rattle.plan_text.specs.Spelling.{ended, end_line}
+use Rattle.plan_text.specs.Families.{is_after}
 use Rattle.plan_text.specs.Warrants.{Node, SplitAt, LeafOf, Warrant}
 use Rattle.plan_text.specs.CertificateText.{row_words, split_words, claim_lines, tree_line, leaf_key}
 
@@ -44,6 +47,11 @@ rows_from rs (LeafOf ws ∷ ns) = rows_from (with_rows ws rs) ns
 abbrev pub rows_of : List Node → List RowId
 rows_of ns = rows_from [] ns
 
+-- rows ascend, from one after the last on
+abbrev pub AscendRows : Option RowId → List RowId → Type 0
+AscendRows last [] = Unit {0}
+AscendRows last (r ∷ rs) = (is_after last r ≡ true) × AscendRows (Some r) rs
+
 -- the place of a row in the list, counted from 1
 unfoldable pub place_of_row : List RowId → RowId → ℕ
 place_of_row [] row = 1
@@ -62,6 +70,10 @@ denominator_of ws = denominator_from 1 ws
 abbrev pub times_denominator : ℕ → ℚ → ℤ
 times_denominator d x = x.num *ℤ pos (d / x.den)
 
+-- that is a number of 128 bits with a sign
+abbrev pub IsWhole : ℕ → Weight → Type 0
+IsWhole d w = unsigned_abs (times_denominator d w.by) < 2 ^ 127
+
 -- a number that isn't one of 128 bits with a sign
 abbrev pub is_wide : ℕ → Bool
 is_wide n = nat_le (2 ^ 127) n
@@ -70,23 +82,43 @@ is_wide n = nat_le (2 ^ 127) n
 abbrev pub is_plain : List Weight → Bool
 is_plain ws = is_wide (denominator_of ws) || list_any (λ (w : Weight). is_wide (unsigned_abs (times_denominator (denominator_of ws) w.by))) ws
 
+-- how a leaf is written: whole numbers over a denominator, or fractions
+unfoldable pub form_of : List Weight → Form
+form_of ws = if is_plain ws then Plain else Over (denominator_of ws)
+
 -- ---- lines
--- a place in the list and a word
-abbrev pub listed_line : List RowId → (Weight → List ℕ) → Weight → List ℕ
-listed_line rows value w = line_of (decimal (place_of_row rows w.row) ∷ value w ∷ [])
+-- the words of a leaf's first line
+abbrev pub head_words : Form → ℕ → List (List ℕ)
+head_words Plain n = plain_key ∷ decimal n ∷ []
+head_words (Over d) n = leaf_key ∷ decimal d ∷ decimal n ∷ []
 
-abbrev pub plain_lines : List RowId → List Weight → List (List ℕ)
-plain_lines rows ws = line_of (plain_key ∷ decimal (length ws) ∷ []) ∷ map (listed_line rows (λ w. exact_spelling w.by)) ws
+-- a multiplier
+abbrev pub multiplier_word : Form → Weight → List ℕ
+multiplier_word Plain w = exact_spelling w.by
+multiplier_word (Over d) w = signed_decimal (times_denominator d w.by)
 
-abbrev pub whole_lines : List RowId → ℕ → List Weight → List (List ℕ)
-whole_lines rows d ws = line_of (leaf_key ∷ decimal d ∷ decimal (length ws) ∷ []) ∷ map (listed_line rows (λ w. signed_decimal (times_denominator d w.by))) ws
+-- that a leaf of this form can have
+abbrev pub IsWritable : Form → Weight → Type 0
+IsWritable Plain w = Unit {0}
+IsWritable (Over d) w = (d < 2 ^ 127) × IsWhole d w
+
+-- a row by its place in the list, and its multiplier
+abbrev pub listed_line : List RowId → Form → Weight → List ℕ
+listed_line rows form w = line_of (decimal (place_of_row rows w.row) ∷ multiplier_word form w ∷ [])
+
+abbrev pub leaf_lines : List RowId → Form → List Weight → List (List ℕ)
+leaf_lines rows form ws = line_of (head_words form (length ws)) ∷ map (listed_line rows form) ws
 
 unfoldable pub listed_node_lines : List RowId → Node → List (List ℕ)
 listed_node_lines rows (SplitAt at) = line_of (split_words at) ∷ []
-listed_node_lines rows (LeafOf ws) = if is_plain ws then plain_lines rows ws else whole_lines rows (denominator_of ws) ws
+listed_node_lines rows (LeafOf ws) = leaf_lines rows (form_of ws) ws
 
+abbrev pub row_line : RowId → List ℕ
+row_line row = line_of (row_words row)
+
+-- the number of rows, and their names
 abbrev pub row_lines : List RowId → List (List ℕ)
-row_lines rows = line_of (rows_key ∷ decimal (length rows) ∷ []) ∷ map (λ row. line_of (row_words row)) rows
+row_lines rows = line_of (rows_key ∷ decimal (length rows) ∷ []) ∷ map row_line rows
 
 abbrev pub second_lines : Warrant → List (List ℕ)
 second_lines c =

@@ -9,7 +9,7 @@ use Rattle.plan_text.specs.declared.certificate.Claim.{Claim}
 use Rattle.plan_text.specs.declared.certificate.Claim.TheVariants.{Best, NoTiming, Stopped}
 use Rattle.plan_text.specs.declared.certificate.CertNode.{CertNode}
 use Rattle.plan_text.specs.declared.certificate.CertNode.TheVariants.{Split, Leaf}
-use Rattle.plan_text.specs.Families.{IsNamed, is_after}
+use Rattle.plan_text.specs.Families.{Table, ordinary, IsNamedIn, is_after}
 
 -- a box is split at a place, or rows are summed, each with its multiplier
 pub data Node : Type 0 where
@@ -50,10 +50,13 @@ Ascend last [] = Unit {0}
 Ascend last (w ∷ ws) = (is_after last w.row ≡ true) × Ascend (Some w.row) ws
 
 -- links and signals count from 1; a leaf's rows have names and ascend, and there are at most 10,000
+abbrev pub IsNodeIn : Table → Node → Type 0
+IsNodeIn table (SplitAt (Loop link at)) = 1 ≤ link
+IsNodeIn table (SplitAt (Turn signal rank)) = 1 ≤ signal
+IsNodeIn table (LeafOf ws) = (length ws ≤ 10000) × Ascend None ws × All (λ w. IsNamedIn table w.row) ws
+
 abbrev pub IsNode : Node → Type 0
-IsNode (SplitAt (Loop link at)) = 1 ≤ link
-IsNode (SplitAt (Turn signal rank)) = 1 ≤ signal
-IsNode (LeafOf ws) = (length ws ≤ 10000) × Ascend None ws × All (λ w. IsNamed w.row) ws
+IsNode n = IsNodeIn ordinary n
 
 -- what every certificate of the program keeps
 pub record IsCertificate (c : Warrant) : Type 0 where

@@ -163,8 +163,9 @@ fn texts_are_read_and_written_again(rt: HostRuntime) -> Result<(), Fail> {
 }
 
 /// A line that is put in, where, and the fault with its line.
-const REFUSED: [(u64, &[u8], u64, TextFault); 91] = [
-    (1, b"maxband-certificate 2", 1, TextFault::Shape),
+const REFUSED: [(u64, &[u8], u64, TextFault); 92] = [
+    (1, b"maxband-certificate 3", 1, TextFault::Shape),
+    (1, b"maxband-certificate 2", 12, TextFault::Shape),
     (1, b"maxband-timing 1", 1, TextFault::Shape),
     (2, b"verdict", 2, TextFault::Shape),
     (2, b"verdict good", 2, TextFault::Shape),
@@ -305,7 +306,7 @@ const REFUSED_OPEN: [(u64, &[u8], u64, TextFault); 13] = [
 ];
 
 /// The first of these cases, counted from 1, whose text is not refused at its line for its fault.
-fn first_not_refused(
+pub fn first_not_refused(
     alloc: Global,
     lines: &[&[u8]],
     cases: &[(u64, &[u8], u64, TextFault)],
@@ -333,18 +334,31 @@ fn the_first_bad_line_is_named(rt: HostRuntime) -> Result<(), Fail> {
     Ok(())
 }
 
+/// How many of the first lines, so many, make a text that is not refused at its next line for its end, with the first
+/// bytes of a line after them or without.
+pub fn first_not_ended(
+    alloc: Global,
+    lines: &[&[u8]],
+    count: u64,
+) -> Result<Option<u64>, AllocError> {
+    for kept in 0..count {
+        let mut text = cut_after(alloc, lines, kept)?;
+        let expected = Some(BadText {
+            line: kept.wrapping_add(1),
+            kind: TextFault::Ended,
+        });
+        let whole = fault_of(alloc, text.as_slice());
+        text.extend_from_slice(b"end")?;
+        if whole != expected || fault_of(alloc, text.as_slice()) != expected {
+            return Ok(Some(kept));
+        }
+    }
+    Ok(None)
+}
+
 #[test]
 fn a_text_that_ends_early_is_named_at_its_next_line(rt: HostRuntime) -> Result<(), Fail> {
-    for count in 0..30 {
-        let mut text = cut_after(rt.alloc(), &BEST, count)?;
-        let expected = BadText {
-            line: count + 1,
-            kind: TextFault::Ended,
-        };
-        assert_eq!(rt; fault_of(rt.alloc(), text.as_slice()), Some(expected));
-        text.extend_from_slice(b"end")?;
-        assert_eq!(rt; fault_of(rt.alloc(), text.as_slice()), Some(expected));
-    }
+    assert_eq!(rt; first_not_ended(rt.alloc(), &BEST, 30)?, None);
     Ok(())
 }
 

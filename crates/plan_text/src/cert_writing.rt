@@ -6,13 +6,13 @@ ghost use Rattle.narrow_fraction.specs.Fraction.{FitsFrac};
 ghost use Rattle.quantity_text.specs.Exact.{exact_spelling};
 ghost use Rattle.plan_text.specs.Words.{line_of};
 ghost use Rattle.plan_text.specs.Spelling.{ended};
-ghost use Rattle.plan_text.specs.Families.{IsNamed};
-ghost use Rattle.plan_text.specs.Warrants.{node_of, SplitAt, IsNode, HasTiming};
-ghost use Rattle.plan_text.specs.CertificateText.{leaf_key, fraction_words, row_words, split_words, weight_line, node_lines, timing_part, claim_lines, certificate_text, IsHeldClaim, IsHeldTiming, IsHeldWeight, IsHeldNode};
+ghost use Rattle.plan_text.specs.Families.{table_of, ordinary, IsNamedIn};
+ghost use Rattle.plan_text.specs.Warrants.{node_of, SplitAt, IsNodeIn, IsNode, HasTiming};
+ghost use Rattle.plan_text.specs.CertificateText.{leaf_key, fraction_words, row_words_in, split_words, weight_line, node_lines, tree_lines, timing_part, claim_lines, certificate_text, IsHeldClaim, IsHeldTiming, IsHeldWeight, IsHeldNode};
 ghost use Rattle.plan_text.specs.CertificateReading.{certificate_of};
 
 use crate::certificate::{CertNode, Certificate, Claim};
-use crate::family::{family_name, is_lone};
+use crate::family::{FAMILIES, FamilyName, family_name_in, is_lone_in};
 use crate::writing::push_plan;
 use named_row::{RowId, Weight};
 use narrow_fraction::{Frac, Memory};
@@ -22,7 +22,7 @@ use std::alloc::Global;
 use time_space::Timing;
 
 /// Writes bytes at the end.
-fn push(out: &mut Vec<u8>, bytes: &[u8]) -> Result<(), Memory>
+pub(crate) fn push(out: &mut Vec<u8>, bytes: &[u8]) -> Result<(), Memory>
     ensures { OnOk result (out.new.items ≡ out.old.items ++ bytes.now) }
 {
     out.extend_from_slice(bytes)?;
@@ -30,7 +30,7 @@ fn push(out: &mut Vec<u8>, bytes: &[u8]) -> Result<(), Memory>
 }
 
 /// Writes a line at the end.
-fn push_line(out: &mut Vec<u8>, line: &[u8]) -> Result<(), Memory>
+pub(crate) fn push_line(out: &mut Vec<u8>, line: &[u8]) -> Result<(), Memory>
     ensures { OnOk result (out.new.items ≡ out.old.items ++ ended (line.now ∷ [])) }
 {
     push(out, line)?;
@@ -38,7 +38,7 @@ fn push_line(out: &mut Vec<u8>, line: &[u8]) -> Result<(), Memory>
 }
 
 /// Writes a fraction after a space, and the end of its line.
-fn push_fraction(alloc: Global, out: &mut Vec<u8>, value: Frac) -> Result<(), Memory>
+pub(crate) fn push_fraction(alloc: Global, out: &mut Vec<u8>, value: Frac) -> Result<(), Memory>
     ensures text { OnOk result (out.new.items ≡ out.old.items ++ 32 ∷ (exact_spelling value ++ 10 ∷ [])) }
     ensures held { OnOk result (FitsFrac value) }
 {
@@ -65,13 +65,18 @@ fn push_index(alloc: Global, out: &mut Vec<u8>, index: u32) -> Result<(), Memory
 }
 
 /// Writes the name of a row.
-fn push_name(alloc: Global, out: &mut Vec<u8>, row: RowId) -> Result<(), Memory>
-    requires { IsNamed row }
-    ensures text { OnOk result (out.new.items ≡ out.old.items ++ line_of (row_words row)) }
+pub(crate) fn push_name(
+    alloc: Global,
+    out: &mut Vec<u8>,
+    names: &[FamilyName],
+    row: RowId,
+) -> Result<(), Memory>
+    requires { IsNamedIn (table_of names.now) row }
+    ensures text { OnOk result (out.new.items ≡ out.old.items ++ line_of (row_words_in (table_of names.now) row)) }
     ensures held { row.index < 2 ^ 32 }
 {
-    push(out, family_name(row.family).as_bytes())?;
-    if is_lone(row.family) {
+    push(out, family_name_in(names, row.family).as_bytes())?;
+    if is_lone_in(names, row.family) {
         Ok(())
     } else {
         push_index(alloc, out, row.index)
@@ -79,28 +84,38 @@ fn push_name(alloc: Global, out: &mut Vec<u8>, row: RowId) -> Result<(), Memory>
 }
 
 /// Writes the line of a row and its multiplier.
-fn push_weight(alloc: Global, out: &mut Vec<u8>, weight: &Weight) -> Result<(), Memory>
-    requires { IsNamed weight.now.row }
-    ensures text { OnOk result (out.new.items ≡ out.old.items ++ ended (weight_line weight.now ∷ [])) }
+fn push_weight(
+    alloc: Global,
+    out: &mut Vec<u8>,
+    names: &[FamilyName],
+    weight: &Weight,
+) -> Result<(), Memory>
+    requires { IsNamedIn (table_of names.now) weight.now.row }
+    ensures text { OnOk result (out.new.items ≡ out.old.items ++ ended (weight_line (table_of names.now) weight.now ∷ [])) }
     ensures held { OnOk result (IsHeldWeight weight.now) }
 {
-    push_name(alloc, out, weight.row)?;
+    push_name(alloc, out, names, weight.row)?;
     push_fraction(alloc, out, weight.by)
 }
 
-fn push_weights(alloc: Global, out: &mut Vec<u8>, weights: &[Weight]) -> Result<(), Memory>
-    requires { All (λ w. IsNamed w.row) weights.now }
-    ensures text { OnOk result (out.new.items ≡ out.old.items ++ ended (map weight_line weights.now)) }
+fn push_weights(
+    alloc: Global,
+    out: &mut Vec<u8>,
+    names: &[FamilyName],
+    weights: &[Weight],
+) -> Result<(), Memory>
+    requires { All (λ w. IsNamedIn (table_of names.now) w.row) weights.now }
+    ensures text { OnOk result (out.new.items ≡ out.old.items ++ ended (map (weight_line (table_of names.now)) weights.now)) }
     ensures held { OnOk result (All IsHeldWeight weights.now) }
 {
     for weight in weights {
-        push_weight(alloc, out, weight)?;
+        push_weight(alloc, out, names, weight)?;
     }
     Ok(())
 }
 
 /// Writes the line of a split.
-fn push_split(alloc: Global, out: &mut Vec<u8>, place: At) -> Result<(), Memory>
+pub(crate) fn push_split(alloc: Global, out: &mut Vec<u8>, place: At) -> Result<(), Memory>
     ensures text { OnOk result (out.new.items ≡ out.old.items ++ ended (line_of (split_words place) ∷ [])) }
     ensures held { IsHeldNode (SplitAt place) }
 {
@@ -121,29 +136,65 @@ fn push_leaf(alloc: Global, out: &mut Vec<u8>, count: usize) -> Result<(), Memor
 
 /// Writes the lines of a node.
 #[tactic(auto, unfolding(crate::specs::CertificateText::node_lines))]
-fn push_node(alloc: Global, out: &mut Vec<u8>, node: &CertNode) -> Result<(), Memory>
-    requires { IsNode (node_of node.now) }
-    ensures text { OnOk result (out.new.items ≡ out.old.items ++ ended (node_lines (node_of node.now))) }
+fn push_node(
+    alloc: Global,
+    out: &mut Vec<u8>,
+    names: &[FamilyName],
+    node: &CertNode,
+) -> Result<(), Memory>
+    requires { IsNodeIn (table_of names.now) (node_of node.now) }
+    ensures text { OnOk result (out.new.items ≡ out.old.items ++ ended (node_lines (table_of names.now) (node_of node.now))) }
     ensures held { OnOk result (IsHeldNode (node_of node.now)) }
 {
     match node {
         CertNode::Split(place) => push_split(alloc, out, *place),
         CertNode::Leaf(leaf) => {
             push_leaf(alloc, out, leaf.multipliers.len())?;
-            push_weights(alloc, out, leaf.multipliers.as_slice())
+            push_weights(alloc, out, names, leaf.multipliers.as_slice())
         }
     }
 }
 
-fn push_nodes(alloc: Global, out: &mut Vec<u8>, nodes: &[CertNode]) -> Result<(), Memory>
-    requires { All IsNode (map node_of nodes.now) }
-    ensures text { OnOk result (out.new.items ≡ out.old.items ++ ended (flat_map node_lines (map node_of nodes.now))) }
+fn push_nodes(
+    alloc: Global,
+    out: &mut Vec<u8>,
+    names: &[FamilyName],
+    nodes: &[CertNode],
+) -> Result<(), Memory>
+    requires { All (IsNodeIn (table_of names.now)) (map node_of nodes.now) }
+    ensures text { OnOk result (out.new.items ≡ out.old.items ++ ended (flat_map (node_lines (table_of names.now)) (map node_of nodes.now))) }
     ensures held { OnOk result (All IsHeldNode (map node_of nodes.now)) }
 {
     for node in nodes {
-        push_node(alloc, out, node)?;
+        push_node(alloc, out, names, node)?;
     }
     Ok(())
+}
+
+/// Writes the lines of a tree with its rows over a table, from `tree` to `end`.
+pub fn push_tree(
+    alloc: Global,
+    out: &mut Vec<u8>,
+    names: &[FamilyName],
+    nodes: &[CertNode],
+) -> Result<(), Memory>
+    requires { All (IsNodeIn (table_of names.now)) (map node_of nodes.now) }
+    ensures text { OnOk result (out.new.items ≡ out.old.items ++ ended (tree_lines (table_of names.now) (map node_of nodes.now))) }
+    ensures held { OnOk result (All IsHeldNode (map node_of nodes.now)) }
+{
+    push_line(out, b"tree")?;
+    push_nodes(alloc, out, names, nodes)?;
+    push_line(out, b"end")
+}
+
+/// Writes the lines of the tree of an ordinary certificate.
+#[tactic(auto, unfolding(crate::specs::Families::ordinary))]
+fn push_named_tree(alloc: Global, out: &mut Vec<u8>, nodes: &[CertNode]) -> Result<(), Memory>
+    requires { All IsNode (map node_of nodes.now) }
+    ensures text { OnOk result (out.new.items ≡ out.old.items ++ ended (tree_lines ordinary (map node_of nodes.now))) }
+    ensures held { OnOk result (All IsHeldNode (map node_of nodes.now)) }
+{
+    push_tree(alloc, out, &FAMILIES, nodes)
 }
 
 /// Writes the lines of a timing, if there is one.
@@ -159,7 +210,7 @@ fn push_timing(alloc: Global, out: &mut Vec<u8>, timing: &Option<Timing>) -> Res
 
 /// Writes the lines of a claim and its timing.
 #[tactic(auto, unfolding(crate::specs::CertificateText::claim_lines))]
-fn push_claim(
+pub(crate) fn push_claim(
     alloc: Global,
     out: &mut Vec<u8>,
     claim: &Claim,
@@ -191,7 +242,7 @@ fn push_claim(
     }
 }
 
-/// The one text of a certificate, which is read again as that very certificate.
+/// The text of a certificate that names its rows in each leaf, which is read again as that very certificate.
 pub fn write_certificate(alloc: Global, certificate: &Certificate) -> Result<Vec<u8>, Memory>
     ensures text { IfOk result (λ v. v.items ≡ certificate_text certificate.now) }
     ensures read_back { IfOk result (λ v. certificate_of v.items ≡ Ok certificate.now) }
@@ -199,8 +250,6 @@ pub fn write_certificate(alloc: Global, certificate: &Certificate) -> Result<Vec
     let mut out = Vec::new(alloc);
     push_line(&mut out, b"maxband-certificate 1")?;
     push_claim(alloc, &mut out, &certificate.claim, &certificate.timing)?;
-    push_line(&mut out, b"tree")?;
-    push_nodes(alloc, &mut out, certificate.nodes.as_slice())?;
-    push_line(&mut out, b"end")?;
+    push_named_tree(alloc, &mut out, certificate.nodes.as_slice())?;
     Ok(out)
 }

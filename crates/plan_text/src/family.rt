@@ -1,83 +1,155 @@
 //! The families of rows by name.
 
-ghost use Rattle.std.specs.Prelude.{◌≡◌, ◌<◌, ◌^◌, length, map, slice_index_or, []};
-ghost use Rattle.plan_text.specs.Families.{number_in, family_of, family_name, is_lone};
+ghost use Rattle.std.specs.Prelude.{◌≡◌, ◌≤◌, ◌<◌, ◌^◌, length, option_map};
+ghost use Rattle.plan_text.specs.Families.{table_of, ordinary, family_in, family_name_in, is_lone_in, family_name, is_lone};
 
-/// The families by their numbers from 1 on.
-const NAMES: [&str; 21] = [
-    "wout",
-    "win",
-    "fast_out",
-    "fast_in",
-    "slow_out",
-    "slow_in",
-    "rise_out",
-    "rise_in",
-    "drop_out",
-    "drop_in",
-    "cycle_low",
-    "cycle_high",
-    "ratio",
-    "loop_lo",
-    "loop_hi",
-    "turn_lo",
-    "turn_hi",
-    "least_out",
-    "least_in",
-    "equal_lo",
-    "equal_hi",
+/// A family of rows as texts name it.
+#[derive(Clone, Copy, Debug)]
+pub struct FamilyName {
+    pub text: &'static str,
+    /// It has one row alone, which needs no index.
+    pub is_lone: bool,
+}
+
+/// The families of ordinary certificates, by their numbers from 1 on. One row alone have the limits of the cycle, the
+/// ratio, least bands and equal bands.
+pub const FAMILIES: [FamilyName; 21] = [
+    FamilyName {
+        text: "wout",
+        is_lone: false,
+    },
+    FamilyName {
+        text: "win",
+        is_lone: false,
+    },
+    FamilyName {
+        text: "fast_out",
+        is_lone: false,
+    },
+    FamilyName {
+        text: "fast_in",
+        is_lone: false,
+    },
+    FamilyName {
+        text: "slow_out",
+        is_lone: false,
+    },
+    FamilyName {
+        text: "slow_in",
+        is_lone: false,
+    },
+    FamilyName {
+        text: "rise_out",
+        is_lone: false,
+    },
+    FamilyName {
+        text: "rise_in",
+        is_lone: false,
+    },
+    FamilyName {
+        text: "drop_out",
+        is_lone: false,
+    },
+    FamilyName {
+        text: "drop_in",
+        is_lone: false,
+    },
+    FamilyName {
+        text: "cycle_low",
+        is_lone: true,
+    },
+    FamilyName {
+        text: "cycle_high",
+        is_lone: true,
+    },
+    FamilyName {
+        text: "ratio",
+        is_lone: true,
+    },
+    FamilyName {
+        text: "loop_lo",
+        is_lone: false,
+    },
+    FamilyName {
+        text: "loop_hi",
+        is_lone: false,
+    },
+    FamilyName {
+        text: "turn_lo",
+        is_lone: false,
+    },
+    FamilyName {
+        text: "turn_hi",
+        is_lone: false,
+    },
+    FamilyName {
+        text: "least_out",
+        is_lone: true,
+    },
+    FamilyName {
+        text: "least_in",
+        is_lone: true,
+    },
+    FamilyName {
+        text: "equal_lo",
+        is_lone: true,
+    },
+    FamilyName {
+        text: "equal_hi",
+        is_lone: true,
+    },
 ];
 
-/// The number of the first of these names that is the word, counted from 1.
-fn number_in(names: &[&str], word: &[u8]) -> Option<u8>
+/// The number of the family with this name, counted from 1.
+pub fn family_in(names: &[FamilyName], word: &[u8]) -> Option<u8>
     requires { length names.now < 2 ^ 8 }
-    ensures { result ≡ number_in 1 (map (λ w. w.now) names.now) word.now }
+    ensures { result ≡ family_in (table_of names.now) word.now }
 {
     for (place, name) in names.iter().enumerate() {
-        if name.as_bytes() == word {
+        if name.text.as_bytes() == word {
             return Some(place as u8 + 1);
         }
     }
     None
 }
 
-/// The number of the family with this name.
-#[tactic(auto, unfolding(crate::specs::Families::family_of, crate::specs::Families::family_names))]
-pub fn family_of(word: &[u8]) -> Option<u8>
-    ensures { result ≡ family_of word.now }
+/// The name of a family of a table, by its number from 1 on. The number 0 gives the first name too, and one past the last
+/// the empty name.
+pub fn family_name_in(names: &[FamilyName], family: u8) -> &'static str
+    ensures { result.now ≡ family_name_in (table_of names.now) family }
 {
-    number_in(&NAMES, word)
+    match names.get(usize::from(family).saturating_sub(1)) {
+        Some(name) => name.text,
+        None => "",
+    }
 }
 
-/// The name at a place, or the empty one past the last.
-fn name_at(names: &[&'static str], place: usize) -> &'static str
-    ensures { result.now ≡ slice_index_or (map (λ w. w.now) names.now) place [] }
+/// Whether a family of a table has one row alone.
+pub fn is_lone_in(names: &[FamilyName], family: u8) -> bool
+    ensures { result ≡ is_lone_in (table_of names.now) family }
 {
-    match names.get(place) {
-        Some(name) => name,
-        None => "",
+    if family == 0 {
+        return false;
+    }
+    match names.get(usize::from(family) - 1) {
+        Some(name) => name.is_lone,
+        None => false,
     }
 }
 
 /// The name of a family of rows, by its number from 1 on. The number 0 gives the first name too, and one past the last the
 /// empty name.
-#[tactic(auto, unfolding(crate::specs::Families::family_name, crate::specs::Families::family_names))]
+#[tactic(auto, unfolding(crate::specs::Families::ordinary))]
 pub fn family_name(family: u8) -> &'static str
     ensures { result.now ≡ family_name family }
 {
-    name_at(&NAMES, usize::from(family).saturating_sub(1))
+    family_name_in(&FAMILIES, family)
 }
 
 /// Whether a family has one row alone, which needs no index: the limits of the cycle, the ratio, least bands and equal bands.
-#[tactic(auto, unfolding(crate::specs::Families::is_lone))]
+#[tactic(auto, unfolding(crate::specs::Families::ordinary))]
 pub fn is_lone(family: u8) -> bool
     ensures { result ≡ is_lone family }
 {
-    family == 11
-        || family == 12
-        || family == 13
-        || family == 18
-        || family == 19
-        || family == 20
-        || family == 21
+    is_lone_in(&FAMILIES, family)
 }

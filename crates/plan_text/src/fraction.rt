@@ -1,11 +1,14 @@
 //! Signed whole numbers and fractions as words.
 
-ghost use Rattle.std.specs.Prelude.{◌≡◌, ◌≤◌, ◌^◌, map};
+ghost use Rattle.std.specs.Prelude.{◌≡◌, ◌≤◌, ◌^◌, map, Some, IfOk};
 ghost use Rattle.plan_text.specs.Fractions.{from_zero, below_zero, integer, exact};
+ghost use Rattle.plan_text.specs.declared.form.Form.TheVariants.{Over};
+ghost use Rattle.plan_text.specs.Namings.{IsFormed};
 ghost use Rattle.plan_text.specs.Lines.{Gives};
-ghost use Rattle.plan_text.specs.CertificateReading.{or_number, fraction_of};
+ghost use Rattle.plan_text.specs.CertificateReading.{or_number, fraction_of, over_whole, multiplier_of, above_zero};
 
 use crate::fault::{TextEnd, TextFault};
+use crate::form::Form;
 use crate::lines::bad;
 use crate::number::number;
 use narrow_fraction::Frac;
@@ -59,6 +62,59 @@ pub fn fraction(line: u64, word: &[u8]) -> Result<Frac, TextEnd>
 {
     match exact(word) {
         Some(value) => Ok(value),
+        None => Err(bad(line, TextFault::Number)),
+    }
+}
+
+/// A whole number over a denominator. None comes where the number isn't whole.
+fn over_whole(denominator: u128, number: Frac) -> Option<Frac>
+    requires { IsFormed (Over denominator) }
+    ensures { result ≡ over_whole denominator (Some number) }
+{
+    if number.is_whole() {
+        Some(Frac::reduced(number.num(), denominator))
+    } else {
+        None
+    }
+}
+
+/// The multiplier of a word of this line.
+#[tactic(auto, unfolding(crate::specs::CertificateReading::multiplier_of))]
+pub fn multiplier_of(form: Form, line: u64, word: &[u8]) -> Result<Frac, TextEnd>
+    requires { IsFormed form }
+    ensures { Gives (λ x. x) result (multiplier_of form line word.now) }
+{
+    match form {
+        Form::Plain => fraction(line, word),
+        Form::Over(denominator) => {
+            let number = fraction(line, word)?;
+            match over_whole(denominator, number) {
+                Some(value) => Ok(value),
+                None => Err(bad(line, TextFault::Number)),
+            }
+        }
+    }
+}
+
+/// The whole number above 0 that a fraction is, if it is one.
+fn above_zero(value: Frac) -> Option<u128>
+    ensures { result ≡ above_zero (Some value) }
+{
+    if value.is_whole() && 0 < value.num() {
+        Some(value.num().unsigned_abs())
+    } else {
+        None
+    }
+}
+
+/// The denominator of a word of this line.
+pub fn denominator(line: u64, word: &[u8]) -> Result<u128, TextEnd>
+    ensures exact { Gives (λ d. d) result (or_number line (above_zero (exact word.now))) }
+    ensures formed { IfOk result (λ d. IsFormed (Over d)) }
+{
+    let value = fraction(line, word)?;
+    match above_zero(value) {
+        Some(denominator) => Ok(denominator),
         None => Err(bad(line, TextFault::Number)),
     }
 }

@@ -1,10 +1,11 @@
-//! Texts of plans: what is written is the one spelling, and what is read is exactly that. Where a text is
+//! Texts of plans: a timing has one spelling and a certificate two, and what is read is exactly that. Where a text is
 //! refused, its first bad line is named with what is wrong there.
 //!
 //! Contracts see a timing as the `Plan` of the model, and a certificate as a `Warrant`: a claim, a timing where the
-//! claim has a value, and one tree of splits and leaves in preorder. `specs/Spelling` and `specs/CertificateText` have
-//! their texts, and `specs/Lines`, `specs/Reading` and `specs/CertificateReading` say which fault comes at which line.
-//! Start with `read_timing` and `read_certificate`.
+//! claim has a value, and one tree of splits and leaves in preorder. `specs/Spelling`, `specs/CertificateText` and
+//! `specs/SecondText` have their texts, and `specs/Lines`, `specs/Reading` and `specs/CertificateReading` say which fault
+//! comes at which line. Start with `read_timing` and `read_certificate`; `tree_at` and `push_tree` read and write a tree
+//! with its rows over another table of families.
 #![tactic(auto)]
 
 mod cert_reading;
@@ -12,30 +13,44 @@ mod cert_writing;
 mod certificate;
 mod claim;
 mod cut;
+mod divisor_law;
 mod family;
 mod fault;
+mod form;
 mod fraction;
 mod laws;
 mod lines;
+mod listed;
+mod naming;
 mod number;
 mod reading;
 mod row;
+mod row_list;
+mod second_writing;
 mod tree;
 mod writing;
 
 pub use cert_reading::read_certificate;
-pub use cert_writing::write_certificate;
+pub use cert_writing::{push_tree, write_certificate};
 pub use certificate::{CertNode, Certificate, Claim};
-pub use family::{family_name, is_lone};
+pub use divisor_law::law_divisor_rule;
+pub use family::{FAMILIES, FamilyName, family_name, is_lone};
 pub use fault::{BadText, TextEnd, TextFault};
 pub use laws::{law_first_bad, law_one_text, law_reads_back};
+pub use naming::Naming;
 pub use number::is_numeral;
 pub use reading::read_timing;
+pub use second_writing::write_second;
+pub use tree::tree_at;
 pub use writing::write_timing;
 
 #[cfg(test)]
 mod cert_tests;
 #[cfg(test)]
 mod limit_tests;
+#[cfg(test)]
+mod second_reading_tests;
+#[cfg(test)]
+mod second_tests;
 #[cfg(test)]
 mod tests;

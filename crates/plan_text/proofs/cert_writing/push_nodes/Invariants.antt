@@ -1,12 +1,13 @@
 use Rattle.std.proofs.Common.{◌≡◌, ◌++◌, map, take, All}
 use Rattle.std.specs.Prelude.{flat_map}
 use Rattle.plan_text.specs.Spelling.{ended}
+use Rattle.plan_text.specs.Families.{table_of}
 use Rattle.plan_text.specs.Warrants.{node_of}
 use Rattle.plan_text.specs.CertificateText.{node_lines, IsHeldNode}
 use Rattle.plan_text.proofs.cert_writing.push_nodes.Given as goal
 
 abbrev pub invariant-loop-node : goal.invariant-loop-node
 invariant-loop-node l = record {
-  text : l.out.items ≡ l.fn.out.items ++ ended (flat_map node_lines (map node_of (take l.node-index l.nodes)));
+  text : l.out.items ≡ l.fn.out.items ++ ended (flat_map (node_lines (table_of l.names)) (map node_of (take l.node-index l.nodes)));
   held : All IsHeldNode (map node_of (take l.node-index l.nodes));
 }

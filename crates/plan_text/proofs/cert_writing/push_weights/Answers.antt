@@ -1,7 +1,9 @@
 use Rattle.std.proofs.Common.{subst}
 use Rattle.std.proofs.lemmas.List.Elements.{All-more}
+use Rattle.plan_text.specs.Families.{table_of}
 use Rattle.plan_text.specs.CertificateText.{IsHeldWeight}
-use Rattle.plan_text.proofs.WrittenTexts.{more_rows}
+use Rattle.plan_text.proofs.Written.{more_mapped}
+use Rattle.plan_text.specs.CertificateText.{weight_line}
 use Rattle.plan_text.proofs.cert_writing.push_weights.Goals as goal
 
 pub loop-weight-preserved : goal.loop-weight-preserved
@@ -9,6 +11,6 @@ loop-weight-preserved c =
     let weights = c.args.weights.now in
     let place = c.loop-weight.weight-index in
     record {
-      text = more_rows c.args.out.now.items weights place _ c.weight-item.result c.loop-weight.out.items _ c.loop-weight-test.true c.weight-item.is c.loop-weight.invariant.text c.in_ok-push_weight.ensures.text;
+      text = more_mapped (weight_line (table_of c.args.names.now)) c.args.out.now.items weights place _ c.weight-item.result c.loop-weight.out.items _ c.loop-weight-test.true c.weight-item.is c.loop-weight.invariant.text c.in_ok-push_weight.ensures.text;
       held = All-more IsHeldWeight weights place _ c.loop-weight-test.true c.loop-weight.invariant.held (subst IsHeldWeight c.weight-item.is c.in_ok-push_weight.ensures.held);
     }
