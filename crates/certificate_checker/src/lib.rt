@@ -21,6 +21,7 @@ mod walk;
 mod way;
 
 pub use checking::check;
+pub use claims::limit_of;
 pub use laws::{law_accepted_or_refused, law_proofs_are_trees};
 pub use leaves::Aim;
 pub use reject::{Reject, TreeReject};

@@ -83,7 +83,7 @@ pub fn quotient_line(
 }
 
 /// The line of the weighted band.
-fn weighted_line(alloc: Global, artery: &Artery, timing: &Timing) -> Result<Vec<u8>, Memory>
+pub fn weighted_line(alloc: Global, artery: &Artery, timing: &Timing) -> Result<Vec<u8>, Memory>
     ensures { IfOk result (λ line. line.items ≡ weighted_line artery.now timing.now) }
 {
     let text = measure_text(alloc, "weighted", value(artery, timing), 6)?;
@@ -91,7 +91,12 @@ fn weighted_line(alloc: Global, artery: &Artery, timing: &Timing) -> Result<Vec<
 }
 
 /// The line of a direction's band, a fraction of the cycle.
-fn band_line(alloc: Global, artery: &Artery, timing: &Timing, dir: Dir) -> Result<Vec<u8>, Memory>
+pub fn band_line(
+    alloc: Global,
+    artery: &Artery,
+    timing: &Timing,
+    dir: Dir,
+) -> Result<Vec<u8>, Memory>
     ensures { IfOk result (λ line. line.items ≡ band_line artery.now timing.now dir) }
 {
     let dir_name = dir_name(dir);

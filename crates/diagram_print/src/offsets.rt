@@ -37,7 +37,7 @@ fn offset_name(alloc: Global, timing: &Timing, signal: u32) -> Result<String, Me
 }
 
 /// The name of a signal.
-fn signal_name(artery: &Artery, signal: u32) -> &str
+pub fn signal_name(artery: &Artery, signal: u32) -> &str
     requires first { 1 ≤ signal }
     requires last { signal ≤ count artery.now }
     ensures { result.now ≡ (signal_of artery.now signal).name }
