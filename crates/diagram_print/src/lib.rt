@@ -17,8 +17,8 @@ mod stopped;
 pub use chart::diagram;
 pub use lines::report;
 pub use measures::{band_line, dir_name, quotient_line, quotient_text, weighted_line};
-pub use offsets::signal_name;
 pub use names::{column_text, place_text, row_text};
+pub use offsets::signal_name;
 
 #[cfg(test)]
 mod tests;

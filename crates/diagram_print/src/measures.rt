@@ -91,7 +91,12 @@ pub fn weighted_line(alloc: Global, artery: &Artery, timing: &Timing) -> Result<
 }
 
 /// The line of a direction's band, a fraction of the cycle.
-pub fn band_line(alloc: Global, artery: &Artery, timing: &Timing, dir: Dir) -> Result<Vec<u8>, Memory>
+pub fn band_line(
+    alloc: Global,
+    artery: &Artery,
+    timing: &Timing,
+    dir: Dir,
+) -> Result<Vec<u8>, Memory>
     ensures { IfOk result (λ line. line.items ≡ band_line artery.now timing.now dir) }
 {
     let dir_name = dir_name(dir);

@@ -8,6 +8,7 @@ use Rattle.std.proofs.lemmas.List.Elements.{All-from_recursion, recursion_from_A
 use Rattle.rational_theory.proofs.Multiples.{IsMultiple}
 use Rattle.named_row.specs.declared.leaves.Weight.{Weight}
 use Rattle.named_row.specs.declared.names.RowId.{RowId}
+use Rattle.search_box.specs.declared.span.At.TheVariants.{Loop, Turn}
 use Rattle.plan_text.specs.declared.form.Form.{Form}
 use Rattle.plan_text.specs.declared.form.Form.TheVariants.{Over, Plain}
 use Rattle.plan_text.specs.declared.fault.TextFault.TheVariants.{Shape}
@@ -23,7 +24,7 @@ use Rattle.plan_text.specs.Namings.{Naming, Named, Listed, IsFormed, same_row, i
 use Rattle.plan_text.specs.CertificateReading.{nodes_at, rows_at, Beginning, claim_at, ends_after, tree_at, first_of, second_of, text_by, certificate_of}
 use Rattle.plan_text.proofs.Fields.{bind_ok, guard_ok, moved, same_text, line_takes, line_again, fixed_takes, fixed_again, nothing_takes}
 use Rattle.plan_text.proofs.WordLines.{ended_and, ended_is, ended_more}
-use Rattle.plan_text.proofs.FamilyNames.{ordinary_tells}
+use Rattle.plan_text.proofs.FamilyNames.{Tells, ordinary_tells}
 use Rattle.plan_text.proofs.Denominators.{denominator_above}
 use Rattle.plan_text.proofs.Forms.{over_says}
 use Rattle.plan_text.proofs.ListedRows.{IsListed, AreListed, rows_ascend, rows_have}
@@ -36,7 +37,7 @@ use Rattle.plan_text.proofs.Claims.{claim_takes, claim_again, claim_end}
 -- ---- the tree
 
 -- the lines of the nodes, and the last line
-abbrev tree_and_end : Naming → List Node → List ℕ
+abbrev pub tree_and_end : Naming → List Node → List ℕ
 tree_and_end names ns = tree_line ++ 10 ∷ ended_and (flat_map (lines_by names) ns) (end_line ++ 10 ∷ [])
 
 pub record TreeOf (names : Naming) (table : Table) (bytes : List ℕ) (ns : List Node) : Type 0 where
@@ -95,17 +96,18 @@ same_rows (r ∷ rs) = rw (eq-eqb r.family r.family refl, eq-eqb r.index r.index
 
 -- ---- nodes that can be written so
 
-told_first_rows : (ws : List Weight) → AllByRecursion (λ w. IsNamedIn ordinary w.row) ws → AllByRecursion IsHeldWeight ws → AllByRecursion (ToldWeight (Named ordinary) Plain) ws
-told_first_rows [] named held = tt
-told_first_rows (w ∷ ws) named held = (((ordinary_tells, record { named = named.0; index = held.0.index }), held.0.by), told_first_rows ws named.1 held.1)
+told_named_rows : (table : Table) → Tells table → (ws : List Weight) → AllByRecursion (λ w. IsNamedIn table w.row) ws → AllByRecursion IsHeldWeight ws → AllByRecursion (ToldWeight (Named table) Plain) ws
+told_named_rows table tells [] named held = tt
+told_named_rows table tells (w ∷ ws) named held = (((tells, record { named = named.0; index = held.0.index }), held.0.by), told_named_rows table tells ws named.1 held.1)
 
-told_first : (n : Node) → IsNode n → IsHeldNode n → ToldNode (Named ordinary) n
-told_first (SplitAt at) kept held = (kept, held)
-told_first (LeafOf ws) kept held = (kept.0, kept.1, tt, told_first_rows ws (recursion_from_All (λ w. IsNamedIn ordinary w.row) ws kept.2) (recursion_from_All IsHeldWeight ws held))
+told_named : (table : Table) → Tells table → (n : Node) → IsNodeIn table n → IsHeldNode n → ToldNode (Named table) n
+told_named table tells (SplitAt (Loop link at)) kept held = (kept, held)
+told_named table tells (SplitAt (Turn signal rank)) kept held = (kept, held)
+told_named table tells (LeafOf ws) kept held = (kept.0, kept.1, tt, told_named_rows table tells ws (recursion_from_All (λ w. IsNamedIn table w.row) ws kept.2) (recursion_from_All IsHeldWeight ws held))
 
-all_told_first : (ns : List Node) → AllByRecursion IsNode ns → AllByRecursion IsHeldNode ns → AllByRecursion (ToldNode (Named ordinary)) ns
-all_told_first [] kept held = tt
-all_told_first (n ∷ ns) kept held = (told_first n kept.0 held.0, all_told_first ns kept.1 held.1)
+pub all_told_named : (table : Table) → Tells table → (ns : List Node) → AllByRecursion (IsNodeIn table) ns → AllByRecursion IsHeldNode ns → AllByRecursion (ToldNode (Named table)) ns
+all_told_named table tells [] kept held = tt
+all_told_named table tells (n ∷ ns) kept held = (told_named table tells n kept.0 held.0, all_told_named table tells ns kept.1 held.1)
 
 told_rows : (rows : List RowId) (form : Form) (ws : List Weight) → AscendRows None rows → length rows < 2 ^ 64 → AllByRecursion (λ w. IsListed rows w.row) ws → AllByRecursion (Suits form) ws → AllByRecursion (ToldWeight (Listed rows) form) ws
 told_rows rows form [] ascend few listed suits = tt
@@ -115,9 +117,9 @@ plain_suits : (ws : List Weight) → AllByRecursion IsHeldWeight ws → AllByRec
 plain_suits [] held = tt
 plain_suits (w ∷ ws) held = (held.0.by, plain_suits ws held.1)
 
-over_suits : (d : ℕ) (ws vs : List Weight) → 0 < d → AllByRecursion (λ (w : Weight). IsMultiple d w.by.den) vs → AllByRecursion (IsWhole d) vs → AllByRecursion (Suits (Over d)) vs
-over_suits d ws [] above divides wholes = tt
-over_suits d ws (v ∷ vs) above divides wholes = ((above, divides.0, wholes.0), over_suits d ws vs above divides.1 wholes.1)
+over_suits : (d : ℕ) (vs : List Weight) → 0 < d → AllByRecursion (λ (w : Weight). IsMultiple d w.by.den) vs → AllByRecursion (IsWhole d) vs → AllByRecursion (Suits (Over d)) vs
+over_suits d [] above divides wholes = tt
+over_suits d (v ∷ vs) above divides wholes = ((above, divides.0, wholes.0), over_suits d vs above divides.1 wholes.1)
 
 leaf_told : (rows : List RowId) (ws : List Weight) (form : Form) → form_of ws ≡ form → AscendRows None rows → length rows < 2 ^ 64 → AllByRecursion (λ w. IsListed rows w.row) ws → AllByRecursion IsHeldWeight ws
     → IsFormed form × AllByRecursion (ToldWeight (Listed rows) form) ws
@@ -126,7 +128,7 @@ leaf_told rows ws (Over d) e ascend few listed held =
     let h = over_says d ws e in
     let above : 1 ≤ d = subst (λ (n : ℕ). 1 ≤ n) (sym h.denominator) (denominator_above 1 ws (omega arith)) in
     let divides = subst (λ (n : ℕ). AllByRecursion (λ (w : Weight). IsMultiple n w.by.den) ws) (sym h.denominator) (each_divides 1 ws) in
-    ((above, h.small), told_rows rows (Over d) ws ascend few listed (over_suits d ws ws (omega (arith, above)) divides (recursion_from_All (IsWhole d) ws h.wholes)))
+    ((above, h.small), told_rows rows (Over d) ws ascend few listed (over_suits d ws (omega (arith, above)) divides (recursion_from_All (IsWhole d) ws h.wholes)))
 
 told_second : (rows : List RowId) (n : Node) → AscendRows None rows → length rows < 2 ^ 64 → IsNode n → IsHeldNode n → AreListed rows n → ToldNode (Listed rows) n
 told_second rows (SplitAt at) ascend few kept held listed = (kept, held)
@@ -169,7 +171,7 @@ unfolding first_of
 first_again c h =
     let tail = tree_and_end (Named ordinary) c.nodes in
     let second = claim_again c.claim c.timing tail h.kept.timing h.claim h.timing in
-    let told = all_told_first c.nodes (recursion_from_All IsNode c.nodes h.kept.nodes) (recursion_from_All IsHeldNode c.nodes h.nodes) in
+    let told = all_told_named ordinary ordinary_tells c.nodes (recursion_from_All IsNode c.nodes h.kept.nodes) (recursion_from_All IsHeldNode c.nodes h.nodes) in
     rw (second, tree_again (Named ordinary) (claim_end c.claim) c.nodes h.kept.tree told refl) refl
 
 -- ---- the second text

@@ -11,7 +11,7 @@ use Rattle.plan_text.proofs.Pieces.{lacks}
 use Rattle.plan_text.proofs.Fields.{same_text, IsKey}
 
 -- a test that is true of each number up to n
-abbrev holds_to : ℕ → (ℕ → Bool) → Bool
+abbrev pub holds_to : ℕ → (ℕ → Bool) → Bool
 holds_to zero test = true
 holds_to (suc n) test = test (suc n) && holds_to n test
 
@@ -33,7 +33,7 @@ gt-eqb : (n k : ℕ) → k < n → (k == n) ≡ false
 gt-eqb n k lt = grind (arith, nat_tests)
 
 -- a number is this one
-abbrev is_some_of : ℕ → Option ℕ → Bool
+abbrev pub is_some_of : ℕ → Option ℕ → Bool
 is_some_of n None = false
 is_some_of n (Some m) = m == n
 
@@ -46,7 +46,8 @@ pub record Tells (table : Table) : Type 0 where
   pub again : (f : ℕ) → 1 ≤ f → f ≤ length table → family_in table (family_name_in table f) ≡ Some f
   pub word : (f : ℕ) → 1 ≤ f → f ≤ length table → IsKey (family_name_in table f)
 
-abbrev tells : Table → ℕ → Bool
+-- as a test of a number
+abbrev pub tells : Table → ℕ → Bool
 tells table n = is_some_of n (family_in table (family_name_in table n)) && (lacks 32 (family_name_in table n) && lacks 10 (family_name_in table n))
 
 pub tells_by : (table : Table) → holds_to (length table) (tells table) ≡ true → Tells table

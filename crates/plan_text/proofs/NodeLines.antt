@@ -266,11 +266,6 @@ pub same_form_again : (f : Form) → same_form f f ≡ true
 same_form_again Plain = refl
 same_form_again (Over d) = eq-eqb d d refl
 
--- the leaf has the form in which it had to be written
-form_is : (names : Naming) (form : Form) (ws : List Weight) (n : ℕ) → is_form names form ws ≡ true → first_words names form n ≡ first_words names (form_by names ws) n
-form_is (Named table) form ws n e = refl
-form_is (Listed rows) form ws n e = ap (λ (f : Form). head_words f n) (sym (same_form_is (form_of ws) form e))
-
 kept_rows : (table : Table) (ws : List Weight) → AllByRecursion (KeptWeight table) ws → AllByRecursion (λ w. IsNamedIn table w.row) ws
 kept_rows table [] all = tt
 kept_rows table (w ∷ ws) all = (all.0.row.named, kept_rows table ws all.1)

@@ -1,4 +1,4 @@
--- The one text of a certificate: its claim, its timing, its tree and a last line, each line ended by a line feed.
+-- The first text of a certificate: its claim, its timing, its tree and a last line, each line ended by a line feed.
 use Rattle.std.specs.Prelude.{ℕ, ◌<◌, ◌^◌, List, [], ◌∷◌, ◌++◌, length, map, flat_map, All, codes, Option, None, Some, FitsSigned, if◌then◌else◌}
 use Rattle.std.specs.Int.{w64}
 use Rattle.std.specs.Fmt.{decimal, signed_decimal}

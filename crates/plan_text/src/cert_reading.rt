@@ -20,8 +20,8 @@ use crate::tree::tree_at;
 use named_row::RowId;
 use std::alloc::Global;
 
-/// What follows the first line of a certificate that names its rows.
-#[tactic(auto, unfolding(crate::specs::CertificateReading::first_of, crate::specs::Families::ordinary))]
+/// The tree of an ordinary certificate that names its rows.
+#[tactic(auto, unfolding(crate::specs::Families::ordinary))]
 fn named_tree_at(alloc: Global, line: u64, bytes: &[u8]) -> Result<Vec<CertNode>, TextEnd>
     requires { line ≤ 13 }
     ensures { Gives (λ x. map node_of x.items) result (tree_at (Named ordinary) line bytes.now) }

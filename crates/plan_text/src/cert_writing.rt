@@ -242,7 +242,7 @@ pub(crate) fn push_claim(
     }
 }
 
-/// The one text of a certificate, which is read again as that very certificate.
+/// The text of a certificate that names its rows in each leaf, which is read again as that very certificate.
 pub fn write_certificate(alloc: Global, certificate: &Certificate) -> Result<Vec<u8>, Memory>
     ensures text { IfOk result (λ v. v.items ≡ certificate_text certificate.now) }
     ensures read_back { IfOk result (λ v. certificate_of v.items ≡ Ok certificate.now) }

@@ -3,13 +3,13 @@
 ghost use Rattle.plan_text.specs.Promises.{OneText, ReadsBack};
 ghost use Rattle.plan_text.specs.FirstBad.{FirstBad};
 
-/// Bytes are read as a timing exactly where the program can hold it and they are its one text; and the same of
-/// certificates.
+/// Bytes are read as a timing exactly where the program can hold it and they are its one text, and as a certificate
+/// exactly where the program can hold it and they are one of its two texts.
 pub fn law_one_text()
     ensures { OneText }
 {}
 
-/// The text of a timing, or of a certificate, that the program can hold is read as just that.
+/// The text of a timing that the program can hold, and each text of a certificate, is read as just that.
 pub fn law_reads_back()
     ensures { ReadsBack }
 {}

@@ -1,10 +1,11 @@
-//! Texts of plans: what is written is the one spelling, and what is read is exactly that. Where a text is
+//! Texts of plans: a timing has one spelling and a certificate two, and what is read is exactly that. Where a text is
 //! refused, its first bad line is named with what is wrong there.
 //!
 //! Contracts see a timing as the `Plan` of the model, and a certificate as a `Warrant`: a claim, a timing where the
-//! claim has a value, and one tree of splits and leaves in preorder. `specs/Spelling` and `specs/CertificateText` have
-//! their texts, and `specs/Lines`, `specs/Reading` and `specs/CertificateReading` say which fault comes at which line.
-//! Start with `read_timing` and `read_certificate`.
+//! claim has a value, and one tree of splits and leaves in preorder. `specs/Spelling`, `specs/CertificateText` and
+//! `specs/SecondText` have their texts, and `specs/Lines`, `specs/Reading` and `specs/CertificateReading` say which fault
+//! comes at which line. Start with `read_timing` and `read_certificate`; `tree_at` and `push_tree` read and write a tree
+//! with its rows over another table of families.
 #![tactic(auto)]
 
 mod cert_reading;
