@@ -1,5 +1,5 @@
 -- What a command finds of the same values is one thing, or a verdict of a search; it is neither a fault nor want of memory.
-use Rattle.std.proofs.Common.{◌≡◌, ℕ, Bool, true, false, List, [], ◌∷◌, Option, Some, None, inl, inr, refl, sym, ◌∙◌, ap, subst}
+use Rattle.std.proofs.Common.{arith, pos, ◌*ℤ◌, ◌++◌, ◌*◌, ◌⊎◌, ap₂, ◌≤◌, ◌≡◌, ℕ, Bool, true, false, List, [], ◌∷◌, Option, Some, None, inl, inr, refl, sym, ◌∙◌, ap, subst}
 use Rattle.progression.specs.Street.{Street, count}
 use Rattle.progression.specs.Plan.{Plan}
 use Rattle.description_reader.specs.Printed.{OneText}

@@ -137,7 +137,7 @@ pub fn is_faulty(alloc: Global, call: u64, write: u64) -> Result<bool, Memory> {
     let taken = PIECE.saturating_mul((write as usize).saturating_sub(1));
     let put = files.bytes("c.txt").is_some();
     if call == 1 || call == 2 {
-        return Ok(status.number == 6 && out.bytes() == b"cannot read a.toml\n" && !put);
+        return Ok(status.number == 6 && out.bytes() == b"cannot read a.toml\n".as_slice() && !put);
     }
     if call == 3 {
         return Ok(status.number == 7 && out.bytes().is_empty() && !put);

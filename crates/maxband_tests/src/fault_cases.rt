@@ -1,7 +1,7 @@
 //! Runs of which a read, a put or a write fails.
 
 use crate::running::Fault;
-use crate::running::Wanted::{Absent, Front, Whole};
+use crate::running::Wanted::{Absent, Front, Text, Whole};
 use crate::texts::SECOND_BEST;
 
 const HOLD: &[&str] = &["hold", "a.toml", "b.txt"];
@@ -168,7 +168,7 @@ pub const FAULTS: &[Fault] = &[
         fail_writes: &[],
         number: 0,
         written: b"renewed\n",
-        kept: Whole(SECOND_BEST.as_bytes()),
+        kept: Text(SECOND_BEST),
     },
     Fault {
         name: "renew, certificate",
@@ -204,7 +204,7 @@ pub const FAULTS: &[Fault] = &[
         fail_writes: &[1],
         number: 7,
         written: b"",
-        kept: Whole(SECOND_BEST.as_bytes()),
+        kept: Text(SECOND_BEST),
     },
     Fault {
         name: "sweep without a fault",

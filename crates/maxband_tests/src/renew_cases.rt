@@ -2,7 +2,7 @@
 
 use crate::running::{answered, with_lines};
 use crate::running::{Lines, Wanted};
-use crate::running::Wanted::{Absent, Whole};
+use crate::running::Wanted::{Absent, Text, Whole};
 use crate::texts::{BEST, NEAR, SECOND_BEST};
 use narrow_fraction::Memory;
 use outer_edge::SureFiles;
@@ -74,7 +74,7 @@ pub const RENEWALS: &[Renewal] = &[
         lines: &[],
         number: 0,
         written: b"renewed\n",
-        new: Whole(SECOND_BEST.as_bytes()),
+        new: Text(SECOND_BEST),
         checked: b"accepted best 1/2\n",
     },
     Renewal {
@@ -83,7 +83,7 @@ pub const RENEWALS: &[Renewal] = &[
         lines: &[],
         number: 0,
         written: b"renewed\n",
-        new: Whole(SECOND_BEST.as_bytes()),
+        new: Text(SECOND_BEST),
         checked: b"accepted best 1/2\n",
     },
     Renewal {

@@ -28,6 +28,8 @@ pub struct Table {
 /// What bytes are to be.
 pub enum Wanted {
     Whole(&'static [u8]),
+    /// The whole text.
+    Text(&'static str),
     Front(&'static [u8]),
     End(&'static [u8]),
     /// There are none.
@@ -38,6 +40,7 @@ impl Wanted {
     pub fn is(&self, bytes: Option<&[u8]>) -> bool {
         match (self, bytes) {
             (Wanted::Whole(whole), Some(bytes)) => *whole == bytes,
+            (Wanted::Text(text), Some(bytes)) => text.as_bytes() == bytes,
             (Wanted::Front(front), Some(bytes)) => bytes.starts_with(front),
             (Wanted::End(end), Some(bytes)) => bytes.ends_with(end),
             (Wanted::Absent, None) => true,

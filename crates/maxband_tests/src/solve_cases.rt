@@ -323,7 +323,7 @@ const LIMITS: &[Search] = &[
         "14",
         2,
         Front(b"verdict open\nstopped work 14\nbound 1\nweighted 1/2 = 0.500000\n"),
-        End(b"\ntree\nleaf 2\nwout 1 1\nwin 1 1\nend\n"),
+        End(b"\nrows 2\nwout 1\nwin 1\ntree\nleaf 1 2\n1 1\n2 1\nend\n"),
         Whole(b"accepted open bound 1 value 1/2\n"),
     ),
     (

@@ -10,5 +10,5 @@ returns-in-Err-clause-told g c =
 
 pub returns-clause-told : goal.returns-clause-told
 returns-clause-told g c =
-    finds (Some (Check c.args.artery.now c.args.certificate.now)) (g.F.Files.holds c.args.files.now) (g.F.Files.read_faults c.args.files.now) (g.F.Files.read_faults c.artery_and_certificate.new.files) c.check.result (c.in-Ok.street, (c.in-Ok.warrant, tt))
+    finds (Some (Check c.args.artery.now c.args.certificate.now)) (g.F.Files.holds c.args.files.now) (g.F.Files.read_faults c.args.files.now) (g.F.Files.read_faults c.artery_and_certificate.new.files) c.check.result (c.in-Ok.both.0, (c.in-Ok.both.1, tt))
     (c.in-Ok.ensures.first, (c.in-Ok.ensures.second, tt)) c.in-Ok.ensures.none_failed refl c.check.ensures.finds c.check.ensures.no_put

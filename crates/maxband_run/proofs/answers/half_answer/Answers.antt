@@ -10,5 +10,5 @@ returns-in-Err-clause-told g c =
 
 pub returns-clause-told : goal.returns-clause-told
 returns-clause-told g c =
-    finds_may_put (Some (Half c.args.artery.now c.args.timing.now c.args.new.now)) (g.F.Files.holds c.args.files.now) (g.F.Files.read_faults c.args.files.now) (g.F.Files.read_faults c.artery_and_timing.new.files) c.args.new.now (c.in-Ok.street, (c.in-Ok.plan, tt)) c.half_cycle.result
+    finds_may_put (Some (Half c.args.artery.now c.args.timing.now c.args.new.now)) (g.F.Files.holds c.args.files.now) (g.F.Files.read_faults c.args.files.now) (g.F.Files.read_faults c.artery_and_timing.new.files) c.args.new.now (c.in-Ok.both.0, (c.in-Ok.both.1, tt)) c.half_cycle.result
     (c.in-Ok.ensures.first, (c.in-Ok.ensures.second, tt)) c.in-Ok.ensures.none_failed refl c.half_cycle.ensures.finds

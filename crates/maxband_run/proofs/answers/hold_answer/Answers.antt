@@ -10,5 +10,5 @@ returns-in-Err-clause-told g c =
 
 pub returns-clause-told : goal.returns-clause-told
 returns-clause-told g c =
-    finds (Some (Hold c.args.artery.now c.args.timing.now)) (g.F.Files.holds c.args.files.now) (g.F.Files.read_faults c.args.files.now) (g.F.Files.read_faults c.artery_and_timing.new.files) c.hold.result (c.in-Ok.street, (c.in-Ok.plan, tt))
+    finds (Some (Hold c.args.artery.now c.args.timing.now)) (g.F.Files.holds c.args.files.now) (g.F.Files.read_faults c.args.files.now) (g.F.Files.read_faults c.artery_and_timing.new.files) c.hold.result (c.in-Ok.both.0, (c.in-Ok.both.1, tt))
     (c.in-Ok.ensures.first, (c.in-Ok.ensures.second, tt)) c.in-Ok.ensures.none_failed refl c.hold.ensures.finds c.hold.ensures.no_put

@@ -10,5 +10,5 @@ returns-in-Err-clause-told g c =
 
 pub returns-clause-told : goal.returns-clause-told
 returns-clause-told g c =
-    finds_may_put (Some (Round c.args.artery.now c.args.certificate.now c.args.plan.now)) (g.F.Files.holds c.args.files.now) (g.F.Files.read_faults c.args.files.now) (g.F.Files.read_faults c.artery_and_certificate.new.files) c.args.plan.now (c.in-Ok.street, (c.in-Ok.warrant, tt)) c.round.result
+    finds_may_put (Some (Round c.args.artery.now c.args.certificate.now c.args.plan.now)) (g.F.Files.holds c.args.files.now) (g.F.Files.read_faults c.args.files.now) (g.F.Files.read_faults c.artery_and_certificate.new.files) c.args.plan.now (c.in-Ok.both.0, (c.in-Ok.both.1, tt)) c.round.result
     (c.in-Ok.ensures.first, (c.in-Ok.ensures.second, tt)) c.in-Ok.ensures.none_failed refl c.round.ensures.finds
