@@ -1,13 +1,13 @@
 -- An answer with what became of it is how the run ended.
-use Rattle.std.proofs.Common.{◌≡◌, ℕ, ◌<◌, List, length, Option, Some, None, ◌⊎◌, inl, inr, sym, ◌∙◌, ap, subst, arith}
+use Rattle.std.proofs.Common.{◌≡◌, ℕ, ◌<◌, List, length, Option, Some, None, ◌⊎◌, inl, inr, refl, sym, ◌∙◌, ap, subst, arith}
 use Rattle.std.specs.Prelude.{option_map, IsSome}
 use Rattle.outer_edge.specs.Counts.{next_count, NoneFell, SameCounts, CountedAt}
-use Rattle.outer_edge.specs.Held.{SameFiles}
+use Rattle.outer_edge.specs.Held.{SameFiles, OthersSame}
 use Rattle.outer_edge.specs.Taken.{Appends, AppendsFront}
 use Rattle.maxband_run.specs.Command.{Request, shape}
 use Rattle.maxband_run.specs.Reading.{IsRoomForFaults}
 use Rattle.maxband_run.specs.declared.answer.Put.{Put}
-use Rattle.maxband_run.specs.Outside.{Outside, NamedBytes, view, IsPut, IsDone, IsUntouched, PutFailed, WriteFailed, IsBroken}
+use Rattle.maxband_run.specs.Outside.{Outside, NamedBytes, named, put_of, view, IsPut, IsDone, IsUntouched, PutFailed, WriteFailed, IsBroken, OthersKept, PutsCounted}
 use Rattle.maxband_run.specs.Run.{Answers, Ends}
 use Rattle.maxband_run.specs.Laws.{IsReached}
 use Rattle.maxband_run.specs.declared.cause.Cause.{Cause}
@@ -107,3 +107,51 @@ module _ (held : List ℕ → Option (List ℕ)) (before after : List ℕ → �
     | inl fits ↦ absurd (omega (arith, fits, more))
     | inr same ↦ same
   ]
+
+-- ---- in every case: what is kept but for the file that may be put
+others_none : (output : Option (List ℕ)) (before now : List ℕ → Option (List ℕ)) → SameFiles before now → OthersKept output before now
+others_none None before now h = h
+others_none (Some name) before now h = λ other apart. h other
+
+puts_none : (output : Option (List ℕ)) (before now : List ℕ → ℕ) → SameCounts before now → PutsCounted output before now
+puts_none None before now h = h
+puts_none (Some name) before now h = λ other. let e = h other in omega (arith, e)
+
+put_name : (name : List ℕ) (bytes : Option (List ℕ)) (p : Put) → Some (view p) ≡ put_of (Some name) bytes → p.name.now ≡ name
+put_name name None p e = absurd cc
+put_name name (Some b) p e = let is : view p ≡ named name b = cc in ap (λ (n : NamedBytes). n.name) is
+
+others_of : (output bytes : Option (List ℕ)) (put : Option Put) (before now : List ℕ → Option (List ℕ)) → option_map view put ≡ put_of output bytes
+    → OthersKept (option_map (λ (p : Put). p.name.now) put) before now → OthersKept output before now
+others_of output bytes None before now e h = others_none output before now h
+others_of None bytes (Some p) before now e h = absurd cc
+others_of (Some name) bytes (Some p) before now e h = subst (λ n. OthersSame before now n) (put_name name bytes p e) h
+
+puts_of : (output bytes : Option (List ℕ)) (put : Option Put) (before now : List ℕ → ℕ) → option_map view put ≡ put_of output bytes
+    → PutsCounted (option_map (λ (p : Put). p.name.now) put) before now → PutsCounted output before now
+puts_of output bytes None before now e h = puts_none output before now h
+puts_of None bytes (Some p) before now e h = absurd cc
+puts_of (Some name) bytes (Some p) before now e h = h
+
+not_put : (put : Option Put) → option_map view put ≡ None → option_map (λ (p : Put). p.name.now) put ≡ None
+not_put None e = refl
+not_put (Some p) e = absurd cc
+
+module _ (held : List ℕ → Option (List ℕ)) (reads after : List ℕ → ℕ) (asked : Option Request) (c : Cause) (lines : List ℕ) (put : Option Put) where
+  others_kept : (mid now : List ℕ → Option (List ℕ)) → Answers held reads after asked c lines (option_map view put)
+      → OthersKept (option_map (λ (p : Put). p.name.now) put) mid now → OthersKept (shape asked).output mid now
+  others_kept mid now (inl s) h = others_none (shape asked).output mid now (subst (λ o. OthersKept o mid now) (not_put put s.no_put) h)
+  others_kept mid now (inr s) h = others_of (shape asked).output s.bytes put mid now s.put_is h
+
+  puts_kept : (mid now : List ℕ → ℕ) → Answers held reads after asked c lines (option_map view put)
+      → PutsCounted (option_map (λ (p : Put). p.name.now) put) mid now → PutsCounted (shape asked).output mid now
+  puts_kept mid now (inl s) h = puts_none (shape asked).output mid now (subst (λ o. PutsCounted o mid now) (not_put put s.no_put) h)
+  puts_kept mid now (inr s) h = puts_of (shape asked).output s.bytes put mid now s.put_is h
+
+  pub others_since : (before mid now : List ℕ → Option (List ℕ)) → SameFiles before mid → Answers held reads after asked c lines (option_map view put)
+      → OthersKept (option_map (λ (p : Put). p.name.now) put) mid now → OthersKept (shape asked).output before now
+  others_since before mid now same s h = subst (λ f. OthersKept (shape asked).output f now) (same_at before mid same) (others_kept mid now s h)
+
+  pub puts_since_entry : (before mid now : List ℕ → ℕ) → SameCounts before mid → Answers held reads after asked c lines (option_map view put)
+      → PutsCounted (option_map (λ (p : Put). p.name.now) put) mid now → PutsCounted (shape asked).output before now
+  puts_since_entry before mid now same s h = subst (λ f. PutsCounted (shape asked).output f now) (same_at before mid same) (puts_kept mid now s h)

@@ -39,13 +39,7 @@ fn band_line(
     let name = format!(in alloc; "band {dir_name}")?;
     let first = widest.first;
     let end = format!(in alloc; " first {first}\n")?;
-    let mut line = quotient_text(
-        alloc,
-        name.as_str(),
-        widest.band,
-        cycle(artery, timing),
-        6,
-    )?;
+    let mut line = quotient_text(alloc, name.as_str(), widest.band, cycle(artery, timing), 6)?;
     line.extend_from_slice(end.as_bytes())?;
     Ok(line)
 }

@@ -15,11 +15,7 @@ use plan_text::Certificate;
 use std::alloc::Global;
 
 /// The answer where a certificate is rejected.
-pub fn rejected(
-    alloc: Global,
-    artery: &Artery,
-    reject: Reject,
-) -> Result<Answer<'static>, Memory>
+pub fn rejected(alloc: Global, artery: &Artery, reject: Reject) -> Result<Answer<'static>, Memory>
     ensures cause { IfOk result (λ a. a.cause ≡ Cause.Rejected reject) }
     ensures kept { IfOk result (λ a. reject ≢ Reject.Memory) }
     ensures lines { IfOk result (λ a. a.lines.items ≡ rejected_line (count artery.now) reject) }

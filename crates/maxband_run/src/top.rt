@@ -12,7 +12,8 @@ ghost use Rattle.maxband_run.specs.Laws.{OneAnswer, FaultsAreTold, SolveIsComple
 
 use crate::answer::Answer;
 use crate::answers::{
-    bands_answer, check_answer, half_answer, hold_answer, renew_answer, round_answer, show_answer, solve_answer, sweep_answer, words_answer,
+    bands_answer, check_answer, half_answer, hold_answer, renew_answer, round_answer, show_answer,
+    solve_answer, sweep_answer, words_answer,
 };
 use crate::cause::{Cause, Status};
 use crate::command::{Command, command_in, room_for_faults};

@@ -1,7 +1,6 @@
 //! The worked certificate, cut and damaged, and each single call of a run that fails.
 
-use crate::running::{answered, owned, with_lines};
-use crate::running::Lines;
+use crate::running::{Lines, answered, owned, with_lines};
 use crate::solve_cases::WHOLE_REPORT;
 use crate::texts::{ARTERY, BEST, NEAR};
 use maxband_run::run;

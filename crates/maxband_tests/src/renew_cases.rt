@@ -1,8 +1,7 @@
 //! Certificates that `renew` puts in the second format, and damaged ones. The texts were made by hand.
 
-use crate::running::{answered, with_lines};
-use crate::running::{Lines, Wanted};
 use crate::running::Wanted::{Absent, Text, Whole};
+use crate::running::{Lines, Wanted, answered, with_lines};
 use crate::texts::{BEST, NEAR, SECOND_BEST};
 use narrow_fraction::Memory;
 use outer_edge::SureFiles;
@@ -182,7 +181,10 @@ pub const RENEWALS: &[Renewal] = &[
 pub fn is_renewed(alloc: Global, case: &Renewal) -> Result<bool, Memory> {
     let mut files = SureFiles::new(alloc);
     files.add("near.toml", NEAR.as_bytes())?;
-    files.add("c.txt", with_lines(alloc, case.text, case.lines)?.as_slice())?;
+    files.add(
+        "c.txt",
+        with_lines(alloc, case.text, case.lines)?.as_slice(),
+    )?;
     let got = answered(alloc, &["renew", "c.txt", "new.txt"], &mut files)?;
     let checked = answered(alloc, &["check", "near.toml", "c.txt"], &mut files)?;
     let put = files.bytes("new.txt").is_some();

@@ -1,8 +1,6 @@
-use Rattle.std.proofs.Common.{[], refl}
 use Rattle.maxband_run.specs.Reading.{input}
 use Rattle.maxband_run.specs.declared.reader.Reader.TheVariants.{Description, Certificate}
-use Rattle.maxband_run.proofs.Stopped.{reads_later}
-use Rattle.maxband_run.proofs.Told.{counted_twice, held_twice, same_twice, first_unread, second_unread}
+use Rattle.maxband_run.proofs.Told.{counted_twice, held_twice, first_unread, second_unread}
 use Rattle.maxband_run.proofs.inputs.artery_and_certificate.Goals as goal
 
 pub returns-in-Err-clause-unread : goal.returns-in-Err-clause-unread

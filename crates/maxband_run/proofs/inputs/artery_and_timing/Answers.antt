@@ -1,8 +1,6 @@
-use Rattle.std.proofs.Common.{[], refl}
 use Rattle.maxband_run.specs.Reading.{input}
 use Rattle.maxband_run.specs.declared.reader.Reader.TheVariants.{Description, Timing}
-use Rattle.maxband_run.proofs.Stopped.{reads_later}
-use Rattle.maxband_run.proofs.Told.{counted_twice, held_twice, same_twice, first_unread, second_unread}
+use Rattle.maxband_run.proofs.Told.{counted_twice, held_twice, first_unread, second_unread}
 use Rattle.maxband_run.proofs.inputs.artery_and_timing.Goals as goal
 
 pub returns-in-Err-clause-unread : goal.returns-in-Err-clause-unread
@@ -13,3 +11,12 @@ pub returns-in-Err-timing_of-clause-unread : goal.returns-in-Err-timing_of-claus
 returns-in-Err-timing_of-clause-unread g c =
     second_unread (input Description c.args.artery.now) (input Timing c.args.timing.now) (g.F.Files.holds c.args.files.now) (g.F.Files.holds c.artery_of.new.files) (g.F.Files.read_faults c.args.files.now) (g.F.Files.read_faults c.artery_of.new.files) (g.F.Files.read_faults c.timing_of.new.files)
     c.in-Ok.first c.in-Ok.ensures.files c.in-Ok.ensures.none_failed c.in-Ok.ensures.ok c.in-Err-timing_of.end c.in-Err-timing_of.ensures.unread
+
+pub returns-in-Err-timing_of-clause-memory : goal.returns-in-Err-timing_of-clause-memory
+returns-in-Err-timing_of-clause-memory g c =
+    counted_twice c.in-Err-timing_of.end (g.F.Files.read_faults c.args.files.now) (g.F.Files.read_faults c.artery_of.new.files) (g.F.Files.read_faults c.timing_of.new.files)
+    c.in-Ok.ensures.none_failed c.in-Err-timing_of.ensures.memory
+
+pub returns-in-Err-timing_of-clause-files : goal.returns-in-Err-timing_of-clause-files
+returns-in-Err-timing_of-clause-files g c =
+    held_twice (g.F.Files.holds c.args.files.now) (g.F.Files.holds c.artery_of.new.files) (g.F.Files.holds c.timing_of.new.files) c.in-Ok.ensures.files c.in-Err-timing_of.ensures.files

@@ -1,11 +1,11 @@
 use Rattle.std.proofs.Common.{Option, Err, ap, map, subst, sym}
 use Rattle.std.specs.Prelude.{option_map, string_bytes}
 use Rattle.maxband_run.specs.Command as commands
-use Rattle.maxband_run.specs.Command.{Request, request_of, InLimits}
-use Rattle.maxband_run.specs.Outside.{Outside, outside}
+use Rattle.maxband_run.specs.Command.{Request, request_of, shape, InLimits}
+use Rattle.maxband_run.specs.Outside.{Outside, outside, OthersKept, PutsCounted}
 use Rattle.maxband_run.specs.Run.{Ends}
 use Rattle.maxband_run.proofs.Ranges.{command_limits}
-use Rattle.maxband_run.proofs.Delivered.{IsRead}
+use Rattle.maxband_run.proofs.Delivered.{IsRead, others_since, puts_since_entry}
 use Rattle.maxband_run.proofs.Running.{run_done, run_broken, run_wanted}
 use Rattle.maxband_run.proofs.top.run.Goals as goal
 
@@ -45,3 +45,31 @@ returns-clause-ends g c =
     (run_wanted before mid now read c.deliver.ensures.reads asked c.in-Ok.answer.cause c.in-Ok.answer.lines.items c.as_slice.result.now c.in-Ok.answer.put c.in-Ok.ensures.told c.as_slice.ensures.value
     c.room_for_faults-room.result c.status-in-Err-Memory.result.cause c.status-in-Err-Memory.ensures.cause c.room_for_faults-room.ensures (c.in-Err-Memory.ensures.wanting (ap Err c.in-Err-Memory.field-0-is))
     (c.in-Err-Memory.ensures.untouched (ap Err c.in-Err-Memory.field-0-is)))
+
+pub returns-in-Err-Broken-clause-files : goal.returns-in-Err-Broken-clause-files
+returns-in-Err-Broken-clause-files g c =
+    let asked : Option Request = option_map commands.view c.command_in-command.result in
+    subst (λ (o : Option Request). OthersKept (shape o).output (g.F.Files.holds c.args.files.now) (g.F.Files.holds c.deliver.new.files)) c.command_in-command.ensures
+    (others_since (g.F.Files.holds c.args.files.now) (g.F.Files.read_faults c.args.files.now) (g.F.Files.read_faults c.answer_to.new.files) asked c.in-Ok.answer.cause c.in-Ok.answer.lines.items c.in-Ok.answer.put
+    (g.F.Files.holds c.args.files.now) (g.F.Files.holds c.answer_to.new.files) (g.F.Files.holds c.deliver.new.files) c.answer_to.ensures.files c.in-Ok.ensures.told c.deliver.ensures.others)
+
+pub returns-in-Err-Broken-clause-puts : goal.returns-in-Err-Broken-clause-puts
+returns-in-Err-Broken-clause-puts g c =
+    let asked : Option Request = option_map commands.view c.command_in-command.result in
+    subst (λ (o : Option Request). PutsCounted (shape o).output (g.F.Files.put_faults c.args.files.now) (g.F.Files.put_faults c.deliver.new.files)) c.command_in-command.ensures
+    (puts_since_entry (g.F.Files.holds c.args.files.now) (g.F.Files.read_faults c.args.files.now) (g.F.Files.read_faults c.answer_to.new.files) asked c.in-Ok.answer.cause c.in-Ok.answer.lines.items c.in-Ok.answer.put
+    (g.F.Files.put_faults c.args.files.now) (g.F.Files.put_faults c.answer_to.new.files) (g.F.Files.put_faults c.deliver.new.files) c.answer_to.ensures.puts c.in-Ok.ensures.told c.deliver.ensures.puts)
+
+pub returns-clause-files : goal.returns-clause-files
+returns-clause-files g c =
+    let asked : Option Request = option_map commands.view c.command_in-command.result in
+    subst (λ (o : Option Request). OthersKept (shape o).output (g.F.Files.holds c.args.files.now) (g.F.Files.holds c.deliver.new.files)) c.command_in-command.ensures
+    (others_since (g.F.Files.holds c.args.files.now) (g.F.Files.read_faults c.args.files.now) (g.F.Files.read_faults c.answer_to.new.files) asked c.in-Ok.answer.cause c.in-Ok.answer.lines.items c.in-Ok.answer.put
+    (g.F.Files.holds c.args.files.now) (g.F.Files.holds c.answer_to.new.files) (g.F.Files.holds c.deliver.new.files) c.answer_to.ensures.files c.in-Ok.ensures.told c.deliver.ensures.others)
+
+pub returns-clause-puts : goal.returns-clause-puts
+returns-clause-puts g c =
+    let asked : Option Request = option_map commands.view c.command_in-command.result in
+    subst (λ (o : Option Request). PutsCounted (shape o).output (g.F.Files.put_faults c.args.files.now) (g.F.Files.put_faults c.deliver.new.files)) c.command_in-command.ensures
+    (puts_since_entry (g.F.Files.holds c.args.files.now) (g.F.Files.read_faults c.args.files.now) (g.F.Files.read_faults c.answer_to.new.files) asked c.in-Ok.answer.cause c.in-Ok.answer.lines.items c.in-Ok.answer.put
+    (g.F.Files.put_faults c.args.files.now) (g.F.Files.put_faults c.answer_to.new.files) (g.F.Files.put_faults c.deliver.new.files) c.answer_to.ensures.puts c.in-Ok.ensures.told c.deliver.ensures.puts)
