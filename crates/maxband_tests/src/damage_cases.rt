@@ -34,7 +34,7 @@ fn front(alloc: Global, text: &str, lines: usize, without: usize) -> Result<Vec<
 
 /// Whether the worked certificate, cut after so many lines, ends at the next.
 pub fn is_cut(alloc: Global, lines: usize) -> Result<bool, Memory> {
-    let next = lines + 1;
+    let next = lines.saturating_add(1);
     let written = format!(in alloc; "refused BadText line {next} Ended\n")?;
     let text = front(alloc, BEST, lines, 0)?;
     is_checked(alloc, text.as_slice(), written.as_bytes())
