@@ -15,3 +15,4 @@ pub mod Tried
 pub mod Cycling
 pub mod Unlimited
 pub mod Planning
+pub mod PlanHeld

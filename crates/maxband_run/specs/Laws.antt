@@ -12,6 +12,8 @@ use Rattle.time_space.specs.Failing.{Fails}
 use Rattle.time_space.specs.declared.failing.Failing.{Failing}
 use Rattle.plan_text.specs.Warrants.{Warrant}
 use Rattle.plan_text.specs.SecondText.{second_text}
+use Rattle.plan_text.specs.Spelling.{timing_text}
+use Rattle.plan_text.specs.Reading.{timing_of}
 use Rattle.plan_text.specs.CertificateReading.{certificate_of}
 use Rattle.plan_text.specs.declared.certificate.Claim.{Claim}
 use Rattle.plan_text.specs.declared.certificate.Claim.TheVariants as claim
@@ -26,7 +28,7 @@ use Rattle.branch_tree.specs.Certified.{value_of, warrant_of}
 use Rattle.maxband_run.specs.CheckLines.{accepted_line}
 use Rattle.maxband_run.specs.Lines.{holds_lines}
 use Rattle.maxband_run.specs.Outside.{Outside, NamedBytes}
-use Rattle.maxband_run.specs.Command.{Request, Hold, Check, Solve, Renew, Make, Trial, Sweep, shape}
+use Rattle.maxband_run.specs.Command.{Request, Hold, Check, Solve, Renew, Round, Make, Trial, Sweep, shape}
 use Rattle.maxband_run.specs.Reading.{Input, most_bytes, Reads, AreTold}
 use Rattle.maxband_run.specs.declared.reader.Reader.TheVariants.{Description, Timing, Certificate}
 use Rattle.maxband_run.specs.Solve.{IsSolution}
@@ -250,3 +252,22 @@ pub record PutsRenewed (before now : Outside) (certificate new : List ℕ) : Typ
 
 abbrev pub RenewSays : Type 0
 RenewSays = (before now : Outside) (certificate new : List ℕ) (c : Cause) → Ends before now (Some (Renew certificate new)) c → number_of c ≡ 0 → PutsRenewed before now certificate new
+
+-- `round` with status 0: the file that is put holds, where it is told, the text of a timing that is good on the described artery and is read back
+pub record PutsPlan (before now : Outside) (artery plan : List ℕ) : Type 0 where
+  pub street : Street
+  pub timing : Plan
+  pub description : Reads Description (before.holds artery) street
+  pub good : Good street timing
+  pub put : HoldsExactly (now.holds plan) (timing_text timing)
+  pub read_back : timing_of (timing_text timing) ≡ Ok timing
+
+abbrev pub RoundSays : Type 0
+RoundSays = (before now : Outside) (artery certificate plan : List ℕ) (c : Cause) → Ends before now (Some (Round artery certificate plan)) c → number_of c ≡ 0 → PutsPlan before now artery plan
+
+-- So a run of `hold` over the same description and the file that was put accepts it, unless a fault or want of memory ends it: where these are two files that tell
+-- their bytes, and the plan isn't too long to be read.
+abbrev pub PlanIsHeld : Type 0
+PlanIsHeld = (before between now : Outside) (artery certificate plan : List ℕ) (c d : Cause)
+    → artery ≢ plan → IsSome (before.holds artery) → IsSome (between.holds plan) → IfSome (between.holds plan) (λ bytes. length bytes ≤ most_bytes Timing)
+    → number_of c ≡ 0 → Ends before between (Some (Round artery certificate plan)) c → IsReached d → Ends between now (Some (Hold artery plan)) d → d ≡ cause.Done

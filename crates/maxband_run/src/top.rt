@@ -8,7 +8,7 @@ ghost use Rattle.maxband_run.specs.Command as commands;
 ghost use Rattle.maxband_run.specs.Command.{request_of, shape, InLimits};
 ghost use Rattle.maxband_run.specs.Outside.{outside, view, OthersKept, PutsCounted};
 ghost use Rattle.maxband_run.specs.Run.{Answers, Ends, LeavesAlone};
-ghost use Rattle.maxband_run.specs.Laws.{OneAnswer, FaultsAreTold, SolveIsComplete, MakeIsComplete, TrialIsComplete, SweepIsComplete, RenewIsComplete, PutIsAccepted, AllNeverStopsByWork, SolveSays, HoldSays, CheckSays, RenewSays};
+ghost use Rattle.maxband_run.specs.Laws.{OneAnswer, FaultsAreTold, SolveIsComplete, MakeIsComplete, TrialIsComplete, SweepIsComplete, RenewIsComplete, PutIsAccepted, AllNeverStopsByWork, SolveSays, HoldSays, CheckSays, RenewSays, RoundSays, PlanIsHeld};
 
 use crate::answer::Answer;
 use crate::answers::{
@@ -237,3 +237,16 @@ pub fn law_check_says()
 pub fn law_renew_says()
     ensures { RenewSays }
 {}
+
+/// A law over the definitions: after status 0 of `round` the file that it put holds the text of a timing that is good on the described artery.
+pub fn law_round_says()
+    ensures { RoundSays }
+{}
+
+/// A law over the definitions: `hold` accepts the plan that `round` put.
+pub fn law_plan_is_held()
+    ensures { PlanIsHeld }
+{
+    description_reader::law_one_answer();
+    time_space::law_fails_rules_out();
+}

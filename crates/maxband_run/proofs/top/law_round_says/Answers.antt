@@ -1,0 +1,5 @@
+use Rattle.maxband_run.proofs.PlanHeld.{round_says}
+use Rattle.maxband_run.proofs.top.law_round_says.Goals as goal
+
+pub returns : goal.returns
+returns c = round_says
