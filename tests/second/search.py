@@ -34,12 +34,22 @@ def fitting(result, word, left, right):
     raise Wide(f"{word} {left} {right}")
 
 
+def joined(word, left, right, sign):
+    """A sum or a difference, which has to fit over the least common denominator before it is reduced."""
+    shared = math.gcd(left.denominator, right.denominator)
+    kept, other = left.numerator * (right.denominator // shared), right.numerator * (left.denominator // shared)
+    numbers = kept, other, kept + sign * other, left.denominator * (right.denominator // shared)
+    if all(-SIZE < number < SIZE for number in numbers):
+        return Fraction(numbers[2], numbers[3])
+    raise Wide(f"{word} {left} {right}")
+
+
 def add(left, right):
-    return fitting(left + right, "add", left, right)
+    return joined("add", left, right, 1)
 
 
 def subtract(left, right):
-    return fitting(left - right, "sub", left, right)
+    return joined("sub", left, right, -1)
 
 
 def multiply(left, right):
@@ -53,12 +63,6 @@ def divide(left, right):
 # The street, its boxes and its rows.
 
 
-def column_names(count):
-    signals, links = range(1, count + 1), range(1, count)
-    families = ("w_out", signals), ("w_in", signals), ("y_out", links), ("y_in", links), ("s", signals)
-    return ["b_out", "b_in", "z"] + [f"{word} {i}" for word, numbers in families for i in numbers]
-
-
 class Street:
     """The numbers of a description; signals and links count from 1, and parts of the cycle are fractions of it."""
 
@@ -66,7 +70,7 @@ class Street:
         said = tomllib.loads(text)
         artery, signals, links = said["artery"], dict(enumerate(said["signal"], 1)), dict(enumerate(said["link"], 1))
         self.signals, self.links = list(signals), list(links)
-        self.columns = column_names(len(signals))
+        self.columns = self.column_names()
         self.place = {name: j for j, name in enumerate(self.columns)}
         self.parts = parts = artery["parts"]
         self.ratio = Fraction(artery["ratio"])
@@ -81,10 +85,11 @@ class Street:
         # A left turn adds to the red of the opposing direction.
         self.green_out = {i: 1 - self.red[i] - self.left_in[i] for i in signals}
         self.green_in = {i: 1 - self.red[i] - self.left_out[i] for i in signals}
+        self.allowed = {i: it.get("patterns", [1, 2, 3, 4]) for i, it in signals.items()}
         self.pattern_of = {}  # for each signal its different shifts, upwards, each with the least pattern that has it
-        for i, it in signals.items():
+        for i in signals:
             shifts = {1: ZERO, 2: self.left_out[i] + self.left_in[i], 3: self.left_in[i], 4: self.left_out[i]}
-            patterns = sorted(it.get("patterns", shifts), reverse=True)
+            patterns = sorted(self.allowed[i], reverse=True)
             self.pattern_of[i] = dict(sorted({shifts[pattern]: pattern for pattern in patterns}.items()))
         self.shifts = {i: list(patterns) for i, patterns in self.pattern_of.items()}
         self.factor, mile = (Fraction(18, 5), 1000) if artery["units"] == "metric" else (Fraction(15, 22), 5280)
@@ -104,6 +109,26 @@ class Street:
             for i in links
         }
 
+    def column_names(self):
+        families = ("w_out", self.signals), ("w_in", self.signals), ("y_out", self.links), ("y_in", self.links), ("s", self.signals)
+        return ["b_out", "b_in", "z"] + [f"{word} {i}" for word, numbers in families for i in numbers]
+
+    def goal(self):
+        """What each column counts in the value of a timing, where that isn't 0 for all streets."""
+        return {"b_out": ONE, "b_in": self.ratio}
+
+    def starts(self):
+        """The row of each start pivot, and the column that it brings in."""
+        return {"wout 1": "b_out", "win 1": "b_in"}
+
+    def start_leaf(self):
+        """The leaf of a root that wasn't finished."""
+        leaf = {name: self.goal()[column] for name, column in self.starts().items()}
+        return {name: leaf[name] for name, _, _ in self.rows(self.root()) if leaf.get(name)}
+
+    def timing(self, vertex):
+        return Timing(self, vertex)
+
     def root(self):
         """The root box: spans of block sums under `loop`, and of ranks under `turn`."""
         loops = {}
@@ -115,13 +140,17 @@ class Street:
             loops[i] = math.ceil(least), math.floor(most)
         return {"loop": loops, "turn": {i: (0, len(self.shifts[i]) - 1) for i in self.signals}}
 
+    def row(self, name, cells, bound=ZERO):
+        """A row: its name, its cells by place without those of 0, and its bound."""
+        return name, {self.place[column]: Fraction(cell) for column, cell in cells.items() if cell}, Fraction(bound)
+
     def rows(self, box):
-        """The rows of a box in the order of their names: name, cells by place, bound."""
+        """The rows of a box in the order of their names."""
         ways = "out", "in"
         listed = []
 
-        def row(name, cells, bound=ZERO):
-            listed.append((name, {self.place[column]: Fraction(cell) for column, cell in cells.items() if cell}, Fraction(bound)))
+        def row(*said):
+            listed.append(self.row(*said))
 
         for way, green in zip(ways, (self.green_out, self.green_in)):
             for i in self.signals:
@@ -174,7 +203,8 @@ class Tableau:
 
     def __init__(self, street, rows):
         self.width, self.goal = len(street.columns), len(rows)
-        self.rows = [dict(cells) for _, cells, _ in rows] + [{0: -ONE, 1: -street.ratio}]
+        goal = {street.place[column]: -share for column, share in street.goal().items()}
+        self.rows = [dict(cells) for _, cells, _ in rows] + [goal]
         for row, (_, _, bound) in zip(self.rows, rows):
             row[self.width] = bound
         self.rows = [{at: cell for at, cell in row.items() if cell} for row in self.rows]
@@ -252,8 +282,8 @@ class Tableau:
 def opening(street, rows):
     tableau = Tableau(street, rows)
     names = [name for name, _, _ in rows]
-    tableau.pivot(names.index("wout 1"), 0)
-    tableau.pivot(names.index("win 1"), 1)
+    for name, column in street.starts().items():
+        tableau.pivot(names.index(name), street.place[column])
     return tableau
 
 
@@ -269,17 +299,22 @@ def entry(street, rows, variables):
     return opening(street, rows)
 
 
+def add_row(street, total, row, times):
+    """Adds a row so many times to the sum of a leaf, in the order of its places; the bound stands after the last column."""
+    name, cells, bound = row
+    for at, cell in sorted(cells.items()) + [(len(street.columns), bound)]:
+        try:
+            total[at] = add(total.get(at, ZERO), multiply(times, cell))
+        except Wide as wide:
+            wide.site = f"leaf {name} {[*street.columns, 'bound'][at]}"
+            raise
+
+
 def leaf_bound(street, rows, multipliers):
     """The right side of the sum of a leaf, which is made as a checker makes it."""
     total = {}
     for number, times in multipliers.items():
-        name, cells, bound = rows[number]
-        for at, cell in sorted(cells.items()) + [(len(street.columns), bound)]:
-            try:
-                total[at] = add(total.get(at, ZERO), multiply(times, cell))
-            except Wide as wide:
-                wide.site = f"leaf {name} {[*street.columns, 'bound'][at]}"
-                raise
+        add_row(street, total, rows[number], times)
     return total.get(len(street.columns), ZERO)
 
 
@@ -336,6 +371,7 @@ class Timing:
             self.unit = 2
         self.cycle = street.parts * self.unit
         at = {name: int(product * self.unit) for name, product in zip(street.columns, products)}
+        self.at = at
         ticks = lambda part: int(part * self.cycle)
         last = len(street.signals)
         self.pattern = {i: street.pattern_of[i][vertex[street.place[f"s {i}"]]] for i in street.signals}
@@ -356,9 +392,8 @@ class Timing:
             line += self.run["out"][i] - ticks(street.clear_out[i + 1])
             self.red[i + 1] = (line - at[f"w_out {i + 1}"] - ends[i + 1]) % self.cycle
         self.first["in"] = (self.red[last] + self.starts["in"][last] - at[f"w_in {last}"] - self.band["in"]) % self.cycle
-        # Each number stands under the column that names it where it doesn't fit.
-        numbers = {name: at[name] for name in ("b_out", "b_in", "z")}
-        numbers |= {f"y_{way} {i}": self.run[way][i] for way in ("out", "in") for i in street.links}
+        # Each number stands under the column that names it where it doesn't fit; waits and shifts are no numbers of a timing.
+        numbers = {name: ticks for name, ticks in at.items() if name.split()[0] not in ("w_out", "w_in", "s")}
         numbers["w_out 1"] = self.first["out"]
         numbers |= {f"w_out {i}": red for i, red in self.red.items() if i > 1}
         numbers[f"w_in {last}"] = self.first["in"]
@@ -378,7 +413,35 @@ class Timing:
         yield row("run_out", self.run["out"].values())
         yield row("run_in", self.run["in"].values())
         yield row("first", self.first.values())
-        yield row("band", self.band.values())
+        yield from self.band_lines()
+
+    def band_lines(self):
+        yield f"band {self.band['out']} {self.band['in']}"
+
+    def report(self):
+        street = self.street
+        yield f"weighted {both(self.weighted(), 6)}"
+        yield from self.band_report()
+        yield f"cycle {both(Fraction(self.cycle, self.grid), 3)}"
+        for i in street.signals:
+            offset = Fraction((self.red[i] - self.red[1]) % self.cycle, self.grid)
+            yield f"signal {i} pattern {self.pattern[i]} offset {both(offset, 3)} {street.name[i]}"
+        for i in street.links:
+            for way in ("out", "in"):
+                run = Fraction(self.run[way][i], self.grid)
+                yield f"link {i} {way} {both(street.factor * street.length[way, i] / run, 3)}"
+        yield from self.diagram()
+
+    def band_report(self):
+        for way, band in self.band.items():
+            yield f"band {way} {both(Fraction(band, self.cycle), 6)}"
+
+    def diagram(self):
+        yield "diagram"
+        lines = crossings(self.street, self)
+        for i in reversed(self.street.signals):
+            for way in ("out", "in"):
+                yield f"{i} {way} {''.join(character(self, way, i, lines[way][i], j * self.cycle // 60) for j in range(60))}"
 
 
 # The tree.
@@ -399,17 +462,21 @@ class Meter:
 
 
 class Opened:
-    """A box that is opened: its leaf, and at an optimal end its bound and either its timing or where it is split."""
+    """A box that is opened: its leaf, and at an optimal end its bound and one of these: its timing, where it is split, or why its vertex
+    can't be read."""
 
     def __init__(self, street, box, variables, meter):
         self.box, self.pivots = box, 0
-        self.bound = self.timing = self.split = None
+        self.bound = self.timing = self.split = self.unread = None
         try:
             meter.spend()
             self.solve(street, variables, meter)
         except Wide as wide:
-            wide.box, wide.pivots = box, self.pivots
-            raise
+            raise self.named(wide)
+
+    def named(self, wide):
+        wide.box, wide.pivots = self.box, self.pivots
+        return wide
 
     def solve(self, street, variables, meter):
         rows = street.rows(self.box)
@@ -423,12 +490,17 @@ class Opened:
         bound = leaf_bound(street, rows, multipliers)
         if r is None:
             self.bound, self.variables = bound, set(tableau.basic)
-            self.split = split_of(street, self.box, tableau.vertex())
-            if self.split is None:
-                self.timing = Timing(street, tableau.vertex())
+            try:
+                self.split = split_of(street, self.box, tableau.vertex())
+                if self.split is None:
+                    self.timing = street.timing(tableau.vertex())
+            except Wide as wide:
+                self.unread = self.named(wide)
 
 
 class Search:
+    first_line = "maxband-certificate 2"
+
     def __init__(self, street, limit, cold):
         self.street, self.cold, self.meter = street, cold, Meter(limit)
         self.best = self.stopped = None
@@ -436,6 +508,8 @@ class Search:
         self.waiting = []
         try:
             self.keep("", self.open(street.root()))
+            if self.tree[""].unread:
+                raise self.tree[""].unread
             while self.waiting and (self.best is None or -self.waiting[0][0] > self.best.weighted()):
                 self.part(self.waiting[0][1])
         except (Spent, Wide) as stop:
@@ -449,13 +523,18 @@ class Search:
 
     def keep(self, way, opened):
         self.tree[way] = opened
-        if opened.split and (self.best is None or opened.bound > self.best.weighted()):
+        if (opened.split or opened.unread) and (self.best is None or opened.bound > self.best.weighted()):
             heapq.heappush(self.waiting, (-opened.bound, way))
 
     def part(self, way):
         """Splits a waiting box; if the search stops on the way, the box waits as before."""
         parent = self.tree[way]
-        low, high = (self.open(part, parent.variables) for part in parts_of(parent.box, *parent.split))
+        opened = []
+        for part in parts_of(parent.box, *parent.split):
+            opened.append(self.open(part, parent.variables))
+            if opened[-1].unread:
+                raise opened[-1].unread
+        low, high = opened
         heapq.heappop(self.waiting)
         self.tree[way] = "split {} {} {}".format(*parent.split)
         self.keep(way + "0", low)
@@ -467,12 +546,13 @@ class Search:
     def bound(self):
         """The bound of an open answer."""
         if not self.tree:
-            return self.street.green_out[1] + self.street.ratio * self.street.green_in[1]
+            right = {name: bound for name, _, bound in self.street.rows(self.street.root())}
+            return sum(times * right[name] for name, times in self.street.start_leaf().items())
         bounds = [-bound for bound, _ in self.waiting]
         return max(bounds + [self.best.weighted()] if self.best else bounds)
 
     def certificate(self):
-        yield "maxband-certificate 2"
+        yield self.first_line
         yield f"verdict {self.verdict()}"
         if self.stopped:
             yield f"bound {self.bound()}"
@@ -483,11 +563,19 @@ class Search:
             yield "no timing"
         # The order of the ways is that of the tree.
         nodes = [node if isinstance(node, str) else node.leaf for _, node in sorted(self.tree.items())]
-        if not nodes:
-            nodes = [{"wout 1": ONE, "win 1": self.street.ratio} if self.street.ratio else {"wout 1": ONE}]
-        names = [name for name, _, _ in self.street.rows(self.street.root())]
-        yield from tree_lines(names, nodes)
+        yield from self.tree_lines(nodes or [self.street.start_leaf()])
         yield "end"
+
+    def tree_lines(self, nodes):
+        """The list of rows and the tree. A node is the line of a split, or a leaf's multipliers by the names of their rows."""
+        named = set().union(*(node for node in nodes if not isinstance(node, str)))
+        listed = [name for name, _, _ in self.street.rows(self.street.root()) if name in named]
+        place = {name: at for at, name in enumerate(listed, 1)}
+        yield f"rows {len(listed)}"
+        yield from listed
+        yield "tree"
+        for node in nodes:
+            yield from [node] if isinstance(node, str) else leaf_lines({place[name]: times for name, times in node.items()})
 
     def report(self):
         yield f"verdict {self.verdict()}"
@@ -498,21 +586,9 @@ class Search:
                 yield from wide_lines(self.stopped)
             yield f"bound {self.bound()}"
         if self.best:
-            yield from timing_lines(self.street, self.best)
+            yield from self.best.report()
         elif self.stopped:
             yield "no timing"
-
-
-def tree_lines(names, nodes):
-    """The list of rows and the tree. A node is the line of a split, or a leaf's multipliers by the names of their rows."""
-    named = set().union(*(node for node in nodes if not isinstance(node, str)))
-    listed = [name for name in names if name in named]
-    place = {name: at for at, name in enumerate(listed, 1)}
-    yield f"rows {len(listed)}"
-    yield from listed
-    yield "tree"
-    for node in nodes:
-        yield from [node] if isinstance(node, str) else leaf_lines({place[name]: times for name, times in node.items()})
 
 
 def leaf_lines(leaf):
@@ -543,25 +619,6 @@ def both(value, places):
     return f"{value} = {whole}.{rest:0{places}}"
 
 
-def timing_lines(street, timing):
-    yield f"weighted {both(timing.weighted(), 6)}"
-    for way, band in timing.band.items():
-        yield f"band {way} {both(Fraction(band, timing.cycle), 6)}"
-    yield f"cycle {both(Fraction(timing.cycle, timing.grid), 3)}"
-    for i in street.signals:
-        offset = Fraction((timing.red[i] - timing.red[1]) % timing.cycle, timing.grid)
-        yield f"signal {i} pattern {timing.pattern[i]} offset {both(offset, 3)} {street.name[i]}"
-    for i in street.links:
-        for way in ("out", "in"):
-            run = Fraction(timing.run[way][i], timing.grid)
-            yield f"link {i} {way} {both(street.factor * street.length[way, i] / run, 3)}"
-    yield "diagram"
-    lines = crossings(street, timing)
-    for i in reversed(street.signals):
-        for way in ("out", "in"):
-            yield f"{i} {way} {''.join(character(timing, way, i, lines[way][i], j * timing.cycle // 60) for j in range(60))}"
-
-
 def crossings(street, timing):
     """Where the first lines cross each signal."""
     out, back = {1: timing.first["out"]}, {len(street.signals): timing.first["in"]}
@@ -580,21 +637,25 @@ def character(timing, way, i, line, tick):
     return {"out": ">", "in": "<"}[way] if inside else "="
 
 
+def answer(search, words):
+    """What a command does whose words are STREET.toml CERT [WORK]: it makes a search of the street's text and a limit."""
+    limit = UNITS_OF_WORK if len(words) == 2 else None if words[2] == "all" else int(words[2])
+    with open(words[0], encoding="utf-8-sig", newline="") as file:
+        found = search(file.read(), limit)
+    with open(words[1], "w", encoding="utf-8", newline="\n") as file:
+        file.writelines(f"{line}\n" for line in found.certificate())
+    sys.stdout.reconfigure(encoding="utf-8", newline="\n")
+    sys.stdout.writelines(f"{line}\n" for line in found.report())
+    return {"best": 0, "none": 1, "open": 2}[found.verdict()]
+
+
 def main(words):
     cold = words[:1] == ["--cold"]
     words = words[cold:]
     if len(words) not in (2, 3):
         print(__doc__.strip(), file=sys.stderr)
         return 5
-    limit = UNITS_OF_WORK if len(words) == 2 else None if words[2] == "all" else int(words[2])
-    with open(words[0], encoding="utf-8-sig", newline="") as file:
-        street = Street(file.read())
-    search = Search(street, limit, cold)
-    with open(words[1], "w", encoding="utf-8", newline="\n") as file:
-        file.writelines(f"{line}\n" for line in search.certificate())
-    sys.stdout.reconfigure(encoding="utf-8", newline="\n")
-    sys.stdout.writelines(f"{line}\n" for line in search.report())
-    return {"best": 0, "none": 1, "open": 2}[search.verdict()]
+    return answer(lambda text, limit: Search(Street(text), limit, cold), words)
 
 
 if __name__ == "__main__":

@@ -3,7 +3,7 @@
 use crate::{Widest, base_holds, widest};
 use artery_model::Artery;
 use progression::Dir;
-use sample_streets::{plain_head, plain_link, plain_signal, two_signals};
+use sample_streets::{plain_head, plain_link, plain_signal, sample_street};
 use std::alloc::Global;
 use std::test::Fail;
 use time_space::Timing;
@@ -16,9 +16,8 @@ struct Reds {
 }
 
 fn artery(alloc: Global, parts: u32) -> Result<Artery, Fail> {
-    let first = plain_signal("A", parts);
-    let second = plain_signal("B", parts);
-    match two_signals(alloc, plain_head(), first, second, plain_link(500)) {
+    let signals = [plain_signal("A", parts), plain_signal("B", parts)];
+    match sample_street(alloc, plain_head(), &signals, &[plain_link(500)]) {
         Ok(artery) => Ok(artery),
         Err(_) => Err("no artery".into()),
     }

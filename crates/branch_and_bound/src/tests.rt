@@ -5,58 +5,22 @@ ghost use Rattle.std.specs.Prelude.{◌<◌};
 
 use crate::toy::Capped;
 use crate::{Found, Incumbent, Stop, TreeNode, Verdict, law_enough, search};
-use artery_model::{Artery, Head, Link, Pair, Signal, Text, Units};
+use artery_model::Artery;
 use narrow_fraction::Frac;
+use sample_streets::{SampleHead, plain_head, plain_link, plain_signal, range, sample_street};
 use std::alloc::Global;
 use std::test::Fail;
 
-fn pair(least: i64, most: i64) -> Pair {
-    Pair {
-        least: Frac::whole(least),
-        most: Frac::whole(most),
-    }
-}
-
-fn signal(alloc: Global, name: &str) -> Result<Signal, Fail> {
-    Ok(Signal {
-        name: Text::new(alloc, name).ok().ok_or("no memory")?,
-        red: 50,
-        left_out: 0,
-        left_in: 0,
-        patterns: [true, true, true, true],
-        clear_out: 0,
-        clear_in: 0,
-    })
-}
-
 fn artery(alloc: Global) -> Result<Artery, Fail> {
-    let signals = vec![in alloc; signal(alloc, "A")?, signal(alloc, "B")?]?;
-    let links = vec![in alloc;
-        Link {
-            distance_out: 500,
-            distance_in: 500,
-            speed_out: pair(36, 36),
-            speed_in: pair(36, 36),
-            change_out: None,
-            change_in: None,
-        },
-    ]?;
-    let head = Head {
-        name: None,
-        units: Units::Metric,
-        version: 1,
-        parts: 100,
-        cycle: pair(50, 100),
-        ratio: Frac::whole(1),
-        least_out: Frac::whole(0),
-        least_in: Frac::whole(0),
-        equal: false,
+    let head = SampleHead {
+        cycle: range(50, 100),
+        ..plain_head()
     };
-    Ok(
-        Artery::new(alloc, head, signals, links)
-            .ok()
-            .ok_or("no artery")?,
-    )
+    let signals = [plain_signal("A", 50), plain_signal("B", 50)];
+    match sample_street(alloc, head, &signals, &[plain_link(500)]) {
+        Ok(artery) => Ok(artery),
+        Err(_) => Err("no artery".into()),
+    }
 }
 
 fn found(alloc: Global, cap: i64, limit: u64) -> Result<Found<i64, u8>, Fail>

@@ -1,14 +1,20 @@
 -- The certificate of an answer: what it keeps, and that it is accepted where a search gave the answer.
-use Rattle.std.proofs.Common.{◌≡◌, ℕ, List, [], ◌∷◌, length, map, Option, Some, None, refl, sym, subst}
+use Rattle.std.proofs.Common.{◌≡◌, ℕ, List, [], ◌∷◌, length, map, Option, Some, None, option_map, refl, sym, subst}
 use Rattle.rational_theory.specs.Rational.{ℚ}
 use Rattle.progression.specs.Street.{Street}
 use Rattle.progression.specs.Plan.{Plan}
+use Rattle.progression.specs.Good.{Good}
 use Rattle.progression.specs.Best.{weighted_band}
 use Rattle.linear_theory.specs.Boxes.{Area, root_box}
 use Rattle.search_box.specs.Places.{low_part, high_part}
 use Rattle.plan_text.specs.declared.certificate.Claim.{Claim}
 use Rattle.plan_text.specs.Warrants.{Node, SplitAt, LeafOf, AreTrees}
-use Rattle.certificate_checker.specs.Accepted.{AreProofs, IsAccepted}
+use Rattle.named_row.specs.declared.leaves.Weight.{Weight}
+use Rattle.certificate_checker.specs.TreeProofs.{ProveAll}
+use Rattle.certificate_checker.specs.Accepted as accepted
+use Rattle.certificate_checker.specs.Accepted.{limit_of, IsTimedBy, IsBoundAbove, AreProofs, IsAccepted}
+use Rattle.branch_and_bound.specs.Rules.{Rules}
+use Rattle.branch_and_bound.specs.Answer as engine
 use Rattle.branch_and_bound.specs.declared.incumbent.Incumbent.{Incumbent}
 use Rattle.branch_and_bound.specs.declared.node.TreeNode.{TreeNode}
 use Rattle.branch_and_bound.specs.declared.found.Verdict.{Verdict}
@@ -17,41 +23,55 @@ use Rattle.branch_and_bound.specs.Answer.{IsAnswer}
 use Rattle.branch_tree.specs.declared.site.SitePart.{SitePart}
 use Rattle.branch_tree.specs.declared.found.Found.{Found}
 use Rattle.branch_tree.specs.ArteryRules.{rules_of}
-use Rattle.branch_tree.specs.Relaxed.{IsTiming}
+use Rattle.branch_tree.specs.Told.{valued}
 use Rattle.branch_tree.specs.Trees.{node_of}
 use Rattle.branch_tree.proofs.TreeProofs.{accepted_proofs}
 use Rattle.branch_tree.specs.Searches.{incumbent_of, IsSearch}
 use Rattle.branch_tree.specs.Certified.{value_of, claim_by}
 
 -- nodes that prove for some boxes are as many whole trees
-pub proofs_trees : (a : Street) (limit : Option ℚ) (boxes : List Area) (nodes : List Node) → AreProofs a limit boxes nodes → AreTrees (length boxes) nodes
-proofs_trees a limit [] [] h = tt
-proofs_trees a limit [] (n ∷ ns) h = absurd h
-proofs_trees a limit (box ∷ boxes) [] h = absurd h
-proofs_trees a limit (box ∷ boxes) (SplitAt at ∷ ns) h = proofs_trees a limit (low_part box at ∷ high_part box at ∷ boxes) ns h.1
-proofs_trees a limit (box ∷ boxes) (LeafOf ws ∷ ns) h = proofs_trees a limit boxes ns h.1
+pub proven_trees : (P : Area → List Weight → Type 0) (boxes : List Area) (nodes : List Node) → ProveAll P boxes nodes → AreTrees (length boxes) nodes
+proven_trees P [] [] h = tt
+proven_trees P [] (n ∷ ns) h = absurd h
+proven_trees P (box ∷ boxes) [] h = absurd h
+proven_trees P (box ∷ boxes) (SplitAt at ∷ ns) h = proven_trees P (low_part box at ∷ high_part box at ∷ boxes) ns h.1
+proven_trees P (box ∷ boxes) (LeafOf ws ∷ ns) h = proven_trees P boxes ns h.1
 
 -- ---- the timing of a best answer
-some_value : (x y : Incumbent Plan) → Some x ≡ Some y → x.value ≡ y.value
-some_value x y e = cc
+module _ {T : Type 0} where
+  some_value : (x y : Incumbent T) → Some x ≡ Some y → x.value ≡ y.value
+  some_value x y e = cc
 
-some_plan : (x y : Incumbent Plan) → Some x ≡ Some y → x.timing ≡ y.timing
-some_plan x y e = cc
+  some_timing : (x y : Incumbent T) → Some x ≡ Some y → x.timing ≡ y.timing
+  some_timing x y e = cc
 
--- the verdict's certificate
+-- ---- of any rules whose good timings are good so and worth so much, and whose trees are proofs
+module _ {T K : Type 0} (r : Rules T K SitePart) (Good : T → Type 0) (worth : T → ℚ) (good : (t : T) (v : ℚ) → r.IsGood t v → Good t × (worth t ≡ v))
+    (Proofs : Option ℚ → List Node → Type 0) (proofs : (claim : Option ℚ) (nodes : List TreeNode) → engine.IsAccepted r claim nodes → Proofs claim (map node_of nodes)) where
+  -- a claim with its timing and its nodes is accepted
+  abbrev IsCertified : Claim → Option T → List Node → Type 0
+  IsCertified claim timing nodes = IsTimedBy Good worth timing (accepted.value_of claim) × IsBoundAbove claim × Proofs (limit_of claim) nodes
+
+  pub certified_by : (nodes : List TreeNode) (limit : Option ℕ) (bound : ℚ) (spent : ℕ) (timing : Option T) (verdict : Verdict SitePart)
+      → IsAnswer r limit nodes (valued worth timing) bound spent verdict → IsCertified (claim_by verdict bound (option_map worth timing)) timing (map node_of nodes)
+  certified_by nodes limit bound spent None Best h = absurd (let e = h.best_is in cc)
+  certified_by nodes limit bound spent (Some t) Best h =
+      let value : worth t ≡ bound = some_value _ _ h.best_is in
+      let same : h.timing ≡ t = sym (some_timing _ _ h.best_is) in
+      let is : r.IsGood t bound = subst (λ s. r.IsGood s bound) same h.good in
+      (((good t bound is).0, refl), tt, subst (λ x. Proofs (Some x) (map node_of nodes)) (sym value) (proofs (Some bound) nodes h.finished.accepted))
+  certified_by nodes limit bound spent None NoTiming h = (tt, tt, proofs None nodes h.finished.accepted)
+  certified_by nodes limit bound spent (Some t) NoTiming h = absurd (let e = h.best_is in cc)
+  certified_by nodes limit bound spent None (Stopped stop) h = (tt, tt, proofs (Some bound) nodes h.accepted)
+  certified_by nodes limit bound spent (Some t) (Stopped stop) h = (((good t (worth t) h.good.0).0, refl), h.good.1, proofs (Some bound) nodes h.accepted)
+
+-- ---- of an artery's
 pub certified : (a : Street) (nodes : List TreeNode) (limit : Option ℕ) (bound : ℚ) (spent : ℕ) (timing : Option Plan) (verdict : Verdict SitePart)
     → IsAnswer (rules_of a) limit nodes (incumbent_of a timing) bound spent verdict
     → IsAccepted a (record { claim = claim_by verdict bound (value_of a timing); timing = timing; nodes = map node_of nodes })
-certified a nodes limit bound spent None Best h = absurd (let e = h.best_is in cc)
-certified a nodes limit bound spent (Some plan) Best h =
-    let value : weighted_band a plan ≡ bound = some_value _ _ h.best_is in
-    let same : h.timing ≡ plan = sym (some_plan _ _ h.best_is) in
-    let good : IsTiming a plan bound = subst (λ p. IsTiming a p bound) same h.good in
-    record { timing = (good.0, refl); bound = tt; tree = subst (λ x. AreProofs a (Some x) (root_box a ∷ []) (map node_of nodes)) (sym value) (accepted_proofs a (Some bound) nodes h.finished.accepted) }
-certified a nodes limit bound spent None NoTiming h = record { timing = tt; bound = tt; tree = accepted_proofs a None nodes h.finished.accepted }
-certified a nodes limit bound spent (Some plan) NoTiming h = absurd (let e = h.best_is in cc)
-certified a nodes limit bound spent None (Stopped stop) h = record { timing = tt; bound = tt; tree = accepted_proofs a (Some bound) nodes h.accepted }
-certified a nodes limit bound spent (Some plan) (Stopped stop) h = record { timing = (h.good.0.0, refl); bound = h.good.1; tree = accepted_proofs a (Some bound) nodes h.accepted }
+certified a nodes limit bound spent timing verdict h =
+    let c = certified_by (rules_of a) (Good a) (weighted_band a) (λ t v g. g) (λ claim ns. AreProofs a claim (root_box a ∷ []) ns) (accepted_proofs a) nodes limit bound spent timing verdict h in
+    record { timing = c.0; bound = c.1; tree = c.2 }
 
 -- what is made of an answer's parts
 pub accepted_made : (a : Street) (found : Found) (limit : Option ℕ) (claim : Claim) (timing : Option Plan) (nodes : List Node)

@@ -1,10 +1,11 @@
--- A search of an artery stops by work only under a limit that is less than enough.
+-- A search stops by work only under a limit that is less than enough.
 use Rattle.std.proofs.Common.{◌≡◌, ℕ, ◌<◌, List, Option, Some, None}
 use Rattle.std.specs.Prelude.{IfSome}
 use Rattle.rational_theory.specs.Rational.{ℚ}
 use Rattle.progression.specs.Street.{Street}
 use Rattle.progression.specs.Plan.{Plan}
-use Rattle.branch_and_bound.specs.Enough.{IsEnough}
+use Rattle.branch_and_bound.specs.Rules.{Rules}
+use Rattle.branch_and_bound.specs.Enough.{IsEnough, IsShort}
 use Rattle.branch_and_bound.specs.Answer.{IsAnswer}
 use Rattle.branch_and_bound.specs.declared.incumbent.Incumbent.{Incumbent}
 use Rattle.branch_and_bound.specs.declared.node.TreeNode.{TreeNode}
@@ -14,17 +15,21 @@ use Rattle.branch_and_bound.specs.declared.found.Stop.TheVariants.{Work, Wide}
 use Rattle.branch_tree.specs.declared.site.SitePart.{SitePart}
 use Rattle.branch_tree.specs.Lineage.{IsSearchable}
 use Rattle.branch_tree.specs.ArteryRules.{rules_of}
-use Rattle.branch_tree.specs.Enough.{sets_of, enough_of, IsTooLow, IsWithinEnough}
+use Rattle.branch_tree.specs.Enough.{sets_of, enough_for, IsTooLow, IsWithin, IsWithinEnough}
 use Rattle.branch_tree.proofs.Units.{boxes_short}
 
 too_low : (enough : ℕ) (limit : Option ℕ) (spent : ℕ) → limit ≡ Some spent → IfSome limit (λ n. n < enough) → IsTooLow enough limit
 too_low enough None spent e h = cc
 too_low enough (Some n) spent e h = h
 
+pub within : {T K W : Type 0} (r : Rules T K W) (sets : ℕ) → IsShort r sets → r.IsSound → IsEnough r → (limit : Option ℕ) (nodes : List TreeNode) (best : Option (Incumbent T)) (bound : ℚ) (spent : ℕ) (verdict : Verdict W)
+    → IsAnswer r limit nodes best bound spent verdict → IsWithin (enough_for r.root sets) limit verdict
+within r sets short s enough limit nodes best bound spent Best h = tt
+within r sets short s enough limit nodes best bound spent NoTiming h = tt
+within r sets short s enough limit nodes best bound spent (Stopped (Work units)) h =
+    too_low (enough_for r.root sets) limit spent h.cause.1 (enough s limit nodes best bound spent units sets h short)
+within r sets short s enough limit nodes best bound spent (Stopped (Wide site)) h = tt
+
 pub within_enough : (a : Street) → IsSearchable a → IsEnough (rules_of a) → (limit : Option ℕ) (nodes : List TreeNode) (best : Option (Incumbent Plan)) (bound : ℚ) (spent : ℕ) (verdict : Verdict SitePart)
     → IsAnswer (rules_of a) limit nodes best bound spent verdict → IsWithinEnough a limit verdict
-within_enough a s enough limit nodes best bound spent Best h = tt
-within_enough a s enough limit nodes best bound spent NoTiming h = tt
-within_enough a s enough limit nodes best bound spent (Stopped (Work units)) h =
-    too_low (enough_of a) limit spent h.cause.1 (enough s limit nodes best bound spent units (sets_of a) h (boxes_short a))
-within_enough a s enough limit nodes best bound spent (Stopped (Wide site)) h = tt
+within_enough a s enough limit nodes best bound spent verdict h = within (rules_of a) (sets_of a) (boxes_short a) s enough limit nodes best bound spent verdict h

@@ -1,7 +1,7 @@
 -- Where the run of a line is left: a refused step isn't the last one, and a leaf whose sum is refused is no proof.
 use Rattle.std.proofs.Common.{◌≡◌, ℕ, ◌<◌, Bool, true, false, cond, Option, Some, None, refl, sym, ◌∙◌, ap}
 use Rattle.narrow_fraction.proofs.Attempt.{some_not_none}
-use Rattle.progression.specs.Street.{Street}
+use Rattle.linear_theory.specs.Boxes.{Area}
 use Rattle.named_row.specs.declared.leaves.Leaf.{Leaf}
 use Rattle.simplex_theory.specs.Tableau.{Tableau, cell, width}
 use Rattle.simplex_theory.specs.BlandRule.{is_negative, place_before, chosen_row, chosen_place, move_in, move_by, move}
@@ -12,16 +12,14 @@ use Rattle.fraction_tableau.specs.declared.wide_cell.WideCell.{WideCell}
 use Rattle.dual_simplex.specs.Ratios.{ratio_at, ratio_refusal}
 use Rattle.dual_simplex.specs.Steps.{step_place, step_ratio, step_row, step_of}
 use Rattle.dual_simplex.specs.declared.outcome.Step.TheVariants as steps
-use Rattle.loop_rows.specs.Weights.{leaf_fault}
 use Rattle.loop_rows.specs.declared.fault.SumFault.{SumFault}
 use Rattle.branch_and_bound.specs.Lines.{Line}
 use Rattle.branch_and_bound.specs.Unfinished.{EndsUnproved}
 use Rattle.branch_tree.specs.Program.{Program}
-use Rattle.branch_tree.specs.ArteryProgram.{program_of}
+use Rattle.branch_tree.specs.declared.site.SitePart.{SitePart}
+use Rattle.branch_tree.specs.Meaning.{Meaning, rules_from, EndsProve}
 use Rattle.branch_tree.specs.Ends.{table_after, steps_of, end_leaf}
 use Rattle.branch_tree.specs.Sites.{step_at, IsReached}
-use Rattle.branch_tree.proofs.LeafFaults.{proof_free}
-use Rattle.branch_tree.specs.ArteryRules.{rules_of}
 use Rattle.branch_tree.proofs.Runs.{due_at, due_before}
 use Rattle.branch_tree.proofs.EachRefusal.{Each, each_none, each_first}
 
@@ -72,12 +70,13 @@ pub wide_before : {T W : Type 0} (p : Program T W) (line : Line) → p.IsSound �
 wide_before p line v k in_ratio w r e = due_before p line v k (due_at p line k r (wide_pivots (table_after p line k) in_ratio w e))
 
 -- ---- a refused sum
-pub ends_unproved : (a : Street) (line : Line) (leaf : Leaf) (f : SumFault) → leaf.multipliers.items ≡ end_leaf (program_of a) line → leaf_fault a line.area (end_leaf (program_of a) line) ≡ Some f → EndsUnproved (rules_of a) line
-ends_unproved a line leaf f read e =
-    let told = sym e ∙ ap (leaf_fault a line.area) (sym read) in
+pub ends_unproved : {T K : Type 0} (p : Program T SitePart) (m : Meaning K p) (IsFor : Area → Type 0) → EndsProve p m IsFor → (line : Line) (leaf : Leaf) (f : SumFault) → leaf.multipliers.items ≡ end_leaf p line
+    → p.leaf_fault line.area (end_leaf p line) ≡ Some f → EndsUnproved (rules_from p m) line
+ends_unproved p m IsFor q line leaf f read e =
+    let told = sym e ∙ ap (p.leaf_fault line.area) (sym read) in
     record {
       leaf = leaf;
       leaf_is = read;
-      not_refuted = λ p. some_not_none (told ∙ proof_free a None line.area leaf.multipliers.items p);
-      not_covered = λ p. some_not_none (told ∙ proof_free a _ line.area leaf.multipliers.items p);
+      not_refuted = λ h. some_not_none (told ∙ q.refuting_free line.area leaf h);
+      not_covered = λ h. some_not_none (told ∙ q.covering_free line.area leaf _ h);
     }

@@ -1,20 +1,21 @@
-mod EachRefusal
-mod Runs
-mod LeafFaults
+pub mod EachRefusal
+pub mod Runs
+pub mod LeafFaults
 mod StartLaws
 mod StartFits
 mod BoxProofs
-mod Openings
-mod Units
-mod Enough
+pub mod Openings
+pub mod Units
+pub mod Enough
 pub mod KeptPromises
-mod Leaving
-mod Running
-mod Reading
-mod Opens
+pub mod Leaving
+pub mod Running
+pub mod Reading
+pub mod Opens
 pub mod TreeProofs
-mod Certificates
-mod KeptLeaves
-mod NamedCells
-mod NamedSites
-mod Answering
+pub mod Certificates
+pub mod KeptLeaves
+pub mod NamedCells
+pub mod NamedSites
+pub mod Answering
+mod ArteryEnds

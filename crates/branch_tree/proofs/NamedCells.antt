@@ -6,9 +6,6 @@ use Rattle.narrow_fraction.specs.Attempt.{first_below}
 use Rattle.narrow_fraction.specs.declared.wide.Op.{Op}
 use Rattle.narrow_fraction.specs.declared.wide.Wide.{Wide}
 use Rattle.narrow_fraction.specs.Past128.{past_wide}
-use Rattle.progression.specs.Street.{Street, count}
-use Rattle.artery_model.specs.Valid.{IsValid}
-use Rattle.linear_theory.specs.Places.{width}
 use Rattle.simplex_theory.specs.Tableau as tableaus
 use Rattle.simplex_theory.specs.Tableau.{Tableau, IsShaped, height, cell}
 use Rattle.simplex_theory.specs.DualSteps.{IsChoice}
@@ -20,13 +17,12 @@ use Rattle.dual_simplex.specs.Ratios.{ratio_at, ratio_refusal}
 use Rattle.dual_simplex.specs.Steps.{step_pivot, step_place, step_ratio, step_row, step_of}
 use Rattle.dual_simplex.specs.declared.outcome.Step.{Step}
 use Rattle.dual_simplex.specs.declared.outcome.Step.TheVariants as steps
-use Rattle.program_builder.specs.BoxRows.{rows_of}
 use Rattle.branch_and_bound.specs.Lines.{Line}
-use Rattle.branch_tree.specs.ArteryProgram.{program_of}
+use Rattle.branch_tree.specs.Program.{Program}
 use Rattle.branch_tree.specs.Ends.{table_after}
 use Rattle.branch_tree.specs.laws.RunLaws.{run_dual, run_height, run_width}
 use Rattle.branch_tree.specs.Sites.{step_at}
-use Rattle.branch_tree.specs.SiteNames.{IsRatioOf, IsCellOf}
+use Rattle.branch_tree.specs.SiteNames.{IsRatioIn, IsCellIn}
 use Rattle.branch_tree.proofs.EachRefusal.{Each, each_some, each_none, each_earlier, each_first}
 
 each_cond : {E : Type 0} (P : E → Type 0) (b : Bool) (o p : Option E) → Each P o → Each P p → Each P (cond b o p)
@@ -106,24 +102,24 @@ module _ (t : Tableau) (shaped : IsShaped t) where
   unfolding step_of
   named = by_row (chosen_row t) refl
 
--- ---- in the run of a line
-abbrev pub IsNamedStep : Street → Step → Type 0
-IsNamedStep a steps.Optimal = Unit {0}
-IsNamedStep a (steps.Infeasible r) = Unit {0}
-IsNamedStep a (steps.Pivoted r j) = Unit {0}
-IsNamedStep a (steps.Wide true w) = IsRatioOf a w
-IsNamedStep a (steps.Wide false w) = IsCellOf a w
+-- ---- in the run of a line of a program
+abbrev pub IsNamedStep : ℕ → ℕ → Step → Type 0
+IsNamedStep rows columns steps.Optimal = Unit {0}
+IsNamedStep rows columns (steps.Infeasible r) = Unit {0}
+IsNamedStep rows columns (steps.Pivoted r j) = Unit {0}
+IsNamedStep rows columns (steps.Wide true w) = IsRatioIn rows columns w
+IsNamedStep rows columns (steps.Wide false w) = IsCellIn rows columns w
 
-module _ (a : Street) (t : Tableau) (shaped : IsShaped t) (rows : height t ≡ length (rows_of a)) (columns : tableaus.width t ≡ width (count a)) where
-  step_of_artery : (s : Step) → IsNamed t shaped s → IsNamedStep a s
-  step_of_artery steps.Optimal h = tt
-  step_of_artery (steps.Infeasible r) h = tt
-  step_of_artery (steps.Pivoted r j) h = tt
-  step_of_artery (steps.Wide true w) h = (subst (λ n. w.row < n) rows h.0, subst (λ n. w.col < n) columns h.1)
-  step_of_artery (steps.Wide false w) h = (subst (λ n. w.row ≤ n) rows h.0, subst (λ n. w.col ≤ n) columns h.1)
+module _ (rows columns : ℕ) (t : Tableau) (shaped : IsShaped t) (height_is : height t ≡ rows) (width_is : tableaus.width t ≡ columns) where
+  step_of_program : (s : Step) → IsNamed t shaped s → IsNamedStep rows columns s
+  step_of_program steps.Optimal h = tt
+  step_of_program (steps.Infeasible r) h = tt
+  step_of_program (steps.Pivoted r j) h = tt
+  step_of_program (steps.Wide true w) h = (subst (λ n. w.row < n) height_is h.0, subst (λ n. w.col < n) width_is h.1)
+  step_of_program (steps.Wide false w) h = (subst (λ n. w.row ≤ n) height_is h.0, subst (λ n. w.col ≤ n) width_is h.1)
 
-pub step_named : (a : Street) (line : Line) → IsValid a → (k : ℕ) → IsNamedStep a (step_at (program_of a) line k)
-step_named a line v k =
-    let t = table_after (program_of a) line k in
-    let shaped = (run_dual (program_of a) line v k).shaped in
-    step_of_artery a t shaped (run_height (program_of a) line v k) (run_width (program_of a) line v k) (step_at (program_of a) line k) (named t shaped)
+pub step_named : {T W : Type 0} (p : Program T W) (line : Line) → p.IsSound → (k : ℕ) → IsNamedStep (length p.names) p.columns (step_at p line k)
+step_named p line v k =
+    let t = table_after p line k in
+    let shaped = (run_dual p line v k).shaped in
+    step_of_program (length p.names) p.columns t shaped (run_height p line v k) (run_width p line v k) (step_at p line k) (named t shaped)

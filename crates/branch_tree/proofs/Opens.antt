@@ -19,7 +19,7 @@ use Rattle.branch_and_bound.specs.Lines.{Line, top_line, low_line, high_line}
 use Rattle.branch_and_bound.specs.Lineages.{at_low, at_high}
 use Rattle.work_meter.specs.declared.meter.Meter.{Meter}
 use Rattle.work_meter.specs.Work.{capped}
-use Rattle.branch_and_bound.specs.Rules.{Rules}
+use Rattle.branch_and_bound.specs.Rules.{Rules, IsMet}
 use Rattle.branch_and_bound.specs.Unfinished.{IsUnfinished}
 use Rattle.branch_and_bound.specs.declared.opened.Opened.{Opened}
 use Rattle.branch_and_bound.specs.declared.opened.Opened.TheVariants.{Infeasible, Timed, Splits, Unread, WorkOut, Wide}
@@ -60,13 +60,16 @@ module _ {T K W : Type 0} (r : Rules T K W) (line : Line) (before after : Meter)
   empty_opens (Wide told part) h = left told part h
 
 -- ---- boxes
--- a part's box
-pub part_boxed : (a : Street) (kept : Kept) (area : Area) (parent line : Line) (place : At) → IsPart (rules_of a) parent place line kept area → IsBoxOf a area
-part_boxed a kept area parent line place p = pick p.side
+-- a part's box is of the kind that every box on a line is of
+pub part_is_for : {T K W : Type 0} (r : Rules T K W) (IsFor : Area → Type 0) → ((line : Line) → IsMet r line → IsFor line.area) → (kept : K) (area : Area) (parent line : Line) (place : At) → IsPart r parent place line kept area → IsFor area
+part_is_for r IsFor boxes kept area parent line place p = pick p.side
   where
-    pick : (line ≡ low_line place parent) ⊎ (line ≡ high_line place parent) → IsBoxOf a area
-    pick (inl e) = subst (IsBoxOf a) (sym (p.area_is ∙ ap (λ (l : Line). l.area) e)) (boxed a (low_line place parent) (at_low parent place p.lineage p.cut))
-    pick (inr e) = subst (IsBoxOf a) (sym (p.area_is ∙ ap (λ (l : Line). l.area) e)) (boxed a (high_line place parent) (at_high parent place p.lineage p.cut))
+    pick : (line ≡ low_line place parent) ⊎ (line ≡ high_line place parent) → IsFor area
+    pick (inl e) = subst IsFor (sym (p.area_is ∙ ap (λ (l : Line). l.area) e)) (boxes (low_line place parent) (at_low parent place p.lineage p.cut))
+    pick (inr e) = subst IsFor (sym (p.area_is ∙ ap (λ (l : Line). l.area) e)) (boxes (high_line place parent) (at_high parent place p.lineage p.cut))
+
+pub part_boxed : (a : Street) (kept : Kept) (area : Area) (parent line : Line) (place : At) → IsPart (rules_of a) parent place line kept area → IsBoxOf a area
+part_boxed a kept area parent line place p = part_is_for (rules_of a) (IsBoxOf a) (boxed a) kept area parent line place p
 
 -- ---- what a line begins from
 -- the root from its opening

@@ -1,7 +1,5 @@
 -- From what the steps of a node answer to how the run of a line stopped.
 use Rattle.std.proofs.Common.{arith, ◌≡◌, ℕ, ◌+◌, ◌≤◌, true, false, Option, Some, None, IfSome, sym, ◌∙◌, ap, subst}
-use Rattle.progression.specs.Street.{Street}
-use Rattle.artery_model.specs.Valid.{IsValid}
 use Rattle.simplex_theory.specs.Tableau.{IsShaped}
 use Rattle.simplex_theory.specs.BlandRule.{optimal, infeasible, move}
 use Rattle.simplex_theory.specs.StepCounts.{after, is_pivot}
@@ -14,11 +12,11 @@ use Rattle.dual_simplex.specs.Steps.{step_of}
 use Rattle.work_meter.specs.Work.{metered, is_at_limit, IsWithin, capped}
 use Rattle.dual_simplex.specs.Ends.{Solved, stepped}
 use Rattle.dual_simplex.proofs.Ends.{end_says}
-use Rattle.program_builder.specs.Building.{IsMadeFor}
+use Rattle.program_builder.specs.Loading.{HasRoomFor}
 use Rattle.program_builder.proofs.BuildingLaws.{made_spent}
 use Rattle.branch_and_bound.specs.Lines.{Line}
 use Rattle.branch_tree.specs.Program.{Program}
-use Rattle.branch_tree.specs.ArteryProgram.{program_of}
+use Rattle.branch_tree.specs.BoxRuns.{table_of}
 use Rattle.branch_tree.specs.Ends.{table_after, named_after, named_first, steps_of}
 use Rattle.branch_tree.specs.laws.RunLaws.{run_dual, run_height, run_width}
 use Rattle.branch_tree.proofs.Runs.{ends_step, reached_by, table_by, end_here, due_at, due_before}
@@ -95,22 +93,22 @@ module _ {T W : Type 0} (p : Program T W) (line : Line) (v : p.IsSound) (s t : N
     stops = stops later e i j h;
   }
 
--- the tableau stays one that was made for the artery
-module _ (a : Street) (line : Line) (v : IsValid a) (s t : NamedTableau) (m n : Meter) (old new k : ℕ) (o : s ≡ named_first (program_of a) line) where
-  made_at : IsMadeFor a (named_after (program_of a) line k)
-  made_at = record { rows = run_height (program_of a) line v k; columns = run_width (program_of a) line v k }
+-- the tableau keeps room for the program's rows
+module _ {T W : Type 0} (p : Program T W) (line : Line) (v : p.IsSound) (s t : NamedTableau) (m n : Meter) (old new k : ℕ) (o : s ≡ named_first p line) where
+  made_at : HasRoomFor (table_of p) (named_after p line k)
+  made_at = record { rows = run_height p line v k; columns = run_width p line v k }
 
-  made_by : stepped s k ≡ t → IsMadeFor a t
-  made_by e = subst (IsMadeFor a) (sym (stepped_is (program_of a) line v s t m n old new k o) ∙ e) made_at
+  made_by : stepped s k ≡ t → HasRoomFor (table_of p) t
+  made_by e = subst (HasRoomFor (table_of p)) (sym (stepped_is p line v s t m n old new k o) ∙ e) made_at
 
-  pub made_after : (e : NodeEnd) → IsShaped t.table → Solved e s t m n old new k → IsMadeFor a t
+  pub made_after : (e : NodeEnd) → IsShaped t.table → Solved e s t m n old new k → HasRoomFor (table_of p) t
   made_after Optimal g h = made_by (sym h.table)
   made_after (Infeasible row) g h = made_by (sym h.table)
   made_after WorkOut g h = made_by (sym h.table)
   made_after (Wide true cell) g h = made_by (sym h.table)
   made_after (Wide false cell) g h =
-      made_spent a (stepped s k) t (subst IsShaped (sym (here (program_of a) line v s t m n old new k o)) (run_dual (program_of a) line v k).shaped) g h.table
-      (subst (IsMadeFor a) (sym (stepped_is (program_of a) line v s t m n old new k o)) made_at)
+      made_spent (table_of p) (stepped s k) t (subst IsShaped (sym (here p line v s t m n old new k o)) (run_dual p line v k).shaped) g h.table
+      (subst (HasRoomFor (table_of p)) (sym (stepped_is p line v s t m n old new k o)) made_at)
 
 pub within_limit : (spent : ℕ) (limit : Option ℕ) → IfSome limit (λ most. spent ≤ most) → IsWithin spent limit
 within_limit spent None h = tt

@@ -31,7 +31,7 @@ use Rattle.program_builder.proofs.LineCells.{line_each}
 use Rattle.program_builder.proofs.RowKinds.{IsUpTo, small_whole, small_ratio, small_zero, small_wait}
 use Rattle.program_builder.proofs.Narrowing.{up_to_times, up_to_plus, up_to_times_fits, up_to_sum_fits}
 use Rattle.branch_tree.specs.Starts.{first_out, first_in, start_leaf}
-use Rattle.branch_tree.specs.laws.WeakDuality.{ratio_low}
+use Rattle.branch_tree.proofs.StartLaws.{ratio_low}
 
 -- every number of the row is n at most in both its numbers
 record IsSmallSheet (n : ℕ) (s : Sheet) : Type 0 where

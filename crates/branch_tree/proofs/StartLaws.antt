@@ -1,8 +1,9 @@
 -- The start leaf covers the goal with its bound.
 use Rattle.std.proofs.Common.{◌≡◌, ℕ, zero, suc, pos, Bool, true, false, cond, List, [], ◌∷◌, set, replicate, map, ◌≤◌, refl, sym, ◌∙◌, ap, subst, arith}
 use Rattle.std.specs.Ordering.{eq_by_cmp}
+use Rattle.std.proofs.lemmas.Int.{ints}
 use Rattle.std.proofs.lemmas.List.{length-set, length-replicate, get_or-set_same}
-use Rattle.rational_theory.specs.Rational.{ℚ, ◌+ℚ◌, ◌*ℚ◌, ◌≤ℚ◌}
+use Rattle.rational_theory.specs.Rational.{ℚ, whole, ◌+ℚ◌, ◌*ℚ◌, ◌≤ℚ◌}
 use Rattle.rational_theory.specs.Compare.{cmp_ℚ}
 use Rattle.rational_theory.proofs.Compare.{eq_true}
 use Rattle.rational_theory.proofs.Order.{≤ℚ_refl}
@@ -27,8 +28,12 @@ use Rattle.program_builder.proofs.LineCells.{line_each, line_other, line_first}
 use Rattle.simplex_theory.proofs.Lines.{get_or-add, get_or-scale}
 use Rattle.branch_tree.specs.LeafRows.{sum_of}
 use Rattle.branch_tree.specs.laws.LeafWeights.{weight_there}
-use Rattle.branch_tree.specs.laws.WeakDuality.{ratio_low}
 use Rattle.branch_tree.specs.Starts.{first_out, first_in, start_leaf, start_bound}
+
+-- a valid artery's ratio is at least 0
+pub ratio_low : (a : Street) → IsValid a → number 0 ≤ℚ a.head.ratio
+unfolding whole
+ratio_low a v = record { cross = let l = v.ratio.least in omega (arith, ints, l) }
 
 pub record IsGoodStart (a : Street) : Type 0 where
   pub rows : AreWeights a (map named (start_leaf a))

@@ -14,10 +14,10 @@ use Rattle.branch_tree.specs.declared.site.SitePart.TheVariants.{Ratio, Cell, Le
 use Rattle.branch_tree.specs.Program.{Program, Outcome, Refused, Splits, Gives}
 use Rattle.branch_tree.specs.laws.Firsts.{artery_first}
 
-abbrev pub outcome_of : vertices.Outcome → Outcome Plan SitePart
+abbrev pub outcome_of : {T : Type 0} → vertices.Outcome T → Outcome T SitePart
 outcome_of (vertices.Refused wide) = Refused (Timing wide)
 outcome_of (vertices.Splits place) = Splits place
-outcome_of (vertices.Gives plan) = Gives plan
+outcome_of (vertices.Gives timing) = Gives timing
 
 abbrev pub program_of : Street → Program Plan SitePart
 program_of a = record {

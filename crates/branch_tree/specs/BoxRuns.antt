@@ -1,7 +1,6 @@
 -- What opening a line's box answers, by its run.
 use Rattle.std.specs.Prelude.{◌≡◌, ℕ, List, Some, None, length}
 use Rattle.progression.specs.Street.{Street, count}
-use Rattle.progression.specs.Plan.{Plan}
 use Rattle.linear_theory.specs.Places.{width}
 use Rattle.linear_theory.specs.Boxes.{Area}
 use Rattle.fraction_tableau.specs.NamedTableaus.{NamedTableau}
@@ -12,8 +11,9 @@ use Rattle.named_row.specs.declared.leaves.Point.{Point}
 use Rattle.named_row.specs.declared.leaves.Weight.{Weight}
 use Rattle.rational_theory.specs.Rational.{ℚ}
 use Rattle.search_box.specs.declared.span.At.{At}
+use Rattle.simplex_theory.specs.Tableau.{Tableau}
 use Rattle.simplex_theory.specs.DualSteps.{IsPlaced}
-use Rattle.entry_theory.specs.Basics.{basics_of}
+use Rattle.program_builder.specs.RowTable.{RowTable}
 use Rattle.branch_and_bound.specs.Lines.{Line}
 use Rattle.branch_and_bound.specs.Rules.{Rules}
 use Rattle.branch_and_bound.specs.declared.opened.Opened.{Opened}
@@ -21,16 +21,18 @@ use Rattle.branch_and_bound.specs.declared.opened.Opened.TheVariants as opened
 use Rattle.branch_and_bound.specs.Unfinished.{IsUnfinished}
 use Rattle.branch_and_bound.specs.OpenedNodes.{OpensEmpty, OpensTimed, OpensCut, OpensStuck}
 use Rattle.branch_tree.specs.declared.site.SitePart.{SitePart}
-use Rattle.offset_recovery.specs.declared.outcome.RecoverFault.{RecoverFault}
-use Rattle.offset_recovery.specs.declared.outcome.RecoverFault.TheVariants as recovering
-use Rattle.branch_tree.specs.declared.site.SitePart.TheVariants.{Timing}
-use Rattle.branch_tree.specs.declared.kept.Kept.{Kept}
+use Rattle.branch_tree.specs.declared.program.Read.{Read}
+use Rattle.branch_tree.specs.declared.program.Read.TheVariants as reading
 use Rattle.branch_tree.specs.declared.relaxed.Room.{Room}
-use Rattle.branch_tree.specs.declared.opening.Summed.{Summed}
-use Rattle.branch_tree.specs.declared.opening.Summed.TheVariants as summed
+use Rattle.branch_tree.specs.declared.program.Summed.{Summed}
+use Rattle.branch_tree.specs.declared.program.Summed.TheVariants as summed
 use Rattle.branch_tree.specs.Lineage.{IsSearchable}
-use Rattle.branch_tree.specs.Program.{Program}
+use Rattle.branch_tree.specs.Program.{Program, Outcome, Refused, Splits, Gives}
 use Rattle.branch_tree.specs.Ends.{leaf_row}
+
+-- the rows, the columns and the goal of a program
+abbrev pub table_of : {T W : Type 0} → Program T W → RowTable
+table_of p = record { columns = p.columns; names = p.names; row = p.row; goal = p.goal }
 
 -- the tableau was made for the artery, and the spare row has its width
 pub record IsRoomFor (a : Street) (room : Room) : Type 0 where
@@ -45,17 +47,15 @@ IsSummed p box ws (summed.Bound bound) = (p.leaf_fault box ws ≡ None) × (boun
 IsSummed p box ws (summed.Wide row at) = p.leaf_fault box ws ≡ Some (fault.Wide row at)
 
 -- ---- what is answered
-abbrev pub OpenedBox : Type 0
-OpenedBox = Opened Plan Kept SitePart
+-- what is read off a vertex, as an outcome
+abbrev pub outcome_by : {T : Type 0} → Read T → Outcome T SitePart
+outcome_by (reading.Timing timing) = Gives timing
+outcome_by (reading.SplitAt place) = Splits place
+outcome_by (reading.Wide part) = Refused part
 
 -- a split with what the tableau gives its parts to start from
-abbrev pub IsCutBy : {T W : Type 0} → NamedTableau → Leaf → ℚ → At → Point → Opened T Kept W → Type 0
-IsCutBy tableau leaf bound place point answer = (kept : Kept) × (answer ≡ opened.Splits leaf bound place point kept) × (IsPlaced tableau.table → kept.basis.items ≡ basics_of tableau.table)
-
--- a vertex that can't be read, by the fault
-abbrev pub IsUnreadBy : Leaf → ℚ → ℕ → RecoverFault → OpenedBox → Type 0
-IsUnreadBy leaf bound pivots (recovering.Wide wide) answer = answer ≡ opened.Unread leaf bound pivots (Timing wide)
-IsUnreadBy leaf bound pivots recovering.Memory answer = ⊥
+abbrev pub IsCutBy : {T K W : Type 0} → (Tableau → K → Type 0) → NamedTableau → Leaf → ℚ → At → Point → Opened T K W → Type 0
+IsCutBy {K = K} keeps tableau leaf bound place point answer = (kept : K) × (answer ≡ opened.Splits leaf bound place point kept) × (IsPlaced tableau.table → keeps tableau.table kept)
 
 -- the line was left after k steps at a refused operation
 abbrev pub IsWideAt : {T K W : Type 0} → Rules T K W → Line → ℕ → ℕ → ℕ → W → Type 0

@@ -1,5 +1,5 @@
 -- The certificate of what a search found: its claim, its timing and its tree, without the vertices.
-use Rattle.std.specs.Prelude.{map, Option, Some, None}
+use Rattle.std.specs.Prelude.{map, option_map, Option, Some, None}
 use Rattle.rational_theory.specs.Rational.{ℚ}
 use Rattle.progression.specs.Street.{Street}
 use Rattle.progression.specs.Plan.{Plan}
@@ -14,8 +14,7 @@ use Rattle.branch_tree.specs.declared.found.Found.{Found}
 use Rattle.branch_tree.specs.Trees.{node_of}
 
 abbrev pub value_of : Street → Option Plan → Option ℚ
-value_of a None = None
-value_of a (Some plan) = Some (weighted_band a plan)
+value_of a = option_map (weighted_band a)
 
 -- a best timing's value is claimed; without one there is nothing to claim
 abbrev pub best_claim : Option ℚ → Claim

@@ -2,6 +2,7 @@ pub mod Program
 pub mod Ends
 pub mod Sites
 pub mod Runs
+pub mod Meaning
 pub mod ArteryProgram
 pub mod LeafRows
 pub mod Starts

@@ -3,7 +3,6 @@ use Rattle.std.specs.Prelude.{◌≡◌, ℕ, ◌<◌}
 use Rattle.linear_theory.specs.Boxes.{Area}
 use Rattle.named_row.specs.declared.leaves.Leaf.{Leaf}
 use Rattle.named_row.specs.declared.leaves.Point.{Point}
-use Rattle.entry_theory.specs.Basics.{basics_of}
 use Rattle.simplex_theory.specs.BlandRule.{optimal, infeasible}
 use Rattle.fraction_tableau.specs.NamedTableaus.{NamedTableau}
 use Rattle.dual_simplex.specs.declared.outcome.Step.TheVariants as steps
@@ -14,8 +13,7 @@ use Rattle.work_meter.specs.Work.{capped, IsSpent}
 use Rattle.branch_and_bound.specs.Lines.{Line}
 use Rattle.branch_and_bound.specs.OpenedNodes.{Leaves}
 use Rattle.branch_tree.specs.Program.{Program}
-use Rattle.branch_tree.specs.declared.kept.Kept.{Kept}
-use Rattle.branch_tree.specs.Ends.{steps_of, end_move, end_leaf, end_point, last_table, named_first, named_last}
+use Rattle.branch_tree.specs.Ends.{steps_of, end_move, end_leaf, end_point, named_first, named_last}
 use Rattle.branch_tree.specs.Sites.{step_at, IsReached, IsDue}
 
 -- all steps of the line were made, and the tableau is the last one
@@ -65,7 +63,3 @@ IsEndLeaf p line leaf = leaf.multipliers.items ≡ end_leaf p line
 
 abbrev pub IsEndPoint : {T W : Type 0} → Program T W → Line → Point → Type 0
 IsEndPoint p line point = point.values.items ≡ end_point p line
-
--- the basic variables of the last tableau, ascending
-abbrev pub IsEndBasis : {T W : Type 0} → Program T W → Line → Kept → Type 0
-IsEndBasis p line kept = kept.basis.items ≡ basics_of (last_table p line)

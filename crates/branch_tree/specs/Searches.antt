@@ -1,5 +1,5 @@
 -- What a search of an artery answers.
-use Rattle.std.specs.Prelude.{ℕ, Option, Some, None}
+use Rattle.std.specs.Prelude.{ℕ, Option}
 use Rattle.progression.specs.Street.{Street}
 use Rattle.progression.specs.Plan.{Plan}
 use Rattle.progression.specs.Best.{weighted_band}
@@ -7,14 +7,14 @@ use Rattle.branch_and_bound.specs.declared.incumbent.Incumbent.{Incumbent}
 use Rattle.branch_and_bound.specs.Answer.{IsAnswer}
 use Rattle.branch_tree.specs.declared.found.Found.{Found}
 use Rattle.branch_tree.specs.ArteryRules.{rules_of}
+use Rattle.branch_tree.specs.Told.{valued}
 -- what this tells besides, by the names that the crates above know
 pub use Rattle.branch_tree.specs.Told.{Tells, IsCertifiable}
 pub use Rattle.branch_tree.specs.SiteNames.{IsPartOf, IsStopOf, HasSite}
 
 -- a timing with its value
 abbrev pub incumbent_of : Street → Option Plan → Option (Incumbent Plan)
-incumbent_of a None = None
-incumbent_of a (Some plan) = Some (record { value = weighted_band a plan; timing = plan })
+incumbent_of a = valued (weighted_band a)
 
 -- an accepted tree that was needed, its units, and why the search stopped
 abbrev pub IsSearch : Street → Option ℕ → Found → Type 0

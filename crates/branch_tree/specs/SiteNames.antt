@@ -1,9 +1,10 @@
 -- What the site of a refused operation names: a box, a row, a column and a link of the artery.
-use Rattle.std.specs.Prelude.{◌<◌, ◌≤◌, length}
+use Rattle.std.specs.Prelude.{ℕ, ◌<◌, ◌≤◌, length}
 use Rattle.progression.specs.Street.{Street, HasLink, count}
 use Rattle.linear_theory.specs.Names.{HasRow, name_of}
 use Rattle.linear_theory.specs.Places.{width}
 use Rattle.linear_theory.specs.Boxes.{IsBoxOf}
+use Rattle.named_row.specs.declared.names.RowId.{RowId}
 use Rattle.named_row.specs.declared.names.Place.{Place}
 use Rattle.named_row.specs.declared.names.Place.TheVariants.{Cell, Bound}
 use Rattle.fraction_tableau.specs.declared.wide_cell.WideCell.{WideCell}
@@ -18,42 +19,66 @@ use Rattle.branch_and_bound.specs.declared.found.Verdict.TheVariants.{Best, NoTi
 use Rattle.branch_tree.specs.declared.site.SitePart.{SitePart}
 use Rattle.branch_tree.specs.declared.site.SitePart.TheVariants as part
 
--- a column of the artery, or the bound
-abbrev pub IsPlaceOf : Street → Place → Type 0
-IsPlaceOf a (Cell column) = column < width (count a)
-IsPlaceOf a Bound = Unit {0}
+-- ---- in a tableau of so many rows and columns
+-- a column, or the bound
+abbrev pub IsPlaceIn : ℕ → Place → Type 0
+IsPlaceIn columns (Cell column) = column < columns
+IsPlaceIn columns Bound = Unit {0}
 
-abbrev pub IsTimingPart : Street → WideTiming → Type 0
-IsTimingPart a (wide.Sum link refused) = HasLink a link
-IsTimingPart a (wide.Product column refused) = column < width (count a)
-IsTimingPart a (wide.Unit left right) = Unit {0}
-IsTimingPart a (wide.Number column ticks) = column < width (count a)
+abbrev pub IsTimingPartIn : Street → ℕ → WideTiming → Type 0
+IsTimingPartIn a columns (wide.Sum link refused) = HasLink a link
+IsTimingPartIn a columns (wide.Product column refused) = column < columns
+IsTimingPartIn a columns (wide.Unit left right) = Unit {0}
+IsTimingPartIn a columns (wide.Number column ticks) = column < columns
 
--- a row and a column of the artery
-abbrev pub IsRatioOf : Street → WideCell → Type 0
-IsRatioOf a cell = (cell.row < length (rows_of a)) × (cell.col < width (count a))
+-- a row and a column
+abbrev pub IsRatioIn : ℕ → ℕ → WideCell → Type 0
+IsRatioIn rows columns cell = (cell.row < rows) × (cell.col < columns)
 
 -- or also the goal row, after the last row, and the bound, after the last column
-abbrev pub IsCellOf : Street → WideCell → Type 0
-IsCellOf a cell = (cell.row ≤ length (rows_of a)) × (cell.col ≤ width (count a))
+abbrev pub IsCellIn : ℕ → ℕ → WideCell → Type 0
+IsCellIn rows columns cell = (cell.row ≤ rows) × (cell.col ≤ columns)
 
--- the row, the column or the link that is named is one of the artery
+-- the row, the column or the link that is named is there
+abbrev pub IsPartIn : Street → ℕ → ℕ → (RowId → Type 0) → SitePart → Type 0
+IsPartIn a rows columns Has (part.Ratio cell) = IsRatioIn rows columns cell
+IsPartIn a rows columns Has (part.Cell cell) = IsCellIn rows columns cell
+IsPartIn a rows columns Has (part.LeafSum row at) = Has row × IsPlaceIn columns at.place
+IsPartIn a rows columns Has (part.Timing wide) = IsTimingPartIn a columns wide
+
+-- ---- of an artery's
+abbrev pub IsPlaceOf : Street → Place → Type 0
+IsPlaceOf a = IsPlaceIn (width (count a))
+
+abbrev pub IsTimingPart : Street → WideTiming → Type 0
+IsTimingPart a = IsTimingPartIn a (width (count a))
+
+abbrev pub IsRatioOf : Street → WideCell → Type 0
+IsRatioOf a = IsRatioIn (length (rows_of a)) (width (count a))
+
+abbrev pub IsCellOf : Street → WideCell → Type 0
+IsCellOf a = IsCellIn (length (rows_of a)) (width (count a))
+
 abbrev pub IsPartOf : Street → SitePart → Type 0
-IsPartOf a (part.Ratio cell) = IsRatioOf a cell
-IsPartOf a (part.Cell cell) = IsCellOf a cell
-IsPartOf a (part.LeafSum row at) = HasRow a (name_of row.family row.index) × IsPlaceOf a at.place
-IsPartOf a (part.Timing wide) = IsTimingPart a wide
+IsPartOf a = IsPartIn a (length (rows_of a)) (width (count a)) (λ row. HasRow a (name_of row.family row.index))
 
 pub record IsSiteOf (a : Street) (site : Site SitePart) : Type 0 where
   pub boxed : IsBoxOf a site.area
   pub part : IsPartOf a site.part
 
+-- what is true of the site of a stop, and of a verdict, where there is one
+abbrev pub StopsAt : {W : Type 0} → (Site W → Type 0) → Stop W → Type 0
+StopsAt Named (Work spent) = Unit {0}
+StopsAt Named (Wide site) = Named site
+
+abbrev pub EndsAt : {W : Type 0} → (Site W → Type 0) → Verdict W → Type 0
+EndsAt Named Best = Unit {0}
+EndsAt Named NoTiming = Unit {0}
+EndsAt Named (Stopped stop) = StopsAt Named stop
+
 abbrev pub IsStopOf : Street → Stop SitePart → Type 0
-IsStopOf a (Work spent) = Unit {0}
-IsStopOf a (Wide site) = IsSiteOf a site
+IsStopOf a = StopsAt (IsSiteOf a)
 
 -- where the verdict names a site, its box, its row, its column and its link are ones of the artery
 abbrev pub HasSite : Street → Verdict SitePart → Type 0
-HasSite a Best = Unit {0}
-HasSite a NoTiming = Unit {0}
-HasSite a (Stopped stop) = IsStopOf a stop
+HasSite a = EndsAt (IsSiteOf a)

@@ -13,23 +13,36 @@ use Rattle.branch_tree.specs.declared.found.Found.{Found}
 use Rattle.branch_tree.specs.Trees.{node_of}
 
 -- the timing alone
-abbrev pub plan_of : Option (Incumbent Plan) → Option Plan
+abbrev pub plan_of : {T : Type 0} → Option (Incumbent T) → Option T
 plan_of None = None
 plan_of (Some best) = Some best.timing
 
-abbrev pub HasValue : Street → Option Plan → ℚ → Type 0
-HasValue a None value = ⊥
-HasValue a (Some plan) value = weighted_band a plan ≡ value
+-- ---- of timings of any type, by their values
+-- a timing with its value
+abbrev pub valued : {T : Type 0} → (T → ℚ) → Option T → Option (Incumbent T)
+valued value None = None
+valued value (Some timing) = Some (record { value = value timing; timing = timing })
+
+abbrev pub IsValued : {T : Type 0} → (T → ℚ) → Option T → ℚ → Type 0
+IsValued value None bound = ⊥
+IsValued value (Some timing) bound = value timing ≡ bound
 
 -- what a verdict tells of the timing and the bound
+abbrev pub TellsOf : {T W : Type 0} → (T → ℚ) → Option T → ℚ → Verdict W → Type 0
+TellsOf value timing bound Best = IsValued value timing bound
+TellsOf value timing bound NoTiming = timing ≡ None
+TellsOf value timing bound (Stopped stop) = IfSome timing (λ t. value t ≤ℚ bound)
+
+-- ---- of an artery's
+abbrev pub HasValue : Street → Option Plan → ℚ → Type 0
+HasValue a = IsValued (weighted_band a)
+
 abbrev pub Tells : Street → Option Plan → ℚ → Verdict SitePart → Type 0
-Tells a timing bound Best = HasValue a timing bound
-Tells a timing bound NoTiming = timing ≡ None
-Tells a timing bound (Stopped stop) = IfSome timing (λ plan. weighted_band a plan ≤ℚ bound)
+Tells a = TellsOf (weighted_band a)
 
 -- ---- the tree
 -- a timing stands under the verdict that claims one, and none where none is claimed
-abbrev pub IsTimed : Option Plan → Verdict SitePart → Type 0
+abbrev pub IsTimed : {T W : Type 0} → Option T → Verdict W → Type 0
 IsTimed timing Best = IsSome timing
 IsTimed timing NoTiming = timing ≡ None
 IsTimed timing (Stopped stop) = Unit {0}

@@ -6,7 +6,7 @@ pub mod BoxLaws
 pub mod EndLaws
 pub mod LeafWeights
 pub mod Endings
-pub mod WeakDuality
+pub mod Duality
 pub mod Standing
 pub mod Tightening
 pub mod Recoveries

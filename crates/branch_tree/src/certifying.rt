@@ -38,8 +38,8 @@ fn best_claim(value: Option<Frac>) -> Claim
     }
 }
 
-/// What a verdict claims.
-fn claim_by(verdict: &Verdict, bound: Frac, value: Option<Frac>) -> Claim
+/// What a verdict claims, with the value of the timing, where there is one.
+pub fn claim_by(verdict: &Verdict, bound: Frac, value: Option<Frac>) -> Claim
     ensures { result ≡ certified.claim_by verdict.now bound value }
 {
     match verdict {
@@ -76,8 +76,8 @@ fn push(nodes: &mut Vec<CertNode>, node: CertNode) -> Result<(), Memory>
     Ok(())
 }
 
-/// The nodes without their vertices.
-fn nodes_of(alloc: Global, nodes: &[TreeNode]) -> Result<Vec<CertNode>, Memory>
+/// The nodes of a tree without their vertices, as a certificate has them. The error is want of memory.
+pub fn nodes_of(alloc: Global, nodes: &[TreeNode]) -> Result<Vec<CertNode>, Memory>
     ensures { IfOk result (λ made. map warrants.node_of made.items ≡ map trees.node_of nodes.now) }
 {
     let mut made = Vec::new(alloc);

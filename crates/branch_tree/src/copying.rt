@@ -8,7 +8,8 @@ use progression::Dir;
 use std::alloc::Global;
 use time_space::Timing;
 
-fn copied<T: Copy>(alloc: Global, items: &[T]) -> Result<Vec<T>, Memory>
+/// The same items again. The error is want of memory.
+pub fn copied<T: Copy>(alloc: Global, items: &[T]) -> Result<Vec<T>, Memory>
     ensures { IfOk result (λ copy. copy.items ≡ items.now) }
 {
     let mut copy = Vec::new(alloc);

@@ -12,13 +12,15 @@
 //!   the steps of a line come to.
 //! - `specs/Sites.antt`: where a run may stop, as a pivot that is due or as the first operation that leaves 128 bits; a
 //!   `SitePart` names it. `specs/Starts.antt`: the leaf that bounds the root before any step.
-//! - `specs/ArteryRules.antt`: `rules_of`, an artery as a relaxation for `branch_and_bound`, over the words of `specs/Relaxed.antt`.
-//!   `specs/Trees.antt`: its trees are those that `certificate_checker` accepts.
+//! - `specs/Meaning.antt`: what a program means to a search, and `rules_from`, both as a relaxation for `branch_and_bound`.
+//!   `specs/ArteryRules.antt`: `meaning_of` and `rules_of`, those of an artery, over the words of `specs/Relaxed.antt`.
+//!   `specs/Trees.antt`: its trees are those that `certificate_checker` accepts. A `BoxProgram` is a program's code, and `open` opens
+//!   a box of any; `specs/BoxRuns.antt` has what it answers.
 //! - `specs/Enough.antt`: how many units of work are enough for an artery.
-//! - What is promised of lines of boxes stands in `specs/Promises.antt`, and `law_boxes_end` keeps it. `specs/BoxRuns.antt` has what
-//!   opening a box answers. The files of `specs/laws` are lemmas alone, which `program_of` and `rules_of` carry.
+//! - What is promised of lines of boxes stands in `specs/Promises.antt`, and `law_boxes_end` keeps it. The files of `specs/laws` are lemmas alone, which `program_of` and `rules_of` carry.
 #![tactic(auto)]
 
+mod artery;
 mod certifying;
 mod copying;
 #[cfg(test)]
@@ -27,6 +29,7 @@ mod found;
 mod kept;
 mod laws;
 mod opening;
+mod program;
 mod relaxed;
 mod searching;
 mod site;
@@ -36,9 +39,12 @@ mod tests;
 #[cfg(test)]
 mod wide_tests;
 
-pub use certifying::certificate_of;
+pub use certifying::{certificate_of, claim_by, nodes_of};
+pub use copying::copied;
 pub use found::{Found, Site, Stop, TreeNode, Verdict};
 pub use kept::Kept;
 pub use laws::{law_boxes_end, law_trees_are_proofs};
-pub use searching::search;
+pub use opening::open;
+pub use program::{BoxProgram, Read, Summed};
+pub use searching::{search, timing_of};
 pub use site::SitePart;

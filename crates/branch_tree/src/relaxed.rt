@@ -5,11 +5,11 @@ ghost use Rattle.std.specs.Prelude.{IfOk};
 ghost use Rattle.branch_tree.specs.BoxRuns.{IsRoomFor};
 
 use crate::kept::Kept;
-use crate::opening::{OpenedBox, open};
+use crate::opening::open;
 use crate::site::SitePart;
 use crate::starting::start_leaf;
 use artery_model::Artery;
-use branch_and_bound::{Meter, Relaxation};
+use branch_and_bound::{Meter, Opened, Relaxation};
 use fraction_tableau::Tableau;
 use loop_rows::column_count;
 use named_row::{Leaf, Row};
@@ -73,9 +73,9 @@ impl<'a> Relaxation for Relaxed<'a> {
         room: &mut Room,
         area: &SearchBox,
         meter: &mut Meter,
-    ) -> Result<OpenedBox, Memory> {
+    ) -> Result<Opened<Timing, Kept, SitePart>, Memory> {
         reset(&mut room.tableau, self.artery, area, &mut room.row);
-        open(alloc, self.artery, room, area, meter)
+        open(alloc, self, &mut room.tableau, area, meter)
     }
 
     fn open_part(
@@ -85,10 +85,10 @@ impl<'a> Relaxation for Relaxed<'a> {
         kept: &Kept,
         area: &SearchBox,
         meter: &mut Meter,
-    ) -> Result<OpenedBox, Memory> {
+    ) -> Result<Opened<Timing, Kept, SitePart>, Memory> {
         let basis = kept.basis.as_slice();
         // false says that an operation left 128 bits, and then it is the opening tableau
         let _entered = enter(&mut room.tableau, self.artery, area, basis, &mut room.row);
-        open(alloc, self.artery, room, area, meter)
+        open(alloc, self, &mut room.tableau, area, meter)
     }
 }

@@ -18,7 +18,7 @@ use std::alloc::Global;
 use time_space::Timing;
 
 /// The timing without its value.
-fn timing_of(incumbent: Option<engine::Incumbent<Timing>>) -> Option<Timing>
+pub fn timing_of<T: Drop>(incumbent: Option<engine::Incumbent<T>>) -> Option<T>
     ensures { result ≡ plan_of incumbent }
 {
     match incumbent {

@@ -6,72 +6,24 @@ ghost use Rattle.std.specs.Prelude.{◌<◌, IfOk};
 ghost use Rattle.branch_tree.specs.Told.{IsCertifiable};
 
 use crate::{Found, Stop, TreeNode, Verdict, certificate_of, search};
-use artery_model::{Artery, Head, Link, Pair, Signal, Text, Units};
+use artery_model::Artery;
 use certificate_checker::check;
 use named_row::RowId;
 use narrow_fraction::Frac;
+use sample_streets::{SampleHead, plain_head, plain_link, plain_signal, sample_street};
 use std::alloc::Global;
 use std::rt::HostRuntime;
 use std::test::Fail;
 use time_space::value;
 
-/// A range of this number alone.
-pub(crate) fn pair_of(number: Frac) -> Pair {
-    Pair {
-        least: number,
-        most: number,
-    }
-}
-
-fn pair(number: i64) -> Pair {
-    pair_of(Frac::whole(number))
-}
-
-pub(crate) fn signal(alloc: Global, name: &str, red: u32) -> Result<Signal, Fail> {
-    Ok(Signal {
-        name: Text::new(alloc, name).ok().ok_or("no memory")?,
-        red,
-        left_out: 0,
-        left_in: 0,
-        patterns: [true, false, false, false],
-        clear_out: 0,
-        clear_in: 0,
-    })
-}
-
-/// What a description of version 1 says of the whole street.
-fn head() -> Head {
-    Head {
-        name: None,
-        units: Units::Metric,
-        version: 1,
-        parts: 100,
-        cycle: pair(100),
-        ratio: Frac::whole(1),
-        least_out: Frac::whole(0),
-        least_in: Frac::whole(0),
-        equal: false,
-    }
-}
-
 pub(crate) fn artery(alloc: Global, red: u32, distance: u32) -> Result<Artery, Fail> {
-    artery_of(alloc, head(), red, distance)
+    artery_of(alloc, plain_head(), red, distance)
 }
 
 /// The artery with this head.
-fn artery_of(alloc: Global, head: Head, red: u32, distance: u32) -> Result<Artery, Fail> {
-    let signals = vec![in alloc; signal(alloc, "A", red)?, signal(alloc, "B", red)?]?;
-    let links = vec![in alloc;
-        Link {
-            distance_out: distance,
-            distance_in: distance,
-            speed_out: pair(36),
-            speed_in: pair(36),
-            change_out: None,
-            change_in: None,
-        },
-    ]?;
-    match Artery::new(alloc, head, signals, links) {
+fn artery_of(alloc: Global, head: SampleHead, red: u32, distance: u32) -> Result<Artery, Fail> {
+    let signals = [plain_signal("A", red), plain_signal("B", red)];
+    match sample_street(alloc, head, &signals, &[plain_link(distance)]) {
         Ok(artery) => Ok(artery),
         Err(_) => Err("no artery".into()),
     }
@@ -157,11 +109,11 @@ fn equal_bands_are_best(rt: HostRuntime) -> Result<(), Fail> {
     let alloc = rt.alloc();
     let cases = [(1, fraction(1, 2)?), (2, fraction(3, 4)?)];
     for (ratio, best) in cases {
-        let asked = Head {
+        let asked = SampleHead {
             version: 2,
             ratio: Frac::whole(ratio),
             equal: true,
-            ..head()
+            ..plain_head()
         };
         let artery = artery_of(alloc, asked, 50, 250)?;
         let found = searched(alloc, &artery, 1000)?;
@@ -178,11 +130,11 @@ fn equal_bands_are_best(rt: HostRuntime) -> Result<(), Fail> {
 fn least_bands_leave_no_timing(rt: HostRuntime) -> Result<(), Fail> {
     let alloc = rt.alloc();
     let least = fraction(3, 10)?;
-    let asked = Head {
+    let asked = SampleHead {
         version: 2,
         least_out: least,
         least_in: least,
-        ..head()
+        ..plain_head()
     };
     let artery = artery_of(alloc, asked, 50, 250)?;
     let found = searched(alloc, &artery, 1000)?;

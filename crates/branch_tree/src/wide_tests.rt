@@ -7,11 +7,12 @@
 //! The four speeds and the cycle have five different prime numbers of thousandths. A common denominator of 2^80 or more has to
 //! have all five, since any four of them and the number of parts make less.
 
-use crate::tests::{fraction, is_accepted, is_first_waits, pair_of, searched, signal};
+use crate::tests::{fraction, is_accepted, is_first_waits, searched};
 use crate::{Found, Site, SitePart, Stop, Verdict};
-use artery_model::{Artery, Head, Link, Units};
+use artery_model::{Artery, Pair};
 use narrow_fraction::Frac;
 use offset_recovery::WideTiming;
+use sample_streets::{SampleHead, SampleLink, plain_head, plain_link, plain_signal, sample_street};
 use std::alloc::Global;
 use std::rt::HostRuntime;
 use std::test::Fail;
@@ -24,37 +25,35 @@ fn thousandths(number: u32) -> Result<Frac, Fail> {
     fraction(i128::from(number), 1000)
 }
 
-fn link(speed_out: u32, speed_in: u32) -> Result<Link, Fail> {
-    Ok(Link {
-        distance_out: 1387,
-        distance_in: 1387,
+/// A range of this number alone.
+fn pair_of(number: Frac) -> Pair {
+    Pair {
+        least: number,
+        most: number,
+    }
+}
+
+fn link(speed_out: u32, speed_in: u32) -> Result<SampleLink, Fail> {
+    Ok(SampleLink {
         speed_out: pair_of(thousandths(speed_out)?),
         speed_in: pair_of(thousandths(speed_in)?),
-        change_out: None,
-        change_in: None,
+        ..plain_link(1387)
     })
 }
 
 fn street(alloc: Global) -> Result<Artery, Fail> {
     let [first_out, first_in, second_out, second_in, cycle] = PRIMES;
-    let head = Head {
-        name: None,
-        units: Units::Metric,
-        version: 1,
-        parts: 100,
+    let head = SampleHead {
         cycle: pair_of(thousandths(cycle)?),
-        ratio: Frac::whole(1),
-        least_out: Frac::whole(0),
-        least_in: Frac::whole(0),
-        equal: false,
+        ..plain_head()
     };
-    let signals = vec![in alloc;
-        signal(alloc, "A", 60)?,
-        signal(alloc, "B", 60)?,
-        signal(alloc, "C", 60)?,
-    ]?;
-    let links = vec![in alloc; link(first_out, first_in)?, link(second_out, second_in)?]?;
-    match Artery::new(alloc, head, signals, links) {
+    let signals = [
+        plain_signal("A", 60),
+        plain_signal("B", 60),
+        plain_signal("C", 60),
+    ];
+    let links = [link(first_out, first_in)?, link(second_out, second_in)?];
+    match sample_street(alloc, head, &signals, &links) {
         Ok(artery) => Ok(artery),
         Err(_) => Err("no artery".into()),
     }

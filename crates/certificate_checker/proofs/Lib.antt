@@ -4,6 +4,7 @@ pub mod LeafRefusals
 pub mod ArteryLeaves
 pub mod NodeRefusals
 pub mod Acceptance
+pub mod LeafMeaning
 pub mod Meaning
 pub mod Firsts
 pub mod Fronts

@@ -1,6 +1,6 @@
 -- What an accepted certificate says of every good timing.
 use Rattle.std.proofs.Common.{◌⊎◌, inl, inr, arith, Option, None, Some, List, [], ◌∷◌, map, sym, subst}
-use Rattle.rational_theory.specs.Rational.{ℚ, ◌≤ℚ◌}
+use Rattle.rational_theory.specs.Rational.{ℚ}
 use Rattle.rational_theory.specs.Rows as maths
 use Rattle.rational_theory.specs.Rows.{IsMet}
 use Rattle.progression.specs.Street.{Street}
@@ -17,29 +17,48 @@ use Rattle.linear_theory.proofs.Roots.{root_law, shift_there}
 use Rattle.linear_theory.proofs.RootBoxes.{root_boxed, root_is}
 use Rattle.linear_theory.proofs.Splits.{loop_split}
 use Rattle.linear_theory.proofs.TurnSplits.{turn_split}
-use Rattle.linear_theory.proofs.PartBoxes.{low_loop_boxed, high_loop_boxed, low_turn_boxed, high_turn_boxed}
 use Rattle.loop_rows.specs.Weights.{named}
+use Rattle.named_row.specs.declared.leaves.Weight.{Weight}
 use Rattle.search_box.specs.Places.{IsPlace, low_part, high_part}
 use Rattle.search_box.specs.declared.span.At.{At}
 use Rattle.search_box.specs.declared.span.At.TheVariants.{Loop, Turn}
 use Rattle.plan_text.specs.declared.certificate.Claim.{Claim}
 use Rattle.plan_text.specs.declared.certificate.Claim.TheVariants.{Best, NoTiming, Stopped}
 use Rattle.plan_text.specs.Warrants.{Warrant, Node, SplitAt, LeafOf}
-use Rattle.certificate_checker.specs.Accepted.{IsTimed, Shows, AreProofs, IsAccepted, limit_of, value_of}
+use Rattle.certificate_checker.specs.TreeProofs.{ProveAll}
+use Rattle.certificate_checker.specs.Accepted.{IsTimed, Shows, IsProof, AreProofs, IsAccepted, limit_of, value_of}
+use Rattle.certificate_checker.specs.lemmas.Parts.{parts_boxed}
+use Rattle.certificate_checker.proofs.LeafMeaning.{IsWithin}
 use Rattle.certificate_checker.specs.Claims.{IsBest, ClaimHolds}
 
--- a value is at most the limit; where there is no limit, there is no value
-abbrev IsWithin : Option ℚ → ℚ → Type 0
-IsWithin None x = ⊥
-IsWithin (Some limit) x = x ≤ℚ limit
-
 -- a box of the artery that holds the timing, and one of several
-abbrev HoldsTiming : Street → Plan → Area → Type 0
+abbrev pub HoldsTiming : Street → Plan → Area → Type 0
 HoldsTiming a t box = IsBoxOf a box × InBox a box t
 
-abbrev InSome : Street → Plan → List Area → Type 0
+abbrev pub InSome : Street → Plan → List Area → Type 0
 InSome a t [] = ⊥
 InSome a t (box ∷ boxes) = HoldsTiming a t box ⊎ InSome a t boxes
+
+module _ (a : Street) (t : Plan) where
+  in_part : (box : Area) (at : At) → IsPlace box at → HoldsTiming a t box → InBox a (low_part box at) t ⊎ InBox a (high_part box at) t
+  in_part box (Loop i at) p k = loop_split a box t i at k.0 p k.1
+  in_part box (Turn i rank) p k = turn_split a box t i rank k.0 p k.1
+
+  -- a box that holds the timing has a part that does
+  part_holds : (box : Area) (at : At) → IsPlace box at → HoldsTiming a t box → HoldsTiming a t (low_part box at) ⊎ HoldsTiming a t (high_part box at)
+  part_holds box at p k = let boxed = parts_boxed a box at p k.0 in elim (in_part box at p k) [ inl m ↦ inl (boxed.0, m) | inr m ↦ inr (boxed.1, m) ]
+
+  -- what each leaf says of a timing that its box holds, the trees say of one that one of their boxes holds
+  module _ (P : Area → List Weight → Type 0) (Q : Type 0) (leaf : (box : Area) (ws : List Weight) → HoldsTiming a t box → P box ws → Q) where
+    pub trees_say : (boxes : List Area) (ns : List Node) → ProveAll P boxes ns → InSome a t boxes → Q
+    trees_say [] [] c k = absurd k
+    trees_say [] (n ∷ ns) c k = absurd k
+    trees_say (box ∷ boxes) [] c k = absurd c
+    trees_say (box ∷ boxes) (SplitAt at ∷ ns) c (inl k) =
+        trees_say (low_part box at ∷ high_part box at ∷ boxes) ns c.1 (elim (part_holds box at c.0 k) [ inl m ↦ inl m | inr m ↦ inr (inl m) ])
+    trees_say (box ∷ boxes) (SplitAt at ∷ ns) c (inr k) = trees_say (low_part box at ∷ high_part box at ∷ boxes) ns c.1 (inr (inr k))
+    trees_say (box ∷ boxes) (LeafOf ws ∷ ns) c (inl k) = leaf box ws k c.0
+    trees_say (box ∷ boxes) (LeafOf ws ∷ ns) c (inr k) = trees_say boxes ns c.1 k
 
 module _ (a : Street) (t : Plan) (h : IsStreet a) (g : Good a t) where
   sum_says : (limit : Option ℚ) (r : maths.Row) → IsMet (point a t) r → Shows a limit r → IsWithin limit (weighted_band a t)
@@ -47,35 +66,17 @@ module _ (a : Street) (t : Plan) (h : IsStreet a) (g : Good a t) where
   sum_says (Some limit) r m (inl s) = covers_law a t h g r limit m s
   sum_says (Some limit) r m (inr s) = absurd (refutes_law a t h g r m s)
 
-  -- a box that holds the timing has a part that does
-  part_holds : (box : Area) (at : At) → IsPlace box at → HoldsTiming a t box → HoldsTiming a t (low_part box at) ⊎ HoldsTiming a t (high_part box at)
-  part_holds box (Loop i at) p k = elim (loop_split a box t i at k.0 p k.1) [
-    | inl m ↦ inl (low_loop_boxed a box k.0 i at p, m)
-    | inr m ↦ inr (high_loop_boxed a box k.0 i at p, m)
-  ]
-  part_holds box (Turn i rank) p k = elim (turn_split a box t i rank k.0 p k.1) [
-    | inl m ↦ inl (low_turn_boxed a box k.0 i rank p, m)
-    | inr m ↦ inr (high_turn_boxed a box k.0 i rank p, m)
-  ]
-
-  -- the trees keep the weighted band of a timing that one of their boxes holds down to the limit
-  trees_say : (limit : Option ℚ) (boxes : List Area) (ns : List Node) → AreProofs a limit boxes ns → InSome a t boxes → IsWithin limit (weighted_band a t)
-  trees_say limit [] [] c k = absurd k
-  trees_say limit [] (n ∷ ns) c k = absurd k
-  trees_say limit (box ∷ boxes) [] c k = absurd c
-  trees_say limit (box ∷ boxes) (SplitAt at ∷ ns) c (inl k) =
-      trees_say limit (low_part box at ∷ high_part box at ∷ boxes) ns c.1 (elim (part_holds box at c.0 k) [ inl m ↦ inl m | inr m ↦ inr (inl m) ])
-  trees_say limit (box ∷ boxes) (SplitAt at ∷ ns) c (inr k) = trees_say limit (low_part box at ∷ high_part box at ∷ boxes) ns c.1 (inr (inr k))
-  trees_say limit (box ∷ boxes) (LeafOf ws ∷ ns) c (inl k) =
+  leaf_says : (limit : Option ℚ) (box : Area) (ws : List Weight) → HoldsTiming a t box → IsProof a limit box ws → IsWithin limit (weighted_band a t)
+  leaf_says limit box ws k c =
       sum_says limit (leaf_sum a box (map named ws))
-      (leaf_met a box t (record { street = h; good = g; boxed = k.0; inside = k.1 }) (map named ws) c.0.rows) c.0.shows
-  trees_say limit (box ∷ boxes) (LeafOf ws ∷ ns) c (inr k) = trees_say limit boxes ns c.1 k
+      (leaf_met a box t (record { street = h; good = g; boxed = k.0; inside = k.1 }) (map named ws) c.rows) c.shows
 
   -- the root box holds each good timing
   root_says : (limit : Option ℚ) (ns : List Node) → AreProofs a limit (root_box a ∷ []) ns → IsWithin limit (weighted_band a t)
   root_says limit ns c =
       let root = root_is a (omega (arith, h.signals)) in
-      trees_say limit (root_box a ∷ []) ns c (inl (root_boxed a (root_box a) (shift_there a t h g) root, root_law a t h g (root_box a) root))
+      trees_say a t (IsProof a limit) (IsWithin limit (weighted_band a t)) (leaf_says limit) (root_box a ∷ []) ns c
+      (inl (root_boxed a (root_box a) (shift_there a t h g) root, root_law a t h g (root_box a) root))
 
 best_timed : (a : Street) (value : ℚ) (timing : Option Plan) → Bounded a value → IsTimed a timing (Some value) → IsBest a timing value
 best_timed a value None b h = h

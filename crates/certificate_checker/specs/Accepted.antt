@@ -30,12 +30,16 @@ limit_of (Best value) = Some value
 limit_of NoTiming = None
 limit_of (Stopped bound value) = Some bound
 
--- a timing stands exactly where a value does, is good, and has the value
+-- a timing stands exactly where a value does, is good, and has the value: for any kind of timing, whatever is good of that kind and what it is worth
+abbrev pub IsTimedBy : {T : Type 0} → (T → Type 0) → (T → ℚ) → Option T → Option ℚ → Type 0
+IsTimedBy good worth None None = Unit {0}
+IsTimedBy good worth None (Some value) = ⊥
+IsTimedBy good worth (Some t) None = ⊥
+IsTimedBy good worth (Some t) (Some value) = good t × (worth t ≡ value)
+
+-- of an artery
 abbrev pub IsTimed : Street → Option Plan → Option ℚ → Type 0
-IsTimed a None None = Unit {0}
-IsTimed a None (Some value) = ⊥
-IsTimed a (Some t) None = ⊥
-IsTimed a (Some t) (Some value) = Good a t × (weighted_band a t ≡ value)
+IsTimed a = IsTimedBy (Good a) (weighted_band a)
 
 -- a claimed bound is not less than a claimed value
 abbrev pub IsBoundAbove : Claim → Type 0

@@ -1,8 +1,10 @@
 pub mod TreeProofs
 pub mod TreeRefusals
 pub mod Accepted
+pub mod ClaimRefusals
 pub mod Refusals
 pub mod Claims
 pub mod Laws
 pub mod ProofTrees
 pub mod Owed
+pub mod lemmas

@@ -1,22 +1,22 @@
 -- The first refusal of a certificate: the timing is looked at first, then its value, the bound, and the nodes in their order.
-use Rattle.std.specs.Prelude.{◌≡◌, ◌⊎◌, ℕ, not, List, [], ◌∷◌, Option, None, Some, option_map}
-use Rattle.std.specs.Ordering.{is_lt, eq_by_cmp}
+use Rattle.std.specs.Prelude.{◌≡◌, ◌⊎◌, ℕ, List, [], ◌∷◌, Option, Some, option_map}
 use Rattle.rational_theory.specs.Rational.{ℚ}
-use Rattle.rational_theory.specs.Compare.{cmp_ℚ}
 use Rattle.progression.specs.Street.{Street}
 use Rattle.progression.specs.Plan.{Plan}
 use Rattle.progression.specs.Good.{Good}
 use Rattle.progression.specs.Best.{weighted_band}
 use Rattle.linear_theory.specs.Boxes.{Area, root_box}
 use Rattle.linear_theory.specs.Rows.{goal_form}
-use Rattle.narrow_fraction.specs.Attempt.{refusal_if, earlier}
+use Rattle.narrow_fraction.specs.Attempt.{earlier}
 use Rattle.loop_rows.specs.Writing.{written}
 use Rattle.loop_rows.specs.Weights.{artery_rows}
 use Rattle.time_space.specs.FirstFailing.{IsFirstFailing}
 use Rattle.plan_text.specs.declared.certificate.Claim.{Claim}
-use Rattle.plan_text.specs.declared.certificate.Claim.TheVariants.{Best, NoTiming, Stopped}
 use Rattle.plan_text.specs.Warrants.{Warrant, Node}
-use Rattle.certificate_checker.specs.Accepted.{value_of, limit_of}
+use Rattle.certificate_checker.specs.Accepted.{limit_of}
+use Rattle.certificate_checker.specs.ClaimRefusals.{IfThere, claim_refusal}
+use Rattle.certificate_checker.specs.declared.reject.ClaimReject.{ClaimReject}
+use Rattle.certificate_checker.specs.declared.reject.ClaimReject.TheVariants as claim
 use Rattle.certificate_checker.specs.TreeRefusals.{tree_refusal}
 use Rattle.certificate_checker.specs.declared.leaves.Aim.{Aim}
 use Rattle.certificate_checker.specs.declared.reject.TreeReject.{TreeReject}
@@ -25,18 +25,14 @@ use Rattle.certificate_checker.specs.declared.reject.Reject.{Reject}
 use Rattle.certificate_checker.specs.declared.reject.Reject.TheVariants.{TimingFails, ValueDiffers, BoundBelow, SplitOutside, NoSuchRow, Negative, Wide, LeafTooWeak, Memory}
 
 -- ---- the claim
--- the timing has another value
-abbrev pub value_refusal : Street → Option Plan → Option ℚ → Option Reject
-value_refusal a (Some t) (Some claimed) = refusal_if (not (eq_by_cmp cmp_ℚ (weighted_band a t) claimed)) (ValueDiffers (weighted_band a t) claimed)
-value_refusal a (Some t) None = None
-value_refusal a None value = None
+-- a refusal of a claim as one of a certificate
+abbrev pub reject_claim : ClaimReject → Reject
+reject_claim (claim.ValueDiffers kept claimed) = ValueDiffers kept claimed
+reject_claim (claim.BoundBelow bound value) = BoundBelow bound value
 
--- the bound is less than the value
-abbrev pub bound_refusal : Claim → Option Reject
-bound_refusal (Stopped bound (Some value)) = refusal_if (is_lt (cmp_ℚ bound value)) (BoundBelow bound value)
-bound_refusal (Stopped bound None) = None
-bound_refusal (Best value) = None
-bound_refusal NoTiming = None
+-- the timing has another value, or the bound is less than the value
+abbrev pub numbers_refusal : Street → Claim → Option Plan → Option Reject
+numbers_refusal a c timing = option_map reject_claim (claim_refusal (option_map (weighted_band a) timing) c)
 
 -- ---- nodes
 -- what each leaf is to show: that its box has no timing, or that no weighted band is above the limit
@@ -60,13 +56,11 @@ nodes_refusal a limit nodes leaves boxes ns = option_map reject_from (tree_refus
 -- the first refusal of a certificate whose timing, if it has one, is good
 abbrev pub refusal_of : Street → Warrant → Option Reject
 refusal_of a c =
-    earlier (value_refusal a c.timing (value_of c.claim))
-    (earlier (bound_refusal c.claim) (nodes_refusal a (limit_of c.claim) 0 0 (root_box a ∷ []) c.nodes))
+    earlier (numbers_refusal a c.claim c.timing) (nodes_refusal a (limit_of c.claim) 0 0 (root_box a ∷ []) c.nodes)
 
 -- the timing, if there is one, is good
 abbrev pub IsGoodIfThere : Street → Option Plan → Type 0
-IsGoodIfThere a None = Unit {0}
-IsGoodIfThere a (Some t) = Good a t
+IsGoodIfThere a = IfThere (Good a)
 
 -- the timing breaks this rule first
 abbrev pub FailsFirst : Street → Option Plan → Reject → Type 0

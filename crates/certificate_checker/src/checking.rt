@@ -11,7 +11,7 @@ ghost use Rattle.plan_text.specs.Warrants.{node_of, AreTrees};
 ghost use Rattle.certificate_checker.specs.Refusals.{nodes_refusal, IsFirst, IsFirstRefusal};
 ghost use Rattle.certificate_checker.specs.Claims.{ClaimHolds};
 
-use crate::claims::{check_bound, check_timing, check_value, limit_of, value_of};
+use crate::claims::{check_numbers, check_timing, limit_of};
 use crate::leaves::Aim;
 use crate::reject::Reject;
 use crate::rows::ArteryRows;
@@ -57,8 +57,7 @@ pub fn check(alloc: Global, artery: &Artery, certificate: &Certificate) -> Resul
     ensures first { IfErr result (λ reject. IsFirstRefusal artery.now certificate.now reject) }
 {
     check_timing(artery, &certificate.timing)?;
-    check_value(artery, &certificate.timing, value_of(&certificate.claim))?;
-    check_bound(&certificate.claim)?;
+    check_numbers(artery, &certificate.claim, &certificate.timing)?;
     let aim = Aim {
         goal: goal_row(alloc, artery)?,
         limit: limit_of(&certificate.claim),

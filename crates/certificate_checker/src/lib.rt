@@ -5,7 +5,8 @@
 //! refusal (`specs/Refusals.antt`). Where it answers Ok, what is claimed holds of the artery (`specs/Claims.antt`), on
 //! any grid. It uses no tableau and no search, and nothing calls itself: the nodes are read one after another, with the
 //! next box that wants a tree and, for each split on the way down to it, the span that was there before. `check_tree` does
-//! that over any rows (`TreeRows`), for any goal and limit (`specs/TreeProofs.antt`, `specs/TreeRefusals.antt`).
+//! that over any rows (`TreeRows`), for any goal and limit (`specs/TreeProofs.antt`, `specs/TreeRefusals.antt`), and `check_claim` looks
+//! at the numbers of a claim for a timing of any kind (`specs/ClaimRefusals.antt`).
 #![tactic(auto)]
 
 mod checking;
@@ -21,9 +22,9 @@ mod walk;
 mod way;
 
 pub use checking::check;
-pub use claims::limit_of;
+pub use claims::{check_claim, limit_of};
 pub use laws::{law_accepted_or_refused, law_proofs_are_trees};
 pub use leaves::Aim;
-pub use reject::{Reject, TreeReject};
+pub use reject::{ClaimReject, Reject, TreeReject};
 pub use rows::{ArteryRows, TreeRows};
 pub use walk::check_tree;

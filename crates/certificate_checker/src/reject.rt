@@ -31,6 +31,28 @@ pub enum Reject {
     Memory,
 }
 
+/// Why the numbers of a claim are refused. They mean the same as in `Reject`.
+#[derive(Clone, Copy, Debug, PartialEq, Eq)]
+pub enum ClaimReject {
+    /// The timing's value is `kept` and not what is claimed.
+    ValueDiffers { kept: Frac, claimed: Frac },
+    /// The claimed bound is less than the claimed value.
+    BoundBelow { bound: Frac, value: Frac },
+}
+
+impl From<ClaimReject> for Reject {
+    ghost use Rattle.certificate_checker.specs.Refusals.{reject_claim};
+
+    ghost from_gives = { λ refused reject. reject ≡ reject_claim refused };
+
+    fn from(refused: ClaimReject) -> Reject {
+        match refused {
+            ClaimReject::ValueDiffers { kept, claimed } => Reject::ValueDiffers { kept, claimed },
+            ClaimReject::BoundBelow { bound, value } => Reject::BoundBelow { bound, value },
+        }
+    }
+}
+
 /// Why a tree is refused: a node or leaf of it. They are counted as in `Reject`, whose own refusals mean the same.
 #[derive(Clone, Copy, Debug, PartialEq, Eq)]
 pub enum TreeReject {

@@ -5,8 +5,7 @@ ghost use Rattle.linear_theory.specs.Boxes.{Area, IsBoxOf};
 ghost use Rattle.loop_rows.specs.Weights.{Source, artery_rows, total_of, fault_of, IsFirstFault};
 ghost use Rattle.search_box.specs.Places.{IsPlace, low_part, high_part};
 ghost use Rattle.search_box.specs.declared.span.At.{At};
-ghost use Rattle.search_box.specs.declared.span.At.TheVariants.{Loop, Turn};
-ghost use Rattle.linear_theory.proofs.PartBoxes.{low_loop_boxed, high_loop_boxed, low_turn_boxed, high_turn_boxed};
+ghost use Rattle.certificate_checker.specs.lemmas.Parts.{parts_boxed};
 
 use artery_model::Artery;
 use loop_rows::{BoxRows, SumFault, sum_of};
@@ -46,10 +45,7 @@ impl<'a> TreeRows for ArteryRows<'a> {
 
     ghost Ready = { λ source. IsBoxOf source.artery.now };
 
-    ghost parts = { λ source box. elim [
-      | Loop i at ↦ λ p b. (low_loop_boxed source.artery.now box b i at p, high_loop_boxed source.artery.now box b i at p)
-      | Turn i rank ↦ λ p b. (low_turn_boxed source.artery.now box b i rank p, high_turn_boxed source.artery.now box b i rank p)
-    ] };
+    ghost parts = { λ source box at. parts_boxed source.artery.now box at };
 
     fn sum(&self, alloc: Global, area: &SearchBox, leaf: &Leaf) -> Result<Row, SumFault> {
         let artery = self.artery;

@@ -12,7 +12,7 @@ use loop_rows::column_count;
 use named_row::{Leaf, Place, Row, RowId, WideAt};
 use narrow_fraction::{Frac, Op, Wide};
 use plan_text::{CertNode, read_certificate};
-use sample_streets::{SampleHead, plain_head, plain_link, plain_signal, two_signals};
+use sample_streets::{SampleHead, plain_head, plain_link, plain_signal, sample_street};
 use search_box::SearchBox;
 use std::alloc::Global;
 use std::rt::HostRuntime;
@@ -75,9 +75,8 @@ struct Case {
 }
 
 fn artery(alloc: Global, red: u32, distance: u32) -> Result<Artery, Fail> {
-    let first = plain_signal("A", red);
-    let second = plain_signal("B", red);
-    match two_signals(alloc, plain_head(), first, second, plain_link(distance)) {
+    let signals = [plain_signal("A", red), plain_signal("B", red)];
+    match sample_street(alloc, plain_head(), &signals, &[plain_link(distance)]) {
         Ok(artery) => Ok(artery),
         Err(_) => Err("no artery".into()),
     }
@@ -105,9 +104,8 @@ fn with_least(alloc: Global, tenths: i128) -> Result<Artery, Fail> {
         least_in: share,
         ..plain_head()
     };
-    let first = plain_signal("A", 50);
-    let second = plain_signal("B", 50);
-    match two_signals(alloc, head, first, second, plain_link(250)) {
+    let signals = [plain_signal("A", 50), plain_signal("B", 50)];
+    match sample_street(alloc, head, &signals, &[plain_link(250)]) {
         Ok(artery) => Ok(artery),
         Err(_) => Err("no artery".into()),
     }

@@ -10,7 +10,7 @@ ghost use Rattle.work_meter.specs.Work.{IsBelow};
 use crate::{is_cycle, sweep_rows, sweep_table};
 use artery_model::Artery;
 use narrow_fraction::Frac;
-use sample_streets::{SampleHead, plain_head, plain_link, plain_signal, range, two_signals};
+use sample_streets::{SampleHead, plain_head, plain_link, plain_signal, range, sample_street};
 use std::alloc::Global;
 use std::test::Fail;
 
@@ -74,13 +74,8 @@ fn street(alloc: Global, red: u32) -> Result<Artery, Fail> {
         cycle: range(50, 100),
         ..plain_head()
     };
-    match two_signals(
-        alloc,
-        head,
-        plain_signal("A", red),
-        plain_signal("B", red),
-        plain_link(250),
-    ) {
+    let signals = [plain_signal("A", red), plain_signal("B", red)];
+    match sample_street(alloc, head, &signals, &[plain_link(250)]) {
         Ok(artery) => Ok(artery),
         Err(_) => Err("no artery".into()),
     }

@@ -17,7 +17,7 @@ mod stopped;
 pub use chart::diagram;
 pub use lines::report;
 pub use measures::{band_line, dir_name, quotient_line, quotient_text, weighted_line};
-pub use names::{column_text, place_text, row_text};
+pub use names::{column_text, place_text, row_text, row_text_in};
 pub use offsets::signal_name;
 
 #[cfg(test)]

@@ -1,10 +1,11 @@
 //! The names of rows and columns, as they are printed.
 
 ghost use Rattle.std.specs.Prelude.{◌≡◌, ◌<◌, ◌^◌, IfOk, string_bytes};
-ghost use Rattle.diagram_print.specs.Names.{row_text, numbered, column_text, place_text};
+ghost use Rattle.plan_text.specs.Families.{table_of};
+ghost use Rattle.diagram_print.specs.Names.{row_text, row_text_in, numbered, column_text, place_text};
 
 use named_row::{Place, RowId};
-use plan_text::{family_name, is_lone};
+use plan_text::{FAMILIES, FamilyName, family_name_in, is_lone_in};
 use std::alloc::{AllocError, Global};
 
 /// A name with a number.
@@ -14,22 +15,31 @@ fn numbered(alloc: Global, name: &str, number: u64) -> Result<String, AllocError
     format!(in alloc; "{name} {number}")
 }
 
-/// A row's name, as certificates spell it: that of its family, and the row's index where the family has several
-/// rows. The error is want of memory.
-pub fn row_text(alloc: Global, row: RowId) -> Result<String, AllocError>
-    ensures { IfOk result (λ text. string_bytes text ≡ row_text row) }
+/// A row's name, as certificates over this table of families spell it: that of its family, and the row's index where the
+/// family has several rows. The error is want of memory.
+pub fn row_text_in(alloc: Global, names: &[FamilyName], row: RowId) -> Result<String, AllocError>
+    ensures { IfOk result (λ text. string_bytes text ≡ row_text_in (table_of names.now) row) }
 {
-    let family = family_name(row.family);
-    if is_lone(row.family) {
+    let family = family_name_in(names, row.family);
+    if is_lone_in(names, row.family) {
         String::from_str(alloc, family)
     } else {
         numbered(alloc, family, u64::from(row.index))
     }
 }
 
+/// A row's name, as ordinary certificates spell it. The error is want of memory.
+#[tactic(auto, unfolding(plan_text::specs::Families::ordinary))]
+pub fn row_text(alloc: Global, row: RowId) -> Result<String, AllocError>
+    ensures { IfOk result (λ text. string_bytes text ≡ row_text row) }
+{
+    row_text_in(alloc, &FAMILIES, row)
+}
+
 /// The name of the column with this number among those of so many signals.
 fn column_at(alloc: Global, signals: u64, column: u64) -> Result<String, AllocError>
-    requires { signals < 2 ^ 32 }
+    requires small { signals < 2 ^ 32 }
+    requires few { column < 2 ^ 32 }
     ensures { IfOk result (λ text. string_bytes text ≡ column_text signals column) }
 {
     if column == 0 {
@@ -48,14 +58,18 @@ fn column_at(alloc: Global, signals: u64, column: u64) -> Result<String, AllocEr
         numbered(alloc, "y_in", column - (1 + 3 * signals))
     } else if column <= 5 * signals {
         numbered(alloc, "s", column - 4 * signals)
+    } else if column < 6 * signals {
+        numbered(alloc, "h_out", column - 5 * signals)
+    } else if column + 1 < 7 * signals {
+        numbered(alloc, "h_in", column + 1 - 6 * signals)
     } else {
         Ok(String::new(alloc))
     }
 }
 
 /// The name of the column with this number, from 0, on an artery with so many signals: `b_out`, `b_in`, `z`, or `w_out`,
-/// `w_in`, `y_out`, `y_in` or `s` with the number of its signal or link. A column past the last has an empty name. The error
-/// is want of memory.
+/// `w_in`, `y_out`, `y_in`, `s`, `h_out` or `h_in` with the number of its signal or link. The last two are halves of the bands of
+/// links, which only certificates of links have. A column past the last has an empty name. The error is want of memory.
 pub fn column_text(alloc: Global, signals: u32, column: u32) -> Result<String, AllocError>
     ensures { IfOk result (λ text. string_bytes text ≡ column_text signals column) }
 {

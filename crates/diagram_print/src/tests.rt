@@ -5,13 +5,17 @@ ghost use Rattle.progression.specs.Good.{Good};
 ghost use Rattle.linear_theory.specs.Boxes.{IsBoxOf};
 ghost use Rattle.branch_tree.specs.Searches.{IsPartOf};
 
-use crate::{column_text, diagram, place_text, report, row_text};
-use artery_model::{Artery, Head, Link, Pair, Signal, Text, Units};
+use crate::{column_text, diagram, place_text, report, row_text, row_text_in};
+use artery_model::{Artery, Units};
 use branch_tree::{Found, Site, SitePart, Stop, Verdict};
 use fraction_tableau::WideCell;
 use named_row::{Place, RowId, WideAt};
 use narrow_fraction::{Frac, Op, Wide};
 use offset_recovery::WideTiming;
+use plan_text::FamilyName;
+use sample_streets::{
+    SampleHead, SampleLink, plain_head, plain_link, plain_signal, range, sample_street,
+};
 use search_box::SearchBox;
 use std::alloc::Global;
 use std::test::Fail;
@@ -144,56 +148,30 @@ diagram
 1 in ###########################<<<<<<<=======================###
 ";
 
-fn pair(limits: [i64; 2]) -> Pair {
-    Pair {
-        least: Frac::whole(limits[0]),
-        most: Frac::whole(limits[1]),
-    }
-}
-
 fn fraction(num: i128, den: i128) -> Result<Frac, Fail> {
     Ok(Frac::new(num, den).ok().ok_or("no fraction")?)
 }
 
-fn signal(alloc: Global, name: &str, red: u32) -> Result<Signal, Fail> {
-    Ok(Signal {
-        name: Text::new(alloc, name).ok().ok_or("no memory")?,
-        red,
-        left_out: 0,
-        left_in: 0,
-        patterns: [true, false, false, false],
-        clear_out: 0,
-        clear_in: 0,
-    })
-}
-
 fn artery(alloc: Global, street: Street) -> Result<Artery, Fail> {
-    let head = Head {
-        name: None,
+    let head = SampleHead {
         units: street.units,
         parts: street.parts,
-        cycle: pair([street.cycle, street.cycle]),
-        ratio: Frac::whole(1),
-        version: 1,
-        least_out: Frac::whole(0),
-        least_in: Frac::whole(0),
-        equal: false,
+        cycle: range(street.cycle, street.cycle),
+        ..plain_head()
     };
-    let signals = vec![in alloc;
-        signal(alloc, street.names[0], street.red)?,
-        signal(alloc, street.names[1], street.red)?,
-    ]?;
-    let links = vec![in alloc;
-        Link {
-            distance_out: street.distances[0],
-            distance_in: street.distances[1],
-            speed_out: pair(street.speeds),
-            speed_in: pair(street.speeds),
-            change_out: None,
-            change_in: None,
-        },
-    ]?;
-    match Artery::new(alloc, head, signals, links) {
+    let signals = [
+        plain_signal(street.names[0], street.red),
+        plain_signal(street.names[1], street.red),
+    ];
+    let speed_out = range(street.speeds[0], street.speeds[1]);
+    let speed_in = range(street.speeds[0], street.speeds[1]);
+    let link = SampleLink {
+        distance_in: street.distances[1],
+        speed_out,
+        speed_in,
+        ..plain_link(street.distances[0])
+    };
+    match sample_street(alloc, head, &signals, &[link]) {
         Ok(artery) => Ok(artery),
         Err(_) => Err("no artery".into()),
     }
@@ -425,7 +403,9 @@ fn names_of_rows_and_places(rt: HostRuntime) -> Result<(), Fail> {
         (8, "y_in 1"),
         (9, "s 1"),
         (10, "s 2"),
-        (11, ""),
+        (11, "h_out 1"),
+        (12, "h_in 1"),
+        (13, ""),
     ];
     for (number, name) in columns {
         assert_eq!(rt; column_text(alloc, 2, number)?.as_str(), name);
@@ -442,6 +422,28 @@ fn names_of_rows_and_places(rt: HostRuntime) -> Result<(), Fail> {
     ];
     for (family, index, name) in rows {
         assert_eq!(rt; row_text(alloc, RowId { family, index })?.as_str(), name);
+    }
+    Ok(())
+}
+
+#[test]
+fn names_of_rows_over_a_table(rt: HostRuntime) -> Result<(), Fail> {
+    let alloc = rt.alloc();
+    let table = [
+        FamilyName {
+            text: "alone",
+            is_lone: true,
+        },
+        FamilyName {
+            text: "several",
+            is_lone: false,
+        },
+    ];
+    for (family, index, name) in [(1, 0, "alone"), (2, 7, "several 7")] {
+        assert_eq!(rt;
+            row_text_in(alloc, &table, RowId { family, index })?.as_str(),
+            name
+        );
     }
     Ok(())
 }

@@ -3,7 +3,9 @@
 use crate::{HalfEnd, HalfFault, half, half_of};
 use artery_model::Artery;
 use progression::Dir;
-use sample_streets::{SampleLink, SampleSignal, plain_head, plain_link, plain_signal, two_signals};
+use sample_streets::{
+    SampleLink, SampleSignal, plain_head, plain_link, plain_signal, sample_street,
+};
 use std::alloc::Global;
 use std::test::Fail;
 use time_space::{Failing, Timing};
@@ -38,7 +40,8 @@ enum Outcome {
 
 fn artery(alloc: Global, street: Street) -> Result<Artery, Fail> {
     let other = SampleSignal {
-        left: street.left,
+        left_out: street.left,
+        left_in: street.left,
         patterns: street.patterns,
         clear_out: street.clear_out,
         ..plain_signal("B", street.other_red)
@@ -47,13 +50,8 @@ fn artery(alloc: Global, street: Street) -> Result<Artery, Fail> {
         distance_in: street.distances[1],
         ..plain_link(street.distances[0])
     };
-    match two_signals(
-        alloc,
-        plain_head(),
-        plain_signal("A", street.red),
-        other,
-        link,
-    ) {
+    let signals = [plain_signal("A", street.red), other];
+    match sample_street(alloc, plain_head(), &signals, &[link]) {
         Ok(artery) => Ok(artery),
         Err(_) => Err("no artery".into()),
     }

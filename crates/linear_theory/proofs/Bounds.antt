@@ -13,9 +13,10 @@ use Rattle.progression.specs.Plan.{Plan, cycle}
 use Rattle.progression.specs.Good.{Good}
 use Rattle.progression.specs.Best.{weighted_band}
 use Rattle.progression.specs.Columns.{Column, columns, ticks, point}
+use Rattle.linear_theory.specs.Places.{width}
 use Rattle.linear_theory.specs.Rows.{line, goal_form}
 use Rattle.linear_theory.specs.Counts.{IsStreet}
-use Rattle.linear_theory.specs.Covering.{coef, CoversGoal, RefutesAll}
+use Rattle.linear_theory.specs.Covering.{coef, CoversColumns, RefutesColumns, CoversGoal, RefutesAll}
 use Rattle.linear_theory.proofs.Points.{share, point_width}
 use Rattle.linear_theory.proofs.SparseSums.{line_value}
 use Rattle.linear_theory.proofs.Shares.{share_not_negative}
@@ -39,6 +40,17 @@ dot_grows [] (g ∷ gs) (y ∷ x) h p =
 dot_grows (c ∷ cs) (g ∷ gs) (y ∷ x) h p =
     ≤ℚ-sum _ _ _ _ (≤ℚ-*ℚ g c y (h 0 (omega arith)) p.0) (dot_grows cs gs x (λ j l. h (suc j) (omega arith)) p.1)
 
+-- ---- rows of any columns, at a point of at least 0 in each
+module _ (width : ℕ) (x : List ℚ) (w : length x ≡ width) (p : AllNonNegative x) where
+  -- a row that covers a goal bounds it where it is met
+  pub covered : (goal : List ℚ) (value : ℚ) (r : maths.Row) → IsMet x r → CoversColumns width goal value r → dot goal x ≤ℚ value
+  covered goal value r m c =
+      ≤ℚ_trans _ _ _ (dot_grows r.coefs goal x (λ j l. c.coefs j (omega arith)) p) (≤ℚ_trans _ _ _ m.met c.bound)
+
+  -- a row that refutes is not met
+  pub refuted : (r : maths.Row) → IsMet x r → RefutesColumns width r → ⊥
+  refuted r m c = <ℚ_not-≤ℚ _ _ c.bound (≤ℚ_trans _ _ _ (dot_grows r.coefs [] x (λ j l. c.coefs j (omega arith)) p) m.met)
+
 -- ---- the point of a timing
 shares_not_negative : (a : Street) (t : Plan) → ((k : ℕ) → number 0 ≤ℚ share a t k) → (cs : List Column) → AllNonNegative (map (λ c. share a t (ticks a t c)) cs)
 shares_not_negative a t h [] = tt
@@ -59,13 +71,9 @@ module _ (a : Street) (t : Plan) (h : IsStreet a) (g : Good a t) where
   -- a row that covers the goal bounds the weighted band
   pub covers_law : (r : maths.Row) (value : ℚ) → IsMet (point a t) r → CoversGoal a value r → weighted_band a t ≤ℚ value
   covers_law r value m c =
-      let w = point_width a t (some_signal a h) in
-      ≤ℚ_trans _ _ _
-      (subst (λ z. z ≤ℚ dot r.coefs (point a t)) goal_value (dot_grows r.coefs (line a (goal_form a)).coefs (point a t) (λ j l. c.coefs j (omega arith)) point_not_negative))
-      (≤ℚ_trans _ _ _ m.met c.bound)
+      subst (λ z. z ≤ℚ value) goal_value
+      (covered (width (count a)) (point a t) (point_width a t (some_signal a h)) point_not_negative (line a (goal_form a)).coefs value r m c)
 
   -- no good timing meets a row that refutes
   pub refutes_law : (r : maths.Row) → IsMet (point a t) r → RefutesAll a r → ⊥
-  refutes_law r m c =
-      let w = point_width a t (some_signal a h) in
-      <ℚ_not-≤ℚ _ _ c.bound (≤ℚ_trans _ _ _ (dot_grows r.coefs [] (point a t) (λ j l. c.coefs j (omega arith)) point_not_negative) m.met)
+  refutes_law r m c = refuted (width (count a)) (point a t) (point_width a t (some_signal a h)) point_not_negative r m c

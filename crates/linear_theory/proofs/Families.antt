@@ -3,7 +3,7 @@ use Rattle.std.proofs.Common.{◌≡◌, ℕ, ◌+◌, ◌<◌, ◌≤◌, ◌�
 use Rattle.std.proofs.lemmas.Bool.{eqb-true}
 use Rattle.std.specs.Prelude.{◌==◌, ◌||◌}
 use Rattle.progression.specs.Street.{Street, count}
-use Rattle.linear_theory.specs.Names.{Name, Family, families, last_family, row_among, name_of, lone_among, is_lone, Seat, AtSignal, AtLink, AtChange, ByItself, AtRatio, AtLeast, AtEqual, Nowhere, HasSeat, rule_of, HasRow}
+use Rattle.linear_theory.specs.Names.{Name, NoRow, FamilyOf, Family, families, last_family, row_among, name_of, lone_among, is_lone, Seat, AtSignal, AtLink, AtChange, ByItself, AtRatio, AtLeast, AtEqual, Nowhere, HasSeat, rule_of, HasRow}
 
 -- ---- numbers
 record IsWithin (n m g : ℕ) : Type 0 where
@@ -14,10 +14,10 @@ within_first : (a : Street) (n m g : ℕ) (x y : Name) (b : Bool) → (g == n) �
 within_first a n m g x y true e l more h = let q = eqb-true g n e in record { least = omega arith; below = omega arith }
 within_first a n m g x y false e l more h = let w = more h in let p = w.least in record { least = omega arith; below = w.below }
 
-within : (a : Street) (n m : ℕ) (fs : List Family) (g i : ℕ) → m ≡ n + length fs → HasRow a (row_among n fs g i) → IsWithin n m g
+within : (a : Street) (n m : ℕ) (fs : List Family) (g i : ℕ) → m ≡ n + length fs → HasRow a (row_among NoRow n fs g i) → IsWithin n m g
 within a n m [] g i e h = absurd h
 within a n m (f ∷ fs) g i e h =
-    within_first a n m g (f.row i) (row_among (n + 1) fs g i) (g == n) refl (omega (arith, e)) (within a (n + 1) m fs g i (omega (arith, e))) h
+    within_first a n m g (f.row i) (row_among NoRow (n + 1) fs g i) (g == n) refl (omega (arith, e)) (within a (n + 1) m fs g i (omega (arith, e))) h
 
 pub family_least : (a : Street) (g i : ℕ) → HasRow a (name_of g i) → 1 ≤ g
 family_least a g i h = (within a 1 (1 + last_family) families g i refl h).least
@@ -106,9 +106,9 @@ index_step a n fs f g i y true e p more h =
     subst (λ l. IsIndex a l i) (sym (lone_here f.lone true (lone_among (n + 1) fs g) refl (lone_below (n + 1) fs g (omega arith)))) (seat_index a f.lone (rule_of (f.row i)).seat i p h)
 index_step a n fs f g i y false e p more h = subst (λ l. IsIndex a l i) (sym (lone_step f.lone false (lone_among (n + 1) fs g) refl)) (more h)
 
-index_among : (a : Street) (n : ℕ) (fs : List Family) (g i : ℕ) → AllFit fs i → HasRow a (row_among n fs g i) → IsIndex a (lone_among n fs g) i
+index_among : (a : Street) (n : ℕ) (fs : List Family) (g i : ℕ) → AllFit fs i → HasRow a (row_among NoRow n fs g i) → IsIndex a (lone_among n fs g) i
 index_among a n [] g i e h = absurd h
-index_among a n (f ∷ fs) g i e h = index_step a n fs f g i (row_among (n + 1) fs g i) (g == n) refl e.0 (index_among a (n + 1) fs g i e.1) h
+index_among a n (f ∷ fs) g i e h = index_step a n fs f g i (row_among NoRow (n + 1) fs g i) (g == n) refl e.0 (index_among a (n + 1) fs g i e.1) h
 
 -- the index of a row of the artery
 pub row_index : (a : Street) (g i : ℕ) → HasRow a (name_of g i) → IsIndex a (is_lone g) i

@@ -18,6 +18,7 @@ pub mod Ranges
 pub mod Roots
 pub mod RowNumbers
 pub mod SparseSums
+pub mod PlacedRows
 pub mod TurnSplits
 pub mod Places
 pub mod Shares

@@ -27,7 +27,7 @@ get-numbered (suc n) i zero f d l = ap f (omega arith)
 get-numbered (suc n) i (suc j) f d l = get-numbered n (i + 1) j f d (omega arith) ∙ ap f (omega arith)
 
 -- the k-th item behind n others
-behind : {X : Type 0} (xs ys : List X) (n k j : ℕ) (d : X) → length xs ≡ n → j ≡ n + k → get_or (xs ++ ys) j d ≡ get_or ys k d
+pub behind : {X : Type 0} (xs ys : List X) (n k j : ℕ) (d : X) → length xs ≡ n → j ≡ n + k → get_or (xs ++ ys) j d ≡ get_or ys k d
 behind xs ys n k j d e f = ap (λ m. get_or (xs ++ ys) m d) (f ∙ ap (λ m. m + k) (sym e)) ∙ get_or-append-add xs ys k d
 
 -- the i-th numbered item, from 1, before others

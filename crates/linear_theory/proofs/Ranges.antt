@@ -38,17 +38,18 @@ mul-le {a} {b} {c} {d} h k = grind arith
 below : {a b c : ℕ} → a < b → 0 < c → a * c < b * c
 below {a} {b} {c} h k = grind arith
 
-module _ (a : Street) (t : Plan) (h : IsStreet a) (g : Good a t) where
+-- ---- reds, of any timing with two units or more in a part
+module _ (a : Street) (t : Plan) (h : IsStreet a) (u : 2 ≤ t.unit) where
   -- each red is two ticks long or more
-  red_some : (d : Dir) (i : ℕ) → HasSignal a i → 2 ≤ red_ticks a t d i
-  red_some d i s =
-      let p = g.base.plan in
-      let e : 1 * 2 ≤ red_parts a d i * t.unit = mul-le (h.red d i s) p.unit in omega (arith, e)
+  pub red_some : (d : Dir) (i : ℕ) → HasSignal a i → 2 ≤ red_ticks a t d i
+  red_some d i s = let e : 1 * 2 ≤ red_parts a d i * t.unit = mul-le (h.red d i s) u in omega (arith, e)
 
   -- and shorter than the cycle
-  red_less : (d : Dir) (i : ℕ) → HasSignal a i → red_ticks a t d i < cycle a t
-  red_less d i s = below (h.green d i s) (unit_above a t g)
+  pub red_less : (d : Dir) (i : ℕ) → HasSignal a i → red_ticks a t d i < cycle a t
+  red_less d i s = below (h.green d i s) (omega arith)
 
+-- ---- bands and waits, of good timings
+module _ (a : Street) (t : Plan) (h : IsStreet a) (g : Good a t) where
   -- the bands are green at each signal, by its number
   green_at : (d : Dir) (i : ℕ) → HasSignal a i → BandIsGreen (cycle a t) (red_start a t d i) (red_ticks a t d i) (line_at a t d i) (band t d)
   green_at Outbound i s =
@@ -63,12 +64,12 @@ module _ (a : Street) (t : Plan) (h : IsStreet a) (g : Good a t) where
   -- a wait and its band fit into the green
   pub wait_fits : (d : Dir) (i : ℕ) → HasSignal a i → wait a t d i + band t d + red_ticks a t d i ≤ cycle a t
   wait_fits Outbound i s =
-      let r = red_less Outbound i s in
-      let w = (window_after (cycle a t) (red_ticks a t Outbound i) (red_start a t Outbound i) (line_at a t Outbound i) t.band_out (red_some Outbound i s) r).0 (green_at Outbound i s) in
+      let p = g.base.plan in let r = red_less a t h p.unit Outbound i s in
+      let w = (window_after (cycle a t) (red_ticks a t Outbound i) (red_start a t Outbound i) (line_at a t Outbound i) t.band_out (red_some a t h p.unit Outbound i s) r).0 (green_at Outbound i s) in
       omega arith
   wait_fits Inbound i s =
-      let r = red_less Inbound i s in
-      let w = (window_before (cycle a t) (red_ticks a t Inbound i) (red_start a t Inbound i) (line_at a t Inbound i) t.band_in (red_some Inbound i s) r).0 (green_at Inbound i s) in
+      let p = g.base.plan in let r = red_less a t h p.unit Inbound i s in
+      let w = (window_before (cycle a t) (red_ticks a t Inbound i) (red_start a t Inbound i) (line_at a t Inbound i) t.band_in (red_some a t h p.unit Inbound i s) r).0 (green_at Inbound i s) in
       omega arith
 
   -- as fractions of the cycle

@@ -1,4 +1,4 @@
--- What a row must be to bound the weighted band, or to be met by no good timing.
+-- What a row must be to bound a goal at every point, as the weighted band, or to be met by no point, as that of a good timing.
 use Rattle.std.specs.Prelude.{ℕ, ◌<◌, slice_index_or, List}
 use Rattle.rational_theory.specs.Rational.{ℚ, ◌≤ℚ◌, ◌<ℚ◌}
 use Rattle.rational_theory.specs.Rows as maths
@@ -12,11 +12,18 @@ abbrev pub coef : List ℚ → ℕ → ℚ
 coef xs j = slice_index_or xs j (number 0)
 
 -- each coefficient is at least the goal's, and the bound is at most the value
-pub record CoversGoal (a : Street) (value : ℚ) (r : maths.Row) : Type 0 where
-  pub coefs : (j : ℕ) → j < width (count a) → coef (line a (goal_form a)).coefs j ≤ℚ coef r.coefs j
+pub record CoversColumns (width : ℕ) (goal : List ℚ) (value : ℚ) (r : maths.Row) : Type 0 where
+  pub coefs : (j : ℕ) → j < width → coef goal j ≤ℚ coef r.coefs j
   pub bound : r.bound ≤ℚ value
 
 -- no coefficient is negative, and the bound is
-pub record RefutesAll (a : Street) (r : maths.Row) : Type 0 where
-  pub coefs : (j : ℕ) → j < width (count a) → number 0 ≤ℚ coef r.coefs j
+pub record RefutesColumns (width : ℕ) (r : maths.Row) : Type 0 where
+  pub coefs : (j : ℕ) → j < width → number 0 ≤ℚ coef r.coefs j
   pub bound : r.bound <ℚ number 0
+
+-- of an artery's columns, and of the weighted band as the goal
+abbrev pub CoversGoal : Street → ℚ → maths.Row → Type 0
+CoversGoal a value r = CoversColumns (width (count a)) (line a (goal_form a)).coefs value r
+
+abbrev pub RefutesAll : Street → maths.Row → Type 0
+RefutesAll a r = RefutesColumns (width (count a)) r

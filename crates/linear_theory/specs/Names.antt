@@ -29,18 +29,21 @@ pub data Name : Type 0 where
   NoRow : Name
 
 -- ---- the families by their numbers
--- a family: its name in a text, whether it has one row alone, which has no index there, and its row of an index
-pub record Family : Type 0 where
+-- a family of rows with names of a kind: its name in a text, whether it has one row alone, which has no index there, and its row of an index
+pub record FamilyOf (N : Type 0) : Type 0 where
   pub text : List ℕ
   pub lone : Bool
-  pub row : ℕ → Name
+  pub row : ℕ → N
+
+abbrev pub Family : Type 0
+Family = FamilyOf Name
 
 -- a family with a row for each signal or link
-abbrev pub indexed : List ℕ → (ℕ → Name) → Family
+abbrev pub indexed : {N : Type 0} → List ℕ → (ℕ → N) → FamilyOf N
 indexed text row = record { text = text; lone = false; row = row }
 
 -- one with one row
-abbrev pub alone : List ℕ → (ℕ → Name) → Family
+abbrev pub alone : {N : Type 0} → List ℕ → (ℕ → N) → FamilyOf N
 alone text row = record { text = text; lone = true; row = row }
 
 -- all families, numbered from 1 on
@@ -73,16 +76,16 @@ families =
 abbrev pub last_family : ℕ
 last_family = length families
 
--- the row of a family's number and an index, where these families are numbered from n on
-abbrev pub row_among : ℕ → List Family → ℕ → ℕ → Name
-row_among n [] family i = NoRow
-row_among n (f ∷ fs) family i = if family == n then f.row i else row_among (n + 1) fs family i
+-- the row of a family's number and an index, where these families are numbered from n on, and other numbers have another row
+abbrev pub row_among : {N : Type 0} → N → ℕ → List (FamilyOf N) → ℕ → ℕ → N
+row_among other n [] family i = other
+row_among other n (f ∷ fs) family i = if family == n then f.row i else row_among other (n + 1) fs family i
 
 abbrev pub name_of : ℕ → ℕ → Name
-name_of family i = row_among 1 families family i
+name_of family i = row_among NoRow 1 families family i
 
 -- the family has one row alone
-abbrev pub lone_among : ℕ → List Family → ℕ → Bool
+abbrev pub lone_among : {N : Type 0} → ℕ → List (FamilyOf N) → ℕ → Bool
 lone_among n [] family = false
 lone_among n (f ∷ fs) family = if f.lone then (family == n) || lone_among (n + 1) fs family else lone_among (n + 1) fs family
 

@@ -1,5 +1,5 @@
 -- The families of rows: each row says that a sum of columns, each times its number, is at most the bound.
-use Rattle.std.specs.Prelude.{ℕ, ◌+◌, negsuc, List, [], ◌∷◌, replicate, slice_set, if◌then◌else◌}
+use Rattle.std.specs.Prelude.{ℕ, ◌+◌, negsuc, List, [], ◌∷◌, ◌++◌, replicate, slice_set, if◌then◌else◌}
 use Rattle.std.specs.Ordering.{is_lt}
 use Rattle.rational_theory.specs.Rational.{ℚ, whole, neg_ℚ, inverse_ℚ, ◌-ℚ◌, ◌/ℚ◌}
 use Rattle.rational_theory.specs.Compare.{cmp_ℚ}
@@ -15,6 +15,25 @@ use Rattle.linear_theory.specs.Shifts.{shift_at}
 use Rattle.linear_theory.specs.Blocks.{part, green_part, red_here, clear_next, clear_here}
 use Rattle.linear_theory.specs.Boxes.{Area, loop_span, turn_span}
 
+-- ---- rows of any width
+-- a column's place, from 0, and its number
+abbrev pub Cell : Type 0
+Cell = ℕ × ℚ
+
+-- the cells put into a row
+abbrev pub placed : List ℚ → List Cell → List ℚ
+placed xs [] = xs
+placed xs (c ∷ cs) = placed (slice_set xs c.0 c.1) cs
+
+-- a row of so many columns: 0 in all that no cell names
+abbrev pub placed_row : ℕ → List Cell → ℚ → maths.Row
+placed_row width cs bound = record { coefs = placed (replicate width (number 0)) cs; bound = bound }
+
+-- a row with so many further columns, in which it is 0
+abbrev pub widened : ℕ → maths.Row → maths.Row
+widened further r = record { coefs = r.coefs ++ replicate further (number 0); bound = r.bound }
+
+-- ---- those of an artery's columns
 -- a column and its number
 abbrev pub Entry : Type 0
 Entry = Column × ℚ
@@ -24,14 +43,18 @@ pub record Form : Type 0 where
   pub entries : List Entry
   pub bound : ℚ
 
+-- the entries by the places of their columns among those of n signals
+abbrev pub places_of : ℕ → List Entry → List Cell
+places_of n [] = []
+places_of n (e ∷ es) = (place n e.0, e.1) ∷ places_of n es
+
 -- the entries put into a row of n signals
 abbrev pub filled : ℕ → List ℚ → List Entry → List ℚ
-filled n xs [] = xs
-filled n xs (e ∷ es) = filled n (slice_set xs (place n e.0) e.1) es
+filled n xs es = placed xs (places_of n es)
 
 -- the row of a form: 0 in all columns that it does not name
 abbrev pub line : Street → Form → maths.Row
-line a f = record { coefs = filled (count a) (replicate (width (count a)) (number 0)) f.entries; bound = f.bound }
+line a f = placed_row (width (count a)) (places_of (count a) f.entries) f.bound
 
 abbrev pub minus_one : ℚ
 minus_one = whole (negsuc 0)

@@ -1,4 +1,4 @@
--- Trees of boxes: at each split a box and its two parts, at each leaf a sum of rows.
+-- Trees of boxes: at each split a box and its two parts, at each leaf something that is said of its box, as a sum of rows.
 use Rattle.std.specs.Prelude.{ℕ, ℤ, List, [], ◌∷◌, map}
 use Rattle.rational_theory.specs.Rational.{ℚ, ◌≤ℚ◌}
 use Rattle.rational_theory.specs.Rows as maths
@@ -8,27 +8,45 @@ use Rattle.linear_theory.specs.Boxes.{Area, low_loop, high_loop, low_turn, high_
 use Rattle.linear_theory.specs.Rows.{line}
 use Rattle.linear_theory.specs.Names.{Name, HasRow, form_of}
 
+-- ---- trees of any leaves
+-- a leaf, or a split at a place of a link's span or of a signal's ranks, with its low and its high part
+pub data BoxTree (L : Type 0) : Type 0 where
+  LeafOf : L → BoxTree L
+  LoopSplit : ℕ → ℤ → BoxTree L → BoxTree L → BoxTree L
+  TurnSplit : ℕ → ℕ → BoxTree L → BoxTree L → BoxTree L
+
+-- P holds of each leaf and its box, and each split's place lies in its box
+abbrev pub AcceptedBy : {L : Type 0} → (Area → L → Type 0) → Area → BoxTree L → Type 0
+AcceptedBy P box (LeafOf l) = P box l
+AcceptedBy P box (LoopSplit i at low high) = IsLoopPlace box i at × AcceptedBy P (low_loop box i at) low × AcceptedBy P (high_loop box i at) high
+AcceptedBy P box (TurnSplit i rank low high) = IsTurnPlace box i rank × AcceptedBy P (low_turn box i rank) low × AcceptedBy P (high_turn box i rank) high
+
+-- ---- sums of rows of any names
+-- the rows that the names stand for, each times its multiplier
+abbrev pub sum_of_rows : {N : Type 0} → (N → maths.Row) → List (ℚ × N) → maths.Row
+sum_of_rows row ws = maths.combine (map (λ w. w.0) ws) (map (λ w. row w.1) ws)
+
+-- the rows are there, and no multiplier is negative
+abbrev pub AreMultipliers : {N : Type 0} → (N → Type 0) → List (ℚ × N) → Type 0
+AreMultipliers has [] = Unit {0}
+AreMultipliers has (w ∷ ws) = has w.1 × (number 0 ≤ℚ w.0) × AreMultipliers has ws
+
+-- ---- those of an artery's rows
 -- a multiplier, and the row that it is for
 abbrev pub Weight : Type 0
 Weight = ℚ × Name
 
--- a leaf, or a split at a place of a link's span or of a signal's ranks, with its low and its high part
-pub data Tree : Type 0 where
-  LeafOf : List Weight → Tree
-  LoopSplit : ℕ → ℤ → Tree → Tree → Tree
-  TurnSplit : ℕ → ℕ → Tree → Tree → Tree
+abbrev pub Tree : Type 0
+Tree = BoxTree (List Weight)
 
 -- the sum of a leaf's rows, each times its multiplier
 abbrev pub leaf_sum : Street → Area → List Weight → maths.Row
-leaf_sum a box ws = maths.combine (map (λ w. w.0) ws) (map (λ w. line a (form_of a box w.1)) ws)
+leaf_sum a box ws = sum_of_rows (λ n. line a (form_of a box n)) ws
 
 -- the artery has the rows, and no multiplier is negative
 abbrev pub AreWeights : Street → List Weight → Type 0
-AreWeights a [] = Unit {0}
-AreWeights a (w ∷ ws) = HasRow a w.1 × (number 0 ≤ℚ w.0) × AreWeights a ws
+AreWeights a ws = AreMultipliers (HasRow a) ws
 
 -- P holds of each leaf's sum, and each split's place lies in its box
 abbrev pub Accepted : (maths.Row → Type 0) → Street → Area → Tree → Type 0
-Accepted P a box (LeafOf ws) = AreWeights a ws × P (leaf_sum a box ws)
-Accepted P a box (LoopSplit i at low high) = IsLoopPlace box i at × Accepted P a (low_loop box i at) low × Accepted P a (high_loop box i at) high
-Accepted P a box (TurnSplit i rank low high) = IsTurnPlace box i rank × Accepted P a (low_turn box i rank) low × Accepted P a (high_turn box i rank) high
+Accepted P a box tree = AcceptedBy (λ b ws. AreWeights a ws × P (leaf_sum a b ws)) box tree

@@ -8,6 +8,10 @@
 //! there are, and what they say, is defined in `linear_theory` (`specs/Rows.antt`, `specs/Names.antt`); `laws` says over
 //! those definitions alone what they promise. Each family has one name, here and there, and a new one is a type of this
 //! crate with an arm of `with_family`.
+//!
+//! For the rows of another linear program: families of another `Problem`, filled by `fill_by`; a `RowTable`, whose rows `next_in`
+//! names in their order; a `RowSource`, whose rows `sum_of` adds up. Those of an artery are the instances `Progression`,
+//! `ArteryTable` and `BoxRows`.
 #![tactic(auto)]
 
 mod bands;
@@ -19,6 +23,7 @@ mod family;
 mod fault;
 #[cfg(test)]
 mod feature_tests;
+mod following;
 pub mod laws;
 #[cfg(test)]
 mod leaf_tests;
@@ -44,11 +49,12 @@ pub use cycles::{CycleHighRow, CycleLowRow};
 pub use equal::{EqualHighRow, EqualLowRow};
 pub use family::{Family, Problem, Progression};
 pub use fault::SumFault;
+pub use following::{RowTable, next_in};
 pub use least::LeastRow;
 pub use leaves::{leaf_sum, sum_of};
 pub use loops::{LoopHighRow, LoopLowRow};
 pub use numbers::green;
-pub use rows::{fill_goal, fill_row, next_row};
+pub use rows::{ArteryTable, fill_by, fill_goal, fill_row, has_by, has_row, next_row};
 pub use runs::{FastRow, SlowRow};
 pub use source::{BoxRows, RowSource};
 pub use sums::block_sum;

@@ -3,14 +3,14 @@
 ghost use Rattle.std.specs.Prelude.{◌≡◌, ◌<◌, ◌≤◌, length};
 ghost use Rattle.progression.specs.Street.{count};
 ghost use Rattle.linear_theory.specs.Places.{width};
-ghost use Rattle.linear_theory.specs.Rows.{block_entries};
+ghost use Rattle.linear_theory.specs.Rows.{places_of, block_entries};
 ghost use Rattle.linear_theory.specs.Names as names;
 ghost use Rattle.linear_theory.specs.Names.{HasRow, form_of};
 ghost use Rattle.linear_theory.proofs.NamedRows.{row_law};
 ghost use Rattle.named_row.specs.Sheets.{blank};
 ghost use Rattle.loop_rows.specs.laws.Meeting.{at_written};
 ghost use Rattle.loop_rows.specs.laws.Writing.{written_unspent};
-ghost use Rattle.loop_rows.specs.Writing.{with_entries, written};
+ghost use Rattle.loop_rows.specs.Writing.{with_cells, written};
 
 use crate::columns::{next_of, run, shift, wait};
 use crate::family::{Family, Progression};
@@ -25,7 +25,7 @@ fn fill_block(artery: &Artery, link: u32, added: Frac, taken: Frac, into: &mut R
     requires first { 1 ≤ link }
     requires last { link < count artery.now }
     requires columns { length into.old.coefs ≡ width (count artery.now) }
-    ensures value { into.new ≡ with_entries (count artery.now) (block_entries link added taken) (blank (width (count artery.now))) }
+    ensures value { into.new ≡ with_cells (places_of (count artery.now) (block_entries link added taken)) (blank (width (count artery.now))) }
     ensures columns { length into.new.coefs ≡ width (count artery.now) }
 {
     let next = next_of(artery, link);

@@ -7,15 +7,18 @@ ghost use Rattle.linear_theory.specs.Boxes.{IsBoxOf};
 ghost use Rattle.linear_theory.specs.Rows.{goal_form};
 ghost use Rattle.linear_theory.specs.Names.{HasRow, form_of, name_of};
 ghost use Rattle.loop_rows.specs.Writing.{written};
-ghost use Rattle.loop_rows.specs.Meeting.{IsFilled};
-ghost use Rattle.loop_rows.specs.Following.{IsIndexFrom, IsRowFrom, IsNextRow};
+ghost use Rattle.linear_theory.specs.Names.{last_family};
+ghost use Rattle.linear_theory.proofs.Families.{family_most, index_most};
+ghost use Rattle.loop_rows.specs.Meeting.{IsFilled, IsFilledBy};
+ghost use Rattle.loop_rows.specs.Following.{rows_of_artery, IsNextRow};
 
 use crate::bands::RatioRow;
 use crate::changes::{DropRow, RiseRow};
 use crate::columns::band;
 use crate::cycles::{CycleHighRow, CycleLowRow};
 use crate::equal::{EqualHighRow, EqualLowRow};
-use crate::family::{Family, Progression};
+use crate::family::Family;
+use crate::following::{RowTable, next_in};
 use crate::least::LeastRow;
 use crate::loops::{LoopHighRow, LoopLowRow};
 use crate::runs::{FastRow, SlowRow};
@@ -60,8 +63,9 @@ macro_rules! with_family {
     };
 }
 
-/// Fills the row of this index, where the artery has it, and answers whether it has.
-fn fill_by<F: Family<Of = Progression>>(
+/// Fills the row of this index of a family, where the artery has it, and answers whether it has. Each point that counts for
+/// the family's problem meets it. Where there is no such row, `into` stays as it was.
+pub fn fill_by<F: Family>(
     family: &F,
     artery: &Artery,
     area: &SearchBox,
@@ -70,12 +74,12 @@ fn fill_by<F: Family<Of = Progression>>(
 ) -> bool
     requires family { F.family family.now ≡ row.family }
     requires boxed { IsBoxOf artery.now area.now }
-    requires columns { length into.old.coefs ≡ width (count artery.now) }
+    requires columns { length into.old.coefs ≡ F.Of.columns artery.now }
     ensures there { IsTrue result ↔ F.exists family.now artery.now row.index }
     ensures row { result ≡ true → into.new ≡ F.sheet family.now artery.now area.now row.index }
-    ensures met { result ≡ true → IsFilled artery.now area.now into.new }
+    ensures met { result ≡ true → IsFilledBy F.Of.counts artery.now area.now into.new }
     ensures same { result ≡ false → into.new ≡ into.old }
-    ensures width { length into.new.coefs ≡ width (count artery.now) }
+    ensures width { length into.new.coefs ≡ F.Of.columns artery.now }
 {
     if !family.has(artery, row.index) {
         return false;
@@ -111,65 +115,40 @@ pub fn fill_goal(artery: &Artery, into: &mut Row)
     into.set(Place::Bound, Frac::whole(0));
 }
 
-/// Whether the artery has the row of this index.
-fn has_by<F: Family<Of = Progression>>(family: &F, artery: &Artery, index: u32) -> bool
+/// Whether the artery has the row of this index of a family.
+pub fn has_by<F: Family>(family: &F, artery: &Artery, index: u32) -> bool
     ensures { IsTrue result ↔ F.exists family.now artery.now index }
 {
     family.has(artery, index)
 }
 
 /// Whether the artery has the row of this name.
-fn has_row(artery: &Artery, family: u8, index: u32) -> bool
+pub fn has_row(artery: &Artery, family: u8, index: u32) -> bool
     ensures { IsTrue result ↔ HasRow artery.now (name_of family index) }
 {
     with_family!(family, has_by(artery, index), false)
 }
 
-/// The least index from this number on at which the artery has a row of the family.
-fn index_from(artery: &Artery, family: u8, from: u32) -> Option<u32>
-    ensures { IsIndexFrom artery.now family from result }
-{
-    for index in from..artery.count() + 1 {
-        if has_row(artery, family, index) {
-            return Some(index);
-        }
-    }
-    None
-}
+/// The rows of an artery.
+#[derive(Drop)]
+pub struct ArteryTable;
 
-/// The artery's first row of the families from this number on.
-fn row_from(artery: &Artery, family: u8) -> Option<RowId>
-    ensures { IsRowFrom artery.now family result }
-{
-    for next in family..LAST_FAMILY + 1 {
-        if let Some(index) = index_from(artery, next, 0) {
-            return Some(RowId {
-                family: next,
-                index,
-            });
-        }
-    }
-    None
-}
+impl RowTable for ArteryTable {
+    ghost exists = { λ table a. rows_of_artery a };
 
-/// The least index above that of a row at which the artery has a row of the same family.
-fn index_after(artery: &Artery, row: RowId) -> Option<u32>
-    ensures { IsIndexFrom artery.now row.family (row.index + 1) result }
-{
-    if artery.count() <= row.index {
-        return None;
-    }
-    index_from(artery, row.family, row.index + 1)
-}
+    ghost last = { λ table. last_family };
 
-/// The artery's first row of the families above this number.
-fn row_past(artery: &Artery, family: u8) -> Option<RowId>
-    ensures { IsRowFrom artery.now (family + 1) result }
-{
-    if LAST_FAMILY <= family {
-        return None;
+    fn last_family(&self) -> u8 {
+        LAST_FAMILY
     }
-    row_from(artery, family + 1)
+
+    fn has(&self, artery: &Artery, family: u8, index: u32) -> bool {
+        has_row(artery, family, index)
+    }
+
+    ghost family_most = { λ table a family i h. family_most a family i h };
+
+    ghost index_most = { λ table a family i h. index_most a family i h };
 }
 
 /// The artery's least row above `after`, by family, then index, or its first row for None. None exactly where there is
@@ -177,15 +156,5 @@ fn row_past(artery: &Artery, family: u8) -> Option<RowId>
 pub fn next_row(artery: &Artery, after: Option<RowId>) -> Option<RowId>
     ensures { IsNextRow artery.now after result }
 {
-    let row = match after {
-        Some(row) => row,
-        None => return row_from(artery, 1),
-    };
-    match index_after(artery, row) {
-        Some(index) => Some(RowId {
-            family: row.family,
-            index,
-        }),
-        None => row_past(artery, row.family),
-    }
+    next_in(&ArteryTable, artery, after)
 }

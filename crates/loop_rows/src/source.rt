@@ -1,6 +1,6 @@
 //! Where the rows of a sum come from.
 
-ghost use Rattle.std.specs.Prelude.{◌≡◌, length, true, false};
+ghost use Rattle.std.specs.Prelude.{◌≡◌, ℕ, length, true, false};
 ghost use Rattle.loop_rows.specs.Weights.{Source, artery_rows};
 ghost use Rattle.linear_theory.specs.Boxes.{IsBoxOf};
 
@@ -18,18 +18,27 @@ pub trait RowSource {
     /// What has to hold before one is made.
     ghost Ready: { Self → Type 0 };
 
+    /// How many columns the spare row has in which a row may be made first, 0 where none is needed.
+    ghost spare: { Self → ℕ };
+
     /// The number of columns of each row.
     fn columns(&self) -> u32
         ensures { result ≡ (rows self.now).width };
 
-    /// Makes the row of this name, where there is one, and answers whether there is.
-    fn fill(&self, row: RowId, into: &mut Row) -> bool
+    /// The number of columns of the spare row.
+    fn spare_columns(&self) -> u32
+        ensures { result ≡ spare self.now };
+
+    /// Makes the row of this name, where there is one, and answers whether there is. `room` is the spare row.
+    fn fill(&self, row: RowId, room: &mut Row, into: &mut Row) -> bool
         requires ready { Ready self.now }
+        requires room { length room.old.coefs ≡ spare self.now }
         requires columns { length into.old.coefs ≡ (rows self.now).width }
         ensures there { result ≡ (rows self.now).has row }
         ensures row { result ≡ true → into.new ≡ (rows self.now).row row }
         ensures unspent { result ≡ true → into.new.spent ≡ false }
-        ensures width { length into.new.coefs ≡ (rows self.now).width };
+        ensures width { length into.new.coefs ≡ (rows self.now).width }
+        ensures room { length room.new.coefs ≡ spare self.now };
 }
 
 /// The rows of an artery for a box.
@@ -44,11 +53,17 @@ impl<'a> RowSource for BoxRows<'a> {
 
     ghost Ready = { λ source. IsBoxOf source.artery.now source.area.now };
 
+    ghost spare = { λ source. 0 };
+
     fn columns(&self) -> u32 {
         column_count(self.artery)
     }
 
-    fn fill(&self, row: RowId, into: &mut Row) -> bool {
+    fn spare_columns(&self) -> u32 {
+        0
+    }
+
+    fn fill(&self, row: RowId, room: &mut Row, into: &mut Row) -> bool {
         fill_row(self.artery, self.area, row, into)
     }
 }

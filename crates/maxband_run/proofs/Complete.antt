@@ -6,10 +6,9 @@ use Rattle.outer_edge.specs.Counts.{next_count, Rose, SameCounts}
 use Rattle.workload_maker.specs.Made.{made_street}
 use Rattle.maxband_run.specs.Command.{Request, Solve, Renew, Make, Trial, Sweep, shape}
 use Rattle.maxband_run.specs.Outside.{Outside, NamedBytes, named, put_of, IsDone, IsBroken}
-use Rattle.maxband_run.specs.Reading.{Input, input, Value, Reads, IsUnread, StopsReading}
+use Rattle.maxband_run.specs.Reading.{Input, input, Value, Reads, IsUnread, StopsReading, Description, Certificate}
 use Rattle.maxband_run.specs.Run.{Answers, Answered, Ends}
 use Rattle.maxband_run.specs.Laws.{IsFault, IsVerdict, FaultsAreTold, SolveIsComplete, MakeIsComplete, TrialIsComplete, SweepIsComplete, RenewIsComplete}
-use Rattle.maxband_run.specs.declared.reader.Reader.TheVariants.{Description, Certificate}
 use Rattle.maxband_run.specs.declared.cause.Cause.{Cause}
 use Rattle.maxband_run.specs.declared.cause.Cause.TheVariants as cause
 use Rattle.maxband_run.proofs.Readers.{read_apart}

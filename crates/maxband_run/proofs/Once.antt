@@ -15,18 +15,21 @@ use Rattle.plan_text.specs.Warrants.{Warrant}
 use Rattle.time_space.specs.Failing.{FailsRulesOut}
 use Rattle.time_space.specs.FirstFailing.{OneFirst}
 use Rattle.certificate_checker.specs.Laws.{RefusedIsNotAccepted, OneFirstRefusal}
+use Rattle.link_proof.specs.LinkWarrants.{LinkWarrant}
+use Rattle.link_proof.specs.LinkLaws.{LinkRefusedIsNotAccepted, OneFirstLinkRefusal}
 use Rattle.branch_and_bound.specs.declared.found.Verdict.{Verdict}
 use Rattle.branch_and_bound.specs.declared.found.Verdict.TheVariants.{Best, NoTiming, Stopped}
 use Rattle.branch_tree.specs.declared.site.SitePart.{SitePart}
 use Rattle.workload_maker.specs.Made.{made_street}
 use Rattle.maxband_run.specs.Lines.{fails_line}
-use Rattle.maxband_run.specs.CheckLines.{rejected_line}
-use Rattle.maxband_run.specs.Command.{Request, Hold, Show, Check, Solve, Renew, Bands, Round, Half, Make, Trial, Sweep, shape}
+use Rattle.maxband_run.specs.CheckLines.{rejected_line, link_rejected_line}
+use Rattle.maxband_run.specs.Command.{Request, Hold, Show, Check, CheckLinks, Solve, Renew, Bands, Round, Half, Make, Trial, Sweep, shape}
 use Rattle.maxband_run.specs.Reading.{Input, Values}
 use Rattle.maxband_run.specs.Searched.{cause_of}
 use Rattle.maxband_run.specs.Hold.{HoldFinds}
 use Rattle.maxband_run.specs.Show.{Shows}
 use Rattle.maxband_run.specs.Check.{CheckFinds}
+use Rattle.maxband_run.specs.CheckLinks.{CheckLinksFinds}
 use Rattle.maxband_run.specs.Bands.{IsWidestBand, widest_line, BreaksBase, BandsFinds}
 use Rattle.second_plan.specs.Planned.{IsAnswer}
 use Rattle.second_plan.specs.Ends as second
@@ -76,6 +79,11 @@ check_reached a w cause.Done l h = tt
 check_reached a w (cause.Rejected r) l h = tt
 check_reached a w c l h = absurd h
 
+check_links_reached : (a : Street) (w : LinkWarrant) (c : Cause) (l : List ℕ) → CheckLinksFinds a w c l → IsReached c
+check_links_reached a w cause.Done l h = tt
+check_links_reached a w (cause.LinkRejected r) l h = tt
+check_links_reached a w c l h = absurd h
+
 bands_reached : (a : Street) (t : Plan) (c : Cause) (l : List ℕ) → BandsFinds a t c l → IsReached c
 bands_reached a t cause.Done l h = tt
 bands_reached a t (cause.Fails f) l h = tt
@@ -98,6 +106,7 @@ finds_reached None v c l bytes h = subst (λ (d : Cause). IsReached d) (sym h.0)
 finds_reached (Some (Hold artery timing)) v c l bytes h = hold_reached v.0 v.1.0 c l h
 finds_reached (Some (Show artery)) v c l bytes h = show_reached v.0 c l h
 finds_reached (Some (Check artery certificate)) v c l bytes h = check_reached v.0 v.1.0 c l h
+finds_reached (Some (CheckLinks artery certificate)) v c l bytes h = check_links_reached v.0 v.1.0 c l h
 finds_reached (Some (Solve artery certificate limit)) v c l bytes h = verdict_reached c (verdict_cause c h.2.found.verdict h.2.cause_is)
 finds_reached (Some (Renew certificate new)) v c l bytes h = subst (λ (d : Cause). IsReached d) (sym h.2.cause_is) tt
 finds_reached (Some (Bands artery timing)) v c l bytes h = bands_reached v.0 v.1.0 c l h
@@ -130,6 +139,17 @@ check_once apart once a w (cause.Rejected r) (cause.Rejected s) x y h k = let e 
     (ap cause.Rejected e, h.lines_are ∙ ap (rejected_line (count a)) e ∙ sym k.lines_are)
 check_once apart once a w (cause.Rejected r) d x y h k = absurd k
 check_once apart once a w c d x y h k = absurd h
+
+check_links_once : LinkRefusedIsNotAccepted → OneFirstLinkRefusal → (a : Street) (w : LinkWarrant) (c d : Cause) (x y : List ℕ) → CheckLinksFinds a w c x → CheckLinksFinds a w d y
+    → (c ≡ d) × (x ≡ y)
+check_links_once apart once a w cause.Done cause.Done x y h k = (refl, h.lines_are ∙ sym k.lines_are)
+check_links_once apart once a w cause.Done (cause.LinkRejected r) x y h k = absurd (apart a w r k.first k.kept h.accepted)
+check_links_once apart once a w cause.Done d x y h k = absurd k
+check_links_once apart once a w (cause.LinkRejected r) cause.Done x y h k = absurd (apart a w r h.first h.kept k.accepted)
+check_links_once apart once a w (cause.LinkRejected r) (cause.LinkRejected s) x y h k = let e = once a w r s h.first k.first h.kept k.kept in
+    (ap cause.LinkRejected e, h.lines_are ∙ ap (link_rejected_line (count a)) e ∙ sym k.lines_are)
+check_links_once apart once a w (cause.LinkRejected r) d x y h k = absurd k
+check_links_once apart once a w c d x y h k = absurd h
 
 -- a rule that speaks of no band and fails first
 breaks_once : OneFirst → (a : Street) (t : Plan) (f g : Failing) (x y : List ℕ) → BreaksBase a t f x → BreaksBase a t g y → (cause.Fails f ≡ cause.Fails g) × (x ≡ y)
@@ -248,22 +268,25 @@ half_once one_first ends a t (cause.Unmatched e) d x y s u h k = absurd k
 half_once one_first ends a t c d x y s u h k = absurd h
 
 -- ---- every command
-pub finds_once : OneText → OneFirst → FailsRulesOut → RefusedIsNotAccepted → OneFirstRefusal → OneWidest → FinerPairs → OneEnd → second.OneEnd → PlanOrEnd → OnePlan
-    → (asked : Option Request) (v : Values (shape asked).inputs) (c d : Cause) (x y : List ℕ) (s t : Option (List ℕ)) → Finds asked v c x s → Finds asked v d y t → Agree (shape asked).chooses (shape asked).inputs c x d y
-finds_once one_text one_first rules apart once widest finer ends plan_ends plan_or one_plan None v c d x y s t h k = (h.0 ∙ sym k.0, h.1 ∙ sym k.1)
-finds_once one_text one_first rules apart once widest finer ends plan_ends plan_or one_plan (Some (Hold artery timing)) v c d x y s t h k = hold_once one_first rules v.0 v.1.0 c d x y h k
-finds_once one_text one_first rules apart once widest finer ends plan_ends plan_or one_plan (Some (Show artery)) v c d x y s t h k = show_once one_text v.0 c d x y h k
-finds_once one_text one_first rules apart once widest finer ends plan_ends plan_or one_plan (Some (Check artery certificate)) v c d x y s t h k = check_once apart once v.0 v.1.0 c d x y h k
-finds_once one_text one_first rules apart once widest finer ends plan_ends plan_or one_plan (Some (Solve artery certificate limit)) v c d x y s t h k =
-    inr (verdict_cause c h.2.found.verdict h.2.cause_is, verdict_cause d k.2.found.verdict k.2.cause_is)
-finds_once one_text one_first rules apart once widest finer ends plan_ends plan_or one_plan (Some (Renew certificate new)) v c d x y s t h k = (h.2.cause_is ∙ sym k.2.cause_is, h.2.lines_are ∙ sym k.2.lines_are)
-finds_once one_text one_first rules apart once widest finer ends plan_ends plan_or one_plan (Some (Bands artery timing)) v c d x y s t h k = bands_once one_first widest finer v.0 v.1.0 c d x y h k
-finds_once one_text one_first rules apart once widest finer ends plan_ends plan_or one_plan (Some (Round artery certificate plan)) v c d x y s t h k = round_once apart once plan_ends plan_or one_plan v.0 v.1.0 c d x y s t h k
-finds_once one_text one_first rules apart once widest finer ends plan_ends plan_or one_plan (Some (Half artery timing new)) v c d x y s t h k = half_once one_first ends v.0 v.1.0 c d x y s t h k
-finds_once one_text one_first rules apart once widest finer ends plan_ends plan_or one_plan (Some (Make signals seed)) v c d x y s t h k = show_once one_text (made_street signals seed) c d x y h k
-finds_once one_text one_first rules apart once widest finer ends plan_ends plan_or one_plan (Some (Trial signals seed limit)) v c d x y s t h k =
-    (verdict_cause c h.found.verdict h.cause_is, verdict_cause d k.found.verdict k.cause_is)
-finds_once one_text one_first rules apart once widest finer ends plan_ends plan_or one_plan (Some (Sweep artery table limit cycles)) v c d x y s t h k = (h.2.cause_is ∙ sym k.2.cause_is, h.2.lines_are ∙ sym k.2.lines_are)
+module _ (one_text : OneText) (one_first : OneFirst) (rules : FailsRulesOut) (apart : RefusedIsNotAccepted) (once : OneFirstRefusal) (widest : OneWidest) (finer : FinerPairs)
+    (ends : OneEnd) (plan_ends : second.OneEnd) (plan_or : PlanOrEnd) (one_plan : OnePlan) (links_apart : LinkRefusedIsNotAccepted) (links_once : OneFirstLinkRefusal) where
+  pub finds_once : (asked : Option Request) (v : Values (shape asked).inputs) (c d : Cause) (x y : List ℕ) (s t : Option (List ℕ))
+      → Finds asked v c x s → Finds asked v d y t → Agree (shape asked).chooses (shape asked).inputs c x d y
+  finds_once None v c d x y s t h k = (h.0 ∙ sym k.0, h.1 ∙ sym k.1)
+  finds_once (Some (Hold artery timing)) v c d x y s t h k = hold_once one_first rules v.0 v.1.0 c d x y h k
+  finds_once (Some (Show artery)) v c d x y s t h k = show_once one_text v.0 c d x y h k
+  finds_once (Some (Check artery certificate)) v c d x y s t h k = check_once apart once v.0 v.1.0 c d x y h k
+  finds_once (Some (CheckLinks artery certificate)) v c d x y s t h k = check_links_once links_apart links_once v.0 v.1.0 c d x y h k
+  finds_once (Some (Solve artery certificate limit)) v c d x y s t h k =
+      inr (verdict_cause c h.2.found.verdict h.2.cause_is, verdict_cause d k.2.found.verdict k.2.cause_is)
+  finds_once (Some (Renew certificate new)) v c d x y s t h k = (h.2.cause_is ∙ sym k.2.cause_is, h.2.lines_are ∙ sym k.2.lines_are)
+  finds_once (Some (Bands artery timing)) v c d x y s t h k = bands_once one_first widest finer v.0 v.1.0 c d x y h k
+  finds_once (Some (Round artery certificate plan)) v c d x y s t h k = round_once apart once plan_ends plan_or one_plan v.0 v.1.0 c d x y s t h k
+  finds_once (Some (Half artery timing new)) v c d x y s t h k = half_once one_first ends v.0 v.1.0 c d x y s t h k
+  finds_once (Some (Make signals seed)) v c d x y s t h k = show_once one_text (made_street signals seed) c d x y h k
+  finds_once (Some (Trial signals seed limit)) v c d x y s t h k =
+      (verdict_cause c h.found.verdict h.cause_is, verdict_cause d k.found.verdict k.cause_is)
+  finds_once (Some (Sweep artery table limit cycles)) v c d x y s t h k = (h.2.cause_is ∙ sym k.2.cause_is, h.2.lines_are ∙ sym k.2.lines_are)
 
 -- files that stop the reading in one way
 pub stops_agree : (chooses : Bool) (is : List Input) (c d : Cause) (x y : List ℕ) → (is ≡ [] → ⊥) → (c ≡ d) × (x ≡ y) → Agree chooses is c x d y

@@ -11,12 +11,11 @@ use Rattle.plan_text.specs.Spelling.{timing_text}
 use Rattle.plan_text.specs.Reading.{timing_of}
 use Rattle.maxband_run.specs.Command.{Request, Hold, Round, shape}
 use Rattle.maxband_run.specs.Outside.{Outside, NamedBytes, put_of, IsPut}
-use Rattle.maxband_run.specs.Reading.{most_bytes, Reads, Values}
+use Rattle.maxband_run.specs.Reading.{most_bytes, Reads, Values, Description, Timing}
 use Rattle.maxband_run.specs.Hold.{HoldFinds}
 use Rattle.maxband_run.specs.Run.{Ends}
 use Rattle.maxband_run.specs.Laws.{PutsPlan, RoundSays, PlanIsHeld}
 use Rattle.maxband_run.specs.Status.{number_of}
-use Rattle.maxband_run.specs.declared.reader.Reader.TheVariants.{Description, Timing}
 use Rattle.maxband_run.specs.declared.cause.Cause.{Cause}
 use Rattle.maxband_run.specs.declared.cause.Cause.TheVariants as cause
 use Rattle.maxband_run.proofs.Holding.{told_has}

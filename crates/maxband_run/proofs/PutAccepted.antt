@@ -12,12 +12,11 @@ use Rattle.certificate_checker.specs.Laws.{RefusedIsNotAccepted}
 use Rattle.branch_tree.specs.Certified.{warrant_of}
 use Rattle.maxband_run.specs.Command.{Request, Check, Solve, shape}
 use Rattle.maxband_run.specs.Outside.{Outside, NamedBytes, put_of, IsPut, IsDone}
-use Rattle.maxband_run.specs.Reading.{most_bytes, Reads, Values}
+use Rattle.maxband_run.specs.Reading.{most_bytes, Reads, Values, Description, Certificate}
 use Rattle.maxband_run.specs.Searched.{IsTextOf}
 use Rattle.maxband_run.specs.Check.{Accepts, CheckFinds}
 use Rattle.maxband_run.specs.Run.{Answers, Answered, Ends}
 use Rattle.maxband_run.specs.Laws.{IsReached, IsVerdict, PutIsAccepted}
-use Rattle.maxband_run.specs.declared.reader.Reader.TheVariants.{Description, Certificate}
 use Rattle.maxband_run.specs.declared.cause.Cause.{Cause}
 use Rattle.maxband_run.specs.declared.cause.Cause.TheVariants as cause
 use Rattle.maxband_run.proofs.Holding.{told_has}

@@ -4,7 +4,7 @@ use Rattle.std.specs.Prelude.{option_map, option_and_then, if◌then◌else◌}
 use Rattle.std.specs.Str.{bytes_eq}
 use Rattle.work_meter.specs.Work.{IsBelow}
 use Rattle.maxband_run.specs.Numbers.{usual_work, number_within, signals_of, seed_of, limit_of}
-use Rattle.maxband_run.specs.Command.{Request, Hold, Show, Check, Solve, Renew, Bands, Round, Half, Make, Trial, Sweep, make_of, trial_of, sweep_of, with_two, with_three, with_more, request_of, InLimits}
+use Rattle.maxband_run.specs.Command.{Request, Hold, Show, Check, Solve, Renew, Bands, Round, Half, Make, Trial, Sweep, make_of, trial_of, sweep_of, Form, form_of, one_more, two_more, three_more, any_more, request_of, InLimits}
 use Rattle.maxband_run.specs.Cycles.{are_cycles, SpellCycles}
 use Rattle.maxband_run.proofs.Spelled.{in_limits}
 use Rattle.maxband_run.proofs.Cycling.{cycles_spelled}
@@ -51,32 +51,26 @@ sweep_limits artery table cycles true None h k = tt
 sweep_limits artery table cycles true (Some limit) h k = (k limit refl, h refl)
 
 -- ---- the words
-two_limits : (word first second : List ℕ) → InLimits (with_two word first second)
-two_limits word first second =
-    either (bytes_eq word (codes "hold")) (Some (Hold first second)) _ tt
-    (either (bytes_eq word (codes "check")) (Some (Check first second)) _ tt
-    (either (bytes_eq word (codes "solve")) (Some (Solve first second (Some usual_work))) _ usual
-    (either (bytes_eq word (codes "renew")) (Some (Renew first second)) _ tt
-    (either (bytes_eq word (codes "bands")) (Some (Bands first second)) _ tt
-    (either (bytes_eq word (codes "make")) (make_of first second) None (make_limits (signals_of first) (seed_of second) (in_limits 2 16 first)) tt)))))
+-- each of the forms asks for what is in its limits
+abbrev AreInLimits : List Form → Type 0
+AreInLimits [] = Unit {0}
+AreInLimits (f ∷ fs) = InLimits f.asks × AreInLimits fs
 
-three_limits : (word first second third : List ℕ) → InLimits (with_three word first second third)
-three_limits word first second third =
-    either (bytes_eq word (codes "solve")) (option_map (Solve first second) (limit_of third)) _ (solve_limits first second (limit_of third) (some_limit third))
-    (either (bytes_eq word (codes "round")) (Some (Round first second third)) _ tt
-    (either (bytes_eq word (codes "half")) (Some (Half first second third)) _ tt
-    (either (bytes_eq word (codes "trial")) (trial_of first second third) None
-    (trial_limits (signals_of first) (seed_of second) (limit_of third) (in_limits 2 16 first) (some_limit third)) tt)))
-
-more_limits : (word first second third : List ℕ) (more : List (List ℕ)) → InLimits (with_more word first second third more)
-more_limits word first second third more =
-    either (bytes_eq word (codes "sweep")) (sweep_of first second third more) None
-    (sweep_limits first second more (are_cycles more) (limit_of third) (cycles_spelled more) (some_limit third)) tt
+form_limits : (word : List ℕ) (fs : List Form) → AreInLimits fs → InLimits (form_of word fs)
+form_limits word [] h = tt
+form_limits word (f ∷ fs) h = either (bytes_eq word f.word) f.asks (form_of word fs) h.0 (form_limits word fs h.1)
 
 pub command_limits : (words : List (List ℕ)) → InLimits (request_of words)
 command_limits [] = tt
 command_limits (word ∷ []) = tt
-command_limits (word ∷ first ∷ []) = either (bytes_eq word (codes "show")) (Some (Show first)) None tt tt
-command_limits (word ∷ first ∷ second ∷ []) = two_limits word first second
-command_limits (word ∷ first ∷ second ∷ third ∷ []) = three_limits word first second third
-command_limits (word ∷ first ∷ second ∷ third ∷ fourth ∷ more) = more_limits word first second third (fourth ∷ more)
+command_limits (word ∷ first ∷ []) = form_limits word (one_more first) (tt, tt)
+command_limits (word ∷ first ∷ second ∷ []) =
+    form_limits word (two_more first second) (tt, (tt, (tt, (usual, (tt, (tt, (make_limits (signals_of first) (seed_of second) (in_limits 2 16 first), tt)))))))
+command_limits (word ∷ first ∷ second ∷ third ∷ []) =
+    form_limits word (three_more first second third) (
+      solve_limits first second (limit_of third) (some_limit third),
+      (tt, (tt, (trial_limits (signals_of first) (seed_of second) (limit_of third) (in_limits 2 16 first) (some_limit third), tt))),
+    )
+command_limits (word ∷ first ∷ second ∷ third ∷ fourth ∷ more) =
+    form_limits word (any_more first second third (fourth ∷ more))
+    (sweep_limits first second (fourth ∷ more) (are_cycles (fourth ∷ more)) (limit_of third) (cycles_spelled (fourth ∷ more)) (some_limit third), tt)

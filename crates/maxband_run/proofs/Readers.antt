@@ -5,12 +5,14 @@ use Rattle.outer_edge.specs.Held.{BeginsWith}
 use Rattle.artery_model.specs.Faults.{fault_of}
 use Rattle.artery_model.specs.declared.kind.Refusal.{Refusal}
 use Rattle.description_reader.specs.Described as described
+use Rattle.progression.specs.Street.{Street}
+use Rattle.plan_text.specs.Reading.{timing_of}
+use Rattle.plan_text.specs.CertificateReading.{certificate_of}
+use Rattle.link_proof.specs.LinkWarrants.{links_of}
 use Rattle.plan_text.specs.declared.fault.BadText.{BadText}
 use Rattle.maxband_run.specs.Lines.{refused_line, bad_text_line, too_long_line}
-use Rattle.maxband_run.specs.Reading.{Value, most_bytes, IsReadAs, IsRefusedFor, Input, HasBytes, Reads, IsUnread, Values, AreRead, StopsReading, AreTold}
+use Rattle.maxband_run.specs.Reading.{Reader, Description, Timing, Certificate, Links, IsNoDescription, IsBadText, Value, most_bytes, IsReadAs, IsRefusedFor, Input, HasBytes, Reads, IsUnread, Values, AreRead, StopsReading, AreTold}
 use Rattle.maxband_run.specs.Laws.{IsReached}
-use Rattle.maxband_run.specs.declared.reader.Reader.{Reader}
-use Rattle.maxband_run.specs.declared.reader.Reader.TheVariants.{Description, Timing, Certificate}
 use Rattle.maxband_run.specs.declared.cause.Cause.{Cause}
 use Rattle.maxband_run.specs.declared.cause.Cause.TheVariants as cause
 use Rattle.maxband_run.proofs.Holding.{has_told}
@@ -50,31 +52,47 @@ unread_told i place held before after x cause.Memory lines e n h = absurd n
 unread_told i place held before after x c lines e n h =
     inl (has_told (most_bytes i.reader) x (λ y. IsRefusedFor i.reader y c lines) (subst (λ o. HasBytes (most_bytes i.reader) o (λ y. IsRefusedFor i.reader y c lines)) e h.1))
 
+-- ---- texts
+module _ {V : Type 0} (reads : List ℕ → Result V BadText) (x : List ℕ) where
+  text_apart : (v : V) (c : Cause) (lines : List ℕ) → reads x ≡ Ok v → IsBadText reads x c lines → ⊥
+  text_apart v (cause.BadText b) lines h k = ok_apart v b (sym h ∙ k.0)
+  text_apart v c lines h k = absurd k
+
+  one_bad_text : (c d : Cause) (l m : List ℕ) → IsBadText reads x c l → IsBadText reads x d m → (c ≡ d) × (l ≡ m)
+  one_bad_text (cause.BadText a) (cause.BadText b) l m h k = let e = same_err a b (sym h.0 ∙ k.0) in (ap cause.BadText e, h.1 ∙ ap bad_text_line e ∙ sym k.1)
+  one_bad_text (cause.BadText a) d l m h k = absurd k
+  one_bad_text c d l m h k = absurd h
+
 module _ (reader : described.OneAnswer) where
+  -- ---- descriptions
+  description_apart : (x : List ℕ) (a : Street) (c : Cause) (lines : List ℕ) → described.Described x a → IsNoDescription x c lines → ⊥
+  description_apart x a (cause.Refused f) lines h k = reader.apart x a (fault_of f) h k.0
+  description_apart x a c lines h k = absurd k
+
+  one_no_description : (x : List ℕ) (c d : Cause) (l m : List ℕ) → IsNoDescription x c l → IsNoDescription x d m → (c ≡ d) × (l ≡ m)
+  one_no_description x (cause.Refused f) (cause.Refused g) l m h k = let e = same_refusal f g (reader.fault x (fault_of f) (fault_of g) h.0 k.0) in
+      (ap cause.Refused e, h.1 ∙ ap refused_line e ∙ sym k.1)
+  one_no_description x (cause.Refused f) d l m h k = absurd k
+  one_no_description x c d l m h k = absurd h
+
+  -- ---- the readers
   one_value : (r : Reader) (x : List ℕ) (u v : Value r) → IsReadAs r x u → IsReadAs r x v → u ≡ v
   one_value Description x u v h k = reader.artery x u v h k
   one_value Timing x u v h k = same_ok u v (sym h ∙ k)
   one_value Certificate x u v h k = same_ok u v (sym h ∙ k)
+  one_value Links x u v h k = same_ok u v (sym h ∙ k)
 
   value_apart : (r : Reader) (x : List ℕ) (v : Value r) (c : Cause) (lines : List ℕ) → IsReadAs r x v → IsRefusedFor r x c lines → ⊥
-  value_apart Description x v (cause.Refused f) lines h k = reader.apart x v (fault_of f) h k.0
-  value_apart Description x v c lines h k = absurd k
-  value_apart Timing x v (cause.BadText b) lines h k = ok_apart v b (sym h ∙ k.0)
-  value_apart Timing x v c lines h k = absurd k
-  value_apart Certificate x v (cause.BadText b) lines h k = ok_apart v b (sym h ∙ k.0)
-  value_apart Certificate x v c lines h k = absurd k
+  value_apart Description x v c lines h k = description_apart x v c lines h k
+  value_apart Timing x v c lines h k = text_apart timing_of x v c lines h k
+  value_apart Certificate x v c lines h k = text_apart certificate_of x v c lines h k
+  value_apart Links x v c lines h k = text_apart links_of x v c lines h k
 
   one_refusal : (r : Reader) (x : List ℕ) (c d : Cause) (l m : List ℕ) → IsRefusedFor r x c l → IsRefusedFor r x d m → (c ≡ d) × (l ≡ m)
-  one_refusal Description x (cause.Refused f) (cause.Refused g) l m h k = let e = same_refusal f g (reader.fault x (fault_of f) (fault_of g) h.0 k.0) in
-      (ap cause.Refused e, h.1 ∙ ap refused_line e ∙ sym k.1)
-  one_refusal Description x (cause.Refused f) d l m h k = absurd k
-  one_refusal Description x c d l m h k = absurd h
-  one_refusal Timing x (cause.BadText a) (cause.BadText b) l m h k = let e = same_err a b (sym h.0 ∙ k.0) in (ap cause.BadText e, h.1 ∙ ap bad_text_line e ∙ sym k.1)
-  one_refusal Timing x (cause.BadText a) d l m h k = absurd k
-  one_refusal Timing x c d l m h k = absurd h
-  one_refusal Certificate x (cause.BadText a) (cause.BadText b) l m h k = let e = same_err a b (sym h.0 ∙ k.0) in (ap cause.BadText e, h.1 ∙ ap bad_text_line e ∙ sym k.1)
-  one_refusal Certificate x (cause.BadText a) d l m h k = absurd k
-  one_refusal Certificate x c d l m h k = absurd h
+  one_refusal Description x c d l m h k = one_no_description x c d l m h k
+  one_refusal Timing x c d l m h k = one_bad_text timing_of x c d l m h k
+  one_refusal Certificate x c d l m h k = one_bad_text certificate_of x c d l m h k
+  one_refusal Links x c d l m h k = one_bad_text links_of x c d l m h k
 
   -- ---- one file
   pub one_read : (r : Reader) (o : Option (List ℕ)) (u v : Value r) → IsSome o → Reads r o u → Reads r o v → u ≡ v

@@ -12,18 +12,19 @@ use Rattle.plan_text.specs.declared.certificate.Claim.TheVariants as claim
 use Rattle.time_space.specs.Failing.{FailsRulesOut}
 use Rattle.certificate_checker.specs.Claims.{IsBest}
 use Rattle.certificate_checker.specs.Laws.{RefusedIsNotAccepted}
+use Rattle.link_proof.specs.LinkLaws.{LinkRefusedIsNotAccepted}
 use Rattle.branch_and_bound.specs.declared.found.Stop.{Stop}
 use Rattle.branch_and_bound.specs.declared.found.Verdict.{Verdict}
 use Rattle.branch_and_bound.specs.declared.found.Verdict.TheVariants.{Best, NoTiming, Stopped}
 use Rattle.branch_tree.specs.declared.site.SitePart.{SitePart}
 use Rattle.branch_tree.specs.declared.found.Found.{Found}
 use Rattle.branch_tree.specs.Certified.{value_of, claim_by, warrant_of}
-use Rattle.maxband_run.specs.Command.{Hold, Check, Solve, Renew, shape}
+use Rattle.maxband_run.specs.Command.{Hold, Check, CheckLinks, Solve, Renew, shape}
 use Rattle.maxband_run.specs.Outside.{Outside, NamedBytes, put_of, IsPut}
 use Rattle.certified_search.specs.Searched.{Proves}
 use Rattle.maxband_run.specs.Searched.{cause_of, IsTextOf}
 use Rattle.maxband_run.specs.Run.{Answered, Ends}
-use Rattle.maxband_run.specs.Laws.{IsVerdict, HoldsCertificate, PutsBest, PutsNone, PutsBound, SolveSays, HoldSays, CheckSays, SaysGood, SaysBroken, SaysAccepted, SaysRejected, PutsRenewed, RenewSays}
+use Rattle.maxband_run.specs.Laws.{IsVerdict, HoldsCertificate, PutsBest, PutsNone, PutsBound, SolveSays, HoldSays, CheckSays, CheckLinksSays, SaysGood, SaysBroken, SaysAccepted, SaysRejected, SaysLinksAccepted, SaysLinksRejected, PutsRenewed, RenewSays}
 use Rattle.maxband_run.specs.Status.{number_of}
 use Rattle.maxband_run.specs.declared.cause.Cause.{Cause}
 use Rattle.maxband_run.specs.declared.cause.Cause.TheVariants as cause
@@ -181,6 +182,10 @@ module _ (rules : FailsRulesOut) (before now : Outside) (artery timing : List �
     | inl s ↦ absurd (stops_stop before.holds before.reads now.reads (shape (Some (Hold artery timing))).inputs 1 (cause.Rejected r) h.0 s.stops)
     | inr k ↦ absurd k.finds
   ]
+  says_broken (cause.LinkRejected r) e h = elim h.2 [
+    | inl s ↦ absurd (stops_stop before.holds before.reads now.reads (shape (Some (Hold artery timing))).inputs 1 (cause.LinkRejected r) h.0 s.stops)
+    | inr k ↦ absurd k.finds
+  ]
   says_broken c e h = absurd cc
 
 pub hold_says : FailsRulesOut → HoldSays
@@ -222,12 +227,61 @@ module _ (apart : RefusedIsNotAccepted) (before now : Outside) (artery certifica
     | inl s ↦ absurd (stops_stop before.holds before.reads now.reads (shape (Some (Check artery certificate))).inputs 1 (cause.Fails f) h.0 s.stops)
     | inr k ↦ absurd k.finds
   ]
+  says_rejected (cause.LinkRejected r) e h = elim h.2 [
+    | inl s ↦ absurd (stops_stop before.holds before.reads now.reads (shape (Some (Check artery certificate))).inputs 1 (cause.LinkRejected r) h.0 s.stops)
+    | inr k ↦ absurd k.finds
+  ]
   says_rejected c e h = absurd cc
 
 pub check_says : RefusedIsNotAccepted → CheckSays
 check_says apart before now artery certificate c h = (
   (λ e. says_accepted apart before now artery certificate (subst (λ (d : Cause). Ends before now (Some (Check artery certificate)) d) (zero_is c e) h)),
   (λ e. says_rejected apart before now artery certificate c e h),
+)
+
+-- ---- check-links
+module _ (apart : LinkRefusedIsNotAccepted) (before now : Outside) (artery certificate : List ℕ) where
+  says_links_accepted : Completes before now (Some (CheckLinks artery certificate)) cause.Done → SaysLinksAccepted before now artery certificate
+  says_links_accepted h = elim h.2 [
+    | inl s ↦ absurd (stops_stop before.holds before.reads now.reads (shape (Some (CheckLinks artery certificate))).inputs 1 cause.Done h.0 s.stops)
+    | inr f ↦ record {
+      street = f.values.0;
+      warrant = f.values.1.0;
+      description = f.read.0;
+      text = f.read.1.0;
+      proves = f.finds.proves;
+      told = subst (λ (l : List ℕ). Appends before.taken now.taken l) f.finds.lines_are h.3.written;
+    }
+  ]
+
+  says_links_rejected : (c : Cause) → number_of c ≡ 4 → Ends before now (Some (CheckLinks artery certificate)) c → SaysLinksRejected before artery certificate c
+  says_links_rejected (cause.LinkRejected r) e h = elim h.2 [
+    | inl s ↦ absurd (stops_stop before.holds before.reads now.reads (shape (Some (CheckLinks artery certificate))).inputs 1 (cause.LinkRejected r) h.0 s.stops)
+    | inr k ↦ record {
+      street = k.values.0;
+      warrant = k.values.1.0;
+      reject = r;
+      description = k.read.0;
+      text = k.read.1.0;
+      first = k.finds.first;
+      not_accepted = apart k.values.0 k.values.1.0 r k.finds.first k.finds.kept;
+      cause_is = refl;
+    }
+  ]
+  says_links_rejected (cause.Fails f) e h = elim h.2 [
+    | inl s ↦ absurd (stops_stop before.holds before.reads now.reads (shape (Some (CheckLinks artery certificate))).inputs 1 (cause.Fails f) h.0 s.stops)
+    | inr k ↦ absurd k.finds
+  ]
+  says_links_rejected (cause.Rejected r) e h = elim h.2 [
+    | inl s ↦ absurd (stops_stop before.holds before.reads now.reads (shape (Some (CheckLinks artery certificate))).inputs 1 (cause.Rejected r) h.0 s.stops)
+    | inr k ↦ absurd k.finds
+  ]
+  says_links_rejected c e h = absurd cc
+
+pub check_links_says : LinkRefusedIsNotAccepted → CheckLinksSays
+check_links_says apart before now artery certificate c h = (
+  (λ e. says_links_accepted apart before now artery certificate (subst (λ (d : Cause). Ends before now (Some (CheckLinks artery certificate)) d) (zero_is c e) h)),
+  (λ e. says_links_rejected apart before now artery certificate c e h),
 )
 
 -- ---- renew

@@ -1,12 +1,14 @@
 -- What ends a run at a file: the causes, and what they leave of the counts of failed reads.
-use Rattle.std.proofs.Common.{◌≡◌, ℕ, ◌+◌, ◌≤◌, List, [], ◌∷◌, length, Option, ◌⊎◌, inl, inr, subst, sym}
+use Rattle.std.proofs.Common.{◌≡◌, ℕ, ◌+◌, ◌≤◌, List, [], ◌∷◌, length, Option, Result, ◌⊎◌, inl, inr, subst, sym}
 use Rattle.outer_edge.specs.Counts.{SameCounts}
 use Rattle.outer_edge.specs.Held.{SameFiles}
+use Rattle.plan_text.specs.Reading.{timing_of}
+use Rattle.plan_text.specs.CertificateReading.{certificate_of}
+use Rattle.link_proof.specs.LinkWarrants.{links_of}
+use Rattle.plan_text.specs.declared.fault.BadText.{BadText}
 use Rattle.maxband_run.specs.Lines.{cannot_read_line}
-use Rattle.maxband_run.specs.Reading.{Value, IsRefusedFor, Input, Reads, IsUnread, StopsReading, IsRoomForFaults}
+use Rattle.maxband_run.specs.Reading.{Reader, Description, Timing, Certificate, Links, IsBadText, IsRefusedFor, Input, IsUnread, StopsReading, IsRoomForFaults}
 use Rattle.maxband_run.specs.Laws.{IsFault}
-use Rattle.maxband_run.specs.declared.reader.Reader.{Reader}
-use Rattle.maxband_run.specs.declared.reader.Reader.TheVariants.{Description, Timing, Certificate}
 use Rattle.maxband_run.specs.declared.cause.Cause.{Cause}
 use Rattle.maxband_run.specs.declared.cause.Cause.TheVariants as cause
 
@@ -22,13 +24,16 @@ IsStop (cause.Refused r) = Unit {0}
 IsStop (cause.BadText b) = Unit {0}
 IsStop _ = ⊥
 
+bad_text_stop : {V : Type 0} (reads : List ℕ → Result V BadText) (x : List ℕ) (c : Cause) (l : List ℕ) → IsBadText reads x c l → IsStop c
+bad_text_stop reads x (cause.BadText b) l h = tt
+bad_text_stop reads x c l h = absurd h
+
 refused_stop : (r : Reader) (x : List ℕ) (c : Cause) (l : List ℕ) → IsRefusedFor r x c l → IsStop c
 refused_stop Description x (cause.Refused f) l h = tt
 refused_stop Description x c l h = absurd h
-refused_stop Timing x (cause.BadText b) l h = tt
-refused_stop Timing x c l h = absurd h
-refused_stop Certificate x (cause.BadText b) l h = tt
-refused_stop Certificate x c l h = absurd h
+refused_stop Timing x c l h = bad_text_stop timing_of x c l h
+refused_stop Certificate x c l h = bad_text_stop certificate_of x c l h
+refused_stop Links x c l h = bad_text_stop links_of x c l h
 
 module _ (held : List ℕ → Option (List ℕ)) (before after : List ℕ → ℕ) where
   pub unread_stop : (i : Input) (place : ℕ) (c : Cause) (l : List ℕ) → IsUnread i place held before after c l → IsStop c
@@ -66,10 +71,7 @@ module _ (held : List ℕ → Option (List ℕ)) (before after : List ℕ → �
   stops_room (i ∷ is) place room c l few (inr h) = stops_room is (place + 1) room c l few.1 h.2
 
 -- ---- what a later reading says of the files at entry
-pub unread_later : (i : Input) (place : ℕ) (held now : List ℕ → Option (List ℕ)) (before mid after : List ℕ → ℕ) (c : Cause) (l : List ℕ)
-    → SameFiles held now → SameCounts before mid → IsUnread i place now mid after c l → IsUnread i place held before after c l
-unread_later i place held now before mid after c l s k h =
-    subst (λ f. IsUnread i place f before after c l) (same_at held now s) (subst (λ b. IsUnread i place now b after c l) (same_at before mid k) h)
-
-pub reads_later : (r : Reader) (name : List ℕ) (held now : List ℕ → Option (List ℕ)) (v : Value r) → SameFiles held now → Reads r (now name) v → Reads r (held name) v
-reads_later r name held now v s h = subst (λ o. Reads r o v) (s name) h
+pub stops_later : (is : List Input) (place : ℕ) (held now : List ℕ → Option (List ℕ)) (before mid after : List ℕ → ℕ) (c : Cause) (l : List ℕ)
+    → SameFiles held now → SameCounts before mid → StopsReading is place now mid after c l → StopsReading is place held before after c l
+stops_later is place held now before mid after c l s k h =
+    subst (λ f. StopsReading is place f before after c l) (same_at held now s) (subst (λ b. StopsReading is place now b after c l) (same_at before mid k) h)

@@ -9,11 +9,10 @@ use Rattle.branch_tree.specs.Enough.{IsWithinEnough}
 use Rattle.workload_maker.specs.Made.{made_street}
 use Rattle.maxband_run.specs.Command.{Request, Solve, Trial}
 use Rattle.maxband_run.specs.Outside.{NamedBytes}
-use Rattle.maxband_run.specs.Reading.{input, IsUnread}
+use Rattle.maxband_run.specs.Reading.{input, IsUnread, Description}
 use Rattle.maxband_run.specs.Searched.{cause_of}
 use Rattle.maxband_run.specs.Run.{Answers}
 use Rattle.maxband_run.specs.Laws.{IsUnlimited, EndsOtherThanByWork, AllNeverStopsByWork}
-use Rattle.maxband_run.specs.declared.reader.Reader.TheVariants.{Description}
 use Rattle.maxband_run.specs.declared.cause.Cause.{Cause}
 use Rattle.maxband_run.specs.declared.cause.Cause.TheVariants as cause
 

@@ -4,8 +4,7 @@ use Rattle.std.specs.Str.{bytes_eq}
 use Rattle.work_meter.specs.Work.{IsBelow}
 use Rattle.maxband_run.specs.Numbers.{signals_of, seed_of, limit_of, usual_work}
 use Rattle.maxband_run.specs.Cycles.{are_cycles, SpellCycles}
-use Rattle.maxband_run.specs.Reading.{Input, input}
-use Rattle.maxband_run.specs.declared.reader.Reader.TheVariants.{Description, Timing, Certificate}
+use Rattle.maxband_run.specs.Reading.{Input, input, Description, Timing, Certificate, Links}
 use Rattle.maxband_run.specs.declared.command.Command.{Command}
 use Rattle.maxband_run.specs.declared.command.Command.TheVariants as command
 use Rattle.artery_model.specs.Bounds.{least_signals, most_first_signals}
@@ -14,6 +13,7 @@ pub data Request : Type 0 where
   Hold : List ℕ → List ℕ → Request  -- the names of a description and of a timing
   Show : List ℕ → Request  -- the name of a description
   Check : List ℕ → List ℕ → Request  -- the names of a description and of a certificate
+  CheckLinks : List ℕ → List ℕ → Request  -- the names of a description and of a certificate of link timings
   Solve : List ℕ → List ℕ → Option ℕ → Request  -- the names of a description and of a certificate, and the units that a search may spend, where there is a limit
   Renew : List ℕ → List ℕ → Request  -- the names of a certificate and of the file for its second text
   Bands : List ℕ → List ℕ → Request  -- the names of a description and of a timing
@@ -27,6 +27,7 @@ abbrev pub view : Command → Request
 view (command.Hold artery timing) = Hold artery.now timing.now
 view (command.Show artery) = Show artery.now
 view (command.Check artery certificate) = Check artery.now certificate.now
+view (command.CheckLinks artery certificate) = CheckLinks artery.now certificate.now
 view (command.Solve artery certificate limit) = Solve artery.now certificate.now limit
 view (command.Renew certificate new) = Renew certificate.now new.now
 view (command.Bands artery timing) = Bands artery.now timing.now
@@ -49,6 +50,7 @@ shape None = record { inputs = []; output = None; chooses = false }
 shape (Some (Hold artery timing)) = record { inputs = input Description artery ∷ input Timing timing ∷ []; output = None; chooses = false }
 shape (Some (Show artery)) = record { inputs = input Description artery ∷ []; output = None; chooses = false }
 shape (Some (Check artery certificate)) = record { inputs = input Description artery ∷ input Certificate certificate ∷ []; output = None; chooses = false }
+shape (Some (CheckLinks artery certificate)) = record { inputs = input Description artery ∷ input Links certificate ∷ []; output = None; chooses = false }
 shape (Some (Solve artery certificate limit)) = record { inputs = input Description artery ∷ []; output = Some certificate; chooses = true }
 shape (Some (Renew certificate new)) = record { inputs = input Certificate certificate ∷ []; output = Some new; chooses = false }
 shape (Some (Bands artery timing)) = record { inputs = input Description artery ∷ input Timing timing ∷ []; output = None; chooses = false }
@@ -75,35 +77,53 @@ make_of signals seed = option_and_then (λ n. option_map (Make n) (seed_of seed)
 abbrev pub trial_of : List ℕ → List ℕ → List ℕ → Option Request
 trial_of signals seed limit = option_and_then (λ n. option_and_then (λ s. option_map (Trial n s) (limit_of limit)) (seed_of seed)) (signals_of signals)
 
--- a first word with two more
-abbrev pub with_two : List ℕ → List ℕ → List ℕ → Option Request
-with_two word first second =
-    if bytes_eq word (codes "hold") then Some (Hold first second)
-    else (if bytes_eq word (codes "check") then Some (Check first second)
-    else (if bytes_eq word (codes "solve") then Some (Solve first second (Some usual_work))
-    else (if bytes_eq word (codes "renew") then Some (Renew first second)
-    else (if bytes_eq word (codes "bands") then Some (Bands first second)
-    else (if bytes_eq word (codes "make") then make_of first second else None)))))
+-- a first word, and what the words after it ask for
+pub record Form : Type 0 where
+  pub word : List ℕ
+  pub asks : Option Request
 
--- a first word with three more
-abbrev pub with_three : List ℕ → List ℕ → List ℕ → List ℕ → Option Request
-with_three word first second third =
-    if bytes_eq word (codes "solve") then option_map (Solve first second) (limit_of third)
-    else (if bytes_eq word (codes "round") then Some (Round first second third)
-    else (if bytes_eq word (codes "half") then Some (Half first second third)
-    else (if bytes_eq word (codes "trial") then trial_of first second third else None)))
+abbrev pub form : List ℕ → Option Request → Form
+form word asks = record { word = word; asks = asks }
+
+-- what the first form with this word asks for
+abbrev pub form_of : List ℕ → List Form → Option Request
+form_of word [] = None
+form_of word (f ∷ fs) = if bytes_eq word f.word then f.asks else form_of word fs
+
+-- the forms with one word more, with two, and with three
+abbrev pub one_more : List ℕ → List Form
+one_more first = form (codes "show") (Some (Show first)) ∷ []
+
+abbrev pub two_more : List ℕ → List ℕ → List Form
+two_more first second =
+    form (codes "hold") (Some (Hold first second))
+    ∷ form (codes "check") (Some (Check first second))
+    ∷ form (codes "check-links") (Some (CheckLinks first second))
+    ∷ form (codes "solve") (Some (Solve first second (Some usual_work)))
+    ∷ form (codes "renew") (Some (Renew first second))
+    ∷ form (codes "bands") (Some (Bands first second))
+    ∷ form (codes "make") (make_of first second)
+    ∷ []
+
+abbrev pub three_more : List ℕ → List ℕ → List ℕ → List Form
+three_more first second third =
+    form (codes "solve") (option_map (Solve first second) (limit_of third))
+    ∷ form (codes "round") (Some (Round first second third))
+    ∷ form (codes "half") (Some (Half first second third))
+    ∷ form (codes "trial") (trial_of first second third)
+    ∷ []
 
 -- the words for the limit and for the cycles
 abbrev pub sweep_of : List ℕ → List ℕ → List ℕ → List (List ℕ) → Option Request
 sweep_of artery table limit cycles = if are_cycles cycles then option_map (λ units. Sweep artery table units cycles) (limit_of limit) else None
 
--- a first word with three more and any number besides
-abbrev pub with_more : List ℕ → List ℕ → List ℕ → List ℕ → List (List ℕ) → Option Request
-with_more word first second third more = if bytes_eq word (codes "sweep") then sweep_of first second third more else None
+-- the forms with three words more and any number besides
+abbrev pub any_more : List ℕ → List ℕ → List ℕ → List (List ℕ) → List Form
+any_more first second third more = form (codes "sweep") (sweep_of first second third more) ∷ []
 
 abbrev pub request_of : List (List ℕ) → Option Request
-request_of (word ∷ first ∷ []) = if bytes_eq word (codes "show") then Some (Show first) else None
-request_of (word ∷ first ∷ second ∷ []) = with_two word first second
-request_of (word ∷ first ∷ second ∷ third ∷ []) = with_three word first second third
-request_of (word ∷ first ∷ second ∷ third ∷ fourth ∷ more) = with_more word first second third (fourth ∷ more)
+request_of (word ∷ first ∷ []) = form_of word (one_more first)
+request_of (word ∷ first ∷ second ∷ []) = form_of word (two_more first second)
+request_of (word ∷ first ∷ second ∷ third ∷ []) = form_of word (three_more first second third)
+request_of (word ∷ first ∷ second ∷ third ∷ fourth ∷ more) = form_of word (any_more first second third (fourth ∷ more))
 request_of _ = None

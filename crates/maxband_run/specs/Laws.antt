@@ -21,6 +21,11 @@ use Rattle.certificate_checker.specs.Claims as claims
 use Rattle.certificate_checker.specs.Accepted.{IsAccepted}
 use Rattle.certificate_checker.specs.Refusals.{IsFirstRefusal}
 use Rattle.certificate_checker.specs.declared.reject.Reject.{Reject}
+use Rattle.link_proof.specs.LinkWarrants.{LinkWarrant}
+use Rattle.link_proof.specs.LinkAccepted.{IsLinkAccepted}
+use Rattle.link_proof.specs.LinkClaims.{LinkClaimHolds}
+use Rattle.link_proof.specs.LinkRefusals.{IsFirstLinkRefusal}
+use Rattle.link_proof.specs.declared.reject.LinkReject.{LinkReject}
 use Rattle.branch_and_bound.specs.declared.found.Stop.{Stop}
 use Rattle.branch_and_bound.specs.declared.found.Stop.TheVariants.{Wide}
 use Rattle.branch_tree.specs.declared.site.SitePart.{SitePart}
@@ -28,9 +33,8 @@ use Rattle.branch_tree.specs.Certified.{value_of, warrant_of}
 use Rattle.maxband_run.specs.CheckLines.{accepted_line}
 use Rattle.maxband_run.specs.Lines.{holds_lines}
 use Rattle.maxband_run.specs.Outside.{Outside, NamedBytes}
-use Rattle.maxband_run.specs.Command.{Request, Hold, Check, Solve, Renew, Round, Make, Trial, Sweep, shape}
-use Rattle.maxband_run.specs.Reading.{Input, most_bytes, Reads, AreTold}
-use Rattle.maxband_run.specs.declared.reader.Reader.TheVariants.{Description, Timing, Certificate}
+use Rattle.maxband_run.specs.Command.{Request, Hold, Check, CheckLinks, Solve, Renew, Round, Make, Trial, Sweep, shape}
+use Rattle.maxband_run.specs.Reading.{Input, most_bytes, Reads, AreTold, Description, Timing, Certificate, Links}
 use Rattle.maxband_run.specs.Solve.{IsSolution}
 use Rattle.maxband_run.specs.Run.{Answers, Ends}
 use Rattle.maxband_run.specs.Status.{number_of}
@@ -241,6 +245,30 @@ pub record SaysRejected (before : Outside) (artery certificate : List ℕ) (c : 
 abbrev pub CheckSays : Type 0
 CheckSays = (before now : Outside) (artery certificate : List ℕ) (c : Cause) → Ends before now (Some (Check artery certificate)) c
     → (number_of c ≡ 0 → SaysAccepted before now artery certificate) × (number_of c ≡ 4 → SaysRejected before artery certificate c)
+
+-- `check-links` with status 0: what the certificate of the second file claims holds of every link timing of the artery of the first, and the claim is printed
+pub record SaysLinksAccepted (before now : Outside) (artery certificate : List ℕ) : Type 0 where
+  pub street : Street
+  pub warrant : LinkWarrant
+  pub description : Reads Description (before.holds artery) street
+  pub text : Reads Links (before.holds certificate) warrant
+  pub proves : LinkClaimHolds street warrant.claim warrant.timing
+  pub told : Appends before.taken now.taken (accepted_line warrant.claim)
+
+-- `check-links` with status 4: the certificate isn't accepted, and this is its first refusal
+pub record SaysLinksRejected (before : Outside) (artery certificate : List ℕ) (c : Cause) : Type 0 where
+  pub street : Street
+  pub warrant : LinkWarrant
+  pub reject : LinkReject
+  pub description : Reads Description (before.holds artery) street
+  pub text : Reads Links (before.holds certificate) warrant
+  pub first : IsFirstLinkRefusal street warrant reject
+  pub not_accepted : ¬ IsLinkAccepted street warrant
+  pub cause_is : c ≡ cause.LinkRejected reject
+
+abbrev pub CheckLinksSays : Type 0
+CheckLinksSays = (before now : Outside) (artery certificate : List ℕ) (c : Cause) → Ends before now (Some (CheckLinks artery certificate)) c
+    → (number_of c ≡ 0 → SaysLinksAccepted before now artery certificate) × (number_of c ≡ 4 → SaysLinksRejected before artery certificate c)
 
 -- `renew` with status 0: the file that is put holds, where it is told, the second text of the certificate that the first file held, and that text is read as just
 -- this certificate

@@ -9,6 +9,7 @@ pub mod Reading
 pub mod Hold
 pub mod Show
 pub mod Check
+pub mod CheckLinks
 pub mod Searched
 pub mod Solve
 pub mod Renew

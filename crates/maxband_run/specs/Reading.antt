@@ -1,7 +1,9 @@
 -- The files that a command reads, one after the other. What a file holds is a function of its name, with the bytes where they are told.
-use Rattle.std.specs.Prelude.{◌≡◌, ◌⊎◌, ℕ, ◌+◌, ◌≤◌, List, [], ◌∷◌, length, Option, IfSome, IsSome, Ok, Err}
-use Rattle.outer_edge.specs.Counts.{SameCounts, CountedAt}
-use Rattle.outer_edge.specs.Held.{BeginsWith}
+use Rattle.std.specs.Prelude.{◌≡◌, ◌⊎◌, ℕ, ◌+◌, ◌≤◌, List, [], ◌∷◌, length, Option, None, IfOk, IfSome, IsSome, OnErr, Result, Ok, Err}
+use Rattle.narrow_fraction.specs.declared.memory.Memory.{Memory}
+use Rattle.outer_edge.specs.Counts.{NoneFell, SameCounts, CountedAt}
+use Rattle.outer_edge.specs.Held.{BeginsWith, SameFiles}
+use Rattle.outer_edge.specs.declared.files.Files.{Ghosts}
 use Rattle.progression.specs.Street.{Street}
 use Rattle.progression.specs.Plan.{Plan}
 use Rattle.artery_model.specs.Faults.{fault_of}
@@ -9,37 +11,56 @@ use Rattle.description_reader.specs.Described.{Described, RefusedAs}
 use Rattle.plan_text.specs.Reading.{timing_of}
 use Rattle.plan_text.specs.Warrants.{Warrant}
 use Rattle.plan_text.specs.CertificateReading.{certificate_of}
+use Rattle.plan_text.specs.declared.fault.BadText.{BadText}
+use Rattle.link_proof.specs.LinkWarrants.{LinkWarrant, links_of}
 use Rattle.maxband_run.specs.Lines.{refused_line, bad_text_line, cannot_read_line, too_long_line}
-use Rattle.maxband_run.specs.declared.reader.Reader.{Reader}
-use Rattle.maxband_run.specs.declared.reader.Reader.TheVariants.{Description, Timing, Certificate}
+use Rattle.maxband_run.specs.declared.answer.Answer.{Answer}
 use Rattle.maxband_run.specs.declared.cause.Cause.{Cause}
 use Rattle.maxband_run.specs.declared.cause.Cause.TheVariants as cause
 
 -- ---- readers
--- what a file is read as
+pub data Reader : Type 0 where
+  Description : Reader
+  Timing : Reader
+  Certificate : Reader
+  Links : Reader  -- a certificate of link timings
+
+-- what a file is read as, the most bytes of such a file, which value the bytes are read as, and for which cause and with which line they are refused
+pub record Row : Type 1 where
+  pub Value : Type 0
+  pub most_bytes : ℕ
+  pub IsReadAs : List ℕ → Value → Type 0
+  pub IsRefusedFor : List ℕ → Cause → List ℕ → Type 0
+
+abbrev pub IsNoDescription : List ℕ → Cause → List ℕ → Type 0
+IsNoDescription bytes (cause.Refused r) lines = RefusedAs bytes (fault_of r) × (lines ≡ refused_line r)
+IsNoDescription bytes c lines = ⊥
+
+abbrev pub IsBadText : {V : Type 0} → (List ℕ → Result V BadText) → List ℕ → Cause → List ℕ → Type 0
+IsBadText reads bytes (cause.BadText b) lines = (reads bytes ≡ Err b) × (lines ≡ bad_text_line b)
+IsBadText reads bytes c lines = ⊥
+
+-- a text of at most so many bytes, which is read by this
+abbrev pub text_row : (V : Type 0) → ℕ → (List ℕ → Result V BadText) → Row
+text_row V most reads = record { Value = V; most_bytes = most; IsReadAs = λ bytes v. reads bytes ≡ Ok v; IsRefusedFor = IsBadText reads }
+
+abbrev pub row : Reader → Row
+row Description = record { Value = Street; most_bytes = 1048576; IsReadAs = Described; IsRefusedFor = IsNoDescription }
+row Timing = text_row Plan 1048576 timing_of
+row Certificate = text_row Warrant 268435456 certificate_of
+row Links = text_row LinkWarrant 268435456 links_of
+
 abbrev pub Value : Reader → Type 0
-Value Description = Street
-Value Timing = Plan
-Value Certificate = Warrant
+Value r = (row r).Value
 
--- the most bytes of such a file
 abbrev pub most_bytes : Reader → ℕ
-most_bytes Description = 1048576
-most_bytes Timing = 1048576
-most_bytes Certificate = 268435456
+most_bytes r = (row r).most_bytes
 
--- the bytes are read as this
 abbrev pub IsReadAs : (r : Reader) → List ℕ → Value r → Type 0
-IsReadAs Description bytes a = Described bytes a
-IsReadAs Timing bytes t = timing_of bytes ≡ Ok t
-IsReadAs Certificate bytes w = certificate_of bytes ≡ Ok w
+IsReadAs r bytes v = (row r).IsReadAs bytes v
 
--- the bytes are refused for this, with this line
 abbrev pub IsRefusedFor : Reader → List ℕ → Cause → List ℕ → Type 0
-IsRefusedFor Description bytes (cause.Refused r) lines = RefusedAs bytes (fault_of r) × (lines ≡ refused_line r)
-IsRefusedFor Timing bytes (cause.BadText b) lines = (timing_of bytes ≡ Err b) × (lines ≡ bad_text_line b)
-IsRefusedFor Certificate bytes (cause.BadText b) lines = (certificate_of bytes ≡ Err b) × (lines ≡ bad_text_line b)
-IsRefusedFor r bytes c lines = ⊥
+IsRefusedFor r bytes c lines = (row r).IsRefusedFor bytes c lines
 
 -- ---- one file
 pub record Input : Type 0 where
@@ -96,3 +117,21 @@ StopsReading (i ∷ is) place held before after c lines =
 abbrev pub AreTold : (List ℕ → Option (List ℕ)) → List Input → Type 0
 AreTold held [] = Unit {0}
 AreTold held (i ∷ is) = IsSome (held i.name) × AreTold held is
+
+-- ---- what reading does
+-- no file changes, no count of failed reads falls, and no put fails
+pub record LeavesFiles {F : Type 0} (files : Ghosts F) (before now : F) : Type 0 where
+  pub holds : SameFiles (files.holds before) (files.holds now)
+  pub reads : NoneFell (files.read_faults before) (files.read_faults now)
+  pub puts : SameCounts (files.put_faults before) (files.put_faults now)
+
+-- these files were read as their values, and no read failed
+pub record WereRead {F : Type 0} (files : Ghosts F) (before now : F) (is : List Input) (values : Values is) : Type 0 where
+  pub read : AreRead is (files.holds before) values
+  pub counts : SameCounts (files.read_faults before) (files.read_faults now)
+
+-- One of these files, of which the first is read at this place, wasn't read: an answer that tells why and puts nothing, or want of memory where no read failed.
+pub record WasUnread {F : Type 0} (files : Ghosts F) (before now : F) (is : List Input) (place : ℕ) (end : Result Answer Memory) : Type 0 where
+  pub told : IfOk end (λ a. StopsReading is place (files.holds before) (files.read_faults before) (files.read_faults now) a.cause a.lines.items)
+  pub no_put : IfOk end (λ a. a.put ≡ None)
+  pub memory : OnErr end (SameCounts (files.read_faults before) (files.read_faults now))

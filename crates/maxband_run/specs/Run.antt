@@ -1,13 +1,16 @@
 -- What a run comes to: the cause of its status, what stands behind it, what is put, and by which lines the output grew.
-use Rattle.std.specs.Prelude.{◌≡◌, ◌⊎◌, ℕ, List, [], Option, Some, None}
+use Rattle.std.specs.Prelude.{◌≡◌, ◌⊎◌, ℕ, List, [], Option, Some, None, IfOk, OnErr, Result, option_map}
+use Rattle.narrow_fraction.specs.declared.memory.Memory.{Memory}
 use Rattle.outer_edge.specs.Counts.{SameCounts}
-use Rattle.maxband_run.specs.Outside.{Outside, NamedBytes, With, put_of, IsDone, IsUntouched, IsBroken}
-use Rattle.maxband_run.specs.Command.{Request, Hold, Show, Check, Solve, Renew, Bands, Round, Half, Make, Trial, Sweep, shape}
+use Rattle.outer_edge.specs.declared.files.Files.{Ghosts}
+use Rattle.maxband_run.specs.Outside.{Outside, NamedBytes, With, put_of, view, IsDone, IsUntouched, IsBroken}
+use Rattle.maxband_run.specs.Command.{Request, Hold, Show, Check, CheckLinks, Solve, Renew, Bands, Round, Half, Make, Trial, Sweep, shape}
 use Rattle.maxband_run.specs.Reading.{Input, Values, AreRead, StopsReading}
 use Rattle.maxband_run.specs.Lines.{words_line}
 use Rattle.maxband_run.specs.Hold.{HoldFinds}
 use Rattle.maxband_run.specs.Show.{Shows}
 use Rattle.maxband_run.specs.Check.{CheckFinds}
+use Rattle.maxband_run.specs.CheckLinks.{CheckLinksFinds}
 use Rattle.maxband_run.specs.Solve.{IsSolution}
 use Rattle.maxband_run.specs.Renew.{IsRenewal}
 use Rattle.maxband_run.specs.Bands.{BandsFinds}
@@ -16,6 +19,7 @@ use Rattle.maxband_run.specs.Half.{HalfFinds}
 use Rattle.maxband_run.specs.Make.{Makes}
 use Rattle.maxband_run.specs.Trial.{IsTrial}
 use Rattle.maxband_run.specs.Sweep.{IsSweep}
+use Rattle.maxband_run.specs.declared.answer.Answer.{Answer}
 use Rattle.maxband_run.specs.declared.cause.Cause.{Cause}
 use Rattle.maxband_run.specs.declared.cause.Cause.TheVariants as cause
 
@@ -25,6 +29,7 @@ Finds None v c lines put = (c ≡ cause.Words) × (lines ≡ words_line)
 Finds (Some (Hold artery timing)) v c lines put = HoldFinds v.0 v.1.0 c lines
 Finds (Some (Show artery)) v c lines put = Shows v.0 c lines
 Finds (Some (Check artery certificate)) v c lines put = CheckFinds v.0 v.1.0 c lines
+Finds (Some (CheckLinks artery certificate)) v c lines put = CheckLinksFinds v.0 v.1.0 c lines
 Finds (Some (Solve artery certificate limit)) v c lines put = With (IsSolution v.0 limit c lines) put
 Finds (Some (Renew certificate new)) v c lines put = With (IsRenewal v.0 c lines) put
 Finds (Some (Bands artery timing)) v c lines put = BandsFinds v.0 v.1.0 c lines
@@ -51,6 +56,11 @@ pub record Answered (held : List ℕ → Option (List ℕ)) (before after : List
 -- The answer to the words, its lines, and what it puts. `held` is what the files held at entry, `before` and `after` count the failed reads of each name.
 abbrev pub Answers : (List ℕ → Option (List ℕ)) → (List ℕ → ℕ) → (List ℕ → ℕ) → Option Request → Cause → List ℕ → Option NamedBytes → Type 0
 Answers held before after asked c lines put = Stops held before after asked c lines put ⊎ Answered held before after asked c lines put
+
+-- the answer to the words, or want of memory where no read failed
+pub record IsAnswered {F : Type 0} (files : Ghosts F) (before now : F) (asked : Option Request) (r : Result Answer Memory) : Type 0 where
+  pub told : IfOk r (λ a. Answers (files.holds before) (files.read_faults before) (files.read_faults now) asked a.cause a.lines.items (option_map view a.put))
+  pub memory : OnErr r (SameCounts (files.read_faults before) (files.read_faults now))
 
 -- an answer that was reached, after which the put or a write failed
 pub record Breaks (before now : Outside) (asked : Option Request) : Type 0 where

@@ -11,6 +11,7 @@ number_of (cause.Refused r) = 3
 number_of (cause.BadText b) = 3
 number_of (cause.Fails f) = 4
 number_of (cause.Rejected r) = 4
+number_of (cause.LinkRejected r) = 4
 number_of cause.Words = 5
 number_of (cause.ReadFault file) = 6
 number_of cause.WriteFault = 7

@@ -7,6 +7,7 @@ use artery_model::Refusal;
 use branch_tree::Stop;
 use certificate_checker::Reject;
 use half_integer::HalfEnd;
+use link_proof::LinkReject;
 use plan_text::BadText;
 use second_plan::PlanEnd;
 use time_space::Failing;
@@ -29,6 +30,8 @@ pub enum Cause {
     Fails(Failing),
     /// The certificate is refused: the first refusal, which is never want of memory.
     Rejected(Reject),
+    /// The certificate of link timings is refused: the first refusal, which is never want of memory.
+    LinkRejected(LinkReject),
     /// The words are none of the forms.
     Words,
     /// A read of this file failed, and was counted.
@@ -62,7 +65,7 @@ impl Cause {
             Cause::NoTiming => 1,
             Cause::Stopped(_) => 2,
             Cause::Refused(_) | Cause::BadText(_) => 3,
-            Cause::Fails(_) | Cause::Rejected(_) => 4,
+            Cause::Fails(_) | Cause::Rejected(_) | Cause::LinkRejected(_) => 4,
             Cause::Words => 5,
             Cause::ReadFault { .. } => 6,
             Cause::WriteFault => 7,
@@ -85,6 +88,7 @@ impl Cause {
             | Cause::BadText(_)
             | Cause::Fails(_)
             | Cause::Rejected(_)
+            | Cause::LinkRejected(_)
             | Cause::Words
             | Cause::ReadFault { .. }
             | Cause::WriteFault

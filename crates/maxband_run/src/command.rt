@@ -1,59 +1,36 @@
 //! The words of a command.
 
 ghost use Rattle.std.specs.Prelude.{◌≡◌, length, map, option_map, string_bytes};
-ghost use Rattle.maxband_run.specs.Command.{request_of, make_of, trial_of, with_two, with_three, sweep_of, with_more, view, shape};
+ghost use Rattle.maxband_run.specs.Numbers.{limit_of};
+ghost use Rattle.maxband_run.specs.Command.{Solve, request_of, make_of, trial_of, sweep_of, form_of, one_more, two_more, three_more, any_more, view, shape};
 ghost use Rattle.maxband_run.specs.Lines.{cannot_read_line};
 ghost use Rattle.maxband_run.specs.Reading.{IsRoomForFaults};
 
 use crate::cycles::are_cycles;
 use crate::numbers::{USUAL_WORK, limit_in, seed_in, signals_in};
 
-/// What the words ask for.
+/// What the words ask for, with the names of files in the order of the words.
 #[derive(Clone, Copy)]
 pub enum Command<'a> {
     /// Test the timing of the second file on the artery of the first.
-    Hold {
-        artery: &'a str,
-        timing: &'a str,
-    },
+    Hold(&'a str, &'a str),
     /// Write the canonical description of the artery of the file.
-    Show {
-        artery: &'a str,
-    },
+    Show(&'a str),
     /// Check the certificate of the second file for the artery of the first.
-    Check {
-        artery: &'a str,
-        certificate: &'a str,
-    },
+    Check(&'a str, &'a str),
+    /// Check the certificate of link timings of the second file for the artery of the first.
+    CheckLinks(&'a str, &'a str),
     /// Search for a best timing of the artery of the first file, within a limit of the units of work where there is one, and put
     /// the certificate in the second.
-    Solve {
-        artery: &'a str,
-        certificate: &'a str,
-        limit: Option<u64>,
-    },
+    Solve(&'a str, &'a str, Option<u64>),
     /// Put the certificate of the first file, in whichever format it is, into the second in the second format.
-    Renew {
-        certificate: &'a str,
-        new: &'a str,
-    },
+    Renew(&'a str, &'a str),
     /// Measure the widest bands on the offsets of the timing of the second file, on the artery of the first.
-    Bands {
-        artery: &'a str,
-        timing: &'a str,
-    },
+    Bands(&'a str, &'a str),
     /// Make a plan in whole seconds of the certificate of the second file, for the artery of the first, and put it in the third.
-    Round {
-        artery: &'a str,
-        certificate: &'a str,
-        plan: &'a str,
-    },
+    Round(&'a str, &'a str, &'a str),
     /// Find the widest equal bands over all offsets of the timing of the second file, and put the plan that has them in the third.
-    Half {
-        artery: &'a str,
-        timing: &'a str,
-        new: &'a str,
-    },
+    Half(&'a str, &'a str, &'a str),
     /// Write the canonical description of the artery that is made with so many signals from the seed.
     Make {
         signals: u32,
@@ -73,6 +50,14 @@ pub enum Command<'a> {
         limit: Option<u64>,
         cycles: &'a [String],
     },
+}
+
+/// The command `solve` with these words.
+fn solve_of<'a>(artery: &'a str, certificate: &'a str, limit: &str) -> Option<Command<'a>>
+    ensures { option_map view result ≡ option_map (Solve artery.now certificate.now) (limit_of limit.now) }
+{
+    let limit = limit_in(limit)?;
+    Some(Command::Solve(artery, certificate, limit))
 }
 
 /// The command `make` with these words.
@@ -98,40 +83,29 @@ fn trial_of(signals: &str, seed: &str, limit: &str) -> Option<Command<'static>>
     })
 }
 
+/// The command of a word with one more.
+fn with_one<'a>(word: &str, first: &'a str) -> Option<Command<'a>>
+    ensures { option_map view result ≡ form_of word.now (one_more first.now) }
+{
+    match word {
+        "show" => Some(Command::Show(first)),
+        _ => None,
+    }
+}
+
 /// The command of a word with two more.
 fn with_two<'a>(word: &str, first: &'a str, second: &'a str) -> Option<Command<'a>>
-    ensures { option_map view result ≡ with_two word.now first.now second.now }
+    ensures { option_map view result ≡ form_of word.now (two_more first.now second.now) }
 {
-    if word == "hold" {
-        Some(Command::Hold {
-            artery: first,
-            timing: second,
-        })
-    } else if word == "check" {
-        Some(Command::Check {
-            artery: first,
-            certificate: second,
-        })
-    } else if word == "solve" {
-        Some(Command::Solve {
-            artery: first,
-            certificate: second,
-            limit: Some(USUAL_WORK),
-        })
-    } else if word == "renew" {
-        Some(Command::Renew {
-            certificate: first,
-            new: second,
-        })
-    } else if word == "bands" {
-        Some(Command::Bands {
-            artery: first,
-            timing: second,
-        })
-    } else if word == "make" {
-        make_of(first, second)
-    } else {
-        None
+    match word {
+        "hold" => Some(Command::Hold(first, second)),
+        "check" => Some(Command::Check(first, second)),
+        "check-links" => Some(Command::CheckLinks(first, second)),
+        "solve" => Some(Command::Solve(first, second, Some(USUAL_WORK))),
+        "renew" => Some(Command::Renew(first, second)),
+        "bands" => Some(Command::Bands(first, second)),
+        "make" => make_of(first, second),
+        _ => None,
     }
 }
 
@@ -142,31 +116,14 @@ fn with_three<'a>(
     second: &'a str,
     third: &'a str,
 ) -> Option<Command<'a>>
-    ensures { option_map view result ≡ with_three word.now first.now second.now third.now }
+    ensures { option_map view result ≡ form_of word.now (three_more first.now second.now third.now) }
 {
-    if word == "solve" {
-        let limit = limit_in(third)?;
-        Some(Command::Solve {
-            artery: first,
-            certificate: second,
-            limit,
-        })
-    } else if word == "round" {
-        Some(Command::Round {
-            artery: first,
-            certificate: second,
-            plan: third,
-        })
-    } else if word == "half" {
-        Some(Command::Half {
-            artery: first,
-            timing: second,
-            new: third,
-        })
-    } else if word == "trial" {
-        trial_of(first, second, third)
-    } else {
-        None
+    match word {
+        "solve" => solve_of(first, second, third),
+        "round" => Some(Command::Round(first, second, third)),
+        "half" => Some(Command::Half(first, second, third)),
+        "trial" => trial_of(first, second, third),
+        _ => None,
     }
 }
 
@@ -199,12 +156,11 @@ fn with_more<'a>(
     third: &str,
     more: &'a [String],
 ) -> Option<Command<'a>>
-    ensures { option_map view result ≡ with_more word.now first.now second.now third.now (map string_bytes more.now) }
+    ensures { option_map view result ≡ form_of word.now (any_more first.now second.now third.now (map string_bytes more.now)) }
 {
-    if word == "sweep" {
-        sweep_of(first, second, third, more)
-    } else {
-        None
+    match word {
+        "sweep" => sweep_of(first, second, third, more),
+        _ => None,
     }
 }
 
@@ -213,13 +169,7 @@ pub fn command_in(words: &[String]) -> Option<Command<'_>>
     ensures { option_map view result ≡ request_of (map string_bytes words.now) }
 {
     match words {
-        [word, artery] => if word.as_str() == "show" {
-            Some(Command::Show {
-                artery: artery.as_str(),
-            })
-        } else {
-            None
-        },
+        [word, first] => with_one(word.as_str(), first.as_str()),
         [word, first, second] => with_two(word.as_str(), first.as_str(), second.as_str()),
         [word, first, second, third] => with_three(
             word.as_str(),
@@ -251,35 +201,19 @@ pub fn room_for_faults(command: Option<Command<'_>>) -> u64
 {
     match command {
         Some(
-            Command::Show { artery }
-            | Command::Solve { artery, .. }
-            | Command::Sweep { artery, .. },
-        ) => fault_bytes(artery),
-        Some(Command::Renew { certificate, .. }) => fault_bytes(certificate),
+            Command::Show(first)
+            | Command::Solve(first, ..)
+            | Command::Renew(first, _)
+            | Command::Sweep { artery: first, .. },
+        ) => fault_bytes(first),
         Some(
-            Command::Hold {
-                artery,
-                timing: second,
-            }
-            | Command::Check {
-                artery,
-                certificate: second,
-            }
-            | Command::Round {
-                artery,
-                certificate: second,
-                ..
-            }
-            | Command::Bands {
-                artery,
-                timing: second,
-            }
-            | Command::Half {
-                artery,
-                timing: second,
-                ..
-            },
-        ) => fault_bytes(artery).max(fault_bytes(second)),
+            Command::Hold(first, second)
+            | Command::Check(first, second)
+            | Command::CheckLinks(first, second)
+            | Command::Bands(first, second)
+            | Command::Round(first, second, _)
+            | Command::Half(first, second, _),
+        ) => fault_bytes(first).max(fault_bytes(second)),
         Some(Command::Make { .. } | Command::Trial { .. }) | None => 0,
     }
 }

@@ -1,8 +1,8 @@
 //! The command `half`.
 
-ghost use Rattle.std.specs.Prelude.{◌≡◌, ◌≤◌, ℕ, List, Option, Some, IfOk, length, option_map, string_bytes};
+ghost use Rattle.std.specs.Prelude.{◌≡◌, ◌≤◌, IfOk, length, option_map, string_bytes};
 ghost use Rattle.progression.specs.Street.{count};
-ghost use Rattle.maxband_run.specs.Outside.{put_of, view};
+ghost use Rattle.maxband_run.specs.Outside.{MayPut, view};
 ghost use Rattle.maxband_run.specs.Half.{phase_name, phase_line, phase_lines, half_lines, end_line, TellsPlan, HalfFinds};
 
 use crate::answer::{Answer, Put, told};
@@ -107,7 +107,7 @@ pub fn half_cycle<'a>(
     timing: &Timing,
     new: &'a str,
 ) -> Result<Answer<'a>, Memory>
-    ensures finds { IfOk result (λ a. (bytes : Option (List ℕ)) × HalfFinds artery.now timing.now a.cause a.lines.items bytes × (option_map view a.put ≡ put_of (Some new.now) bytes)) }
+    ensures finds { MayPut new.now (HalfFinds artery.now timing.now) result }
 {
     match half(alloc, artery, timing) {
         Ok(Some(plan)) => tell_plan(alloc, artery, &plan, new),

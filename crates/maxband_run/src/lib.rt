@@ -12,6 +12,7 @@ mod bands;
 mod cause;
 mod check;
 mod check_lines;
+mod check_links;
 mod command;
 mod cycles;
 mod finish;
@@ -21,7 +22,7 @@ mod inputs;
 mod lines;
 mod make;
 mod numbers;
-mod reader;
+mod readable;
 mod renew;
 mod round;
 mod searching;
@@ -33,8 +34,8 @@ mod trial;
 
 pub use cause::{Cause, Status};
 pub use top::{
-    law_all_never_stops_by_work, law_check_says, law_faults_are_told, law_hold_says,
-    law_make_is_complete, law_one_answer, law_plan_is_held, law_put_is_accepted,
+    law_all_never_stops_by_work, law_check_links_says, law_check_says, law_faults_are_told,
+    law_hold_says, law_make_is_complete, law_one_answer, law_plan_is_held, law_put_is_accepted,
     law_renew_is_complete, law_renew_says, law_round_says, law_solve_is_complete, law_solve_says,
     law_sweep_is_complete, law_trial_is_complete, run,
 };

@@ -1,7 +1,7 @@
 //! The command `renew`.
 
-ghost use Rattle.std.specs.Prelude.{◌≡◌, ℕ, List, Some, IfOk, option_map, string_bytes};
-ghost use Rattle.maxband_run.specs.Outside.{named, view};
+ghost use Rattle.std.specs.Prelude.{◌≡◌, IfOk, string_bytes};
+ghost use Rattle.maxband_run.specs.Outside.{Puts};
 ghost use Rattle.maxband_run.specs.Renew.{renewed_line, IsRenewal};
 
 use crate::answer::{Answer, Put};
@@ -22,7 +22,7 @@ pub fn renew<'a>(
     certificate: &Certificate,
     name: &'a str,
 ) -> Result<Answer<'a>, Memory>
-    ensures finds { IfOk result (λ a. (bytes : List ℕ) × IsRenewal certificate.now a.cause a.lines.items bytes × (option_map view a.put ≡ Some (named name.now bytes))) }
+    ensures finds { Puts name.now (IsRenewal certificate.now) result }
 {
     let bytes = write_second(alloc, certificate)?;
     let lines = renewed_line(alloc)?.into_bytes();

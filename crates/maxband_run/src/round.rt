@@ -1,9 +1,9 @@
 //! The command `round`.
 
-ghost use Rattle.std.specs.Prelude.{◌≡◌, ◌≤◌, ℕ, List, Option, None, IfOk, length, option_map, string_bytes};
+ghost use Rattle.std.specs.Prelude.{◌≡◌, ◌≤◌, None, IfOk, length, option_map, string_bytes};
 ghost use Rattle.progression.specs.Street.{count};
 ghost use Rattle.progression.specs.Good.{Good};
-ghost use Rattle.maxband_run.specs.Outside.{put_of, view};
+ghost use Rattle.maxband_run.specs.Outside.{MayPut, view};
 ghost use Rattle.maxband_run.specs.Round.{whole_cycle_line, offset_line, offset_lines, loss_line, plan_lines, wide_line, unplanned_line, TellsRounded, RoundFinds};
 
 use crate::answer::{Answer, Put, told};
@@ -149,7 +149,7 @@ pub fn round<'a>(
     certificate: &Certificate,
     name: &'a str,
 ) -> Result<Answer<'a>, Memory>
-    ensures finds { IfOk result (λ a. (bytes : Option (List ℕ)) × RoundFinds artery.now certificate.now a.cause a.lines.items bytes × (option_map view a.put ≡ put_of (Some name.now) bytes)) }
+    ensures finds { MayPut name.now (RoundFinds artery.now certificate.now) result }
 {
     if let Err(reject) = check(alloc, artery, certificate) {
         return rejected(alloc, artery, reject);

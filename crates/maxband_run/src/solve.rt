@@ -1,8 +1,7 @@
 //! The command `solve`.
 
-ghost use Rattle.std.specs.Prelude.{◌≡◌, ℕ, List, Some, IfOk, option_map};
 ghost use Rattle.work_meter.specs.Work.{IsBelow};
-ghost use Rattle.maxband_run.specs.Outside.{named, view};
+ghost use Rattle.maxband_run.specs.Outside.{Puts};
 ghost use Rattle.maxband_run.specs.Solve.{IsSolution};
 
 use crate::answer::{Answer, Put};
@@ -21,7 +20,7 @@ pub fn solve<'a>(
     limit: Option<u64>,
 ) -> Result<Answer<'a>, Memory>
     requires { IsBelow 0 limit }
-    ensures finds { IfOk result (λ a. (bytes : List ℕ) × IsSolution artery.now limit a.cause a.lines.items bytes × (option_map view a.put ≡ Some (named certificate.now bytes))) }
+    ensures finds { Puts certificate.now (IsSolution artery.now limit) result }
 {
     let searched = search_and_tell(alloc, artery, limit)?;
     let lines = report(alloc, artery, &searched.found)?;

@@ -1,8 +1,8 @@
 //! The command `sweep`.
 
-ghost use Rattle.std.specs.Prelude.{◌≡◌, ℕ, List, Some, IfOk, map, option_map, string_bytes};
+ghost use Rattle.std.specs.Prelude.{◌≡◌, IfOk, map, string_bytes};
 ghost use Rattle.work_meter.specs.Work.{IsBelow};
-ghost use Rattle.maxband_run.specs.Outside.{named, view};
+ghost use Rattle.maxband_run.specs.Outside.{Puts};
 ghost use Rattle.maxband_run.specs.Cycles.{SpellCycles};
 ghost use Rattle.maxband_run.specs.Sweep.{rows_line, IsSweep};
 
@@ -31,7 +31,7 @@ pub fn sweep<'a>(
 ) -> Result<Answer<'a>, Memory>
     requires limit { IsBelow 0 limit }
     requires words { SpellCycles (map string_bytes words.now) }
-    ensures finds { IfOk result (λ a. (bytes : List ℕ) × IsSweep artery.now limit (map string_bytes words.now) a.cause a.lines.items bytes × (option_map view a.put ≡ Some (named table.now bytes))) }
+    ensures finds { Puts table.now (IsSweep artery.now limit (map string_bytes words.now)) result }
 {
     let cycles = cycles_in(alloc, words)?;
     let rows = sweep_rows(alloc, artery, limit, cycles.as_slice())?;

@@ -1,96 +1,20 @@
 //! The top call.
 
-ghost use Rattle.std.specs.Prelude.{◌≡◌, ◌≤◌, map, option_map, string_bytes, IfOk, OnErr};
-ghost use Rattle.outer_edge.specs.Counts.{NoneFell, SameCounts};
-ghost use Rattle.outer_edge.specs.Held.{SameFiles};
+ghost use Rattle.std.specs.Prelude.{◌≡◌, ◌≤◌, map, string_bytes};
+ghost use Rattle.outer_edge.specs.Counts.{NoneFell};
 ghost use Rattle.maxband_run.specs.Status.{number_of};
-ghost use Rattle.maxband_run.specs.Command as commands;
-ghost use Rattle.maxband_run.specs.Command.{request_of, shape, InLimits};
-ghost use Rattle.maxband_run.specs.Outside.{outside, view, OthersKept, PutsCounted};
-ghost use Rattle.maxband_run.specs.Run.{Answers, Ends, LeavesAlone};
-ghost use Rattle.maxband_run.specs.Laws.{OneAnswer, FaultsAreTold, SolveIsComplete, MakeIsComplete, TrialIsComplete, SweepIsComplete, RenewIsComplete, PutIsAccepted, AllNeverStopsByWork, SolveSays, HoldSays, CheckSays, RenewSays, RoundSays, PlanIsHeld};
+ghost use Rattle.maxband_run.specs.Command.{request_of, shape};
+ghost use Rattle.maxband_run.specs.Outside.{outside, OthersKept, PutsCounted};
+ghost use Rattle.maxband_run.specs.Run.{Ends, LeavesAlone};
+ghost use Rattle.maxband_run.specs.Laws.{OneAnswer, FaultsAreTold, SolveIsComplete, MakeIsComplete, TrialIsComplete, SweepIsComplete, RenewIsComplete, PutIsAccepted, AllNeverStopsByWork, SolveSays, HoldSays, CheckSays, CheckLinksSays, RenewSays, RoundSays, PlanIsHeld};
 
-use crate::answer::Answer;
-use crate::answers::{
-    bands_answer, check_answer, half_answer, hold_answer, renew_answer, round_answer, show_answer,
-    solve_answer, sweep_answer, words_answer,
-};
+use crate::answers::answer_to;
 use crate::cause::{Cause, Status};
-use crate::command::{Command, command_in, room_for_faults};
+use crate::command::{command_in, room_for_faults};
 use crate::finish::{Undelivered, deliver};
-use crate::make::make;
-use crate::trial::trial;
 use narrow_fraction::Memory;
 use outer_edge::{Files, Sink};
 use std::alloc::Global;
-
-/// The answer to what the words ask for.
-fn answer_to<'a, F: Files>(
-    alloc: Global,
-    command: Option<Command<'a>>,
-    files: &mut F,
-) -> Result<Answer<'a>, Memory>
-    requires { InLimits (option_map commands.view command) }
-    ensures told { IfOk result (λ a. Answers (F.holds files.old) (F.read_faults files.old) (F.read_faults files.new) (option_map commands.view command.entry) a.cause a.lines.items (option_map view a.put)) }
-    ensures memory { OnErr result (SameCounts (F.read_faults files.old) (F.read_faults files.new)) }
-
-    // In every case.
-    ensures files { SameFiles (F.holds files.old) (F.holds files.new) }
-    ensures reads { NoneFell (F.read_faults files.old) (F.read_faults files.new) }
-    ensures puts { SameCounts (F.put_faults files.old) (F.put_faults files.new) }
-    ensures alone { LeavesAlone (shape (option_map commands.view command.entry)).inputs (shape (option_map commands.view command.entry)).output files.old files.new }
-{
-    match command {
-        Some(Command::Hold { artery, timing }) => hold_answer(alloc, files, artery, timing),
-        Some(Command::Show { artery }) => show_answer(alloc, files, artery),
-        Some(
-            Command::Check {
-                artery,
-                certificate,
-            },
-        ) => check_answer(alloc, files, artery, certificate),
-        Some(
-            Command::Solve {
-                artery,
-                certificate,
-                limit,
-            },
-        ) => solve_answer(alloc, files, artery, certificate, limit),
-        Some(Command::Renew { certificate, new }) => renew_answer(alloc, files, certificate, new),
-        Some(Command::Bands { artery, timing }) => bands_answer(alloc, files, artery, timing),
-        Some(
-            Command::Round {
-                artery,
-                certificate,
-                plan,
-            },
-        ) => round_answer(alloc, files, artery, certificate, plan),
-        Some(
-            Command::Half {
-                artery,
-                timing,
-                new,
-            },
-        ) => half_answer(alloc, files, artery, timing, new),
-        Some(Command::Make { signals, seed }) => make(alloc, signals, seed),
-        Some(
-            Command::Trial {
-                signals,
-                seed,
-                limit,
-            },
-        ) => trial(alloc, signals, seed, limit),
-        Some(
-            Command::Sweep {
-                artery,
-                table,
-                limit,
-                cycles,
-            },
-        ) => sweep_answer(alloc, files, artery, table, limit, cycles),
-        None => words_answer(alloc),
-    }
-}
 
 fn status(cause: Cause) -> Status
     ensures cause { result.cause ≡ cause }
@@ -155,6 +79,7 @@ pub fn law_one_answer()
     second_plan::law_one_end();
     second_plan::law_plan_or_end();
     second_plan::law_one_plan();
+    link_proof::law_link_accepted_or_refused();
 }
 
 /// A law over the definitions: where the description of `solve` is one of an artery and no fault is counted, the run ends
@@ -231,6 +156,14 @@ pub fn law_check_says()
     ensures { CheckSays }
 {
     certificate_checker::law_accepted_or_refused();
+}
+
+/// A law over the definitions: after status 0 of `check-links` what the certificate claims holds of the artery's link timings and was
+/// printed, and after 4 it isn't accepted, and the cause is its first refusal.
+pub fn law_check_links_says()
+    ensures { CheckLinksSays }
+{
+    link_proof::law_link_accepted_or_refused();
 }
 
 /// A law over the definitions: after status 0 of `renew` the file that it put holds the second text of the certificate that it read.

@@ -13,6 +13,8 @@ mod hold_cases;
 #[cfg(test)]
 mod length_cases;
 #[cfg(test)]
+mod link_cases;
+#[cfg(test)]
 mod long_files;
 #[cfg(test)]
 mod made_cases;

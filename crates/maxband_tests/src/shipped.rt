@@ -10,6 +10,97 @@ pub struct Shipped {
 
 pub const STREETS: &[Shipped] = &[
     Shipped {
+        name: "bridge",
+        street: r##"# River Road: five signals 450 to 520 m apart, of which the fourth is red for 72 of 100 parts: all that crosses the river
+# goes through Bridge Street. One band for the whole street can be no wider than the green there, at every signal.
+# The others have green for more than half of the cycle, which only a band of each link can use.
+
+[artery]
+name = "River Road"
+units = "metric"
+parts = 100
+cycle = [80, 100]
+ratio = "4/5"
+
+[[signal]]
+name = "Mill Lane"
+red = 34
+
+[[signal]]
+name = "Church Road"
+red = 38
+left_out = 8           # to the school
+
+[[signal]]
+name = "Station Road"
+red = 40
+left_in = 8
+
+[[signal]]
+name = "Bridge Street"
+red = 72               # the only bridge for a kilometre
+
+[[signal]]
+name = "Park Road"
+red = 36
+
+[[link]]               # Mill Lane to Church Road
+distance_out = 450
+distance_in = 450
+speed_out = [40, 50]   # km/h
+speed_in = [40, 50]
+
+[[link]]               # Church Road to Station Road
+distance_out = 480
+distance_in = 480
+speed_out = [40, 50]
+speed_in = [40, 50]
+
+[[link]]               # Station Road to Bridge Street
+distance_out = 500
+distance_in = 500
+speed_out = [40, 50]
+speed_in = [40, 50]
+
+[[link]]               # Bridge Street to Park Road
+distance_out = 520
+distance_in = 520
+speed_out = [40, 50]
+speed_in = [40, 50]
+"##,
+        status: 0,
+        report: r##"verdict best
+weighted 63/125 = 0.504000
+band out 7/25 = 0.280000
+band in 7/25 = 0.280000
+cycle 100 = 100.000
+signal 1 pattern 1 offset 0 = 0.000 Mill Lane
+signal 2 pattern 2 offset 472/5 = 94.400 Church Road
+signal 3 pattern 1 offset 253/5 = 50.600 Station Road
+signal 4 pattern 1 offset 413/5 = 82.600 Bridge Street
+signal 5 pattern 1 offset 1129/25 = 45.160 Park Road
+link 1 out 50 = 50.000
+link 1 in 50 = 50.000
+link 2 out 40 = 40.000
+link 2 in 8640/209 = 41.339
+link 3 out 40 = 40.000
+link 3 in 50 = 50.000
+link 4 out 50 = 50.000
+link 4 in 50 = 50.000
+diagram
+5 out >>>>>>>>>>>>>===============#####################=======>>>>
+5 in ===========<<<<<<<<<<<<<<<<<#####################===========
+4 out #################################>>>>>>>>>>>>>>>>>##########
+4 in #################################<<<<<<<<<<<<<<<<<##########
+3 out ======>>>>>>>>>>>>>>>>>===#############################=====
+3 in <<<<<<<<<<<<===================########################<<<<<
+2 out ####################====================>>>>>>>>>>>>>>>>>###
+2 in ####################<<<<<<<<<<<<<<<<<===============########
+1 out =####################>>>>>>>>>>>>>>>>>======================
+1 in =####################==================<<<<<<<<<<<<<<<<<====
+"##,
+    },
+    Shipped {
         name: "broadway",
         street: r##"# Broadway through the business district: eight signals 160 to 240 m apart, the plan of the evening peak.
 # A part is a hundredth of the cycle, as on the controllers' sheets, and each red is what the cross street and its

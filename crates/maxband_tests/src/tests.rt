@@ -12,7 +12,7 @@ use crate::running::{first_wrong, first_wrong_search, is_answered, is_reported};
 use crate::shipped::STREETS;
 use crate::sweep_cases::{COUNTS, SWEEPS, first_wrong_sweep, is_counted};
 use crate::word_cases::{NO_FORMS, are_no_form};
-use crate::{check_cases, hold_cases, solve_cases, width_streets};
+use crate::{check_cases, hold_cases, link_cases, solve_cases, width_streets};
 use std::test::Fail;
 
 #[test]
@@ -28,6 +28,15 @@ fn timings_and_descriptions(rt: HostRuntime) -> Result<(), Fail> {
 fn certificates(rt: HostRuntime) -> Result<(), Fail> {
     for number in 0..12 {
         let table = check_cases::table(number);
+        assert_eq!(rt; first_wrong(rt.alloc(), &table)?, "", "{}", table.name);
+    }
+    Ok(())
+}
+
+#[test]
+fn certificates_of_links(rt: HostRuntime) -> Result<(), Fail> {
+    for number in 0..4 {
+        let table = link_cases::table(number);
         assert_eq!(rt; first_wrong(rt.alloc(), &table)?, "", "{}", table.name);
     }
     Ok(())

@@ -1,11 +1,10 @@
 -- Numerators, and one step of the least common denominator.
-use Rattle.std.proofs.Common.{◌≡◌, ℕ, zero, suc, pos, ◌+◌, ◌/◌, ◌<◌, ◌≤◌, ◌^◌, List, length, Option, Some, None, Result, Ok, Err, refl, sym, ◌∙◌, ap, subst, arith, add-one}
-use native.Mathlib.Nat.{div-le_self}
+use Rattle.std.proofs.Common.{◌≡◌, ℕ, suc, ◌+◌, ◌<◌, ◌^◌, List, length, Option, Some, None, Result, Ok, Err, refl, sym, ◌∙◌, ap, subst, arith, add-one}
 use Rattle.rational_theory.specs.Gcd.{lcm}
 use Rattle.std.specs.Prelude.{nat_le, ◌==◌, if◌then◌else◌, SomeIff, OnOk}
 use Rattle.std.proofs.lemmas.Bool.Decides.{nat_tests}
 use Rattle.std.proofs.Common.{true, false}
-use Rattle.rational_theory.specs.Rational.{ℚ, over}
+use Rattle.rational_theory.specs.Rational.{ℚ}
 use Rattle.narrow_fraction.specs.Attempt.{attempt, refusal_if}
 use Rattle.progression.specs.Street.{Street}
 use Rattle.recovery_theory.specs.Ticks.{in_parts, common, unit_of}

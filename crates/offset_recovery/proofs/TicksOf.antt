@@ -4,11 +4,10 @@ use native.Mathlib.Nat.{mul-div_cancel, mul-le-mul_left}
 use borrow.Author.Differences.{up, down}
 use Rattle.rational_theory.specs.Rational.{ℚ, ◌≤ℚ◌}
 use Rattle.rational_theory.proofs.Arithmetic.{own_ratio, whole_ratio, ≤ℚ_in}
-use Rattle.progression.specs.Street.{Street, count, HasLink}
+use Rattle.progression.specs.Street.{Street, HasLink}
 use Rattle.progression.specs.Speeds.{number, run_high}
 use Rattle.progression.specs.Columns.{RunOf}
 use Rattle.progression.specs.declared.parts.Dir.{Dir}
-use Rattle.linear_theory.specs.Places.{width}
 use Rattle.recovery_theory.specs.Ticks.{in_parts, unit_of, ticks_in, ticks_of}
 use Rattle.recovery_theory.proofs.Multiples.{unit_multiple}
 use Rattle.recovery_theory.proofs.Wholes.{ticks_from_parts}
@@ -17,10 +16,8 @@ use Rattle.offset_recovery.specs.Numbers.{IsReady}
 divided : (u t d : ℕ) → 0 < d → u ≡ t * d → u / d ≡ t
 divided u t d h e = ap (λ n. n / d) e ∙ mul-div_cancel t h
 
-pub ticks_are : (a : Street) (x : List ℚ) (j n d u : ℕ) → IsReady a x → j < width (count a) → n ≡ unsigned_abs (in_parts a x j).num → d ≡ (in_parts a x j).den → u ≡ unit_of a x → n * (u / d) ≡ ticks_in a x j
-ticks_are a x j n d u r l e f g =
-    let c = r.columns in
-    let k : j < length x = omega arith in
+pub ticks_are : (a : Street) (x : List ℚ) (j n d u : ℕ) → IsReady a x → j < length x → n ≡ unsigned_abs (in_parts a x j).num → d ≡ (in_parts a x j).den → u ≡ unit_of a x → n * (u / d) ≡ ticks_in a x j
+ticks_are a x j n d u r k e f g =
     let m = unit_multiple a x j k in
     let q = divided (unit_of a x) m.times (in_parts a x j).den (in_parts a x j).positive m.is in
     rw (e, f, g) (ap (λ t. unsigned_abs (in_parts a x j).num * t) q ∙ sym (ticks_from_parts a x r.parts r.not_negative j k))

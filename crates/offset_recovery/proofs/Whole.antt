@@ -25,25 +25,36 @@ use Rattle.offset_recovery.specs.declared.outcome.WideTiming.{WideTiming}
 use Rattle.offset_recovery.specs.declared.outcome.WideTiming.TheVariants as wide
 use Rattle.offset_recovery.specs.declared.outcome.RecoverFault.{RecoverFault}
 use Rattle.offset_recovery.specs.declared.outcome.RecoverFault.TheVariants as fault
+use Rattle.offset_recovery.specs.Inside.{SplitsInside}
 use Rattle.offset_recovery.specs.Answers.{Answers, IsOutcome}
-use Rattle.offset_recovery.specs.Outcomes.{Outcome, Refused, Splits, Gives}
+use Rattle.offset_recovery.specs.Outcomes.{Outcome, Refused, Splits, Gives, with_timing}
 use Rattle.offset_recovery.specs.Tests.{product_test, link_test, signal_test}
-use Rattle.offset_recovery.specs.Recovered.{link_tests, signal_tests, box_tests, number_tests, recovered}
+use Rattle.offset_recovery.specs.Recovered.{link_tests, signal_tests, box_tests, number_tests, recovered_by, recovered}
 
 -- ---- the outcome
-pub recovered_first : (a : Street) (box : Area) (x : List ℚ) (o : Outcome) → box_tests a box x ≡ Some o → recovered a box x ≡ o
+-- whatever the tests of the numbers are
+pub by_first : (a : Street) (box : Area) (x : List ℚ) (numbers : Option WideTiming) (o : Outcome Plan) → box_tests a box x ≡ Some o → recovered_by a box x numbers ≡ o
+by_first a box x numbers o h = rw h refl
+
+pub by_wide : (a : Street) (box : Area) (x : List ℚ) (numbers : Option WideTiming) (w : WideTiming) → box_tests a box x ≡ None → numbers ≡ Some w → recovered_by a box x numbers ≡ Refused w
+by_wide a box x numbers w h k = rw (h, k) refl
+
+pub by_timing : (a : Street) (box : Area) (x : List ℚ) (numbers : Option WideTiming) → box_tests a box x ≡ None → numbers ≡ None → recovered_by a box x numbers ≡ Gives (timing_of a x)
+by_timing a box x numbers h k = rw (h, k) refl
+
+pub recovered_first : (a : Street) (box : Area) (x : List ℚ) (o : Outcome Plan) → box_tests a box x ≡ Some o → recovered a box x ≡ o
 unfolding recovered
-recovered_first a box x o h = rw h refl
+recovered_first a box x o h = by_first a box x (number_tests a x) o h
 
 pub recovered_wide : (a : Street) (box : Area) (x : List ℚ) (w : WideTiming) → box_tests a box x ≡ None → number_tests a x ≡ Some w → recovered a box x ≡ Refused w
 unfolding recovered
-recovered_wide a box x w h k = rw (h, k) refl
+recovered_wide a box x w h k = by_wide a box x (number_tests a x) w h k
 
 pub recovered_timing : (a : Street) (box : Area) (x : List ℚ) → box_tests a box x ≡ None → number_tests a x ≡ None → recovered a box x ≡ Gives (timing_of a x)
 unfolding recovered
-recovered_timing a box x h k = rw (h, k) refl
+recovered_timing a box x h k = by_timing a box x (number_tests a x) h k
 
-pub refused_outcome : (a : Street) (box : Area) (x : List ℚ) (f : RecoverFault) → box_tests a box x ≡ None → Answers (number_tests a x) (λ t. t ≡ timing_of a x) (Err f) → IsOutcome (recovered a box x) (Err f)
+pub refused_outcome : (a : Street) (box : Area) (x : List ℚ) (f : RecoverFault) → box_tests a box x ≡ None → Answers (number_tests a x) (λ (t : Plan). t ≡ timing_of a x) (Err f) → IsOutcome (recovered a box x) (Err f)
 refused_outcome a box x (fault.Wide w) h k = recovered_wide a box x w h k
 refused_outcome a box x fault.Memory h k = tt
 
@@ -100,36 +111,44 @@ found f (suc n) e h = elim (either (first_below f n) (f n) e h) [
   | inr q ↦ record { at = n; below = omega arith; is = q }
 ]
 
--- a place comes from the second of the two tests at a link or signal
-splits_from : {W : Type 0} (f : W → WideTiming) (r : Option W) (b : Bool) (q p : At) → earlier (option_map (λ w. Refused (f w)) r) (refusal_if (not b) (Splits q)) ≡ Some (Splits p) → (b ≡ false) × (q ≡ p)
+-- the two tests at a link or signal
+abbrev pub both_tests : {W : Type 0} → (W → WideTiming) → Option W → Bool → At → Option (Outcome Plan)
+both_tests f r b q = earlier (option_map (λ w. Refused (f w)) r) (refusal_if (not b) (Splits q))
+
+-- a place comes from the second
+splits_from : {W : Type 0} (f : W → WideTiming) (r : Option W) (b : Bool) (q p : At) → both_tests f r b q ≡ Some (Splits p) → (b ≡ false) × (q ≡ p)
 splits_from f None true q p h = cc
 splits_from f None false q p h = let e : q ≡ p = cc in (refl, e)
 splits_from f (Some w) b q p h = cc
 
-link_inside : (a : Street) (box : Area) (x : List ℚ) (i : ℕ) (p : At) → IsStreet a → IsBoxOf a box → IsLongVertex a box x → HasLink a i → link_test a x i ≡ Some (Splits p) → IsPlace box p
-link_inside a box x i p h b v k e =
+-- a vertex does so inside
+pub long_inside : (a : Street) (box : Area) (x : List ℚ) → IsStreet a → IsBoxOf a box → IsLongVertex a box x → SplitsInside a box x
+long_inside a box x h b v = record { columns = v.columns; loops = loop_inside a box x h b v; turns = turn_inside a box x h b v }
+
+link_inside : (a : Street) (box : Area) (x : List ℚ) (i : ℕ) (p : At) → SplitsInside a box x → HasLink a i → link_test a x i ≡ Some (Splits p) → IsPlace box p
+link_inside a box x i p v k e =
     let s = splits_from (λ w. wide.Sum i w) (block_wide a x i) (is_whole_number (block_sum a x i)) (Loop i (floor_ℚ (block_sum a x i))) p e in
-    subst (IsPlace box) s.1 (loop_inside a box x h b v i k s.0)
+    subst (IsPlace box) s.1 (v.loops i k s.0)
 
-signal_inside : (a : Street) (box : Area) (x : List ℚ) (i : ℕ) (p : At) → IsStreet a → IsBoxOf a box → IsLongVertex a box x → HasSignal a i → signal_test a box x i ≡ Some (Splits p) → IsPlace box p
-signal_inside a box x i p h b v k e =
+signal_inside : (a : Street) (box : Area) (x : List ℚ) (i : ℕ) (p : At) → SplitsInside a box x → HasSignal a i → signal_test a box x i ≡ Some (Splits p) → IsPlace box p
+signal_inside a box x i p v k e =
     let s = splits_from (λ w. w) (product_test a x (place (count a) (ShiftOf i))) (is_ranked a box x i) (Turn i (rank_below a x i)) p e in
-    subst (IsPlace box) s.1 (turn_inside a box x h b v i k s.0)
+    subst (IsPlace box) s.1 (v.turns i k s.0)
 
-pub place_within : (a : Street) (box : Area) (x : List ℚ) (p : At) → IsStreet a → IsBoxOf a box → IsLongVertex a box x → box_tests a box x ≡ Some (Splits p) → IsPlace box p
-place_within a box x p h b v e = elim (either (link_tests a x) (signal_tests a box x) (Splits p) e) [
+pub place_within : (a : Street) (box : Area) (x : List ℚ) (p : At) → SplitsInside a box x → box_tests a box x ≡ Some (Splits p) → IsPlace box p
+place_within a box x p v e = elim (either (link_tests a x) (signal_tests a box x) (Splits p) e) [
   | inl q ↦ let f = found (λ j. link_test a x (j + 1)) (count a - 1) (Splits p) q in
-      let l = f.below in link_inside a box x (f.at + 1) p h b v (omega arith, omega arith) f.is
+      let l = f.below in link_inside a box x (f.at + 1) p v (omega arith, omega arith) f.is
   | inr q ↦ let f = found (λ j. signal_test a box x (j + 1)) (count a) (Splits p) q in
-      let l = f.below in signal_inside a box x (f.at + 1) p h b v (omega arith, omega arith) f.is
+      let l = f.below in signal_inside a box x (f.at + 1) p v (omega arith, omega arith) f.is
 ]
 
 pub place_inside : (a : Street) (box : Area) (x : List ℚ) (p : At) → IsStreet a → IsBoxOf a box → IsVertex a box x → box_tests a box x ≡ Some (Splits p) → IsPlace box p
-place_inside a box x p h b v e = place_within a box x p h b (long_vertex a box x v) e
+place_inside a box x p h b v e = place_within a box x p (long_inside a box x h b (long_vertex a box x v)) e
 
 -- ---- what an outcome says
 -- no test of the box gives a timing
-no_timing : {W : Type 0} (f : W → WideTiming) (r : Option W) (b : Bool) (q : At) (t : Plan) → earlier (option_map (λ w. Refused (f w)) r) (refusal_if (not b) (Splits q)) ≡ Some (Gives t) → ⊥
+no_timing : {W : Type 0} (f : W → WideTiming) (r : Option W) (b : Bool) (q : At) (t : Plan) → both_tests f r b q ≡ Some (Gives t) → ⊥
 no_timing f None true q t h = cc
 no_timing f None false q t h = cc
 no_timing f (Some w) b q t h = cc
@@ -143,21 +162,44 @@ box_gives_none a box x t e = elim (either (link_tests a x) (signal_tests a box x
 ]
 
 -- a timing comes where no test of the box stops
-gives : (first : Option Outcome) (number : Option WideTiming) (t u : Plan) → (first ≡ Some (Gives t) → ⊥) → unwrap_or (earlier first (option_map Refused number)) (Gives u) ≡ Gives t → (first ≡ None) × (u ≡ t)
+gives : (first : Option (Outcome Plan)) (number : Option WideTiming) (t u : Plan) → (first ≡ Some (Gives t) → ⊥) → unwrap_or (earlier first (option_map Refused number)) (Gives u) ≡ Gives t → (first ≡ None) × (u ≡ t)
 gives None None t u n h = let e : u ≡ t = cc in (refl, e)
 gives None (Some w) t u n h = cc
 gives (Some o) number t u n h = let e : o ≡ Gives t = h in absurd (n (ap Some e))
 
+pub by_gives : (a : Street) (box : Area) (x : List ℚ) (numbers : Option WideTiming) (t : Plan) → recovered_by a box x numbers ≡ Gives t → (box_tests a box x ≡ None) × (timing_of a x ≡ t)
+by_gives a box x numbers t h = gives (box_tests a box x) numbers t (timing_of a x) (box_gives_none a box x t) h
+
 pub gives_timing : (a : Street) (box : Area) (x : List ℚ) (t : Plan) → recovered a box x ≡ Gives t → (box_tests a box x ≡ None) × (timing_of a x ≡ t)
 unfolding recovered
-gives_timing a box x t h = gives (box_tests a box x) (number_tests a x) t (timing_of a x) (box_gives_none a box x t) h
+gives_timing a box x t h = by_gives a box x (number_tests a x) t h
 
 -- and a place where one does
-splits : (first : Option Outcome) (number : Option WideTiming) (p : At) (u : Plan) → unwrap_or (earlier first (option_map Refused number)) (Gives u) ≡ Splits p → first ≡ Some (Splits p)
+splits : (first : Option (Outcome Plan)) (number : Option WideTiming) (p : At) (u : Plan) → unwrap_or (earlier first (option_map Refused number)) (Gives u) ≡ Splits p → first ≡ Some (Splits p)
 splits None None p u h = cc
 splits None (Some w) p u h = cc
 splits (Some o) number p u h = ap Some h
 
+pub by_splits : (a : Street) (box : Area) (x : List ℚ) (numbers : Option WideTiming) (p : At) → recovered_by a box x numbers ≡ Splits p → box_tests a box x ≡ Some (Splits p)
+by_splits a box x numbers p h = splits (box_tests a box x) numbers p (timing_of a x) h
+
 pub splits_place : (a : Street) (box : Area) (x : List ℚ) (p : At) → recovered a box x ≡ Splits p → box_tests a box x ≡ Some (Splits p)
 unfolding recovered
-splits_place a box x p h = splits (box_tests a box x) (number_tests a x) p (timing_of a x) h
+splits_place a box x p h = by_splits a box x (number_tests a x) p h
+
+-- ---- with something made of the timing
+pub only_splits : {S T : Type 0} (f : S → T) (o : Outcome S) (p : At) → with_timing f o ≡ Splits p → o ≡ Splits p
+only_splits f (Refused w) p h = cc
+only_splits f (Splits q) p h = let e : q ≡ p = cc in ap Splits e
+only_splits f (Gives t) p h = cc
+
+-- the timing that it is made of
+pub record Made {S T : Type 0} (f : S → T) (o : Outcome S) (t : T) : Type 0 where
+  pub of : S
+  pub is : f of ≡ t
+  pub given : o ≡ Gives of
+
+pub only_gives : {S T : Type 0} (f : S → T) (o : Outcome S) (t : T) → with_timing f o ≡ Gives t → Made f o t
+only_gives f (Refused w) t h = cc
+only_gives f (Splits q) t h = cc
+only_gives f (Gives s) t h = let e : f s ≡ t = cc in record { of = s; is = e; given = refl }

@@ -3,6 +3,7 @@ use Rattle.std.specs.Prelude.{ℕ, ◌+◌, ◌-◌, List, length, Option, optio
 use Rattle.rational_theory.specs.Rational.{ℚ}
 use Rattle.narrow_fraction.specs.Attempt.{earlier, first_below}
 use Rattle.progression.specs.Street.{Street, count}
+use Rattle.progression.specs.Plan.{Plan}
 use Rattle.progression.specs.Columns.{BandOf, Frequency, WaitOf, RunOf}
 use Rattle.progression.specs.declared.parts.Dir.{Dir}
 use Rattle.progression.specs.declared.parts.Dir.TheVariants.{Outbound, Inbound}
@@ -16,13 +17,13 @@ use Rattle.offset_recovery.specs.Tests.{product_test, unit_test, number_test, co
 
 -- ---- the box
 -- the block sums in order of the links, then the shifts in order of the signals
-abbrev pub link_tests : Street → List ℚ → Option Outcome
+abbrev pub link_tests : Street → List ℚ → Option (Outcome Plan)
 link_tests a x = first_below (λ j. link_test a x (j + 1)) (count a - 1)
 
-abbrev pub signal_tests : Street → Area → List ℚ → Option Outcome
+abbrev pub signal_tests : Street → Area → List ℚ → Option (Outcome Plan)
 signal_tests a box x = first_below (λ j. signal_test a box x (j + 1)) (count a)
 
-abbrev pub box_tests : Street → Area → List ℚ → Option Outcome
+abbrev pub box_tests : Street → Area → List ℚ → Option (Outcome Plan)
 box_tests a box x = earlier (link_tests a x) (signal_tests a box x)
 
 -- ---- numbers
@@ -30,14 +31,16 @@ box_tests a box x = earlier (link_tests a x) (signal_tests a box x)
 abbrev pub unit_tests : Street → List ℚ → Option WideTiming
 unit_tests a x = earlier (first_below (product_test a x) (length x)) (first_below (unit_test a x) (length x))
 
--- the ticks of bands, frequency and runs, in order of the columns
+-- the ticks of frequency and runs, in order of the columns
 abbrev pub run_tests : Street → List ℚ → Dir → Option WideTiming
 run_tests a x d = first_below (λ j. column_test a x (RunOf d (j + 1))) (count a - 1)
 
+abbrev pub line_tests : Street → List ℚ → Option WideTiming
+line_tests a x = earlier (column_test a x Frequency) (earlier (run_tests a x Outbound) (run_tests a x Inbound))
+
+-- those of the bands before them
 abbrev pub column_tests : Street → List ℚ → Option WideTiming
-column_tests a x =
-    earlier (column_test a x (BandOf Outbound)) (earlier (column_test a x (BandOf Inbound)) (earlier (column_test a x Frequency)
-    (earlier (run_tests a x Outbound) (run_tests a x Inbound))))
+column_tests a x = earlier (column_test a x (BandOf Outbound)) (earlier (column_test a x (BandOf Inbound)) (line_tests a x))
 
 -- the first outbound crossing, the reds after the first, and the first inbound crossing, each named by a wait
 abbrev pub first_out_at : Street → List ℚ → ℕ
@@ -61,5 +64,9 @@ abbrev pub number_tests : Street → List ℚ → Option WideTiming
 number_tests a x = earlier (unit_tests a x) (earlier (column_tests a x) (placed_tests a x))
 
 -- ---- the whole
-unfoldable pub recovered : Street → Area → List ℚ → Outcome
-recovered a box x = unwrap_or (earlier (box_tests a box x) (option_map Refused (number_tests a x))) (Gives (timing_of a x))
+-- where these are the tests of its numbers
+abbrev pub recovered_by : Street → Area → List ℚ → Option WideTiming → Outcome Plan
+recovered_by a box x numbers = unwrap_or (earlier (box_tests a box x) (option_map Refused numbers)) (Gives (timing_of a x))
+
+unfoldable pub recovered : Street → Area → List ℚ → Outcome Plan
+recovered a box x = recovered_by a box x (number_tests a x)

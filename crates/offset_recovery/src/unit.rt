@@ -100,7 +100,7 @@ fn unit_of(artery: &Artery, point: &Point) -> Result<u128, WideTiming>
 }
 
 /// The ticks of a part, where the products with the number of parts and their least common denominator fit.
-pub fn unit(artery: &Artery, point: &Point) -> Result<u128, WideTiming>
+pub fn common_unit(artery: &Artery, point: &Point) -> Result<u128, WideTiming>
     requires { length point.now.values.items < 2 ^ 32 }
     ensures value { result ≡ attempt (unit_tests artery.now point.now.values.items) (unit_of artery.now point.now.values.items) }
     ensures small { OnOk result (unit_of artery.now point.now.values.items < 2 ^ 80) }

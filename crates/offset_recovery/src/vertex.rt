@@ -1,23 +1,20 @@
 //! A vertex's timing, or where it splits its box.
 
-ghost use Rattle.std.specs.Prelude.{◌≡◌, ◌<◌, ◌≤◌, ◌^◌, length, None, IfOk, pos};
-ghost use Rattle.progression.specs.Plan.{common_red};
-ghost use Rattle.progression.specs.Street.{count};
+ghost use Rattle.std.specs.Prelude.{◌≡◌, ◌<◌, ◌^◌, length, None, IfOk};
 ghost use Rattle.linear_theory.specs.Boxes.{IsBoxOf};
-ghost use Rattle.progression.specs.declared.parts.Dir.TheVariants.{Outbound, Inbound};
 ghost use Rattle.recovery_theory.specs.Ticks.{unit_of};
 ghost use Rattle.recovery_theory.specs.Placing.{timing_of};
 ghost use Rattle.recovery_theory.specs.Vertices.{IsVertex, IsLongVertex, IsWhole};
-ghost use Rattle.offset_recovery.specs.Recovered.{recovered, column_tests, red_tests, placed_tests, number_tests, first_out_at, first_in_at};
-ghost use Rattle.offset_recovery.specs.Numbers.{IsReady, ProductsFit, patterns_at, runs_at, reds_at, reds_plan};
+ghost use Rattle.offset_recovery.specs.Recovered.{recovered, column_tests, placed_tests, number_tests};
+ghost use Rattle.offset_recovery.specs.Numbers.{IsReady, ProductsFit};
+ghost use Rattle.offset_recovery.specs.Placed.{ArePlaced};
 ghost use Rattle.offset_recovery.specs.Answers.{Answers, IsOutcome, IsSound};
 
-use crate::lists::{patterns, runs};
 use crate::outcome::{RecoverFault, Recovered};
-use crate::placing::{checked_first_in, checked_first_out, reds};
+use crate::placed::{Lines, place_lines};
 use crate::splits::split_place;
 use crate::ticks::{band, check_columns, grid};
-use crate::unit::unit;
+use crate::unit::common_unit;
 use artery_model::bounds::{LEAST_SIGNALS, MOST_SIGNALS};
 use artery_model::{Artery, Dir};
 use named_row::Point;
@@ -38,26 +35,11 @@ fn ready(artery: &Artery, area: &SearchBox, point: &Point)
     law_valid_street();
 }
 
-/// The timing of these numbers, which fit.
-fn timing(
-    artery: &Artery,
-    point: &Point,
-    unit: u128,
-    patterns: Vec<u32>,
-    run_out: Vec<u128>,
-    run_in: Vec<u128>,
-    reds: Vec<u128>,
-    first_out: u128,
-    first_in: u128,
-) -> Timing
+/// The timing of these lines, whose numbers fit.
+fn timing(artery: &Artery, point: &Point, unit: u128, lines: Lines) -> Timing
     requires ready { IsReady artery.now point.now.values.items }
     requires unit { unit ≡ unit_of artery.now point.now.values.items }
-    requires patterns { patterns.items ≡ patterns_at artery.now point.now.values.items }
-    requires run_out { run_out.items ≡ runs_at artery.now point.now.values.items Dir.Outbound }
-    requires run_in { run_in.items ≡ runs_at artery.now point.now.values.items Dir.Inbound }
-    requires reds { reds.items ≡ reds_at artery.now point.now.values.items }
-    requires first_out { first_out ≡ first_out_at artery.now point.now.values.items }
-    requires first_in { first_in ≡ first_in_at artery.now point.now.values.items }
+    requires lines { ArePlaced artery.now point.now.values.items lines }
     requires columns { column_tests artery.now point.now.values.items ≡ None }
     requires placed { placed_tests artery.now point.now.values.items ≡ None }
     ensures { result ≡ timing_of artery.now point.now.values.items }
@@ -68,22 +50,20 @@ fn timing(
     let band_out = band(artery, point, unit, Dir::Outbound);
     let band_in = band(artery, point, unit, Dir::Inbound);
     match Timing::new(
-        grid, unit, patterns, reds, run_out, run_in, first_out, first_in, band_out, band_in,
+        grid,
+        unit,
+        lines.patterns,
+        lines.reds,
+        lines.run_out,
+        lines.run_in,
+        lines.first_out,
+        lines.first_in,
+        band_out,
+        band_in,
     ) {
         Some(timing) => timing,
         None => unreachable!(),
     }
-}
-
-/// The common red of the last signal.
-fn last_red(artery: &Artery, point: &Point, reds: &[u128]) -> u128
-    requires some { 2 ≤ count artery.now }
-    requires reds { reds.now ≡ reds_at artery.now point.now.values.items }
-    requires fit { red_tests artery.now point.now.values.items ≡ None }
-    ensures value { pos result ≡ common_red (reds_plan artery.now point.now.values.items) (count artery.now) }
-    ensures small { result < 2 ^ 80 }
-{
-    reds[artery.count() as usize - 1]
 }
 
 /// The timing of a vertex whose columns fit, where its reds and first crossings fit too.
@@ -93,20 +73,10 @@ fn placed(alloc: Global, artery: &Artery, point: &Point, unit: u128) -> Result<T
     requires columns { column_tests artery.now point.now.values.items ≡ None }
     ensures { Answers (placed_tests artery.now point.now.values.items) (λ t. t ≡ timing_of artery.now point.now.values.items) result }
 {
-    let patterns = patterns(alloc, artery, point)?;
-    let run_out = runs(alloc, artery, point, unit, Dir::Outbound)?;
-    let run_in = runs(alloc, artery, point, unit, Dir::Inbound)?;
-    let first_out = checked_first_out(artery, point, unit)?;
-    let reds = match reds(alloc, artery, point, unit, first_out) {
-        Ok(reds) => reds,
-        Err(fault) => return Err(fault),
-    };
-    prove!(2 <= artery.count());
-    let last = last_red(artery, point, reds.as_slice());
-    let first_in = checked_first_in(artery, point, unit, last)?;
-    Ok(timing(
-        artery, point, unit, patterns, run_out, run_in, reds, first_out, first_in,
-    ))
+    match place_lines(alloc, artery, point, unit) {
+        Ok(lines) => Ok(timing(artery, point, unit, lines)),
+        Err(fault) => Err(fault),
+    }
 }
 
 /// The timing of a vertex whose block sums are whole and whose shifts are the signals', where its numbers fit.
@@ -121,7 +91,7 @@ fn timing_of(
     requires few { length point.now.values.items < 2 ^ 32 }
     ensures { Answers (number_tests artery.now point.now.values.items) (λ t. t ≡ timing_of artery.now point.now.values.items) result }
 {
-    let unit = unit(artery, point)?;
+    let unit = common_unit(artery, point)?;
     ready(artery, area, point);
     check_columns(artery, point, unit)?;
     placed(alloc, artery, point, unit)
@@ -139,7 +109,7 @@ pub fn recover(
     artery: &Artery,
     area: &SearchBox,
     point: &Point,
-) -> Result<Recovered, RecoverFault>
+) -> Result<Recovered<Timing>, RecoverFault>
     requires boxed { IsBoxOf artery.now area.now }
     requires vertex { IsVertex artery.now area.now point.now.values.items }
     ensures outcome { IsOutcome (recovered artery.now area.now point.now.values.items) result }
@@ -156,7 +126,7 @@ pub fn recover_long(
     artery: &Artery,
     area: &SearchBox,
     point: &Point,
-) -> Result<Recovered, RecoverFault>
+) -> Result<Recovered<Timing>, RecoverFault>
     requires boxed { IsBoxOf artery.now area.now }
     requires vertex { IsLongVertex artery.now area.now point.now.values.items }
     requires few { length point.now.values.items < 2 ^ 32 }

@@ -1,20 +1,18 @@
 -- The rule on the common divisor of a leaf's whole numbers.
-use Rattle.std.proofs.Common.{◌≡◌, ◌↔◌, ℕ, zero, suc, ℤ, pos, ◌*ℤ◌, ◌*◌, ◌/◌, ◌<◌, List, [], ◌∷◌, All, refl, sym, ◌∙◌, ap, subst, arith, unsigned_abs, mul_comm, get_or}
-use Rattle.std.specs.Prelude.{int_div}
+use Rattle.std.proofs.Common.{◌≡◌, ◌↔◌, ℕ, zero, suc, ℤ, ◌*◌, ◌/◌, ◌<◌, List, [], ◌∷◌, All, refl, sym, ◌∙◌, ap, subst, arith, unsigned_abs, mul_comm, get_or}
 use Rattle.std.proofs.lemmas.List.Elements.{All-nil, All-cons, All-head, All-tail, All-weaker}
 use Rattle.std.proofs.lemmas.Nat.Gcd.{dvd_refl, dvd_trans}
-use Rattle.std.proofs.Math.IntN.{*ℤ_comm}
 use Prim.Native.Nat.{◌∣◌}
-use native.Mathlib.Nat.{mul-div_cancel', mul-div_cancel, dvd-mul_left, dvd_of_mul-dvd-mul_left, mul-dvd-mul_left, eq-one_of_dvd-one, one-dvd, pos_of_dvd_of_pos}
+use native.Mathlib.Nat.{mul-div_cancel', dvd-mul_left, dvd_of_mul-dvd-mul_left, mul-dvd-mul_left, eq-one_of_dvd-one, one-dvd, pos_of_dvd_of_pos}
 use Rattle.rational_theory.specs.Gcd.{gcd, lcm}
 use Rattle.rational_theory.specs.Rational.{ℚ, over}
 use Rattle.rational_theory.specs.laws.Coprime.{gcd-IsGcd}
 use Rattle.rational_theory.specs.laws.Fractions.{times_part}
-use Rattle.rational_theory.proofs.Fractions.{times-int_div}
 use Rattle.rational_theory.proofs.Multiples.{IsMultiple, lcm_first, lcm_second, lcm_least}
 use Rattle.named_row.specs.declared.leaves.Weight.{Weight}
-use Rattle.plan_text.specs.SecondText.{denominator_from, denominator_of, times_denominator}
+use Rattle.plan_text.specs.SecondText.{denominator_from, denominator_of}
 use Rattle.plan_text.specs.DivisorRule.{divisor_from, AreOver, DivisorRule}
+use Rattle.plan_text.proofs.Multipliers.{times_over}
 
 divides : (n d : ℕ) → IsMultiple n d → d ∣ n
 divides n d h = subst (λ m. d ∣ m) (sym h.is) (dvd-mul_left d h.times)
@@ -66,25 +64,9 @@ unfolding over
 den_over v zero h = absurd (omega arith)
 den_over v (suc d) h = refl
 
-num_over : (v : ℤ) (d : ℕ) → 0 < d → (over v d).num ≡ int_div v (pos (gcd (unsigned_abs v) d))
-unfolding over
-num_over v zero h = absurd (omega arith)
-num_over v (suc d) h = refl
-
 -- the divisor that was taken out
 taken : (v : ℤ) (d : ℕ) → 0 < d → gcd (unsigned_abs v) d * (over v d).den ≡ d
 taken v d h = ap (λ n. gcd (unsigned_abs v) d * n) (den_over v d h) ∙ (times_part (unsigned_abs v) d h).1
-
-quotient_is : (g n d : ℕ) → 0 < n → g * n ≡ d → d / n ≡ g
-quotient_is g n d h e = ap (λ m. m / n) (sym e) ∙ mul-div_cancel g h
-
-wholes : (d : ℕ) (v : ℤ) → 0 < d → times_denominator d (over v d) ≡ v
-wholes d v h =
-    let g = gcd (unsigned_abs v) d in
-    ap (λ z. z *ℤ pos (d / (over v d).den)) (num_over v d h)
-    ∙ ap (λ n. int_div v (pos g) *ℤ pos n) (quotient_is g (over v d).den d (over v d).positive (taken v d h))
-    ∙ *ℤ_comm (int_div v (pos g)) (pos g)
-    ∙ times-int_div v g (times_part (unsigned_abs v) d h).0
 
 -- ---- the rule
 
@@ -159,5 +141,5 @@ divisor_rule = record {
   least = least;
   greatest = greatest;
   rule = λ d vs ws h over_d. (λ e. rule_left d vs ws h over_d e, λ e. rule_right d vs ws h over_d e);
-  wholes = wholes;
+  wholes = times_over;
 }

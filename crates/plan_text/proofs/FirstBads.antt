@@ -12,16 +12,18 @@ use Rattle.plan_text.specs.declared.fault.TextFault.TheVariants.{Shape}
 use Rattle.plan_text.specs.Words.{is_text}
 use Rattle.plan_text.specs.SecondText.{second_line}
 use Rattle.plan_text.specs.Namings.{Naming, Named, Listed, is_list}
-use Rattle.plan_text.specs.Families.{ordinary}
-use Rattle.plan_text.specs.Warrants.{Node, Warrant}
+use Rattle.plan_text.specs.Families.{Table, ordinary}
+use Rattle.plan_text.specs.TimingTexts.{TimingText, one_band}
+use Rattle.plan_text.specs.Warrants.{Node, WarrantWith, Warrant}
 use Rattle.plan_text.specs.CertificateText.{certificate_line, tree_line}
-use Rattle.plan_text.specs.CertificateReading.{nodes_at, Beginning, rows_at, claim_at, ends_after, tree_at, first_of, second_of, text_by, certificate_of}
+use Rattle.plan_text.specs.CertificateReading.{nodes_at, Beginning, rows_at, claim_at, ends_after, tree_at, first_of, second_of, text_by, certificate_of, headed_of}
 use Rattle.plan_text.specs.FirstBad.{lines_in, NamesFirstBad, FirstBad}
 use Rattle.plan_text.proofs.Timings.{timing_again}
 use Rattle.plan_text.proofs.Certificates.{certificate_again, second_text_again}
 use Rattle.plan_text.proofs.NodeLines.{enough}
 use Rattle.plan_text.proofs.Grown.{after_line, one_and, numbered, line_grows, fixed_grows, fixed_later}
 use Rattle.plan_text.proofs.GrownTimings.{plan_grows, plan_later}
+use Rattle.plan_text.proofs.TimingLaws.{TimingLaws, one_band_laws}
 use Rattle.plan_text.proofs.GrownCertificates.{opened, rows_grow, rows_later, nodes_grow, nodes_later, claim_grows, claim_later}
 use Rattle.plan_text.proofs.Wholes.{Whole, NotBefore, whole_then, whole_made, not_before, not_before_made, closing, closing_whole, closing_later, nothing_whole, nothing_later, guard_whole, guard_not_before, chosen_whole, chosen_not_before, names_first}
 
@@ -94,44 +96,58 @@ unfolding tree_at
 tree_later names last line bytes before =
     not_before (after_line (line + 1)) last (fixed_at line tree_line bytes) (tree_then names line) (fixed_later last line tree_line bytes before) (λ rest here. tree_then_later names last line rest here)
 
-abbrev make_warrant : Beginning → List Node → Warrant
+abbrev make_warrant : {T : Type 0} → Beginning T → List Node → WarrantWith T
 make_warrant opening nodes = record { claim = opening.0; timing = opening.1; nodes = nodes }
 
 -- a tree, whose warrant is made
-warrant_whole : (opening : Beginning) (names : Naming) (last line : ℕ) (bytes z : List ℕ) → line + lines_in bytes ≡ last → Whole last (tree_at names line bytes >>= λ nodes. Ok (make_warrant opening nodes)) (tree_at names line (bytes ++ z) >>= λ nodes. Ok (make_warrant opening nodes))
+warrant_whole : {T : Type 0} (opening : Beginning T) (names : Naming) (last line : ℕ) (bytes z : List ℕ) → line + lines_in bytes ≡ last → Whole last (tree_at names line bytes >>= λ nodes. Ok (make_warrant opening nodes)) (tree_at names line (bytes ++ z) >>= λ nodes. Ok (make_warrant opening nodes))
 warrant_whole opening names last line bytes z e = whole_made last (tree_at names line bytes) (tree_at names line (bytes ++ z)) (make_warrant opening) (tree_whole names last line bytes z e)
 
-warrant_later : (opening : Beginning) (names : Naming) (last line : ℕ) (bytes : List ℕ) → last ≤ line → NotBefore last (tree_at names line bytes >>= λ nodes. Ok (make_warrant opening nodes))
+warrant_later : {T : Type 0} (opening : Beginning T) (names : Naming) (last line : ℕ) (bytes : List ℕ) → last ≤ line → NotBefore last (tree_at names line bytes >>= λ nodes. Ok (make_warrant opening nodes))
 warrant_later opening names last line bytes before = not_before_made last (tree_at names line bytes) (make_warrant opening) (tree_later names last line bytes before)
 
-abbrev first_then : Beginning → Result Warrant BadText
-first_then opening = tree_at (Named ordinary) opening.2 opening.3 >>= λ nodes. Ok (make_warrant opening nodes)
+module _ {T : Type 0} (text : TimingText T) (laws : TimingLaws text) (table : Table) where
+  abbrev first_then : Beginning T → Result (WarrantWith T) BadText
+  first_then opening = tree_at (Named table) opening.2 opening.3 >>= λ nodes. Ok (make_warrant opening nodes)
 
-first_whole : (last : ℕ) (bytes z : List ℕ) → 2 + lines_in bytes ≡ last → Whole last (first_of bytes) (first_of (bytes ++ z))
-unfolding first_of
-first_whole last bytes z end =
-    whole_then opened last z (claim_at bytes) (claim_at (bytes ++ z)) first_then first_then (claim_grows last bytes z end)
-    (λ o k. warrant_whole o (Named ordinary) last o.2 o.3 z k)
-    (λ o here. warrant_later o (Named ordinary) last o.2 o.3 (omega arith))
+  first_whole : (last : ℕ) (bytes z : List ℕ) → 2 + lines_in bytes ≡ last → Whole last (first_of text table bytes) (first_of text table (bytes ++ z))
+  unfolding first_of
+  first_whole last bytes z end =
+      whole_then opened last z (claim_at text bytes) (claim_at text (bytes ++ z)) first_then first_then (claim_grows text laws last bytes z end)
+      (λ o k. warrant_whole o (Named table) last o.2 o.3 z k)
+      (λ o here. warrant_later o (Named table) last o.2 o.3 (omega arith))
 
-first_later : (last : ℕ) (bytes : List ℕ) → last ≤ 2 → NotBefore last (first_of bytes)
-unfolding first_of
-first_later last bytes before = not_before opened last (claim_at bytes) first_then (claim_later last bytes before) (λ o here. warrant_later o (Named ordinary) last o.2 o.3 (omega arith))
+  first_later : (last : ℕ) (bytes : List ℕ) → last ≤ 2 → NotBefore last (first_of text table bytes)
+  unfolding first_of
+  first_later last bytes before = not_before opened last (claim_at text bytes) first_then (claim_later text laws last bytes before) (λ o here. warrant_later o (Named table) last o.2 o.3 (omega arith))
 
-abbrev listed_then : Beginning → List RowId × ℕ × List ℕ → Result Warrant BadText
+  headed_whole : (head bytes z : List ℕ) → Whole (lines_in bytes + 1) (headed_of text table head bytes) (headed_of text table head (bytes ++ z))
+  unfolding headed_of
+  headed_whole head bytes z =
+      let last = lines_in bytes + 1 in
+      whole_then (after_line 2) last z (fixed_at 1 head bytes) (fixed_at 1 head (bytes ++ z)) (first_of text table) (first_of text table) (fixed_grows last 1 head bytes z (omega arith))
+      (λ rest end. first_whole last rest z end)
+      (λ rest here. first_later last rest (omega arith))
+
+  -- the first bad line of a text that names its rows, and has this first line
+  pub headed_first : (head : List ℕ) → NamesFirstBad (headed_of text table head)
+  unfolding headed_of fixed_at line_at
+  headed_first head = names_first (headed_of text table head) (headed_whole head) refl
+
+abbrev listed_then : Beginning Plan → List RowId × ℕ × List ℕ → Result Warrant BadText
 listed_then opening rows = tree_at (Listed rows.0) rows.1 rows.2 >>= λ nodes. Ok (make_warrant opening nodes)
 
-abbrev second_then : Beginning → Result Warrant BadText
+abbrev second_then : Beginning Plan → Result Warrant BadText
 second_then opening = rows_at ordinary opening.2 opening.3 >>= listed_then opening
 
-second_then_later : (o : Beginning) (last : ℕ) → last ≤ o.2 → NotBefore last (second_then o)
+second_then_later : (o : Beginning Plan) (last : ℕ) → last ≤ o.2 → NotBefore last (second_then o)
 second_then_later o last before =
     not_before numbered last (rows_at ordinary o.2 o.3) (listed_then o) (rows_later ordinary last o.2 o.3 before) (λ rs here. warrant_later o (Listed rs.0) last rs.1 rs.2 (omega arith))
 
 second_whole : (last : ℕ) (bytes z : List ℕ) → 2 + lines_in bytes ≡ last → Whole last (second_of bytes) (second_of (bytes ++ z))
 unfolding second_of
 second_whole last bytes z end =
-    whole_then opened last z (claim_at bytes) (claim_at (bytes ++ z)) second_then second_then (claim_grows last bytes z end)
+    whole_then opened last z (claim_at one_band bytes) (claim_at one_band (bytes ++ z)) second_then second_then (claim_grows one_band one_band_laws last bytes z end)
     (λ o k. whole_then numbered last z (rows_at ordinary o.2 o.3) (rows_at ordinary o.2 (o.3 ++ z)) (listed_then o) (listed_then o) (rows_grow ordinary last o.2 o.3 z k)
     (λ rs m. warrant_whole o (Listed rs.0) last rs.1 rs.2 z m)
     (λ rs here. warrant_later o (Listed rs.0) last rs.1 rs.2 (omega arith)))
@@ -139,16 +155,16 @@ second_whole last bytes z end =
 
 second_later : (last : ℕ) (bytes : List ℕ) → last ≤ 2 → NotBefore last (second_of bytes)
 unfolding second_of
-second_later last bytes before = not_before opened last (claim_at bytes) second_then (claim_later last bytes before) (λ o here. second_then_later o last (omega arith))
+second_later last bytes before = not_before opened last (claim_at one_band bytes) second_then (claim_later one_band one_band_laws last bytes before) (λ o here. second_then_later o last (omega arith))
 
 certificate_whole : (bytes z : List ℕ) → Whole (lines_in bytes + 1) (certificate_of bytes) (certificate_of (bytes ++ z))
 unfolding certificate_of
 certificate_whole bytes z =
     let last = lines_in bytes + 1 in
     whole_then (one_and 2) last z (line_at 1 bytes) (line_at 1 (bytes ++ z)) text_by text_by (line_grows last 1 bytes z (omega arith))
-    (λ l end. chosen_whole last (is_text l.0 certificate_line) (first_of l.1) (first_of (l.1 ++ z)) (if is_text l.0 second_line then second_of l.1 else fault 1 Shape) (if is_text l.0 second_line then second_of (l.1 ++ z) else fault 1 Shape) (first_whole last l.1 z end)
+    (λ l end. chosen_whole last (is_text l.0 certificate_line) (first_of one_band ordinary l.1) (first_of one_band ordinary (l.1 ++ z)) (if is_text l.0 second_line then second_of l.1 else fault 1 Shape) (if is_text l.0 second_line then second_of (l.1 ++ z) else fault 1 Shape) (first_whole one_band one_band_laws ordinary last l.1 z end)
     (guard_whole last 1 (is_text l.0 second_line) (second_of l.1) (second_of (l.1 ++ z)) (omega arith) (second_whole last l.1 z end)))
-    (λ l here. chosen_not_before last (is_text l.0 certificate_line) (first_of l.1) (if is_text l.0 second_line then second_of l.1 else fault 1 Shape) (first_later last l.1 (omega arith))
+    (λ l here. chosen_not_before last (is_text l.0 certificate_line) (first_of one_band ordinary l.1) (if is_text l.0 second_line then second_of l.1 else fault 1 Shape) (first_later one_band one_band_laws ordinary last l.1 (omega arith))
     (guard_not_before last 1 (is_text l.0 second_line) (second_of l.1) (omega arith) (second_later last l.1 (omega arith))))
 
 certificate_first : NamesFirstBad certificate_of
@@ -157,7 +173,7 @@ certificate_first = names_first certificate_of certificate_whole refl
 
 -- ---- the law
 
-never : {A : Type 0} (x : A) (b : BadText) (r : Result A BadText) → r ≡ Ok x → r ≡ Err b → ⊥
+pub never : {A : Type 0} (x : A) (b : BadText) (r : Result A BadText) → r ≡ Ok x → r ≡ Err b → ⊥
 never x b r good bad = cc
 
 pub first_bad : FirstBad

@@ -5,8 +5,8 @@ use Rattle.std.specs.List.{list_any}
 use Rattle.std.proofs.lemmas.List.Elements.{All-nil, All-cons, All-head, All-tail, All-weaker}
 use Rattle.std.proofs.lemmas.Bool.Decides.{leb_tells}
 use Rattle.named_row.specs.declared.leaves.Weight.{Weight}
-use Rattle.plan_text.specs.declared.form.Form.{Form}
-use Rattle.plan_text.specs.declared.form.Form.TheVariants.{Over, Plain}
+use Rattle.plan_text.specs.declared.form.LeafForm.{LeafForm}
+use Rattle.plan_text.specs.declared.form.LeafForm.TheVariants.{Over, Plain}
 use Rattle.plan_text.specs.SecondText.{denominator_of, times_denominator, IsWhole, is_wide, form_of, IsWritable}
 
 -- a number fits or is wide
@@ -57,7 +57,7 @@ form_over d ws h =
 pub form_wide : (ws : List Weight) → (denominator_of ws < 2 ^ 127 → ⊥) → form_of ws ≡ Plain
 form_wide ws h = form_from ws true (any_wide (denominator_of ws) ws) (elim (fits_or_wide (denominator_of ws)) [ inl p ↦ p.0 | inr p ↦ absurd (h p.1) ]) refl
 
-or_true : (b : Bool) (x y : Form) → (if b || true then x else y) ≡ x
+or_true : (b : Bool) (x y : LeafForm) → (if b || true then x else y) ≡ x
 or_true true x y = refl
 or_true false x y = refl
 
@@ -83,6 +83,6 @@ pub over_says : (d : ℕ) (ws : List Weight) → form_of ws ≡ Over d → IsOve
 over_says d ws e = over_from d ws (is_wide (denominator_of ws)) (any_wide (denominator_of ws) ws) refl refl (sym (form_from ws (is_wide (denominator_of ws)) (any_wide (denominator_of ws) ws) refl refl) ∙ e)
 
 -- so the multipliers can be written in the form of their leaf
-pub writable : (ws : List Weight) (form : Form) → form ≡ form_of ws → All (IsWritable form) ws
+pub writable : (ws : List Weight) (form : LeafForm) → form ≡ form_of ws → All (IsWritable form) ws
 writable ws Plain e = λ k d lt. tt
 writable ws (Over d) e = let h = over_says d ws (sym e) in All-weaker (IsWhole d) (IsWritable (Over d)) (λ w k. (h.small, k)) ws h.wholes

@@ -2,14 +2,13 @@
 use Rattle.std.proofs.Common.{◌≡◌, ℕ, suc, zero, ◌+◌, ◌-◌, ◌^◌, ◌<◌, ◌≤◌, List, [], ◌∷◌, ◌++◌, length, Option, None, Some, Result, Ok, refl, ap, inl, inr, arith}
 use Rattle.std.specs.Prelude.{if◌then◌else◌, slice_get}
 use Rattle.rational_theory.specs.Rational.{ℚ}
-use Rattle.progression.specs.Plan.{Plan}
 use Rattle.named_row.specs.declared.leaves.Weight.{Weight}
 use Rattle.named_row.specs.declared.names.RowId.{RowId}
 use Rattle.search_box.specs.declared.span.At.TheVariants.{Loop, Turn}
 use Rattle.plan_text.specs.declared.fault.TextFault.TheVariants.{Ended, Shape, Number, Order}
 use Rattle.plan_text.specs.declared.fault.BadText.{BadText}
-use Rattle.plan_text.specs.declared.form.Form.{Form}
-use Rattle.plan_text.specs.declared.form.Form.TheVariants.{Over, Plain}
+use Rattle.plan_text.specs.declared.form.LeafForm.{LeafForm}
+use Rattle.plan_text.specs.declared.form.LeafForm.TheVariants.{Over, Plain}
 use Rattle.plan_text.specs.declared.tree.Head.{Head}
 use Rattle.plan_text.specs.declared.tree.Head.TheVariants as heads
 use Rattle.plan_text.specs.declared.certificate.Claim.{Claim}
@@ -18,7 +17,7 @@ use Rattle.plan_text.specs.Words.{is_text}
 use Rattle.plan_text.specs.Numbers.{number}
 use Rattle.plan_text.specs.Fractions.{integer, exact}
 use Rattle.plan_text.specs.Lines.{◌>>=◌, fault, line_at, words_at, fixed_at, ranged}
-use Rattle.plan_text.specs.Reading.{plan_at}
+use Rattle.plan_text.specs.TimingTexts.{TimingText}
 use Rattle.plan_text.specs.Families.{Table, family_in, is_lone_in, is_after}
 use Rattle.plan_text.specs.Warrants.{Node, LeafOf}
 use Rattle.plan_text.specs.CertificateText.{best_line, none_line, open_line, no_timing_line, value_key, bound_key, split_key, loop_key, turn_key, leaf_key}
@@ -28,7 +27,7 @@ use Rattle.plan_text.specs.CertificateReading.{or_number, range_of, index_of, fr
 use Rattle.plan_text.specs.FirstBad.{lines_in}
 use Rattle.plan_text.proofs.NodeLines.{node_lengths}
 use Rattle.plan_text.proofs.Grown.{Part, Grows, Reaches, IsAt, grows_by, grows_then, reaches_then, at_then, at_if, at_choice, tested, tested_later, chosen, chosen_later, guarded, guarded_later, after_line, one_and, numbered, line_grows, line_later, words_grow, words_later, fixed_grows, fixed_later, ranged_here}
-use Rattle.plan_text.proofs.GrownTimings.{plan_grows, plan_later}
+use Rattle.plan_text.proofs.TimingLaws.{TimingLaws}
 
 -- ---- the tests of one line
 
@@ -78,18 +77,18 @@ row_in_here : (names : Naming) (line : ℕ) (ws : List (List ℕ)) → IsAt line
 row_in_here (Named table) line ws = row_here table line ws
 row_in_here (Listed rows) line ws = listed_here rows line ws
 
-multiplier_here : (form : Form) (line : ℕ) (w : List ℕ) → IsAt line (multiplier_of form line w)
+multiplier_here : (form : LeafForm) (line : ℕ) (w : List ℕ) → IsAt line (multiplier_of form line w)
 unfolding multiplier_of
 multiplier_here Plain line w = or_number_here line (exact w)
 multiplier_here (Over d) line w = or_number_here line (over_whole d (exact w))
 
-weight_by_here : (names : Naming) (form : Form) (line : ℕ) (o : Option (List (List ℕ) × List ℕ)) → IsAt line (weight_by names form line o)
+weight_by_here : (names : Naming) (form : LeafForm) (line : ℕ) (o : Option (List (List ℕ) × List ℕ)) → IsAt line (weight_by names form line o)
 weight_by_here names form line None = (refl, tt)
 weight_by_here names form line (Some p) =
     at_then line (row_in names line p.0) (λ row. multiplier_of form line p.1 >>= λ by. Ok (record { row = row; by = by })) (row_in_here names line p.0)
     (λ row. at_then line (multiplier_of form line p.1) (λ by. Ok (record { row = row; by = by })) (multiplier_here form line p.1) (λ by. tt))
 
-weight_here : (names : Naming) (form : Form) (line : ℕ) (ws : List (List ℕ)) → IsAt line (weight_of names form line ws)
+weight_here : (names : Naming) (form : LeafForm) (line : ℕ) (ws : List (List ℕ)) → IsAt line (weight_of names form line ws)
 unfolding weight_of
 weight_here names form line ws = weight_by_here names form line (cut_last ws)
 
@@ -102,7 +101,7 @@ split_here line kind i place =
     (at_then line (index_of line i) (λ signal. ranged (range_of line 0 (2 ^ 32 - 1)) (number place) >>= λ rank. Ok (Turn signal rank)) (index_here line i)
     (λ signal. at_then line (ranged (range_of line 0 (2 ^ 32 - 1)) (number place)) (λ rank. Ok (Turn signal rank)) (ranged_here (range_of line 0 (2 ^ 32 - 1)) (number place)) (λ rank. tt))))
 
-count_of_leaf : (line : ℕ) (n : List ℕ) (form : Form) → IsAt line (leaf_count line n >>= λ count. Ok (heads.Leaf count form))
+count_of_leaf : (line : ℕ) (n : List ℕ) (form : LeafForm) → IsAt line (leaf_count line n >>= λ count. Ok (heads.Leaf count form))
 count_of_leaf line n form = at_then line (leaf_count line n) (λ count. Ok (heads.Leaf count form)) (ranged_here (range_of line 0 10000) (number n)) (λ count. tt)
 
 over_here : (names : Naming) (line : ℕ) (key d n : List ℕ) → IsAt line (over_head names line key d n)
@@ -194,7 +193,7 @@ rows_grow table last line bytes z e =
 
 -- ---- nodes
 
-abbrev leaf_then : Naming → Form → ℕ → ℕ → List Weight × List ℕ → Result (Node × ℕ × List ℕ) BadText
+abbrev leaf_then : Naming → LeafForm → ℕ → ℕ → List Weight × List ℕ → Result (Node × ℕ × List ℕ) BadText
 leaf_then names form line count ws = if is_form names form ws.0 then Ok (LeafOf ws.0, line + 1 + count, ws.1) else fault (line + count) Number
 
 rest_later : (names : Naming) (head : Head) (last line : ℕ) (bytes : List ℕ) → last < line + 1 → Reaches numbered last (rest_of names head line bytes)
@@ -264,113 +263,114 @@ nodes_grow names (suc steps) (suc others) last line bytes z few e =
 
 -- ---- the claim
 
-abbrev pub opened : Part Beginning
+abbrev pub opened : {T : Type 0} → Part (Beginning T)
 opened = record { next = λ x. x.2; rest = λ x. x.3; more = λ z x. (x.0, x.1, x.2, x.3 ++ z) }
 
-abbrev with_timing : Claim → ℕ → Plan × List ℕ → Result Beginning BadText
-with_timing claim line timing = Ok (claim, Some timing.0, line, timing.1)
+module _ {T : Type 0} (text : TimingText T) (laws : TimingLaws text) where
+  abbrev with_timing : Claim → ℕ → T × List ℕ → Result (Beginning T) BadText
+  with_timing claim line timing = Ok (claim, Some timing.0, line, timing.1)
 
-abbrev best_then : List (List ℕ) × List ℕ → Result Beginning BadText
-best_then l = fraction_of value_key 3 l.0 >>= λ value. plan_at 4 l.1 >>= with_timing (Best value) 12
+  abbrev best_then : List (List ℕ) × List ℕ → Result (Beginning T) BadText
+  best_then l = fraction_of value_key 3 l.0 >>= λ value. text.read 4 l.1 >>= with_timing (Best value) (4 + text.height)
 
-timing_grows : (claim : Claim) (last line : ℕ) (bytes z : List ℕ) → line + lines_in bytes ≡ last → Grows opened last z (plan_at line bytes >>= with_timing claim (line + 8)) (plan_at line (bytes ++ z) >>= with_timing claim (line + 8))
-timing_grows claim last line bytes z e = grows_then (one_and (line + 8)) opened last z (plan_at line bytes) (plan_at line (bytes ++ z)) (with_timing claim (line + 8)) (plan_grows last line bytes z e) (λ t end. (end, refl)) (λ t here. here)
+  timing_grows : (claim : Claim) (last line : ℕ) (bytes z : List ℕ) → line + lines_in bytes ≡ last → Grows opened last z (text.read line bytes >>= with_timing claim (line + text.height)) (text.read line (bytes ++ z) >>= with_timing claim (line + text.height))
+  timing_grows claim last line bytes z e = grows_then (one_and (line + text.height)) opened last z (text.read line bytes) (text.read line (bytes ++ z)) (with_timing claim (line + text.height)) (laws.grows last line bytes z e) (λ t end. (end, refl)) (λ t here. here)
 
-timing_later : (claim : Claim) (last line : ℕ) (bytes : List ℕ) → last ≤ line → Reaches opened last (plan_at line bytes >>= with_timing claim (line + 8))
-timing_later claim last line bytes here = reaches_then (one_and (line + 8)) opened last (plan_at line bytes) (with_timing claim (line + 8)) (plan_later last line bytes here) (λ t more. more)
+  timing_later : (claim : Claim) (last line : ℕ) (bytes : List ℕ) → last ≤ line → Reaches opened last (text.read line bytes >>= with_timing claim (line + text.height))
+  timing_later claim last line bytes here = reaches_then (one_and (line + text.height)) opened last (text.read line bytes) (with_timing claim (line + text.height)) (laws.later last line bytes here) (λ t more. more)
 
-best_grows : (last : ℕ) (bytes z : List ℕ) → 3 + lines_in bytes ≡ last → Grows opened last z (best_at bytes) (best_at (bytes ++ z))
-unfolding best_at
-best_grows last bytes z e =
-    grows_then (one_and 4) opened last z (words_at 3 bytes) (words_at 3 (bytes ++ z)) best_then (words_grow last 3 bytes z e)
-    (λ l end. tested opened last 3 z (fraction_of value_key 3 l.0) (λ value. plan_at 4 l.1 >>= with_timing (Best value) 12) (λ value. plan_at 4 (l.1 ++ z) >>= with_timing (Best value) 12) (fraction_here value_key 3 l.0) (omega arith) (λ value. timing_grows (Best value) last 4 l.1 z end))
-    (λ l here. tested_later opened last 3 (fraction_of value_key 3 l.0) (λ value. plan_at 4 l.1 >>= with_timing (Best value) 12) (fraction_here value_key 3 l.0) (omega arith) (λ value. timing_later (Best value) last 4 l.1 (omega arith)))
+  best_grows : (last : ℕ) (bytes z : List ℕ) → 3 + lines_in bytes ≡ last → Grows opened last z (best_at text bytes) (best_at text (bytes ++ z))
+  unfolding best_at
+  best_grows last bytes z e =
+      grows_then (one_and 4) opened last z (words_at 3 bytes) (words_at 3 (bytes ++ z)) best_then (words_grow last 3 bytes z e)
+      (λ l end. tested opened last 3 z (fraction_of value_key 3 l.0) (λ value. text.read 4 l.1 >>= with_timing (Best value) (4 + text.height)) (λ value. text.read 4 (l.1 ++ z) >>= with_timing (Best value) (4 + text.height)) (fraction_here value_key 3 l.0) (omega arith) (λ value. timing_grows (Best value) last 4 l.1 z end))
+      (λ l here. tested_later opened last 3 (fraction_of value_key 3 l.0) (λ value. text.read 4 l.1 >>= with_timing (Best value) (4 + text.height)) (fraction_here value_key 3 l.0) (omega arith) (λ value. timing_later (Best value) last 4 l.1 (omega arith)))
 
-best_later : (last : ℕ) (bytes : List ℕ) → last ≤ 3 → Reaches opened last (best_at bytes)
-unfolding best_at
-best_later last bytes before =
-    reaches_then (one_and 4) opened last (words_at 3 bytes) best_then (words_later last 3 bytes before)
-    (λ l here. tested_later opened last 3 (fraction_of value_key 3 l.0) (λ value. plan_at 4 l.1 >>= with_timing (Best value) 12) (fraction_here value_key 3 l.0) before (λ value. timing_later (Best value) last 4 l.1 (omega arith)))
+  best_later : (last : ℕ) (bytes : List ℕ) → last ≤ 3 → Reaches opened last (best_at text bytes)
+  unfolding best_at
+  best_later last bytes before =
+      reaches_then (one_and 4) opened last (words_at 3 bytes) best_then (words_later last 3 bytes before)
+      (λ l here. tested_later opened last 3 (fraction_of value_key 3 l.0) (λ value. text.read 4 l.1 >>= with_timing (Best value) (4 + text.height)) (fraction_here value_key 3 l.0) before (λ value. timing_later (Best value) last 4 l.1 (omega arith)))
 
-found_grows : (bound : ℚ) (ws : List (List ℕ)) (last : ℕ) (bytes z : List ℕ) → 5 + lines_in bytes ≡ last → Grows opened last z (found_at bound ws bytes) (found_at bound ws (bytes ++ z))
-unfolding found_at
-found_grows bound ws last bytes z e =
-    tested opened last 4 z (fraction_of value_key 4 ws) (λ value. plan_at 5 bytes >>= with_timing (Stopped bound (Some value)) 13) (λ value. plan_at 5 (bytes ++ z) >>= with_timing (Stopped bound (Some value)) 13) (fraction_here value_key 4 ws) (omega arith) (λ value. timing_grows (Stopped bound (Some value)) last 5 bytes z e)
+  found_grows : (bound : ℚ) (ws : List (List ℕ)) (last : ℕ) (bytes z : List ℕ) → 5 + lines_in bytes ≡ last → Grows opened last z (found_at text bound ws bytes) (found_at text bound ws (bytes ++ z))
+  unfolding found_at
+  found_grows bound ws last bytes z e =
+      tested opened last 4 z (fraction_of value_key 4 ws) (λ value. text.read 5 bytes >>= with_timing (Stopped bound (Some value)) (5 + text.height)) (λ value. text.read 5 (bytes ++ z) >>= with_timing (Stopped bound (Some value)) (5 + text.height)) (fraction_here value_key 4 ws) (omega arith) (λ value. timing_grows (Stopped bound (Some value)) last 5 bytes z e)
 
-found_later : (bound : ℚ) (ws : List (List ℕ)) (last : ℕ) (bytes : List ℕ) → last ≤ 4 → Reaches opened last (found_at bound ws bytes)
-unfolding found_at
-found_later bound ws last bytes before =
-    tested_later opened last 4 (fraction_of value_key 4 ws) (λ value. plan_at 5 bytes >>= with_timing (Stopped bound (Some value)) 13) (fraction_here value_key 4 ws) before (λ value. timing_later (Stopped bound (Some value)) last 5 bytes (omega arith))
+  found_later : (bound : ℚ) (ws : List (List ℕ)) (last : ℕ) (bytes : List ℕ) → last ≤ 4 → Reaches opened last (found_at text bound ws bytes)
+  unfolding found_at
+  found_later bound ws last bytes before =
+      tested_later opened last 4 (fraction_of value_key 4 ws) (λ value. text.read 5 bytes >>= with_timing (Stopped bound (Some value)) (5 + text.height)) (fraction_here value_key 4 ws) before (λ value. timing_later (Stopped bound (Some value)) last 5 bytes (omega arith))
 
-abbrev as_missing : ℚ → List ℕ → Result Beginning BadText
-as_missing bound rest = Ok (Stopped bound None, None, 5, rest)
+  abbrev as_missing : ℚ → List ℕ → Result (Beginning T) BadText
+  as_missing bound rest = Ok (Stopped bound None, None, 5, rest)
 
-missing_grows : (bound : ℚ) (last : ℕ) (bytes z : List ℕ) → 4 + lines_in bytes ≡ last → Grows opened last z (missing_at bound bytes) (missing_at bound (bytes ++ z))
-unfolding missing_at
-missing_grows bound last bytes z e = grows_then (after_line 5) opened last z (fixed_at 4 no_timing_line bytes) (fixed_at 4 no_timing_line (bytes ++ z)) (as_missing bound) (fixed_grows last 4 no_timing_line bytes z e) (λ r end. (end, refl)) (λ r here. here)
+  missing_grows : (bound : ℚ) (last : ℕ) (bytes z : List ℕ) → 4 + lines_in bytes ≡ last → Grows (opened {T = T}) last z (missing_at bound bytes) (missing_at bound (bytes ++ z))
+  unfolding missing_at
+  missing_grows bound last bytes z e = grows_then (after_line 5) (opened {T = T}) last z (fixed_at 4 no_timing_line bytes) (fixed_at 4 no_timing_line (bytes ++ z)) (as_missing bound) (fixed_grows last 4 no_timing_line bytes z e) (λ r end. (end, refl)) (λ r here. here)
 
-missing_later : (bound : ℚ) (last : ℕ) (bytes : List ℕ) → last ≤ 4 → Reaches opened last (missing_at bound bytes)
-unfolding missing_at
-missing_later bound last bytes before = reaches_then (after_line 5) opened last (fixed_at 4 no_timing_line bytes) (as_missing bound) (fixed_later last 4 no_timing_line bytes before) (λ r here. here)
+  missing_later : (bound : ℚ) (last : ℕ) (bytes : List ℕ) → last ≤ 4 → Reaches (opened {T = T}) last (missing_at bound bytes)
+  unfolding missing_at
+  missing_later bound last bytes before = reaches_then (after_line 5) (opened {T = T}) last (fixed_at 4 no_timing_line bytes) (as_missing bound) (fixed_later last 4 no_timing_line bytes before) (λ r here. here)
 
-abbrev value_or_not : ℚ → List ℕ → List (List ℕ) × List ℕ → Result Beginning BadText
-value_or_not bound bytes m = if begins_with value_key m.0 then found_at bound m.0 m.1 else missing_at bound bytes
+  abbrev value_or_not : ℚ → List ℕ → List (List ℕ) × List ℕ → Result (Beginning T) BadText
+  value_or_not bound bytes m = if begins_with value_key m.0 then found_at text bound m.0 m.1 else missing_at bound bytes
 
-abbrev bound_then : List ℕ → ℚ → Result Beginning BadText
-bound_then bytes bound = words_at 4 bytes >>= value_or_not bound bytes
+  abbrev bound_then : List ℕ → ℚ → Result (Beginning T) BadText
+  bound_then bytes bound = words_at 4 bytes >>= value_or_not bound bytes
 
-value_later : (bound : ℚ) (last : ℕ) (bytes : List ℕ) (m : List (List ℕ) × List ℕ) → last ≤ 4 → Reaches opened last (value_or_not bound bytes m)
-value_later bound last bytes m before = chosen_later opened last (begins_with value_key m.0) (found_at bound m.0 m.1) (missing_at bound bytes) (found_later bound m.0 last m.1 before) (missing_later bound last bytes before)
+  value_later : (bound : ℚ) (last : ℕ) (bytes : List ℕ) (m : List (List ℕ) × List ℕ) → last ≤ 4 → Reaches opened last (value_or_not bound bytes m)
+  value_later bound last bytes m before = chosen_later opened last (begins_with value_key m.0) (found_at text bound m.0 m.1) (missing_at bound bytes) (found_later bound m.0 last m.1 before) (missing_later bound last bytes before)
 
-bound_grows : (bound : ℚ) (last : ℕ) (bytes z : List ℕ) → 4 + lines_in bytes ≡ last → Grows opened last z (bound_then bytes bound) (bound_then (bytes ++ z) bound)
-bound_grows bound last bytes z e =
-    grows_by (one_and 5) opened last z (words_at 4 bytes) (words_at 4 (bytes ++ z)) (value_or_not bound bytes) (value_or_not bound (bytes ++ z)) (words_grow last 4 bytes z e)
-    (λ m is end. chosen opened last z (begins_with value_key m.0) (found_at bound m.0 m.1) (found_at bound m.0 (m.1 ++ z)) (missing_at bound bytes) (missing_at bound (bytes ++ z)) (found_grows bound m.0 last m.1 z end) (missing_grows bound last bytes z e))
-    (λ m here. value_later bound last (bytes ++ z) m (omega arith))
+  bound_grows : (bound : ℚ) (last : ℕ) (bytes z : List ℕ) → 4 + lines_in bytes ≡ last → Grows opened last z (bound_then bytes bound) (bound_then (bytes ++ z) bound)
+  bound_grows bound last bytes z e =
+      grows_by (one_and 5) opened last z (words_at 4 bytes) (words_at 4 (bytes ++ z)) (value_or_not bound bytes) (value_or_not bound (bytes ++ z)) (words_grow last 4 bytes z e)
+      (λ m is end. chosen opened last z (begins_with value_key m.0) (found_at text bound m.0 m.1) (found_at text bound m.0 (m.1 ++ z)) (missing_at bound bytes) (missing_at bound (bytes ++ z)) (found_grows bound m.0 last m.1 z end) (missing_grows bound last bytes z e))
+      (λ m here. value_later bound last (bytes ++ z) m (omega arith))
 
-bound_later : (bound : ℚ) (last : ℕ) (bytes : List ℕ) → last ≤ 4 → Reaches opened last (bound_then bytes bound)
-bound_later bound last bytes before = reaches_then (one_and 5) opened last (words_at 4 bytes) (value_or_not bound bytes) (words_later last 4 bytes before) (λ m here. value_later bound last bytes m before)
+  bound_later : (bound : ℚ) (last : ℕ) (bytes : List ℕ) → last ≤ 4 → Reaches opened last (bound_then bytes bound)
+  bound_later bound last bytes before = reaches_then (one_and 5) opened last (words_at 4 bytes) (value_or_not bound bytes) (words_later last 4 bytes before) (λ m here. value_later bound last bytes m before)
 
-open_grows : (last : ℕ) (bytes z : List ℕ) → 3 + lines_in bytes ≡ last → Grows opened last z (open_at bytes) (open_at (bytes ++ z))
-unfolding open_at
-open_grows last bytes z e =
-    grows_then (one_and 4) opened last z (words_at 3 bytes) (words_at 3 (bytes ++ z)) (λ l. fraction_of bound_key 3 l.0 >>= bound_then l.1) (words_grow last 3 bytes z e)
-    (λ l end. tested opened last 3 z (fraction_of bound_key 3 l.0) (bound_then l.1) (bound_then (l.1 ++ z)) (fraction_here bound_key 3 l.0) (omega arith) (λ bound. bound_grows bound last l.1 z end))
-    (λ l here. tested_later opened last 3 (fraction_of bound_key 3 l.0) (bound_then l.1) (fraction_here bound_key 3 l.0) (omega arith) (λ bound. bound_later bound last l.1 (omega arith)))
+  open_grows : (last : ℕ) (bytes z : List ℕ) → 3 + lines_in bytes ≡ last → Grows opened last z (open_at text bytes) (open_at text (bytes ++ z))
+  unfolding open_at
+  open_grows last bytes z e =
+      grows_then (one_and 4) opened last z (words_at 3 bytes) (words_at 3 (bytes ++ z)) (λ l. fraction_of bound_key 3 l.0 >>= bound_then l.1) (words_grow last 3 bytes z e)
+      (λ l end. tested opened last 3 z (fraction_of bound_key 3 l.0) (bound_then l.1) (bound_then (l.1 ++ z)) (fraction_here bound_key 3 l.0) (omega arith) (λ bound. bound_grows bound last l.1 z end))
+      (λ l here. tested_later opened last 3 (fraction_of bound_key 3 l.0) (bound_then l.1) (fraction_here bound_key 3 l.0) (omega arith) (λ bound. bound_later bound last l.1 (omega arith)))
 
-open_later : (last : ℕ) (bytes : List ℕ) → last ≤ 3 → Reaches opened last (open_at bytes)
-unfolding open_at
-open_later last bytes before =
-    reaches_then (one_and 4) opened last (words_at 3 bytes) (λ l. fraction_of bound_key 3 l.0 >>= bound_then l.1) (words_later last 3 bytes before)
-    (λ l here. tested_later opened last 3 (fraction_of bound_key 3 l.0) (bound_then l.1) (fraction_here bound_key 3 l.0) before (λ bound. bound_later bound last l.1 (omega arith)))
+  open_later : (last : ℕ) (bytes : List ℕ) → last ≤ 3 → Reaches opened last (open_at text bytes)
+  unfolding open_at
+  open_later last bytes before =
+      reaches_then (one_and 4) opened last (words_at 3 bytes) (λ l. fraction_of bound_key 3 l.0 >>= bound_then l.1) (words_later last 3 bytes before)
+      (λ l here. tested_later opened last 3 (fraction_of bound_key 3 l.0) (bound_then l.1) (fraction_here bound_key 3 l.0) before (λ bound. bound_later bound last l.1 (omega arith)))
 
-abbrev none_at : List ℕ → Result Beginning BadText
-none_at bytes = Ok (NoTiming, None, 3, bytes)
+  abbrev none_at : List ℕ → Result (Beginning T) BadText
+  none_at bytes = Ok (NoTiming, None, 3, bytes)
 
-verdict_grows : (text : List ℕ) (last : ℕ) (bytes z : List ℕ) → 3 + lines_in bytes ≡ last → Grows opened last z (verdict_of text bytes) (verdict_of text (bytes ++ z))
-unfolding verdict_of
-verdict_grows text last bytes z e =
-    let other = bytes ++ z in
-    chosen opened last z (is_text text best_line) (best_at bytes) (best_at other) (if is_text text none_line then none_at bytes else (if is_text text open_line then open_at bytes else fault 2 Shape)) (if is_text text none_line then none_at other else (if is_text text open_line then open_at other else fault 2 Shape))
-    (best_grows last bytes z e)
-    (chosen opened last z (is_text text none_line) (none_at bytes) (none_at other) (if is_text text open_line then open_at bytes else fault 2 Shape) (if is_text text open_line then open_at other else fault 2 Shape)
-    (e, refl)
-    (chosen opened last z (is_text text open_line) (open_at bytes) (open_at other) (fault 2 Shape) (fault 2 Shape) (open_grows last bytes z e) (inl (tt, omega arith, refl))))
+  verdict_grows : (verdict : List ℕ) (last : ℕ) (bytes z : List ℕ) → 3 + lines_in bytes ≡ last → Grows opened last z (verdict_of text verdict bytes) (verdict_of text verdict (bytes ++ z))
+  unfolding verdict_of
+  verdict_grows verdict last bytes z e =
+      let other = bytes ++ z in
+      chosen opened last z (is_text verdict best_line) (best_at text bytes) (best_at text other) (if is_text verdict none_line then none_at bytes else (if is_text verdict open_line then open_at text bytes else fault 2 Shape)) (if is_text verdict none_line then none_at other else (if is_text verdict open_line then open_at text other else fault 2 Shape))
+      (best_grows last bytes z e)
+      (chosen opened last z (is_text verdict none_line) (none_at bytes) (none_at other) (if is_text verdict open_line then open_at text bytes else fault 2 Shape) (if is_text verdict open_line then open_at text other else fault 2 Shape)
+      (e, refl)
+      (chosen opened last z (is_text verdict open_line) (open_at text bytes) (open_at text other) (fault 2 Shape) (fault 2 Shape) (open_grows last bytes z e) (inl (tt, omega arith, refl))))
 
-verdict_later : (text : List ℕ) (last : ℕ) (bytes : List ℕ) → last ≤ 2 → Reaches opened last (verdict_of text bytes)
-unfolding verdict_of
-verdict_later text last bytes before =
-    chosen_later opened last (is_text text best_line) (best_at bytes) (if is_text text none_line then none_at bytes else (if is_text text open_line then open_at bytes else fault 2 Shape))
-    (best_later last bytes (omega arith))
-    (chosen_later opened last (is_text text none_line) (none_at bytes) (if is_text text open_line then open_at bytes else fault 2 Shape)
-    (omega arith)
-    (chosen_later opened last (is_text text open_line) (open_at bytes) (fault 2 Shape) (open_later last bytes (omega arith)) before))
+  verdict_later : (verdict : List ℕ) (last : ℕ) (bytes : List ℕ) → last ≤ 2 → Reaches opened last (verdict_of text verdict bytes)
+  unfolding verdict_of
+  verdict_later verdict last bytes before =
+      chosen_later opened last (is_text verdict best_line) (best_at text bytes) (if is_text verdict none_line then none_at bytes else (if is_text verdict open_line then open_at text bytes else fault 2 Shape))
+      (best_later last bytes (omega arith))
+      (chosen_later opened last (is_text verdict none_line) (none_at bytes) (if is_text verdict open_line then open_at text bytes else fault 2 Shape)
+      (omega arith)
+      (chosen_later opened last (is_text verdict open_line) (open_at text bytes) (fault 2 Shape) (open_later last bytes (omega arith)) before))
 
-pub claim_grows : (last : ℕ) (bytes z : List ℕ) → 2 + lines_in bytes ≡ last → Grows opened last z (claim_at bytes) (claim_at (bytes ++ z))
-unfolding claim_at
-claim_grows last bytes z e =
-    grows_then (one_and 3) opened last z (line_at 2 bytes) (line_at 2 (bytes ++ z)) (λ l. verdict_of l.0 l.1) (line_grows last 2 bytes z e) (λ l end. verdict_grows l.0 last l.1 z end) (λ l here. verdict_later l.0 last l.1 (omega arith))
+  pub claim_grows : (last : ℕ) (bytes z : List ℕ) → 2 + lines_in bytes ≡ last → Grows opened last z (claim_at text bytes) (claim_at text (bytes ++ z))
+  unfolding claim_at
+  claim_grows last bytes z e =
+      grows_then (one_and 3) opened last z (line_at 2 bytes) (line_at 2 (bytes ++ z)) (λ l. verdict_of text l.0 l.1) (line_grows last 2 bytes z e) (λ l end. verdict_grows l.0 last l.1 z end) (λ l here. verdict_later l.0 last l.1 (omega arith))
 
-pub claim_later : (last : ℕ) (bytes : List ℕ) → last ≤ 2 → Reaches opened last (claim_at bytes)
-unfolding claim_at
-claim_later last bytes before = reaches_then (one_and 3) opened last (line_at 2 bytes) (λ l. verdict_of l.0 l.1) (line_later last 2 bytes before) (λ l here. verdict_later l.0 last l.1 before)
+  pub claim_later : (last : ℕ) (bytes : List ℕ) → last ≤ 2 → Reaches opened last (claim_at text bytes)
+  unfolding claim_at
+  claim_later last bytes before = reaches_then (one_and 3) opened last (line_at 2 bytes) (λ l. verdict_of text l.0 l.1) (line_later last 2 bytes before) (λ l here. verdict_later l.0 last l.1 before)

@@ -22,6 +22,7 @@ pub mod Certificates
 pub mod WrittenTexts
 pub mod Grown
 pub mod GrownTimings
+pub mod TimingLaws
 pub mod GrownCertificates
 pub mod Wholes
 pub mod FirstBads

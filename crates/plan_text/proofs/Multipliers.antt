@@ -6,8 +6,7 @@ use Rattle.std.specs.Fmt.{decimal, signed_decimal}
 use Rattle.std.proofs.Math.IntN.{*ℤ_comm}
 use Rattle.std.proofs.lemmas.Bool.{eq-eqb}
 use Rattle.std.proofs.lemmas.Int.{ints}
-use Prim.Native.Nat.{◌∣◌}
-use native.Mathlib.Nat.{mul-div_cancel', eq_of_mul-eq-mul_right, dvd-mul_left}
+use native.Mathlib.Nat.{mul-div_cancel}
 use borrow.Author.Differences.{up, down}
 use Rattle.rational_theory.specs.Rational.{ℚ, over, whole}
 use Rattle.rational_theory.specs.Gcd.{gcd, lcm}
@@ -20,8 +19,8 @@ use Rattle.rational_theory.proofs.Multiples.{IsMultiple, multiple_on, lcm_second
 use Rattle.narrow_fraction.specs.Fraction.{FitsFrac}
 use Rattle.named_row.specs.declared.leaves.Weight.{Weight}
 use Rattle.quantity_text.specs.Exact.{exact_spelling, denominator_text}
-use Rattle.plan_text.specs.declared.form.Form.{Form}
-use Rattle.plan_text.specs.declared.form.Form.TheVariants.{Over, Plain}
+use Rattle.plan_text.specs.declared.form.LeafForm.{LeafForm}
+use Rattle.plan_text.specs.declared.form.LeafForm.TheVariants.{Over, Plain}
 use Rattle.plan_text.specs.Fractions.{exact}
 use Rattle.plan_text.specs.SecondText.{denominator_from, times_denominator, multiplier_word}
 use Rattle.plan_text.specs.Namings.{IsFormed}
@@ -55,11 +54,8 @@ whole_word z few = subst IsKey (spelled_whole z) (exact_word (whole z) (fits_who
 
 -- ---- whole numbers over a denominator
 
-part_again : (g d r : ℕ) → g * r ≡ d → 0 < r → d / r ≡ g
-part_again g d r e some =
-    let divides : r ∣ d = subst (λ (n : ℕ). r ∣ n) e (dvd-mul_left r g) in
-    let back : r * (d / r) ≡ d = mul-div_cancel' r divides in
-    eq_of_mul-eq-mul_right r some (d / r) g (omega (arith, back, e))
+quotient_is : (g n d : ℕ) → 0 < n → g * n ≡ d → d / n ≡ g
+quotient_is g n d h e = ap (λ m. m / n) (sym e) ∙ mul-div_cancel g h
 
 -- a number over a denominator, in lowest terms, times the denominator is the number
 pub times_over : (d : ℕ) (z : ℤ) → 0 < d → times_denominator d (over z d) ≡ z
@@ -68,14 +64,14 @@ times_over zero z above = absurd (omega arith)
 times_over (suc d) z above =
     let g = gcd (unsigned_abs z) (suc d) in
     let t = times_part (unsigned_abs z) (suc d) above in
-    let again : suc d / (suc d / g) ≡ g = part_again g (suc d) (suc d / g) t.1 (part_pos (unsigned_abs z) (suc d) above) in
+    let again : suc d / (suc d / g) ≡ g = quotient_is g (suc d / g) (suc d) (part_pos (unsigned_abs z) (suc d) above) t.1 in
     ap (λ (n : ℕ). int_div z (pos g) *ℤ pos n) again ∙ *ℤ_comm (int_div z (pos g)) (pos g) ∙ times-int_div z g t.0
 
 -- and the other way round, where a fraction's denominator divides it
 pub over_times : (d : ℕ) (x : ℚ) → 0 < d → IsMultiple d x.den → over (times_denominator d x) d ≡ x
 over_times d x above m =
     let k = m.times in
-    let part : d / x.den ≡ k = part_again k d x.den (sym m.is) x.positive in
+    let part : d / x.den ≡ k = quotient_is k x.den d x.positive (sym m.is) in
     let z = x.num *ℤ pos k in
     ap (λ (n : ℕ). over (x.num *ℤ pos n) d) part
     ∙ same_ratio (over z d) x (up x.num * k) (down x.num * k) d (up x.num) (down x.num) x.den (over_terms z (up x.num * k) (down x.num * k) d above (omega (arith, ints, up-mul x.num (pos k), down-mul x.num (pos k)))) (own_ratio x)
@@ -89,7 +85,7 @@ fits_over d z above small few = record { num_fits = omega (arith, num_size z d a
 
 -- ---- a multiplier
 
-pub record MultiplierOf (form : Form) (w : List ℕ) (x : ℚ) : Type 0 where
+pub record MultiplierOf (form : LeafForm) (w : List ℕ) (x : ℚ) : Type 0 where
   pub spelled : (v : Weight) → v.by ≡ x → w ≡ multiplier_word form v
   pub fits : FitsFrac x
 
@@ -101,7 +97,7 @@ over_ok d (Some y) x e = whole_by (y.den == 1) (eqb-true y.den 1) e
     whole_by true is f = (y, refl, is refl, cc)
     whole_by false is f = absurd cc
 
-pub multiplier_takes : (form : Form) (line : ℕ) (w : List ℕ) (x : ℚ) → IsFormed form → multiplier_of form line w ≡ Ok x → MultiplierOf form w x
+pub multiplier_takes : (form : LeafForm) (line : ℕ) (w : List ℕ) (x : ℚ) → IsFormed form → multiplier_of form line w ≡ Ok x → MultiplierOf form w x
 unfolding multiplier_of
 multiplier_takes Plain line w x formed e =
     let s = exact_takes w x (number_ok line (exact w) x e) in
@@ -117,11 +113,11 @@ multiplier_takes (Over d) line w x formed e =
     }
 
 -- a multiplier that can be written in this form
-abbrev pub Suits : Form → Weight → Type 0
+abbrev pub Suits : LeafForm → Weight → Type 0
 Suits Plain v = FitsFrac v.by
 Suits (Over d) v = (0 < d) × IsMultiple d v.by.den × (unsigned_abs (times_denominator d v.by) < 2 ^ 127)
 
-pub multiplier_again : (form : Form) (line : ℕ) (v : Weight) → Suits form v → multiplier_of form line (multiplier_word form v) ≡ Ok v.by
+pub multiplier_again : (form : LeafForm) (line : ℕ) (v : Weight) → Suits form v → multiplier_of form line (multiplier_word form v) ≡ Ok v.by
 unfolding multiplier_of
 multiplier_again Plain line v suits = rw (exact_again v.by suits) refl
 multiplier_again (Over d) line v suits =
@@ -132,7 +128,7 @@ multiplier_again (Over d) line v suits =
     ∙ ap (λ (y : ℤ). Ok (over y d)) p.0
     ∙ ap (λ (y : ℚ). Ok y) (over_times d v.by suits.0 suits.1)
 
-pub multiplier_is_word : (form : Form) (v : Weight) → Suits form v → IsKey (multiplier_word form v)
+pub multiplier_is_word : (form : LeafForm) (v : Weight) → Suits form v → IsKey (multiplier_word form v)
 multiplier_is_word Plain v suits = exact_word v.by suits
 multiplier_is_word (Over d) v suits = whole_word (times_denominator d v.by) suits.2
 

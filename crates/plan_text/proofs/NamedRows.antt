@@ -5,7 +5,7 @@ use Rattle.std.specs.Fmt.{decimal}
 use Rattle.std.specs.List.{AllByRecursion}
 use Rattle.named_row.specs.declared.leaves.Weight.{Weight}
 use Rattle.named_row.specs.declared.names.RowId.{RowId}
-use Rattle.plan_text.specs.declared.form.Form.{Form}
+use Rattle.plan_text.specs.declared.form.LeafForm.{LeafForm}
 use Rattle.plan_text.specs.Words.{line_of}
 use Rattle.plan_text.specs.Numbers.{number}
 use Rattle.plan_text.specs.Lines.{◌>>=◌, ranged, words_at}
@@ -112,14 +112,14 @@ name_line (Listed rows) line row more rest told k =
 
 -- ---- a row and its multiplier
 
-abbrev pub weight_words_by : Naming → Form → Weight → List (List ℕ)
+abbrev pub weight_words_by : Naming → LeafForm → Weight → List (List ℕ)
 weight_words_by names form w = name_words names w.row ++ multiplier_word form w ∷ []
 
 pub record KeptWeight (table : Table) (w : Weight) : Type 0 where
   pub row : IsRowIn table w.row
   pub by : FitsFrac w.by
 
-weight_by_takes : (names : Naming) (table : Table) (form : Form) (line : ℕ) (ws : List (List ℕ)) (w : Weight) (o : Option (List (List ℕ) × List ℕ)) → IsOver names table → IsFormed form → cut_last ws ≡ o → weight_by names form line o ≡ Ok w → (ws ≡ weight_words_by names form w) × KeptWeight table w
+weight_by_takes : (names : Naming) (table : Table) (form : LeafForm) (line : ℕ) (ws : List (List ℕ)) (w : Weight) (o : Option (List (List ℕ) × List ℕ)) → IsOver names table → IsFormed form → cut_last ws ≡ o → weight_by names form line o ≡ Ok w → (ws ≡ weight_words_by names form w) × KeptWeight table w
 weight_by_takes names table form line ws w None is formed k e = absurd cc
 weight_by_takes names table form line ws w (Some p) is formed k e =
     let a = bind_ok (row_in names line p.0) (λ row. multiplier_of form line p.1 >>= λ by. Ok (record { row = row; by = by })) w e in
@@ -131,16 +131,16 @@ weight_by_takes names table form line ws w (Some p) is formed k e =
     moved (λ (v : Weight). (ws ≡ weight_words_by names form v) × KeptWeight table v) made w b.2
     (cut_last_takes ws p k ∙ (λ i. r.spelled i ++ value i ∷ []), record { row = r.kept; by = m.fits })
 
-pub weight_takes : (names : Naming) (table : Table) (form : Form) → IsOver names table → IsFormed form → (line : ℕ) (ws : List (List ℕ)) (w : Weight) → weight_of names form line ws ≡ Ok w → (ws ≡ weight_words_by names form w) × KeptWeight table w
+pub weight_takes : (names : Naming) (table : Table) (form : LeafForm) → IsOver names table → IsFormed form → (line : ℕ) (ws : List (List ℕ)) (w : Weight) → weight_of names form line ws ≡ Ok w → (ws ≡ weight_words_by names form w) × KeptWeight table w
 unfolding weight_of
 weight_takes names table form is formed line ws w e = weight_by_takes names table form line ws w (cut_last ws) is formed refl e
 
-weight_again : (names : Naming) (form : Form) (line : ℕ) (w : Weight) → IsTold names w.row → Suits form w → weight_of names form line (weight_words_by names form w) ≡ Ok w
+weight_again : (names : Naming) (form : LeafForm) (line : ℕ) (w : Weight) → IsTold names w.row → Suits form w → weight_of names form line (weight_words_by names form w) ≡ Ok w
 unfolding weight_of
 weight_again names form line w told suits =
     ap (weight_by names form line) (cut_last_again (name_words names w.row) (multiplier_word form w)) ∙ rw (row_in_again names line w.row told, multiplier_again form line w suits) refl
 
-pub weight_reads : (names : Naming) (form : Form) (w : Weight) → IsTold names w.row → Suits form w → ReadsAs (weight_of names form) (weight_words_by names form) w
+pub weight_reads : (names : Naming) (form : LeafForm) (w : Weight) → IsTold names w.row → Suits form w → ReadsAs (weight_of names form) (weight_words_by names form) w
 weight_reads names form w told suits = record {
   again = λ line. weight_again names form line w told suits;
   words = λ line rest. name_line names line w.row (multiplier_word form w ∷ []) rest told (multiplier_is_word form w suits, tt);

@@ -11,8 +11,8 @@ use Rattle.plan_text.specs.declared.fault.BadText.{BadText}
 use Rattle.plan_text.specs.declared.fault.TextFault.TheVariants.{Ended, Shape, Number}
 use Rattle.named_row.specs.declared.leaves.Weight.{Weight}
 use Rattle.named_row.specs.declared.names.RowId.{RowId}
-use Rattle.plan_text.specs.declared.form.Form.{Form}
-use Rattle.plan_text.specs.declared.form.Form.TheVariants.{Over, Plain}
+use Rattle.plan_text.specs.declared.form.LeafForm.{LeafForm}
+use Rattle.plan_text.specs.declared.form.LeafForm.TheVariants.{Over, Plain}
 use Rattle.plan_text.specs.declared.tree.Head.{Head}
 use Rattle.plan_text.specs.declared.tree.Head.TheVariants as heads
 use Rattle.plan_text.specs.Words.{is_text, line_of}
@@ -82,7 +82,7 @@ unfolding split_of
 split_takes line kind i place at e = split_by line kind i place at (is_text kind loop_key) (same_text kind loop_key) e
 
 -- what a node's first line says, where leaves go by names or by places
-abbrev pub first_words : Naming → Form → ℕ → List (List ℕ)
+abbrev pub first_words : Naming → LeafForm → ℕ → List (List ℕ)
 first_words (Named table) form n = leaf_key ∷ decimal n ∷ []
 first_words (Listed rows) form n = head_words form n
 
@@ -131,11 +131,11 @@ head_takes names line (a ∷ b ∷ c ∷ d ∷ []) h e = split_head names line a
 head_takes names line (a ∷ b ∷ c ∷ d ∷ f ∷ ws) h e = absurd cc
 
 -- the form of a leaf where rows go by names, and where they go by places
-abbrev pub form_by : Naming → List Weight → Form
+abbrev pub form_by : Naming → List Weight → LeafForm
 form_by (Named table) ws = Plain
 form_by (Listed rows) ws = form_of ws
 
-abbrev FormSuits : Naming → Form → Type 0
+abbrev FormSuits : Naming → LeafForm → Type 0
 FormSuits (Named table) form = form ≡ Plain
 FormSuits (Listed rows) form = Unit {0}
 
@@ -187,9 +187,9 @@ split_again names line (Turn signal rank) kept held =
     let few = held.1 in
     rw (index_again line signal kept held.0, number_again (range_of line 0 (2 ^ 32 - 1)) rank (record { least = omega arith; greatest = omega arith; limit = omega arith })) refl
 
-leaf_again : (names : Naming) (form : Form) (line n : ℕ) → FormSuits names form → IsFormed form → n ≤ 10000 → head_of names line (first_words names form n) ≡ Ok (heads.Leaf n form)
+leaf_again : (names : Naming) (form : LeafForm) (line n : ℕ) → FormSuits names form → IsFormed form → n ≤ 10000 → head_of names line (first_words names form n) ≡ Ok (heads.Leaf n form)
 unfolding head_of over_head
-leaf_again (Named table) form line n suits formed few = rw (number_again (range_of line 0 10000) n (record { least = omega arith; greatest = few; limit = omega arith })) (ap (λ (f : Form). Ok (heads.Leaf n f)) (sym suits))
+leaf_again (Named table) form line n suits formed few = rw (number_again (range_of line 0 10000) n (record { least = omega arith; greatest = few; limit = omega arith })) (ap (λ (f : LeafForm). Ok (heads.Leaf n f)) (sym suits))
 leaf_again (Listed rows) Plain line n suits formed few = rw (number_again (range_of line 0 10000) n (record { least = omega arith; greatest = few; limit = omega arith })) refl
 leaf_again (Listed rows) (Over d) line n suits formed few = rw (denominator_again line d formed, number_again (range_of line 0 10000) n (record { least = omega arith; greatest = few; limit = omega arith })) refl
 
@@ -204,7 +204,7 @@ split_line line (Turn signal rank) rest held =
     words_again line split_key (turn_key ∷ decimal signal ∷ decimal rank ∷ []) rest
     (record { spaces = refl; feeds = refl }, (record { spaces = refl; feeds = refl }, (decimal_word signal (omega arith), (decimal_word rank (omega arith), tt))))
 
-leaf_line : (names : Naming) (form : Form) (line n : ℕ) (rest : List ℕ) → IsFormed form → n ≤ 10000 → words_at line (line_of (first_words names form n) ++ 10 ∷ rest) ≡ Ok (first_words names form n, rest)
+leaf_line : (names : Naming) (form : LeafForm) (line n : ℕ) (rest : List ℕ) → IsFormed form → n ≤ 10000 → words_at line (line_of (first_words names form n) ++ 10 ∷ rest) ≡ Ok (first_words names form n, rest)
 leaf_line (Named table) form line n rest formed few = words_again line leaf_key (decimal n ∷ []) rest (record { spaces = refl; feeds = refl }, (decimal_word n (omega arith), tt))
 leaf_line (Listed rows) Plain line n rest formed few = words_again line plain_key (decimal n ∷ []) rest (record { spaces = refl; feeds = refl }, (decimal_word n (omega arith), tt))
 leaf_line (Listed rows) (Over d) line n rest formed few = words_again line leaf_key (decimal d ∷ decimal n ∷ []) rest (record { spaces = refl; feeds = refl }, (whole_word (pos d) formed.1, (decimal_word n (omega arith), tt)))
@@ -216,7 +216,7 @@ abbrev pub lines_by : Naming → Node → List (List ℕ)
 lines_by (Named table) n = node_lines table n
 lines_by (Listed rows) n = listed_node_lines rows n
 
-leaf_lines_by : Naming → Form → List Weight → List (List ℕ)
+leaf_lines_by : Naming → LeafForm → List Weight → List (List ℕ)
 leaf_lines_by names form ws = line_of (first_words names form (length ws)) ∷ map (λ w. line_of (weight_words_by names form w)) ws
 
 split_is : (names : Naming) (at : At) → line_of (split_words at) ∷ [] ≡ lines_by names (SplitAt at)
@@ -256,13 +256,13 @@ pub record NodeOf (names : Naming) (table : Table) (bytes : List ℕ) (x : Node 
   pub kept : IsNodeIn table x.0
   pub held : IsHeldNode x.0
 
-same_form_is : (f g : Form) → same_form f g ≡ true → f ≡ g
+same_form_is : (f g : LeafForm) → same_form f g ≡ true → f ≡ g
 same_form_is Plain Plain e = refl
 same_form_is Plain (Over d) e = absurd cc
 same_form_is (Over d) Plain e = absurd cc
 same_form_is (Over d) (Over k) e = ap (λ (n : ℕ). Over n) (eqb-true d k e)
 
-pub same_form_again : (f : Form) → same_form f f ≡ true
+pub same_form_again : (f : LeafForm) → same_form f f ≡ true
 same_form_again Plain = refl
 same_form_again (Over d) = eq-eqb d d refl
 
@@ -283,9 +283,9 @@ ascend_to last [] a = tt
 ascend_to last (w ∷ ws) a = (a.0, ascend_to (Some w.row) ws a.1)
 
 -- the lines of a leaf that was read in the form in which it had to be written
-leaf_parts : (names : Naming) (form : Form) (ws : List Weight) → FormSuits names form → is_form names form ws ≡ true → leaf_lines_by names form ws ≡ lines_by names (LeafOf ws)
-leaf_parts (Named table) form ws suits e = ap (λ (f : Form). leaf_lines_by (Named table) f ws) suits ∙ leaf_is (Named table) ws
-leaf_parts (Listed rows) form ws suits e = ap (λ (f : Form). leaf_lines_by (Listed rows) f ws) (sym (same_form_is (form_of ws) form e)) ∙ leaf_is (Listed rows) ws
+leaf_parts : (names : Naming) (form : LeafForm) (ws : List Weight) → FormSuits names form → is_form names form ws ≡ true → leaf_lines_by names form ws ≡ lines_by names (LeafOf ws)
+leaf_parts (Named table) form ws suits e = ap (λ (f : LeafForm). leaf_lines_by (Named table) f ws) suits ∙ leaf_is (Named table) ws
+leaf_parts (Listed rows) form ws suits e = ap (λ (f : LeafForm). leaf_lines_by (Listed rows) f ws) (sym (same_form_is (form_of ws) form e)) ∙ leaf_is (Listed rows) ws
 
 node_from : (names : Naming) (table : Table) (line : ℕ) (bytes : List ℕ) (ws : List (List ℕ)) (after : List ℕ) (h : Head) (x : Node × ℕ × List ℕ) → IsOver names table → bytes ≡ line_of ws ++ 10 ∷ after → HeadOf names ws h → HeadSuits names h → rest_of names h line after ≡ Ok x → NodeOf names table bytes x
 unfolding rest_of leaf_lines_by
@@ -324,14 +324,14 @@ line_after_all [] line = line
 line_after_all (n ∷ ns) line = line_after_all ns (line_after n line)
 
 -- a node that can be written so
-abbrev pub ToldWeight : Naming → Form → Weight → Type 0
+abbrev pub ToldWeight : Naming → LeafForm → Weight → Type 0
 ToldWeight names form w = IsTold names w.row × Suits form w
 
 abbrev pub ToldNode : Naming → Node → Type 0
 ToldNode names (SplitAt at) = IsNode (SplitAt at) × IsHeldNode (SplitAt at)
 ToldNode names (LeafOf ws) = (length ws ≤ 10000) × Ascend None ws × IsFormed (form_by names ws) × AllByRecursion (ToldWeight names (form_by names ws)) ws
 
-reads_all : (names : Naming) (form : Form) (ws : List Weight) → AllByRecursion (ToldWeight names form) ws → AllByRecursion (ReadsAs (weight_of names form) (weight_words_by names form)) ws
+reads_all : (names : Naming) (form : LeafForm) (ws : List Weight) → AllByRecursion (ToldWeight names form) ws → AllByRecursion (ReadsAs (weight_of names form) (weight_words_by names form)) ws
 reads_all names form [] all = tt
 reads_all names form (w ∷ ws) all = (weight_reads names form w all.0.0 all.0.1, reads_all names form ws all.1)
 

@@ -1,4 +1,4 @@
--- The two laws of the text of a timing: what is read is spelled so, and what is spelled so is read.
+-- The two laws of the text of a timing and of its parts: what is read is spelled so, and what is spelled so is read.
 use Rattle.std.proofs.Common.{◌≡◌, ℕ, ◌+◌, ◌-◌, ◌<◌, ◌≤◌, ◌^◌, List, [], ◌∷◌, ◌++◌, map, length, All, Result, Ok, Err, refl, sym, ap, subst, ◌∙◌, arith}
 use Rattle.std.specs.Prelude.{pos, unsigned_abs, IfOk, slice_index}
 use Rattle.std.specs.List.{AllByRecursion}
@@ -7,15 +7,15 @@ use Rattle.progression.specs.Plan.{Plan}
 use Rattle.time_space.specs.Timing.{IsTiming, plan_of}
 use Rattle.plan_text.specs.declared.fault.TextEnd.{TextEnd}
 use Rattle.plan_text.specs.declared.lines.NumberLine.{NumberLine}
-use Rattle.plan_text.specs.declared.reading.Bands.{Bands}
-use Rattle.plan_text.specs.Spelling.{spelled, head_line, grid_key, unit_key, pattern_key, red_key, run_out_key, run_in_key, first_key, band_key, end_line, timing_text, IsHeld}
+use Rattle.plan_text.specs.Spelling.{spelled, head_line, grid_key, unit_key, pattern_key, red_key, run_out_key, run_in_key, first_key, band_key, end_line, base_lines, plan_lines, timing_text, IsHeld}
 use Rattle.plan_text.specs.Lines.{◌>>=◌, Gives, fixed_at, nothing_at, numbers_at}
-use Rattle.plan_text.specs.Reading.{place_of, pattern_place, scale_at, signals_at, runs_at, bands_at, plan_at, timing_of}
-use Rattle.plan_text.proofs.Fields.{bind_ok, ok_is, moved, fixed_takes, fixed_again, nothing_takes, numbers_take, numbers_again, Suits, IsWithin}
+use Rattle.plan_text.specs.Reading.{place_of, pattern_place, scale_at, signals_at, both_ways_at, pair_at, base_at, with_bands, plan_at, timing_of}
+use Rattle.plan_text.proofs.WordLines.{ended_and}
+use Rattle.plan_text.proofs.Fields.{bind_ok, ok_is, moved, fixed_takes, fixed_again, nothing_takes, numbers_take, numbers_again, IsKey, Suits, IsWithin}
 
 -- ---- numbers at a place
 
-abbrev IsSmall : ℕ → Type 0
+abbrev pub IsSmall : ℕ → Type 0
 IsSmall n = n < 2 ^ 80
 
 one_of : (line least : ℕ) (ns : List ℕ) → Suits (place_of line 1 least) ns → (ns ≡ slice_index ns 0 ∷ []) × (least ≤ slice_index ns 0) × IsSmall (slice_index ns 0)
@@ -33,7 +33,7 @@ small_by : (place : NumberLine) (ns : List ℕ) → AllByRecursion (IsWithin pla
 small_by place [] fits = tt
 small_by place (n ∷ ns) fits = (fits.0.limit, small_by place ns fits.1)
 
-small_of : (place : NumberLine) (ns : List ℕ) → Suits place ns → All IsSmall ns
+pub small_of : (place : NumberLine) (ns : List ℕ) → Suits place ns → All IsSmall ns
 small_of place ns s = All-from_recursion IsSmall ns (small_by place ns s.each)
 
 patterns_by : (line : ℕ) (ns : List ℕ) → AllByRecursion (IsWithin (pattern_place line)) ns → AllByRecursion (λ p. (1 ≤ p) × (p ≤ 4)) ns
@@ -47,7 +47,7 @@ within_by : (line count : ℕ) (ns : List ℕ) → AllByRecursion IsSmall ns →
 within_by line count [] small = tt
 within_by line count (n ∷ ns) small = (within_small line count 0 n (omega arith) small.0, within_by line count ns small.1)
 
-suits_small : (line : ℕ) (ns : List ℕ) (count : ℕ) → length ns ≡ count → All IsSmall ns → Suits (place_of line count 0) ns
+pub suits_small : (line : ℕ) (ns : List ℕ) (count : ℕ) → length ns ≡ count → All IsSmall ns → Suits (place_of line count 0) ns
 suits_small line ns count len small = record { fewest = omega arith; most = omega arith; each = within_by line count ns (recursion_from_All IsSmall ns small) }
 
 suits_one : (line least n : ℕ) → least ≤ n → IsSmall n → Suits (place_of line 1 least) (n ∷ [])
@@ -74,17 +74,16 @@ record SignalsOf (line : ℕ) (bytes : List ℕ) (x : List ℕ × List ℕ × Li
   patterns : Suits (pattern_place line) x.0
   reds : Suits (place_of (line + 1) (length x.0) 0) x.1
 
-record RunsOf (line links : ℕ) (bytes : List ℕ) (x : List ℕ × List ℕ × List ℕ) : Type 0 where
-  parts : bytes ≡ spelled run_out_key x.0 ++ 10 ∷ (spelled run_in_key x.1 ++ 10 ∷ x.2)
-  run_out : Suits (place_of line links 0) x.0
-  run_in : Suits (place_of (line + 1) links 0) x.1
+pub record WaysOf (out_key in_key : List ℕ) (line links : ℕ) (bytes : List ℕ) (x : List ℕ × List ℕ × List ℕ) : Type 0 where
+  pub parts : bytes ≡ spelled out_key x.0 ++ 10 ∷ (spelled in_key x.1 ++ 10 ∷ x.2)
+  pub outbound : Suits (place_of line links 0) x.0
+  pub inbound : Suits (place_of (line + 1) links 0) x.1
 
-record BandsOf (bytes : List ℕ) (x : Bands × List ℕ) : Type 0 where
-  parts : bytes ≡ spelled first_key (x.0.first_out ∷ x.0.first_in ∷ []) ++ 10 ∷ (spelled band_key (x.0.band_out ∷ x.0.band_in ∷ []) ++ 10 ∷ x.1)
-  first_out : IsSmall x.0.first_out
-  first_in : IsSmall x.0.first_in
-  band_out : IsSmall x.0.band_out
-  band_in : IsSmall x.0.band_in
+-- two numbers in a line with a key
+pub record PairOf (key bytes : List ℕ) (x : ℕ × ℕ × List ℕ) : Type 0 where
+  pub parts : bytes ≡ spelled key (x.0 ∷ x.1 ∷ []) ++ 10 ∷ x.2
+  pub first : IsSmall x.0
+  pub second : IsSmall x.1
 
 scale_takes : (line : ℕ) (bytes : List ℕ) (x : ℕ × ℕ × List ℕ) → scale_at line bytes ≡ Ok x → ScaleOf bytes x
 unfolding scale_at
@@ -120,54 +119,46 @@ signals_take line bytes x e =
       reds = reds.1;
     })
 
-runs_take : (line links : ℕ) (bytes : List ℕ) (x : List ℕ × List ℕ × List ℕ) → runs_at line links bytes ≡ Ok x → RunsOf line links bytes x
-unfolding runs_at
-runs_take line links bytes x e =
-    let a = bind_ok (numbers_at run_out_key (place_of line links 0) bytes) (λ run_out. numbers_at run_in_key (place_of (line + 1) links 0) run_out.1 >>= λ run_in. Ok (run_out.0, run_in.0, run_in.1)) x e in
-    let b = bind_ok (numbers_at run_in_key (place_of (line + 1) links 0) a.0.1) (λ run_in. Ok (a.0.0, run_in.0, run_in.1)) x a.2 in
-    let run_out = numbers_take run_out_key (place_of line links 0) bytes a.0 a.1 in
-    let run_in = numbers_take run_in_key (place_of (line + 1) links 0) a.0.1 b.0 b.1 in
+pub ways_take : (out_key in_key : List ℕ) (line links : ℕ) (bytes : List ℕ) (x : List ℕ × List ℕ × List ℕ) → both_ways_at out_key in_key line links bytes ≡ Ok x → WaysOf out_key in_key line links bytes x
+unfolding both_ways_at
+ways_take out_key in_key line links bytes x e =
+    let a = bind_ok (numbers_at out_key (place_of line links 0) bytes) (λ outbound. numbers_at in_key (place_of (line + 1) links 0) outbound.1 >>= λ inbound. Ok (outbound.0, inbound.0, inbound.1)) x e in
+    let b = bind_ok (numbers_at in_key (place_of (line + 1) links 0) a.0.1) (λ inbound. Ok (a.0.0, inbound.0, inbound.1)) x a.2 in
+    let outbound = numbers_take out_key (place_of line links 0) bytes a.0 a.1 in
+    let inbound = numbers_take in_key (place_of (line + 1) links 0) a.0.1 b.0 b.1 in
     let made : List ℕ × List ℕ × List ℕ = (a.0.0, b.0.0, b.0.1) in
-    moved (RunsOf line links bytes) made x b.2 (record {
-      parts = run_out.0 ∙ ap (λ (r : List ℕ). spelled run_out_key a.0.0 ++ 10 ∷ r) run_in.0;
-      run_out = run_out.1;
-      run_in = run_in.1;
+    moved (WaysOf out_key in_key line links bytes) made x b.2 (record {
+      parts = outbound.0 ∙ ap (λ (r : List ℕ). spelled out_key a.0.0 ++ 10 ∷ r) inbound.0;
+      outbound = outbound.1;
+      inbound = inbound.1;
     })
 
-abbrev bands_of : List ℕ → List ℕ → Bands
-bands_of first band = record { first_out = slice_index first 0; first_in = slice_index first 1; band_out = slice_index band 0; band_in = slice_index band 1 }
-
-bands_take : (line : ℕ) (bytes : List ℕ) (x : Bands × List ℕ) → bands_at line bytes ≡ Ok x → BandsOf bytes x
-unfolding bands_at
-bands_take line bytes x e =
-    let a = bind_ok (numbers_at first_key (place_of line 2 0) bytes) (λ first. numbers_at band_key (place_of (line + 1) 2 0) first.1 >>= λ band. Ok (bands_of first.0 band.0, band.1)) x e in
-    let b = bind_ok (numbers_at band_key (place_of (line + 1) 2 0) a.0.1) (λ band. Ok (bands_of a.0.0 band.0, band.1)) x a.2 in
-    let first = numbers_take first_key (place_of line 2 0) bytes a.0 a.1 in
-    let band = numbers_take band_key (place_of (line + 1) 2 0) a.0.1 b.0 b.1 in
-    let g = two_of line a.0.0 first.1 in
-    let h = two_of (line + 1) b.0.0 band.1 in
-    let second : a.0.1 ≡ spelled band_key (slice_index b.0.0 0 ∷ slice_index b.0.0 1 ∷ []) ++ 10 ∷ b.0.1 = band.0 ∙ (λ i. spelled band_key (h.0 i) ++ 10 ∷ b.0.1) in
-    moved (BandsOf bytes) (bands_of a.0.0 b.0.0, b.0.1) x b.2 (record {
-      parts = first.0 ∙ (λ i. spelled first_key (g.0 i) ++ 10 ∷ second i);
-      first_out = g.1;
-      first_in = g.2;
-      band_out = h.1;
-      band_in = h.2;
+pub pair_takes : (key : List ℕ) (line : ℕ) (bytes : List ℕ) (x : ℕ × ℕ × List ℕ) → pair_at key line bytes ≡ Ok x → PairOf key bytes x
+unfolding pair_at
+pair_takes key line bytes x e =
+    let a = bind_ok (numbers_at key (place_of line 2 0) bytes) (λ pair. Ok (slice_index pair.0 0, slice_index pair.0 1, pair.1)) x e in
+    let pair = numbers_take key (place_of line 2 0) bytes a.0 a.1 in
+    let two = two_of line a.0.0 pair.1 in
+    let made : ℕ × ℕ × List ℕ = (slice_index a.0.0 0, slice_index a.0.0 1, a.0.1) in
+    moved (PairOf key bytes) made x a.2 (record {
+      parts = pair.0 ∙ ap (λ (ns : List ℕ). spelled key ns ++ 10 ∷ a.0.1) two.0;
+      first = two.1;
+      second = two.2;
     })
 
--- ---- the eight lines
+-- ---- the lines that speak of no band
 
-pub fits : (line : ℕ) (b0 b1 b2 b3 : List ℕ) (s : ℕ × ℕ × List ℕ) (g r : List ℕ × List ℕ × List ℕ) (b : Bands × List ℕ) → scale_at line b0 ≡ Ok s → signals_at (line + 2) b1 ≡ Ok g → runs_at (line + 4) (length g.0 - 1) b2 ≡ Ok r → bands_at (line + 6) b3 ≡ Ok b
-    → IsTiming s.0 s.1 g.0 g.1 r.0 r.1 b.0.first_out b.0.first_in b.0.band_out b.0.band_in
-fits line b0 b1 b2 b3 s g r b es eg er eb =
+fits : (line : ℕ) (b0 b1 b2 b3 : List ℕ) (s : ℕ × ℕ × List ℕ) (g r : List ℕ × List ℕ × List ℕ) (f : ℕ × ℕ × List ℕ) → scale_at line b0 ≡ Ok s → signals_at (line + 2) b1 ≡ Ok g → both_ways_at run_out_key run_in_key (line + 4) (length g.0 - 1) b2 ≡ Ok r → pair_at first_key (line + 6) b3 ≡ Ok f
+    → IsTiming s.0 s.1 g.0 g.1 r.0 r.1 f.0 f.1 0 0
+fits line b0 b1 b2 b3 s g r f es eg er ef =
     let scale = scale_takes line b0 s es in
     let signals = signals_take (line + 2) b1 g eg in
-    let runs = runs_take (line + 4) (length g.0 - 1) b2 r er in
-    let bands = bands_take (line + 6) b3 b eb in
+    let runs = ways_take run_out_key run_in_key (line + 4) (length g.0 - 1) b2 r er in
+    let first = pair_takes first_key (line + 6) b3 f ef in
     let p = signals.patterns in
     let q = signals.reds in
-    let o = runs.run_out in
-    let i = runs.run_in in
+    let o = runs.outbound in
+    let i = runs.inbound in
     record {
       grid_least = scale.grid_least;
       grid_most = scale.grid_most;
@@ -182,11 +173,33 @@ fits line b0 b1 b2 b3 s g r b es eg er eb =
       reds_each = small_of (place_of (line + 2 + 1) (length g.0) 0) g.1 q;
       run_out_each = small_of (place_of (line + 4) (length g.0 - 1) 0) r.0 o;
       run_in_each = small_of (place_of (line + 4 + 1) (length g.0 - 1) 0) r.1 i;
-      first_out_most = bands.first_out;
-      first_in_most = bands.first_in;
-      band_out_most = bands.band_out;
-      band_in_most = bands.band_in;
+      first_out_most = first.first;
+      first_in_most = first.second;
+      band_out_most = omega arith;
+      band_in_most = omega arith;
     }
+
+-- the same numbers with other bands
+rebanded : (grid unit : ℕ) (patterns reds run_out run_in : List ℕ) (first_out first_in b c band_out band_in : ℕ) → IsTiming grid unit patterns reds run_out run_in first_out first_in b c → IsSmall band_out → IsSmall band_in → IsTiming grid unit patterns reds run_out run_in first_out first_in band_out band_in
+rebanded grid unit patterns reds run_out run_in first_out first_in b c band_out band_in k out in' = record {
+  grid_least = k.grid_least;
+  grid_most = k.grid_most;
+  unit_least = k.unit_least;
+  unit_most = k.unit_most;
+  few = k.few;
+  many = k.many;
+  reds_count = k.reds_count;
+  run_out_count = k.run_out_count;
+  run_in_count = k.run_in_count;
+  patterns_each = k.patterns_each;
+  reds_each = k.reds_each;
+  run_out_each = k.run_out_each;
+  run_in_each = k.run_in_each;
+  first_out_most = k.first_out_most;
+  first_in_most = k.first_in_most;
+  band_out_most = out;
+  band_in_most = in';
+}
 
 pub abs_pos : (ns : List ℕ) → map unsigned_abs (map pos ns) ≡ ns
 abs_pos [] = refl
@@ -205,22 +218,22 @@ timing_is_held t reds first_out first_in ranges is out in' =
       first_in = in' ∙ ap pos in_is;
     }
 
--- the eight lines, each ended, and what follows
-abbrev pub plan_and : Plan → List ℕ → List ℕ
-plan_and t rest =
-    spelled grid_key (t.grid ∷ [])
-    ++ 10 ∷ (spelled unit_key (t.unit ∷ [])
-    ++ 10 ∷ (spelled pattern_key t.patterns
-    ++ 10 ∷ (spelled red_key (map unsigned_abs t.reds)
-    ++ 10 ∷ (spelled run_out_key t.run_out
-    ++ 10 ∷ (spelled run_in_key t.run_in
-    ++ 10 ∷ (spelled first_key (unsigned_abs t.first_out ∷ unsigned_abs t.first_in ∷ [])
-    ++ 10 ∷ (spelled band_key (t.band_out ∷ t.band_in ∷ [])
-    ++ 10 ∷ rest)))))))
+-- and it is held with other bands too
+pub banded_is_held : (t : Plan) (band_out band_in : ℕ) → IsHeld t → IsSmall band_out → IsSmall band_in → IsHeld (with_bands t band_out band_in)
+banded_is_held t band_out band_in h out in' = record {
+  ranges = rebanded t.grid t.unit t.patterns (map unsigned_abs t.reds) t.run_out t.run_in (unsigned_abs t.first_out) (unsigned_abs t.first_in) t.band_out t.band_in band_out band_in h.ranges out in';
+  reds = h.reds;
+  first_out = h.first_out;
+  first_in = h.first_in;
+}
 
 -- what these lines are, and that the program can hold it
+pub record BaseOf (bytes : List ℕ) (x : Plan × List ℕ) : Type 0 where
+  pub parts : bytes ≡ ended_and (base_lines x.0) x.1
+  pub held : IsHeld x.0
+
 pub record PlanOf (bytes : List ℕ) (x : Plan × List ℕ) : Type 0 where
-  pub parts : bytes ≡ plan_and x.0 x.1
+  pub parts : bytes ≡ ended_and (plan_lines x.0) x.1
   pub held : IsHeld x.0
 
 -- numbers from 0 on make a plan that is held
@@ -233,29 +246,55 @@ is_held grid unit patterns reds run_out run_in first_out first_in band_out band_
       first_in = refl;
     }
 
+pub base_takes : (line : ℕ) (bytes : List ℕ) (x : Plan × List ℕ) → base_at line bytes ≡ Ok x → BaseOf bytes x
+unfolding base_at
+base_takes line bytes x e =
+    let a = bind_ok (scale_at line bytes) (λ s. signals_at (line + 2) s.2 >>= λ g. both_ways_at run_out_key run_in_key (line + 4) (length g.0 - 1) g.2 >>= λ r. pair_at first_key (line + 6) r.2 >>= λ f. Ok (plan_of s.0 s.1 g.0 g.1 r.0 r.1 f.0 f.1 0 0, f.2)) x e in
+    let s = a.0 in
+    let c = bind_ok (signals_at (line + 2) s.2) (λ g. both_ways_at run_out_key run_in_key (line + 4) (length g.0 - 1) g.2 >>= λ r. pair_at first_key (line + 6) r.2 >>= λ f. Ok (plan_of s.0 s.1 g.0 g.1 r.0 r.1 f.0 f.1 0 0, f.2)) x a.2 in
+    let g = c.0 in
+    let d = bind_ok (both_ways_at run_out_key run_in_key (line + 4) (length g.0 - 1) g.2) (λ r. pair_at first_key (line + 6) r.2 >>= λ f. Ok (plan_of s.0 s.1 g.0 g.1 r.0 r.1 f.0 f.1 0 0, f.2)) x c.2 in
+    let r = d.0 in
+    let h = bind_ok (pair_at first_key (line + 6) r.2) (λ f. Ok (plan_of s.0 s.1 g.0 g.1 r.0 r.1 f.0 f.1 0 0, f.2)) x d.2 in
+    let f = h.0 in
+    let scale = scale_takes line bytes s a.1 in
+    let signals = signals_take (line + 2) s.2 g c.1 in
+    let runs = ways_take run_out_key run_in_key (line + 4) (length g.0 - 1) g.2 r d.1 in
+    let first = pair_takes first_key (line + 6) r.2 f h.1 in
+    let third : g.2 ≡ spelled run_out_key r.0 ++ 10 ∷ (spelled run_in_key r.1 ++ 10 ∷ (spelled first_key (f.0 ∷ f.1 ∷ []) ++ 10 ∷ f.2)) = runs.parts ∙ ap (λ (y : List ℕ). spelled run_out_key r.0 ++ 10 ∷ (spelled run_in_key r.1 ++ 10 ∷ y)) first.parts in
+    let second = signals.parts ∙ (λ i. spelled pattern_key g.0 ++ 10 ∷ (spelled red_key (sym (abs_pos g.1) i) ++ 10 ∷ third i)) in
+    let all = scale.parts ∙ ap (λ (y : List ℕ). spelled grid_key (s.0 ∷ []) ++ 10 ∷ (spelled unit_key (s.1 ∷ []) ++ 10 ∷ y)) second in
+    moved (BaseOf bytes) (plan_of s.0 s.1 g.0 g.1 r.0 r.1 f.0 f.1 0 0, f.2) x h.2 (record {
+      parts = all;
+      held = is_held s.0 s.1 g.0 g.1 r.0 r.1 f.0 f.1 0 0 (fits line bytes s.2 g.2 r.2 s g r f a.1 c.1 d.1 h.1);
+    })
+
+-- ---- the eight lines
+
 pub plan_takes : (line : ℕ) (bytes : List ℕ) (x : Plan × List ℕ) → plan_at line bytes ≡ Ok x → PlanOf bytes x
 unfolding plan_at
 plan_takes line bytes x e =
-    let a = bind_ok (scale_at line bytes) (λ s. signals_at (line + 2) s.2 >>= λ g. runs_at (line + 4) (length g.0 - 1) g.2 >>= λ r. bands_at (line + 6) r.2 >>= λ b. Ok (plan_of s.0 s.1 g.0 g.1 r.0 r.1 b.0.first_out b.0.first_in b.0.band_out b.0.band_in, b.1)) x e in
-    let s = a.0 in
-    let c = bind_ok (signals_at (line + 2) s.2) (λ g. runs_at (line + 4) (length g.0 - 1) g.2 >>= λ r. bands_at (line + 6) r.2 >>= λ b. Ok (plan_of s.0 s.1 g.0 g.1 r.0 r.1 b.0.first_out b.0.first_in b.0.band_out b.0.band_in, b.1)) x a.2 in
-    let g = c.0 in
-    let d = bind_ok (runs_at (line + 4) (length g.0 - 1) g.2) (λ r. bands_at (line + 6) r.2 >>= λ b. Ok (plan_of s.0 s.1 g.0 g.1 r.0 r.1 b.0.first_out b.0.first_in b.0.band_out b.0.band_in, b.1)) x c.2 in
-    let r = d.0 in
-    let f = bind_ok (bands_at (line + 6) r.2) (λ b. Ok (plan_of s.0 s.1 g.0 g.1 r.0 r.1 b.0.first_out b.0.first_in b.0.band_out b.0.band_in, b.1)) x d.2 in
-    let b = f.0 in
-    let scale = scale_takes line bytes s a.1 in
-    let signals = signals_take (line + 2) s.2 g c.1 in
-    let runs = runs_take (line + 4) (length g.0 - 1) g.2 r d.1 in
-    let bands = bands_take (line + 6) r.2 b f.1 in
-    let third : g.2 ≡ spelled run_out_key r.0 ++ 10 ∷ (spelled run_in_key r.1 ++ 10 ∷ (spelled first_key (b.0.first_out ∷ b.0.first_in ∷ []) ++ 10 ∷ (spelled band_key (b.0.band_out ∷ b.0.band_in ∷ []) ++ 10 ∷ b.1)))
-    = runs.parts ∙ ap (λ (y : List ℕ). spelled run_out_key r.0 ++ 10 ∷ (spelled run_in_key r.1 ++ 10 ∷ y)) bands.parts in
-    let second = signals.parts ∙ (λ i. spelled pattern_key g.0 ++ 10 ∷ (spelled red_key (sym (abs_pos g.1) i) ++ 10 ∷ third i)) in
-    let first = scale.parts ∙ ap (λ (y : List ℕ). spelled grid_key (s.0 ∷ []) ++ 10 ∷ (spelled unit_key (s.1 ∷ []) ++ 10 ∷ y)) second in
-    moved (PlanOf bytes) (plan_of s.0 s.1 g.0 g.1 r.0 r.1 b.0.first_out b.0.first_in b.0.band_out b.0.band_in, b.1) x f.2 (record {
-      parts = first;
-      held = is_held s.0 s.1 g.0 g.1 r.0 r.1 b.0.first_out b.0.first_in b.0.band_out b.0.band_in (fits line bytes s.2 g.2 r.2 s g r b a.1 c.1 d.1 f.1);
+    let a = bind_ok (base_at line bytes) (λ base. pair_at band_key (line + 7) base.1 >>= λ band. Ok (with_bands base.0 band.0 band.1, band.2)) x e in
+    let c = bind_ok (pair_at band_key (line + 7) a.0.1) (λ band. Ok (with_bands a.0.0 band.0 band.1, band.2)) x a.2 in
+    let base = base_takes line bytes a.0 a.1 in
+    let band = pair_takes band_key (line + 7) a.0.1 c.0 c.1 in
+    moved (PlanOf bytes) (with_bands a.0.0 c.0.0 c.0.1, c.0.2) x c.2 (record {
+      parts = base.parts ∙ ap (ended_and (base_lines a.0.0)) band.parts;
+      held = banded_is_held a.0.0 c.0.0 c.0.1 base.held band.first band.second;
     })
+
+-- the numbers that the code read
+pub base_fits : (line : ℕ) (bytes rest : List ℕ) (grid unit : ℕ) (patterns reds run_out run_in : List ℕ) (first_out first_in : ℕ) → base_at line bytes ≡ Ok (plan_of grid unit patterns reds run_out run_in first_out first_in 0 0, rest)
+    → IsTiming grid unit patterns reds run_out run_in first_out first_in 0 0
+base_fits line bytes rest grid unit patterns reds run_out run_in first_out first_in e =
+    subst (λ (ns : List ℕ). IsTiming grid unit patterns ns run_out run_in first_out first_in 0 0) (abs_pos reds)
+    (base_takes line bytes (plan_of grid unit patterns reds run_out run_in first_out first_in 0 0, rest) e).held.ranges
+
+pub plan_fits : (line : ℕ) (bytes rest more : List ℕ) (grid unit : ℕ) (patterns reds run_out run_in : List ℕ) (first_out first_in band_out band_in : ℕ) → base_at line bytes ≡ Ok (plan_of grid unit patterns reds run_out run_in first_out first_in 0 0, rest) → pair_at band_key (line + 7) rest ≡ Ok (band_out, band_in, more)
+    → IsTiming grid unit patterns reds run_out run_in first_out first_in band_out band_in
+plan_fits line bytes rest more grid unit patterns reds run_out run_in first_out first_in band_out band_in e f =
+    let band = pair_takes band_key (line + 7) rest (band_out, band_in, more) f in
+    rebanded grid unit patterns reds run_out run_in first_out first_in 0 0 band_out band_in (base_fits line bytes rest grid unit patterns reds run_out run_in first_out first_in e) band.first band.second
 
 pub timing_takes : (bytes : List ℕ) (t : Plan) → timing_of bytes ≡ Ok t → bytes ≡ timing_text t
 unfolding timing_of
@@ -266,7 +305,7 @@ timing_takes bytes t e =
     let f = bind_ok (nothing_at 11 d.0) (λ nothing. Ok b.0.0) t d.2 in
     let last : b.0.1 ≡ end_line ++ 10 ∷ [] = fixed_takes 10 end_line b.0.1 d.0 d.1 ∙ ap (λ (r : List ℕ). end_line ++ 10 ∷ r) (nothing_takes 11 d.0 f.0 f.1) in
     fixed_takes 1 head_line bytes a.0 a.1
-    ∙ ap (λ (y : List ℕ). head_line ++ 10 ∷ y) ((plan_takes 2 a.0 b.0 b.1).parts ∙ ap (plan_and b.0.0) last)
+    ∙ ap (λ (y : List ℕ). head_line ++ 10 ∷ y) ((plan_takes 2 a.0 b.0 b.1).parts ∙ ap (ended_and (plan_lines b.0.0)) last)
     ∙ ap timing_text (ok_is b.0.0 t f.2)
 
 -- ---- and again
@@ -287,37 +326,35 @@ signals_again line patterns reds rest p r =
     let first = numbers_again pattern_key (pattern_place line) patterns (spelled red_key reds ++ 10 ∷ rest) (record { spaces = refl; feeds = refl }) p in
     rw (first, second) refl
 
-runs_again : (line links : ℕ) (run_out run_in rest : List ℕ) → Suits (place_of line links 0) run_out → Suits (place_of (line + 1) links 0) run_in
-    → runs_at line links (spelled run_out_key run_out ++ 10 ∷ (spelled run_in_key run_in ++ 10 ∷ rest)) ≡ Ok (run_out, run_in, rest)
-unfolding runs_at
-runs_again line links run_out run_in rest o i =
-    let second = numbers_again run_in_key (place_of (line + 1) links 0) run_in rest (record { spaces = refl; feeds = refl }) i in
-    let first = numbers_again run_out_key (place_of line links 0) run_out (spelled run_in_key run_in ++ 10 ∷ rest) (record { spaces = refl; feeds = refl }) o in
+pub ways_again : (out_key in_key : List ℕ) (line links : ℕ) (outbound inbound rest : List ℕ) → IsKey out_key → IsKey in_key → Suits (place_of line links 0) outbound → Suits (place_of (line + 1) links 0) inbound
+    → both_ways_at out_key in_key line links (spelled out_key outbound ++ 10 ∷ (spelled in_key inbound ++ 10 ∷ rest)) ≡ Ok (outbound, inbound, rest)
+unfolding both_ways_at
+ways_again out_key in_key line links outbound inbound rest k l o i =
+    let second = numbers_again in_key (place_of (line + 1) links 0) inbound rest l i in
+    let first = numbers_again out_key (place_of line links 0) outbound (spelled in_key inbound ++ 10 ∷ rest) k o in
     rw (first, second) refl
 
-bands_again : (line : ℕ) (b : Bands) (rest : List ℕ) → IsSmall b.first_out → IsSmall b.first_in → IsSmall b.band_out → IsSmall b.band_in
-    → bands_at line (spelled first_key (b.first_out ∷ b.first_in ∷ []) ++ 10 ∷ (spelled band_key (b.band_out ∷ b.band_in ∷ []) ++ 10 ∷ rest)) ≡ Ok (b, rest)
-unfolding bands_at
-bands_again line b rest fo fi bo bi =
-    let second = numbers_again band_key (place_of (line + 1) 2 0) (b.band_out ∷ b.band_in ∷ []) rest (record { spaces = refl; feeds = refl }) (suits_two (line + 1) b.band_out b.band_in bo bi) in
-    let first = numbers_again first_key (place_of line 2 0) (b.first_out ∷ b.first_in ∷ []) (spelled band_key (b.band_out ∷ b.band_in ∷ []) ++ 10 ∷ rest) (record { spaces = refl; feeds = refl }) (suits_two line b.first_out b.first_in fo fi) in
-    rw (first, second) refl
+pair_again : (key : List ℕ) (line first second : ℕ) (rest : List ℕ) → IsKey key → IsSmall first → IsSmall second → pair_at key line (spelled key (first ∷ second ∷ []) ++ 10 ∷ rest) ≡ Ok (first, second, rest)
+unfolding pair_at
+pair_again key line first second rest is f s = rw (numbers_again key (place_of line 2 0) (first ∷ second ∷ []) rest is (suits_two line first second f s)) refl
 
-pub plan_again : (line : ℕ) (t : Plan) (rest : List ℕ) → IsHeld t → plan_at line (plan_and t rest) ≡ Ok (t, rest)
-unfolding plan_at
-plan_again line t rest held =
+-- the bands aren't read
+pub base_again : (line : ℕ) (t : Plan) (rest : List ℕ) → IsHeld t → base_at line (ended_and (base_lines t) rest) ≡ Ok (with_bands t 0 0, rest)
+unfolding base_at
+base_again line t rest held =
     let k = held.ranges in
     let reds = map unsigned_abs t.reds in
     let links = length t.patterns - 1 in
-    let b : Bands = record { first_out = unsigned_abs t.first_out; first_in = unsigned_abs t.first_in; band_out = t.band_out; band_in = t.band_in } in
-    let rest3 = spelled first_key (b.first_out ∷ b.first_in ∷ []) ++ 10 ∷ (spelled band_key (b.band_out ∷ b.band_in ∷ []) ++ 10 ∷ rest) in
+    let first_out = unsigned_abs t.first_out in
+    let first_in = unsigned_abs t.first_in in
+    let rest3 = spelled first_key (first_out ∷ first_in ∷ []) ++ 10 ∷ rest in
     let rest2 = spelled run_out_key t.run_out ++ 10 ∷ (spelled run_in_key t.run_in ++ 10 ∷ rest3) in
     let rest1 = spelled pattern_key t.patterns ++ 10 ∷ (spelled red_key reds ++ 10 ∷ rest2) in
     let p : Suits (pattern_place (line + 2)) t.patterns = record { fewest = k.few; most = k.many; each = pattern_within (line + 2) t.patterns (recursion_from_All (λ p. (1 ≤ p) × (p ≤ 4)) t.patterns k.patterns_each) } in
     let first = scale_again line t.grid t.unit rest1 k.grid_least k.grid_most k.unit_least k.unit_most in
     let second = signals_again (line + 2) t.patterns reds rest2 p (suits_small (line + 2 + 1) reds (length t.patterns) k.reds_count k.reds_each) in
-    let third = runs_again (line + 4) links t.run_out t.run_in rest3 (suits_small (line + 4) t.run_out links (omega arith) k.run_out_each) (suits_small (line + 4 + 1) t.run_in links (omega arith) k.run_in_each) in
-    let fourth = bands_again (line + 6) b rest k.first_out_most k.first_in_most k.band_out_most k.band_in_most in
+    let third = ways_again run_out_key run_in_key (line + 4) links t.run_out t.run_in rest3 (record { spaces = refl; feeds = refl }) (record { spaces = refl; feeds = refl }) (suits_small (line + 4) t.run_out links (omega arith) k.run_out_each) (suits_small (line + 4 + 1) t.run_in links (omega arith) k.run_in_each) in
+    let fourth = pair_again first_key (line + 6) first_out first_in rest (record { spaces = refl; feeds = refl }) k.first_out_most k.first_in_most in
     rw (first, second, third, fourth) (λ i. Ok (
       record {
         grid = t.grid;
@@ -328,16 +365,24 @@ plan_again line t rest held =
         run_in = t.run_in;
         first_out = sym held.first_out i;
         first_in = sym held.first_in i;
-        band_out = t.band_out;
-        band_in = t.band_in;
+        band_out = 0;
+        band_in = 0;
       },
       rest,
     ))
 
+pub plan_again : (line : ℕ) (t : Plan) (rest : List ℕ) → IsHeld t → plan_at line (ended_and (plan_lines t) rest) ≡ Ok (t, rest)
+unfolding plan_at
+plan_again line t rest held =
+    let k = held.ranges in
+    let first = base_again line t (spelled band_key (t.band_out ∷ t.band_in ∷ []) ++ 10 ∷ rest) held in
+    let second = pair_again band_key (line + 7) t.band_out t.band_in rest (record { spaces = refl; feeds = refl }) k.band_out_most k.band_in_most in
+    rw (first, second) refl
+
 pub timing_again : (t : Plan) → IsHeld t → timing_of (timing_text t) ≡ Ok t
 unfolding timing_of nothing_at
 timing_again t held =
-    let first = fixed_again 1 head_line (plan_and t (end_line ++ 10 ∷ [])) refl in
+    let first = fixed_again 1 head_line (ended_and (plan_lines t) (end_line ++ 10 ∷ [])) refl in
     let second = plan_again 2 t (end_line ++ 10 ∷ []) held in
     let third = fixed_again 10 end_line [] refl in
     rw (first, second, third) refl

@@ -1,7 +1,6 @@
 -- Reading the text of a certificate from its first line on.
 use Rattle.std.specs.Prelude.{ℕ, pos, ◌==◌, ◌&&◌, int_lt, unsigned_abs, slice_get, ◌+◌, ◌-◌, ◌^◌, suc, zero, List, [], ◌∷◌, length, Bool, false, Option, None, Some, Result, Ok, if◌then◌else◌}
 use Rattle.rational_theory.specs.Rational.{ℚ, over}
-use Rattle.progression.specs.Plan.{Plan}
 use Rattle.named_row.specs.declared.leaves.Weight.{Weight}
 use Rattle.named_row.specs.declared.names.RowId.{RowId}
 use Rattle.search_box.specs.declared.span.At.{At}
@@ -13,16 +12,16 @@ use Rattle.plan_text.specs.declared.tree.Head.{Head}
 use Rattle.plan_text.specs.declared.tree.Head.TheVariants as heads
 use Rattle.plan_text.specs.declared.certificate.Claim.{Claim}
 use Rattle.plan_text.specs.declared.certificate.Claim.TheVariants.{Best, NoTiming, Stopped}
-use Rattle.plan_text.specs.declared.form.Form.{Form}
-use Rattle.plan_text.specs.declared.form.Form.TheVariants.{Over, Plain}
+use Rattle.plan_text.specs.declared.form.LeafForm.{LeafForm}
+use Rattle.plan_text.specs.declared.form.LeafForm.TheVariants.{Over, Plain}
 use Rattle.plan_text.specs.Words.{is_text}
 use Rattle.plan_text.specs.Numbers.{number}
 use Rattle.plan_text.specs.Fractions.{integer, exact}
 use Rattle.plan_text.specs.Spelling.{end_line}
 use Rattle.plan_text.specs.Lines.{◌>>=◌, fault, line_at, words_at, fixed_at, nothing_at, ranged}
-use Rattle.plan_text.specs.Reading.{plan_at}
+use Rattle.plan_text.specs.TimingTexts.{TimingText, one_band}
 use Rattle.plan_text.specs.Families.{Table, ordinary, family_in, is_lone_in, is_after}
-use Rattle.plan_text.specs.Warrants.{Node, SplitAt, LeafOf, Warrant}
+use Rattle.plan_text.specs.Warrants.{Node, SplitAt, LeafOf, WarrantWith, Warrant}
 use Rattle.plan_text.specs.SecondText.{second_line, rows_key}
 use Rattle.plan_text.specs.Namings.{Naming, Named, Listed, fractions_key, IsFormed, is_form, is_list}
 use Rattle.plan_text.specs.CertificateText.{certificate_line, best_line, none_line, open_line, no_timing_line, tree_line, value_key, bound_key, split_key, loop_key, turn_key, leaf_key}
@@ -84,7 +83,7 @@ abbrev pub over_whole : ℕ → Option ℚ → Option ℚ
 over_whole d None = None
 over_whole d (Some x) = if x.den == 1 then Some (over x.num d) else None
 
-unfoldable pub multiplier_of : Form → ℕ → List ℕ → Result ℚ BadText
+unfoldable pub multiplier_of : LeafForm → ℕ → List ℕ → Result ℚ BadText
 multiplier_of Plain line w = or_number line (exact w)
 multiplier_of (Over d) line w = or_number line (over_whole d (exact w))
 
@@ -98,14 +97,14 @@ cut_last [] = None
 cut_last (w ∷ ws) = last_after w (cut_last ws)
 
 -- a row, and its multiplier as the last word
-abbrev pub weight_by : Naming → Form → ℕ → Option (List (List ℕ) × List ℕ) → Result Weight BadText
+abbrev pub weight_by : Naming → LeafForm → ℕ → Option (List (List ℕ) × List ℕ) → Result Weight BadText
 weight_by names form line None = fault line Shape
 weight_by names form line (Some p) = do
   row ← row_in names line p.0
   by ← multiplier_of form line p.1
   Ok (record { row = row; by = by })
 
-unfoldable pub weight_of : Naming → Form → ℕ → List (List ℕ) → Result Weight BadText
+unfoldable pub weight_of : Naming → LeafForm → ℕ → List (List ℕ) → Result Weight BadText
 weight_of names form line ws = weight_by names form line (cut_last ws)
 
 -- ---- lines whose rows ascend
@@ -131,7 +130,7 @@ abbrev pub row_of_weight : Weight → RowId
 row_of_weight w = w.row
 
 -- the rows of a leaf, so many
-abbrev pub weights_at : Naming → Form → ℕ → Option RowId → ℕ → List ℕ → Result (List Weight × List ℕ) BadText
+abbrev pub weights_at : Naming → LeafForm → ℕ → Option RowId → ℕ → List ℕ → Result (List Weight × List ℕ) BadText
 weights_at names form n last line bytes = rising_at row_of_weight (weight_of names form) n last line bytes
 
 -- and so many names of rows
@@ -213,48 +212,48 @@ nodes_at names (suc steps) (suc others) line bytes = do
 -- ---- the claim
 
 -- a claim and its timing, the number of the line after them, and what follows
-abbrev pub Beginning : Type 0
-Beginning = Claim × Option Plan × ℕ × List ℕ
+abbrev pub Beginning : Type 0 → Type 0
+Beginning T = Claim × Option T × ℕ × List ℕ
 
-unfoldable pub best_at : List ℕ → Result Beginning BadText
-best_at bytes = do
+unfoldable pub best_at : {T : Type 0} → TimingText T → List ℕ → Result (Beginning T) BadText
+best_at text bytes = do
   l ← words_at 3 bytes
   value ← fraction_of value_key 3 l.0
-  timing ← plan_at 4 l.1
-  Ok (Best value, Some timing.0, 12, timing.1)
+  timing ← text.read 4 l.1
+  Ok (Best value, Some timing.0, 4 + text.height, timing.1)
 
 -- the fourth line begins with `value`, or it is `no timing`
 abbrev pub begins_with : List ℕ → List (List ℕ) → Bool
 begins_with key [] = false
 begins_with key (w ∷ ws) = is_text w key
 
-unfoldable pub found_at : ℚ → List (List ℕ) → List ℕ → Result Beginning BadText
-found_at bound ws bytes = do
+unfoldable pub found_at : {T : Type 0} → TimingText T → ℚ → List (List ℕ) → List ℕ → Result (Beginning T) BadText
+found_at text bound ws bytes = do
   value ← fraction_of value_key 4 ws
-  timing ← plan_at 5 bytes
-  Ok (Stopped bound (Some value), Some timing.0, 13, timing.1)
+  timing ← text.read 5 bytes
+  Ok (Stopped bound (Some value), Some timing.0, 5 + text.height, timing.1)
 
-unfoldable pub missing_at : ℚ → List ℕ → Result Beginning BadText
+unfoldable pub missing_at : {T : Type 0} → ℚ → List ℕ → Result (Beginning T) BadText
 missing_at bound bytes = do
   rest ← fixed_at 4 no_timing_line bytes
   Ok (Stopped bound None, None, 5, rest)
 
-unfoldable pub open_at : List ℕ → Result Beginning BadText
-open_at bytes = do
+unfoldable pub open_at : {T : Type 0} → TimingText T → List ℕ → Result (Beginning T) BadText
+open_at text bytes = do
   l ← words_at 3 bytes
   bound ← fraction_of bound_key 3 l.0
   m ← words_at 4 l.1
-  if begins_with value_key m.0 then found_at bound m.0 m.1 else missing_at bound l.1
+  if begins_with value_key m.0 then found_at text bound m.0 m.1 else missing_at bound l.1
 
-unfoldable pub verdict_of : List ℕ → List ℕ → Result Beginning BadText
-verdict_of text bytes =
-    if is_text text best_line then best_at bytes
-    else (if is_text text none_line then Ok (NoTiming, None, 3, bytes) else (if is_text text open_line then open_at bytes else fault 2 Shape))
+unfoldable pub verdict_of : {T : Type 0} → TimingText T → List ℕ → List ℕ → Result (Beginning T) BadText
+verdict_of text verdict bytes =
+    if is_text verdict best_line then best_at text bytes
+    else (if is_text verdict none_line then Ok (NoTiming, None, 3, bytes) else (if is_text verdict open_line then open_at text bytes else fault 2 Shape))
 
-unfoldable pub claim_at : List ℕ → Result Beginning BadText
-claim_at bytes = do
+unfoldable pub claim_at : {T : Type 0} → TimingText T → List ℕ → Result (Beginning T) BadText
+claim_at text bytes = do
   l ← line_at 2 bytes
-  verdict_of l.0 l.1
+  verdict_of text l.0 l.1
 
 -- ---- the whole
 
@@ -270,24 +269,32 @@ tree_at names line bytes = do
   more ← fixed_at nodes.1 end_line nodes.2
   ends_after names nodes.0 nodes.1 more
 
--- what follows the first line of the first text, and of the second
-unfoldable pub first_of : List ℕ → Result Warrant BadText
-first_of bytes = do
-  opening ← claim_at bytes
-  nodes ← tree_at (Named ordinary) opening.2 opening.3
+-- what follows the first line of the first text, which names its rows over a table
+unfoldable pub first_of : {T : Type 0} → TimingText T → Table → List ℕ → Result (WarrantWith T) BadText
+first_of text table bytes = do
+  opening ← claim_at text bytes
+  nodes ← tree_at (Named table) opening.2 opening.3
   Ok (record { claim = opening.0; timing = opening.1; nodes = nodes })
+
+-- and what follows that of the second
 
 unfoldable pub second_of : List ℕ → Result Warrant BadText
 second_of bytes = do
-  opening ← claim_at bytes
+  opening ← claim_at one_band bytes
   rows ← rows_at ordinary opening.2 opening.3
   nodes ← tree_at (Listed rows.0) rows.1 rows.2
   Ok (record { claim = opening.0; timing = opening.1; nodes = nodes })
 
 abbrev pub text_by : List ℕ × List ℕ → Result Warrant BadText
-text_by l = if is_text l.0 certificate_line then first_of l.1 else (if is_text l.0 second_line then second_of l.1 else fault 1 Shape)
+text_by l = if is_text l.0 certificate_line then first_of one_band ordinary l.1 else (if is_text l.0 second_line then second_of l.1 else fault 1 Shape)
 
 unfoldable pub certificate_of : List ℕ → Result Warrant BadText
 certificate_of bytes = do
   l ← line_at 1 bytes
   text_by l
+
+-- a text that has this first line and names its rows over a table, and no second one
+unfoldable pub headed_of : {T : Type 0} → TimingText T → Table → List ℕ → List ℕ → Result (WarrantWith T) BadText
+headed_of text table head bytes = do
+  rest ← fixed_at 1 head bytes
+  first_of text table rest

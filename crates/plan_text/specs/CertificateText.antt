@@ -4,7 +4,6 @@ use Rattle.std.specs.Int.{w64}
 use Rattle.std.specs.Fmt.{decimal, signed_decimal}
 use Rattle.rational_theory.specs.Rational.{ℚ}
 use Rattle.narrow_fraction.specs.Fraction.{FitsFrac}
-use Rattle.progression.specs.Plan.{Plan}
 use Rattle.quantity_text.specs.Exact.{exact_spelling}
 use Rattle.named_row.specs.declared.leaves.Weight.{Weight}
 use Rattle.named_row.specs.declared.names.RowId.{RowId}
@@ -13,9 +12,10 @@ use Rattle.search_box.specs.declared.span.At.TheVariants.{Loop, Turn}
 use Rattle.plan_text.specs.declared.certificate.Claim.{Claim}
 use Rattle.plan_text.specs.declared.certificate.Claim.TheVariants.{Best, NoTiming, Stopped}
 use Rattle.plan_text.specs.Words.{line_of}
-use Rattle.plan_text.specs.Spelling.{ended, plan_lines, end_line, IsHeld}
+use Rattle.plan_text.specs.Spelling.{ended, end_line}
+use Rattle.plan_text.specs.TimingTexts.{TimingText, one_band}
 use Rattle.plan_text.specs.Families.{Table, ordinary, family_name_in, is_lone_in}
-use Rattle.plan_text.specs.Warrants.{Node, SplitAt, LeafOf, Warrant, IsCertificate}
+use Rattle.plan_text.specs.Warrants.{Node, SplitAt, LeafOf, WarrantWith, Warrant, IsCertificateIn}
 
 -- lines that stand as they are
 abbrev pub certificate_line : List ℕ
@@ -84,22 +84,26 @@ node_lines table (LeafOf ws) = line_of (leaf_key ∷ decimal (length ws) ∷ [])
 abbrev pub tree_lines : Table → List Node → List (List ℕ)
 tree_lines table ns = tree_line ∷ (flat_map (node_lines table) ns ++ end_line ∷ [])
 
-abbrev pub timing_part : Option Plan → List (List ℕ)
-timing_part None = []
-timing_part (Some t) = plan_lines t
+abbrev pub timing_part : {T : Type 0} → TimingText T → Option T → List (List ℕ)
+timing_part text None = []
+timing_part text (Some t) = text.lines t
 
 -- the lines from the second on up to the tree
-unfoldable pub claim_lines : Claim → Option Plan → List (List ℕ)
-claim_lines (Best value) timing = best_line ∷ line_of (fraction_words value_key value) ∷ timing_part timing
-claim_lines NoTiming timing = none_line ∷ []
-claim_lines (Stopped bound None) timing = open_line ∷ line_of (fraction_words bound_key bound) ∷ no_timing_line ∷ []
-claim_lines (Stopped bound (Some value)) timing = open_line ∷ line_of (fraction_words bound_key bound) ∷ line_of (fraction_words value_key value) ∷ timing_part timing
+unfoldable pub claim_lines : {T : Type 0} → TimingText T → Claim → Option T → List (List ℕ)
+claim_lines text (Best value) timing = best_line ∷ line_of (fraction_words value_key value) ∷ timing_part text timing
+claim_lines text NoTiming timing = none_line ∷ []
+claim_lines text (Stopped bound None) timing = open_line ∷ line_of (fraction_words bound_key bound) ∷ no_timing_line ∷ []
+claim_lines text (Stopped bound (Some value)) timing = open_line ∷ line_of (fraction_words bound_key bound) ∷ line_of (fraction_words value_key value) ∷ timing_part text timing
 
-abbrev pub certificate_lines : Warrant → List (List ℕ)
-certificate_lines c = certificate_line ∷ (claim_lines c.claim c.timing ++ tree_lines ordinary c.nodes)
+-- with this first line, and the rows named over a table
+abbrev pub first_lines : {T : Type 0} → TimingText T → Table → List ℕ → WarrantWith T → List (List ℕ)
+first_lines text table head c = head ∷ (claim_lines text c.claim c.timing ++ tree_lines table c.nodes)
+
+abbrev pub first_text : {T : Type 0} → TimingText T → Table → List ℕ → WarrantWith T → List ℕ
+first_text text table head c = ended (first_lines text table head c)
 
 abbrev pub certificate_text : Warrant → List ℕ
-certificate_text c = ended (certificate_lines c)
+certificate_text c = first_text one_band ordinary certificate_line c
 
 -- ---- certificates that the program can hold
 
@@ -109,9 +113,9 @@ IsHeldClaim NoTiming = Unit {0}
 IsHeldClaim (Stopped bound None) = FitsFrac bound
 IsHeldClaim (Stopped bound (Some value)) = FitsFrac bound × FitsFrac value
 
-abbrev pub IsHeldTiming : Option Plan → Type 0
-IsHeldTiming None = Unit {0}
-IsHeldTiming (Some t) = IsHeld t
+abbrev pub IsHeldTiming : {T : Type 0} → TimingText T → Option T → Type 0
+IsHeldTiming text None = Unit {0}
+IsHeldTiming text (Some t) = text.IsHeld t
 
 -- an index of 32 bits, and a multiplier that fits
 pub record IsHeldWeight (w : Weight) : Type 0 where
@@ -124,8 +128,11 @@ IsHeldNode (SplitAt (Turn signal rank)) = (signal < 2 ^ 32) × (rank < 2 ^ 32)
 IsHeldNode (LeafOf ws) = All IsHeldWeight ws
 
 -- a warrant that a certificate of the program can be
-pub record IsHeldWarrant (c : Warrant) : Type 0 where
-  pub kept : IsCertificate c
+pub record IsHeldWith {T : Type 0} (text : TimingText T) (table : Table) (c : WarrantWith T) : Type 0 where
+  pub kept : IsCertificateIn table c
   pub claim : IsHeldClaim c.claim
-  pub timing : IsHeldTiming c.timing
+  pub timing : IsHeldTiming text c.timing
   pub nodes : All IsHeldNode c.nodes
+
+abbrev pub IsHeldWarrant : Warrant → Type 0
+IsHeldWarrant c = IsHeldWith one_band ordinary c

@@ -22,6 +22,10 @@ named f = record { text = f.text.now; lone = f.is_lone }
 abbrev pub table_of : List FamilyName → Table
 table_of fs = map named fs
 
+-- the names of families of rows
+abbrev pub names_of : {N : Type 0} → List (rows.FamilyOf N) → Table
+names_of {N} fs = map (λ (f : rows.FamilyOf N). record { text = f.text; lone = f.lone }) fs
+
 abbrev pub texts : Table → List (List ℕ)
 texts table = map (λ (f : Family). f.text) table
 
@@ -53,7 +57,7 @@ pub record IsNamedIn (table : Table) (row : RowId) : Type 0 where
 
 -- ---- an ordinary certificate
 unfoldable pub ordinary : Table
-ordinary = map (λ (f : rows.Family). record { text = f.text; lone = f.lone }) rows.families
+ordinary = names_of rows.families
 
 abbrev pub family_name : ℕ → List ℕ
 family_name family = family_name_in ordinary family

@@ -4,6 +4,7 @@ pub mod Fractions
 pub mod Spelling
 pub mod Lines
 pub mod Reading
+pub mod TimingTexts
 pub mod Families
 pub mod Warrants
 pub mod CertificateText

@@ -3,8 +3,8 @@ use Rattle.std.specs.Prelude.{ℕ, ◌<◌, ◌≤◌, ◌^◌, ◌==◌, ◌&&�
 use Rattle.std.specs.Cmp.Lexicographic.{pointwise}
 use Rattle.named_row.specs.declared.leaves.Weight.{Weight}
 use Rattle.named_row.specs.declared.names.RowId.{RowId}
-use Rattle.plan_text.specs.declared.form.Form.{Form}
-use Rattle.plan_text.specs.declared.form.Form.TheVariants.{Over, Plain}
+use Rattle.plan_text.specs.declared.form.LeafForm.{LeafForm}
+use Rattle.plan_text.specs.declared.form.LeafForm.TheVariants.{Over, Plain}
 use Rattle.plan_text.specs.declared.naming.Naming as code
 use Rattle.plan_text.specs.declared.naming.Naming.TheVariants as codes
 use Rattle.plan_text.specs.Families.{Table, table_of}
@@ -31,18 +31,18 @@ fractions_key (Named table) = leaf_key
 fractions_key (Listed rows) = plain_key
 
 -- a denominator of 128 bits with a sign
-abbrev pub IsFormed : Form → Type 0
+abbrev pub IsFormed : LeafForm → Type 0
 IsFormed Plain = Unit {0}
 IsFormed (Over d) = (1 ≤ d) × (d < 2 ^ 127)
 
-abbrev pub same_form : Form → Form → Bool
+abbrev pub same_form : LeafForm → LeafForm → Bool
 same_form Plain Plain = true
 same_form Plain (Over d) = false
 same_form (Over d) Plain = false
 same_form (Over d) (Over e) = d == e
 
 -- a leaf with these rows has to be written so: by names always as fractions
-abbrev pub is_form : Naming → Form → List Weight → Bool
+abbrev pub is_form : Naming → LeafForm → List Weight → Bool
 is_form (Named table) form ws = true
 is_form (Listed rows) form ws = same_form (form_of ws) form
 

@@ -1,11 +1,11 @@
--- Reading the text of a timing from its first line on, and the eight lines of its numbers wherever they begin.
+-- Reading the text of a timing from its first line on, and the lines of its numbers wherever they begin.
 use Rattle.std.specs.Prelude.{ℕ, ◌+◌, ◌-◌, ◌^◌, List, length, Result, Ok, slice_index}
 use Rattle.progression.specs.Plan.{Plan}
 use Rattle.artery_model.specs.Bounds.{least_signals, most_signals}
 use Rattle.time_space.specs.Timing.{plan_of}
 use Rattle.plan_text.specs.declared.fault.BadText.{BadText}
 use Rattle.plan_text.specs.declared.lines.NumberLine.{NumberLine}
-use Rattle.plan_text.specs.declared.reading.Bands.{Bands}
+use Rattle.plan_text.specs.declared.reading.Base.{Base}
 use Rattle.plan_text.specs.Spelling.{head_line, grid_key, unit_key, pattern_key, red_key, run_out_key, run_in_key, first_key, band_key, end_line}
 use Rattle.plan_text.specs.Lines.{◌>>=◌, fixed_at, nothing_at, numbers_at}
 
@@ -31,36 +31,53 @@ signals_at line bytes = do
   reds ← numbers_at red_key (place_of (line + 1) (length patterns.0) 0) patterns.1
   Ok (patterns.0, reds.0, reds.1)
 
--- two lines: the runs of so many links
-unfoldable pub runs_at : ℕ → ℕ → List ℕ → Result (List ℕ × List ℕ × List ℕ) BadText
-runs_at line links bytes = do
-  run_out ← numbers_at run_out_key (place_of line links 0) bytes
-  run_in ← numbers_at run_in_key (place_of (line + 1) links 0) run_out.1
-  Ok (run_out.0, run_in.0, run_in.1)
+-- two lines: a number for each of so many links, outbound and inbound, each line with its key
+unfoldable pub both_ways_at : List ℕ → List ℕ → ℕ → ℕ → List ℕ → Result (List ℕ × List ℕ × List ℕ) BadText
+both_ways_at out_key in_key line links bytes = do
+  outbound ← numbers_at out_key (place_of line links 0) bytes
+  inbound ← numbers_at in_key (place_of (line + 1) links 0) outbound.1
+  Ok (outbound.0, inbound.0, inbound.1)
 
--- two lines: firsts and bands
-unfoldable pub bands_at : ℕ → List ℕ → Result (Bands × List ℕ) BadText
-bands_at line bytes = do
-  first ← numbers_at first_key (place_of line 2 0) bytes
-  band ← numbers_at band_key (place_of (line + 1) 2 0) first.1
-  Ok (
-    record {
-      first_out = slice_index first.0 0;
-      first_in = slice_index first.0 1;
-      band_out = slice_index band.0 0;
-      band_in = slice_index band.0 1;
-    },
-    band.1,
-  )
+-- a line of two numbers
+unfoldable pub pair_at : List ℕ → ℕ → List ℕ → Result (ℕ × ℕ × List ℕ) BadText
+pair_at key line bytes = do
+  pair ← numbers_at key (place_of line 2 0) bytes
+  Ok (slice_index pair.0 0, slice_index pair.0 1, pair.1)
+
+-- these numbers, as a timing whose bands are lines
+abbrev pub base_of : Base → Plan
+base_of b = plan_of b.grid b.unit b.patterns.items b.reds.items b.run_out.items b.run_in.items b.first_out b.first_in 0 0
+
+-- the seven lines of a timing's numbers that speak of no band, the first of which has this number
+unfoldable pub base_at : ℕ → List ℕ → Result (Plan × List ℕ) BadText
+base_at line bytes = do
+  scale ← scale_at line bytes
+  signals ← signals_at (line + 2) scale.2
+  runs ← both_ways_at run_out_key run_in_key (line + 4) (length signals.0 - 1) signals.2
+  first ← pair_at first_key (line + 6) runs.2
+  Ok (plan_of scale.0 scale.1 signals.0 signals.1 runs.0 runs.1 first.0 first.1 0 0, first.2)
+
+-- the timing with other bands
+abbrev pub with_bands : Plan → ℕ → ℕ → Plan
+with_bands t band_out band_in = record {
+  grid = t.grid;
+  unit = t.unit;
+  patterns = t.patterns;
+  reds = t.reds;
+  run_out = t.run_out;
+  run_in = t.run_in;
+  first_out = t.first_out;
+  first_in = t.first_in;
+  band_out = band_out;
+  band_in = band_in;
+}
 
 -- the eight lines of a timing's numbers, the first of which has this number
 unfoldable pub plan_at : ℕ → List ℕ → Result (Plan × List ℕ) BadText
 plan_at line bytes = do
-  scale ← scale_at line bytes
-  signals ← signals_at (line + 2) scale.2
-  runs ← runs_at (line + 4) (length signals.0 - 1) signals.2
-  bands ← bands_at (line + 6) runs.2
-  Ok (plan_of scale.0 scale.1 signals.0 signals.1 runs.0 runs.1 bands.0.first_out bands.0.first_in bands.0.band_out bands.0.band_in, bands.1)
+  base ← base_at line bytes
+  band ← pair_at band_key (line + 7) base.1
+  Ok (with_bands base.0 band.0 band.1, band.2)
 
 unfoldable pub timing_of : List ℕ → Result Plan BadText
 timing_of bytes = do

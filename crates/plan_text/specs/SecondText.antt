@@ -10,10 +10,11 @@ use Rattle.quantity_text.specs.Exact.{exact_spelling}
 use Rattle.named_row.specs.Order.{is_below}
 use Rattle.named_row.specs.declared.leaves.Weight.{Weight}
 use Rattle.named_row.specs.declared.names.RowId.{RowId}
-use Rattle.plan_text.specs.declared.form.Form.{Form}
-use Rattle.plan_text.specs.declared.form.Form.TheVariants.{Over, Plain}
+use Rattle.plan_text.specs.declared.form.LeafForm.{LeafForm}
+use Rattle.plan_text.specs.declared.form.LeafForm.TheVariants.{Over, Plain}
 use Rattle.plan_text.specs.Words.{line_of}
 use Rattle.plan_text.specs.Spelling.{ended, end_line}
+use Rattle.plan_text.specs.TimingTexts.{one_band}
 use Rattle.plan_text.specs.Families.{is_after}
 use Rattle.plan_text.specs.Warrants.{Node, SplitAt, LeafOf, Warrant}
 use Rattle.plan_text.specs.CertificateText.{row_words, split_words, claim_lines, tree_line, leaf_key}
@@ -83,30 +84,30 @@ abbrev pub is_plain : List Weight → Bool
 is_plain ws = is_wide (denominator_of ws) || list_any (λ (w : Weight). is_wide (unsigned_abs (times_denominator (denominator_of ws) w.by))) ws
 
 -- how a leaf is written: whole numbers over a denominator, or fractions
-unfoldable pub form_of : List Weight → Form
+unfoldable pub form_of : List Weight → LeafForm
 form_of ws = if is_plain ws then Plain else Over (denominator_of ws)
 
 -- ---- lines
 -- the words of a leaf's first line
-abbrev pub head_words : Form → ℕ → List (List ℕ)
+abbrev pub head_words : LeafForm → ℕ → List (List ℕ)
 head_words Plain n = plain_key ∷ decimal n ∷ []
 head_words (Over d) n = leaf_key ∷ decimal d ∷ decimal n ∷ []
 
 -- a multiplier
-abbrev pub multiplier_word : Form → Weight → List ℕ
+abbrev pub multiplier_word : LeafForm → Weight → List ℕ
 multiplier_word Plain w = exact_spelling w.by
 multiplier_word (Over d) w = signed_decimal (times_denominator d w.by)
 
 -- that a leaf of this form can have
-abbrev pub IsWritable : Form → Weight → Type 0
+abbrev pub IsWritable : LeafForm → Weight → Type 0
 IsWritable Plain w = Unit {0}
 IsWritable (Over d) w = (d < 2 ^ 127) × IsWhole d w
 
 -- a row by its place in the list, and its multiplier
-abbrev pub listed_line : List RowId → Form → Weight → List ℕ
+abbrev pub listed_line : List RowId → LeafForm → Weight → List ℕ
 listed_line rows form w = line_of (decimal (place_of_row rows w.row) ∷ multiplier_word form w ∷ [])
 
-abbrev pub leaf_lines : List RowId → Form → List Weight → List (List ℕ)
+abbrev pub leaf_lines : List RowId → LeafForm → List Weight → List (List ℕ)
 leaf_lines rows form ws = line_of (head_words form (length ws)) ∷ map (listed_line rows form) ws
 
 unfoldable pub listed_node_lines : List RowId → Node → List (List ℕ)
@@ -123,7 +124,7 @@ row_lines rows = line_of (rows_key ∷ decimal (length rows) ∷ []) ∷ map row
 abbrev pub second_lines : Warrant → List (List ℕ)
 second_lines c =
     second_line
-    ∷ (claim_lines c.claim c.timing ++ (row_lines (rows_of c.nodes) ++ tree_line ∷ (flat_map (listed_node_lines (rows_of c.nodes)) c.nodes ++ end_line ∷ [])))
+    ∷ (claim_lines one_band c.claim c.timing ++ (row_lines (rows_of c.nodes) ++ tree_line ∷ (flat_map (listed_node_lines (rows_of c.nodes)) c.nodes ++ end_line ∷ [])))
 
 abbrev pub second_text : Warrant → List ℕ
 second_text c = ended (second_lines c)

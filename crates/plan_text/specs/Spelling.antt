@@ -45,9 +45,9 @@ band_key = 98 ∷ 97 ∷ 110 ∷ 100 ∷ []
 abbrev pub end_line : List ℕ  -- end
 end_line = 101 ∷ 110 ∷ 100 ∷ []
 
--- the eight lines of its numbers
-abbrev pub plan_lines : Plan → List (List ℕ)
-plan_lines t =
+-- the seven lines of its numbers that speak of no band
+abbrev pub base_lines : Plan → List (List ℕ)
+base_lines t =
     spelled grid_key (t.grid ∷ [])
     ∷ spelled unit_key (t.unit ∷ [])
     ∷ spelled pattern_key t.patterns
@@ -55,8 +55,11 @@ plan_lines t =
     ∷ spelled run_out_key t.run_out
     ∷ spelled run_in_key t.run_in
     ∷ spelled first_key (unsigned_abs t.first_out ∷ unsigned_abs t.first_in ∷ [])
-    ∷ spelled band_key (t.band_out ∷ t.band_in ∷ [])
     ∷ []
+
+-- the eight lines of its numbers
+abbrev pub plan_lines : Plan → List (List ℕ)
+plan_lines t = base_lines t ++ spelled band_key (t.band_out ∷ t.band_in ∷ []) ∷ []
 
 -- the ten lines
 abbrev pub timing_lines : Plan → List (List ℕ)

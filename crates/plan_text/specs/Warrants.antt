@@ -1,4 +1,4 @@
--- A certificate as contracts see it: a claim, a timing where the claim has a value, and a tree of splits and leaves.
+-- A certificate as contracts see it: a claim, a timing of some kind where the claim has a value, and a tree of splits and leaves.
 use Rattle.std.specs.Prelude.{◌≡◌, ℕ, suc, zero, ◌≤◌, List, [], ◌∷◌, length, All, true, Option, None, Some}
 use Rattle.progression.specs.Plan.{Plan}
 use Rattle.named_row.specs.declared.leaves.Weight.{Weight}
@@ -16,10 +16,14 @@ pub data Node : Type 0 where
   SplitAt : At → Node
   LeafOf : List Weight → Node
 
-pub record Warrant : Type 0 where
+pub record WarrantWith (T : Type 0) : Type 0 where
   pub claim : Claim
-  pub timing : Option Plan
+  pub timing : Option T
   pub nodes : List Node
+
+-- an ordinary one, whose timing has one band a direction
+abbrev pub Warrant : Type 0
+Warrant = WarrantWith Plan
 
 abbrev pub node_of : CertNode → Node
 node_of (Split at) = SplitAt at
@@ -34,7 +38,7 @@ AreTrees (suc owed) (SplitAt at ∷ ns) = AreTrees (suc (suc owed)) ns
 AreTrees (suc owed) (LeafOf ws ∷ ns) = AreTrees owed ns
 
 -- a timing stands exactly where a value does
-abbrev pub HasTiming : Claim → Option Plan → Type 0
+abbrev pub HasTiming : {T : Type 0} → Claim → Option T → Type 0
 HasTiming (Best value) None = ⊥
 HasTiming (Best value) (Some t) = Unit {0}
 HasTiming NoTiming None = Unit {0}
@@ -58,8 +62,12 @@ IsNodeIn table (LeafOf ws) = (length ws ≤ 10000) × Ascend None ws × All (λ 
 abbrev pub IsNode : Node → Type 0
 IsNode n = IsNodeIn ordinary n
 
--- what every certificate of the program keeps
-pub record IsCertificate (c : Warrant) : Type 0 where
+-- what every certificate of the program keeps, whose rows have names in a table
+pub record IsCertificateIn {T : Type 0} (table : Table) (c : WarrantWith T) : Type 0 where
   pub timing : HasTiming c.claim c.timing
   pub tree : AreTrees 1 c.nodes
-  pub nodes : All IsNode c.nodes
+  pub nodes : All (IsNodeIn table) c.nodes
+
+-- and an ordinary one
+abbrev pub IsCertificate : Warrant → Type 0
+IsCertificate c = IsCertificateIn ordinary c

@@ -8,6 +8,7 @@ ghost use Rattle.plan_text.specs.Namings.{Named};
 ghost use Rattle.plan_text.specs.SecondText.{second_text};
 ghost use Rattle.plan_text.specs.CertificateText.{certificate_text, IsHeldWarrant};
 ghost use Rattle.plan_text.specs.CertificateReading.{rows_at, tree_at, first_of, second_of, certificate_of};
+ghost use Rattle.plan_text.specs.TimingTexts.{one_band};
 
 use crate::certificate::{CertNode, Certificate};
 use crate::claim::claim_at;
@@ -16,6 +17,7 @@ use crate::fault::{TextEnd, TextFault};
 use crate::lines::{bad, line_at};
 use crate::naming::Naming;
 use crate::row_list::rows_at;
+use crate::timing_text::OneBand;
 use crate::tree::tree_at;
 use named_row::RowId;
 use std::alloc::Global;
@@ -23,7 +25,7 @@ use std::alloc::Global;
 /// The tree of an ordinary certificate that names its rows.
 #[tactic(auto, unfolding(crate::specs::Families::ordinary))]
 fn named_tree_at(alloc: Global, line: u64, bytes: &[u8]) -> Result<Vec<CertNode>, TextEnd>
-    requires { line ≤ 13 }
+    requires { line ≤ 21 }
     ensures { Gives (λ x. map node_of x.items) result (tree_at (Named ordinary) line bytes.now) }
 {
     tree_at(alloc, Naming::Named(&FAMILIES), line, bytes)
@@ -36,7 +38,7 @@ fn ordinary_rows_at(
     line: u64,
     bytes: &[u8],
 ) -> Result<(Vec<RowId>, u64, &[u8]), TextEnd>
-    requires { line ≤ 13 }
+    requires { line ≤ 21 }
     ensures exact { Gives (λ x. (x.0.items, x.1, x.2.now)) result (rows_at ordinary line bytes.now) }
     ensures lines { IfOk result (λ x. x.1 + length x.2.now ≤ line + length bytes.now) }
 {
@@ -46,9 +48,9 @@ fn ordinary_rows_at(
 /// What follows the first line of a certificate that names its rows.
 #[tactic(auto, unfolding(crate::specs::CertificateReading::first_of))]
 fn first_of(alloc: Global, bytes: &[u8]) -> Result<Certificate, TextEnd>
-    ensures { Gives (λ c. c) result (first_of bytes.now) }
+    ensures { Gives (λ c. c) result (first_of one_band ordinary bytes.now) }
 {
-    let opening = claim_at(alloc, bytes)?;
+    let opening = claim_at::<OneBand>(alloc, bytes)?;
     let nodes = named_tree_at(alloc, opening.line, opening.rest)?;
     Ok(Certificate {
         claim: opening.claim,
@@ -62,7 +64,7 @@ fn first_of(alloc: Global, bytes: &[u8]) -> Result<Certificate, TextEnd>
 fn second_of(alloc: Global, bytes: &[u8]) -> Result<Certificate, TextEnd>
     ensures { Gives (λ c. c) result (second_of bytes.now) }
 {
-    let opening = claim_at(alloc, bytes)?;
+    let opening = claim_at::<OneBand>(alloc, bytes)?;
     let (rows, line, rest) = ordinary_rows_at(alloc, opening.line, opening.rest)?;
     let nodes = tree_at(alloc, Naming::Listed(rows.as_slice()), line, rest)?;
     Ok(Certificate {

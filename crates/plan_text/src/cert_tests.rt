@@ -163,7 +163,7 @@ fn texts_are_read_and_written_again(rt: HostRuntime) -> Result<(), Fail> {
 }
 
 /// A line that is put in, where, and the fault with its line.
-const REFUSED: [(u64, &[u8], u64, TextFault); 92] = [
+const REFUSED: [(u64, &[u8], u64, TextFault); 93] = [
     (1, b"maxband-certificate 3", 1, TextFault::Shape),
     (1, b"maxband-certificate 2", 12, TextFault::Shape),
     (1, b"maxband-timing 1", 1, TextFault::Shape),
@@ -256,6 +256,7 @@ const REFUSED: [(u64, &[u8], u64, TextFault); 92] = [
     (15, b"wout 2", 15, TextFault::Shape),
     (15, b"wout 2 1 1", 15, TextFault::Shape),
     (15, b"wait 2 1", 15, TextFault::Shape),
+    (15, b"near_out_a 1 1", 15, TextFault::Shape),
     (15, b"wait 0 x", 15, TextFault::Shape),
     (15, b"", 15, TextFault::Shape),
     (15, b"wout 0 1", 15, TextFault::Number),

@@ -13,13 +13,12 @@ ghost use Rattle.plan_text.specs.CertificateReading.{certificate_of};
 
 use crate::certificate::{CertNode, Certificate, Claim};
 use crate::family::{FAMILIES, FamilyName, family_name_in, is_lone_in};
-use crate::writing::push_plan;
+use crate::timing_text::{OneBand, TimingKind};
 use named_row::{RowId, Weight};
 use narrow_fraction::{Frac, Memory};
 use quantity_text::exact_text;
 use search_box::At;
 use std::alloc::Global;
-use time_space::Timing;
 
 /// Writes bytes at the end.
 pub(crate) fn push(out: &mut Vec<u8>, bytes: &[u8]) -> Result<(), Memory>
@@ -30,7 +29,7 @@ pub(crate) fn push(out: &mut Vec<u8>, bytes: &[u8]) -> Result<(), Memory>
 }
 
 /// Writes a line at the end.
-pub(crate) fn push_line(out: &mut Vec<u8>, line: &[u8]) -> Result<(), Memory>
+pub fn push_line(out: &mut Vec<u8>, line: &[u8]) -> Result<(), Memory>
     ensures { OnOk result (out.new.items ≡ out.old.items ++ ended (line.now ∷ [])) }
 {
     push(out, line)?;
@@ -198,34 +197,38 @@ fn push_named_tree(alloc: Global, out: &mut Vec<u8>, nodes: &[CertNode]) -> Resu
 }
 
 /// Writes the lines of a timing, if there is one.
-fn push_timing(alloc: Global, out: &mut Vec<u8>, timing: &Option<Timing>) -> Result<(), Memory>
-    ensures text { OnOk result (out.new.items ≡ out.old.items ++ ended (timing_part timing.now)) }
-    ensures held { OnOk result (IsHeldTiming timing.now) }
+fn push_timing<K: TimingKind>(
+    alloc: Global,
+    out: &mut Vec<u8>,
+    timing: &Option<K::Timing>,
+) -> Result<(), Memory>
+    ensures text { OnOk result (out.new.items ≡ out.old.items ++ ended (timing_part K.text timing.now)) }
+    ensures held { OnOk result (IsHeldTiming K.text timing.now) }
 {
     match timing {
-        Some(timing) => push_plan(alloc, out, timing),
+        Some(timing) => K::push_timing(alloc, out, timing),
         None => Ok(()),
     }
 }
 
-/// Writes the lines of a claim and its timing.
+/// Writes the lines of a claim and its timing, from the second line of a certificate on.
 #[tactic(auto, unfolding(crate::specs::CertificateText::claim_lines))]
-pub(crate) fn push_claim(
+pub fn push_claim<K: TimingKind>(
     alloc: Global,
     out: &mut Vec<u8>,
     claim: &Claim,
-    timing: &Option<Timing>,
+    timing: &Option<K::Timing>,
 ) -> Result<(), Memory>
     requires { HasTiming claim.now timing.now }
-    ensures text { OnOk result (out.new.items ≡ out.old.items ++ ended (claim_lines claim.now timing.now)) }
+    ensures text { OnOk result (out.new.items ≡ out.old.items ++ ended (claim_lines K.text claim.now timing.now)) }
     ensures claim { OnOk result (IsHeldClaim claim.now) }
-    ensures timing { OnOk result (IsHeldTiming timing.now) }
+    ensures timing { OnOk result (IsHeldTiming K.text timing.now) }
 {
     match claim {
         Claim::Best { value } => {
             push_line(out, b"verdict best")?;
             push_value(alloc, out, b"value", *value)?;
-            push_timing(alloc, out, timing)
+            push_timing::<K>(alloc, out, timing)
         }
         Claim::NoTiming => push_line(out, b"verdict none"),
         Claim::Stopped { bound, value } => {
@@ -234,7 +237,7 @@ pub(crate) fn push_claim(
             match value {
                 Some(value) => {
                     push_value(alloc, out, b"value", *value)?;
-                    push_timing(alloc, out, timing)
+                    push_timing::<K>(alloc, out, timing)
                 }
                 None => push_line(out, b"no timing"),
             }
@@ -249,7 +252,7 @@ pub fn write_certificate(alloc: Global, certificate: &Certificate) -> Result<Vec
 {
     let mut out = Vec::new(alloc);
     push_line(&mut out, b"maxband-certificate 1")?;
-    push_claim(alloc, &mut out, &certificate.claim, &certificate.timing)?;
+    push_claim::<OneBand>(alloc, &mut out, &certificate.claim, &certificate.timing)?;
     push_named_tree(alloc, &mut out, certificate.nodes.as_slice())?;
     Ok(out)
 }

@@ -8,33 +8,35 @@ use crate::certificate::Claim;
 use crate::fault::{TextEnd, TextFault};
 use crate::fraction::fraction_of;
 use crate::lines::{bad, fixed_at, line_at, words_at};
-use crate::reading::plan_at;
+use crate::timing_text::TimingKind;
 use narrow_fraction::Frac;
 use std::alloc::Global;
-use time_space::Timing;
 
 /// A claim with its timing, the number of the line after them, and what follows.
 #[derive(Drop)]
-pub struct Beginning<'a> {
+pub struct Beginning<'a, T> {
     pub claim: Claim,
-    pub timing: Option<Timing>,
+    pub timing: Option<T>,
     pub line: u64,
     pub rest: &'a [u8],
 }
 
 /// What follows `verdict best`.
 #[tactic(auto, unfolding(crate::specs::CertificateReading::best_at))]
-fn best_at(alloc: Global, bytes: &[u8]) -> Result<Beginning, TextEnd>
-    ensures exact { Gives (λ x. (x.claim, x.timing, x.line, x.rest.now)) result (best_at bytes.now) }
-    ensures line { IfOk result (λ x. x.line ≤ 13) }
+fn best_at<'a, K: TimingKind>(
+    alloc: Global,
+    bytes: &'a [u8],
+) -> Result<Beginning<'a, K::Timing>, TextEnd>
+    ensures exact { Gives (λ x. (x.claim, x.timing, x.line, x.rest.now)) result (best_at K.text bytes.now) }
+    ensures line { IfOk result (λ x. x.line ≤ 21) }
 {
     let (words, rest) = words_at(alloc, 3, bytes)?;
     let value = fraction_of(b"value", 3, words.as_slice())?;
-    let (timing, rest) = plan_at(alloc, 4, rest)?;
+    let (timing, rest) = K::timing_at(alloc, 4, rest)?;
     Ok(Beginning {
         claim: Claim::Best { value },
         timing: Some(timing),
-        line: 12,
+        line: 4 + K::height(),
         rest,
     })
 }
@@ -50,31 +52,34 @@ fn begins_with(key: &[u8], words: &[&[u8]]) -> bool
 
 /// What follows the bound where a timing was found.
 #[tactic(auto, unfolding(crate::specs::CertificateReading::found_at))]
-fn found_at<'a>(
+fn found_at<'a, K: TimingKind>(
     alloc: Global,
     bound: Frac,
     words: &[&[u8]],
     bytes: &'a [u8],
-) -> Result<Beginning<'a>, TextEnd>
-    ensures exact { Gives (λ x. (x.claim, x.timing, x.line, x.rest.now)) result (found_at bound (map (λ w. w.now) words.now) bytes.now) }
-    ensures line { IfOk result (λ x. x.line ≤ 13) }
+) -> Result<Beginning<'a, K::Timing>, TextEnd>
+    ensures exact { Gives (λ x. (x.claim, x.timing, x.line, x.rest.now)) result (found_at K.text bound (map (λ w. w.now) words.now) bytes.now) }
+    ensures line { IfOk result (λ x. x.line ≤ 21) }
 {
     let value = fraction_of(b"value", 4, words)?;
-    let (timing, rest) = plan_at(alloc, 5, bytes)?;
+    let (timing, rest) = K::timing_at(alloc, 5, bytes)?;
     let value = Some(value);
     Ok(Beginning {
         claim: Claim::Stopped { bound, value },
         timing: Some(timing),
-        line: 13,
+        line: 5 + K::height(),
         rest,
     })
 }
 
 /// What follows the bound where none was found.
 #[tactic(auto, unfolding(crate::specs::CertificateReading::missing_at))]
-fn missing_at(bound: Frac, bytes: &[u8]) -> Result<Beginning, TextEnd>
+fn missing_at<'a, K: TimingKind>(
+    bound: Frac,
+    bytes: &'a [u8],
+) -> Result<Beginning<'a, K::Timing>, TextEnd>
     ensures exact { Gives (λ x. (x.claim, x.timing, x.line, x.rest.now)) result (missing_at bound bytes.now) }
-    ensures line { IfOk result (λ x. x.line ≤ 13) }
+    ensures line { IfOk result (λ x. x.line ≤ 21) }
 {
     let rest = fixed_at(4, b"no timing", bytes)?;
     let value = None;
@@ -88,48 +93,58 @@ fn missing_at(bound: Frac, bytes: &[u8]) -> Result<Beginning, TextEnd>
 
 /// What follows `verdict open`.
 #[tactic(auto, unfolding(crate::specs::CertificateReading::open_at))]
-fn open_at(alloc: Global, bytes: &[u8]) -> Result<Beginning, TextEnd>
-    ensures exact { Gives (λ x. (x.claim, x.timing, x.line, x.rest.now)) result (open_at bytes.now) }
-    ensures line { IfOk result (λ x. x.line ≤ 13) }
+fn open_at<'a, K: TimingKind>(
+    alloc: Global,
+    bytes: &'a [u8],
+) -> Result<Beginning<'a, K::Timing>, TextEnd>
+    ensures exact { Gives (λ x. (x.claim, x.timing, x.line, x.rest.now)) result (open_at K.text bytes.now) }
+    ensures line { IfOk result (λ x. x.line ≤ 21) }
 {
     let (words, rest) = words_at(alloc, 3, bytes)?;
     let bound = fraction_of(b"bound", 3, words.as_slice())?;
     let (words, after) = words_at(alloc, 4, rest)?;
     if begins_with(b"value", words.as_slice()) {
-        found_at(alloc, bound, words.as_slice(), after)
+        found_at::<K>(alloc, bound, words.as_slice(), after)
     } else {
-        missing_at(bound, rest)
+        missing_at::<K>(bound, rest)
     }
 }
 
 /// What follows the verdict.
 #[tactic(auto, unfolding(crate::specs::CertificateReading::verdict_of))]
-fn verdict_of<'a>(alloc: Global, text: &[u8], bytes: &'a [u8]) -> Result<Beginning<'a>, TextEnd>
-    ensures exact { Gives (λ x. (x.claim, x.timing, x.line, x.rest.now)) result (verdict_of text.now bytes.now) }
-    ensures line { IfOk result (λ x. x.line ≤ 13) }
+fn verdict_of<'a, K: TimingKind>(
+    alloc: Global,
+    verdict: &[u8],
+    bytes: &'a [u8],
+) -> Result<Beginning<'a, K::Timing>, TextEnd>
+    ensures exact { Gives (λ x. (x.claim, x.timing, x.line, x.rest.now)) result (verdict_of K.text verdict.now bytes.now) }
+    ensures line { IfOk result (λ x. x.line ≤ 21) }
 {
-    if text == b"verdict best".as_slice() {
-        best_at(alloc, bytes)
-    } else if text == b"verdict none".as_slice() {
+    if verdict == b"verdict best".as_slice() {
+        best_at::<K>(alloc, bytes)
+    } else if verdict == b"verdict none".as_slice() {
         Ok(Beginning {
             claim: Claim::NoTiming,
             timing: None,
             line: 3,
             rest: bytes,
         })
-    } else if text == b"verdict open".as_slice() {
-        open_at(alloc, bytes)
+    } else if verdict == b"verdict open".as_slice() {
+        open_at::<K>(alloc, bytes)
     } else {
         Err(bad(2, TextFault::Shape))
     }
 }
 
-/// The claim and its timing, from the second line on.
+/// The claim of a certificate and its timing, from the second line on.
 #[tactic(auto, unfolding(crate::specs::CertificateReading::claim_at))]
-pub fn claim_at(alloc: Global, bytes: &[u8]) -> Result<Beginning, TextEnd>
-    ensures exact { Gives (λ x. (x.claim, x.timing, x.line, x.rest.now)) result (claim_at bytes.now) }
-    ensures line { IfOk result (λ x. x.line ≤ 13) }
+pub fn claim_at<'a, K: TimingKind>(
+    alloc: Global,
+    bytes: &'a [u8],
+) -> Result<Beginning<'a, K::Timing>, TextEnd>
+    ensures exact { Gives (λ x. (x.claim, x.timing, x.line, x.rest.now)) result (claim_at K.text bytes.now) }
+    ensures line { IfOk result (λ x. x.line ≤ 21) }
 {
-    let (text, rest) = line_at(2, bytes)?;
-    verdict_of(alloc, text, rest)
+    let (verdict, rest) = line_at(2, bytes)?;
+    verdict_of::<K>(alloc, verdict, rest)
 }

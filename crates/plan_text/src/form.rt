@@ -11,7 +11,7 @@ const MOST: u128 = i128::MAX as u128;
 
 /// How the multipliers of a leaf are written.
 #[derive(Clone, Copy, Debug, PartialEq, Eq)]
-pub enum Form {
+pub enum LeafForm {
     /// As whole numbers over this, their least common denominator.
     Over(u128),
     /// As fractions: the least common denominator, or a whole number over it, is more than `2^127 - 1` in size.
@@ -67,15 +67,15 @@ fn all_fit(denominator: u128, weights: &[Weight]) -> bool
 
 /// The form of a leaf with these multipliers.
 #[tactic(auto, unfolding(crate::specs::SecondText::form_of))]
-pub fn form_of(weights: &[Weight]) -> Form
+pub fn form_of(weights: &[Weight]) -> LeafForm
     ensures { result ≡ form_of weights.now }
 {
     let Some(denominator) = denominator_of(weights) else {
-        return Form::Plain;
+        return LeafForm::Plain;
     };
     if all_fit(denominator, weights) {
-        Form::Over(denominator)
+        LeafForm::Over(denominator)
     } else {
-        Form::Plain
+        LeafForm::Plain
     }
 }

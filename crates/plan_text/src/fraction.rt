@@ -2,13 +2,13 @@
 
 ghost use Rattle.std.specs.Prelude.{◌≡◌, ◌≤◌, ◌^◌, map, Some, IfOk};
 ghost use Rattle.plan_text.specs.Fractions.{from_zero, below_zero, integer, exact};
-ghost use Rattle.plan_text.specs.declared.form.Form.TheVariants.{Over};
+ghost use Rattle.plan_text.specs.declared.form.LeafForm.TheVariants.{Over};
 ghost use Rattle.plan_text.specs.Namings.{IsFormed};
 ghost use Rattle.plan_text.specs.Lines.{Gives};
 ghost use Rattle.plan_text.specs.CertificateReading.{or_number, fraction_of, over_whole, multiplier_of, above_zero};
 
 use crate::fault::{TextEnd, TextFault};
-use crate::form::Form;
+use crate::form::LeafForm;
 use crate::lines::bad;
 use crate::number::number;
 use narrow_fraction::Frac;
@@ -80,13 +80,13 @@ fn over_whole(denominator: u128, number: Frac) -> Option<Frac>
 
 /// The multiplier of a word of this line.
 #[tactic(auto, unfolding(crate::specs::CertificateReading::multiplier_of))]
-pub fn multiplier_of(form: Form, line: u64, word: &[u8]) -> Result<Frac, TextEnd>
+pub fn multiplier_of(form: LeafForm, line: u64, word: &[u8]) -> Result<Frac, TextEnd>
     requires { IsFormed form }
     ensures { Gives (λ x. x) result (multiplier_of form line word.now) }
 {
     match form {
-        Form::Plain => fraction(line, word),
-        Form::Over(denominator) => {
+        LeafForm::Plain => fraction(line, word),
+        LeafForm::Over(denominator) => {
             let number = fraction(line, word)?;
             match over_whole(denominator, number) {
                 Some(value) => Ok(value),

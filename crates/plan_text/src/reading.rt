@@ -4,7 +4,7 @@ ghost use Rattle.std.specs.Prelude.{◌≡◌, ◌+◌, ◌-◌, ◌<◌, ◌≤
 ghost use Rattle.progression.specs.Plan.{Plan};
 ghost use Rattle.plan_text.specs.Lines.{Gives};
 ghost use Rattle.plan_text.specs.Spelling.{timing_text, IsHeld};
-ghost use Rattle.plan_text.specs.Reading.{place_of, pattern_place, scale_at, signals_at, runs_at, bands_at, plan_at, timing_of};
+ghost use Rattle.plan_text.specs.Reading.{place_of, pattern_place, scale_at, signals_at, both_ways_at, pair_at, base_of, base_at, plan_at, timing_of};
 
 use crate::fault::TextEnd;
 use crate::lines::{NumberLine, fixed_at, nothing_at, numbers_at};
@@ -12,16 +12,20 @@ use artery_model::bounds::{LEAST_SIGNALS, MOST_SIGNALS};
 use std::alloc::{AllocError, Global};
 use time_space::{LIMIT, Timing};
 
-/// What the lines `first` and `band` have, in ticks.
-#[derive(Clone, Copy)]
-struct Bands {
-    first_out: u128,
-    first_in: u128,
-    band_out: u128,
-    band_in: u128,
+/// The numbers of a timing that speak of no band, as `Timing::new` wants them.
+#[derive(Drop)]
+pub struct Base {
+    pub grid: u128,
+    pub unit: u128,
+    pub patterns: Vec<u32>,
+    pub reds: Vec<u128>,
+    pub run_out: Vec<u128>,
+    pub run_in: Vec<u128>,
+    pub first_out: u128,
+    pub first_in: u128,
 }
 
-/// The place of a line with so many numbers, of which none is less than `least`.
+/// The place of a line with so many numbers below `2^80`, of which none is less than `least`.
 fn place(line: u64, count: usize, least: u128) -> NumberLine
     ensures { result ≡ place_of line count least }
 {
@@ -75,37 +79,37 @@ fn signals_at(
     Ok((patterns, reds, rest))
 }
 
-/// The runs of so many links, and what follows their lines, the first of which has this number.
-#[tactic(auto, unfolding(crate::specs::Reading::runs_at))]
-fn runs_at(
+/// A number for each of so many links, outbound and inbound, and what follows their lines, the first of which has this number.
+/// The line of a direction has its key.
+#[tactic(auto, unfolding(crate::specs::Reading::both_ways_at))]
+pub fn both_ways_at<'a>(
     alloc: Global,
+    out_key: &[u8],
+    in_key: &[u8],
     line: u64,
     links: usize,
-    bytes: &[u8],
-) -> Result<(Vec<u128>, Vec<u128>, &[u8]), TextEnd>
+    bytes: &'a [u8],
+) -> Result<(Vec<u128>, Vec<u128>, &'a [u8]), TextEnd>
     requires { line + 1 < 2 ^ 64 }
-    ensures exact { Gives (λ x. (x.0.items, x.1.items, x.2.now)) result (runs_at line links bytes.now) }
+    ensures { Gives (λ x. (x.0.items, x.1.items, x.2.now)) result (both_ways_at out_key.now in_key.now line links bytes.now) }
 {
-    let (run_out, rest) = numbers_at(alloc, b"run_out", place(line, links, 0), bytes)?;
-    let (run_in, rest) = numbers_at(alloc, b"run_in", place(line + 1, links, 0), rest)?;
-    Ok((run_out, run_in, rest))
+    let (outbound, rest) = numbers_at(alloc, out_key, place(line, links, 0), bytes)?;
+    let (inbound, rest) = numbers_at(alloc, in_key, place(line + 1, links, 0), rest)?;
+    Ok((outbound, inbound, rest))
 }
 
-/// Where the first lines cross, and the bands, and what follows their lines, the first of which has this number.
-#[tactic(auto, unfolding(crate::specs::Reading::bands_at))]
-fn bands_at(alloc: Global, line: u64, bytes: &[u8]) -> Result<(Bands, &[u8]), TextEnd>
-    requires { line + 1 < 2 ^ 64 }
-    ensures exact { Gives (λ x. (x.0, x.1.now)) result (bands_at line bytes.now) }
+/// The two numbers of a line, and what follows it.
+#[tactic(auto, unfolding(crate::specs::Reading::pair_at))]
+fn pair_at<'a>(
+    alloc: Global,
+    key: &[u8],
+    line: u64,
+    bytes: &'a [u8],
+) -> Result<(u128, u128, &'a [u8]), TextEnd>
+    ensures { Gives (λ x. (x.0, x.1, x.2.now)) result (pair_at key.now line bytes.now) }
 {
-    let (first, rest) = numbers_at(alloc, b"first", place(line, 2, 0), bytes)?;
-    let (band, rest) = numbers_at(alloc, b"band", place(line + 1, 2, 0), rest)?;
-    let bands = Bands {
-        first_out: first[0],
-        first_in: first[1],
-        band_out: band[0],
-        band_in: band[1],
-    };
-    Ok((bands, rest))
+    let (pair, rest) = numbers_at(alloc, key, place(line, 2, 0), bytes)?;
+    Ok((pair[0], pair[1], rest))
 }
 
 fn patterns_of(alloc: Global, numbers: &[u128]) -> Result<Vec<u32>, AllocError>
@@ -119,28 +123,57 @@ fn patterns_of(alloc: Global, numbers: &[u128]) -> Result<Vec<u32>, AllocError>
     Ok(patterns)
 }
 
-/// The timing of the eight lines from the one with this number on, and what follows them.
-#[tactic(auto, unfolding(crate::specs::Reading::plan_at))]
-pub(crate) fn plan_at(alloc: Global, line: u64, bytes: &[u8]) -> Result<(Timing, &[u8]), TextEnd>
+/// The numbers of a timing's seven lines that speak of no band, the first of which has this number, and what follows them.
+#[tactic(auto, unfolding(crate::specs::Reading::base_at))]
+pub fn base_at(alloc: Global, line: u64, bytes: &[u8]) -> Result<(Base, &[u8]), TextEnd>
     requires { line + 8 < 2 ^ 64 }
-    ensures { Gives (λ x. (x.0, x.1.now)) result (plan_at line bytes.now) }
+    ensures { Gives (λ x. (base_of x.0, x.1.now)) result (base_at line bytes.now) }
 {
     let (grid, unit, rest) = scale_at(alloc, line, bytes)?;
     let (patterns, reds, rest) = signals_at(alloc, line + 2, rest)?;
-    let (run_out, run_in, rest) = runs_at(alloc, line + 4, patterns.len() - 1, rest)?;
-    let (bands, rest) = bands_at(alloc, line + 6, rest)?;
+    let links = patterns.len() - 1;
+    let (run_out, run_in, rest) = both_ways_at(
+        alloc,
+        b"run_out",
+        b"run_in",
+        line + 4,
+        links,
+        rest,
+    )?;
+    let (first_out, first_in, rest) = pair_at(alloc, b"first", line + 6, rest)?;
     let patterns = patterns_of(alloc, patterns.as_slice())?;
-    match Timing::new(
+    let base = Base {
         grid,
         unit,
         patterns,
         reds,
         run_out,
         run_in,
-        bands.first_out,
-        bands.first_in,
-        bands.band_out,
-        bands.band_in,
+        first_out,
+        first_in,
+    };
+    Ok((base, rest))
+}
+
+/// The timing of the eight lines from the one with this number on, and what follows them.
+#[tactic(auto, unfolding(crate::specs::Reading::plan_at))]
+pub(crate) fn plan_at(alloc: Global, line: u64, bytes: &[u8]) -> Result<(Timing, &[u8]), TextEnd>
+    requires { line + 8 < 2 ^ 64 }
+    ensures { Gives (λ x. (x.0, x.1.now)) result (plan_at line bytes.now) }
+{
+    let (base, rest) = base_at(alloc, line, bytes)?;
+    let (band_out, band_in, rest) = pair_at(alloc, b"band", line + 7, rest)?;
+    match Timing::new(
+        base.grid,
+        base.unit,
+        base.patterns,
+        base.reds,
+        base.run_out,
+        base.run_in,
+        base.first_out,
+        base.first_in,
+        band_out,
+        band_in,
     ) {
         Some(timing) => Ok((timing, rest)),
         None => unreachable!(),

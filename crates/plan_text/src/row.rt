@@ -9,7 +9,7 @@ ghost use Rattle.plan_text.specs.CertificateReading.{range_of, index_of, lone_ro
 
 use crate::family::{FamilyName, family_in, is_lone_in};
 use crate::fault::{TextEnd, TextFault};
-use crate::form::Form;
+use crate::form::LeafForm;
 use crate::fraction::multiplier_of;
 use crate::lines::{NumberLine, bad, ranged, words_at};
 use crate::naming::Naming;
@@ -134,7 +134,7 @@ fn cut_last<'a, 'b>(words: &'a [&'b [u8]]) -> Option<(&'a [&'b [u8]], &'b [u8])>
 
 /// A row, and its multiplier as the last word.
 #[tactic(auto, unfolding(crate::specs::CertificateReading::weight_of))]
-fn weight_of(names: Naming, form: Form, line: u64, words: &[&[u8]]) -> Result<Weight, TextEnd>
+fn weight_of(names: Naming, form: LeafForm, line: u64, words: &[&[u8]]) -> Result<Weight, TextEnd>
     requires names { IsSmall names }
     requires form { IsFormed form }
     ensures { Gives (λ w. w) result (weight_of (naming_of names.entry) form line (map (λ w. w.now) words.now)) }
@@ -161,7 +161,7 @@ pub fn is_after(last: Option<RowId>, row: RowId) -> bool
 #[tactic(auto, unfolding(crate::specs::CertificateReading::read_after))]
 fn weight_after(
     names: Naming,
-    form: Form,
+    form: LeafForm,
     last: Option<RowId>,
     line: u64,
     words: &[&[u8]],
@@ -181,7 +181,7 @@ fn weight_after(
 pub fn weights_at<'a>(
     alloc: Global,
     names: Naming,
-    form: Form,
+    form: LeafForm,
     count: u32,
     line: u64,
     bytes: &'a [u8],

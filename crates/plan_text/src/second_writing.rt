@@ -13,8 +13,9 @@ ghost use Rattle.plan_text.specs.CertificateReading.{certificate_of};
 use crate::cert_writing::{push, push_claim, push_fraction, push_line, push_name, push_split};
 use crate::certificate::{CertNode, Certificate};
 use crate::family::FAMILIES;
-use crate::form::{Form, form_of, whole_over};
+use crate::form::{LeafForm, form_of, whole_over};
 use crate::listed::{place_of_row, rows_of};
+use crate::timing_text::OneBand;
 use named_row::{RowId, Weight};
 use narrow_fraction::Memory;
 use std::alloc::Global;
@@ -72,15 +73,15 @@ fn push_whole(alloc: Global, out: &mut Vec<u8>, whole: i128) -> Result<(), Memor
 fn push_multiplier(
     alloc: Global,
     out: &mut Vec<u8>,
-    form: Form,
+    form: LeafForm,
     weight: &Weight,
 ) -> Result<(), Memory>
     requires { IsWritable form weight.now }
     ensures { OnOk result (out.new.items ≡ out.old.items ++ 32 ∷ (multiplier_word form weight.now ++ 10 ∷ [])) }
 {
     match form {
-        Form::Over(denominator) => push_whole(alloc, out, whole_over(denominator, weight.by)),
-        Form::Plain => push_fraction(alloc, out, weight.by),
+        LeafForm::Over(denominator) => push_whole(alloc, out, whole_over(denominator, weight.by)),
+        LeafForm::Plain => push_fraction(alloc, out, weight.by),
     }
 }
 
@@ -89,7 +90,7 @@ fn push_listed(
     alloc: Global,
     out: &mut Vec<u8>,
     rows: &[RowId],
-    form: Form,
+    form: LeafForm,
     weight: &Weight,
 ) -> Result<(), Memory>
     requires ascend { AscendRows None rows.now }
@@ -108,7 +109,7 @@ fn push_multipliers(
     alloc: Global,
     out: &mut Vec<u8>,
     rows: &[RowId],
-    form: Form,
+    form: LeafForm,
     weights: &[Weight],
 ) -> Result<(), Memory>
     requires ascend { AscendRows None rows.now }
@@ -123,12 +124,12 @@ fn push_multipliers(
 }
 
 /// Writes the first line of a leaf with so many rows.
-fn push_head(alloc: Global, out: &mut Vec<u8>, form: Form, count: usize) -> Result<(), Memory>
+fn push_head(alloc: Global, out: &mut Vec<u8>, form: LeafForm, count: usize) -> Result<(), Memory>
     ensures { OnOk result (out.new.items ≡ out.old.items ++ ended (line_of (head_words form count) ∷ [])) }
 {
     let text = match form {
-        Form::Over(denominator) => format!(in alloc; "leaf {denominator} {count}"),
-        Form::Plain => format!(in alloc; "plain {count}"),
+        LeafForm::Over(denominator) => format!(in alloc; "leaf {denominator} {count}"),
+        LeafForm::Plain => format!(in alloc; "plain {count}"),
     };
     push_line(out, text?.as_bytes())
 }
@@ -192,7 +193,7 @@ pub fn write_second(alloc: Global, certificate: &Certificate) -> Result<Vec<u8>,
     let rows = rows_of(alloc, certificate.nodes.as_slice())?;
     let mut out = Vec::new(alloc);
     push_line(&mut out, b"maxband-certificate 2")?;
-    push_claim(alloc, &mut out, &certificate.claim, &certificate.timing)?;
+    push_claim::<OneBand>(alloc, &mut out, &certificate.claim, &certificate.timing)?;
     push_rows(alloc, &mut out, rows.as_slice())?;
     push_line(&mut out, b"tree")?;
     push_nodes(

@@ -10,7 +10,7 @@ ghost use Rattle.plan_text.specs.CertificateReading.{or_number, split_of, over_h
 
 use crate::certificate::CertNode;
 use crate::fault::{TextEnd, TextFault};
-use crate::form::{Form, form_of};
+use crate::form::{LeafForm, form_of};
 use crate::fraction::{denominator, integer};
 use crate::lines::{bad, fixed_at, nothing_at, words_at};
 use crate::listed::rows_of;
@@ -27,7 +27,7 @@ const MOST_ROWS: u32 = 10_000;
 #[derive(Clone, Copy)]
 enum Head {
     Split(At),
-    Leaf(u32, Form),
+    Leaf(u32, LeafForm),
 }
 
 /// A number of 64 bits in this line.
@@ -84,7 +84,7 @@ fn over_head(
         Naming::Listed(_) if key == b"leaf".as_slice() => {
             let bottom = denominator(line, bottom)?;
             let count = small(line, 0, MOST_ROWS, count)?;
-            Ok(Head::Leaf(count, Form::Over(bottom)))
+            Ok(Head::Leaf(count, LeafForm::Over(bottom)))
         }
         _ => Err(bad(line, TextFault::Shape)),
     }
@@ -99,7 +99,7 @@ fn head_of(names: Naming, line: u64, words: &[&[u8]]) -> Result<Head, TextEnd>
     match words {
         [key, count] if *key == fractions_key(names) => {
             let count = small(line, 0, MOST_ROWS, count)?;
-            Ok(Head::Leaf(count, Form::Plain))
+            Ok(Head::Leaf(count, LeafForm::Plain))
         }
         [key, bottom, count] => over_head(names, line, key, bottom, count),
         [key, kind, index, place] if *key == b"split".as_slice() => {
@@ -111,7 +111,7 @@ fn head_of(names: Naming, line: u64, words: &[&[u8]]) -> Result<Head, TextEnd>
 }
 
 /// Whether a leaf with these rows has to be written so.
-fn is_form(names: Naming, form: Form, weights: &[Weight]) -> bool
+fn is_form(names: Naming, form: LeafForm, weights: &[Weight]) -> bool
     ensures { result ≡ is_form (naming_of names.entry) form weights.now }
 {
     match names {

@@ -2,7 +2,7 @@
 
 ghost use Rattle.std.specs.Prelude.{◌≡◌, ◌++◌, ◌∷◌, [], ◌<◌, ◌^◌, pos, Ok, IfOk, OnOk};
 ghost use Rattle.progression.specs.Plan.{first};
-ghost use Rattle.plan_text.specs.Spelling.{spelled, ended, plan_lines, timing_text, IsHeld};
+ghost use Rattle.plan_text.specs.Spelling.{spelled, ended, base_lines, plan_lines, timing_text, IsHeld};
 ghost use Rattle.plan_text.specs.Reading.{timing_of};
 
 use narrow_fraction::Memory;
@@ -11,7 +11,7 @@ use std::alloc::{AllocError, Global};
 use time_space::Timing;
 
 /// Writes a line of a key and numbers at the end.
-fn push_numbers(
+pub fn push_numbers(
     alloc: Global,
     out: &mut Vec<u8>,
     key: &[u8],
@@ -46,11 +46,13 @@ fn first_of(timing: &Timing, dir: Dir) -> u128
     timing.first(dir).unsigned_abs()
 }
 
-/// Writes the eight lines of a timing's numbers at the end.
-pub(crate) fn push_plan(alloc: Global, out: &mut Vec<u8>, timing: &Timing) -> Result<(), Memory>
-    ensures text { OnOk result (out.new.items ≡ out.old.items ++ ended (plan_lines timing.now)) }
+/// Writes the seven lines of a timing's numbers that speak of no band at the end.
+pub fn push_base(alloc: Global, out: &mut Vec<u8>, timing: &Timing) -> Result<(), Memory>
+    ensures text { OnOk result (out.new.items ≡ out.old.items ++ ended (base_lines timing.now)) }
     ensures held { OnOk result (IsHeld timing.now) }
 {
+    // Its bands are below the limit too.
+    let _bands = [timing.band(Dir::Outbound), timing.band(Dir::Inbound)];
     let patterns = widened(alloc, timing.patterns())?;
     push_numbers(alloc, out, b"grid", &[timing.grid()])?;
     push_numbers(alloc, out, b"unit", &[timing.unit()])?;
@@ -67,6 +69,15 @@ pub(crate) fn push_plan(alloc: Global, out: &mut Vec<u8>, timing: &Timing) -> Re
             first_of(timing, Dir::Inbound),
         ],
     )?;
+    Ok(())
+}
+
+/// Writes the eight lines of a timing's numbers at the end.
+pub(crate) fn push_plan(alloc: Global, out: &mut Vec<u8>, timing: &Timing) -> Result<(), Memory>
+    ensures text { OnOk result (out.new.items ≡ out.old.items ++ ended (plan_lines timing.now)) }
+    ensures held { OnOk result (IsHeld timing.now) }
+{
+    push_base(alloc, out, timing)?;
     push_numbers(
         alloc,
         out,

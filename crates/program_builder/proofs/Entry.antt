@@ -14,8 +14,9 @@ use Rattle.entry_theory.specs.Ready.{IsReady, IsFresh}
 use Rattle.entry_theory.proofs.Entered.{under_way, ready_rows}
 use Rattle.entry_theory.proofs.Promises.{entry_keeps_all, ready_from}
 use Rattle.program_builder.specs.BoxRows.{rows_of}
-use Rattle.program_builder.specs.Opening.{box_rows, row_for, goal_of, loaded}
-use Rattle.program_builder.proofs.OpeningLaws.{is_loaded, shape_loaded, width-loaded, height-loaded}
+use Rattle.program_builder.specs.Opening.{artery_table, box_rows, row_for, goal_of, loaded}
+use Rattle.program_builder.proofs.LoadedTables.{is_loaded, shape_loaded, width-loaded, height-loaded}
+use Rattle.program_builder.proofs.ArteryTables.{artery_is_table}
 use Rattle.program_builder.specs.EntryRefusals.{IsSpentOnTheWay}
 use Rattle.program_builder.specs.Building.{IsMadeFor, loaded_box}
 use Rattle.program_builder.proofs.BuildingLaws.{made_spent}
@@ -51,16 +52,16 @@ boxes_same_coefs a box other = same_coefs a box other (rows_of a)
 
 -- ---- what is loaded, and what the entry comes to
 fresh : (a : Street) (box : Area) → IsFresh (loaded a box)
-fresh a box = fresh_loaded (loaded a box) (system_of (box_rows a box) (goal_of a)) (is_loaded a box)
+fresh a box = fresh_loaded (loaded a box) (system_of (box_rows a box) (goal_of a)) (is_loaded (artery_table a) box (artery_is_table a))
 
 stands : (a : Street) (box : Area) → StandsForRows (loaded a box) (box_rows a box) (goal_of a)
-stands a box = record { shape = shape_loaded a box; stands = stands-loaded (loaded a box) (system_of (box_rows a box) (goal_of a)) (is_loaded a box) }
+stands a box = record { shape = shape_loaded (artery_table a) box (artery_is_table a); stands = stands-loaded (loaded a box) (system_of (box_rows a box) (goal_of a)) (is_loaded (artery_table a) box (artery_is_table a)) }
 
 basis_for : (a : Street) (box : Area) (vs : List ℕ) → IsBasisOf a vs → IsBasisFor vs (box_rows a box) (goal_of a) (width (loaded a box))
 basis_for a box vs b = record {
   table = b.table;
   others = box_rows a b.box;
-  columns = b.columns ∙ sym (width-loaded a box);
+  columns = b.columns ∙ sym (width-loaded (artery_table a) box);
   coefs = boxes_same_coefs a box b.box;
   dual = b.dual;
   stands = b.stands;
@@ -78,8 +79,8 @@ pub made_on_the_way : (a : Street) (box : Area) (vs : List ℕ) (t : NamedTablea
 made_on_the_way a box vs t r h s =
     let l = s.within in
     let q = under_way vs r.table r.dual r.names (loaded a box) r.fresh r.forms s.turns (omega arith) in
-    made_spent a _ t q.entering.shaped h s.spent (record { rows = q.entering.rows ∙ height-loaded a box; columns = q.entering.columns ∙ width-loaded a box })
+    made_spent (artery_table a) _ t q.entering.shaped h s.spent (record { rows = q.entering.rows ∙ height-loaded (artery_table a) box; columns = q.entering.columns ∙ width-loaded (artery_table a) box })
 
 pub made_entered : (a : Street) (box : Area) (vs : List ℕ) → IsReady vs (loaded a box) → IsMadeFor a (entered_box a box vs)
 unfolding entry
-made_entered a box vs r = let q = ready_rows vs (loaded a box) r (length vs) (omega arith) in record { rows = q.0 ∙ height-loaded a box; columns = q.1 ∙ width-loaded a box }
+made_entered a box vs r = let q = ready_rows vs (loaded a box) r (length vs) (omega arith) in record { rows = q.0 ∙ height-loaded (artery_table a) box; columns = q.1 ∙ width-loaded (artery_table a) box }

@@ -17,8 +17,9 @@ use Rattle.entry_theory.specs.Basics.{basics_of}
 use Rattle.entry_theory.proofs.Basics.{names_basics_of}
 use Rattle.entry_theory.proofs.Entered.{ready_rows}
 use Rattle.program_builder.specs.EntryRefusals.{entry_refusal}
-use Rattle.program_builder.specs.Opening.{box_rows, row_for, goal_of, loaded, opening}
-use Rattle.program_builder.proofs.OpeningLaws.{opening_dual, opening_stands, width-opening, width-loaded}
+use Rattle.program_builder.specs.Opening.{artery_table, box_rows, row_for, goal_of, loaded, opening}
+use Rattle.program_builder.proofs.OpeningLaws.{opening_dual, opening_stands, width-opening}
+use Rattle.program_builder.proofs.LoadedTables.{width-loaded}
 use Rattle.fraction_tableau.specs.NamedTableaus.{NamedTableau}
 use Rattle.program_builder.specs.BoxRows.{rows_of}
 use Rattle.program_builder.specs.Building.{IsMadeFor, opened_box}
@@ -63,7 +64,7 @@ entry_first : (a : Street) (box : Area) (vs : List ℕ) → IsBasisOf a vs → I
 unfolding entry
 entry_first a box vs b =
     let e = entered a box vs b in
-    record { columns = (ready_rows vs (loaded a box) (ready a box vs b) (length vs) (omega arith)).1 ∙ width-loaded a box; dual = e.dual; stands = e.stands }
+    record { columns = (ready_rows vs (loaded a box) (ready a box vs b) (length vs) (omega arith)).1 ∙ width-loaded (artery_table a) box; dual = e.dual; stands = e.stands }
 
 pub either_first : (a : Street) (box : Area) (vs : List ℕ) → IsValid a → IsBasisOf a vs → IsFirstFor a box (entry_or_opening a box vs)
 unfolding entry_or_opening

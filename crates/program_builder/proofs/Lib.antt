@@ -15,3 +15,8 @@ mod EntryRefusals
 pub mod Entry
 pub mod First
 mod EntryTurns
+pub mod LoadedTables
+pub mod ArteryTables
+pub mod StartPivots
+pub mod CommonParts
+pub mod UnitFits

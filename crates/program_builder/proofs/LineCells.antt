@@ -7,8 +7,8 @@ use Rattle.rational_theory.specs.Rows as maths
 use Rattle.progression.specs.Street.{Street, count}
 use Rattle.progression.specs.Speeds.{number}
 use Rattle.linear_theory.specs.Places.{place, width}
-use Rattle.linear_theory.specs.Rows.{Entry, Form, filled, line}
-use Rattle.program_builder.specs.Opening.{cells_of}
+use Rattle.linear_theory.specs.Rows.{Cell, Entry, Form, placed, placed_row, places_of, filled, line}
+use Rattle.program_builder.specs.Loading.{cells_of}
 
 abbrev pub AllEntries : (Entry → Type 0) → List Entry → Type 0
 AllEntries P [] = Unit {0}
@@ -28,13 +28,29 @@ put P xs j v k h p = pick (cases_eq k j) (low_or_past k (length xs))
         subst P (get_or_past xs k (number 0) l ∙ sym (get_or_past (set xs j v) k (number 0) (omega arith))) p
     pick (inr n) l = subst P (sym (get_or-set_other xs j k v (number 0) n)) p
 
+-- ---- cells put into a list
+abbrev pub AllCells : (Cell → Type 0) → List Cell → Type 0
+AllCells P [] = Unit {0}
+AllCells P (c ∷ cs) = P c × AllCells P cs
+
+pub placed_each : (P : ℚ → Type 0) (xs : List ℚ) (cs : List Cell) (k : ℕ) → P (get_or xs k (number 0)) → AllCells (λ c. P c.1) cs → P (get_or (placed xs cs) k (number 0))
+placed_each P xs [] k h p = h
+placed_each P xs (c ∷ cs) k h p = placed_each P (set xs c.0 c.1) cs k (put P xs c.0 c.1 k p.0 h) p.1
+
+pub placed_other : (xs : List ℚ) (cs : List Cell) (k : ℕ) → AllCells (λ c. k ≡ c.0 → ⊥) cs → get_or (placed xs cs) k (number 0) ≡ get_or xs k (number 0)
+placed_other xs [] k p = refl
+placed_other xs (c ∷ cs) k p = placed_other (set xs c.0 c.1) cs k p.1 ∙ get_or-set_other xs c.0 k c.1 (number 0) p.0
+
+-- those of entries
+entries_placed : (P : Cell → Type 0) (n : ℕ) (es : List Entry) → AllEntries (λ e. P (place n e.0, e.1)) es → AllCells P (places_of n es)
+entries_placed P n [] p = tt
+entries_placed P n (e ∷ es) p = (p.0, entries_placed P n es p.1)
+
 filled_each : (P : ℚ → Type 0) (n : ℕ) (xs : List ℚ) (es : List Entry) (k : ℕ) → P (get_or xs k (number 0)) → AllEntries (λ e. P e.1) es → P (get_or (filled n xs es) k (number 0))
-filled_each P n xs [] k h p = h
-filled_each P n xs (e ∷ es) k h p = filled_each P n (set xs (place n e.0) e.1) es k (put P xs (place n e.0) e.1 k p.0 h) p.1
+filled_each P n xs es k h p = placed_each P xs (places_of n es) k h (entries_placed (λ c. P c.1) n es p)
 
 pub filled_other : (n : ℕ) (xs : List ℚ) (es : List Entry) (k : ℕ) → AllEntries (λ e. k ≡ place n e.0 → ⊥) es → get_or (filled n xs es) k (number 0) ≡ get_or xs k (number 0)
-filled_other n xs [] k p = refl
-filled_other n xs (e ∷ es) k p = filled_other n (set xs (place n e.0) e.1) es k p.1 ∙ get_or-set_other xs (place n e.0) k e.1 (number 0) p.0
+filled_other n xs es k p = placed_other xs (places_of n es) k (entries_placed (λ c. k ≡ c.0 → ⊥) n es p)
 
 length-filled : (n : ℕ) (xs : List ℚ) (es : List Entry) → length (filled n xs es) ≡ length xs
 length-filled n xs [] = refl
@@ -44,6 +60,14 @@ zeros_at : (n k : ℕ) → get_or (replicate n (number 0)) k (number 0) ≡ numb
 zeros_at zero k = refl
 zeros_at (suc n) zero = refl
 zeros_at (suc n) (suc k) = zeros_at n k
+
+-- ---- a row of cells
+pub row_each : (P : ℚ → Type 0) (w : ℕ) (cs : List Cell) (b : ℚ) (k : ℕ) → P (number 0) → AllCells (λ c. P c.1) cs → P (get_or (placed_row w cs b).coefs k (number 0))
+row_each P w cs b k h p = placed_each P (replicate w (number 0)) cs k (subst P (sym (zeros_at w k)) h) p
+
+-- 0 in a column that no cell names
+pub row_other : (w : ℕ) (cs : List Cell) (b : ℚ) (k : ℕ) → AllCells (λ c. k ≡ c.0 → ⊥) cs → get_or (placed_row w cs b).coefs k (number 0) ≡ number 0
+row_other w cs b k p = placed_other (replicate w (number 0)) cs k p ∙ zeros_at w k
 
 -- ---- a line
 pub line_width : (a : Street) (f : Form) → length (line a f).coefs ≡ width (count a)
@@ -81,11 +105,14 @@ cells_bound r k h = get_or_push r.coefs r.bound (number 0) k (sym h)
 above_last : (k m n : ℕ) → n ≡ suc m → m ≤ k → (k ≡ m → ⊥) → n ≤ k
 above_last k m n e h d = grind arith
 
--- what is true of 0, of each entry and of the bound is true of each cell
-pub cells_each : (P : ℚ → Type 0) (a : Street) (f : Form) (k : ℕ) → P (number 0) → AllEntries (λ e. P e.1) f.entries → P f.bound → P (get_or (cells_of (line a f)) k (number 0))
-cells_each P a f k z p b = pick (low_or_past k (length (line a f).coefs)) (cases_eq k (length (line a f).coefs))
+-- what is true of 0, of the number there and of the bound is true of each cell
+pub each_cell : (P : ℚ → Type 0) (r : maths.Row) (k : ℕ) → P (number 0) → P (get_or r.coefs k (number 0)) → P r.bound → P (get_or (cells_of r) k (number 0))
+each_cell P r k z p b = pick (low_or_past k (length r.coefs)) (cases_eq k (length r.coefs))
   where
-    pick : (k < length (line a f).coefs) ⊎ (length (line a f).coefs ≤ k) → (k ≡ length (line a f).coefs) ⊎ (k ≡ length (line a f).coefs → ⊥) → P (get_or (cells_of (line a f)) k (number 0))
-    pick (inl l) e = subst P (sym (cells_at (line a f) k l)) (line_each P a f k z p)
-    pick (inr l) (inl e) = subst P (sym (cells_bound (line a f) k e)) b
-    pick (inr l) (inr n) = subst P (sym (get_or_past (cells_of (line a f)) k (number 0) (let w = cells_width (line a f) in above_last k (length (line a f).coefs) (length (cells_of (line a f))) w l n))) z
+    pick : (k < length r.coefs) ⊎ (length r.coefs ≤ k) → (k ≡ length r.coefs) ⊎ (k ≡ length r.coefs → ⊥) → P (get_or (cells_of r) k (number 0))
+    pick (inl l) e = subst P (sym (cells_at r k l)) p
+    pick (inr l) (inl e) = subst P (sym (cells_bound r k e)) b
+    pick (inr l) (inr n) = subst P (sym (get_or_past (cells_of r) k (number 0) (let w = cells_width r in above_last k (length r.coefs) (length (cells_of r)) w l n))) z
+
+pub cells_each : (P : ℚ → Type 0) (a : Street) (f : Form) (k : ℕ) → P (number 0) → AllEntries (λ e. P e.1) f.entries → P f.bound → P (get_or (cells_of (line a f)) k (number 0))
+cells_each P a f k z p b = each_cell P (line a f) k z (line_each P a f k z p) b

@@ -49,7 +49,7 @@ module _ (a : Street) (v : IsValid a) where
   signal_valid : (i : ℕ) → HasSignal a i → IsSignal a.head.parts (signal_of a i)
   signal_valid i h = let l = h.0 in let m = h.1 in v.each_signal (i - 1) no_signal (omega arith)
 
-  some_green : (d : Dir) (i : ℕ) → HasSignal a i → red_parts a d i < a.head.parts
+  pub some_green : (d : Dir) (i : ℕ) → HasSignal a i → red_parts a d i < a.head.parts
   some_green Outbound i h = (signal_valid i h).green_out
   some_green Inbound i h = (signal_valid i h).green_in
 

@@ -1,7 +1,10 @@
 pub mod BoxRows
+pub mod RowOrder
+pub mod RowTable
+pub mod Loading
+pub mod StartPivots
 pub mod Opening
 pub mod Building
-pub mod RowOrder
 pub mod OpeningLaws
 pub mod EntryRefusals
 pub mod Entry

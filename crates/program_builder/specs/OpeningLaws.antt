@@ -4,7 +4,7 @@ use Rattle.rational_theory.specs.Rational.{ℚ}
 use Rattle.progression.specs.Street.{Street}
 use Rattle.progression.specs.declared.parts.Dir.{Dir}
 use Rattle.linear_theory.specs.Rows as rows
-use Rattle.program_builder.specs.Opening.{cells_of}
+use Rattle.program_builder.specs.Loading.{cells_of}
 
 -- the row of signal 1's wait
 abbrev pub wait_row : Street → Dir → List ℚ

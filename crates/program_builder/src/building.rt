@@ -1,53 +1,24 @@
 //! The opening tableau of a box.
 
-ghost use Rattle.std.specs.Prelude.{◌≡◌, length, IfOk, None, false};
+ghost use Rattle.std.specs.Prelude.{◌≡◌, length, IfOk, false};
 ghost use Rattle.progression.specs.Street.{count};
 ghost use Rattle.linear_theory.specs.Places as places;
 ghost use Rattle.linear_theory.specs.Boxes.{IsBoxOf};
-ghost use Rattle.simplex_theory.specs.Tableau.{IsPlace, exchange};
 ghost use Rattle.simplex_theory.specs.DualSteps.{IsDual};
 ghost use Rattle.simplex_theory.specs.RowLists.{StandsForRows};
-ghost use Rattle.fraction_tableau.specs.Refusals.{pivot_refusal};
 ghost use Rattle.program_builder.specs.Opening.{box_rows, goal_of};
 ghost use Rattle.program_builder.specs.Building.{IsMadeFor, loaded_box, opened_box};
 
-use crate::counting::row_count;
-use crate::loading::load_rows;
+use crate::loading::{load, make_tableau};
+use crate::pivots::pivot;
+use crate::table::ArteryTable;
 use artery_model::Artery;
-use artery_model::bounds::MOST_SIGNALS;
 use fraction_tableau::Tableau;
-use loop_rows::{column_count, fill_goal};
+use loop_rows::column_count;
 use named_row::Row;
 use narrow_fraction::Memory;
 use search_box::SearchBox;
 use std::alloc::Global;
-
-/// A pivot that is not refused.
-fn pivot(tableau: &mut Tableau, row: u32, col: u32)
-    requires place { IsPlace tableau.old.table row col }
-    requires unspent { tableau.old.spent ≡ false }
-    requires fits { pivot_refusal row col tableau.old.table.rows tableau.old.table.goal ≡ None }
-    ensures { tableau.new ≡ record tableau.old { table = exchange row col tableau.old.table } }
-{
-    match tableau.pivot(row, col) {
-        Ok(()) => {}
-        Err(_) => unreachable!(),
-    }
-}
-
-/// Loads the rows of a box and the weighted band.
-pub fn load(tableau: &mut Tableau, artery: &Artery, area: &SearchBox, room: &mut Row)
-    requires boxed { IsBoxOf artery.now area.now }
-    requires made { IsMadeFor artery.now tableau.old }
-    requires room { length room.old.coefs ≡ places.width (count artery.now) }
-    ensures loaded { tableau.new ≡ loaded_box artery.now area.now }
-    ensures room { length room.new.coefs ≡ places.width (count artery.now) }
-    ensures unspent { room.new.spent ≡ false }
-{
-    load_rows(tableau, artery, area, room);
-    fill_goal(artery, room);
-    tableau.load_goal(room);
-}
 
 /// Brings both bands into the basis: the outbound one in the row of the outbound wait at signal 1, the inbound one in that
 /// of the inbound wait there.
@@ -76,7 +47,7 @@ pub fn reset(tableau: &mut Tableau, artery: &Artery, area: &SearchBox, room: &mu
     ensures unspent { room.new.spent ≡ false }
 {
     artery.known_valid();
-    load(tableau, artery, area, room);
+    load(tableau, &ArteryTable { artery }, area, &mut (), room);
     enter_bands(tableau, artery, area);
 }
 
@@ -90,10 +61,8 @@ pub fn start(alloc: Global, artery: &Artery, area: &SearchBox) -> Result<Tableau
     ensures stands { IfOk result (λ tableau. StandsForRows tableau.table (box_rows artery.now area.now) (goal_of artery.now)) }
     ensures made { IfOk result (λ tableau. IsMadeFor artery.now tableau) }
 {
-    prove!(artery.count() as usize <= MOST_SIGNALS);
-    let width = column_count(artery);
-    let mut tableau = Tableau::new(alloc, row_count(artery), width)?;
-    let mut room = Row::zero(alloc, width)?;
+    let mut tableau = make_tableau(alloc, &ArteryTable { artery })?;
+    let mut room = Row::zero(alloc, column_count(artery))?;
     reset(&mut tableau, artery, area, &mut room);
     Ok(tableau)
 }

@@ -11,7 +11,9 @@ ghost use Rattle.program_builder.specs.Opening.{box_rows, goal_of, loaded};
 ghost use Rattle.program_builder.specs.Building.{IsMadeFor, opened_box};
 ghost use Rattle.program_builder.specs.Entry.{IsBasisOf, entered_box};
 
-use crate::building::{load, reset};
+use crate::building::reset;
+use crate::loading::load;
+use crate::table::ArteryTable;
 use crate::turning::enter_columns;
 use artery_model::Artery;
 use fraction_tableau::Tableau;
@@ -40,7 +42,7 @@ pub fn enter(
     ensures room { length room.new.coefs ≡ places.width (count artery.now) }
     ensures unspent { room.new.spent ≡ false }
 {
-    load(tableau, artery, area, room);
+    load(tableau, &ArteryTable { artery }, area, &mut (), room);
     match enter_columns(tableau, basis) {
         Ok(()) => true,
         Err(_) => {

@@ -5,14 +5,15 @@ ghost use Rattle.linear_theory.specs.Boxes.{IsBoxOf};
 ghost use Rattle.program_builder.specs.Building.{IsMadeFor};
 ghost use Rattle.program_builder.specs.Entry.{IsBasisOf};
 
-use crate::tests::{artery, cell, fraction, signal};
+use crate::tests::{artery, cell, fraction};
 use crate::{enter, start};
-use artery_model::{Artery, Head, Link, Pair, Units};
+use artery_model::{Artery, Pair};
 use dual_simplex::{Meter, NodeEnd, solve_node};
 use fraction_tableau::Tableau;
 use loop_rows::column_count;
 use named_row::Row;
 use narrow_fraction::Frac;
+use sample_streets::{SampleHead, SampleLink, plain_head, plain_link, plain_signal, sample_street};
 use search_box::{At, SearchBox};
 use std::alloc::Global;
 use std::rt::HostRuntime;
@@ -91,50 +92,38 @@ fn range(least: (i128, i128), most: (i128, i128)) -> Pair {
 
 /// A street whose limits of speed and of change have denominators without a common divisor.
 fn rough_artery(alloc: Global) -> Result<Artery, Fail> {
-    let head = Head {
-        name: None,
-        units: Units::Metric,
-        version: 1,
-        parts: 100,
+    let head = SampleHead {
         cycle: range((90, 1), (110, 1)),
-        ratio: Frac::whole(1),
-        least_out: Frac::whole(0),
-        least_in: Frac::whole(0),
-        equal: false,
+        ..plain_head()
     };
-    let signals = vec![in alloc;
-        signal(alloc, "A", 50)?,
-        signal(alloc, "B", 50)?,
-        signal(alloc, "C", 50)?,
-        signal(alloc, "D", 50)?,
-    ]?;
-    let links = vec![in alloc;
-        Link {
-            distance_out: 23291,
-            distance_in: 23291,
+    let signals = [
+        plain_signal("A", 50),
+        plain_signal("B", 50),
+        plain_signal("C", 50),
+        plain_signal("D", 50),
+    ];
+    let free = SampleLink {
+        speed_out: range((90, 1), (110, 1)),
+        speed_in: range((90, 1), (110, 1)),
+        ..plain_link(29881)
+    };
+    let links = [
+        SampleLink {
             speed_out: range((92009, 941), (93491, 907)),
             speed_in: range((90067, 991), (93523, 971)),
             change_out: Some(range((-976, 953), (950, 983))),
             change_in: Some(range((-934, 983), (983, 971))),
+            ..plain_link(23291)
         },
-        Link {
-            distance_out: 24391,
-            distance_in: 24391,
+        SampleLink {
             speed_out: range((95369, 937), (92357, 907)),
             speed_in: range((90, 1), (110, 1)),
-            change_out: None,
             change_in: Some(range((-925, 953), (986, 907))),
+            ..plain_link(24391)
         },
-        Link {
-            distance_out: 29881,
-            distance_in: 29881,
-            speed_out: range((90, 1), (110, 1)),
-            speed_in: range((90, 1), (110, 1)),
-            change_out: None,
-            change_in: None,
-        },
-    ]?;
-    match Artery::new(alloc, head, signals, links) {
+        free,
+    ];
+    match sample_street(alloc, head, &signals, &links) {
         Ok(artery) => Ok(artery),
         Err(_) => Err("no artery".into()),
     }

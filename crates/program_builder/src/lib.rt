@@ -9,6 +9,9 @@
 //! `enter` makes the entry instead, from the basic variables that `Tableau::basis` lists at an end (`specs/Entry.antt`), or says that
 //! one of its pivots leaves 128 bits, and makes the opening. Which of the two a box begins from, by the boxes above it, is `first_of`
 //! (`specs/First.antt`), with its law.
+//!
+//! What isn't an artery's alone is made for any table of rows, a `TableRows` (`specs/RowTable.antt`): `make_tableau`, `load`
+//! (`specs/Loading.antt`) and `pivot_all`, the pivots of a start (`specs/StartPivots.antt`). `ArteryTable` is an artery's.
 #![tactic(auto)]
 
 mod building;
@@ -19,9 +22,14 @@ mod entering;
 mod entry_tests;
 pub mod laws;
 mod loading;
+mod pivots;
+mod table;
 #[cfg(test)]
 mod tests;
 mod turning;
 
 pub use building::{reset, start};
 pub use entering::enter;
+pub use loading::{load, make_tableau};
+pub use pivots::{StartPivot, pivot, pivot_all};
+pub use table::{ArteryTable, TableRows};

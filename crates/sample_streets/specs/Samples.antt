@@ -24,13 +24,28 @@ head_of s = record {
 }
 
 abbrev pub signal_of : SampleSignal → Signal
-signal_of s = record { name = s.name.now; red = s.red; left_out = s.left; left_in = s.left; patterns = s.patterns; clear_out = s.clear_out; clear_in = 0 }
-
-abbrev pub link_of : SampleLink → Link
-link_of s = record { distance_out = s.distance_out; distance_in = s.distance_in; speed_out = s.speed_out; speed_in = s.speed_in; change_out = s.change; change_in = s.change }
+signal_of s = record {
+  name = s.name.now;
+  red = s.red;
+  left_out = s.left_out;
+  left_in = s.left_in;
+  patterns = s.patterns;
+  clear_out = s.clear_out;
+  clear_in = s.clear_in;
+}
 
 abbrev pub whole_range : ℤ → ℤ → Pair
 whole_range least most = record { least = whole least; most = whole most }
+
+abbrev pub link_of : SampleLink → Link
+link_of s = record {
+  distance_out = s.distance_out;
+  distance_in = s.distance_in;
+  speed_out = s.speed_out;
+  speed_in = s.speed_in;
+  change_out = s.change_out;
+  change_in = s.change_in;
+}
 
 -- metric, in version 1, 100 parts in 100 seconds, and both bands count alike
 abbrev pub plain_head : Head

@@ -1,8 +1,7 @@
 //! Sample streets by a few numbers each, for the tests of the crates above.
 //!
 //! What most samples have is `plain_head`, `plain_signal` and `plain_link`: 100 parts in 100 seconds, one left
-//! turn pattern and 36 kilometres an hour. Change what differs, and call `two_signals` or `three_signals`, whose contracts say which
-//! street it is.
+//! turn pattern and 36 kilometres an hour. Change what differs, and call `sample_street`, whose contract says which street it is.
 #![tactic(auto)]
 
 mod sample;
@@ -11,4 +10,4 @@ mod streets;
 pub use sample::{
     SampleHead, SampleLink, SampleSignal, plain_head, plain_link, plain_signal, range,
 };
-pub use streets::{three_signals, two_signals};
+pub use streets::sample_street;

@@ -19,24 +19,27 @@ pub struct SampleHead {
     pub equal: bool,
 }
 
-/// A signal. Its left turns are equally long, and the inbound line leaves on time.
+/// A signal.
 #[derive(Clone, Copy)]
 pub struct SampleSignal {
     pub name: &'static str,
     pub red: u32,
-    pub left: u32,
+    pub left_out: u32,
+    pub left_in: u32,
     pub patterns: [bool; 4],
     pub clear_out: u32,
+    pub clear_in: u32,
 }
 
-/// A link. A change of pace is limited alike in both directions.
+/// A link.
 #[derive(Clone, Copy)]
 pub struct SampleLink {
     pub distance_out: u32,
     pub distance_in: u32,
     pub speed_out: Pair,
     pub speed_in: Pair,
-    pub change: Option<Pair>,
+    pub change_out: Option<Pair>,
+    pub change_in: Option<Pair>,
 }
 
 /// The whole numbers of a range.
@@ -72,9 +75,11 @@ pub fn plain_signal(name: &'static str, red: u32) -> SampleSignal
     SampleSignal {
         name,
         red,
-        left: 0,
+        left_out: 0,
+        left_in: 0,
         patterns: [true, false, false, false],
         clear_out: 0,
+        clear_in: 0,
     }
 }
 
@@ -87,6 +92,7 @@ pub fn plain_link(distance: u32) -> SampleLink
         distance_in: distance,
         speed_out: range(36, 36),
         speed_in: range(36, 36),
-        change: None,
+        change_out: None,
+        change_in: None,
     }
 }

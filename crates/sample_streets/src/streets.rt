@@ -1,10 +1,11 @@
 //! The streets of samples.
 
-ghost use Rattle.std.specs.Prelude.{◌≡◌, [], ◌∷◌, IfOk};
+ghost use Rattle.std.specs.Prelude.{◌≡◌, IfOk, map};
 ghost use Rattle.sample_streets.specs.Samples.{head_of, signal_of, link_of};
 
 use crate::sample::{SampleHead, SampleLink, SampleSignal};
 use artery_model::{Artery, Flaw, Head, Link, Signal, Text};
+use narrow_fraction::Memory;
 use std::alloc::Global;
 
 fn head(sample: SampleHead) -> Head
@@ -23,21 +24,29 @@ fn head(sample: SampleHead) -> Head
     }
 }
 
-fn signal(alloc: Global, sample: SampleSignal) -> Result<Signal, Flaw>
+fn signal(alloc: Global, sample: SampleSignal) -> Result<Signal, Memory>
     ensures { IfOk result (λ signal. signal ≡ signal_of sample) }
 {
-    match Text::new(alloc, sample.name) {
-        Ok(name) => Ok(Signal {
-            name,
-            red: sample.red,
-            left_out: sample.left,
-            left_in: sample.left,
-            patterns: sample.patterns,
-            clear_out: sample.clear_out,
-            clear_in: 0,
-        }),
-        Err(_) => Err(Flaw::Memory),
+    Ok(Signal {
+        name: Text::new(alloc, sample.name)?,
+        red: sample.red,
+        left_out: sample.left_out,
+        left_in: sample.left_in,
+        patterns: sample.patterns,
+        clear_out: sample.clear_out,
+        clear_in: sample.clear_in,
+    })
+}
+
+fn signals_of(alloc: Global, samples: &[SampleSignal]) -> Result<Vec<Signal>, Memory>
+    ensures { IfOk result (λ signals. signals.items ≡ map signal_of samples.now) }
+{
+    let mut signals = Vec::new(alloc);
+    for sample in samples {
+        let next = signal(alloc, *sample)?;
+        signals.push(next)?;
     }
+    Ok(signals)
 }
 
 fn link(sample: SampleLink) -> Link
@@ -48,50 +57,34 @@ fn link(sample: SampleLink) -> Link
         distance_in: sample.distance_in,
         speed_out: sample.speed_out,
         speed_in: sample.speed_in,
-        change_out: sample.change,
-        change_in: sample.change,
+        change_out: sample.change_out,
+        change_in: sample.change_in,
     }
 }
 
-/// The street of two signals. An unprintable name is told as want of memory.
-pub fn two_signals(
-    alloc: Global,
-    whole: SampleHead,
-    first: SampleSignal,
-    second: SampleSignal,
-    between: SampleLink,
-) -> Result<Artery, Flaw>
-    ensures { IfOk result (λ a. a ≡ record { head = head_of whole; signals = signal_of first ∷ signal_of second ∷ []; links = link_of between ∷ [] }) }
+fn links_of(alloc: Global, samples: &[SampleLink]) -> Result<Vec<Link>, Memory>
+    ensures { IfOk result (λ links. links.items ≡ map link_of samples.now) }
 {
-    let Ok(signals) = vec![in alloc; signal(alloc, first)?, signal(alloc, second)?] else {
-        return Err(Flaw::Memory);
-    };
-    let Ok(links) = vec![in alloc; link(between)] else {
-        return Err(Flaw::Memory);
-    };
-    Artery::new(alloc, head(whole), signals, links)
+    let mut links = Vec::new(alloc);
+    for sample in samples {
+        links.push(link(*sample))?;
+    }
+    Ok(links)
 }
 
-/// The street of three signals, told alike.
-pub fn three_signals(
+/// The street of these signals and of the links between them.
+pub fn sample_street(
     alloc: Global,
     whole: SampleHead,
-    first: SampleSignal,
-    second: SampleSignal,
-    third: SampleSignal,
-    before: SampleLink,
-    after: SampleLink,
+    signals: &[SampleSignal],
+    links: &[SampleLink],
 ) -> Result<Artery, Flaw>
-    ensures { IfOk result (λ a. a ≡ record { head = head_of whole; signals = signal_of first ∷ signal_of second ∷ signal_of third ∷ []; links = link_of before ∷ link_of after ∷ [] }) }
+    ensures { IfOk result (λ a. a ≡ record { head = head_of whole; signals = map signal_of signals.now; links = map link_of links.now }) }
 {
-    let Ok(signals) = vec![in alloc;
-        signal(alloc, first)?,
-        signal(alloc, second)?,
-        signal(alloc, third)?,
-    ] else {
+    let Ok(signals) = signals_of(alloc, signals) else {
         return Err(Flaw::Memory);
     };
-    let Ok(links) = vec![in alloc; link(before), link(after)] else {
+    let Ok(links) = links_of(alloc, links) else {
         return Err(Flaw::Memory);
     };
     Artery::new(alloc, head(whole), signals, links)

@@ -8,8 +8,10 @@ ghost use Rattle.search_box.specs.Places.{AreRanks};
 use crate::{
     At, SearchBox, Span, law_shifts_are_ranked, law_valid_street, root_span, shift_at, shift_count,
 };
-use artery_model::{Artery, Head, Link, Pair, Signal, Text, Units};
-use narrow_fraction::Frac;
+use artery_model::Artery;
+use sample_streets::{
+    SampleHead, SampleSignal, plain_head, plain_link, plain_signal, range, sample_street,
+};
 use std::alloc::Global;
 use std::test::Fail;
 
@@ -53,69 +55,31 @@ fn with_lefts() -> Street {
     }
 }
 
-fn pair(least: i64, most: i64) -> Pair {
-    Pair {
-        least: Frac::whole(least),
-        most: Frac::whole(most),
-    }
-}
-
-fn signal(
-    alloc: Global,
-    name: &str,
-    red: u32,
-    left: u32,
-    patterns: [bool; 4],
-    clear_out: u32,
-) -> Result<Signal, Fail> {
-    Ok(Signal {
-        name: Text::new(alloc, name).ok().ok_or("no memory")?,
-        red,
-        left_out: left,
-        left_in: left,
-        patterns,
-        clear_out,
-        clear_in: 0,
-    })
-}
-
 fn artery(alloc: Global, street: Street) -> Result<Artery, Fail> {
-    let Street {
-        left,
-        patterns,
-        clear_out,
-        ..
-    } = street;
-    let signals = vec![in alloc;
-        signal(alloc, "A", street.reds[0], 0, ALL, 0)?,
-        signal(alloc, "B", street.reds[1], left, patterns, clear_out)?,
-    ]?;
-    let links = vec![in alloc;
-        Link {
-            distance_out: street.distance,
-            distance_in: street.distance,
-            speed_out: pair(36, 36),
-            speed_in: pair(36, 36),
-            change_out: None,
-            change_in: None,
-        },
-    ]?;
-    let head = Head {
-        name: None,
-        units: Units::Metric,
-        version: 1,
-        parts: 100,
-        cycle: pair(street.cycle[0], street.cycle[1]),
-        ratio: Frac::whole(1),
-        least_out: Frac::whole(0),
-        least_in: Frac::whole(0),
-        equal: false,
+    let head = SampleHead {
+        cycle: range(street.cycle[0], street.cycle[1]),
+        ..plain_head()
     };
-    Ok(
-        Artery::new(alloc, head, signals, links)
-            .ok()
-            .ok_or("no artery")?,
-    )
+    let first = SampleSignal {
+        patterns: ALL,
+        ..plain_signal("A", street.reds[0])
+    };
+    let second = SampleSignal {
+        left_out: street.left,
+        left_in: street.left,
+        patterns: street.patterns,
+        clear_out: street.clear_out,
+        ..plain_signal("B", street.reds[1])
+    };
+    match sample_street(
+        alloc,
+        head,
+        &[first, second],
+        &[plain_link(street.distance)],
+    ) {
+        Ok(artery) => Ok(artery),
+        Err(_) => Err("no artery".into()),
+    }
 }
 
 fn span(least: i64, most: i64) -> Span {

@@ -4,7 +4,7 @@ use crate::{Plan, PlanEnd, PlanFault, plan};
 use artery_model::{Artery, Pair};
 use narrow_fraction::{Frac, Op, Wide};
 use progression::Dir;
-use sample_streets::{SampleHead, SampleLink, plain_head, plain_link, plain_signal, two_signals};
+use sample_streets::{SampleHead, SampleLink, plain_head, plain_link, plain_signal, sample_street};
 use std::alloc::Global;
 use std::test::Fail;
 use time_space::{Failing, Timing, holds};
@@ -88,9 +88,8 @@ fn artery(alloc: Global, street: Street) -> Result<Artery, Fail> {
         distance_in: street.distances[1],
         ..plain_link(500)
     };
-    let first = plain_signal("A", street.red);
-    let second = plain_signal("B", street.red);
-    match two_signals(alloc, head(street)?, first, second, link) {
+    let signals = [plain_signal("A", street.red), plain_signal("B", street.red)];
+    match sample_street(alloc, head(street)?, &signals, &[link]) {
         Ok(artery) => Ok(artery),
         Err(_) => Err("no artery".into()),
     }

@@ -14,3 +14,4 @@ pub mod Vertices
 pub mod Totals
 pub mod Signs
 pub mod Promises
+pub mod IdleColumns

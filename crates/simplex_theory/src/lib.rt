@@ -23,6 +23,7 @@
 //!   `rows_stand-exchange` and `rows_stand_after` (`RowLists`).
 //! - What does the rule choose? `says`, `dual_next`. Does it end? `no_return` (`Paths`), `steps_low`, `steps_fall` (the measure of a loop
 //!   over steps), `no_basis_twice` (`StepCounts`).
+//! - Which variables stay 0? `IdleColumns`: one whose place has cells of 0 alone, `idle_after` along the steps, `idle_point` at the vertex.
 //! - What does a loaded tableau say? `placed-loaded`, `stands-loaded`; `LoadedRows`: `HoldsRows t rows goal`,
 //!   `placed-held`, `stands-held`. What does the end say? `goal_covers`, `row_refutes`, `optimal_point`.
 #![tactic(auto)]

@@ -89,7 +89,7 @@ same_factor a b m q e =
 pub mul-le : {a b c d : ℕ} → a ≤ b → c ≤ d → a * c ≤ b * d
 mul-le {a} {b} {c} {d} h k = grind arith
 
-below : {a b c : ℕ} → a < b → 0 < c → a * c < b * c
+pub below : {a b c : ℕ} → a < b → 0 < c → a * c < b * c
 below {a} {b} {c} h k = grind arith
 
 -- a red has at least one part, and leaves some green

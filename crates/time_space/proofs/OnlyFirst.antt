@@ -10,7 +10,7 @@ use Rattle.progression.specs.declared.parts.Dir.TheVariants.{Outbound, Inbound}
 use Rattle.time_space.specs.FirstRed.{IsFirstRed}
 use Rattle.time_space.specs.Blocked.{IsBlockedAt, IsBlockedSomewhere}
 use Rattle.time_space.specs.Failing.{Fails}
-use Rattle.time_space.specs.FirstFailing.{rule_order, dir_order, direction_order, place_order, OneFirst}
+use Rattle.time_space.specs.FirstFailing.{rule_order, dir_order, direction_order, place_order, IsNoLater, OneFirst}
 use Rattle.time_space.specs.declared.failing.Failing.{Failing}
 use Rattle.time_space.specs.declared.failing.Failing.TheVariants as failing
 
@@ -18,7 +18,8 @@ use Rattle.time_space.specs.declared.failing.Failing.TheVariants as failing
 one_red : (c : ℕ) (start : ℤ) (red : ℕ) (x : ℤ) (b s t : ℕ) → IsFirstRed c start red x b s → IsFirstRed c start red x b t → s < t → ⊥
 one_red c start red x b s t f g l = let yes = g.green_before s l in let no = f.red_there in cc
 
-one_tick : (c : ℕ) (start : ℤ) (red : ℕ) (x : ℤ) (b s t : ℕ) → IsFirstRed c start red x b s → IsFirstRed c start red x b t → s ≡ t
+-- so there is one first tick
+pub one_tick : (c : ℕ) (start : ℤ) (red : ℕ) (x : ℤ) (b s t : ℕ) → IsFirstRed c start red x b s → IsFirstRed c start red x b t → s ≡ t
 one_tick c start red x b s t f g = elim (cases_lt s t) [
   | inl l ↦ absurd (one_red c start red x b s t f g l)
   | inr h ↦ elim (cases_lt t s) [ inl l ↦ absurd (one_red c start red x b t s g f l) | inr k ↦ omega arith ]
@@ -73,10 +74,12 @@ same_failing a t (failing.Outbound i x) (failing.Outbound j y) p q r d e = block
 same_failing a t (failing.Inbound i x) (failing.Inbound j y) p q r d e = blocked_in a t i j x y (one_signal a t i j x y p q e) p q
 same_failing a t f g p q r d e = absurd (omega (arith, r))
 
-pub one_first : OneFirst
-one_first a t f g p q =
-    let h = p.first g q.fails in
-    let k = q.first f p.fails in
+-- two that fail, neither of which comes after the other, are the same
+pub neither_later : (a : Street) (t : Plan) (f g : Failing) → Fails a t f → Fails a t g → IsNoLater a f g → IsNoLater a g f → f ≡ g
+neither_later a t f g p q h k =
     let r : rule_order f ≡ rule_order g = omega (arith, h.rule, k.rule) in
     let d : direction_order f ≡ direction_order g = omega (arith, h.direction r, k.direction (sym r)) in
-    same_failing a t f g p.fails q.fails r d (omega (arith, h.place r d, k.place (sym r) (sym d)))
+    same_failing a t f g p q r d (omega (arith, h.place r d, k.place (sym r) (sym d)))
+
+pub one_first : OneFirst
+one_first a t f g p q = neither_later a t f g p.fails q.fails (p.first g q.fails) (q.first f p.fails)

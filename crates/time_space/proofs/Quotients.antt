@@ -1,10 +1,12 @@
 -- The weighted band as one quotient of natural numbers.
-use Rattle.std.proofs.Common.{◌≡◌, ℕ, zero, suc, pos, ◌+◌, ◌*◌, ◌<◌, ◌≤ℤ◌, arith, mul-pos}
+use Rattle.std.proofs.Common.{◌≡◌, ℕ, zero, suc, pos, ◌+◌, ◌*◌, ◌<◌, ◌≤◌, ◌^◌, ◌≤ℤ◌, arith, mul-pos}
 use Rattle.std.proofs.lemmas.Int.{ints}
 use Rattle.rational_theory.specs.Rational.{ℚ, whole, over, ◌+ℚ◌, ◌*ℚ◌, ◌/ℚ◌}
 use Rattle.rational_theory.proofs.Arithmetic.{IsRatio, same_ratio, over_ratio, sum_ratio, product_ratio, whole_ratio}
 use Rattle.progression.specs.Speeds.{number}
+use Rattle.artery_model.specs.Bounds.{most_denominator, most_numerator}
 use Rattle.time_space.proofs.Fractions.{inverse_ratio}
+use Rattle.time_space.proofs.FinerGrids.{mul-le}
 
 -- a quotient of natural numbers is at least 0
 pub over_least : (n d : ℕ) → pos 0 ≤ℤ (over (pos n) d).num
@@ -26,3 +28,10 @@ weighted_at k n o i c e h =
 -- with the ratio's parts as they are read
 pub weighted : (k : ℚ) (n d o i c : ℕ) → pos n ≡ k.num → d ≡ k.den → 0 < c → over (pos (d * o + n * i)) (d * c) ≡ (number o +ℚ k *ℚ number i) /ℚ number c
 weighted k n d o i c e f h = rw f (weighted_at k n o i c e h)
+
+-- the numerator of such a quotient fits
+pub widths_fit : (d n o i : ℕ) → d ≤ most_denominator → n ≤ most_numerator → o < 2 ^ 92 → i < 2 ^ 92 → d * o + n * i < 2 ^ 127
+widths_fit d n o i h k p q =
+    let first : d * o ≤ 1000 * 2 ^ 92 = let below : o ≤ 2 ^ 92 = omega (arith, p) in mul-le h below in
+    let second : n * i ≤ 100000 * 2 ^ 92 = let below : i ≤ 2 ^ 92 = omega (arith, q) in mul-le k below in
+    omega (arith, first, second)

@@ -10,7 +10,7 @@ use Rattle.time_space.specs.declared.failing.Failing.{Failing}
 use Rattle.time_space.specs.declared.failing.Failing.TheVariants as failing
 use Rattle.time_space.proofs.Firsts.{not_both}
 
-rules_out_base : (a : Street) (t : Plan) (f : Failing) → Fails a t f → rule_order f ≤ last_base_rule → ¬ IsBase a t
+pub rules_out_base : (a : Street) (t : Plan) (f : Failing) → Fails a t f → rule_order f ≤ last_base_rule → ¬ IsBase a t
 rules_out_base a t failing.Shape w o b = w b.shape
 rules_out_base a t (failing.Pattern i) w o b = let yes = b.patterns i w.0 in let no = w.1 in absurd (cc)
 rules_out_base a t failing.CycleShort w o b = w b.cycle_least

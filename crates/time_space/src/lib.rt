@@ -19,11 +19,12 @@ mod weight;
 
 pub use diagram::{advance, cycle, is_early, next_line, red_start, red_ticks, stop};
 pub use failing::Failing;
+pub use limits::is_in_ratio;
 pub use rules::{
     base_holds, holds, law_fails_rules_out, law_finer_grids, law_one_first, law_reds_are_intervals,
     law_since_last_start,
 };
-pub use seen::{green, in_band};
-pub use ticks::since_start;
-pub use timing::{LIMIT, Timing};
-pub use weight::value;
+pub use seen::{green, in_band, line_at};
+pub use ticks::{first_red, since_start};
+pub use timing::{LIMIT, Timing, are_below_limit};
+pub use weight::{value, weighted};

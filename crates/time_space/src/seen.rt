@@ -29,7 +29,7 @@ fn crossing(artery: &Artery, timing: &Timing, dir: Dir, place: u32) -> i128
 }
 
 /// The tick at which a direction's first line crosses a signal.
-fn line_at(artery: &Artery, timing: &Timing, dir: Dir, signal: u32) -> i128
+pub fn line_at(artery: &Artery, timing: &Timing, dir: Dir, signal: u32) -> i128
     requires first { 1 ≤ signal }
     requires last { signal ≤ count artery.now }
     requires shape { length timing.now.patterns ≡ count artery.now }

@@ -5,7 +5,7 @@ use artery_model::Artery;
 use narrow_fraction::Frac;
 use progression::Dir;
 use sample_streets::{
-    SampleHead, SampleLink, SampleSignal, plain_head, plain_link, range, three_signals, two_signals,
+    SampleHead, SampleLink, SampleSignal, plain_head, plain_link, range, sample_street,
 };
 use std::alloc::Global;
 use std::test::Fail;
@@ -84,16 +84,19 @@ fn signal(name: &'static str, street: Street) -> SampleSignal {
     SampleSignal {
         name,
         red,
-        left,
+        left_out: left,
+        left_in: left,
         patterns,
         clear_out,
+        clear_in: 0,
     }
 }
 
 fn artery(alloc: Global, street: Street) -> Result<Artery, Fail> {
     let head = head(street.halves)?;
     let link = plain_link(street.distance);
-    match two_signals(alloc, head, signal("A", base()), signal("B", street), link) {
+    let signals = [signal("A", base()), signal("B", street)];
+    match sample_street(alloc, head, &signals, &[link]) {
         Ok(artery) => Ok(artery),
         Err(_) => Err("no artery".into()),
     }
@@ -238,7 +241,8 @@ fn long_artery(alloc: Global) -> Result<Artery, Fail> {
         ..plain_link(500)
     };
     let before = SampleLink {
-        change: Some(range(-10, 10)),
+        change_out: Some(range(-10, 10)),
+        change_in: Some(range(-10, 10)),
         ..after
     };
     let signals = [
@@ -246,15 +250,7 @@ fn long_artery(alloc: Global) -> Result<Artery, Fail> {
         signal("B", base()),
         signal("C", base()),
     ];
-    match three_signals(
-        alloc,
-        head(1)?,
-        signals[0],
-        signals[1],
-        signals[2],
-        before,
-        after,
-    ) {
+    match sample_street(alloc, head(1)?, &signals, &[before, after]) {
         Ok(artery) => Ok(artery),
         Err(_) => Err("no artery".into()),
     }
@@ -529,7 +525,8 @@ fn first_asked(alloc: Global, asked: Asked) -> Result<Option<Failing>, Fail> {
         ..head(asked.halves)?
     };
     let link = plain_link(500);
-    let artery = match two_signals(alloc, head, signal("A", base()), signal("B", base()), link) {
+    let signals = [signal("A", base()), signal("B", base())];
+    let artery = match sample_street(alloc, head, &signals, &[link]) {
         Ok(artery) => artery,
         Err(_) => return Err("no artery".into()),
     };

@@ -52,7 +52,8 @@ impl Model for Timing {
 /// Every number of a timing is below this.
 pub const LIMIT: u128 = 1 << 80;
 
-fn all_below_limit(numbers: &[u128]) -> bool
+/// Whether every number is below the limit.
+pub fn are_below_limit(numbers: &[u128]) -> bool
     ensures { IsTrue result ↔ All (λ n. n < 2 ^ 80) numbers.now }
 {
     numbers.iter().all(|number| *number < LIMIT)
@@ -106,9 +107,9 @@ impl Timing {
         if !all_patterns(patterns.as_slice()) {
             return None;
         }
-        if !all_below_limit(reds.as_slice())
-            || !all_below_limit(run_out.as_slice())
-            || !all_below_limit(run_in.as_slice())
+        if !are_below_limit(reds.as_slice())
+            || !are_below_limit(run_out.as_slice())
+            || !are_below_limit(run_in.as_slice())
         {
             return None;
         }

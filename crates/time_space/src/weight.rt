@@ -1,6 +1,8 @@
 //! The weighted band of a timing.
 
-ghost use Rattle.std.specs.Prelude.{◌≡◌, ◌≤◌, ◌^◌, pos, ◌≤ℤ◌, unsigned_abs};
+ghost use Rattle.std.specs.Prelude.{◌≡◌, ◌<◌, ◌≤◌, ◌^◌, pos, ◌≤ℤ◌, unsigned_abs};
+ghost use Rattle.rational_theory.specs.Rational.{◌+ℚ◌, ◌*ℚ◌, ◌/ℚ◌};
+ghost use Rattle.progression.specs.Speeds.{number};
 ghost use Rattle.progression.specs.Best.{weighted_band};
 ghost use Rattle.artery_model.specs.Bounds.{most_denominator, most_numerator};
 
@@ -30,15 +32,34 @@ fn denominator(given: Frac) -> u128
     given.den() as u128
 }
 
+/// An outbound and the ratio times an inbound number of ticks, as a fraction of the cycle.
+pub fn weighted(ratio: Frac, out: u128, back: u128, cycle: u128) -> Frac
+    requires least { pos 0 ≤ℤ ratio.num }
+    requires num { unsigned_abs ratio.num ≤ most_numerator }
+    requires den { ratio.den ≤ most_denominator }
+    requires out { out < 2 ^ 92 }
+    requires back { back < 2 ^ 92 }
+    requires cycle { 0 < cycle }
+    requires room { cycle < 2 ^ 92 }
+    ensures value { result ≡ (number out +ℚ ratio *ℚ number back) /ℚ number cycle }
+    ensures least { pos 0 ≤ℤ result.num }
+    ensures denominator { result.den ≤ 2 ^ 120 }
+{
+    let (num, den) = (numerator(ratio), denominator(ratio));
+    let widths = den * out + num * back;
+    Frac::reduced(widths as i128, den * cycle)
+}
+
 /// The weighted band: the outbound band and the ratio times the inbound one, as a fraction of the cycle.
-#[tactic(auto, using(crate::proofs::Quotients::weighted, crate::proofs::Quotients::over_least))]
 pub fn value(artery: &Artery, timing: &Timing) -> Frac
     ensures value { result ≡ weighted_band artery.now timing.now }
     ensures least { pos 0 ≤ℤ result.num }
     ensures denominator { result.den ≤ 2 ^ 120 }
 {
-    let ratio = artery.ratio();
-    let (num, den) = (numerator(ratio), denominator(ratio));
-    let bands = den * timing.band(Dir::Outbound) + num * timing.band(Dir::Inbound);
-    Frac::reduced(bands as i128, den * cycle(artery, timing))
+    weighted(
+        artery.ratio(),
+        timing.band(Dir::Outbound),
+        timing.band(Dir::Inbound),
+        cycle(artery, timing),
+    )
 }

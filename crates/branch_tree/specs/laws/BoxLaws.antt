@@ -8,8 +8,6 @@ use Rattle.progression.specs.Best.{weighted_band}
 use Rattle.artery_model.specs.Valid.{IsValid}
 use Rattle.linear_theory.specs.Boxes.{IsBoxOf}
 use Rattle.linear_theory.specs.Covering.{RefutesAll}
-use Rattle.loop_rows.specs.Weights.{named}
-use Rattle.std.specs.Prelude.{map}
 use Rattle.recovery_theory.specs.Vertices.{IsVertex, goal_at}
 use Rattle.search_box.specs.declared.span.At.{At}
 use Rattle.search_box.specs.Places.{IsPlace}
@@ -21,20 +19,29 @@ use Rattle.branch_and_bound.specs.Lines.{Line, low_line, high_line}
 use Rattle.branch_and_bound.specs.Lineages.{NoEnd, Empty, Reads, Cuts, IsOptimal}
 use Rattle.branch_tree.specs.Ends.{end_point, end_bound, end_leaf, ending_of}
 use Rattle.branch_tree.specs.LeafRows.{sum_of}
+use Rattle.branch_tree.specs.Program as program
 use Rattle.branch_tree.specs.Program.{Splits}
 use Rattle.branch_tree.specs.ArteryProgram.{outcome_of, program_of}
 use Rattle.branch_tree.specs.laws.RunLaws.{end_reached}
-use Rattle.branch_tree.specs.laws.EndLaws.{IsOptimalEnd, IsInfeasibleEnd, optimal_end, infeasible_end, optimal_not_refuted}
+use Rattle.branch_tree.specs.laws.EndLaws.{IsOptimalEnd, IsInfeasibleEnd, optimal_end, infeasible_end, optimal_not_refuted, vertex_is_point, point_is_vertex}
 use Rattle.branch_tree.specs.laws.Endings.{optimal_from, cuts_from, empty_from, ends_somehow}
-use Rattle.branch_tree.specs.laws.WeakDuality.{goal_below}
+use Rattle.branch_tree.specs.laws.Duality.{end_greatest, bound_falls}
 use Rattle.branch_tree.specs.laws.Tightening.{low_vertex, high_vertex}
 use Rattle.branch_tree.specs.laws.Recoveries.{splits_inside, gives_good}
 
-only_splits : (o : vertices.Outcome) (place : At) → outcome_of o ≡ Splits place → o ≡ vertices.Splits place
-only_splits (vertices.Refused wide) place e = cc
-only_splits (vertices.Splits other) place e = let f : other ≡ place = cc in ap vertices.Splits f
-only_splits (vertices.Gives plan) place e = cc
+-- ---- outcomes of vertices, with timings of any type
+module _ {T : Type 0} where
+  pub only_splits : (o : vertices.Outcome T) (place : At) → outcome_of o ≡ Splits place → o ≡ vertices.Splits place
+  only_splits (vertices.Refused wide) place e = cc
+  only_splits (vertices.Splits other) place e = let f : other ≡ place = cc in ap vertices.Splits f
+  only_splits (vertices.Gives other) place e = cc
 
+  pub only_gives : (o : vertices.Outcome T) (timing : T) → outcome_of o ≡ program.Gives timing → o ≡ vertices.Gives timing
+  only_gives (vertices.Refused wide) timing e = cc
+  only_gives (vertices.Splits place) timing e = cc
+  only_gives (vertices.Gives other) timing e = let f : other ≡ timing = cc in ap vertices.Gives f
+
+-- ---- ends
 module _ (a : Street) (line : Line) (v : IsValid a) where
   -- there is an end
   pub comes_to_an_end : ending_of (program_of a) line ≡ NoEnd → ⊥
@@ -52,7 +59,7 @@ module _ (a : Street) (line : Line) (v : IsValid a) where
 
   -- a point of the box has no greater weighted band than the last vertex
   pub vertex_greatest : (x : List ℚ) → IsOptimal (ending_of (program_of a) line) → IsVertex a line.area x → goal_at a x ≤ℚ end_bound (program_of a) line
-  vertex_greatest x h p = let o = ends_optimal h in goal_below a line.area x p (map named (end_leaf (program_of a) line)) (end_bound (program_of a) line) o.rows o.covers
+  vertex_greatest x h p = end_greatest (program_of a) line v (optimal_from (program_of a) line h) x (vertex_is_point a line.area x p)
 
 module _ (a : Street) (line : Line) (v : IsValid a) (b : IsBoxOf a line.area) where
   -- the place of a split lies in the box
@@ -74,8 +81,8 @@ module _ (a : Street) (line : Line) (v : IsValid a) (b : IsBoxOf a line.area) wh
 
     under : (part : Line) → IsOptimal (ending_of (program_of a) part) → ((x : List ℚ) → IsVertex a part.area x → IsVertex a line.area x) → end_bound (program_of a) part ≤ℚ end_bound (program_of a) line
     under part h wider =
-        let o = ends_optimal a part v h in
-        subst (λ y. y ≤ℚ end_bound (program_of a) line) o.goal (vertex_greatest a line v (end_point (program_of a) part) (subst IsOptimal (sym e) tt) (wider (end_point (program_of a) part) o.vertex))
+        bound_falls (program_of a) line part v (optimal_from (program_of a) line (subst IsOptimal (sym e) tt)) (optimal_from (program_of a) part h)
+        (λ x q. vertex_is_point a line.area x (wider x (point_is_vertex a part.area x q)))
 
     pub low_falls : IsOptimal (ending_of (program_of a) (low_line place line)) → end_bound (program_of a) (low_line place line) ≤ℚ end_bound (program_of a) line
     low_falls h = under (low_line place line) h (low_vertex a line.area some_parts b place (cuts_inside place e))

@@ -1,36 +1,32 @@
 -- What the end of a line of an artery is: its vertex is a point of the line's box whose weighted band is the bound, and its leaf covers
 -- the goal with the bound, or refutes.
-use Rattle.std.proofs.Common.{◌≡◌, ℕ, length, map, refl, sym, subst}
-use Rattle.rational_theory.proofs.Order.{≤ℚ_refl, <ℚ_not-≤ℚ}
-use Rattle.rational_theory.specs.Rational.{◌≤ℚ◌}
+use Rattle.std.proofs.Common.{◌≡◌, ℕ, List, map, refl, sym, subst}
+use Rattle.rational_theory.proofs.Order.{≤ℚ_refl}
 use Rattle.rational_theory.specs.Rows.{IsMet}
 use Rattle.progression.specs.Street.{Street, count}
-use Rattle.progression.specs.Speeds.{number}
 use Rattle.progression.specs.declared.parts.Dir.TheVariants.{Outbound, Inbound}
 use Rattle.artery_model.specs.Valid.{IsValid}
+use Rattle.linear_theory.specs.Boxes.{Area}
 use Rattle.linear_theory.specs.Places as places
+use Rattle.rational_theory.specs.Rational.{ℚ}
 use Rattle.linear_theory.specs.Rows as forms
 use Rattle.linear_theory.specs.Names.{Name, WaitRow, FastRow, SlowRow, RiseRow, DropRow, CycleLowRow, CycleHighRow, RatioRow, LoopLowRow, LoopHighRow, TurnLowRow, TurnHighRow, LeastRow, EqualLowRow, EqualHighRow, NoRow, HasRow, form_of, name_of}
 use Rattle.linear_theory.specs.Covering.{CoversGoal, RefutesAll}
 use Rattle.linear_theory.specs.Trees.{AreWeights}
 use Rattle.loop_rows.specs.Weights.{named}
 use Rattle.named_row.specs.declared.names.RowId.{RowId}
-use Rattle.simplex_theory.proofs.Signs.{one_positive}
-use Rattle.simplex_theory.specs.DualSteps.{IsDual}
-use Rattle.simplex_theory.proofs.Multipliers.{goal_weight_low, row_weight_low}
 use Rattle.simplex_theory.specs.BlandRule.{optimal, infeasible}
-use Rattle.program_builder.specs.BoxRows.{rows_of}
 use Rattle.program_builder.proofs.RowOrder.{rows_there, among_rows}
 use Rattle.program_builder.specs.Opening.{row_for, goal_of}
 use Rattle.recovery_theory.specs.Vertices.{IsVertex, goal_at}
 use Rattle.dual_leaf.specs.Leaves.{CoversWith, RefutesAt}
 use Rattle.branch_and_bound.specs.Lines.{Line}
-use Rattle.branch_tree.specs.Ends.{steps_of, last_table, end_move, end_point, end_bound, end_leaf}
+use Rattle.branch_tree.specs.Ends.{end_move, end_point, end_bound, end_leaf}
 use Rattle.branch_tree.specs.LeafRows.{sum_of}
 use Rattle.branch_tree.specs.ArteryProgram.{program_of}
-use Rattle.branch_tree.specs.laws.LeafWeights.{sum_read, weights_there}
+use Rattle.branch_tree.specs.laws.LeafWeights.{sum_read, weights_of}
+use Rattle.branch_tree.specs.laws.Duality.{IsPointOf, end_over, end_point_of, end_not_refuted}
 use Rattle.branch_tree.specs.laws.RunLaws as runs
-use Rattle.branch_tree.specs.laws.WeakDuality.{ratio_low, goal_not_negative}
 
 -- ---- what is promised of an end
 pub record IsOptimalEnd (a : Street) (line : Line) : Type 0 where
@@ -74,40 +70,44 @@ numbered a (EqualLowRow i) h = record { row = record { family = 20; index = i };
 numbered a (EqualHighRow i) h = record { row = record { family = 21; index = i }; is = refl }
 numbered a NoRow h = absurd h
 
+-- a point of a box, in the words of recovery, is one of the program's
+pub vertex_is_point : (a : Street) (box : Area) (x : List ℚ) → IsVertex a box x → IsPointOf (program_of a) box x
+vertex_is_point a box x v = record { columns = v.columns; not_negative = v.not_negative; rows = λ k h. v.rows _ (rows_there a k h) }
+
+pub point_is_vertex : (a : Street) (box : Area) (x : List ℚ) → IsPointOf (program_of a) box x → IsVertex a box x
+point_is_vertex a box x v = record { columns = v.columns; not_negative = v.not_negative; rows = row_met }
+  where
+    row_met : (n : Name) → HasRow a n → IsMet x (forms.line a (form_of a box n))
+    row_met n h =
+        let r = numbered a n h in
+        let g = among_rows a r.row (subst (λ m. HasRow a m) (sym r.is) h) in
+        subst (λ m. IsMet x (forms.line a (form_of a box m))) r.is (subst (λ (q : RowId). IsMet x (row_for a box q)) g.is (v.rows g.place g.within))
+
 module _ (a : Street) (line : Line) (v : IsValid a) where
-  last_dual : IsDual (last_table (program_of a) line)
-  last_dual = runs.run_dual (program_of a) line v (steps_of (program_of a) line)
+  -- the leaf of each end has rows of the artery
+  pub end_rows : AreWeights a (map named (end_leaf (program_of a) line))
+  end_rows = weights_of a (end_leaf (program_of a) line) (end_over (program_of a) line v)
 
   -- ---- an optimal end
   module _ (e : end_move (program_of a) line ≡ optimal) where
-    vertex_rows : (n : Name) → HasRow a n → IsMet (end_point (program_of a) line) (forms.line a (form_of a line.area n))
-    vertex_rows n h =
-        let r = numbered a n h in
-        let g = among_rows a r.row (subst (λ m. HasRow a m) (sym r.is) h) in
-        subst (λ m. IsMet (end_point (program_of a) line) (forms.line a (form_of a line.area m))) r.is
-        (subst (λ (q : RowId). IsMet (end_point (program_of a) line) (row_for a line.area q)) g.is (runs.vertex_row (program_of a) line v e g.place g.within))
-
     leaf_covers : CoversWith (goal_of a) (places.width (count a)) (end_bound (program_of a) line) (sum_of a line.area (end_leaf (program_of a) line))
     leaf_covers =
         subst (λ s. CoversWith (goal_of a) (places.width (count a)) (end_bound (program_of a) line) s) (sum_read a line.area (end_leaf (program_of a) line)) (runs.leaf_covers (program_of a) line v e)
 
     pub optimal_end : IsOptimalEnd a line
     optimal_end = record {
-      vertex = record { columns = runs.vertex_columns (program_of a) line v e; not_negative = (runs.optimal_vertex (program_of a) line v e).not_negative; rows = vertex_rows };
+      vertex = point_is_vertex a line.area (end_point (program_of a) line) (end_point_of (program_of a) line v e);
       goal = (runs.optimal_vertex (program_of a) line v e).goal_value;
-      rows = subst (λ ws. AreWeights a (map named ws)) (sym (runs.leaf_is (program_of a) line v e))
-          (weights_there a (rows_of a) _ (λ r. goal_weight_low (last_table (program_of a) line) _ last_dual) (length (rows_of a)) (rows_there a));
+      rows = end_rows;
       covers = record { coefs = λ j l. leaf_covers.coefs j l; bound = rw leaf_covers.bound (≤ℚ_refl _) };
       bound = leaf_covers.bound;
     }
 
-    -- the bound is a weighted band, so at least 0
-    pub bound_not_negative : number 0 ≤ℚ end_bound (program_of a) line
-    bound_not_negative = subst (λ y. number 0 ≤ℚ y) optimal_end.goal (goal_not_negative a line.area (end_point (program_of a) line) optimal_end.vertex (ratio_low a v) one_positive)
-
-    -- so the leaf doesn't refute
+    -- the leaf doesn't refute
     pub optimal_not_refuted : RefutesAll a (sum_of a line.area (end_leaf (program_of a) line)) → ⊥
-    optimal_not_refuted r = <ℚ_not-≤ℚ _ _ r.bound (rw leaf_covers.bound bound_not_negative)
+    optimal_not_refuted r =
+        end_not_refuted (program_of a) line v e
+        (subst (λ s. RefutesAt (places.width (count a)) s) (sym (sum_read a line.area (end_leaf (program_of a) line))) (record { coefs = λ j l. r.coefs j l; bound = r.bound }))
 
   -- ---- an infeasible end
   module _ (i : ℕ) (e : end_move (program_of a) line ≡ infeasible i) where
@@ -116,7 +116,6 @@ module _ (a : Street) (line : Line) (v : IsValid a) where
 
     pub infeasible_end : IsInfeasibleEnd a line
     infeasible_end = record {
-      rows = subst (λ ws. AreWeights a (map named ws)) (sym (runs.row_leaf_is (program_of a) line v i e))
-          (weights_there a (rows_of a) _ (λ r. row_weight_low (last_table (program_of a) line) i _ (runs.said (program_of a) line v i e).2) (length (rows_of a)) (rows_there a));
+      rows = end_rows;
       refutes = record { coefs = λ j l. leaf_refutes.coefs j l; bound = leaf_refutes.bound };
     }

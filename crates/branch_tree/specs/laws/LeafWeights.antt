@@ -1,5 +1,5 @@
--- The leaf that a row of a tableau gives, over the rows of a box: its sum, and that the artery has its rows.
-use Rattle.std.proofs.Common.{◌≡◌, ℕ, zero, suc, Bool, true, false, cond, List, [], ◌∷◌, ◌++◌, map, ◌<◌, refl, ap, arith}
+-- A leaf over the rows of an artery's box: its sum, and that the artery has its rows.
+use Rattle.std.proofs.Common.{◌≡◌, Bool, true, false, cond, List, [], ◌∷◌, map, refl, ap}
 use Rattle.std.specs.Ordering.{eq_by_cmp}
 use Rattle.rational_theory.specs.Rational.{ℚ, ◌+ℚ◌, ◌*ℚ◌, ◌≤ℚ◌}
 use Rattle.rational_theory.specs.Compare.{cmp_ℚ}
@@ -13,11 +13,13 @@ use Rattle.linear_theory.specs.Trees.{AreWeights}
 use Rattle.named_row.specs.declared.names.RowId.{RowId}
 use Rattle.named_row.specs.declared.leaves.Weight.{Weight}
 use Rattle.loop_rows.specs.Weights.{named}
-use Rattle.program_builder.specs.BoxRows.{name_at}
+use Rattle.program_builder.specs.BoxRows.{rows_of}
+use Rattle.program_builder.proofs.RowOrder.{among_there_is}
 use Rattle.program_builder.specs.Opening.{row_for}
 use Rattle.dual_leaf.specs.Leaves as leaves
-use Rattle.dual_leaf.specs.Leaves.{multiplier, multipliers_below}
+use Rattle.dual_leaf.specs.Leaves.{multiplier}
 use Rattle.branch_tree.specs.LeafRows.{sum_of}
+use Rattle.branch_tree.specs.laws.Duality.{AreOver}
 
 -- the sum reads each name as the box's row
 pub sum_read : (a : Street) (box : Area) (ws : List Weight) → leaves.sum_of (row_for a box) ws ≡ sum_of a box ws
@@ -26,10 +28,6 @@ sum_read a box (w ∷ ws) =
     ap (λ (s : maths.Row). record { coefs = add (scale w.by (row_for a box w.row).coefs) s.coefs; bound = w.by *ℚ (row_for a box w.row).bound +ℚ s.bound }) (sum_read a box ws)
 
 -- ---- the artery has the rows, and no multiplier is negative
-pub weights_append : (a : Street) (vs ws : List Weight) → AreWeights a (map named vs) → AreWeights a (map named ws) → AreWeights a (map named (vs ++ ws))
-weights_append a [] ws h k = k
-weights_append a (v ∷ vs) ws h k = (h.0, h.1, weights_append a vs ws h.2 k)
-
 pub weight_there : (a : Street) (row : RowId) (by : ℚ) → HasRow a (name_of row.family row.index) → number 0 ≤ℚ by → AreWeights a (map named (multiplier row by))
 weight_there a row by h low = pick (eq_by_cmp cmp_ℚ by (number 0))
   where
@@ -37,9 +35,6 @@ weight_there a row by h low = pick (eq_by_cmp cmp_ℚ by (number 0))
     pick true = tt
     pick false = (h, low, tt)
 
-pub weights_there : (a : Street) (names : List RowId) (f : ℕ → ℚ) → ((v : ℕ) → number 0 ≤ℚ f v) → (n : ℕ)
-    → ((r : ℕ) → r < n → HasRow a (name_of (name_at names r).family (name_at names r).index)) → AreWeights a (map named (multipliers_below names f n))
-unfolding multipliers_below
-weights_there a names f low zero h = tt
-weights_there a names f low (suc n) h =
-    weights_append a (multipliers_below names f n) (multiplier (name_at names n) (f n)) (weights_there a names f low n (λ r l. h r (omega arith))) (weight_there a (name_at names n) (f n) (h n (omega arith)) (low n))
+pub weights_of : (a : Street) (ws : List Weight) → AreOver (rows_of a) ws → AreWeights a (map named ws)
+weights_of a [] h = tt
+weights_of a (w ∷ ws) h = ((among_there_is a w.row).0 h.0, h.1, weights_of a ws h.2)

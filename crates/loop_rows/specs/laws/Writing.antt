@@ -2,40 +2,52 @@
 use Rattle.std.proofs.Common.{◌≡◌, refl, ap, ◌∙◌}
 use Rattle.std.proofs.Math.ListN.{length-set}
 use Rattle.std.proofs.lemmas.List.{length-replicate}
-use Rattle.rational_theory.specs.Rational.{whole}
+use Rattle.rational_theory.specs.Rational.{ℚ, whole}
 use Rattle.std.specs.Prelude.{ℕ, pos, false, List, [], ◌∷◌, length}
 use Rattle.progression.specs.Street.{Street, count}
-use Rattle.linear_theory.specs.Places.{place, width}
-use Rattle.linear_theory.specs.Rows.{Entry, Form, filled, line}
+use Rattle.linear_theory.specs.Places.{width}
+use Rattle.linear_theory.specs.Rows as maths
+use Rattle.linear_theory.specs.Rows.{Form, places_of, placed, placed_row, line}
 use Rattle.named_row.specs.Sheets.{Sheet, row_of, blank, with_place}
 use Rattle.named_row.specs.declared.names.Place.TheVariants.{Cell}
-use Rattle.loop_rows.specs.Writing.{with_entries, written}
+use Rattle.loop_rows.specs.Writing.{with_cells, written_cells, written}
 
-with_entries_coefs : (n : ℕ) (es : List Entry) (r : Sheet) → (with_entries n es r).coefs ≡ filled n r.coefs es
+-- ---- cells
+with_cells_coefs : (cs : List maths.Cell) (r : Sheet) → (with_cells cs r).coefs ≡ placed r.coefs cs
 unfolding with_place
-with_entries_coefs n [] r = refl
-with_entries_coefs n (e ∷ es) r = with_entries_coefs n es (with_place (Cell (place n e.0)) e.1 r)
+with_cells_coefs [] r = refl
+with_cells_coefs (c ∷ cs) r = with_cells_coefs cs (with_place (Cell c.0) c.1 r)
 
--- it means the form's row
-pub written_row : (a : Street) (f : Form) → row_of (written a f) ≡ line a f
+-- the row means that of its cells
+pub written_cells_row : (width : ℕ) (cs : List maths.Cell) (bound : ℚ) → row_of (written_cells width cs bound) ≡ placed_row width cs bound
 unfolding with_place blank
-written_row a f = ap (λ cs. record { coefs = cs; bound = f.bound }) (with_entries_coefs (count a) f.entries (blank (width (count a))))
+written_cells_row width cs bound = ap (λ xs. record { coefs = xs; bound = bound }) (with_cells_coefs cs (blank width))
 
-with_entries_unspent : (n : ℕ) (es : List Entry) (r : Sheet) → (with_entries n es r).spent ≡ r.spent
+with_cells_unspent : (cs : List maths.Cell) (r : Sheet) → (with_cells cs r).spent ≡ r.spent
 unfolding with_place
-with_entries_unspent n [] r = refl
-with_entries_unspent n (e ∷ es) r = with_entries_unspent n es (with_place (Cell (place n e.0)) e.1 r)
+with_cells_unspent [] r = refl
+with_cells_unspent (c ∷ cs) r = with_cells_unspent cs (with_place (Cell c.0) c.1 r)
+
+pub written_cells_unspent : (width : ℕ) (cs : List maths.Cell) (bound : ℚ) → (written_cells width cs bound).spent ≡ false
+unfolding with_place blank
+written_cells_unspent width cs bound = with_cells_unspent cs (blank width)
+
+with_cells_width : (cs : List maths.Cell) (r : Sheet) → length (with_cells cs r).coefs ≡ length r.coefs
+unfolding with_place
+with_cells_width [] r = refl
+with_cells_width (c ∷ cs) r = with_cells_width cs (with_place (Cell c.0) c.1 r) ∙ length-set r.coefs c.0 c.1
+
+-- and has its width
+pub written_cells_width : (width : ℕ) (cs : List maths.Cell) (bound : ℚ) → length (written_cells width cs bound).coefs ≡ width
+unfolding with_place blank
+written_cells_width width cs bound = with_cells_width cs (blank width) ∙ length-replicate width (whole (pos 0))
+
+-- ---- forms
+pub written_row : (a : Street) (f : Form) → row_of (written a f) ≡ line a f
+written_row a f = written_cells_row (width (count a)) (places_of (count a) f.entries) f.bound
 
 pub written_unspent : (a : Street) (f : Form) → (written a f).spent ≡ false
-unfolding with_place blank
-written_unspent a f = with_entries_unspent (count a) f.entries (blank (width (count a)))
+written_unspent a f = written_cells_unspent (width (count a)) (places_of (count a) f.entries) f.bound
 
-with_entries_width : (n : ℕ) (es : List Entry) (r : Sheet) → length (with_entries n es r).coefs ≡ length r.coefs
-unfolding with_place
-with_entries_width n [] r = refl
-with_entries_width n (e ∷ es) r = with_entries_width n es (with_place (Cell (place n e.0)) e.1 r) ∙ length-set r.coefs (place n e.0) e.1
-
--- it has the artery's width
 pub written_width : (a : Street) (f : Form) → length (written a f).coefs ≡ width (count a)
-unfolding with_place blank
-written_width a f = with_entries_width (count a) f.entries (blank (width (count a))) ∙ length-replicate (width (count a)) (whole (pos 0))
+written_width a f = written_cells_width (width (count a)) (places_of (count a) f.entries) f.bound

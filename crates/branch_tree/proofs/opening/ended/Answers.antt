@@ -1,19 +1,18 @@
 use Rattle.std.proofs.Common.{◌∙◌, ap, subst}
 use Rattle.work_meter.specs.Work.{capped}
-use Rattle.branch_tree.specs.ArteryProgram.{program_of}
 use Rattle.branch_tree.specs.Runs.{IsRunTo}
-use Rattle.branch_tree.specs.ArteryRules.{rules_of}
+use Rattle.branch_tree.specs.Meaning.{rules_from}
 use Rattle.branch_tree.proofs.Opens.{ok_map, read_opens, empty_opens}
 use Rattle.branch_tree.proofs.opening.ended.Goals as goal
 
 pub returns-in-Optimal : goal.returns-in-Optimal
-returns-in-Optimal c = ok_map c.optimal_end.result _ _ (λ o h line before after e run.
-    let a = c.args.artery.now in
-    let s = subst (IsRunTo (program_of a) line c.args.tableau.now after run.k) c.in-Optimal.is run.stops in
-    read_opens (rules_of a) line before after run.k s.0 run.leaves c.args.run.now.pivots run.pivots_are o (h line e s.1 (run.pivots_are ∙ ap capped s.0))) c.optimal_end.ensures
+returns-in-Optimal g c = ok_map c.optimal_end.result _ _ (λ o h line before after e run.
+    let p = g.P.BoxProgram.program c.args.program.now in
+    let s = subst (IsRunTo p line c.args.tableau.now after run.k) c.in-Optimal.is run.stops in
+    read_opens (rules_from p (g.P.BoxProgram.meaning c.args.program.now)) line before after run.k s.0 run.leaves c.args.run.now.pivots run.pivots_are o (h line e s.1 (run.pivots_are ∙ ap capped s.0))) c.optimal_end.ensures
 
 pub returns-in-Infeasible : goal.returns-in-Infeasible
-returns-in-Infeasible c = ok_map c.infeasible_end.result _ _ (λ o h line before after e run.
-    let a = c.args.artery.now in
-    let s = subst (IsRunTo (program_of a) line c.args.tableau.now after run.k) c.in-Infeasible.is run.stops in
-    empty_opens (rules_of a) line before after run.k s.0 run.leaves c.args.run.now.pivots run.pivots_are o (h line e s.1)) c.infeasible_end.ensures
+returns-in-Infeasible g c = ok_map c.infeasible_end.result _ _ (λ o h line before after e run.
+    let p = g.P.BoxProgram.program c.args.program.now in
+    let s = subst (IsRunTo p line c.args.tableau.now after run.k) c.in-Infeasible.is run.stops in
+    empty_opens (rules_from p (g.P.BoxProgram.meaning c.args.program.now)) line before after run.k s.0 run.leaves c.args.run.now.pivots run.pivots_are o (h line e s.1)) c.infeasible_end.ensures

@@ -2,4 +2,4 @@ use Rattle.std.proofs.Common.{refl}
 use Rattle.branch_tree.proofs.opening.split_end.Goals as goal
 
 pub returns : goal.returns
-returns c = (record { basis = c.in_ok-basis.basis }, refl, c.in_ok-basis.ensures.listed)
+returns g c = (c.in_ok-kept.kept, refl, c.in_ok-kept.ensures)

@@ -1,4 +1,4 @@
-use Rattle.std.proofs.Common.{ap, sym, ◌∙◌, arith, drop, ◌+◌}
+use Rattle.std.proofs.Common.{ap, sym, ◌∙◌, arith, drop, get_or, ◌+◌}
 use Rattle.std.proofs.lemmas.Result.{err_from_is_err_and}
 use Rattle.narrow_fraction.proofs.Attempt.{attempt_err}
 use Rattle.named_row.specs.Sheets.{blank}
@@ -17,4 +17,17 @@ loop-weight-init g c =
       unspent = c.in_ok-sum.ensures.unspent;
       sum_width = c.in_ok-sum.ensures.width ∙ c.columns-width.ensures;
       row_width = c.in_ok-row.ensures.width ∙ c.columns-width.ensures;
+      room_width = c.in_ok-room.ensures.width ∙ c.spare_columns.ensures;
     }
+
+pub returns-in_err-add_weight-clause-fault : goal.returns-in_err-add_weight-clause-fault
+returns-in_err-add_weight-clause-fault g c =
+    let rows = g.S.RowSource.rows c.args.source.now in
+    let items = c.args.leaf.now.multipliers.items in
+    let i = c.loop-weight.weight-index in
+    let refused = attempt_err _ _ _ c.in_err-add_weight.ensures.outcome in
+    let below = c.loop-weight-test.true in
+    let left = at_left items i c.weight-item.result (omega arith) (c.weight-item.is ∙ ap (λ xs. get_or xs i c.weight-item.result) c.deref-weight-items.ensures.value) in
+    let first = left_refused rows c.loop-weight.sum (drop i items) (drop (i + 1) items) c.weight-item.result c.in_err-add_weight.field-0.0 left refused in
+    let p = err_from_is_err_and c.from_residual-in_err-add_weight.result c.from_residual-in_err-add_weight.ensures.1 in
+    rw (p.1, p.2) (first_of_all _ c.in_err-add_weight.field-0.0 (c.loop-weight.invariant.fault ∙ first))

@@ -10,4 +10,5 @@ invariant-loop-weight g l = record {
   unspent : l.sum.spent ≡ false;
   sum_width : length l.sum.coefs ≡ (g.S.RowSource.rows l.source).width;
   row_width : length l.row.coefs ≡ (g.S.RowSource.rows l.source).width;
+  room_width : length l.room.coefs ≡ g.S.RowSource.spare l.source;
 }

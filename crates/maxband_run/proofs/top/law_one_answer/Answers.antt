@@ -5,3 +5,4 @@ pub returns : goal.returns
 returns c =
     one_answer c.law_one_answer.ensures c.law_one_text.ensures c.law_one_first.ensures c.law_fails_rules_out.ensures
     c.law_accepted_or_refused.ensures.refused c.law_accepted_or_refused.ensures.once c.law_one_widest.ensures c.law_finer_pairs.ensures c.law_one_end.ensures c.law_one_end-2.ensures c.law_plan_or_end.ensures c.law_one_plan.ensures
+    c.law_link_accepted_or_refused.ensures.refused c.law_link_accepted_or_refused.ensures.once

@@ -7,8 +7,12 @@ use Rattle.offset_recovery.specs.Outcomes.{Gives}
 use Rattle.std.proofs.lemmas.Result.{err_from_is_err_and}
 use Rattle.offset_recovery.specs.Recovered.{box_tests}
 use Rattle.offset_recovery.proofs.Finding.{finds_none}
-use Rattle.offset_recovery.proofs.Whole.{recovered_first, recovered_timing, refused_outcome, whole_of, place_within}
+use Rattle.offset_recovery.proofs.Whole.{recovered_first, recovered_timing, refused_outcome, whole_of, long_inside, place_within}
 use Rattle.offset_recovery.proofs.vertex.recover_long.Goals as goal
+
+pub split_place-requires-clause-inside : goal.split_place-requires-clause-inside
+split_place-requires-clause-inside c =
+    long_inside c.args.artery.now c.args.area.now c.args.point.now.values.items (c.law_valid_street.ensures c.args.artery.now c.known_valid.ensures) c.requires.boxed c.requires.vertex
 
 pub timing_of-requires-clause-whole : goal.timing_of-requires-clause-whole
 timing_of-requires-clause-whole c =
@@ -21,7 +25,8 @@ returns-in-Some-clause-outcome c =
 
 pub returns-in-Some-clause-sound : goal.returns-in-Some-clause-sound
 returns-in-Some-clause-sound c =
-    place_within c.args.artery.now c.args.area.now c.args.point.now.values.items c.in-Some.place (c.law_valid_street.ensures c.args.artery.now c.known_valid.ensures) c.requires.boxed c.requires.vertex (rw c.in-Some.is at c.in_ok-place.ensures)
+    place_within c.args.artery.now c.args.area.now c.args.point.now.values.items c.in-Some.place
+    (long_inside c.args.artery.now c.args.area.now c.args.point.now.values.items (c.law_valid_street.ensures c.args.artery.now c.known_valid.ensures) c.requires.boxed c.requires.vertex) (rw c.in-Some.is at c.in_ok-place.ensures)
 
 pub returns-in_err-place-clause-outcome : goal.returns-in_err-place-clause-outcome
 returns-in_err-place-clause-outcome c =

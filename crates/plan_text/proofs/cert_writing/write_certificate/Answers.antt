@@ -2,11 +2,12 @@ use Rattle.std.proofs.Common.{◌≡◌, ◌∙◌, ◌++◌, ◌∷◌, [], ℕ
 use Rattle.plan_text.specs.declared.certificate.CertNode.{CertNode}
 use Rattle.plan_text.specs.Spelling.{ended}
 use Rattle.plan_text.specs.Families.{ordinary}
+use Rattle.plan_text.specs.TimingTexts.{one_band}
 use Rattle.plan_text.specs.Warrants.{Warrant, node_of}
 use Rattle.plan_text.specs.CertificateText.{certificate_line, tree_lines, certificate_text, IsHeldNode, IsHeldWarrant}
 use Rattle.plan_text.specs.CertificateReading.{certificate_of}
 use Rattle.plan_text.proofs.Certificates.{certificate_again}
-use Rattle.plan_text.proofs.WrittenTexts.{certificate_written}
+use Rattle.plan_text.proofs.WrittenTexts.{first_written}
 use Rattle.plan_text.proofs.cert_writing.write_certificate.Goals as goal
 
 pub push_claim-requires : goal.push_claim-requires
@@ -19,7 +20,7 @@ returns c =
     let second = c.push_claim.new.out.items in
     let tree : c.push_named_tree.new.out.items ≡ second ++ ended (tree_lines ordinary (map node_of s.nodes.items)) = c.in_ok-push_named_tree.ensures.text ∙ ap (λ (y : List CertNode). second ++ ended (tree_lines ordinary (map node_of y))) c.as_slice.ensures.value in
     let text =
-    certificate_written c.push_line.new.out.items second c.push_named_tree.new.out.items w (c.in_ok-push_line.ensures ∙ ap (λ (y : List ℕ). y ++ ended (certificate_line ∷ [])) c.new-out.ensures.items) c.in_ok-push_claim.ensures.text tree
+    first_written one_band ordinary certificate_line c.push_line.new.out.items second c.push_named_tree.new.out.items w (c.in_ok-push_line.ensures ∙ ap (λ (y : List ℕ). y ++ ended (certificate_line ∷ [])) c.new-out.ensures.items) c.in_ok-push_claim.ensures.text tree
     ∙ ap certificate_text c.certificate.view_is in
     let held : IsHeldWarrant w = record {
       kept = c.certificate.invariant;

@@ -29,3 +29,6 @@ returns-clause-opens c =
     let e = c.enter-entered.ensures in
     ok_map c.open.result _ _ (λ o h parent line place p.
     h line (sym p.area_is) (part_begins c.args.self.now.artery.now c.args.kept.now c.args.area.now parent line place _ c.enter-entered.result _ p c.as_slice-basis.ensures.value e.outcome e.state)) c.open.ensures.opens
+
+pub returns-clause-ready : goal.returns-clause-ready
+returns-clause-ready c = record { sound = c.requires.ready.sound; made = c.open.ensures.made; row = c.enter-entered.ensures.room }

@@ -9,3 +9,6 @@ open-requires-clause-first c = (top_line c.args.area.now, refl, c.reset.ensures.
 pub returns-clause-opens : goal.returns-clause-opens
 returns-clause-opens c =
     ok_map c.open.result _ _ (λ o h. h (top_line c.args.area.now) refl (c.reset.ensures.opened ∙ root_first c.args.self.now.artery.now c.args.area.now)) c.open.ensures.opens
+
+pub returns-clause-ready : goal.returns-clause-ready
+returns-clause-ready c = record { sound = c.requires.ready.sound; made = c.open.ensures.made; row = c.reset.ensures.room }

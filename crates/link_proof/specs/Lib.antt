@@ -1,0 +1,9 @@
+pub mod LinkTimingTexts
+pub mod LinkFamilies
+pub mod LinkWarrants
+pub mod Promises
+pub mod FirstBad
+pub mod LinkAccepted
+pub mod LinkRefusals
+pub mod LinkClaims
+pub mod LinkLaws

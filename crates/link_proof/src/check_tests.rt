@@ -1,0 +1,158 @@
+//! Worked link certificates of two signals 500 metres apart, 100 parts and 100 seconds, half of the cycle red, driven in 50 seconds. Two ticks
+//! a part and a second: each band can be 100 ticks wide, half of the cycle, and no value is above 1.
+
+use crate::{LinkReject, link_check, read_links};
+use artery_model::Artery;
+use link_space::LinkFailing;
+use named_row::{Place, RowId, WideAt};
+use narrow_fraction::{Frac, Op, Wide};
+use sample_streets::{plain_head, plain_link, plain_signal, sample_street};
+use std::alloc::Global;
+use std::rt::HostRuntime;
+use std::test::Fail;
+
+/// Bands that fill the greens.
+const FULL: &str =
+    "grid 2\nunit 2\npattern 1 1\nred 0 100\nrun_out 100\nrun_in 100\nfirst 150 250\nhalf_out 50\nhalf_in 50\n";
+
+/// The outbound band reaches a tick too far to either side.
+const WIDER: &str =
+    "grid 2\nunit 2\npattern 1 1\nred 0 100\nrun_out 100\nrun_in 100\nfirst 150 250\nhalf_out 51\nhalf_in 49\n";
+
+/// At signal 1 each half is at most its wait, and both fit into the green: the sum is 2 h_out + 2 h_in <= 1.
+const EXACT: &str = "leaf 4\nnear_out_a 1 1\nfar_out_a 1 1\nnear_in_a 1 1\nfar_in_a 1 1\n";
+
+/// The sum is 2 w_out + 2 h_out + 2 w_in + 2 h_in <= 2.
+const ROUGH: &str = "leaf 2\nfar_out_a 1 2\nfar_in_a 1 2\n";
+
+/// In the column of h_out the sum with the second row needs the denominator 2^100 * 3^70.
+const TOO_WIDE: &str =
+    "leaf 2\nfar_out_a 1 1/1267650600228229401496703205376\nfar_out_b 1 1/2503155504993241601315571986085849\n";
+
+const BEST: &str = "verdict best\nvalue 1\n";
+
+fn artery(alloc: Global) -> Result<Artery, Fail> {
+    let signals = [plain_signal("A", 50), plain_signal("B", 50)];
+    match sample_street(alloc, plain_head(), &signals, &[plain_link(500)]) {
+        Ok(artery) => Ok(artery),
+        Err(_) => Err("no artery".into()),
+    }
+}
+
+fn fraction(num: i128, den: i128) -> Result<Frac, Fail> {
+    Ok(Frac::new(num, den).ok().ok_or("no fraction")?)
+}
+
+/// What the check answers for a claim with its link timing and its nodes.
+fn answer(
+    alloc: Global,
+    claim: &str,
+    timing: &str,
+    nodes: &str,
+) -> Result<Result<(), LinkReject>, Fail> {
+    let artery = artery(alloc)?;
+    let mut text = Vec::new(alloc);
+    text.extend_from_slice(b"maxband-links 1\n")?;
+    text.extend_from_slice(claim.as_bytes())?;
+    text.extend_from_slice(timing.as_bytes())?;
+    text.extend_from_slice(b"tree\n")?;
+    text.extend_from_slice(nodes.as_bytes())?;
+    text.extend_from_slice(b"end\n")?;
+    let certificate = read_links(alloc, text.as_slice());
+    Ok(link_check(alloc, &artery, &certificate.ok().ok_or("no certificate")?))
+}
+
+fn no_row(family: u8, index: u32) -> Result<(), LinkReject> {
+    Err(LinkReject::NoSuchRow {
+        leaf: 1,
+        row: RowId { family, index },
+    })
+}
+
+fn weak() -> Result<(), LinkReject> {
+    Err(LinkReject::LeafTooWeak {
+        leaf: 1,
+        place: Place::Bound,
+    })
+}
+
+fn wide() -> Result<Result<(), LinkReject>, Fail> {
+    let left = fraction(1, 1_267_650_600_228_229_401_496_703_205_376)?;
+    let right = fraction(1, 2_503_155_504_993_241_601_315_571_986_085_849)?;
+    let wide = Wide {
+        op: Op::Add,
+        left,
+        right,
+    };
+    Ok(Err(LinkReject::Wide {
+        leaf: 1,
+        row: RowId {
+            family: 25,
+            index: 1,
+        },
+        at: WideAt {
+            place: Place::Cell(11),
+            wide,
+        },
+    }))
+}
+
+#[test]
+fn what_the_check_answers(rt: HostRuntime) -> Result<(), Fail> {
+    let alloc = rt.alloc();
+    let (one, two) = (Frac::whole(1), Frac::whole(2));
+    let half = fraction(1, 2)?;
+    let fails = LinkFailing::Outbound {
+        link: 1,
+        signal: 1,
+        tick: 99,
+    };
+    let negative = LinkReject::Negative {
+        leaf: 1,
+        row: RowId {
+            family: 24,
+            index: 1,
+        },
+    };
+    let rows = [
+        (BEST, FULL, EXACT, Ok(())),
+        ("verdict open\nbound 2\nvalue 1\n", FULL, ROUGH, Ok(())),
+        ("verdict open\nbound 2\nno timing\n", "", ROUGH, Ok(())),
+        (BEST, WIDER, EXACT, Err(LinkReject::TimingFails(fails))),
+        (
+            "verdict best\nvalue 2\n",
+            FULL,
+            EXACT,
+            Err(LinkReject::ValueDiffers {
+                kept: one,
+                claimed: two,
+            }),
+        ),
+        (
+            "verdict open\nbound 1/2\nvalue 1\n",
+            FULL,
+            EXACT,
+            Err(LinkReject::BoundBelow {
+                bound: half,
+                value: one,
+            }),
+        ),
+        (
+            BEST,
+            FULL,
+            "split loop 1 9\nleaf 0\nleaf 0\n",
+            Err(LinkReject::SplitOutside { node: 1 }),
+        ),
+        // The artery's rows of waits are no rows of links, and the ratio is 1.
+        (BEST, FULL, "leaf 1\nwout 1 1\n", no_row(1, 1)),
+        (BEST, FULL, "leaf 1\nlink_ratio 1 1\n", no_row(30, 1)),
+        (BEST, FULL, "leaf 1\nfar_out_a 1 -1\n", Err(negative)),
+        (BEST, FULL, TOO_WIDE, wide()?),
+        (BEST, FULL, ROUGH, weak()),
+        ("verdict none\n", "", EXACT, weak()),
+    ];
+    for (claim, timing, nodes, expected) in rows {
+        assert!(rt; answer(alloc, claim, timing, nodes)? == expected);
+    }
+    Ok(())
+}

@@ -1,0 +1,76 @@
+//! Link timings in the texts of certificates.
+
+ghost use Rattle.std.specs.Prelude.{◌≡◌, ◌+◌, ◌<◌, ◌++◌, ◌^◌, OnOk};
+ghost use Rattle.plan_text.specs.Lines.{Gives};
+ghost use Rattle.plan_text.specs.Spelling.{ended};
+ghost use Rattle.link_proof.specs.LinkTimingTexts.{link_lines, link_plan_at, IsHeldLinks, link_bands};
+
+use link_space::LinkTiming;
+use narrow_fraction::Memory;
+use plan_text::{TextEnd, TimingKind, base_at, both_ways_at, push_base, push_numbers};
+use std::alloc::Global;
+
+/// The link timing of the nine lines from the one with this number on, and what follows them.
+#[tactic(auto, unfolding(crate::specs::LinkTimingTexts::link_plan_at))]
+fn link_plan_at(alloc: Global, line: u64, bytes: &[u8]) -> Result<(LinkTiming, &[u8]), TextEnd>
+    requires { line + 16 < 2 ^ 64 }
+    ensures { Gives (λ x. (x.0, x.1.now)) result (link_plan_at line bytes.now) }
+{
+    let (base, rest) = base_at(alloc, line, bytes)?;
+    let links = base.patterns.len() - 1;
+    let (half_out, half_in, rest) = both_ways_at(
+        alloc,
+        b"half_out",
+        b"half_in",
+        line + 7,
+        links,
+        rest,
+    )?;
+    match LinkTiming::new(
+        base.grid,
+        base.unit,
+        base.patterns,
+        base.reds,
+        base.run_out,
+        base.run_in,
+        base.first_out,
+        base.first_in,
+        half_out,
+        half_in,
+    ) {
+        Some(timing) => Ok((timing, rest)),
+        None => unreachable!(),
+    }
+}
+
+/// Writes the nine lines of a link timing at the end.
+fn push_link_plan(alloc: Global, out: &mut Vec<u8>, timing: &LinkTiming) -> Result<(), Memory>
+    ensures text { OnOk result (out.new.items ≡ out.old.items ++ ended (link_lines timing.now)) }
+    ensures held { OnOk result (IsHeldLinks timing.now) }
+{
+    push_base(alloc, out, timing.lines())?;
+    push_numbers(alloc, out, b"half_out", timing.half_out())?;
+    push_numbers(alloc, out, b"half_in", timing.half_in())?;
+    Ok(())
+}
+
+/// Timings with a band for each link in each direction.
+pub struct LinkBands;
+
+impl TimingKind for LinkBands {
+    type Timing = LinkTiming;
+
+    ghost text = { link_bands };
+
+    fn height() -> u64 {
+        9
+    }
+
+    fn timing_at(alloc: Global, line: u64, bytes: &[u8]) -> Result<(LinkTiming, &[u8]), TextEnd> {
+        link_plan_at(alloc, line, bytes)
+    }
+
+    fn push_timing(alloc: Global, out: &mut Vec<u8>, timing: &LinkTiming) -> Result<(), Memory> {
+        push_link_plan(alloc, out, timing)
+    }
+}

@@ -1,0 +1,10 @@
+pub mod Halves
+pub mod Ends
+pub mod LinkFirsts
+pub mod LinkRulesOut
+pub mod LinkOnlyFirst
+pub mod LinkValues
+pub mod FinerLinkGrids
+pub mod Copies
+pub mod LinkRowTests
+pub mod LinkGoalSheets

@@ -1,0 +1,16 @@
+-- The same link timing on a finer grid, and the law that it is good there exactly where it is good here.
+use Rattle.std.specs.Prelude.{ℕ, ◌*◌, ◌≤◌, map, ◌↔◌}
+use Rattle.progression.specs.Street.{Street}
+use Rattle.artery_model.specs.Valid.{IsValid}
+use Rattle.time_space.specs.Finer.{finer}
+use Rattle.link_theory.specs.LinkPlan.{LinkPlan, lines}
+use Rattle.link_theory.specs.GoodLinks.{GoodLinks}
+use Rattle.link_space.specs.LinkTiming.{with_halves}
+
+-- on a grid that is m times as fine
+abbrev pub finer_links : ℕ → LinkPlan → LinkPlan
+finer_links m t = with_halves (finer m (lines t)) (map (λ n. n * m) t.half_out) (map (λ n. n * m) t.half_in)
+
+-- so a test at whole ticks tests every moment
+abbrev pub FinerLinkGrids : Type 0
+FinerLinkGrids = (a : Street) (t : LinkPlan) (m : ℕ) → IsValid a → 2 ≤ t.unit → 1 ≤ m → GoodLinks a t ↔ GoodLinks a (finer_links m t)

@@ -1,0 +1,9 @@
+pub mod LinkTiming
+pub mod LinkGreens
+pub mod LinkFailing
+pub mod FirstLinkFailing
+pub mod FinerLinks
+pub mod LinkSheets
+pub mod LinkRowTests
+pub mod LinkWeights
+pub mod laws

@@ -1,0 +1,16 @@
+//! The problem of the link timings of one artery.
+
+ghost use Rattle.progression.specs.Street.{count};
+ghost use Rattle.link_theory.specs.LinkColumns.{link_width};
+ghost use Rattle.link_theory.specs.LinkCounts.{IsGoodLinkPoint};
+
+use loop_rows::Problem;
+
+/// The problem whose points are those of good link timings with block sums and shift ranks in the box.
+pub struct LinkBands;
+
+impl Problem for LinkBands {
+    ghost columns = { λ a. link_width (count a) };
+
+    ghost counts = { IsGoodLinkPoint };
+}

@@ -1,0 +1,171 @@
+//! The rows of links by their names.
+
+ghost use Rattle.std.specs.Prelude.{◌≡◌, ◌↔◌, ◌-◌, ◌*◌, ◌≤◌, ◌<◌, IsTrue, length, true, false};
+ghost use Rattle.progression.specs.Street.{count};
+ghost use Rattle.linear_theory.specs.Places.{width};
+ghost use Rattle.linear_theory.specs.Boxes.{IsBoxOf};
+ghost use Rattle.linear_theory.specs.Names.{HasRow, name_of, form_of};
+ghost use Rattle.loop_rows.specs.Following.{IsNextIn};
+ghost use Rattle.loop_rows.specs.Writing.{written};
+ghost use Rattle.link_theory.specs.LinkColumns.{link_width};
+ghost use Rattle.link_theory.specs.LinkNames.{NamesNoBand, HasLinkRow, link_name_of, last_link_family};
+ghost use Rattle.link_theory.proofs.LinkFamilies.{link_family_most, link_index_most};
+ghost use Rattle.link_space.specs.LinkSheets.{wide_sheet, link_sheet, IsFilledLinks};
+ghost use Rattle.link_space.specs.LinkWeights.{rows_of_links};
+
+use crate::bands::{FarRow, NearRow};
+use crate::ratios::LinkRatioRow;
+use artery_model::{Artery, Dir};
+use link_theory::End;
+use loop_rows::{RowTable, column_count, fill_by, fill_row, has_by, has_row, next_in};
+use named_row::{Place, Row, RowId};
+use search_box::SearchBox;
+
+/// The greatest number of a family.
+const LAST_LINK_FAMILY: u8 = 30;
+
+/// What a call gives for the family of a number, which is its first argument, where the family is one of links; for a family of
+/// the lines the first expression, and where links have no rows of the number the last.
+macro_rules! with_link_family {
+    ($number:expr, $line:expr, $call:ident($($given:expr),*), $none:expr) => {
+        match $number {
+            1 => $none,
+            2 => $none,
+            3 => $line,
+            4 => $line,
+            5 => $line,
+            6 => $line,
+            7 => $line,
+            8 => $line,
+            9 => $line,
+            10 => $line,
+            11 => $line,
+            12 => $line,
+            13 => $none,
+            14 => $line,
+            15 => $line,
+            16 => $line,
+            17 => $line,
+            18 => $none,
+            19 => $none,
+            20 => $none,
+            21 => $none,
+            22 => $call(&NearRow { dir: Dir::Outbound, end: End::Here }, $($given),*),
+            23 => $call(&NearRow { dir: Dir::Outbound, end: End::Next }, $($given),*),
+            24 => $call(&FarRow { dir: Dir::Outbound, end: End::Here }, $($given),*),
+            25 => $call(&FarRow { dir: Dir::Outbound, end: End::Next }, $($given),*),
+            26 => $call(&NearRow { dir: Dir::Inbound, end: End::Here }, $($given),*),
+            27 => $call(&NearRow { dir: Dir::Inbound, end: End::Next }, $($given),*),
+            28 => $call(&FarRow { dir: Dir::Inbound, end: End::Here }, $($given),*),
+            29 => $call(&FarRow { dir: Dir::Inbound, end: End::Next }, $($given),*),
+            30 => $call(&LinkRatioRow, $($given),*),
+            _ => $none,
+        }
+    };
+}
+
+/// A row's numbers, in a row that may be wider; its further cells are 0.
+#[tactic(auto, using(crate::proofs::Copies::copied_first, crate::proofs::Copies::copied_next, crate::proofs::Copies::copied_last))]
+fn copy_row(from: &Row, columns: u32, into: &mut Row)
+    requires columns { length from.now.coefs ≡ columns }
+    requires wider { length from.now.coefs ≤ length into.old.coefs }
+    ensures value { into.new ≡ wide_sheet (length into.old.coefs - length from.now.coefs) from.now }
+    ensures width { length into.new.coefs ≡ length into.old.coefs }
+{
+    into.clear();
+    for column in 0..columns {
+        into.set(Place::Cell(column), from.get(Place::Cell(column)));
+    }
+    into.set(Place::Bound, from.get(Place::Bound));
+}
+
+/// Fills a row of the lines at the artery's width, and copies it.
+fn fill_line(artery: &Artery, area: &SearchBox, row: RowId, room: &mut Row, into: &mut Row) -> bool
+    requires no_band { NamesNoBand (name_of row.family row.index) }
+    requires boxed { IsBoxOf artery.now area.now }
+    requires room { length room.old.coefs ≡ width (count artery.now) }
+    requires columns { length into.old.coefs ≡ link_width (count artery.now) }
+    ensures there { IsTrue result ↔ HasRow artery.now (name_of row.family row.index) }
+    ensures row { result ≡ true → into.new ≡ wide_sheet (2 * (count artery.now - 1)) (written artery.now (form_of artery.now area.now (name_of row.family row.index))) }
+    ensures met { result ≡ true → IsFilledLinks artery.now area.now into.new }
+    ensures same { result ≡ false → into.new ≡ into.old }
+    ensures width { length into.new.coefs ≡ link_width (count artery.now) }
+    ensures room { length room.new.coefs ≡ width (count artery.now) }
+{
+    prove!(2 <= artery.count());
+    if !fill_row(artery, area, row, room) {
+        return false;
+    }
+    copy_row(room, column_count(artery), into);
+    true
+}
+
+/// Fills the row of this name for a box, where the artery has it, and answers whether it has. Each point of a good link
+/// timing of the box meets it. Where there is no such row, `into` stays as it was. `room`, as wide as the artery's rows, is
+/// where a row of the lines is made first.
+pub fn fill_link_row(
+    artery: &Artery,
+    area: &SearchBox,
+    row: RowId,
+    room: &mut Row,
+    into: &mut Row,
+) -> bool
+    requires boxed { IsBoxOf artery.now area.now }
+    requires room { length room.old.coefs ≡ width (count artery.now) }
+    requires columns { length into.old.coefs ≡ link_width (count artery.now) }
+    ensures there { IsTrue result ↔ HasLinkRow artery.now (link_name_of row.family row.index) }
+    ensures row { result ≡ true → into.new ≡ link_sheet artery.now area.now (link_name_of row.family row.index) }
+    ensures met { result ≡ true → IsFilledLinks artery.now area.now into.new }
+    ensures same { result ≡ false → into.new ≡ into.old }
+    ensures width { length into.new.coefs ≡ link_width (count artery.now) }
+    ensures room { length room.new.coefs ≡ width (count artery.now) }
+{
+    with_link_family!(
+        row.family,
+        fill_line(artery, area, row, room, into),
+        fill_by(artery, area, row, into),
+        false
+    )
+}
+
+/// Whether the artery has the row of this name.
+fn has_link_row(artery: &Artery, family: u8, index: u32) -> bool
+    ensures { IsTrue result ↔ HasLinkRow artery.now (link_name_of family index) }
+{
+    with_link_family!(
+        family,
+        has_row(artery, family, index),
+        has_by(artery, index),
+        false
+    )
+}
+
+/// The rows of links of an artery.
+#[derive(Drop)]
+pub struct LinkTable;
+
+impl RowTable for LinkTable {
+    ghost exists = { λ table a. rows_of_links a };
+
+    ghost last = { λ table. last_link_family };
+
+    fn last_family(&self) -> u8 {
+        LAST_LINK_FAMILY
+    }
+
+    fn has(&self, artery: &Artery, family: u8, index: u32) -> bool {
+        has_link_row(artery, family, index)
+    }
+
+    ghost family_most = { λ table a family i h. link_family_most a family i h };
+
+    ghost index_most = { λ table a family i h. link_index_most a family i h };
+}
+
+/// The artery's least row of links above `after`, by family, then index, or its first row for None. None exactly where there
+/// is no such row.
+pub fn next_link_row(artery: &Artery, after: Option<RowId>) -> Option<RowId>
+    ensures { IsNextIn (rows_of_links artery.now) after result }
+{
+    next_in(&LinkTable, artery, after)
+}

@@ -1,0 +1,17 @@
+pub mod PlainStreets
+pub mod SymmetricWindows
+pub mod Surroundings
+pub mod LinesAreGood
+pub mod LinkPoints
+pub mod LinkTicks
+pub mod LinkRowLaws
+pub mod NamedLinkRows
+pub mod LinkFamilies
+pub mod LinkGoals
+pub mod LinkTreeLaws
+pub mod LinesOfVertices
+pub mod PlainVertices
+pub mod Agreeing
+pub mod Recovered
+pub mod Kept
+pub mod WorkedLemmas

@@ -1,0 +1,122 @@
+-- The worked link timings, computed.
+use Rattle.std.proofs.Common.{◌≡◌, ℕ, zero, suc, ◌+◌, ℤ, pos, refl, arith}
+use Rattle.std.proofs.Common.{true, ap}
+use Rattle.std.specs.Ordering.{is_lt}
+use Rattle.rational_theory.specs.Rational.{whole, over, inverse_ℚ, neg_ℚ, ◌+ℚ◌, ◌*ℚ◌, ◌/ℚ◌}
+use Rattle.rational_theory.specs.Compare.{cmp_ℚ}
+use Rattle.rational_theory.specs.Gcd.{gcd}
+use Rattle.rational_theory.proofs.Arithmetic.{same_cross}
+use Rattle.progression.specs.Street.{HasLink}
+use Rattle.progression.specs.Speeds.{number}
+use Rattle.progression.specs.Good.{RatioHolds}
+use Rattle.progression.specs.Worked.{two_signals}
+use Rattle.progression.proofs.WorkedLemmas.{whole_greens}
+use Rattle.progression.specs.declared.parts.Dir.{Dir}
+use Rattle.progression.specs.declared.parts.Dir.TheVariants.{Outbound, Inbound}
+use Rattle.link_theory.specs.LinkPlan.{half}
+use Rattle.link_theory.specs.GoodLinks.{GoodLinks, IsGreenAround}
+use Rattle.link_theory.specs.BestLinks.{link_value}
+use Rattle.linear_theory.proofs.Ratios.{at_one}
+use Rattle.link_theory.proofs.SymmetricWindows.{around_after, around_before}
+use Rattle.linear_theory.specs.Blocks.{green_part}
+use Rattle.linear_theory.specs.Boxes.{root_box}
+use Rattle.linear_theory.specs.Rows.{minus_one}
+use Rattle.link_theory.specs.LinkNames.{link_name_of, link_row}
+use Rattle.link_theory.specs.Worked.{link_timing, half_as_much, row_of_cells, WorkedLinks}
+
+-- a rule of the only link
+at_link : (P : ℕ → Type 0) → P 1 → (i : ℕ) → HasLink two_signals i → P i
+at_link P p zero h = absurd (omega (arith, h.0))
+at_link P p (suc zero) h = p
+at_link P p (suc (suc i)) h = absurd (omega (arith, h.1))
+
+both : (P : Dir → Type 0) → P Outbound → P Inbound → (d : Dir) → P d
+both P p q Outbound = p
+both P p q Inbound = q
+
+module _ (first_out : ℤ) (half_out half_in : ℕ) where
+  -- the rules that name no half are those of the worked timing
+  good : ((d : Dir) → IsGreenAround two_signals (link_timing first_out half_out half_in) d 1 (half (link_timing first_out half_out half_in) d 1))
+      → ((d : Dir) → IsGreenAround two_signals (link_timing first_out half_out half_in) d 2 (half (link_timing first_out half_out half_in) d 1))
+      → GoodLinks two_signals (link_timing first_out half_out half_in)
+  good p q = let g = whole_greens.base in record {
+    plan = record { lines = record { grid = omega arith; unit = omega arith; reds = refl; run_out = refl; run_in = refl }; half_out = refl; half_in = refl };
+    base = record {
+      plan = record { grid = omega arith; unit = omega arith; reds = refl; run_out = refl; run_in = refl };
+      shape = refl;
+      patterns = g.patterns;
+      cycle_least = g.cycle_least;
+      cycle_most = g.cycle_most;
+      fast = g.fast;
+      slow = g.slow;
+      rise = g.rise;
+      drop = g.drop;
+    };
+    ratio = at_link (λ i. RatioHolds (number 1) (half (link_timing first_out half_out half_in) Outbound i) (half (link_timing first_out half_out half_in) Inbound i)) (at_one (number 1) half_out half_in refl);
+    here = λ d. at_link (λ i. IsGreenAround two_signals (link_timing first_out half_out half_in) d i (half (link_timing first_out half_out half_in) d i)) (p d);
+    there = λ d. at_link (λ i. IsGreenAround two_signals (link_timing first_out half_out half_in) d (i + 1) (half (link_timing first_out half_out half_in) d i)) (q d);
+  }
+
+-- ---- each of them
+in_the_middle : GoodLinks two_signals (link_timing (pos 150) 50 50)
+in_the_middle =
+    good (pos 150) 50 50
+    (both (λ d. IsGreenAround two_signals (link_timing (pos 150) 50 50) d 1 (half (link_timing (pos 150) 50 50) d 1))
+    ((around_after 200 100 (pos 0) (pos 150) 50 (omega arith) (omega arith)).1 (omega arith, omega arith))
+    ((around_before 200 100 (pos 0) (pos 350) 50 (omega arith) (omega arith)).1 (omega arith, omega arith)))
+    (both (λ d. IsGreenAround two_signals (link_timing (pos 150) 50 50) d 2 (half (link_timing (pos 150) 50 50) d 1))
+    ((around_after 200 100 (pos 100) (pos 250) 50 (omega arith) (omega arith)).1 (omega arith, omega arith))
+    ((around_before 200 100 (pos 100) (pos 250) 50 (omega arith) (omega arith)).1 (omega arith, omega arith)))
+
+their_value : link_value two_signals (link_timing (pos 150) 50 50) ≡ number 1
+unfolding whole over inverse_ℚ ◌+ℚ◌ ◌*ℚ◌ gcd
+their_value = same_cross _ _ refl
+
+too_wide : ¬ GoodLinks two_signals (link_timing (pos 150) 51 50)
+too_wide g = let w = ((around_after 200 100 (pos 0) (pos 150) 51 (omega arith) (omega arith)).0 (g.here Outbound 1 (omega arith, omega arith))).0 in absurd (omega arith)
+
+at_the_red : GoodLinks two_signals (link_timing (pos 200) 0 50)
+at_the_red =
+    good (pos 200) 0 50
+    (both (λ d. IsGreenAround two_signals (link_timing (pos 200) 0 50) d 1 (half (link_timing (pos 200) 0 50) d 1))
+    ((around_after 200 100 (pos 0) (pos 200) 0 (omega arith) (omega arith)).1 (omega arith, omega arith))
+    ((around_before 200 100 (pos 0) (pos 350) 50 (omega arith) (omega arith)).1 (omega arith, omega arith)))
+    (both (λ d. IsGreenAround two_signals (link_timing (pos 200) 0 50) d 2 (half (link_timing (pos 200) 0 50) d 1))
+    ((around_after 200 100 (pos 100) (pos 300) 0 (omega arith) (omega arith)).1 (omega arith, omega arith))
+    ((around_before 200 100 (pos 100) (pos 250) 50 (omega arith) (omega arith)).1 (omega arith, omega arith)))
+
+not_around : ¬ GoodLinks two_signals (link_timing (pos 200) 1 50)
+not_around g = let w = ((around_after 200 100 (pos 0) (pos 200) 1 (omega arith) (omega arith)).0 (g.here Outbound 1 (omega arith, omega arith))).1 in absurd (omega arith)
+
+-- ---- rows
+half_green : green_part two_signals Outbound 1 ≡ number 1 /ℚ number 2
+unfolding whole over inverse_ℚ neg_ℚ ◌+ℚ◌ ◌*ℚ◌ gcd
+half_green = same_cross _ _ refl
+
+far_next : link_row two_signals (root_box two_signals) (link_name_of 25 1) ≡ row_of_cells (number 0) (number 1) (number 0) (number 0) (number 1) (number 0) (number 1 /ℚ number 2)
+far_next = ap (λ b. row_of_cells (number 0) (number 1) (number 0) (number 0) (number 1) (number 0) b) half_green
+
+far_here : link_row two_signals (root_box two_signals) (link_name_of 28 1) ≡ row_of_cells (number 0) (number 0) (number 1) (number 0) (number 0) (number 1) (number 1 /ℚ number 2)
+far_here = ap (λ b. row_of_cells (number 0) (number 0) (number 1) (number 0) (number 0) (number 1) b) half_green
+
+below_one : is_lt (cmp_ℚ (number 1 /ℚ number 2) (number 1)) ≡ true
+unfolding whole over inverse_ℚ ◌*ℚ◌ gcd cmp_ℚ
+below_one = refl
+
+ratio_of_a_half : link_row half_as_much (root_box half_as_much) (link_name_of 30 1) ≡ row_of_cells (number 0) (number 0) (number 0) (number 0) (number 1 /ℚ number 2) minus_one (number 0)
+ratio_of_a_half = rw below_one refl
+
+pub worked_links : WorkedLinks
+worked_links = record {
+  whole_greens = in_the_middle;
+  their_value = their_value;
+  one_tick_wider = too_wide;
+  a_line_at_the_start_of_a_red = at_the_red;
+  with_a_tick_to_either_side = not_around;
+  near_out_here = refl;
+  near_in_next = refl;
+  far_out_next = far_next;
+  far_in_here = far_here;
+  half_ratio = ratio_of_a_half;
+  no_ratio = λ h. h.1 refl;
+}

@@ -1,0 +1,12 @@
+pub mod LinkPlan
+pub mod GoodLinks
+pub mod BestLinks
+pub mod Plain
+pub mod LinkColumns
+pub mod LinkRows
+pub mod LinkNames
+pub mod LinkCounts
+pub mod LinkTrees
+pub mod LinkVertices
+pub mod Promises
+pub mod Worked

@@ -1,0 +1,8 @@
+//! The two ends of a link.
+
+/// An end of a link: link i has one at signal i, and the other at the next signal.
+#[derive(Clone, Copy, Debug, PartialEq, Eq)]
+pub enum End {
+    Here,
+    Next,
+}

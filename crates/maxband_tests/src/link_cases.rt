@@ -1,0 +1,263 @@
+//! Certificates of links that `check-links` reads. The expected lines are those of a second program that looks at every tick and adds the
+//! rows up by itself, or were worked by hand.
+
+use crate::running::{Case, Table};
+use crate::texts::{ARTERY, NEAR};
+
+const CHECK_LINKS: &[&str] = &["check-links", "a.toml", "b.txt"];
+
+const CHECK: &[&str] = &["check", "a.toml", "b.txt"];
+
+/// Both bands of the one link take the whole green of both signals: half of 100 ticks to either side of each line. No value is
+/// above 1, since each half and its wait at signal 1 fit into the green there, and the half is at most the wait.
+const BEST: &str = "maxband-links 1
+verdict best
+value 1
+grid 2
+unit 2
+pattern 1 1
+red 0 100
+run_out 100
+run_in 100
+first 150 50
+half_out 50
+half_in 50
+tree
+leaf 4
+near_out_a 1 1
+far_out_a 1 1
+near_in_a 1 1
+far_in_a 1 1
+end
+";
+
+static OF_BEST: [Case; 22] = [
+    ("whole greens", &[], &[], 0, b"accepted best 1\n"),
+    (
+        "a tick more outbound",
+        &[],
+        &[(11, b"half_out 51")],
+        4,
+        b"rejected timing outbound link 1 signal 1 tick 99\n",
+    ),
+    (
+        "a tick more inbound",
+        &[],
+        &[(12, b"half_in 51")],
+        4,
+        b"rejected timing inbound link 1 signal 2 tick -1\n",
+    ),
+    (
+        "a late outbound line",
+        &[],
+        &[(10, b"first 151 50")],
+        4,
+        b"rejected timing outbound link 1 signal 1 tick 201\n",
+    ),
+    (
+        "a late inbound line",
+        &[],
+        &[(10, b"first 150 51")],
+        4,
+        b"rejected timing inbound link 1 signal 2 tick 101\n",
+    ),
+    (
+        "a pattern that isn't allowed",
+        &[
+            (9, b"red = 50\npatterns = [1]"),
+            (13, b"red = 50\npatterns = [1]"),
+        ],
+        &[(6, b"pattern 1 2")],
+        4,
+        b"rejected timing pattern signal 2\n",
+    ),
+    (
+        "a short cycle",
+        &[],
+        &[(4, b"grid 3")],
+        4,
+        b"rejected timing cycle short\n",
+    ),
+    (
+        "too fast",
+        &[],
+        &[(8, b"run_out 99")],
+        4,
+        b"rejected timing fast out link 1\n",
+    ),
+    (
+        "too slow",
+        &[],
+        &[(9, b"run_in 101")],
+        4,
+        b"rejected timing slow in link 1\n",
+    ),
+    (
+        "an inbound half below the ratio",
+        &[(5, b"ratio = \"1/2\"")],
+        &[(12, b"half_in 24")],
+        4,
+        b"rejected timing ratio link 1\n",
+    ),
+    (
+        "another value",
+        &[],
+        &[(3, b"value 9/10")],
+        4,
+        b"rejected value kept 1 claimed 9/10\n",
+    ),
+    (
+        "a bound below the value",
+        &[],
+        &[(2, b"verdict open\nbound 9/10")],
+        4,
+        b"rejected bound 9/10 value 1\n",
+    ),
+    (
+        "open with the value as its bound",
+        &[],
+        &[(2, b"verdict open\nbound 1")],
+        0,
+        b"accepted open bound 1 value 1\n",
+    ),
+    (
+        "a split outside the box",
+        &[],
+        &[(14, b"split loop 1 2\nleaf 0\nleaf 4")],
+        4,
+        b"rejected split node 1\n",
+    ),
+    (
+        "a row of a band for the whole street",
+        &[],
+        &[(15, b"wout 1 1")],
+        4,
+        b"rejected row leaf 1 wout 1\n",
+    ),
+    (
+        "the ratio's row where the ratio is 1",
+        &[],
+        &[(18, b"link_ratio 1 1")],
+        4,
+        b"rejected row leaf 1 link_ratio 1\n",
+    ),
+    (
+        "a row of a link that isn't there",
+        &[],
+        &[(18, b"far_in_a 2 1")],
+        4,
+        b"rejected row leaf 1 far_in_a 2\n",
+    ),
+    (
+        "a negative multiplier",
+        &[],
+        &[(17, b"near_in_a 1 -1")],
+        4,
+        b"rejected negative leaf 1 near_in_a 1\n",
+    ),
+    (
+        "weak at a half",
+        &[],
+        &[(17, b"near_in_a 1 1/2")],
+        4,
+        b"rejected weak leaf 1 h_in 1\n",
+    ),
+    (
+        "weak at the bound",
+        &[],
+        &[(18, b"far_in_a 1 2")],
+        4,
+        b"rejected weak leaf 1 bound\n",
+    ),
+    (
+        "the first line of an ordinary certificate",
+        &[],
+        &[(1, b"maxband-certificate 1")],
+        3,
+        b"refused BadText line 1 Shape\n",
+    ),
+    (
+        "a half too many",
+        &[],
+        &[(12, b"half_in 50 50")],
+        3,
+        b"refused BadText line 12 Shape\n",
+    ),
+];
+
+/// With reds of 80 parts and 250 metres no block sum is in reach: the root's least is 1 and its greatest 0.
+const NONE: &str = "maxband-links 1
+verdict none
+tree
+leaf 2
+loop_lo 1 1
+loop_hi 1 1
+end
+";
+
+static OF_NONE: [Case; 2] = [
+    (
+        "reds too long",
+        &[(9, b"red = 80"), (13, b"red = 80")],
+        &[],
+        0,
+        b"accepted none\n",
+    ),
+    (
+        "half of a row",
+        &[(9, b"red = 80"), (13, b"red = 80")],
+        &[(6, b"loop_hi 1 1/2")],
+        4,
+        b"rejected weak leaf 1 w_out 1\n",
+    ),
+];
+
+static CUT: [Case; 1] = [(
+    "after the first line",
+    &[],
+    &[],
+    3,
+    b"refused BadText line 2 Ended\n",
+)];
+
+static ORDINARY: [Case; 1] = [(
+    "a certificate of links",
+    &[],
+    &[],
+    3,
+    b"refused BadText line 1 Shape\n",
+)];
+
+/// The tables, numbered from 0 up to 3.
+pub fn table(number: u32) -> Table {
+    match number {
+        0 => Table {
+            name: "of best links",
+            words: CHECK_LINKS,
+            first: ARTERY,
+            second: BEST,
+            cases: &OF_BEST,
+        },
+        1 => Table {
+            name: "of no links",
+            words: CHECK_LINKS,
+            first: NEAR,
+            second: NONE,
+            cases: &OF_NONE,
+        },
+        2 => Table {
+            name: "cut short",
+            words: CHECK_LINKS,
+            first: ARTERY,
+            second: "maxband-links 1\n",
+            cases: &CUT,
+        },
+        _ => Table {
+            name: "to `check`",
+            words: CHECK,
+            first: ARTERY,
+            second: BEST,
+            cases: &ORDINARY,
+        },
+    }
+}

@@ -1,0 +1,13 @@
+pub mod LinkNumbers
+pub mod LinkTimings
+pub mod LinkOutcomes
+pub mod LinkMeant
+pub mod WorkedVerticesKept
+pub mod WorkedOutcomesKept
+pub mod LinkFits
+pub mod LinkStartFits
+mod LinkLeafProofs
+mod LinkKeptLeaves
+mod LinkSitesNamed
+mod LinkAnswers
+mod LinksSolved

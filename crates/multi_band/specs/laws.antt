@@ -1,0 +1,14 @@
+pub mod LinkRecoveries
+pub mod LinkTables
+pub mod FarRows
+pub mod LinkPivots
+pub mod LinkOpenings
+pub mod IdleBands
+pub mod LinkWeakDuality
+pub mod LinkEnds
+pub mod LinkStarts
+pub mod LinkFirsts
+pub mod LinkLeaves
+pub mod LinkTightening
+pub mod LinkLines
+pub mod LinkRelaxed

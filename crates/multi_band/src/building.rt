@@ -1,0 +1,130 @@
+//! The tableau that each box of links begins from.
+
+ghost use Rattle.std.specs.Prelude.{◌≡◌, ◌≢◌, ◌-◌, ◌<◌, ◌≤◌, length, false, IfOk};
+ghost use Rattle.progression.specs.Street.{count};
+ghost use Rattle.progression.specs.Speeds.{number};
+ghost use Rattle.linear_theory.specs.Places as places;
+ghost use Rattle.linear_theory.specs.Boxes.{IsBoxOf};
+ghost use Rattle.simplex_theory.specs.Tableau.{height};
+ghost use Rattle.simplex_theory.specs.DualSteps.{IsDual};
+ghost use Rattle.simplex_theory.specs.RowLists.{StandsForRows};
+ghost use Rattle.link_theory.specs.LinkColumns.{link_width};
+ghost use Rattle.link_theory.specs.LinkRows.{link_goal};
+ghost use Rattle.multi_band.specs.LinkTables.{names_of_links, link_box_rows};
+ghost use Rattle.multi_band.specs.LinkOpening.{rows_before, half_pivot, IsMadeForLinks, loaded_links, opened_links};
+
+use crate::table::LinkBandsTable;
+use artery_model::{Artery, Dir};
+use fraction_tableau::Tableau;
+use link_space::{half_column, link_column_count};
+use loop_rows::column_count;
+use named_row::Row;
+use narrow_fraction::{Frac, Memory};
+use program_builder::{StartPivot, load, make_tableau, pivot};
+use search_box::SearchBox;
+use std::alloc::Global;
+
+/// How many rows there are of the ratio: one for each link, and none where it is 1.
+#[tactic(auto, using(rational_theory::proofs::Compare::eq_true, rational_theory::proofs::Compare::eq_false))]
+fn ratio_rows(artery: &Artery) -> u32
+    ensures one { artery.now.head.ratio ≡ number 1 → result ≡ 0 }
+    ensures other { artery.now.head.ratio ≢ number 1 → result ≡ count artery.now - 1 }
+{
+    prove!(2 <= artery.count());
+    if artery.ratio() == Frac::whole(1) {
+        return 0;
+    }
+    artery.count() - 1
+}
+
+/// How many rows stand before those by which a wait and the half of its link fit into the green at the link's own signal: all
+/// rows but those of the families from there on, each of which has one for each link.
+fn far_row(tableau: &Tableau, artery: &Artery, dir: Dir) -> u32
+    requires { height tableau.now.table ≡ length (names_of_links artery.now) }
+    ensures { result ≡ rows_before artery.now dir }
+{
+    // its contract says that the artery is valid
+    artery.known_valid();
+    let links = artery.count() - 1;
+    let extra = ratio_rows(artery);
+    match dir {
+        Dir::Outbound => tableau.rows() - (6 * links + extra),
+        Dir::Inbound => tableau.rows() - (2 * links + extra),
+    }
+}
+
+/// The pivot by which the half of a link enters, from the row of link 1.
+fn pivot_of(artery: &Artery, dir: Dir, link: u32, first: u32) -> StartPivot
+    requires first { 1 ≤ link }
+    requires last { link < count artery.now }
+    requires row { first ≡ rows_before artery.now dir }
+    ensures { result ≡ half_pivot artery.now dir link }
+{
+    // its contract says that the artery is valid
+    artery.known_valid();
+    StartPivot {
+        row: first + (link - 1),
+        column: half_column(artery, dir, link),
+    }
+}
+
+/// Brings each link's halves into the basis, in the rows that keep them within the greens at the link's own signal.
+fn enter_halves(tableau: &mut Tableau, artery: &Artery, area: &SearchBox)
+    requires loaded { tableau.old ≡ loaded_links artery.now area.now }
+    ensures { tableau.new ≡ opened_links artery.now area.now }
+{
+    artery.known_valid();
+    tableau.known_named();
+    let outbound = far_row(tableau, artery, Dir::Outbound);
+    let inbound = far_row(tableau, artery, Dir::Inbound);
+    for link in 1..artery.count() {
+        let there = pivot_of(artery, Dir::Outbound, link, outbound);
+        pivot(tableau, there.row, there.column);
+        let back = pivot_of(artery, Dir::Inbound, link, inbound);
+        pivot(tableau, back.row, back.column);
+    }
+}
+
+/// Makes the state that `start_links` gives for a box, in a tableau that `start_links` made for this artery, spent or not.
+/// `spare` is as wide as the artery's own rows, and `room` as the rows of links; afterwards both are so wide still, with any
+/// contents. Takes no memory.
+pub fn reset_links(
+    tableau: &mut Tableau,
+    artery: &Artery,
+    area: &SearchBox,
+    spare: &mut Row,
+    room: &mut Row,
+)
+    requires boxed { IsBoxOf artery.now area.now }
+    requires made { IsMadeForLinks artery.now tableau.old }
+    requires spare { length spare.old.coefs ≡ places.width (count artery.now) }
+    requires room { length room.old.coefs ≡ link_width (count artery.now) }
+    ensures opened { tableau.new ≡ opened_links artery.now area.now }
+    ensures dual { IsDual tableau.new.table }
+    ensures stands { StandsForRows tableau.new.table (link_box_rows artery.now area.now) (link_goal artery.now) }
+    ensures made { IsMadeForLinks artery.now tableau.new }
+    ensures spare { length spare.new.coefs ≡ places.width (count artery.now) }
+    ensures room { length room.new.coefs ≡ link_width (count artery.now) }
+    ensures unspent { room.new.spent ≡ false }
+{
+    artery.known_valid();
+    load(tableau, &LinkBandsTable { artery }, area, spare, room);
+    enter_halves(tableau, artery, area);
+}
+
+/// The tableau that a box of links begins from: every row of links that the artery has, in the order of their names, with the
+/// value of links as its goal, after the pivots that bring the halves into the basis. It is dual feasible for each ratio, and no
+/// number leaves 128 bits. The error is want of memory.
+pub fn start_links(alloc: Global, artery: &Artery, area: &SearchBox) -> Result<Tableau, Memory>
+    requires boxed { IsBoxOf artery.now area.now }
+    ensures opened { IfOk result (λ tableau. tableau ≡ opened_links artery.now area.now) }
+    ensures dual { IfOk result (λ tableau. IsDual tableau.table) }
+    ensures stands { IfOk result (λ tableau. StandsForRows tableau.table (link_box_rows artery.now area.now) (link_goal artery.now)) }
+    ensures made { IfOk result (λ tableau. IsMadeForLinks artery.now tableau) }
+{
+    let mut tableau = make_tableau(alloc, &LinkBandsTable { artery })?;
+    let mut spare = Row::zero(alloc, column_count(artery))?;
+    let mut room = Row::zero(alloc, link_column_count(artery))?;
+    reset_links(&mut tableau, artery, area, &mut spare, &mut room);
+    Ok(tableau)
+}

@@ -1,0 +1,47 @@
+//! A band for each link of an artery in each direction: the linear program of links over boxes, what becomes of its vertices, and
+//! the search of an artery's best link timing.
+//!
+//! Begin with `search_links_and_check`, which answers what `link_search` found once its certificate was accepted, or with
+//! `link_search` and `link_certificate`. What is found is `IsLinksSearched` (`specs/LinksSearched.antt`): what the search says, and
+//! what its accepted certificate proves of every link timing on any grid.
+//!
+//! - The program: `specs/LinkTables.antt` has its rows, `specs/LinkOpening.antt` the tableau that each box begins from, which
+//!   `start_links` and `reset_links` make, and `specs/LinkStarts.antt` the leaf that bounds the root before any step.
+//! - What becomes of a vertex is a function of the artery, the box and the point: `link_recovered`, in
+//!   `specs/LinkRecovered.antt`, a list of tests in their order. `recover_links` answers what it says, but for want of memory; a
+//!   timing is good and its value is the vertex's goal, and a place lies inside the box.
+//! - The search: `specs/LinkProgram.antt` and `specs/LinkRules.antt` are the links of an artery as a program over boxes and as a relaxation
+//!   (`branch_tree`, `branch_and_bound`). What is answered stands in `specs/LinkSearches.antt`, `LinkTold.antt`, `LinkSites.antt`,
+//!   `LinkEnough.antt` and `LinkCertified.antt`.
+#![tactic(auto)]
+
+mod building;
+mod certifying;
+mod checked;
+mod found;
+mod laws;
+mod program;
+mod recovery;
+#[cfg(test)]
+mod recovery_tests;
+mod relaxed;
+#[cfg(test)]
+mod search_tests;
+mod searching;
+#[cfg(test)]
+mod start_tests;
+mod starting;
+mod table;
+
+pub use building::{reset_links, start_links};
+pub use certifying::link_certificate;
+pub use checked::{SearchedLinks, search_links_and_check};
+pub use found::LinkFound;
+pub use laws::{
+    law_link_outcomes_are_sound, law_link_outcomes_mean, law_worked_link_outcomes,
+    law_worked_link_vertices,
+};
+pub use recovery::{RecoveredLinks, recover_links};
+pub use searching::link_search;
+pub use starting::start_link_leaf;
+pub use table::LinkBandsTable;

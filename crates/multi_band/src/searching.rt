@@ -1,0 +1,54 @@
+//! The search of an artery's best link timing.
+
+ghost use Rattle.std.specs.Prelude.{◌≡◌, IfOk, IfSome};
+ghost use Rattle.link_theory.specs.GoodLinks.{GoodLinks};
+ghost use Rattle.work_meter.specs.Work.{IsBelow};
+ghost use Rattle.branch_tree.specs.Told.{plan_of};
+ghost use Rattle.multi_band.specs.LinkSearches.{IsLinkSearch};
+ghost use Rattle.multi_band.specs.LinkTold.{LinksTell, AreLinksCertifiable};
+ghost use Rattle.multi_band.specs.LinkSites.{HasLinkSite};
+ghost use Rattle.multi_band.specs.LinkEnough.{IsWithinLinkEnough};
+
+use crate::found::LinkFound;
+use crate::relaxed::{RelaxedLinks, make_link_room};
+use artery_model::Artery;
+use branch_and_bound as engine;
+use branch_tree::{SitePart, timing_of};
+use link_space::LinkTiming;
+use narrow_fraction::Memory;
+use std::alloc::Global;
+
+/// The engine's answer, as one of links.
+fn found_of(found: engine::Found<LinkTiming, SitePart>) -> LinkFound
+    ensures { result ≡ record { verdict = found.verdict; nodes = found.nodes; timing = plan_of found.incumbent; bound = found.bound; spent = found.spent } }
+{
+    LinkFound {
+        verdict: found.verdict,
+        nodes: found.nodes,
+        timing: timing_of(found.incumbent),
+        bound: found.bound,
+        spent: found.spent,
+    }
+}
+
+/// Searches for the artery's best link timing: the root box is opened first, and then, while a waiting box has a bound of more
+/// than the best value, the one with the greatest bound is split and its two parts are opened, each from its own opening on.
+///
+/// A unit of work is a box that is opened or a pivot. The search stops where all units of the limit are spent and one more is
+/// wanted, or at the first number that leaves 128 bits. A limit, where there is one, is at least 1; without a limit, or with
+/// one that is enough for the artery's links, no search stops by work. The error is want of memory.
+pub fn link_search(alloc: Global, artery: &Artery, limit: Option<u64>) -> Result<LinkFound, Memory>
+    requires limit { IsBelow 0 limit }
+    ensures answer { IfOk result (λ found. IsLinkSearch artery.now limit found) }
+    ensures good { IfOk result (λ found. IfSome found.timing (λ timing. GoodLinks artery.now timing)) }
+    ensures tells { IfOk result (λ found. LinksTell artery.now found.timing found.bound found.verdict) }
+    ensures certifiable { IfOk result (λ found. AreLinksCertifiable found) }
+    ensures site { IfOk result (λ found. HasLinkSite artery.now found.verdict) }
+    ensures enough { IfOk result (λ found. IsWithinLinkEnough artery.now limit found.verdict) }
+{
+    let links = RelaxedLinks { artery };
+    engine::law_enough(&links);
+    let mut room = make_link_room(alloc, artery)?;
+    let found = engine::search(alloc, &links, &mut room, limit)?;
+    Ok(found_of(found))
+}

@@ -1,0 +1,77 @@
+//! The two lines of a vertex's timing, with all that they cross.
+
+ghost use Rattle.std.specs.Prelude.{◌≡◌, ◌<◌, ◌≤◌, ◌^◌, None, pos};
+ghost use Rattle.progression.specs.Plan.{common_red};
+ghost use Rattle.progression.specs.Street.{count};
+ghost use Rattle.recovery_theory.specs.Ticks.{unit_of};
+ghost use Rattle.offset_recovery.specs.Recovered.{red_tests, placed_tests};
+ghost use Rattle.offset_recovery.specs.Numbers.{IsReady, RunsFit, reds_at, reds_plan};
+ghost use Rattle.offset_recovery.specs.Placed.{ArePlaced};
+ghost use Rattle.offset_recovery.specs.Answers.{Answers};
+
+use crate::lists::{patterns, runs};
+use crate::outcome::RecoverFault;
+use crate::placing::{checked_first_in, checked_first_out, reds};
+use artery_model::{Artery, Dir};
+use named_row::Point;
+use std::alloc::Global;
+
+/// The numbers of a timing that don't speak of its bands' widths, in ticks but for the patterns.
+#[derive(Debug, Drop)]
+pub struct Lines {
+    /// Each signal's left turn pattern.
+    pub patterns: Vec<u32>,
+    /// Where the common reds start.
+    pub reds: Vec<u128>,
+    pub run_out: Vec<u128>,
+    pub run_in: Vec<u128>,
+    /// Where the outbound line crosses signal 1.
+    pub first_out: u128,
+    /// Where the inbound line crosses the last signal.
+    pub first_in: u128,
+}
+
+/// The common red of the last signal.
+fn last_red(artery: &Artery, point: &Point, reds: &[u128]) -> u128
+    requires some { 2 ≤ count artery.now }
+    requires reds { reds.now ≡ reds_at artery.now point.now.values.items }
+    requires fit { red_tests artery.now point.now.values.items ≡ None }
+    ensures value { pos result ≡ common_red (reds_plan artery.now point.now.values.items) (count artery.now) }
+    ensures small { result < 2 ^ 80 }
+{
+    reds[artery.count() as usize - 1]
+}
+
+/// The lines of a vertex whose runs fit a timing, where its reds and first crossings fit too. The error is the first that
+/// doesn't, or want of memory.
+pub fn place_lines(
+    alloc: Global,
+    artery: &Artery,
+    point: &Point,
+    unit: u128,
+) -> Result<Lines, RecoverFault>
+    requires ready { IsReady artery.now point.now.values.items }
+    requires unit { unit ≡ unit_of artery.now point.now.values.items }
+    requires runs { RunsFit artery.now point.now.values.items }
+    ensures { Answers (placed_tests artery.now point.now.values.items) (ArePlaced artery.now point.now.values.items) result }
+{
+    let patterns = patterns(alloc, artery, point)?;
+    let run_out = runs(alloc, artery, point, unit, Dir::Outbound)?;
+    let run_in = runs(alloc, artery, point, unit, Dir::Inbound)?;
+    let first_out = checked_first_out(artery, point, unit)?;
+    let reds = match reds(alloc, artery, point, unit, first_out) {
+        Ok(reds) => reds,
+        Err(fault) => return Err(fault),
+    };
+    prove!(2 <= artery.count());
+    let last = last_red(artery, point, reds.as_slice());
+    let first_in = checked_first_in(artery, point, unit, last)?;
+    Ok(Lines {
+        patterns,
+        reds,
+        run_out,
+        run_in,
+        first_out,
+        first_in,
+    })
+}
