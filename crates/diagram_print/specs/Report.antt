@@ -1,11 +1,12 @@
 -- The lines of what a search of an artery found.
-use Rattle.std.specs.Prelude.{ℕ, List, ◌++◌, flat_map, codes, Option, None, Some}
+use Rattle.std.specs.Prelude.{ℕ, List, ◌++◌, flat_map, codes, Option, None, Some, option_map}
 use Rattle.std.specs.Fmt.{decimal, signed_decimal}
 use Rattle.rational_theory.specs.Rational.{ℚ}
 use Rattle.quantity_text.specs.Exact.{exact_spelling}
 use Rattle.progression.specs.Street.{Street, count}
 use Rattle.progression.specs.Plan.{Plan}
 use Rattle.linear_theory.specs.Boxes.{Area, Span, Ranks}
+use Rattle.plan_text.specs.Families.{Table, ordinary}
 use Rattle.branch_and_bound.specs.declared.found.Site.{Site}
 use Rattle.branch_and_bound.specs.declared.found.Stop.{Stop}
 use Rattle.branch_and_bound.specs.declared.found.Stop.TheVariants.{Work, Wide}
@@ -36,39 +37,39 @@ shifts_line box = codes "shifts" ++ (flat_map ranks_text box.turns ++ codes "\n"
 abbrev pub pivots_line : ℕ → List ℕ
 pivots_line pivots = codes "pivots " ++ (decimal pivots ++ codes "\n")
 
--- the box, how many pivots were made on it, and the operation
-abbrev pub wide_lines : ℕ → Site SitePart → List ℕ
-wide_lines signals site =
-    codes "stopped wide\n" ++ (loops_line site.area ++ (shifts_line site.area ++ (pivots_line site.pivots ++ (site_line signals site.part ++ operands_line site.part))))
+-- the box, how many pivots were made on it, and the operation; rows have their names in a table of families
+abbrev pub wide_lines : Table → ℕ → Site SitePart → List ℕ
+wide_lines table signals site =
+    codes "stopped wide\n" ++ (loops_line site.area ++ (shifts_line site.area ++ (pivots_line site.pivots ++ (site_line table signals site.part ++ operands_line site.part))))
 
-abbrev pub stop_lines : ℕ → Stop SitePart → List ℕ
-stop_lines signals (Work spent) = codes "stopped work " ++ (decimal spent ++ codes "\n")
-stop_lines signals (Wide site) = wide_lines signals site
+abbrev pub stop_lines : Table → ℕ → Stop SitePart → List ℕ
+stop_lines table signals (Work spent) = codes "stopped work " ++ (decimal spent ++ codes "\n")
+stop_lines table signals (Wide site) = wide_lines table signals site
 
--- ---- the timing
-abbrev pub timing_lines : Street → Plan → List ℕ
-timing_lines a t = measure_lines a t ++ (signal_lines a t ++ (link_lines a t ++ (codes "diagram\n" ++ diagram_lines a t)))
-
--- ---- the report
+-- ---- the verdict, with the lines of the timing where there is one
 abbrev pub bound_line : ℚ → List ℕ
 bound_line bound = codes "bound " ++ (exact_spelling bound ++ codes "\n")
 
-abbrev pub found_lines : Street → Option Plan → List ℕ
-found_lines a None = codes "no timing\n"
-found_lines a (Some t) = timing_lines a t
+abbrev pub found_lines : Option (List ℕ) → List ℕ
+found_lines None = codes "no timing\n"
+found_lines (Some timing) = timing
 
 -- under a verdict that claims a best timing there is one
-abbrev pub best_lines : Street → Option Plan → List ℕ
-best_lines a None = codes "verdict best\n"
-best_lines a (Some t) = codes "verdict best\n" ++ timing_lines a t
+abbrev pub best_lines : Option (List ℕ) → List ℕ
+best_lines None = codes "verdict best\n"
+best_lines (Some timing) = codes "verdict best\n" ++ timing
 
-abbrev pub open_lines : Street → Option Plan → ℚ → Stop SitePart → List ℕ
-open_lines a timing bound stop = codes "verdict open\n" ++ (stop_lines (count a) stop ++ (bound_line bound ++ found_lines a timing))
+abbrev pub open_lines : Table → ℕ → Option (List ℕ) → ℚ → Stop SitePart → List ℕ
+open_lines table signals timing bound stop = codes "verdict open\n" ++ (stop_lines table signals stop ++ (bound_line bound ++ found_lines timing))
 
-abbrev pub verdict_lines : Street → Option Plan → ℚ → Verdict SitePart → List ℕ
-verdict_lines a timing bound Best = best_lines a timing
-verdict_lines a timing bound NoTiming = codes "verdict none\n"
-verdict_lines a timing bound (Stopped stop) = open_lines a timing bound stop
+abbrev pub verdict_lines : Table → ℕ → Option (List ℕ) → ℚ → Verdict SitePart → List ℕ
+verdict_lines table signals timing bound Best = best_lines timing
+verdict_lines table signals timing bound NoTiming = codes "verdict none\n"
+verdict_lines table signals timing bound (Stopped stop) = open_lines table signals timing bound stop
+
+-- ---- the report
+abbrev pub timing_lines : Street → Plan → List ℕ
+timing_lines a t = measure_lines a t ++ (signal_lines a t ++ (link_lines a t ++ (codes "diagram\n" ++ diagram_lines a t)))
 
 abbrev pub report_lines : Street → Found → List ℕ
-report_lines a found = verdict_lines a found.timing found.bound found.verdict
+report_lines a found = verdict_lines ordinary (count a) (option_map (timing_lines a) found.timing) found.bound found.verdict

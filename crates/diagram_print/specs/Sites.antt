@@ -1,4 +1,5 @@
--- Where a run left 128 bits: the site of the operation and its two operands, on an artery with so many signals.
+-- Where a run left 128 bits: the site of the operation and its two operands, on an artery with so many signals. The rows of a leaf have their names in a table of
+-- families.
 use Rattle.std.specs.Prelude.{ℕ, List, ◌++◌, codes}
 use Rattle.std.specs.Fmt.{decimal}
 use Rattle.narrow_fraction.specs.declared.wide.Op.{Op}
@@ -12,7 +13,8 @@ use Rattle.offset_recovery.specs.declared.outcome.WideTiming.{WideTiming}
 use Rattle.offset_recovery.specs.declared.outcome.WideTiming.TheVariants as timing
 use Rattle.branch_tree.specs.declared.site.SitePart.{SitePart}
 use Rattle.branch_tree.specs.declared.site.SitePart.TheVariants as part
-use Rattle.diagram_print.specs.Names.{row_text, column_text, place_text}
+use Rattle.plan_text.specs.Families.{Table}
+use Rattle.diagram_print.specs.Names.{row_text_in, column_text, place_text}
 
 -- ---- the site
 -- a row and a place of the tableau, by their numbers
@@ -20,8 +22,8 @@ abbrev pub cell_line : List ℕ → WideCell → List ℕ
 cell_line kind cell = codes "site " ++ (kind ++ (codes " " ++ (decimal cell.row ++ (codes " " ++ (decimal cell.col ++ codes "\n")))))
 
 -- a place of a leaf's sum, at which this row was added
-abbrev pub leaf_line : ℕ → RowId → Place → List ℕ
-leaf_line signals row place = codes "site leaf " ++ (row_text row ++ (codes " " ++ (place_text signals place ++ codes "\n")))
+abbrev pub leaf_line : Table → ℕ → RowId → Place → List ℕ
+leaf_line table signals row place = codes "site leaf " ++ (row_text_in table row ++ (codes " " ++ (place_text signals place ++ codes "\n")))
 
 abbrev pub product_line : ℕ → ℕ → List ℕ
 product_line signals column = codes "site product " ++ (column_text signals column ++ codes "\n")
@@ -35,11 +37,11 @@ timing_line signals (timing.Product column refused) = product_line signals colum
 timing_line signals (timing.Unit left right) = codes "site unit\n"
 timing_line signals (timing.Number column ticks) = number_line signals column
 
-abbrev pub site_line : ℕ → SitePart → List ℕ
-site_line signals (part.Ratio cell) = cell_line (codes "ratio") cell
-site_line signals (part.Cell cell) = cell_line (codes "cell") cell
-site_line signals (part.LeafSum row at) = leaf_line signals row at.place
-site_line signals (part.Timing refused) = timing_line signals refused
+abbrev pub site_line : Table → ℕ → SitePart → List ℕ
+site_line table signals (part.Ratio cell) = cell_line (codes "ratio") cell
+site_line table signals (part.Cell cell) = cell_line (codes "cell") cell
+site_line table signals (part.LeafSum row at) = leaf_line table signals row at.place
+site_line table signals (part.Timing refused) = timing_line signals refused
 
 -- ---- the operands
 abbrev pub op_name : Op → List ℕ

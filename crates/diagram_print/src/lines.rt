@@ -1,9 +1,12 @@
 //! The lines of what a search found.
 
-ghost use Rattle.std.specs.Prelude.{◌≡◌, IfOk, IfSome, string_bytes};
+ghost use Rattle.std.specs.Prelude.{◌≡◌, IfOk, IfSome, option_map, string_bytes};
+ghost use Rattle.progression.specs.Street.{count};
 ghost use Rattle.progression.specs.Good.{Good};
-ghost use Rattle.branch_tree.specs.Searches.{HasSite, IsStopOf};
-ghost use Rattle.diagram_print.specs.Report.{timing_lines, bound_line, found_lines, best_lines, open_lines, report_lines};
+ghost use Rattle.linear_theory.specs.Boxes.{IsBoxOf};
+ghost use Rattle.plan_text.specs.Families.{table_of};
+ghost use Rattle.branch_tree.specs.SiteNames.{StopsAt, EndsAt, HasSite};
+ghost use Rattle.diagram_print.specs.Report.{timing_lines, bound_line, found_lines, best_lines, open_lines, verdict_lines, report_lines};
 
 use crate::chart::diagram;
 use crate::measures::measure_lines;
@@ -13,45 +16,27 @@ use crate::stopped::stop_lines;
 use artery_model::Artery;
 use branch_tree::{Found, Stop, Verdict};
 use narrow_fraction::{Frac, Memory};
+use plan_text::{FAMILIES, FamilyName};
 use quantity_text::exact_string;
 use std::alloc::Global;
 use time_space::Timing;
 
-/// The lines of a timing.
-fn timing_lines(alloc: Global, artery: &Artery, timing: &Timing) -> Result<Vec<u8>, Memory>
-    requires { Good artery.now timing.now }
-    ensures { IfOk result (λ lines. lines.items ≡ timing_lines artery.now timing.now) }
-{
-    let mut lines = measure_lines(alloc, artery, timing)?;
-    let signals = signal_lines(alloc, artery, timing)?;
-    let links = link_lines(alloc, artery, timing)?;
-    let diagram = diagram(alloc, artery, timing)?;
-    lines.extend_from_slice(signals.as_slice())?;
-    lines.extend_from_slice(links.as_slice())?;
-    lines.extend_from_slice(b"diagram\n")?;
-    lines.extend_from_slice(diagram.as_slice())?;
-    Ok(lines)
-}
-
 /// The lines of the timing of a stopped search, if there is one.
-fn found_lines(alloc: Global, artery: &Artery, timing: &Option<Timing>) -> Result<Vec<u8>, Memory>
-    requires { IfSome timing.now (λ plan. Good artery.now plan) }
-    ensures { IfOk result (λ lines. lines.items ≡ found_lines artery.now timing.now) }
+fn found_lines(alloc: Global, timing: Option<Vec<u8>>) -> Result<Vec<u8>, Memory>
+    ensures { IfOk result (λ lines. lines.items ≡ found_lines (option_map (λ t. t.items) timing)) }
 {
     match timing {
-        Some(timing) => timing_lines(alloc, artery, timing),
+        Some(timing) => Ok(timing),
         None => Ok(Vec::from_slice(alloc, b"no timing\n")?),
     }
 }
 
 /// The lines of the timing that a best verdict claims.
-fn best_lines(alloc: Global, artery: &Artery, timing: &Option<Timing>) -> Result<Vec<u8>, Memory>
-    requires { IfSome timing.now (λ plan. Good artery.now plan) }
-    ensures { IfOk result (λ lines. lines.items ≡ best_lines artery.now timing.now) }
+fn best_lines(alloc: Global, timing: Option<Vec<u8>>) -> Result<Vec<u8>, Memory>
+    ensures { IfOk result (λ lines. lines.items ≡ best_lines (option_map (λ t. t.items) timing)) }
 {
     let mut lines = Vec::from_slice(alloc, b"verdict best\n")?;
     if let Some(timing) = timing {
-        let timing = timing_lines(alloc, artery, timing)?;
         lines.extend_from_slice(timing.as_slice())?;
     }
     Ok(lines)
@@ -69,20 +54,72 @@ fn bound_line(alloc: Global, bound: Frac) -> Result<String, Memory>
 fn open_lines(
     alloc: Global,
     artery: &Artery,
+    names: &[FamilyName],
     stop: &Stop,
     bound: Frac,
-    timing: &Option<Timing>,
+    timing: Option<Vec<u8>>,
 ) -> Result<Vec<u8>, Memory>
-    requires good { IfSome timing.now (λ plan. Good artery.now plan) }
-    requires stop { IsStopOf artery.now stop.now }
-    ensures { IfOk result (λ lines. lines.items ≡ open_lines artery.now timing.now bound stop.now) }
+    requires { StopsAt (λ site. IsBoxOf artery.now site.area) stop.now }
+    ensures { IfOk result (λ lines. lines.items ≡ open_lines (table_of names.now) (count artery.now) (option_map (λ t. t.items) timing) bound stop.now) }
 {
-    let stop = stop_lines(alloc, artery, stop)?;
+    let stop = stop_lines(alloc, artery, names, stop)?;
     let bound = bound_line(alloc, bound)?;
-    let found = found_lines(alloc, artery, timing)?;
+    let found = found_lines(alloc, timing)?;
     let mut lines = format!(in alloc; "verdict open\n{stop}{bound}")?.into_bytes();
     lines.extend_from_slice(found.as_slice())?;
     Ok(lines)
+}
+
+/// The lines that tell how a search of this artery ended, whatever kind of timing it looked for: the verdict; where the search
+/// stopped, why, and the bound; and the lines of the timing, or that there is none. The rows have their names in a table of
+/// families, and the box of a site of a stop is one of the artery. The error is want of memory.
+pub fn verdict_lines(
+    alloc: Global,
+    artery: &Artery,
+    names: &[FamilyName],
+    verdict: &Verdict,
+    bound: Frac,
+    timing: Option<Vec<u8>>,
+) -> Result<Vec<u8>, Memory>
+    requires { EndsAt (λ site. IsBoxOf artery.now site.area) verdict.now }
+    ensures { IfOk result (λ lines. lines.items ≡ verdict_lines (table_of names.now) (count artery.now) (option_map (λ t. t.items) timing) bound verdict.now) }
+{
+    match verdict {
+        Verdict::Best => best_lines(alloc, timing),
+        Verdict::NoTiming => Ok(Vec::from_slice(alloc, b"verdict none\n")?),
+        Verdict::Stopped(stop) => open_lines(alloc, artery, names, stop, bound, timing),
+    }
+}
+
+/// The lines of a timing.
+fn timing_lines(alloc: Global, artery: &Artery, timing: &Timing) -> Result<Vec<u8>, Memory>
+    requires { Good artery.now timing.now }
+    ensures { IfOk result (λ lines. lines.items ≡ timing_lines artery.now timing.now) }
+{
+    let mut lines = measure_lines(alloc, artery, timing)?;
+    let signals = signal_lines(alloc, artery, timing)?;
+    let links = link_lines(alloc, artery, timing)?;
+    let diagram = diagram(alloc, artery, timing)?;
+    lines.extend_from_slice(signals.as_slice())?;
+    lines.extend_from_slice(links.as_slice())?;
+    lines.extend_from_slice(b"diagram\n")?;
+    lines.extend_from_slice(diagram.as_slice())?;
+    Ok(lines)
+}
+
+/// The lines of the timing that a search found, where there is one.
+fn lines_of(
+    alloc: Global,
+    artery: &Artery,
+    timing: &Option<Timing>,
+) -> Result<Option<Vec<u8>>, Memory>
+    requires { IfSome timing.now (λ plan. Good artery.now plan) }
+    ensures { IfOk result (λ lines. option_map (λ l. l.items) lines ≡ option_map (timing_lines artery.now) timing.now) }
+{
+    match timing {
+        Some(timing) => Ok(Some(timing_lines(alloc, artery, timing)?)),
+        None => Ok(None),
+    }
 }
 
 /// The lines that tell what a search of this artery found: the verdict; where the search stopped, why, and the bound; and
@@ -90,14 +127,19 @@ fn open_lines(
 /// offset and name, each link's speeds and the diagram; each number is exact and then cut after six decimal places, or three
 /// of seconds and speeds. A timing is a good one of the artery, and a site of a stop names the artery's own rows and columns.
 /// The error is want of memory.
+#[tactic(auto, unfolding(plan_text::specs::Families::ordinary))]
 pub fn report(alloc: Global, artery: &Artery, found: &Found) -> Result<Vec<u8>, Memory>
     requires good { IfSome found.now.timing (λ plan. Good artery.now plan) }
     requires site { HasSite artery.now found.now.verdict }
     ensures { IfOk result (λ lines. lines.items ≡ report_lines artery.now found.now) }
 {
-    match &found.verdict {
-        Verdict::Best => best_lines(alloc, artery, &found.timing),
-        Verdict::NoTiming => Ok(Vec::from_slice(alloc, b"verdict none\n")?),
-        Verdict::Stopped(stop) => open_lines(alloc, artery, stop, found.bound, &found.timing),
-    }
+    let timing = lines_of(alloc, artery, &found.timing)?;
+    verdict_lines(
+        alloc,
+        artery,
+        &FAMILIES,
+        &found.verdict,
+        found.bound,
+        timing,
+    )
 }

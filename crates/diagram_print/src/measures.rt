@@ -44,6 +44,18 @@ fn ended(text: Vec<u8>) -> Result<Vec<u8>, Memory>
     Ok(line)
 }
 
+/// A name, a fraction of at least 0, and the same fraction cut after so many decimal places, as a line. The error is want of memory.
+pub fn measure_line(alloc: Global, name: &str, value: Frac, places: u32) -> Result<Vec<u8>, Memory>
+    requires least { pos 0 ≤ℤ value.num }
+    requires denominator { value.den ≤ 2 ^ 120 }
+    requires some_places { 1 ≤ places }
+    requires most_places { places ≤ 9 }
+    ensures { IfOk result (λ line. line.items ≡ measure_line name.now value places) }
+{
+    let text = measure_text(alloc, name, value, places)?;
+    ended(text)
+}
+
 /// The quotient of two whole numbers, as a measure.
 #[tactic(auto, using(crate::proofs::Sizes::over_least))]
 pub fn quotient_text(
@@ -86,8 +98,7 @@ pub fn quotient_line(
 pub fn weighted_line(alloc: Global, artery: &Artery, timing: &Timing) -> Result<Vec<u8>, Memory>
     ensures { IfOk result (λ line. line.items ≡ weighted_line artery.now timing.now) }
 {
-    let text = measure_text(alloc, "weighted", value(artery, timing), 6)?;
-    ended(text)
+    measure_line(alloc, "weighted", value(artery, timing), 6)
 }
 
 /// The line of a direction's band, a fraction of the cycle.
@@ -111,7 +122,7 @@ pub fn band_line(
 }
 
 /// The line of the cycle, in seconds.
-fn cycle_line(alloc: Global, artery: &Artery, timing: &Timing) -> Result<Vec<u8>, Memory>
+pub fn cycle_line(alloc: Global, artery: &Artery, timing: &Timing) -> Result<Vec<u8>, Memory>
     ensures { IfOk result (λ line. line.items ≡ cycle_line artery.now timing.now) }
 {
     quotient_line(alloc, "cycle", cycle(artery, timing), timing.grid(), 3)

@@ -1,14 +1,16 @@
-//! Where a run left 128 bits.
+//! Where a run left 128 bits. The rows of a leaf have their names in a table of families.
 
 ghost use Rattle.std.specs.Prelude.{◌≡◌, IfOk, string_bytes};
+ghost use Rattle.plan_text.specs.Families.{table_of};
 ghost use Rattle.diagram_print.specs.Sites.{cell_line, leaf_line, product_line, number_line, timing_line, site_line, op_name, wide_line, timing_operands, operands_line};
 
-use crate::names::{column_text, place_text, row_text};
+use crate::names::{column_text, place_text, row_text_in};
 use branch_tree::SitePart;
 use fraction_tableau::WideCell;
 use named_row::{Place, RowId};
 use narrow_fraction::{Memory, Op, Wide};
 use offset_recovery::WideTiming;
+use plan_text::FamilyName;
 use quantity_text::exact_string;
 use std::alloc::Global;
 
@@ -22,10 +24,16 @@ fn cell_line(alloc: Global, kind: &str, cell: WideCell) -> Result<String, Memory
 }
 
 /// The line of a place of a leaf's sum, at which this row was added.
-fn leaf_line(alloc: Global, signals: u32, row: RowId, place: Place) -> Result<String, Memory>
-    ensures { IfOk result (λ text. string_bytes text ≡ leaf_line signals row place) }
+fn leaf_line(
+    alloc: Global,
+    names: &[FamilyName],
+    signals: u32,
+    row: RowId,
+    place: Place,
+) -> Result<String, Memory>
+    ensures { IfOk result (λ text. string_bytes text ≡ leaf_line (table_of names.now) signals row place) }
 {
-    let row = row_text(alloc, row)?;
+    let row = row_text_in(alloc, names, row)?;
     let place = place_text(alloc, signals, place)?;
     Ok(format!(in alloc; "site leaf {row} {place}\n")?)
 }
@@ -57,13 +65,18 @@ fn timing_line(alloc: Global, signals: u32, refused: WideTiming) -> Result<Strin
 }
 
 /// The line of the operation's site, on an artery with so many signals.
-pub fn site_line(alloc: Global, signals: u32, part: SitePart) -> Result<String, Memory>
-    ensures { IfOk result (λ text. string_bytes text ≡ site_line signals part) }
+pub fn site_line(
+    alloc: Global,
+    names: &[FamilyName],
+    signals: u32,
+    part: SitePart,
+) -> Result<String, Memory>
+    ensures { IfOk result (λ text. string_bytes text ≡ site_line (table_of names.now) signals part) }
 {
     match part {
         SitePart::Ratio(cell) => cell_line(alloc, "ratio", cell),
         SitePart::Cell(cell) => cell_line(alloc, "cell", cell),
-        SitePart::LeafSum { row, at } => leaf_line(alloc, signals, row, at.place),
+        SitePart::LeafSum { row, at } => leaf_line(alloc, names, signals, row, at.place),
         SitePart::Timing(refused) => timing_line(alloc, signals, refused),
     }
 }

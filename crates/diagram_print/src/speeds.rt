@@ -3,7 +3,7 @@
 ghost use Rattle.std.specs.Prelude.{◌≡◌, ◌<◌, ◌≤◌, ◌^◌, IfOk, string_bytes};
 ghost use Rattle.progression.specs.Street.{count};
 ghost use Rattle.progression.specs.Plan.{run};
-ghost use Rattle.progression.specs.Good.{Good};
+ghost use Rattle.progression.specs.Good.{IsBase};
 ghost use Rattle.diagram_print.specs.Speeds.{link_name, speed_line, speed_lines, link_lines};
 
 use crate::measures::{dir_name, quotient_line};
@@ -12,9 +12,9 @@ use narrow_fraction::Memory;
 use std::alloc::Global;
 use time_space::Timing;
 
-/// The ticks that a direction's band takes on a link. A good timing takes some, since no speed limit allows none.
+/// The ticks that a direction's band takes on a link. There are some, since no speed limit allows none.
 fn run_ticks(artery: &Artery, timing: &Timing, dir: Dir, link: u32) -> u128
-    requires good { Good artery.now timing.now }
+    requires base { IsBase artery.now timing.now }
     requires first { 1 ≤ link }
     requires last { link < count artery.now }
     ensures value { result ≡ run timing.now dir link }
@@ -42,7 +42,7 @@ fn speed_line(
     dir: Dir,
     link: u32,
 ) -> Result<Vec<u8>, Memory>
-    requires good { Good artery.now timing.now }
+    requires base { IsBase artery.now timing.now }
     requires first { 1 ≤ link }
     requires last { link < count artery.now }
     ensures { IfOk result (λ line. line.items ≡ speed_line artery.now timing.now dir link) }
@@ -66,7 +66,7 @@ fn speed_lines(
     timing: &Timing,
     link: u32,
 ) -> Result<Vec<u8>, Memory>
-    requires good { Good artery.now timing.now }
+    requires base { IsBase artery.now timing.now }
     requires first { 1 ≤ link }
     requires last { link < count artery.now }
     ensures { IfOk result (λ lines. lines.items ≡ speed_lines artery.now timing.now link) }
@@ -77,9 +77,10 @@ fn speed_lines(
     Ok(lines)
 }
 
-/// The lines of the links, from the first on.
+/// The lines of the links, from the first on: the speeds in both directions, in the description's units. The timing keeps the rules
+/// that don't speak of bands.
 pub fn link_lines(alloc: Global, artery: &Artery, timing: &Timing) -> Result<Vec<u8>, Memory>
-    requires { Good artery.now timing.now }
+    requires { IsBase artery.now timing.now }
     ensures { IfOk result (λ lines. lines.items ≡ link_lines artery.now timing.now) }
 {
     let mut lines = Vec::new(alloc);

@@ -3,8 +3,10 @@
 ghost use Rattle.std.specs.Prelude.{◌≡◌, ◌+◌, ◌≤◌, length, flat_map, IfOk, string_bytes};
 ghost use Rattle.search_box.specs.Seen.{span_of};
 ghost use Rattle.linear_theory.specs.Boxes.{turn_span};
+ghost use Rattle.linear_theory.specs.Boxes.{IsBoxOf};
 ghost use Rattle.progression.specs.Street.{count};
-ghost use Rattle.branch_tree.specs.Searches.{IsStopOf};
+ghost use Rattle.plan_text.specs.Families.{table_of};
+ghost use Rattle.branch_tree.specs.SiteNames.{StopsAt};
 ghost use Rattle.diagram_print.specs.Report.{span_text, ranks_text, loops_line, shifts_line, pivots_line, wide_lines, stop_lines};
 ghost use Rattle.artery_model.specs.Bounds.{most_signals};
 
@@ -12,6 +14,7 @@ use crate::sites::{operands_line, site_line};
 use artery_model::Artery;
 use branch_tree::{Site, Stop};
 use narrow_fraction::Memory;
+use plan_text::FamilyName;
 use search_box::{SearchBox, Span};
 use std::alloc::Global;
 
@@ -79,27 +82,37 @@ fn pivots_line(alloc: Global, pivots: u64) -> Result<String, Memory>
 }
 
 /// The lines of an operation that left 128 bits, on an artery with so many signals.
-fn wide_lines(alloc: Global, signals: u32, site: &Site) -> Result<String, Memory>
+fn wide_lines(
+    alloc: Global,
+    names: &[FamilyName],
+    signals: u32,
+    site: &Site,
+) -> Result<String, Memory>
     requires loops { length site.now.area.loops + 1 ≡ signals }
     requires turns { length site.now.area.turns ≡ signals }
     requires few { signals ≤ most_signals }
-    ensures { IfOk result (λ text. string_bytes text ≡ wide_lines signals site.now) }
+    ensures { IfOk result (λ text. string_bytes text ≡ wide_lines (table_of names.now) signals site.now) }
 {
     let loops = loops_line(alloc, &site.area, signals - 1)?;
     let shifts = shifts_line(alloc, &site.area, signals)?;
     let pivots = pivots_line(alloc, site.pivots)?;
-    let place = site_line(alloc, signals, site.part)?;
+    let place = site_line(alloc, names, signals, site.part)?;
     let operands = operands_line(alloc, site.part)?;
     Ok(format!(in alloc; "stopped wide\n{loops}{shifts}{pivots}{place}{operands}")?)
 }
 
 /// The lines that tell why a search of this artery stopped.
-pub fn stop_lines(alloc: Global, artery: &Artery, stop: &Stop) -> Result<String, Memory>
-    requires { IsStopOf artery.now stop.now }
-    ensures { IfOk result (λ text. string_bytes text ≡ stop_lines (count artery.now) stop.now) }
+pub fn stop_lines(
+    alloc: Global,
+    artery: &Artery,
+    names: &[FamilyName],
+    stop: &Stop,
+) -> Result<String, Memory>
+    requires { StopsAt (λ site. IsBoxOf artery.now site.area) stop.now }
+    ensures { IfOk result (λ text. string_bytes text ≡ stop_lines (table_of names.now) (count artery.now) stop.now) }
 {
     match stop {
         Stop::Work { spent } => Ok(format!(in alloc; "stopped work {spent}\n")?),
-        Stop::Wide(site) => wide_lines(alloc, artery.count(), site),
+        Stop::Wide(site) => wide_lines(alloc, names, artery.count(), site),
     }
 }

@@ -4,11 +4,11 @@ use Rattle.std.specs.Prelude.{IsSome}
 use Rattle.description_reader.specs.Described as described
 use Rattle.outer_edge.specs.Counts.{next_count, Rose, SameCounts}
 use Rattle.workload_maker.specs.Made.{made_street}
-use Rattle.maxband_run.specs.Command.{Request, Solve, Renew, Make, Trial, Sweep, shape}
+use Rattle.maxband_run.specs.Command.{Request, Solve, Links, Renew, Make, Trial, Sweep, shape}
 use Rattle.maxband_run.specs.Outside.{Outside, NamedBytes, named, put_of, IsDone, IsBroken}
 use Rattle.maxband_run.specs.Reading.{Input, input, Value, Reads, IsUnread, StopsReading, Description, Certificate}
 use Rattle.maxband_run.specs.Run.{Answers, Answered, Ends}
-use Rattle.maxband_run.specs.Laws.{IsFault, IsVerdict, FaultsAreTold, SolveIsComplete, MakeIsComplete, TrialIsComplete, SweepIsComplete, RenewIsComplete}
+use Rattle.maxband_run.specs.Laws.{IsFault, IsVerdict, FaultsAreTold, SolveIsComplete, LinksAreComplete, MakeIsComplete, TrialIsComplete, SweepIsComplete, RenewIsComplete}
 use Rattle.maxband_run.specs.declared.cause.Cause.{Cause}
 use Rattle.maxband_run.specs.declared.cause.Cause.TheVariants as cause
 use Rattle.maxband_run.proofs.Readers.{read_apart}
@@ -94,6 +94,11 @@ module _ (reader : described.OneAnswer) (before now : Outside) (asked : Option R
 pub complete : described.OneAnswer → SolveIsComplete
 complete reader before now artery certificate limit a c told r no_read no_put no_write h =
     ends_so reader before now (Some (Solve artery certificate limit)) (input Description artery) certificate refl refl a told r no_read IsVerdict
+    (λ c lines put k. verdict_cause c k.finds.2.found.verdict k.finds.2.cause_is) c no_put no_write h
+
+pub links_complete : described.OneAnswer → LinksAreComplete
+links_complete reader before now artery certificate limit a c told r no_read no_put no_write h =
+    ends_so reader before now (Some (Links artery certificate limit)) (input Description artery) certificate refl refl a told r no_read IsVerdict
     (λ c lines put k. verdict_cause c k.finds.2.found.verdict k.finds.2.cause_is) c no_put no_write h
 
 pub sweep_complete : described.OneAnswer → SweepIsComplete

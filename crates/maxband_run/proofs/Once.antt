@@ -23,7 +23,7 @@ use Rattle.branch_tree.specs.declared.site.SitePart.{SitePart}
 use Rattle.workload_maker.specs.Made.{made_street}
 use Rattle.maxband_run.specs.Lines.{fails_line}
 use Rattle.maxband_run.specs.CheckLines.{rejected_line, link_rejected_line}
-use Rattle.maxband_run.specs.Command.{Request, Hold, Show, Check, CheckLinks, Solve, Renew, Bands, Round, Half, Make, Trial, Sweep, shape}
+use Rattle.maxband_run.specs.Command.{Request, Hold, Show, Check, CheckLinks, Solve, Links, Renew, Bands, Round, Half, Make, Trial, Sweep, shape}
 use Rattle.maxband_run.specs.Reading.{Input, Values}
 use Rattle.maxband_run.specs.Searched.{cause_of}
 use Rattle.maxband_run.specs.Hold.{HoldFinds}
@@ -108,6 +108,7 @@ finds_reached (Some (Show artery)) v c l bytes h = show_reached v.0 c l h
 finds_reached (Some (Check artery certificate)) v c l bytes h = check_reached v.0 v.1.0 c l h
 finds_reached (Some (CheckLinks artery certificate)) v c l bytes h = check_links_reached v.0 v.1.0 c l h
 finds_reached (Some (Solve artery certificate limit)) v c l bytes h = verdict_reached c (verdict_cause c h.2.found.verdict h.2.cause_is)
+finds_reached (Some (Links artery certificate limit)) v c l bytes h = verdict_reached c (verdict_cause c h.2.found.verdict h.2.cause_is)
 finds_reached (Some (Renew certificate new)) v c l bytes h = subst (λ (d : Cause). IsReached d) (sym h.2.cause_is) tt
 finds_reached (Some (Bands artery timing)) v c l bytes h = bands_reached v.0 v.1.0 c l h
 finds_reached (Some (Round artery certificate plan)) v c l bytes h = round_reached v.0 v.1.0 c l bytes h
@@ -278,6 +279,8 @@ module _ (one_text : OneText) (one_first : OneFirst) (rules : FailsRulesOut) (ap
   finds_once (Some (Check artery certificate)) v c d x y s t h k = check_once apart once v.0 v.1.0 c d x y h k
   finds_once (Some (CheckLinks artery certificate)) v c d x y s t h k = check_links_once links_apart links_once v.0 v.1.0 c d x y h k
   finds_once (Some (Solve artery certificate limit)) v c d x y s t h k =
+      inr (verdict_cause c h.2.found.verdict h.2.cause_is, verdict_cause d k.2.found.verdict k.2.cause_is)
+  finds_once (Some (Links artery certificate limit)) v c d x y s t h k =
       inr (verdict_cause c h.2.found.verdict h.2.cause_is, verdict_cause d k.2.found.verdict k.2.cause_is)
   finds_once (Some (Renew certificate new)) v c d x y s t h k = (h.2.cause_is ∙ sym k.2.cause_is, h.2.lines_are ∙ sym k.2.lines_are)
   finds_once (Some (Bands artery timing)) v c d x y s t h k = bands_once one_first widest finer v.0 v.1.0 c d x y h k

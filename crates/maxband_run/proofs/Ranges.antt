@@ -4,7 +4,7 @@ use Rattle.std.specs.Prelude.{option_map, option_and_then, if◌then◌else◌}
 use Rattle.std.specs.Str.{bytes_eq}
 use Rattle.work_meter.specs.Work.{IsBelow}
 use Rattle.maxband_run.specs.Numbers.{usual_work, number_within, signals_of, seed_of, limit_of}
-use Rattle.maxband_run.specs.Command.{Request, Hold, Show, Check, Solve, Renew, Bands, Round, Half, Make, Trial, Sweep, make_of, trial_of, sweep_of, Form, form_of, one_more, two_more, three_more, any_more, request_of, InLimits}
+use Rattle.maxband_run.specs.Command.{Request, Hold, Show, Check, Solve, Links, Renew, Bands, Round, Half, Make, Trial, Sweep, make_of, trial_of, sweep_of, Form, form_of, one_more, two_more, three_more, any_more, request_of, InLimits}
 use Rattle.maxband_run.specs.Cycles.{are_cycles, SpellCycles}
 use Rattle.maxband_run.proofs.Spelled.{in_limits}
 use Rattle.maxband_run.proofs.Cycling.{cycles_spelled}
@@ -31,6 +31,10 @@ usual = omega arith
 solve_limits : (artery certificate : List ℕ) (o : Option (Option ℕ)) → ((limit : Option ℕ) → o ≡ Some limit → IsBelow 0 limit) → InLimits (option_map (Solve artery certificate) o)
 solve_limits artery certificate None h = tt
 solve_limits artery certificate (Some n) h = h n refl
+
+links_limits : (artery certificate : List ℕ) (o : Option (Option ℕ)) → ((limit : Option ℕ) → o ≡ Some limit → IsBelow 0 limit) → InLimits (option_map (Links artery certificate) o)
+links_limits artery certificate None h = tt
+links_limits artery certificate (Some n) h = h n refl
 
 make_limits : (o s : Option ℕ) → ((n : ℕ) → o ≡ Some n → (2 ≤ n) × (n ≤ 16)) → InLimits (option_and_then (λ n. option_map (Make n) s) o)
 make_limits None s h = tt
@@ -65,11 +69,11 @@ command_limits [] = tt
 command_limits (word ∷ []) = tt
 command_limits (word ∷ first ∷ []) = form_limits word (one_more first) (tt, tt)
 command_limits (word ∷ first ∷ second ∷ []) =
-    form_limits word (two_more first second) (tt, (tt, (tt, (usual, (tt, (tt, (make_limits (signals_of first) (seed_of second) (in_limits 2 16 first), tt)))))))
+    form_limits word (two_more first second) (tt, (tt, (tt, (usual, (usual, (tt, (tt, (make_limits (signals_of first) (seed_of second) (in_limits 2 16 first), tt))))))))
 command_limits (word ∷ first ∷ second ∷ third ∷ []) =
     form_limits word (three_more first second third) (
       solve_limits first second (limit_of third) (some_limit third),
-      (tt, (tt, (trial_limits (signals_of first) (seed_of second) (limit_of third) (in_limits 2 16 first) (some_limit third), tt))),
+      (links_limits first second (limit_of third) (some_limit third), (tt, (tt, (trial_limits (signals_of first) (seed_of second) (limit_of third) (in_limits 2 16 first) (some_limit third), tt)))),
     )
 command_limits (word ∷ first ∷ second ∷ third ∷ fourth ∷ more) =
     form_limits word (any_more first second third (fourth ∷ more))

@@ -1,30 +1,34 @@
 -- What the numbers of the statuses say of the model.
 use Rattle.std.proofs.Common.{◌≡◌, ℕ, List, Option, Some, None, Ok, inl, inr, refl, sym, ◌∙◌, ap, subst}
+use Rattle.std.specs.Prelude.{IfSome, option_map}
 use Rattle.outer_edge.specs.Held.{HoldsExactly}
 use Rattle.outer_edge.specs.Taken.{Appends}
-use Rattle.rational_theory.specs.Rational.{ℚ}
+use Rattle.rational_theory.specs.Rational.{ℚ, ◌≤ℚ◌}
 use Rattle.progression.specs.Street.{Street}
 use Rattle.progression.specs.Plan.{Plan}
-use Rattle.progression.specs.Best.{weighted_band}
+use Rattle.plan_text.specs.Warrants.{WarrantWith}
 use Rattle.plan_text.specs.CertificateReading.{certificate_of}
 use Rattle.plan_text.specs.declared.certificate.Claim.{Claim}
 use Rattle.plan_text.specs.declared.certificate.Claim.TheVariants as claim
 use Rattle.time_space.specs.Failing.{FailsRulesOut}
-use Rattle.certificate_checker.specs.Claims.{IsBest}
 use Rattle.certificate_checker.specs.Laws.{RefusedIsNotAccepted}
 use Rattle.link_proof.specs.LinkLaws.{LinkRefusedIsNotAccepted}
 use Rattle.branch_and_bound.specs.declared.found.Stop.{Stop}
 use Rattle.branch_and_bound.specs.declared.found.Verdict.{Verdict}
 use Rattle.branch_and_bound.specs.declared.found.Verdict.TheVariants.{Best, NoTiming, Stopped}
 use Rattle.branch_tree.specs.declared.site.SitePart.{SitePart}
-use Rattle.branch_tree.specs.declared.found.Found.{Found}
-use Rattle.branch_tree.specs.Certified.{value_of, claim_by, warrant_of}
-use Rattle.maxband_run.specs.Command.{Hold, Check, CheckLinks, Solve, Renew, shape}
-use Rattle.maxband_run.specs.Outside.{Outside, NamedBytes, put_of, IsPut}
+use Rattle.branch_tree.specs.Certified.{claim_by, warrant_of}
+use Rattle.link_theory.specs.LinkPlan.{LinkPlan}
+use Rattle.multi_band.specs.LinkCertified.{link_warrant_of}
+use Rattle.multi_band.specs.LinksSearched.{LinksProve}
+use Rattle.maxband_run.specs.Command.{Request, Hold, Check, CheckLinks, Solve, Links, Renew, shape}
+use Rattle.maxband_run.specs.Outside.{Outside, NamedBytes, put_of, IsPut, IsDone}
 use Rattle.certified_search.specs.Searched.{Proves}
-use Rattle.maxband_run.specs.Searched.{cause_of, IsTextOf}
-use Rattle.maxband_run.specs.Run.{Answered, Ends}
-use Rattle.maxband_run.specs.Laws.{IsVerdict, HoldsCertificate, PutsBest, PutsNone, PutsBound, SolveSays, HoldSays, CheckSays, CheckLinksSays, SaysGood, SaysBroken, SaysAccepted, SaysRejected, SaysLinksAccepted, SaysLinksRejected, PutsRenewed, RenewSays}
+use Rattle.maxband_run.specs.Searched.{cause_of}
+use Rattle.maxband_run.specs.Reading.{Reads, Description}
+use Rattle.maxband_run.specs.Sought.{Sought, whole_bands, bands_of_links}
+use Rattle.maxband_run.specs.Run.{Ends}
+use Rattle.maxband_run.specs.Laws.{IsVerdict, PutsBest, PutsNone, PutsBound, SearchSays, SolveSays, LinksSay, HoldSays, CheckSays, CheckLinksSays, SaysGood, SaysBroken, SaysAccepted, SaysRejected, SaysLinksAccepted, SaysLinksRejected, PutsRenewed, RenewSays}
 use Rattle.maxband_run.specs.Status.{number_of}
 use Rattle.maxband_run.specs.declared.cause.Cause.{Cause}
 use Rattle.maxband_run.specs.declared.cause.Cause.TheVariants as cause
@@ -45,16 +49,7 @@ two_is : (c : Cause) → number_of c ≡ 2 → (stop : Stop SitePart) × (c ≡ 
 two_is (cause.Stopped stop) e = (stop, refl)
 two_is c e = absurd cc
 
--- ---- solve
-put_has : (a : Street) (found : Found) (bytes : List ℕ) (held : Option (List ℕ)) (claimed : Claim) → HoldsExactly held bytes → IsTextOf bytes (warrant_of a found) → (warrant_of a found).claim ≡ claimed
-    → HoldsCertificate held claimed found.timing
-put_has a found bytes held claimed h t e = (bytes, h, warrant_of a found, t.read_back, e, refl)
-
--- what a best timing is, by its value
-best_plan : (a : Street) (timing : Option Plan) (bound : ℚ) → IsBest a timing bound → (plan : Plan) × (timing ≡ Some plan) × IsBest a (Some plan) bound
-best_plan a None bound h = absurd h
-best_plan a (Some plan) bound h = (plan, refl, h)
-
+-- ---- a search
 -- of a found answer the verdict that has this cause
 verdict_done : (v : Verdict SitePart) → cause.Done ≡ cause_of v → v ≡ Best
 verdict_done Best e = refl
@@ -68,86 +63,172 @@ verdict_stopped : (stop : Stop SitePart) (v : Verdict SitePart) → cause.Stoppe
 verdict_stopped stop (Stopped other) e = (other, refl)
 verdict_stopped stop v e = absurd cc
 
-module _ (before now : Outside) (artery certificate : List ℕ) (limit : Option ℕ) where
-  found_of : (c : Cause) → IsVerdict c → (h : Completes before now (Some (Solve artery certificate limit)) c)
-      → Answered before.holds before.reads now.reads (Some (Solve artery certificate limit)) c h.0 h.1
-  found_of c v h = verdict_found before.holds before.reads now.reads (Some (Solve artery certificate limit)) c h.0 h.1 v h.2
+-- what a verdict says of the timing and the bound, of any kind of timing
+IsBestOf : (k : Sought) → Street → Option k.Timing → ℚ → Type 0
+IsBestOf k a None bound = ⊥
+IsBestOf k a (Some plan) bound = k.Best a plan × (k.value a plan ≡ bound)
 
-  held_of : (c : Cause) (v : IsVerdict c) (h : Completes before now (Some (Solve artery certificate limit)) c) → HoldsExactly (now.holds certificate) (found_of c v h).finds.0
-  held_of c v h =
-      let f = found_of c v h in
-      (subst (λ (p : Option NamedBytes). IsPut p before.holds now.holds) (f.put_is ∙ ap (put_of (Some certificate)) f.finds.1) h.3.files).0
+ProvesOf : (k : Sought) → Street → Option k.Timing → ℚ → Verdict SitePart → Type 0
+ProvesOf k a timing bound Best = IsBestOf k a timing bound
+ProvesOf k a timing bound NoTiming = (timing ≡ None) × k.NoneGood a
+ProvesOf k a timing bound (Stopped stop) = k.Bounded a bound × IfSome timing (λ plan. k.Good a plan × (k.value a plan ≤ℚ bound))
 
-  puts_best : Completes before now (Some (Solve artery certificate limit)) cause.Done → PutsBest before now artery certificate
+claimed_by : (k : Sought) → Street → Option k.Timing → ℚ → Verdict SitePart → Claim
+claimed_by k a timing bound verdict = claim_by verdict bound (option_map (k.value a) timing)
+
+-- what the text that is put tells of what was found
+record Tells (k : Sought) (a : Street) (c : Cause) (text : List ℕ) : Type 0 where
+  pub verdict : Verdict SitePart
+  pub timing : Option k.Timing
+  pub bound : ℚ
+  pub warrant : WarrantWith k.Timing
+  pub cause_is : c ≡ cause_of verdict
+  pub proves : ProvesOf k a timing bound verdict
+  pub read_back : k.reads text ≡ Ok warrant
+  pub claim_is : warrant.claim ≡ claimed_by k a timing bound verdict
+  pub timing_is : warrant.timing ≡ timing
+
+record HasPut (k : Sought) (before now : Outside) (artery certificate : List ℕ) (c : Cause) : Type 0 where
+  pub street : Street
+  pub description : Reads Description (before.holds artery) street
+  pub text : List ℕ
+  pub held : HoldsExactly (now.holds certificate) text
+  pub tells : Tells k street c text
+
+best_plan : (k : Sought) (a : Street) (timing : Option k.Timing) (bound : ℚ) → IsBestOf k a timing bound → (plan : k.Timing) × (timing ≡ Some plan) × k.Best a plan
+best_plan k a None bound h = absurd h
+best_plan k a (Some plan) bound h = (plan, refl, h.0)
+
+module _ (k : Sought) (before now : Outside) (artery certificate : List ℕ) where
+  puts_best : HasPut k before now artery certificate cause.Done → PutsBest k before now artery certificate
   puts_best h =
-      let f = found_of cause.Done tt h in
-      let a : Street = f.values.0 in
-      let found = f.finds.2.found in
-      let is = verdict_done found.verdict f.finds.2.cause_is in
-      let best = best_plan a found.timing found.bound (subst (λ (v : Verdict SitePart). Proves a found.timing found.bound v) is f.finds.2.searched.proves) in
-      let claimed : (warrant_of a found).claim ≡ claim.Best (weighted_band a best.0) =
-      ap (λ (v : Verdict SitePart). claim_by v found.bound (value_of a found.timing)) is ∙ ap (λ (t : Option Plan). claim_by Best found.bound (value_of a t)) best.1 in
-      record {
-        street = a;
-        plan = best.0;
-        description = f.read.0;
-        best = best.2.0;
-        put = subst (λ (t : Option Plan). HoldsCertificate (now.holds certificate) (claim.Best (weighted_band a best.0)) t) best.1
-            (put_has a found f.finds.0 (now.holds certificate) (claim.Best (weighted_band a best.0)) (held_of cause.Done tt h) f.finds.2.certificate_is claimed);
-      }
+      let a = h.street in
+      let t = h.tells in
+      let is = verdict_done t.verdict t.cause_is in
+      let best = best_plan k a t.timing t.bound (subst (λ (v : Verdict SitePart). ProvesOf k a t.timing t.bound v) is t.proves) in
+      let claimed : t.warrant.claim ≡ claim.Best (k.value a best.0) =
+      t.claim_is ∙ ap (claimed_by k a t.timing t.bound) is ∙ ap (λ (o : Option k.Timing). claimed_by k a o t.bound Best) best.1 in
+      record { street = a; plan = best.0; description = h.description; best = best.2; put = (h.text, h.held, t.warrant, t.read_back, claimed, t.timing_is ∙ best.1) }
 
-  puts_none : Completes before now (Some (Solve artery certificate limit)) cause.NoTiming → PutsNone before now artery certificate
+  puts_none : HasPut k before now artery certificate cause.NoTiming → PutsNone k before now artery certificate
   puts_none h =
-      let f = found_of cause.NoTiming tt h in
-      let a : Street = f.values.0 in
-      let found = f.finds.2.found in
-      let is = verdict_none found.verdict f.finds.2.cause_is in
-      let none = subst (λ (v : Verdict SitePart). Proves a found.timing found.bound v) is f.finds.2.searched.proves in
-      let claimed : (warrant_of a found).claim ≡ claim.NoTiming = ap (λ (v : Verdict SitePart). claim_by v found.bound (value_of a found.timing)) is in
-      record {
-        street = a;
-        description = f.read.0;
-        none = none.1;
-        put = subst (λ (t : Option Plan). HoldsCertificate (now.holds certificate) claim.NoTiming t) none.0
-            (put_has a found f.finds.0 (now.holds certificate) claim.NoTiming (held_of cause.NoTiming tt h) f.finds.2.certificate_is claimed);
-      }
+      let a = h.street in
+      let t = h.tells in
+      let is = verdict_none t.verdict t.cause_is in
+      let none = subst (λ (v : Verdict SitePart). ProvesOf k a t.timing t.bound v) is t.proves in
+      let claimed : t.warrant.claim ≡ claim.NoTiming = t.claim_is ∙ ap (claimed_by k a t.timing t.bound) is in
+      record { street = a; description = h.description; none = none.1; put = (h.text, h.held, t.warrant, t.read_back, claimed, t.timing_is ∙ none.0) }
 
-  puts_bound : (stop : Stop SitePart) → Completes before now (Some (Solve artery certificate limit)) (cause.Stopped stop) → PutsBound before now artery certificate (cause.Stopped stop)
+  puts_bound : (stop : Stop SitePart) → HasPut k before now artery certificate (cause.Stopped stop) → PutsBound k before now artery certificate (cause.Stopped stop)
   puts_bound stop h =
-      let f = found_of (cause.Stopped stop) tt h in
-      let a : Street = f.values.0 in
-      let found = f.finds.2.found in
-      let is = verdict_stopped stop found.verdict f.finds.2.cause_is in
-      let bound = subst (λ (v : Verdict SitePart). Proves a found.timing found.bound v) is.1 f.finds.2.searched.proves in
-      let claimed : (warrant_of a found).claim ≡ claim.Stopped found.bound (value_of a found.timing) = ap (λ (v : Verdict SitePart). claim_by v found.bound (value_of a found.timing)) is.1 in
+      let a = h.street in
+      let t = h.tells in
+      let is = verdict_stopped stop t.verdict t.cause_is in
+      let bound = subst (λ (v : Verdict SitePart). ProvesOf k a t.timing t.bound v) is.1 t.proves in
+      let claimed : t.warrant.claim ≡ claim.Stopped t.bound (option_map (k.value a) t.timing) = t.claim_is ∙ ap (claimed_by k a t.timing t.bound) is.1 in
       record {
         street = a;
-        bound = found.bound;
-        timing = found.timing;
+        bound = t.bound;
+        timing = t.timing;
         stop = stop;
-        description = f.read.0;
+        description = h.description;
         bounded = bound.0;
         good = bound.1;
-        put = put_has a found f.finds.0 (now.holds certificate) (claim.Stopped found.bound (value_of a found.timing)) (held_of (cause.Stopped stop) tt h) f.finds.2.certificate_is claimed;
+        put = (h.text, h.held, t.warrant, t.read_back, claimed, t.timing_is);
         cause_is = refl;
       }
 
-  zero_says : (c : Cause) → c ≡ cause.Done → Ends before now (Some (Solve artery certificate limit)) c → PutsBest before now artery certificate
-  zero_says c e h = puts_best (subst (λ (d : Cause). Ends before now (Some (Solve artery certificate limit)) d) e h)
+module _ (k : Sought) (asks : List ℕ → List ℕ → Option ℕ → Request)
+    (put : (before now : Outside) (artery certificate : List ℕ) (limit : Option ℕ) (c : Cause) → IsVerdict c → Completes before now (Some (asks artery certificate limit)) c → HasPut k before now artery certificate c)
+  where
+    module _ (before now : Outside) (artery certificate : List ℕ) (limit : Option ℕ) where
+      zero_says : (c : Cause) → c ≡ cause.Done → Ends before now (Some (asks artery certificate limit)) c → PutsBest k before now artery certificate
+      zero_says c e h = puts_best k before now artery certificate (put before now artery certificate limit cause.Done tt (subst (λ (d : Cause). Ends before now (Some (asks artery certificate limit)) d) e h))
 
-  one_says : (c : Cause) → c ≡ cause.NoTiming → Ends before now (Some (Solve artery certificate limit)) c → PutsNone before now artery certificate
-  one_says c e h = puts_none (subst (λ (d : Cause). Ends before now (Some (Solve artery certificate limit)) d) e h)
+      one_says : (c : Cause) → c ≡ cause.NoTiming → Ends before now (Some (asks artery certificate limit)) c → PutsNone k before now artery certificate
+      one_says c e h = puts_none k before now artery certificate (put before now artery certificate limit cause.NoTiming tt (subst (λ (d : Cause). Ends before now (Some (asks artery certificate limit)) d) e h))
 
-  two_says : (c : Cause) (stop : Stop SitePart) → c ≡ cause.Stopped stop → Ends before now (Some (Solve artery certificate limit)) c → PutsBound before now artery certificate c
-  two_says c stop e h = subst (λ (d : Cause). PutsBound before now artery certificate d) (sym e)
-      (puts_bound stop (subst (λ (d : Cause). Ends before now (Some (Solve artery certificate limit)) d) e h))
+      two_says : (c : Cause) (stop : Stop SitePart) → c ≡ cause.Stopped stop → Ends before now (Some (asks artery certificate limit)) c → PutsBound k before now artery certificate c
+      two_says c stop e h = subst (λ (d : Cause). PutsBound k before now artery certificate d) (sym e)
+          (puts_bound k before now artery certificate stop (put before now artery certificate limit (cause.Stopped stop) tt (subst (λ (d : Cause). Ends before now (Some (asks artery certificate limit)) d) e h)))
+
+    search_says : SearchSays k asks
+    search_says before now artery certificate limit c h = (
+      (λ e. zero_says before now artery certificate limit c (zero_is c e) h),
+      (λ e. one_says before now artery certificate limit c (one_is c e) h),
+      (λ e. let s = two_is c e in two_says before now artery certificate limit c s.0 s.1 h),
+    )
+
+-- the file that is put holds what was found
+held_of : (before now : Outside) (certificate text : List ℕ) (lines : List ℕ) (put : Option NamedBytes) (bytes : Option (List ℕ))
+    → put ≡ put_of (Some certificate) bytes → bytes ≡ Some text → IsDone before now lines put → HoldsExactly (now.holds certificate) text
+held_of before now certificate text lines put bytes e f h = (subst (λ (p : Option NamedBytes). IsPut p before.holds now.holds) (e ∙ ap (put_of (Some certificate)) f) h.files).0
+
+-- ---- solve
+whole_proves : (a : Street) (timing : Option Plan) (bound : ℚ) (verdict : Verdict SitePart) → Proves a timing bound verdict → ProvesOf whole_bands a timing bound verdict
+whole_proves a None bound Best h = absurd h
+whole_proves a (Some plan) bound Best h = h
+whole_proves a timing bound NoTiming h = h
+whole_proves a timing bound (Stopped stop) h = h
+
+solve_put : (before now : Outside) (artery certificate : List ℕ) (limit : Option ℕ) (c : Cause) → IsVerdict c → Completes before now (Some (Solve artery certificate limit)) c
+    → HasPut whole_bands before now artery certificate c
+solve_put before now artery certificate limit c v h =
+    let f = verdict_found before.holds before.reads now.reads (Some (Solve artery certificate limit)) c h.0 h.1 v h.2 in
+    let s = f.finds.2 in
+    record {
+      street = f.values.0;
+      description = f.read.0;
+      text = f.finds.0;
+      held = held_of before now certificate f.finds.0 h.0 h.1 f.bytes f.put_is f.finds.1 h.3;
+      tells = record {
+        verdict = s.found.verdict;
+        timing = s.found.timing;
+        bound = s.found.bound;
+        warrant = warrant_of f.values.0 s.found;
+        cause_is = s.cause_is;
+        proves = whole_proves f.values.0 s.found.timing s.found.bound s.found.verdict s.searched.proves;
+        read_back = s.certificate_is.read_back;
+        claim_is = refl;
+        timing_is = refl;
+      };
+    }
 
 pub solve_says : SolveSays
-solve_says before now artery certificate limit c h = (
-  (λ e. zero_says before now artery certificate limit c (zero_is c e) h),
-  (λ e. one_says before now artery certificate limit c (one_is c e) h),
-  (λ e. let s = two_is c e in two_says before now artery certificate limit c s.0 s.1 h),
-)
+solve_says = search_says whole_bands Solve solve_put
+
+-- ---- links
+link_proves : (a : Street) (timing : Option LinkPlan) (bound : ℚ) (verdict : Verdict SitePart) → LinksProve a timing bound verdict → ProvesOf bands_of_links a timing bound verdict
+link_proves a None bound Best h = absurd h
+link_proves a (Some plan) bound Best h = h
+link_proves a timing bound NoTiming h = h
+link_proves a timing bound (Stopped stop) h = h
+
+links_put : (before now : Outside) (artery certificate : List ℕ) (limit : Option ℕ) (c : Cause) → IsVerdict c → Completes before now (Some (Links artery certificate limit)) c
+    → HasPut bands_of_links before now artery certificate c
+links_put before now artery certificate limit c v h =
+    let f = verdict_found before.holds before.reads now.reads (Some (Links artery certificate limit)) c h.0 h.1 v h.2 in
+    let s = f.finds.2 in
+    record {
+      street = f.values.0;
+      description = f.read.0;
+      text = f.finds.0;
+      held = held_of before now certificate f.finds.0 h.0 h.1 f.bytes f.put_is f.finds.1 h.3;
+      tells = record {
+        verdict = s.found.verdict;
+        timing = s.found.timing;
+        bound = s.found.bound;
+        warrant = link_warrant_of f.values.0 s.found;
+        cause_is = s.cause_is;
+        proves = link_proves f.values.0 s.found.timing s.found.bound s.found.verdict s.searched.proves;
+        read_back = s.certificate_is.read_back;
+        claim_is = refl;
+        timing_is = refl;
+      };
+    }
+
+pub links_say : LinksSay
+links_say = search_says bands_of_links Links links_put
 
 -- ---- hold
 module _ (rules : FailsRulesOut) (before now : Outside) (artery timing : List ℕ) where
@@ -289,11 +370,11 @@ module _ (before now : Outside) (certificate new : List ℕ) where
   puts_renewed : Completes before now (Some (Renew certificate new)) cause.Done → PutsRenewed before now certificate new
   puts_renewed h =
       let f = verdict_found before.holds before.reads now.reads (Some (Renew certificate new)) cause.Done h.0 h.1 tt h.2 in
-      let held = subst (λ (p : Option NamedBytes). IsPut p before.holds now.holds) (f.put_is ∙ ap (put_of (Some new)) f.finds.1) h.3.files in
+      let held = held_of before now new f.finds.0 h.0 h.1 f.bytes f.put_is f.finds.1 h.3 in
       record {
         warrant = f.values.0;
         text = f.read.0;
-        put = subst (λ (x : List ℕ). HoldsExactly (now.holds new) x) f.finds.2.text_is.written held.0;
+        put = subst (λ (x : List ℕ). HoldsExactly (now.holds new) x) f.finds.2.text_is.written held;
         read_back = subst (λ (x : List ℕ). certificate_of x ≡ Ok f.values.0) f.finds.2.text_is.written f.finds.2.text_is.read_back;
       }
 

@@ -1,13 +1,13 @@
 -- A search without a limit isn't stopped by work.
 use Rattle.std.proofs.Common.{◌≡◌, ℕ, List, Option, Some, None, inl, inr, sym, subst}
-use Rattle.progression.specs.Street.{Street}
 use Rattle.branch_and_bound.specs.declared.found.Verdict.{Verdict}
 use Rattle.branch_and_bound.specs.declared.found.Verdict.TheVariants.{Best, NoTiming, Stopped}
 use Rattle.branch_and_bound.specs.declared.found.Stop.TheVariants.{Work, Wide}
 use Rattle.branch_tree.specs.declared.site.SitePart.{SitePart}
-use Rattle.branch_tree.specs.Enough.{IsWithinEnough}
+use Rattle.branch_tree.specs.Enough.{enough_of, IsWithin}
+use Rattle.multi_band.specs.LinkEnough.{link_enough_of}
 use Rattle.workload_maker.specs.Made.{made_street}
-use Rattle.maxband_run.specs.Command.{Request, Solve, Trial}
+use Rattle.maxband_run.specs.Command.{Request, Solve, Links, Trial}
 use Rattle.maxband_run.specs.Outside.{NamedBytes}
 use Rattle.maxband_run.specs.Reading.{input, IsUnread, Description}
 use Rattle.maxband_run.specs.Searched.{cause_of}
@@ -16,14 +16,14 @@ use Rattle.maxband_run.specs.Laws.{IsUnlimited, EndsOtherThanByWork, AllNeverSto
 use Rattle.maxband_run.specs.declared.cause.Cause.{Cause}
 use Rattle.maxband_run.specs.declared.cause.Cause.TheVariants as cause
 
-verdict_end : (a : Street) (verdict : Verdict SitePart) → IsWithinEnough a None verdict → EndsOtherThanByWork (cause_of verdict)
-verdict_end a Best h = tt
-verdict_end a NoTiming h = tt
-verdict_end a (Stopped (Work units)) h = absurd h
-verdict_end a (Stopped (Wide site)) h = tt
+verdict_end : (enough : ℕ) (verdict : Verdict SitePart) → IsWithin enough None verdict → EndsOtherThanByWork (cause_of verdict)
+verdict_end enough Best h = tt
+verdict_end enough NoTiming h = tt
+verdict_end enough (Stopped (Work units)) h = absurd h
+verdict_end enough (Stopped (Wide site)) h = tt
 
-found_end : (a : Street) (c : Cause) (verdict : Verdict SitePart) → c ≡ cause_of verdict → IsWithinEnough a None verdict → EndsOtherThanByWork c
-found_end a c verdict e h = subst EndsOtherThanByWork (sym e) (verdict_end a verdict h)
+found_end : (enough : ℕ) (c : Cause) (verdict : Verdict SitePart) → c ≡ cause_of verdict → IsWithin enough None verdict → EndsOtherThanByWork c
+found_end enough c verdict e h = subst EndsOtherThanByWork (sym e) (verdict_end enough verdict h)
 
 -- what ends a run at its description
 unread_end : (artery : List ℕ) (held : List ℕ → Option (List ℕ)) (before after : List ℕ → ℕ) (c : Cause) (lines : List ℕ)
@@ -36,9 +36,11 @@ unread_end artery held before after c lines h = absurd h.1.2
 answer_end : (asked : Request) → IsUnlimited asked → (held : List ℕ → Option (List ℕ)) (before after : List ℕ → ℕ) (c : Cause) (lines : List ℕ) (put : Option NamedBytes)
     → Answers held before after (Some asked) c lines put → EndsOtherThanByWork c
 answer_end (Solve artery certificate None) u held before after c lines put (inl h) = elim h.stops [ inl k ↦ unread_end artery held before after c lines k | inr k ↦ absurd k.2 ]
-answer_end (Solve artery certificate None) u held before after c lines put (inr h) = found_end h.values.0 c h.finds.2.found.verdict h.finds.2.cause_is h.finds.2.searched.enough
+answer_end (Solve artery certificate None) u held before after c lines put (inr h) = found_end (enough_of h.values.0) c h.finds.2.found.verdict h.finds.2.cause_is h.finds.2.searched.enough
+answer_end (Links artery certificate None) u held before after c lines put (inl h) = elim h.stops [ inl k ↦ unread_end artery held before after c lines k | inr k ↦ absurd k.2 ]
+answer_end (Links artery certificate None) u held before after c lines put (inr h) = found_end (link_enough_of h.values.0) c h.finds.2.found.verdict h.finds.2.cause_is h.finds.2.searched.enough
 answer_end (Trial signals seed None) u held before after c lines put (inl h) = absurd h.stops
-answer_end (Trial signals seed None) u held before after c lines put (inr h) = found_end (made_street signals seed) c h.finds.found.verdict h.finds.cause_is h.finds.searched.enough
+answer_end (Trial signals seed None) u held before after c lines put (inr h) = found_end (enough_of (made_street signals seed)) c h.finds.found.verdict h.finds.cause_is h.finds.searched.enough
 answer_end asked u held before after c lines put h = absurd u
 
 pub unlimited : AllNeverStopsByWork

@@ -4,7 +4,7 @@ use Rattle.std.specs.Str.{bytes_eq}
 use Rattle.work_meter.specs.Work.{IsBelow}
 use Rattle.maxband_run.specs.Numbers.{signals_of, seed_of, limit_of, usual_work}
 use Rattle.maxband_run.specs.Cycles.{are_cycles, SpellCycles}
-use Rattle.maxband_run.specs.Reading.{Input, input, Description, Timing, Certificate, Links}
+use Rattle.maxband_run.specs.Reading.{Input, input, Description, Timing, Certificate, LinkCertificate}
 use Rattle.maxband_run.specs.declared.command.Command.{Command}
 use Rattle.maxband_run.specs.declared.command.Command.TheVariants as command
 use Rattle.artery_model.specs.Bounds.{least_signals, most_first_signals}
@@ -15,6 +15,7 @@ pub data Request : Type 0 where
   Check : List ℕ → List ℕ → Request  -- the names of a description and of a certificate
   CheckLinks : List ℕ → List ℕ → Request  -- the names of a description and of a certificate of link timings
   Solve : List ℕ → List ℕ → Option ℕ → Request  -- the names of a description and of a certificate, and the units that a search may spend, where there is a limit
+  Links : List ℕ → List ℕ → Option ℕ → Request  -- the same of a search of link timings
   Renew : List ℕ → List ℕ → Request  -- the names of a certificate and of the file for its second text
   Bands : List ℕ → List ℕ → Request  -- the names of a description and of a timing
   Round : List ℕ → List ℕ → List ℕ → Request  -- the names of a description and of a certificate, and of the file for a plan in whole seconds
@@ -29,6 +30,7 @@ view (command.Show artery) = Show artery.now
 view (command.Check artery certificate) = Check artery.now certificate.now
 view (command.CheckLinks artery certificate) = CheckLinks artery.now certificate.now
 view (command.Solve artery certificate limit) = Solve artery.now certificate.now limit
+view (command.Links artery certificate limit) = Links artery.now certificate.now limit
 view (command.Renew certificate new) = Renew certificate.now new.now
 view (command.Bands artery timing) = Bands artery.now timing.now
 view (command.Round artery certificate plan) = Round artery.now certificate.now plan.now
@@ -50,8 +52,9 @@ shape None = record { inputs = []; output = None; chooses = false }
 shape (Some (Hold artery timing)) = record { inputs = input Description artery ∷ input Timing timing ∷ []; output = None; chooses = false }
 shape (Some (Show artery)) = record { inputs = input Description artery ∷ []; output = None; chooses = false }
 shape (Some (Check artery certificate)) = record { inputs = input Description artery ∷ input Certificate certificate ∷ []; output = None; chooses = false }
-shape (Some (CheckLinks artery certificate)) = record { inputs = input Description artery ∷ input Links certificate ∷ []; output = None; chooses = false }
+shape (Some (CheckLinks artery certificate)) = record { inputs = input Description artery ∷ input LinkCertificate certificate ∷ []; output = None; chooses = false }
 shape (Some (Solve artery certificate limit)) = record { inputs = input Description artery ∷ []; output = Some certificate; chooses = true }
+shape (Some (Links artery certificate limit)) = record { inputs = input Description artery ∷ []; output = Some certificate; chooses = true }
 shape (Some (Renew certificate new)) = record { inputs = input Certificate certificate ∷ []; output = Some new; chooses = false }
 shape (Some (Bands artery timing)) = record { inputs = input Description artery ∷ input Timing timing ∷ []; output = None; chooses = false }
 shape (Some (Round artery certificate plan)) = record { inputs = input Description artery ∷ input Certificate certificate ∷ []; output = Some plan; chooses = false }
@@ -63,6 +66,7 @@ shape (Some (Sweep artery table limit cycles)) = record { inputs = input Descrip
 -- a search has work to spend, 2 to 16 signals are made, and each cycle is one
 abbrev pub InLimits : Option Request → Type 0
 InLimits (Some (Solve artery certificate limit)) = IsBelow 0 limit
+InLimits (Some (Links artery certificate limit)) = IsBelow 0 limit
 InLimits (Some (Make signals seed)) = (least_signals ≤ signals) × (signals ≤ most_first_signals)
 InLimits (Some (Trial signals seed limit)) = ((least_signals ≤ signals) × (signals ≤ most_first_signals)) × IsBelow 0 limit
 InLimits (Some (Sweep artery table limit cycles)) = IsBelow 0 limit × SpellCycles cycles
@@ -100,6 +104,7 @@ two_more first second =
     ∷ form (codes "check") (Some (Check first second))
     ∷ form (codes "check-links") (Some (CheckLinks first second))
     ∷ form (codes "solve") (Some (Solve first second (Some usual_work)))
+    ∷ form (codes "links") (Some (Links first second (Some usual_work)))
     ∷ form (codes "renew") (Some (Renew first second))
     ∷ form (codes "bands") (Some (Bands first second))
     ∷ form (codes "make") (make_of first second)
@@ -108,6 +113,7 @@ two_more first second =
 abbrev pub three_more : List ℕ → List ℕ → List ℕ → List Form
 three_more first second third =
     form (codes "solve") (option_map (Solve first second) (limit_of third))
+    ∷ form (codes "links") (option_map (Links first second) (limit_of third))
     ∷ form (codes "round") (Some (Round first second third))
     ∷ form (codes "half") (Some (Half first second third))
     ∷ form (codes "trial") (trial_of first second third)

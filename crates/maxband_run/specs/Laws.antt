@@ -1,5 +1,5 @@
 -- Statements about the definitions of a run, each of which a public call proves.
-use Rattle.std.specs.Prelude.{◌≡◌, ◌≢◌, ◌⊎◌, ℕ, ◌≤◌, Bool, true, false, List, [], ◌∷◌, length, Option, Some, None, Ok, IsSome, IfSome}
+use Rattle.std.specs.Prelude.{◌≡◌, ◌≢◌, ◌⊎◌, ℕ, ◌≤◌, Bool, true, false, List, [], ◌∷◌, length, Option, Some, None, Ok, IsSome, IfSome, option_map}
 use Rattle.rational_theory.specs.Rational.{ℚ, ◌≤ℚ◌}
 use Rattle.outer_edge.specs.Counts.{Rose, SameCounts}
 use Rattle.outer_edge.specs.Held.{HoldsExactly}
@@ -7,10 +7,10 @@ use Rattle.outer_edge.specs.Taken.{Appends}
 use Rattle.progression.specs.Street.{Street}
 use Rattle.progression.specs.Plan.{Plan}
 use Rattle.progression.specs.Good.{Good}
-use Rattle.progression.specs.Best.{Best, NoTiming, Bounded, weighted_band}
+use Rattle.progression.specs.Best.{weighted_band}
 use Rattle.time_space.specs.Failing.{Fails}
 use Rattle.time_space.specs.declared.failing.Failing.{Failing}
-use Rattle.plan_text.specs.Warrants.{Warrant}
+use Rattle.plan_text.specs.Warrants.{WarrantWith, Warrant}
 use Rattle.plan_text.specs.SecondText.{second_text}
 use Rattle.plan_text.specs.Spelling.{timing_text}
 use Rattle.plan_text.specs.Reading.{timing_of}
@@ -29,13 +29,14 @@ use Rattle.link_proof.specs.declared.reject.LinkReject.{LinkReject}
 use Rattle.branch_and_bound.specs.declared.found.Stop.{Stop}
 use Rattle.branch_and_bound.specs.declared.found.Stop.TheVariants.{Wide}
 use Rattle.branch_tree.specs.declared.site.SitePart.{SitePart}
-use Rattle.branch_tree.specs.Certified.{value_of, warrant_of}
+use Rattle.branch_tree.specs.Certified.{warrant_of}
 use Rattle.maxband_run.specs.CheckLines.{accepted_line}
 use Rattle.maxband_run.specs.Lines.{holds_lines}
 use Rattle.maxband_run.specs.Outside.{Outside, NamedBytes}
-use Rattle.maxband_run.specs.Command.{Request, Hold, Check, CheckLinks, Solve, Renew, Round, Make, Trial, Sweep, shape}
-use Rattle.maxband_run.specs.Reading.{Input, most_bytes, Reads, AreTold, Description, Timing, Certificate, Links}
+use Rattle.maxband_run.specs.Command.{Request, Hold, Check, CheckLinks, Solve, Links, Renew, Round, Make, Trial, Sweep, shape}
+use Rattle.maxband_run.specs.Reading.{Input, most_bytes, Reads, AreTold, Description, Timing, Certificate, LinkCertificate}
 use Rattle.maxband_run.specs.Solve.{IsSolution}
+use Rattle.maxband_run.specs.Sought.{Sought, whole_bands, bands_of_links}
 use Rattle.maxband_run.specs.Run.{Answers, Ends}
 use Rattle.maxband_run.specs.Status.{number_of}
 use Rattle.maxband_run.specs.declared.cause.Cause.{Cause}
@@ -69,7 +70,7 @@ Agree false inputs c x d y = (c ≡ d) × (x ≡ y)
 Agree true [] c x d y = IsVerdict c × IsVerdict d
 Agree true (i ∷ is) c x d y = ((c ≡ d) × (x ≡ y)) ⊎ (IsVerdict c × IsVerdict d)
 
--- What files that tell their bytes hold, and the words, leave one answer: so each status but 0, 1 and 2 of `solve` and `trial`, that of a fault and that of want of
+-- What files that tell their bytes hold, and the words, leave one answer: so each status but 0, 1 and 2 of `solve`, `links` and `trial`, that of a fault and that of want of
 -- memory comes exactly by its cause.
 abbrev pub OneAnswer : Type 0
 OneAnswer = (held : List ℕ → Option (List ℕ)) (before after : List ℕ → ℕ) (asked : Option Request) (c d : Cause) (x y : List ℕ) (p q : Option NamedBytes)
@@ -84,13 +85,19 @@ FaultsAreTold = (before now : Outside) (asked : Option Request) (c : Cause)
     → SameCounts before.reads now.reads × SameCounts before.puts now.puts × (now.writes ≡ before.writes)
 
 -- ---- whole runs
--- Where the file tells bytes that describe an artery, and no read of it, no put of the certificate and no write failed, `solve` ends with a verdict or by
--- want of memory.
-abbrev pub SolveIsComplete : Type 0
-SolveIsComplete = (before now : Outside) (artery certificate : List ℕ) (limit : Option ℕ) (a : Street) (c : Cause)
+-- Where the file tells bytes that describe an artery, and no read of it, no put of the certificate and no write failed, a search that is asked for so ends with a
+-- verdict or by want of memory.
+abbrev pub SearchIsComplete : (List ℕ → List ℕ → Option ℕ → Request) → Type 0
+SearchIsComplete asks = (before now : Outside) (artery certificate : List ℕ) (limit : Option ℕ) (a : Street) (c : Cause)
     → IsSome (before.holds artery) → Reads Description (before.holds artery) a
     → ¬ Rose (before.reads artery) (now.reads artery) → ¬ Rose (before.puts certificate) (now.puts certificate) → ¬ Rose before.writes now.writes
-    → Ends before now (Some (Solve artery certificate limit)) c → IsVerdict c ⊎ (c ≡ cause.Memory)
+    → Ends before now (Some (asks artery certificate limit)) c → IsVerdict c ⊎ (c ≡ cause.Memory)
+
+abbrev pub SolveIsComplete : Type 0
+SolveIsComplete = SearchIsComplete Solve
+
+abbrev pub LinksAreComplete : Type 0
+LinksAreComplete = SearchIsComplete Links
 
 -- Where no write failed, `make` is done or ends by want of memory.
 abbrev pub MakeIsComplete : Type 0
@@ -118,6 +125,7 @@ RenewIsComplete = (before now : Outside) (certificate new : List ℕ) (w : Warra
 -- a search without a limit
 abbrev pub IsUnlimited : Request → Type 0
 IsUnlimited (Solve artery certificate None) = Unit {0}
+IsUnlimited (Links artery certificate None) = Unit {0}
 IsUnlimited (Trial signals seed None) = Unit {0}
 IsUnlimited _ = ⊥
 
@@ -160,43 +168,50 @@ PutIsAccepted = (before between now : Outside) (artery certificate : List ℕ) (
 
 -- ---- what the numbers of the statuses say of the model
 -- the file holds, where it is told, a text that is read as a certificate with this claim and this timing
-abbrev pub HoldsCertificate : Option (List ℕ) → Claim → Option Plan → Type 0
-HoldsCertificate held claimed timing =
-    (text : List ℕ) × HoldsExactly held text × (w : Warrant) × (certificate_of text ≡ Ok w) × (w.claim ≡ claimed) × (w.timing ≡ timing)
+abbrev pub HoldsCertificate : (k : Sought) → Option (List ℕ) → Claim → Option k.Timing → Type 0
+HoldsCertificate k held claimed timing =
+    (text : List ℕ) × HoldsExactly held text × (w : WarrantWith k.Timing) × (k.reads text ≡ Ok w) × (w.claim ≡ claimed) × (w.timing ≡ timing)
 
--- `solve` with status 0: this timing is best on the described artery, and the file that is put has it, with its weighted band
-pub record PutsBest (before now : Outside) (artery certificate : List ℕ) : Type 0 where
+-- A search with status 0: this timing is best on the described artery, and the file that is put has it, with its value.
+pub record PutsBest (k : Sought) (before now : Outside) (artery certificate : List ℕ) : Type 0 where
   pub street : Street
-  pub plan : Plan
+  pub plan : k.Timing
   pub description : Reads Description (before.holds artery) street
-  pub best : Best street plan
-  pub put : HoldsCertificate (now.holds certificate) (claim.Best (weighted_band street plan)) (Some plan)
+  pub best : k.Best street plan
+  pub put : HoldsCertificate k (now.holds certificate) (claim.Best (k.value street plan)) (Some plan)
 
--- `solve` with status 1: no timing is good on the described artery, and the file that is put claims it
-pub record PutsNone (before now : Outside) (artery certificate : List ℕ) : Type 0 where
+-- With status 1: no timing is good on the described artery, and the file that is put claims it.
+pub record PutsNone (k : Sought) (before now : Outside) (artery certificate : List ℕ) : Type 0 where
   pub street : Street
   pub description : Reads Description (before.holds artery) street
-  pub none : NoTiming street
-  pub put : HoldsCertificate (now.holds certificate) claim.NoTiming None
+  pub none : k.NoneGood street
+  pub put : HoldsCertificate k (now.holds certificate) claim.NoTiming None
 
--- `solve` with status 2: no good timing of the described artery has a weighted band above the bound, a timing that stands is good and no better than that, the file
--- that is put has both, and the cause is why the search stopped
-pub record PutsBound (before now : Outside) (artery certificate : List ℕ) (c : Cause) : Type 0 where
+-- With status 2: no good timing of the described artery has a value above the bound, a timing that stands is good and no better than that, the file that is put has
+-- both, and the cause is why the search stopped.
+pub record PutsBound (k : Sought) (before now : Outside) (artery certificate : List ℕ) (c : Cause) : Type 0 where
   pub street : Street
   pub bound : ℚ
-  pub timing : Option Plan
+  pub timing : Option k.Timing
   pub stop : Stop SitePart
   pub description : Reads Description (before.holds artery) street
-  pub bounded : Bounded street bound
-  pub good : IfSome timing (λ plan. Good street plan × (weighted_band street plan ≤ℚ bound))
-  pub put : HoldsCertificate (now.holds certificate) (claim.Stopped bound (value_of street timing)) timing
+  pub bounded : k.Bounded street bound
+  pub good : IfSome timing (λ plan. k.Good street plan × (k.value street plan ≤ℚ bound))
+  pub put : HoldsCertificate k (now.holds certificate) (claim.Stopped bound (option_map (k.value street) timing)) timing
   pub cause_is : c ≡ cause.Stopped stop
 
+-- what the statuses of a command say that is asked for so and searches for this
+abbrev pub SearchSays : Sought → (List ℕ → List ℕ → Option ℕ → Request) → Type 0
+SearchSays k asks = (before now : Outside) (artery certificate : List ℕ) (limit : Option ℕ) (c : Cause) → Ends before now (Some (asks artery certificate limit)) c
+    → (number_of c ≡ 0 → PutsBest k before now artery certificate)
+    × (number_of c ≡ 1 → PutsNone k before now artery certificate)
+    × (number_of c ≡ 2 → PutsBound k before now artery certificate c)
+
 abbrev pub SolveSays : Type 0
-SolveSays = (before now : Outside) (artery certificate : List ℕ) (limit : Option ℕ) (c : Cause) → Ends before now (Some (Solve artery certificate limit)) c
-    → (number_of c ≡ 0 → PutsBest before now artery certificate)
-    × (number_of c ≡ 1 → PutsNone before now artery certificate)
-    × (number_of c ≡ 2 → PutsBound before now artery certificate c)
+SolveSays = SearchSays whole_bands Solve
+
+abbrev pub LinksSay : Type 0
+LinksSay = SearchSays bands_of_links Links
 
 -- `hold` with status 0: the timing of the second file is good on the artery of the first, and its weighted band is printed
 pub record SaysGood (before now : Outside) (artery timing : List ℕ) : Type 0 where
@@ -251,7 +266,7 @@ pub record SaysLinksAccepted (before now : Outside) (artery certificate : List �
   pub street : Street
   pub warrant : LinkWarrant
   pub description : Reads Description (before.holds artery) street
-  pub text : Reads Links (before.holds certificate) warrant
+  pub text : Reads LinkCertificate (before.holds certificate) warrant
   pub proves : LinkClaimHolds street warrant.claim warrant.timing
   pub told : Appends before.taken now.taken (accepted_line warrant.claim)
 
@@ -261,7 +276,7 @@ pub record SaysLinksRejected (before : Outside) (artery certificate : List ℕ) 
   pub warrant : LinkWarrant
   pub reject : LinkReject
   pub description : Reads Description (before.holds artery) street
-  pub text : Reads Links (before.holds certificate) warrant
+  pub text : Reads LinkCertificate (before.holds certificate) warrant
   pub first : IsFirstLinkRefusal street warrant reject
   pub not_accepted : ¬ IsLinkAccepted street warrant
   pub cause_is : c ≡ cause.LinkRejected reject

@@ -12,6 +12,7 @@ pub mod Check
 pub mod CheckLinks
 pub mod Searched
 pub mod Solve
+pub mod Links
 pub mod Renew
 pub mod Bands
 pub mod Round
@@ -20,4 +21,5 @@ pub mod Make
 pub mod Trial
 pub mod Sweep
 pub mod Run
+pub mod Sought
 pub mod Laws

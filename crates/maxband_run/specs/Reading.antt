@@ -23,7 +23,7 @@ pub data Reader : Type 0 where
   Description : Reader
   Timing : Reader
   Certificate : Reader
-  Links : Reader  -- a certificate of link timings
+  LinkCertificate : Reader  -- a certificate of link timings
 
 -- what a file is read as, the most bytes of such a file, which value the bytes are read as, and for which cause and with which line they are refused
 pub record Row : Type 1 where
@@ -48,7 +48,7 @@ abbrev pub row : Reader → Row
 row Description = record { Value = Street; most_bytes = 1048576; IsReadAs = Described; IsRefusedFor = IsNoDescription }
 row Timing = text_row Plan 1048576 timing_of
 row Certificate = text_row Warrant 268435456 certificate_of
-row Links = text_row LinkWarrant 268435456 links_of
+row LinkCertificate = text_row LinkWarrant 268435456 links_of
 
 abbrev pub Value : Reader → Type 0
 Value r = (row r).Value

@@ -4,7 +4,7 @@ use Rattle.narrow_fraction.specs.declared.memory.Memory.{Memory}
 use Rattle.outer_edge.specs.Counts.{SameCounts}
 use Rattle.outer_edge.specs.declared.files.Files.{Ghosts}
 use Rattle.maxband_run.specs.Outside.{Outside, NamedBytes, With, put_of, view, IsDone, IsUntouched, IsBroken}
-use Rattle.maxband_run.specs.Command.{Request, Hold, Show, Check, CheckLinks, Solve, Renew, Bands, Round, Half, Make, Trial, Sweep, shape}
+use Rattle.maxband_run.specs.Command.{Request, Hold, Show, Check, CheckLinks, Solve, Links, Renew, Bands, Round, Half, Make, Trial, Sweep, shape}
 use Rattle.maxband_run.specs.Reading.{Input, Values, AreRead, StopsReading}
 use Rattle.maxband_run.specs.Lines.{words_line}
 use Rattle.maxband_run.specs.Hold.{HoldFinds}
@@ -12,6 +12,7 @@ use Rattle.maxband_run.specs.Show.{Shows}
 use Rattle.maxband_run.specs.Check.{CheckFinds}
 use Rattle.maxband_run.specs.CheckLinks.{CheckLinksFinds}
 use Rattle.maxband_run.specs.Solve.{IsSolution}
+use Rattle.maxband_run.specs.Links.{IsLinkSolution}
 use Rattle.maxband_run.specs.Renew.{IsRenewal}
 use Rattle.maxband_run.specs.Bands.{BandsFinds}
 use Rattle.maxband_run.specs.Round.{RoundFinds}
@@ -31,6 +32,7 @@ Finds (Some (Show artery)) v c lines put = Shows v.0 c lines
 Finds (Some (Check artery certificate)) v c lines put = CheckFinds v.0 v.1.0 c lines
 Finds (Some (CheckLinks artery certificate)) v c lines put = CheckLinksFinds v.0 v.1.0 c lines
 Finds (Some (Solve artery certificate limit)) v c lines put = With (IsSolution v.0 limit c lines) put
+Finds (Some (Links artery certificate limit)) v c lines put = With (IsLinkSolution v.0 limit c lines) put
 Finds (Some (Renew certificate new)) v c lines put = With (IsRenewal v.0 c lines) put
 Finds (Some (Bands artery timing)) v c lines put = BandsFinds v.0 v.1.0 c lines
 Finds (Some (Round artery certificate plan)) v c lines put = RoundFinds v.0 v.1.0 c lines put

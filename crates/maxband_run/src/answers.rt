@@ -16,6 +16,7 @@ use crate::half::half_cycle;
 use crate::hold::hold;
 use crate::inputs::{read_both, read_one};
 use crate::lines::words_line;
+use crate::links::links;
 use crate::make::make;
 use crate::renew::renew;
 use crate::round::round;
@@ -111,6 +112,12 @@ pub fn answer_to<'a, F: Files>(
         Some(Command::CheckLinks(artery, certificate)) => {
             match read_both(alloc, files, artery, certificate) {
                 Ok((street, warrant)) => check_links(alloc, &street, &warrant),
+                Err(end) => end,
+            }
+        }
+        Some(Command::Links(artery, certificate, limit)) => {
+            match read_one(alloc, files, artery, 1) {
+                Ok(street) => links(alloc, &street, certificate, limit),
                 Err(end) => end,
             }
         }

@@ -2,7 +2,7 @@
 
 ghost use Rattle.std.specs.Prelude.{◌≡◌, length, map, option_map, string_bytes};
 ghost use Rattle.maxband_run.specs.Numbers.{limit_of};
-ghost use Rattle.maxband_run.specs.Command.{Solve, request_of, make_of, trial_of, sweep_of, form_of, one_more, two_more, three_more, any_more, view, shape};
+ghost use Rattle.maxband_run.specs.Command.{Solve, Links, request_of, make_of, trial_of, sweep_of, form_of, one_more, two_more, three_more, any_more, view, shape};
 ghost use Rattle.maxband_run.specs.Lines.{cannot_read_line};
 ghost use Rattle.maxband_run.specs.Reading.{IsRoomForFaults};
 
@@ -23,6 +23,8 @@ pub enum Command<'a> {
     /// Search for a best timing of the artery of the first file, within a limit of the units of work where there is one, and put
     /// the certificate in the second.
     Solve(&'a str, &'a str, Option<u64>),
+    /// Search for a best link timing of the artery of the first file, within such a limit, and put the certificate in the second.
+    Links(&'a str, &'a str, Option<u64>),
     /// Put the certificate of the first file, in whichever format it is, into the second in the second format.
     Renew(&'a str, &'a str),
     /// Measure the widest bands on the offsets of the timing of the second file, on the artery of the first.
@@ -58,6 +60,14 @@ fn solve_of<'a>(artery: &'a str, certificate: &'a str, limit: &str) -> Option<Co
 {
     let limit = limit_in(limit)?;
     Some(Command::Solve(artery, certificate, limit))
+}
+
+/// The command `links` with these words.
+fn links_of<'a>(artery: &'a str, certificate: &'a str, limit: &str) -> Option<Command<'a>>
+    ensures { option_map view result ≡ option_map (Links artery.now certificate.now) (limit_of limit.now) }
+{
+    let limit = limit_in(limit)?;
+    Some(Command::Links(artery, certificate, limit))
 }
 
 /// The command `make` with these words.
@@ -102,6 +112,7 @@ fn with_two<'a>(word: &str, first: &'a str, second: &'a str) -> Option<Command<'
         "check" => Some(Command::Check(first, second)),
         "check-links" => Some(Command::CheckLinks(first, second)),
         "solve" => Some(Command::Solve(first, second, Some(USUAL_WORK))),
+        "links" => Some(Command::Links(first, second, Some(USUAL_WORK))),
         "renew" => Some(Command::Renew(first, second)),
         "bands" => Some(Command::Bands(first, second)),
         "make" => make_of(first, second),
@@ -120,6 +131,7 @@ fn with_three<'a>(
 {
     match word {
         "solve" => solve_of(first, second, third),
+        "links" => links_of(first, second, third),
         "round" => Some(Command::Round(first, second, third)),
         "half" => Some(Command::Half(first, second, third)),
         "trial" => trial_of(first, second, third),
@@ -203,6 +215,7 @@ pub fn room_for_faults(command: Option<Command<'_>>) -> u64
         Some(
             Command::Show(first)
             | Command::Solve(first, ..)
+            | Command::Links(first, ..)
             | Command::Renew(first, _)
             | Command::Sweep { artery: first, .. },
         ) => fault_bytes(first),

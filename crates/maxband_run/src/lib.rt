@@ -1,5 +1,5 @@
-//! The run of the program `maxband`: it finds best timings of the signals of one artery (`solve`), with certificates of what
-//! is claimed of all its good timings (`check`), tests timings against its time-space diagram (`hold`), writes the canonical
+//! The run of the program `maxband`: it finds best timings of the signals of one artery (`solve`), or best ones with a band for
+//! each link (`links`), with certificates of what is claimed of all its good timings (`check`, `check-links`), tests timings against its time-space diagram (`hold`), writes the canonical
 //! description of an artery (`show`), writes certificates in the second format (`renew`), and makes arteries from a seed, to be described (`make`) or searched (`trial`).
 //!
 //! Start with `run`, which is the program over any files and any output. Its contract is the program's theorem: each status
@@ -20,6 +20,7 @@ mod half;
 mod hold;
 mod inputs;
 mod lines;
+mod links;
 mod make;
 mod numbers;
 mod readable;
@@ -35,7 +36,7 @@ mod trial;
 pub use cause::{Cause, Status};
 pub use top::{
     law_all_never_stops_by_work, law_check_links_says, law_check_says, law_faults_are_told,
-    law_hold_says, law_make_is_complete, law_one_answer, law_plan_is_held, law_put_is_accepted,
-    law_renew_is_complete, law_renew_says, law_round_says, law_solve_is_complete, law_solve_says,
-    law_sweep_is_complete, law_trial_is_complete, run,
+    law_hold_says, law_links_are_complete, law_links_say, law_make_is_complete, law_one_answer,
+    law_plan_is_held, law_put_is_accepted, law_renew_is_complete, law_renew_says, law_round_says,
+    law_solve_is_complete, law_solve_says, law_sweep_is_complete, law_trial_is_complete, run,
 };

@@ -117,7 +117,7 @@ impl Readable for Certificate {
 }
 
 impl Readable for LinkCertificate {
-    ghost reader = { Reader.Links };
+    ghost reader = { Reader.LinkCertificate };
 
     ghost value = { λ w. w };
 

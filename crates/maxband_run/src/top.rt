@@ -6,7 +6,7 @@ ghost use Rattle.maxband_run.specs.Status.{number_of};
 ghost use Rattle.maxband_run.specs.Command.{request_of, shape};
 ghost use Rattle.maxband_run.specs.Outside.{outside, OthersKept, PutsCounted};
 ghost use Rattle.maxband_run.specs.Run.{Ends, LeavesAlone};
-ghost use Rattle.maxband_run.specs.Laws.{OneAnswer, FaultsAreTold, SolveIsComplete, MakeIsComplete, TrialIsComplete, SweepIsComplete, RenewIsComplete, PutIsAccepted, AllNeverStopsByWork, SolveSays, HoldSays, CheckSays, CheckLinksSays, RenewSays, RoundSays, PlanIsHeld};
+ghost use Rattle.maxband_run.specs.Laws.{OneAnswer, FaultsAreTold, SolveIsComplete, LinksAreComplete, MakeIsComplete, TrialIsComplete, SweepIsComplete, RenewIsComplete, PutIsAccepted, AllNeverStopsByWork, SolveSays, LinksSay, HoldSays, CheckSays, CheckLinksSays, RenewSays, RoundSays, PlanIsHeld};
 
 use crate::answers::answer_to;
 use crate::cause::{Cause, Status};
@@ -30,7 +30,7 @@ fn status(cause: Cause) -> Status
 ///
 /// The status has its cause: what the bytes of the files are, which are those that they held at entry where they tell them, what
 /// is made from a seed, or which failed call was counted. The output grew by exactly that answer's lines, and no file changed but
-/// that `solve` put the text of its certificate, which is read back as the very certificate that was accepted, `renew` that of the
+/// that `solve` or `links` put the text of its certificate, which is read back as the very certificate that was accepted, `renew` that of the
 /// certificate that it read, or `sweep` its table. What a command
 /// reads and puts is a table, `shape`. Each call that failed and was counted is told by the status: after any other no count has
 /// changed. After `Memory` no file changed and nothing was written; after `WriteFault` either the put failed and nothing was
@@ -90,6 +90,14 @@ pub fn law_solve_is_complete()
     description_reader::law_one_answer();
 }
 
+/// A law over the definitions: where the description of `links` is one of an artery and no fault is counted, the run ends with a
+/// verdict or by want of memory.
+pub fn law_links_are_complete()
+    ensures { LinksAreComplete }
+{
+    description_reader::law_one_answer();
+}
+
 /// A law over the definitions: where no failed write is counted, `make` is done or ends by want of memory.
 pub fn law_make_is_complete()
     ensures { MakeIsComplete }
@@ -100,9 +108,9 @@ pub fn law_trial_is_complete()
     ensures { TrialIsComplete }
 {}
 
-/// A law over the definitions: where the words say `all`, the search isn't stopped by work: `solve` and `trial` then end with a best
-/// timing, with none, at a named number that left 128 bits, by a counted fault or by want of memory, and `solve` also where its
-/// description is none of an artery.
+/// A law over the definitions: where the words say `all`, the search isn't stopped by work: `solve`, `links` and `trial` then end with a
+/// best timing, with none, at a named number that left 128 bits, by a counted fault or by want of memory, and the first two also where
+/// their description is none of an artery.
 pub fn law_all_never_stops_by_work()
     ensures { AllNeverStopsByWork }
 {}
@@ -140,6 +148,12 @@ pub fn law_faults_are_told()
 /// none is good, and after 2 none is above the bound that the file has, and the cause is why the search stopped.
 pub fn law_solve_says()
     ensures { SolveSays }
+{}
+
+/// A law over the definitions: after status 0 of `links` the file that it put has a best link timing of the described artery, after 1
+/// none is good, and after 2 none has a value above the bound that the file has, and the cause is why the search stopped.
+pub fn law_links_say()
+    ensures { LinksSay }
 {}
 
 /// A law over the definitions: after status 0 of `hold` the timing is good and its weighted band was printed, and after 4 the rule

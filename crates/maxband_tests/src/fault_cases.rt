@@ -1,5 +1,6 @@
 //! Runs of which a read, a put or a write fails.
 
+use crate::link_cases;
 use crate::running::Fault;
 use crate::running::Wanted::{Absent, Front, Text, Whole};
 use crate::texts::SECOND_BEST;
@@ -9,6 +10,10 @@ const HOLD: &[&str] = &["hold", "a.toml", "b.txt"];
 const CHECK: &[&str] = &["check", "near.toml", "best.txt"];
 
 const SOLVE: &[&str] = &["solve", "a.toml", "new.txt"];
+
+const LINKS: &[&str] = &["links", "a.toml", "new.txt"];
+
+const CHECK_LINKS: &[&str] = &["check-links", "a.toml", "links.txt"];
 
 const RENEW: &[&str] = &["renew", "best.txt", "new.txt"];
 
@@ -160,6 +165,78 @@ pub const FAULTS: &[Fault] = &[
         number: 7,
         written: b"verdict best\nwei",
         kept: Front(b"maxband-certificate 2\nverdict best\n"),
+    },
+    Fault {
+        name: "links, description",
+        words: LINKS,
+        fail_files: &[1],
+        fail_writes: &[],
+        number: 6,
+        written: b"cannot read a.toml\n",
+        kept: Absent,
+    },
+    Fault {
+        name: "links, absent description",
+        words: &["links", "absent.toml", "new.txt"],
+        fail_files: &[],
+        fail_writes: &[],
+        number: 6,
+        written: b"cannot read absent.toml\n",
+        kept: Absent,
+    },
+    Fault {
+        name: "links, put",
+        words: LINKS,
+        fail_files: &[3],
+        fail_writes: &[],
+        number: 7,
+        written: b"",
+        kept: Absent,
+    },
+    Fault {
+        name: "links, second write",
+        words: LINKS,
+        fail_files: &[],
+        fail_writes: &[2],
+        number: 7,
+        written: b"verdict best\nwei",
+        kept: Text(link_cases::BEST),
+    },
+    Fault {
+        name: "check-links without a fault",
+        words: CHECK_LINKS,
+        fail_files: &[],
+        fail_writes: &[],
+        number: 0,
+        written: b"accepted best 1\n",
+        kept: Absent,
+    },
+    Fault {
+        name: "check-links, first file",
+        words: CHECK_LINKS,
+        fail_files: &[1],
+        fail_writes: &[],
+        number: 6,
+        written: b"cannot read a.toml\n",
+        kept: Absent,
+    },
+    Fault {
+        name: "check-links, second file",
+        words: CHECK_LINKS,
+        fail_files: &[3],
+        fail_writes: &[],
+        number: 6,
+        written: b"cannot read links.txt\n",
+        kept: Absent,
+    },
+    Fault {
+        name: "check-links, write",
+        words: CHECK_LINKS,
+        fail_files: &[],
+        fail_writes: &[1],
+        number: 7,
+        written: b"",
+        kept: Absent,
     },
     Fault {
         name: "renew without a fault",

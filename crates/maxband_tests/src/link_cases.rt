@@ -1,7 +1,9 @@
-//! Certificates of links that `check-links` reads. The expected lines are those of a second program that looks at every tick and adds the
-//! rows up by itself, or were worked by hand.
+//! Searches by `links`, and certificates of links that `check-links` reads. The expected lines and certificates are those of a second
+//! program that searches, looks at every tick and adds the rows up by itself, or were worked by hand.
 
-use crate::running::{Case, Table};
+use crate::running::Wanted::{Absent, Text, Whole};
+use crate::running::{Case, Search, SearchTable, Table, Wanted};
+use crate::solve_cases::THREE;
 use crate::texts::{ARTERY, NEAR};
 
 const CHECK_LINKS: &[&str] = &["check-links", "a.toml", "b.txt"];
@@ -10,7 +12,7 @@ const CHECK: &[&str] = &["check", "a.toml", "b.txt"];
 
 /// Both bands of the one link take the whole green of both signals: half of 100 ticks to either side of each line. No value is
 /// above 1, since each half and its wait at signal 1 fit into the green there, and the half is at most the wait.
-const BEST: &str = "maxband-links 1
+pub const BEST: &str = "maxband-links 1
 verdict best
 value 1
 grid 2
@@ -195,7 +197,7 @@ loop_hi 1 1
 end
 ";
 
-static OF_NONE: [Case; 2] = [
+static OF_NONE: [Case; 3] = [
     (
         "reds too long",
         &[(9, b"red = 80"), (13, b"red = 80")],
@@ -209,6 +211,16 @@ static OF_NONE: [Case; 2] = [
         &[(6, b"loop_hi 1 1/2")],
         4,
         b"rejected weak leaf 1 w_out 1\n",
+    ),
+    (
+        "a sum past 128 bits",
+        &[(9, b"red = 80"), (13, b"red = 80")],
+        &[(
+            4,
+            b"leaf 3\ncycle_low 1/85070591730234615865843651857942052864",
+        )],
+        4,
+        b"rejected wide leaf 1 cycle_low bound\n",
     ),
 ];
 
@@ -227,6 +239,171 @@ static ORDINARY: [Case; 1] = [(
     3,
     b"refused BadText line 1 Shape\n",
 )];
+
+/// What `links` prints of the two signals: the one link has all the green in each direction.
+const REPORT: &str = "verdict best
+weighted 1 = 1.000000
+link 1 band out 1/2 = 0.500000
+link 1 band in 1/2 = 0.500000
+cycle 100 = 100.000
+signal 1 pattern 1 offset 0 = 0.000 A
+signal 2 pattern 1 offset 50 = 50.000 B
+link 1 out 36 = 36.000
+link 1 in 36 = 36.000
+";
+
+/// The root before any step: no half is more than the green of signal 1.
+const OPEN: &str = "maxband-links 1
+verdict open
+bound 2
+no timing
+tree
+leaf 2
+far_out_a 1 2
+far_in_a 1 2
+end
+";
+
+/// Three signals, of which the last is red for 80 parts: the first link has the whole greens, and the second what signal 3 leaves.
+const OF_THREE: &str = "verdict best
+weighted 7/5 = 1.400000
+link 1 band out 1/2 = 0.500000
+link 1 band in 1/2 = 0.500000
+link 2 band out 1/5 = 0.200000
+link 2 band in 1/5 = 0.200000
+cycle 100 = 100.000
+signal 1 pattern 1 offset 0 = 0.000 A
+signal 2 pattern 1 offset 50 = 50.000 B
+signal 3 pattern 1 offset 85 = 85.000 C
+link 1 out 36 = 36.000
+link 1 in 36 = 36.000
+link 2 out 36 = 36.000
+link 2 in 36 = 36.000
+";
+
+const BEST_OF_THREE: &str = "maxband-links 1
+verdict best
+value 7/5
+grid 2
+unit 2
+pattern 1 1 1
+red 0 100 170
+run_out 100 100
+run_in 100 100
+first 150 150
+half_out 50 20
+half_in 50 20
+tree
+leaf 9
+slow_out 2 2
+slow_in 2 2
+cycle_high 200
+loop_lo 2 2
+turn_hi 2 2
+near_out_b 2 2
+far_out_b 1 2
+near_in_b 2 2
+far_in_b 1 2
+end
+";
+
+const FAR: &[Search] = &[
+    (
+        "by the usual limit",
+        &[],
+        "",
+        0,
+        Text(REPORT),
+        Text(BEST),
+        Whole(b"accepted best 1\n"),
+    ),
+    (
+        "without a limit",
+        &[],
+        "all",
+        0,
+        Text(REPORT),
+        Text(BEST),
+        Whole(b"accepted best 1\n"),
+    ),
+    (
+        "all units that it takes",
+        &[],
+        "8",
+        0,
+        Text(REPORT),
+        Text(BEST),
+        Whole(b"accepted best 1\n"),
+    ),
+    (
+        "a unit too few",
+        &[],
+        "7",
+        2,
+        Whole(b"verdict open\nstopped work 7\nbound 2\nno timing\n"),
+        Text(OPEN),
+        Whole(b"accepted open bound 2\n"),
+    ),
+    (
+        "one unit",
+        &[],
+        "1",
+        2,
+        Whole(b"verdict open\nstopped work 1\nbound 2\nno timing\n"),
+        Text(OPEN),
+        Whole(b"accepted open bound 2\n"),
+    ),
+    (
+        "red of a half",
+        &[(9, b"red = 47.5")],
+        "",
+        3,
+        Whole(b"refused WrongType signal[1].red\n"),
+        Absent,
+        Whole(b"refused WrongType signal[1].red\n"),
+    ),
+];
+
+const NEAR_BY: &[Search] = &[(
+    "reds too long",
+    &[(9, b"red = 80"), (13, b"red = 80")],
+    "",
+    1,
+    Whole(b"verdict none\n"),
+    Text(NONE),
+    Whole(b"accepted none\n"),
+)];
+
+const LONG_RED: &[Search] = &[(
+    "a long red at the end",
+    &[(17, b"red = 80")],
+    "",
+    0,
+    Text(OF_THREE),
+    Text(BEST_OF_THREE),
+    Whole(b"accepted best 7/5\n"),
+)];
+
+pub const SEARCHES: &[SearchTable] = &[
+    SearchTable {
+        name: "links of two signals",
+        artery: ARTERY,
+        put: "c.txt",
+        cases: FAR,
+    },
+    SearchTable {
+        name: "links near by",
+        artery: NEAR,
+        put: "c.txt",
+        cases: NEAR_BY,
+    },
+    SearchTable {
+        name: "links of three signals",
+        artery: THREE,
+        put: "c.txt",
+        cases: LONG_RED,
+    },
+];
 
 /// The tables, numbered from 0 up to 3.
 pub fn table(number: u32) -> Table {

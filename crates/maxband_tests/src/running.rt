@@ -2,6 +2,7 @@
 
 ghost use Rattle.std.specs.Prelude.{◌≢◌};
 
+use crate::link_cases;
 use crate::shipped::Shipped;
 use crate::texts::{ARTERY, BEST, NEAR, TIMING};
 use maxband_run::{Status, run};
@@ -50,7 +51,7 @@ impl Wanted {
 }
 
 /// The name of a case, the replaced lines of the description, the work or `all` where it isn't the usual limit, the number of the
-/// status, what is written, what the file of the certificate holds then, and what `check` writes of it.
+/// status, what is written, what the file of the certificate holds then, and what a check of it writes.
 pub type Search = (
     &'static str,
     Lines,
@@ -61,7 +62,7 @@ pub type Search = (
     Wanted,
 );
 
-/// Cases of `solve` over the description of `a.toml`, which put the certificate in the file `put`.
+/// Cases of a search over the description of `a.toml`, which put the certificate in the file `put`.
 pub struct SearchTable {
     pub name: &'static str,
     pub artery: &'static str,
@@ -168,18 +169,24 @@ pub fn first_wrong(alloc: Global, table: &Table) -> Result<&'static str, Memory>
     Ok("")
 }
 
-/// The name of the first search of a table that comes to something else, or nothing.
-pub fn first_wrong_search(alloc: Global, table: &SearchTable) -> Result<&'static str, Memory> {
+/// The name of the first search of a table that comes to something else, or nothing. `search` and `check` are the words of the two
+/// commands.
+pub fn first_wrong_search(
+    alloc: Global,
+    search: &str,
+    check: &str,
+    table: &SearchTable,
+) -> Result<&'static str, Memory> {
     for (name, lines, work, number, written, certificate, checked) in table.cases {
         let artery = with_lines(alloc, table.artery, lines)?;
         let mut files = SureFiles::new(alloc);
         files.add("a.toml", artery.as_slice())?;
         files.add("again.toml", artery.as_slice())?;
-        let words = ["solve", "a.toml", table.put, *work];
+        let words = [search, "a.toml", table.put, *work];
         let used = if work.is_empty() { 3 } else { 4 };
         let got = answered(alloc, &words[..used], &mut files)?;
         let kept = certificate.is(files.bytes(table.put));
-        let check = answered(alloc, &["check", "again.toml", table.put], &mut files)?;
+        let check = answered(alloc, &[check, "again.toml", table.put], &mut files)?;
         if got.number != *number
             || !written.is(Some(got.out.bytes()))
             || !kept
@@ -210,6 +217,7 @@ pub fn is_answered(alloc: Global, fault: &Fault) -> Result<bool, Memory> {
     files.add("b.txt", TIMING.as_bytes())?;
     files.add("near.toml", NEAR.as_bytes())?;
     files.add("best.txt", BEST.as_bytes())?;
+    files.add("links.txt", link_cases::BEST.as_bytes())?;
     let mut out = MemSink::new(alloc, 16, Vec::from_slice(alloc, fault.fail_writes)?);
     let words = owned(alloc, fault.words)?;
     let status = run(alloc, words.as_slice(), &mut files, &mut out);

@@ -60,7 +60,7 @@ speed_in = [30, 40]
 
 /// Three signals half a kilometre apart, half of each cycle red. Both bands are the whole green with a shift of half a cycle from
 /// each signal to the next, so the root's vertex is a best timing; it is reached after 5 pivots.
-const THREE: &str = "[artery]
+pub const THREE: &str = "[artery]
 units = \"metric\"
 parts = 100
 cycle = [\"100\", \"100\"]
@@ -392,6 +392,15 @@ const ROOT_OF_THREE: &[Search] = &[
         Front(b"verdict best\nweighted 1 = 1.000000\n"),
         ANY,
         Whole(b"accepted best 1\n"),
+    ),
+    (
+        "a long red at the end",
+        &[(17, b"red = 80")],
+        "",
+        0,
+        Front(b"verdict best\nweighted 2/5 = 0.400000\n"),
+        ANY,
+        Whole(b"accepted best 2/5\n"),
     ),
 ];
 

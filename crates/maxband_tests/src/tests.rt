@@ -46,7 +46,20 @@ fn certificates_of_links(rt: HostRuntime) -> Result<(), Fail> {
 fn searches_and_their_certificates(rt: HostRuntime) -> Result<(), Fail> {
     for table in solve_cases::TABLES {
         assert_eq!(rt;
-            first_wrong_search(rt.alloc(), table)?,
+            first_wrong_search(rt.alloc(), "solve", "check", table)?,
+            "",
+            "{}",
+            table.name
+        );
+    }
+    Ok(())
+}
+
+#[test]
+fn searches_of_links_and_their_certificates(rt: HostRuntime) -> Result<(), Fail> {
+    for table in link_cases::SEARCHES {
+        assert_eq!(rt;
+            first_wrong_search(rt.alloc(), "links", "check-links", table)?,
             "",
             "{}",
             table.name
@@ -58,7 +71,7 @@ fn searches_and_their_certificates(rt: HostRuntime) -> Result<(), Fail> {
 #[test]
 fn usual_limit_of_work(rt: HostRuntime) -> Result<(), Fail> {
     assert_eq!(rt;
-        first_wrong_search(rt.alloc(), &solve_cases::USUAL_LIMIT)?,
+        first_wrong_search(rt.alloc(), "solve", "check", &solve_cases::USUAL_LIMIT)?,
         ""
     );
     Ok(())

@@ -1,7 +1,8 @@
 use Rattle.std.proofs.Common.{rules, Some, map, refl}
 use Rattle.std.specs.Prelude.{string_bytes}
-use Rattle.maxband_run.specs.Command.{Hold, Show, Check, CheckLinks, Solve, Renew, Bands, Round, Half, Sweep}
+use Rattle.maxband_run.specs.Command.{Hold, Show, Check, CheckLinks, Solve, Links, Renew, Bands, Round, Half, Sweep}
 use Rattle.maxband_run.specs.Solve.{IsSolution}
+use Rattle.maxband_run.specs.Links.{IsLinkSolution}
 use Rattle.maxband_run.specs.Renew.{IsRenewal}
 use Rattle.maxband_run.specs.Sweep.{IsSweep}
 use Rattle.maxband_run.proofs.Told.{unread, tells, puts, may_put}
@@ -74,3 +75,8 @@ returns-in-Err-read_both-5-clause-answered g c = let told = unread {asked = Some
 pub returns-in-Ok-read_both-5-clause-answered : goal.returns-in-Ok-read_both-5-clause-answered
 returns-in-Ok-read_both-5-clause-answered g c =
     let told = tells {asked = Some (CheckLinks c.in-Some-CheckLinks.artery.now c.in-Some-CheckLinks.certificate.now)} c.check_links.result c.in-Ok-read_both-5.ensures.read refl c.check_links.ensures.finds c.check_links.ensures.no_put in search (rules, told)
+
+-- links
+pub returns-in-Ok-read_one-5-clause-answered : goal.returns-in-Ok-read_one-5-clause-answered
+returns-in-Ok-read_one-5-clause-answered g c =
+    let told = puts {asked = Some (Links c.in-Some-Links.artery.now c.in-Some-Links.certificate.now c.in-Some-Links.limit)} c.links.result (IsLinkSolution c.in-Ok-read_one-5.street c.in-Some-Links.limit) (λ d lines bytes h. (bytes, refl, h)) c.in-Ok-read_one-5.ensures.read refl c.links.ensures.finds in search (rules, told)

@@ -1,0 +1,19 @@
+use Rattle.std.proofs.Common.{◌≡◌, ◌+◌, ◌-◌, flat_map, ap, ◌∙◌, arith}
+use Rattle.std.specs.List.{range_with_len}
+use Rattle.progression.specs.Street.{count}
+use Rattle.diagram_print.proofs.Pieces.{extended, piece_up}
+use Rattle.link_report.specs.LinkReport.{both_band_lines}
+use Rattle.link_report.proofs.bands.link_band_lines.Goals as goal
+
+pub loop-link-preserved : goal.loop-link-preserved
+loop-link-preserved c =
+    let f = both_band_lines c.args.artery.now c.args.timing.now in
+    let here : c.loop-link.link + 1 - 1 ≡ c.loop-link.link = omega arith in
+    let next = ap (λ n. flat_map f (range_with_len 1 n)) here ∙ piece_up f c.loop-link.link (omega arith) in
+    extended _ _ _ _ _ _ _ c.in_ok-extend_from_slice.ensures.items c.as_slice.ensures.value c.in_ok-both.ensures c.loop-link.invariant next
+
+pub returns : goal.returns
+returns c =
+    let f = both_band_lines c.args.artery.now c.args.timing.now in
+    let end : c.loop-link.link ≡ count c.args.artery.now = omega arith in
+    c.loop-link.invariant ∙ ap (λ n. flat_map f (range_with_len 1 (n - 1))) end
