@@ -7,6 +7,7 @@ pub mod OneAnswer
 pub mod Delivered
 pub mod Running
 pub mod Complete
+pub mod PutRead
 pub mod PutAccepted
 pub mod Says
 pub mod Spelled

@@ -6,7 +6,6 @@ use Rattle.outer_edge.specs.Taken.{Appends}
 use Rattle.rational_theory.specs.Rational.{ℚ, ◌≤ℚ◌}
 use Rattle.progression.specs.Street.{Street}
 use Rattle.progression.specs.Plan.{Plan}
-use Rattle.plan_text.specs.Warrants.{WarrantWith}
 use Rattle.plan_text.specs.CertificateReading.{certificate_of}
 use Rattle.plan_text.specs.declared.certificate.Claim.{Claim}
 use Rattle.plan_text.specs.declared.certificate.Claim.TheVariants as claim
@@ -22,10 +21,10 @@ use Rattle.link_theory.specs.LinkPlan.{LinkPlan}
 use Rattle.multi_band.specs.LinkCertified.{link_warrant_of}
 use Rattle.multi_band.specs.LinksSearched.{LinksProve}
 use Rattle.maxband_run.specs.Command.{Request, Hold, Check, CheckLinks, Solve, Links, Renew, shape}
-use Rattle.maxband_run.specs.Outside.{Outside, NamedBytes, put_of, IsPut, IsDone}
+use Rattle.maxband_run.specs.Outside.{Outside}
 use Rattle.certified_search.specs.Searched.{Proves}
 use Rattle.maxband_run.specs.Searched.{cause_of}
-use Rattle.maxband_run.specs.Reading.{Reads, Description}
+use Rattle.maxband_run.specs.Reading.{Value, IsReadAs, Reads, Description}
 use Rattle.maxband_run.specs.Sought.{Sought, whole_bands, bands_of_links}
 use Rattle.maxband_run.specs.Run.{Ends}
 use Rattle.maxband_run.specs.Laws.{IsVerdict, PutsBest, PutsNone, PutsBound, SearchSays, SolveSays, LinksSay, HoldSays, CheckSays, CheckLinksSays, SaysGood, SaysBroken, SaysAccepted, SaysRejected, SaysLinksAccepted, SaysLinksRejected, PutsRenewed, RenewSays}
@@ -34,10 +33,10 @@ use Rattle.maxband_run.specs.declared.cause.Cause.{Cause}
 use Rattle.maxband_run.specs.declared.cause.Cause.TheVariants as cause
 use Rattle.maxband_run.proofs.Stopped.{stops_stop}
 use Rattle.maxband_run.proofs.Complete.{Completes}
-use Rattle.maxband_run.proofs.PutAccepted.{verdict_found}
+use Rattle.maxband_run.proofs.PutRead.{verdict_found, is_put}
 
 -- ---- which cause has a number
-zero_is : (c : Cause) → number_of c ≡ 0 → c ≡ cause.Done
+pub zero_is : (c : Cause) → number_of c ≡ 0 → c ≡ cause.Done
 zero_is cause.Done e = refl
 zero_is c e = absurd cc
 
@@ -81,12 +80,12 @@ record Tells (k : Sought) (a : Street) (c : Cause) (text : List ℕ) : Type 0 wh
   pub verdict : Verdict SitePart
   pub timing : Option k.Timing
   pub bound : ℚ
-  pub warrant : WarrantWith k.Timing
+  pub warrant : Value k.reader
   pub cause_is : c ≡ cause_of verdict
   pub proves : ProvesOf k a timing bound verdict
-  pub read_back : k.reads text ≡ Ok warrant
-  pub claim_is : warrant.claim ≡ claimed_by k a timing bound verdict
-  pub timing_is : warrant.timing ≡ timing
+  pub read_back : IsReadAs k.reader text warrant
+  pub claim_is : k.claim warrant ≡ claimed_by k a timing bound verdict
+  pub timing_is : k.timing warrant ≡ timing
 
 record HasPut (k : Sought) (before now : Outside) (artery certificate : List ℕ) (c : Cause) : Type 0 where
   pub street : Street
@@ -106,7 +105,7 @@ module _ (k : Sought) (before now : Outside) (artery certificate : List ℕ) whe
       let t = h.tells in
       let is = verdict_done t.verdict t.cause_is in
       let best = best_plan k a t.timing t.bound (subst (λ (v : Verdict SitePart). ProvesOf k a t.timing t.bound v) is t.proves) in
-      let claimed : t.warrant.claim ≡ claim.Best (k.value a best.0) =
+      let claimed : k.claim t.warrant ≡ claim.Best (k.value a best.0) =
       t.claim_is ∙ ap (claimed_by k a t.timing t.bound) is ∙ ap (λ (o : Option k.Timing). claimed_by k a o t.bound Best) best.1 in
       record { street = a; plan = best.0; description = h.description; best = best.2; put = (h.text, h.held, t.warrant, t.read_back, claimed, t.timing_is ∙ best.1) }
 
@@ -116,7 +115,7 @@ module _ (k : Sought) (before now : Outside) (artery certificate : List ℕ) whe
       let t = h.tells in
       let is = verdict_none t.verdict t.cause_is in
       let none = subst (λ (v : Verdict SitePart). ProvesOf k a t.timing t.bound v) is t.proves in
-      let claimed : t.warrant.claim ≡ claim.NoTiming = t.claim_is ∙ ap (claimed_by k a t.timing t.bound) is in
+      let claimed : k.claim t.warrant ≡ claim.NoTiming = t.claim_is ∙ ap (claimed_by k a t.timing t.bound) is in
       record { street = a; description = h.description; none = none.1; put = (h.text, h.held, t.warrant, t.read_back, claimed, t.timing_is ∙ none.0) }
 
   puts_bound : (stop : Stop SitePart) → HasPut k before now artery certificate (cause.Stopped stop) → PutsBound k before now artery certificate (cause.Stopped stop)
@@ -125,7 +124,7 @@ module _ (k : Sought) (before now : Outside) (artery certificate : List ℕ) whe
       let t = h.tells in
       let is = verdict_stopped stop t.verdict t.cause_is in
       let bound = subst (λ (v : Verdict SitePart). ProvesOf k a t.timing t.bound v) is.1 t.proves in
-      let claimed : t.warrant.claim ≡ claim.Stopped t.bound (option_map (k.value a) t.timing) = t.claim_is ∙ ap (claimed_by k a t.timing t.bound) is.1 in
+      let claimed : k.claim t.warrant ≡ claim.Stopped t.bound (option_map (k.value a) t.timing) = t.claim_is ∙ ap (claimed_by k a t.timing t.bound) is.1 in
       record {
         street = a;
         bound = t.bound;
@@ -159,11 +158,6 @@ module _ (k : Sought) (asks : List ℕ → List ℕ → Option ℕ → Request)
       (λ e. let s = two_is c e in two_says before now artery certificate limit c s.0 s.1 h),
     )
 
--- the file that is put holds what was found
-held_of : (before now : Outside) (certificate text : List ℕ) (lines : List ℕ) (put : Option NamedBytes) (bytes : Option (List ℕ))
-    → put ≡ put_of (Some certificate) bytes → bytes ≡ Some text → IsDone before now lines put → HoldsExactly (now.holds certificate) text
-held_of before now certificate text lines put bytes e f h = (subst (λ (p : Option NamedBytes). IsPut p before.holds now.holds) (e ∙ ap (put_of (Some certificate)) f) h.files).0
-
 -- ---- solve
 whole_proves : (a : Street) (timing : Option Plan) (bound : ℚ) (verdict : Verdict SitePart) → Proves a timing bound verdict → ProvesOf whole_bands a timing bound verdict
 whole_proves a None bound Best h = absurd h
@@ -180,7 +174,7 @@ solve_put before now artery certificate limit c v h =
       street = f.values.0;
       description = f.read.0;
       text = f.finds.0;
-      held = held_of before now certificate f.finds.0 h.0 h.1 f.bytes f.put_is f.finds.1 h.3;
+      held = (is_put before now certificate f.finds.0 h.0 h.1 f.bytes f.put_is f.finds.1 h.3).0;
       tells = record {
         verdict = s.found.verdict;
         timing = s.found.timing;
@@ -213,7 +207,7 @@ links_put before now artery certificate limit c v h =
       street = f.values.0;
       description = f.read.0;
       text = f.finds.0;
-      held = held_of before now certificate f.finds.0 h.0 h.1 f.bytes f.put_is f.finds.1 h.3;
+      held = (is_put before now certificate f.finds.0 h.0 h.1 f.bytes f.put_is f.finds.1 h.3).0;
       tells = record {
         verdict = s.found.verdict;
         timing = s.found.timing;
@@ -370,11 +364,11 @@ module _ (before now : Outside) (certificate new : List ℕ) where
   puts_renewed : Completes before now (Some (Renew certificate new)) cause.Done → PutsRenewed before now certificate new
   puts_renewed h =
       let f = verdict_found before.holds before.reads now.reads (Some (Renew certificate new)) cause.Done h.0 h.1 tt h.2 in
-      let held = held_of before now new f.finds.0 h.0 h.1 f.bytes f.put_is f.finds.1 h.3 in
+      let held = is_put before now new f.finds.0 h.0 h.1 f.bytes f.put_is f.finds.1 h.3 in
       record {
         warrant = f.values.0;
         text = f.read.0;
-        put = subst (λ (x : List ℕ). HoldsExactly (now.holds new) x) f.finds.2.text_is.written held;
+        put = subst (λ (x : List ℕ). HoldsExactly (now.holds new) x) f.finds.2.text_is.written held.0;
         read_back = subst (λ (x : List ℕ). certificate_of x ≡ Ok f.values.0) f.finds.2.text_is.written f.finds.2.text_is.read_back;
       }
 

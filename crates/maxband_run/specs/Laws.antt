@@ -10,7 +10,7 @@ use Rattle.progression.specs.Good.{Good}
 use Rattle.progression.specs.Best.{weighted_band}
 use Rattle.time_space.specs.Failing.{Fails}
 use Rattle.time_space.specs.declared.failing.Failing.{Failing}
-use Rattle.plan_text.specs.Warrants.{WarrantWith, Warrant}
+use Rattle.plan_text.specs.Warrants.{Warrant}
 use Rattle.plan_text.specs.SecondText.{second_text}
 use Rattle.plan_text.specs.Spelling.{timing_text}
 use Rattle.plan_text.specs.Reading.{timing_of}
@@ -29,13 +29,11 @@ use Rattle.link_proof.specs.declared.reject.LinkReject.{LinkReject}
 use Rattle.branch_and_bound.specs.declared.found.Stop.{Stop}
 use Rattle.branch_and_bound.specs.declared.found.Stop.TheVariants.{Wide}
 use Rattle.branch_tree.specs.declared.site.SitePart.{SitePart}
-use Rattle.branch_tree.specs.Certified.{warrant_of}
 use Rattle.maxband_run.specs.CheckLines.{accepted_line}
 use Rattle.maxband_run.specs.Lines.{holds_lines}
 use Rattle.maxband_run.specs.Outside.{Outside, NamedBytes}
 use Rattle.maxband_run.specs.Command.{Request, Hold, Check, CheckLinks, Solve, Links, Renew, Round, Make, Trial, Sweep, shape}
-use Rattle.maxband_run.specs.Reading.{Input, most_bytes, Reads, AreTold, Description, Timing, Certificate, LinkCertificate}
-use Rattle.maxband_run.specs.Solve.{IsSolution}
+use Rattle.maxband_run.specs.Reading.{Input, Value, most_bytes, IsReadAs, Reads, AreTold, Description, Timing, Certificate, LinkCertificate}
 use Rattle.maxband_run.specs.Sought.{Sought, whole_bands, bands_of_links}
 use Rattle.maxband_run.specs.Run.{Answers, Ends}
 use Rattle.maxband_run.specs.Status.{number_of}
@@ -145,32 +143,39 @@ EndsOtherThanByWork _ = ⊥
 abbrev pub AllNeverStopsByWork : Type 0
 AllNeverStopsByWork = (before now : Outside) (asked : Request) (c : Cause) → IsUnlimited asked → Ends before now (Some asked) c → EndsOtherThanByWork c
 
--- What `solve` found, of the artery that the file described, and that `check` accepts the file that was put with just the claim of that.
-pub record IsConfirmed (before between now : Outside) (artery certificate : List ℕ) (limit : Option ℕ) (c d : Cause) : Type 0 where
+-- What a search found, of the artery that the file described, and that the check accepts the file that was put with just the claim of that.
+pub record IsConfirmed (k : Sought) (before between now : Outside) (artery certificate : List ℕ) (limit : Option ℕ) (c d : Cause) : Type 0 where
   pub street : Street
   pub lines : List ℕ
   pub text : List ℕ
+  pub warrant : Value k.reader
   pub description : Reads Description (before.holds artery) street
-  pub solution : IsSolution street limit c lines text
+  pub solves : k.Solves street limit c lines text warrant
   pub done : d ≡ cause.Done
-  pub certificate_is : Reads Certificate (between.holds certificate) (warrant_of street solution.found)
-  pub accepted : IsAccepted street (warrant_of street solution.found)
-  pub proves : claims.ClaimHolds street (warrant_of street solution.found).claim (warrant_of street solution.found).timing
-  pub told : Appends between.taken now.taken (accepted_line (warrant_of street solution.found).claim)
+  pub certificate_is : Reads k.reader (between.holds certificate) warrant
+  pub accepted : k.Accepted street warrant
+  pub proves : k.ClaimHolds street warrant
+  pub told : Appends between.taken now.taken (accepted_line (k.claim warrant))
 
--- After a verdict of `solve` a run of `check` over the same description and the file that was put accepts what was found, unless a fault or want of memory ends
--- it: where these are two files that tell their bytes, and the certificate isn't too long to be read.
+-- After a verdict of a search that is asked for so, a run of its check over the same description and the file that was put accepts what was found, unless a fault or
+-- want of memory ends it: where these are two files that tell their bytes, and the certificate isn't too long to be read.
+abbrev pub SearchIsAccepted : Sought → (List ℕ → List ℕ → Option ℕ → Request) → (List ℕ → List ℕ → Request) → Type 0
+SearchIsAccepted k asks checks = (before between now : Outside) (artery certificate : List ℕ) (limit : Option ℕ) (c d : Cause)
+    → artery ≢ certificate → IsSome (before.holds artery) → IsSome (between.holds certificate) → IfSome (between.holds certificate) (λ bytes. length bytes ≤ most_bytes k.reader)
+    → IsVerdict c → Ends before between (Some (asks artery certificate limit)) c
+    → IsReached d → Ends between now (Some (checks artery certificate)) d → IsConfirmed k before between now artery certificate limit c d
+
 abbrev pub PutIsAccepted : Type 0
-PutIsAccepted = (before between now : Outside) (artery certificate : List ℕ) (limit : Option ℕ) (c d : Cause)
-    → artery ≢ certificate → IsSome (before.holds artery) → IsSome (between.holds certificate) → IfSome (between.holds certificate) (λ bytes. length bytes ≤ most_bytes Certificate)
-    → IsVerdict c → Ends before between (Some (Solve artery certificate limit)) c
-    → IsReached d → Ends between now (Some (Check artery certificate)) d → IsConfirmed before between now artery certificate limit c d
+PutIsAccepted = SearchIsAccepted whole_bands Solve Check
+
+abbrev pub PutLinksAreAccepted : Type 0
+PutLinksAreAccepted = SearchIsAccepted bands_of_links Links CheckLinks
 
 -- ---- what the numbers of the statuses say of the model
 -- the file holds, where it is told, a text that is read as a certificate with this claim and this timing
 abbrev pub HoldsCertificate : (k : Sought) → Option (List ℕ) → Claim → Option k.Timing → Type 0
 HoldsCertificate k held claimed timing =
-    (text : List ℕ) × HoldsExactly held text × (w : WarrantWith k.Timing) × (k.reads text ≡ Ok w) × (w.claim ≡ claimed) × (w.timing ≡ timing)
+    (text : List ℕ) × HoldsExactly held text × (w : Value k.reader) × IsReadAs k.reader text w × (k.claim w ≡ claimed) × (k.timing w ≡ timing)
 
 -- A search with status 0: this timing is best on the described artery, and the file that is put has it, with its value.
 pub record PutsBest (k : Sought) (before now : Outside) (artery certificate : List ℕ) : Type 0 where

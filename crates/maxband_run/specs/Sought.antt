@@ -1,5 +1,5 @@
--- What a command searches for: a kind of timing, as a certificate of it is read, and what is said of such timings on any grid.
-use Rattle.std.specs.Prelude.{ℕ, List, Result}
+-- What a command searches for: a kind of timing, the certificates of it, and what is said of such timings on any grid.
+use Rattle.std.specs.Prelude.{◌≡◌, ℕ, List, Option}
 use Rattle.rational_theory.specs.Rational.{ℚ}
 use Rattle.progression.specs.Street.{Street}
 use Rattle.progression.specs.Plan.{Plan}
@@ -8,40 +8,62 @@ use Rattle.progression.specs.Best as whole_best
 use Rattle.link_theory.specs.LinkPlan.{LinkPlan}
 use Rattle.link_theory.specs.GoodLinks.{GoodLinks}
 use Rattle.link_theory.specs.BestLinks.{link_value, BestLinks, BoundedLinks, NoLinks}
-use Rattle.plan_text.specs.Warrants.{WarrantWith}
-use Rattle.plan_text.specs.CertificateReading.{certificate_of}
-use Rattle.plan_text.specs.declared.fault.BadText.{BadText}
-use Rattle.link_proof.specs.LinkWarrants.{links_of}
+use Rattle.plan_text.specs.declared.certificate.Claim.{Claim}
+use Rattle.certificate_checker.specs.Accepted.{IsAccepted}
+use Rattle.certificate_checker.specs.Claims.{ClaimHolds}
+use Rattle.link_proof.specs.LinkAccepted.{IsLinkAccepted}
+use Rattle.link_proof.specs.LinkClaims.{LinkClaimHolds}
+use Rattle.branch_tree.specs.Certified.{warrant_of}
+use Rattle.multi_band.specs.LinkCertified.{link_warrant_of}
+use Rattle.maxband_run.specs.Reading.{Reader, Certificate, LinkCertificate, Value}
+use Rattle.maxband_run.specs.Solve.{IsSolution}
+use Rattle.maxband_run.specs.Links.{IsLinkSolution}
+use Rattle.maxband_run.specs.declared.cause.Cause.{Cause}
 
 pub record Sought : Type 1 where
+  pub reader : Reader  -- of its certificates
   pub Timing : Type 0
-  pub reads : List ℕ → Result (WarrantWith Timing) BadText  -- the certificate that a text is read as
+  pub claim : Value reader → Claim
+  pub timing : Value reader → Option Timing
   pub Good : Street → Timing → Type 0
   pub value : Street → Timing → ℚ
   pub Best : Street → Timing → Type 0  -- good, and no good one has a greater value
   pub NoneGood : Street → Type 0
   pub Bounded : Street → ℚ → Type 0  -- no good one has a value above this
+  pub Accepted : Street → Value reader → Type 0
+  pub ClaimHolds : Street → Value reader → Type 0
+  pub Solves : Street → Option ℕ → Cause → List ℕ → List ℕ → Value reader → Type 0  -- a search within the limit ends with this cause, these lines, this text and this certificate
 
 -- one band a direction, all the way
 abbrev pub whole_bands : Sought
 whole_bands = record {
+  reader = Certificate;
   Timing = Plan;
-  reads = certificate_of;
+  claim = λ w. w.claim;
+  timing = λ w. w.timing;
   Good = whole.Good;
   value = whole_best.weighted_band;
   Best = whole_best.Best;
   NoneGood = whole_best.NoTiming;
   Bounded = whole_best.Bounded;
+  Accepted = IsAccepted;
+  ClaimHolds = λ a w. ClaimHolds a w.claim w.timing;
+  Solves = λ a limit c lines text w. (s : IsSolution a limit c lines text) × (w ≡ warrant_of a s.found);
 }
 
 -- a band for each link
 abbrev pub bands_of_links : Sought
 bands_of_links = record {
+  reader = LinkCertificate;
   Timing = LinkPlan;
-  reads = links_of;
+  claim = λ w. w.claim;
+  timing = λ w. w.timing;
   Good = GoodLinks;
   value = link_value;
   Best = BestLinks;
   NoneGood = NoLinks;
   Bounded = BoundedLinks;
+  Accepted = IsLinkAccepted;
+  ClaimHolds = λ a w. LinkClaimHolds a w.claim w.timing;
+  Solves = λ a limit c lines text w. (s : IsLinkSolution a limit c lines text) × (w ≡ link_warrant_of a s.found);
 }

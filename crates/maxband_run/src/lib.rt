@@ -37,6 +37,7 @@ pub use cause::{Cause, Status};
 pub use top::{
     law_all_never_stops_by_work, law_check_links_says, law_check_says, law_faults_are_told,
     law_hold_says, law_links_are_complete, law_links_say, law_make_is_complete, law_one_answer,
-    law_plan_is_held, law_put_is_accepted, law_renew_is_complete, law_renew_says, law_round_says,
-    law_solve_is_complete, law_solve_says, law_sweep_is_complete, law_trial_is_complete, run,
+    law_plan_is_held, law_put_is_accepted, law_put_links_are_accepted, law_renew_is_complete,
+    law_renew_says, law_round_says, law_solve_is_complete, law_solve_says, law_sweep_is_complete,
+    law_trial_is_complete, run,
 };

@@ -6,7 +6,7 @@ ghost use Rattle.maxband_run.specs.Status.{number_of};
 ghost use Rattle.maxband_run.specs.Command.{request_of, shape};
 ghost use Rattle.maxband_run.specs.Outside.{outside, OthersKept, PutsCounted};
 ghost use Rattle.maxband_run.specs.Run.{Ends, LeavesAlone};
-ghost use Rattle.maxband_run.specs.Laws.{OneAnswer, FaultsAreTold, SolveIsComplete, LinksAreComplete, MakeIsComplete, TrialIsComplete, SweepIsComplete, RenewIsComplete, PutIsAccepted, AllNeverStopsByWork, SolveSays, LinksSay, HoldSays, CheckSays, CheckLinksSays, RenewSays, RoundSays, PlanIsHeld};
+ghost use Rattle.maxband_run.specs.Laws.{OneAnswer, FaultsAreTold, SolveIsComplete, LinksAreComplete, MakeIsComplete, TrialIsComplete, SweepIsComplete, RenewIsComplete, PutIsAccepted, PutLinksAreAccepted, AllNeverStopsByWork, SolveSays, LinksSay, HoldSays, CheckSays, CheckLinksSays, RenewSays, RoundSays, PlanIsHeld};
 
 use crate::answers::answer_to;
 use crate::cause::{Cause, Status};
@@ -137,6 +137,14 @@ pub fn law_put_is_accepted()
 {
     description_reader::law_one_answer();
     certificate_checker::law_accepted_or_refused();
+}
+
+/// A law over the definitions: `check-links` accepts the certificate that `links` put, with the very claim of what was found.
+pub fn law_put_links_are_accepted()
+    ensures { PutLinksAreAccepted }
+{
+    description_reader::law_one_answer();
+    link_proof::law_link_accepted_or_refused();
 }
 
 /// A law over the definitions: unless a run ends by a fault no count has changed, so that no failed call is hidden.

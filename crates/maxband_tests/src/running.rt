@@ -173,8 +173,8 @@ pub fn first_wrong(alloc: Global, table: &Table) -> Result<&'static str, Memory>
 /// commands.
 pub fn first_wrong_search(
     alloc: Global,
-    search: &str,
-    check: &str,
+    search: &'static str,
+    check: &'static str,
     table: &SearchTable,
 ) -> Result<&'static str, Memory> {
     for (name, lines, work, number, written, certificate, checked) in table.cases {
@@ -186,11 +186,11 @@ pub fn first_wrong_search(
         let used = if work.is_empty() { 3 } else { 4 };
         let got = answered(alloc, &words[..used], &mut files)?;
         let kept = certificate.is(files.bytes(table.put));
-        let check = answered(alloc, &[check, "again.toml", table.put], &mut files)?;
+        let told = answered(alloc, &[check, "again.toml", table.put], &mut files)?;
         if got.number != *number
             || !written.is(Some(got.out.bytes()))
             || !kept
-            || !checked.is(Some(check.out.bytes()))
+            || !checked.is(Some(told.out.bytes()))
         {
             return Ok(*name);
         }
