@@ -63,16 +63,16 @@ verdict_stopped stop (Stopped other) e = (other, refl)
 verdict_stopped stop v e = absurd cc
 
 -- what a verdict says of the timing and the bound, of any kind of timing
-IsBestOf : (k : Sought) → Street → Option k.Timing → ℚ → Type 0
+abbrev IsBestOf : (k : Sought) → Street → Option k.Timing → ℚ → Type 0
 IsBestOf k a None bound = ⊥
 IsBestOf k a (Some plan) bound = k.Best a plan × (k.value a plan ≡ bound)
 
-ProvesOf : (k : Sought) → Street → Option k.Timing → ℚ → Verdict SitePart → Type 0
+abbrev ProvesOf : (k : Sought) → Street → Option k.Timing → ℚ → Verdict SitePart → Type 0
 ProvesOf k a timing bound Best = IsBestOf k a timing bound
 ProvesOf k a timing bound NoTiming = (timing ≡ None) × k.NoneGood a
 ProvesOf k a timing bound (Stopped stop) = k.Bounded a bound × IfSome timing (λ plan. k.Good a plan × (k.value a plan ≤ℚ bound))
 
-claimed_by : (k : Sought) → Street → Option k.Timing → ℚ → Verdict SitePart → Claim
+abbrev claimed_by : (k : Sought) → Street → Option k.Timing → ℚ → Verdict SitePart → Claim
 claimed_by k a timing bound verdict = claim_by verdict bound (option_map (k.value a) timing)
 
 -- what the text that is put tells of what was found

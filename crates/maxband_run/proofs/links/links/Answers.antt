@@ -5,7 +5,7 @@ use Rattle.maxband_run.proofs.links.links.Goals as goal
 
 pub returns : goal.returns
 returns c =
-    let text = record { written = c.in_ok-text.ensures.text; read_back = c.in_ok-text.ensures.read_back } in
+    let text : IsLinkTextOf c.in_ok-text.text.items c.in_ok-searched.searched.certificate = record { written = c.in_ok-text.ensures.text; read_back = c.in_ok-text.ensures.read_back } in
     record {
       finds = (
         c.in_ok-text.text.items,
