@@ -1,5 +1,5 @@
 -- What a search puts its check accepts.
-use Rattle.std.proofs.Common.{◌≡◌, ℕ, List, Option, Some, refl, sym, subst}
+use Rattle.std.proofs.Common.{◌≡◌, ℕ, List, Some, refl, sym, subst}
 use Rattle.std.specs.Prelude.{IsSome}
 use Rattle.description_reader.specs.Described as described
 use Rattle.outer_edge.specs.Taken.{Appends}

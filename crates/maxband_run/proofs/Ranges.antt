@@ -4,7 +4,7 @@ use Rattle.std.specs.Prelude.{option_map, option_and_then, if◌then◌else◌}
 use Rattle.std.specs.Str.{bytes_eq}
 use Rattle.work_meter.specs.Work.{IsBelow}
 use Rattle.maxband_run.specs.Numbers.{usual_work, number_within, signals_of, seed_of, limit_of}
-use Rattle.maxband_run.specs.Command.{Request, Hold, Show, Check, Solve, Links, Renew, Bands, Round, Half, Make, Trial, Sweep, make_of, trial_of, sweep_of, Form, form_of, one_more, two_more, three_more, any_more, request_of, InLimits}
+use Rattle.maxband_run.specs.Command.{Request, Solve, Links, Make, Trial, Sweep, Form, form_of, one_more, two_more, three_more, any_more, request_of, InLimits}
 use Rattle.maxband_run.specs.Cycles.{are_cycles, SpellCycles}
 use Rattle.maxband_run.proofs.Spelled.{in_limits}
 use Rattle.maxband_run.proofs.Cycling.{cycles_spelled}

@@ -1,9 +1,9 @@
 -- From the readings of a command's files, and what it finds of them, to its answer.
-use Rattle.std.proofs.Common.{◌≡◌, ℕ, List, [], ◌∷◌, Option, Some, None, Result, Ok, Err, inl, inr, refl, sym, ◌∙◌, ap, subst}
+use Rattle.std.proofs.Common.{◌≡◌, ℕ, List, [], ◌∷◌, Option, Some, None, Result, Ok, Err, inl, inr, sym, ◌∙◌, ap}
 use Rattle.std.specs.Prelude.{IfOk, option_map}
 use Rattle.narrow_fraction.specs.declared.memory.Memory.{Memory}
 use Rattle.outer_edge.specs.declared.files.Files.{Ghosts}
-use Rattle.maxband_run.specs.Outside.{named, put_of, view, Puts, MayPut}
+use Rattle.maxband_run.specs.Outside.{put_of, view, Puts, MayPut}
 use Rattle.maxband_run.specs.Command.{Request, shape}
 use Rattle.maxband_run.specs.Reading.{Input, Value, Values, LeavesFiles, WereRead, WasUnread}
 use Rattle.maxband_run.specs.Run.{Finds, IsAnswered}
