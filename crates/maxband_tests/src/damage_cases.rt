@@ -50,7 +50,7 @@ pub fn is_cut_by_a_byte(alloc: Global) -> Result<bool, Memory> {
 /// Lines of the worked certificate that are replaced, the number of one that is left out, and what `check` writes.
 pub type Damage = (&'static str, Lines, usize, &'static [u8]);
 
-pub const DAMAGES: &[Damage] = &[
+pub static DAMAGES: [Damage; 7] = [
     (
         "lines exchanged",
         &[(15, b"win 2 1"), (16, b"wout 2 1")],
@@ -117,10 +117,8 @@ pub const WRITES: u64 = 33;
 
 /// The report of the far signals.
 fn report() -> &'static [u8] {
-    match WHOLE_REPORT {
-        [far, ..] => far.report.as_bytes(),
-        [] => b"",
-    }
+    let [far] = &WHOLE_REPORT;
+    far.report.as_bytes()
 }
 
 /// Whether `solve` of the far signals, of which one call on files (from 1, or 0 for none) and one write (the same) fail, ends by the stated

@@ -21,7 +21,7 @@ const SWEEP: &[&str] = &["sweep", "near.toml", "new.txt", "all", "100", "120"];
 
 /// The first and the second call read a description to its end, the third and the fourth the other file, or the third
 /// puts the certificate.
-pub const FAULTS: &[Fault] = &[
+pub static FAULTS: [Fault; 36] = [
     Fault {
         name: "hold without a fault",
         words: HOLD,

@@ -19,7 +19,7 @@ pub struct Padded {
     pub written: &'static [u8],
 }
 
-pub const PADDED: &[Padded] = &[
+pub static PADDED: [Padded; 6] = [
     Padded {
         name: "longest description",
         words: &["hold", "long.txt", "b.txt"],
@@ -107,7 +107,7 @@ pub fn is_read(alloc: Global, padded: &Padded) -> Result<bool, Memory> {
 }
 
 /// How many line feeds a certificate has, the number of the status of `check`, and what it writes.
-pub const LINE_FEEDS: &[(u64, u8, &[u8])] = &[
+pub static LINE_FEEDS: [(u64, u8, &[u8]); 3] = [
     (268_435_456, 3, b"refused BadText line 1 Shape\n"),
     (268_435_457, 9, b"too long long.txt\n"),
     // A file without an end.

@@ -307,7 +307,7 @@ far_in_b 1 2
 end
 ";
 
-const FAR: &[Search] = &[
+static FAR: [Search; 6] = [
     (
         "by the usual limit",
         &[],
@@ -364,7 +364,7 @@ const FAR: &[Search] = &[
     ),
 ];
 
-const NEAR_BY: &[Search] = &[(
+static NEAR_BY: [Search; 1] = [(
     "reds too long",
     &[(9, b"red = 80"), (13, b"red = 80")],
     "",
@@ -374,7 +374,7 @@ const NEAR_BY: &[Search] = &[(
     Whole(b"accepted none\n"),
 )];
 
-const LONG_RED: &[Search] = &[(
+static LONG_RED: [Search; 1] = [(
     "a long red at the end",
     &[(17, b"red = 80")],
     "",
@@ -384,26 +384,29 @@ const LONG_RED: &[Search] = &[(
     Whole(b"accepted best 7/5\n"),
 )];
 
-pub const SEARCHES: &[SearchTable] = &[
-    SearchTable {
-        name: "links of two signals",
-        artery: ARTERY,
-        put: "c.txt",
-        cases: FAR,
-    },
-    SearchTable {
-        name: "links near by",
-        artery: NEAR,
-        put: "c.txt",
-        cases: NEAR_BY,
-    },
-    SearchTable {
-        name: "links of three signals",
-        artery: THREE,
-        put: "c.txt",
-        cases: LONG_RED,
-    },
-];
+/// The tables of searches, numbered from 0 up to 2.
+pub fn search_table(number: u32) -> SearchTable {
+    match number {
+        0 => SearchTable {
+            name: "links of two signals",
+            artery: ARTERY,
+            put: "c.txt",
+            cases: &FAR,
+        },
+        1 => SearchTable {
+            name: "links near by",
+            artery: NEAR,
+            put: "c.txt",
+            cases: &NEAR_BY,
+        },
+        _ => SearchTable {
+            name: "links of three signals",
+            artery: THREE,
+            put: "c.txt",
+            cases: &LONG_RED,
+        },
+    }
+}
 
 /// The tables, numbered from 0 up to 3.
 pub fn table(number: u32) -> Table {

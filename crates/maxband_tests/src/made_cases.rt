@@ -19,7 +19,7 @@ pub struct Canonical {
 
 const NO_TIMING: &[u8] = b"refused BadText line 1 Ended\n";
 
-pub const CANONICAL: &[Canonical] = &[
+pub static CANONICAL: [Canonical; 5] = [
     Canonical {
         name: "two signals",
         words: &["show", "a.toml"],
@@ -90,7 +90,7 @@ pub type Trial = (
 );
 
 /// One unit opens the root alone, whose first leaf has both greens of the first signal.
-pub const TRIALS: &[Trial] = &[
+pub static TRIALS: [Trial; 4] = [
     ("2", "0", "5000", 0, "verdict best\nweighted 22/25\n", 284),
     ("4", "7", "5000", 0, "verdict best\nweighted 19/20\n", 723),
     ("2", "0", "1", 2, "verdict open\nbound 131/100\n", 105),

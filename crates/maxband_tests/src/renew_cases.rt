@@ -66,7 +66,7 @@ pub struct Renewal {
     pub checked: &'static [u8],
 }
 
-pub const RENEWALS: &[Renewal] = &[
+pub static RENEWALS: [Renewal; 11] = [
     Renewal {
         name: "first format",
         text: BEST,

@@ -63,6 +63,7 @@ pub type Search = (
 );
 
 /// Cases of a search over the description of `a.toml`, which put the certificate in the file `put`.
+#[derive(Clone, Copy)]
 pub struct SearchTable {
     pub name: &'static str,
     pub artery: &'static str,
@@ -198,8 +199,18 @@ pub fn first_wrong_search(
     Ok("")
 }
 
+/// The name of the first of these streets of which `solve` writes another report, or nothing.
+pub fn first_wrong_report(alloc: Global, streets: &[Shipped]) -> Result<&'static str, Memory> {
+    for street in streets {
+        if !is_reported(alloc, street)? {
+            return Ok(street.name);
+        }
+    }
+    Ok("")
+}
+
 /// Whether `solve` by the usual limit of work writes the whole report.
-pub fn is_reported(alloc: Global, shipped: &Shipped) -> Result<bool, Memory> {
+fn is_reported(alloc: Global, shipped: &Shipped) -> Result<bool, Memory> {
     let mut files = SureFiles::new(alloc);
     files.add("street.toml", shipped.street.as_bytes())?;
     let got = answered(

@@ -8,7 +8,7 @@ pub struct Shipped {
     pub report: &'static str,
 }
 
-pub const STREETS: &[Shipped] = &[
+pub static STREETS: [Shipped; 13] = [
     Shipped {
         name: "bridge",
         street: r##"# River Road: five signals 450 to 520 m apart, of which the fourth is red for 72 of 100 parts: all that crosses the river

@@ -125,7 +125,7 @@ const ROOT_ALONE: &[u8] =
 const ANY: Wanted = Front(b"maxband-certificate 2\nverdict ");
 
 /// The distance is 500, and a vehicle meets the green of both signals in both directions.
-const FAR: &[Search] = &[
+static FAR: [Search; 4] = [
     (
         "as given",
         &[],
@@ -165,7 +165,7 @@ const FAR: &[Search] = &[
 ];
 
 /// The distance is 250: what limits the weighted band is the time between the signals.
-const NEAR_BY: &[Search] = &[
+static NEAR_BY: [Search; 8] = [
     (
         "as given",
         &[],
@@ -241,7 +241,7 @@ const NEAR_BY: &[Search] = &[
 ];
 
 /// What bands are asked for in version 2, of the same signals: together they are half a cycle wide at most.
-const ASKED: &[Search] = &[
+static ASKED: [Search; 3] = [
     (
         "equal bands",
         &[
@@ -285,7 +285,7 @@ const ASKED: &[Search] = &[
 ];
 
 /// Twenty-four signals, 500 metres apart, with half a cycle between each two: a vehicle meets the green of all.
-const TWENTY_FOUR: &[Search] = &[(
+static TWENTY_FOUR: [Search; 1] = [(
     "as given",
     &[],
     "",
@@ -298,7 +298,7 @@ const TWENTY_FOUR: &[Search] = &[(
 )];
 
 /// The root costs 4 units, its low part 5 and its high part 6; with reds of 80 the root costs 5.
-const LIMITS: &[Search] = &[
+static LIMITS: [Search; 7] = [
     (
         "15 units",
         &[],
@@ -365,7 +365,7 @@ const LIMITS: &[Search] = &[
 ];
 
 /// A unit for the root, and one for each of its pivots.
-const ROOT_OF_THREE: &[Search] = &[
+static ROOT_OF_THREE: [Search; 4] = [
     (
         "6 units",
         &[],
@@ -404,7 +404,7 @@ const ROOT_OF_THREE: &[Search] = &[
     ),
 ];
 
-const OF_STREET: &[Search] = &[(
+static OF_STREET: [Search; 1] = [(
     "four signals",
     &[],
     "",
@@ -414,7 +414,7 @@ const OF_STREET: &[Search] = &[(
     Whole(b"accepted best 49/50\n"),
 )];
 
-const OVER_ITSELF: &[Search] = &[(
+static OVER_ITSELF: [Search; 1] = [(
     "certificate over the description",
     &[],
     "",
@@ -424,7 +424,7 @@ const OVER_ITSELF: &[Search] = &[(
     Whole(b"accepted best 1\n"),
 )];
 
-const NO_ARTERY: &[Search] = &[(
+static NO_ARTERY: [Search; 1] = [(
     "red of a half",
     &[(9, b"red = 47.5")],
     "",
@@ -434,62 +434,65 @@ const NO_ARTERY: &[Search] = &[(
     Whole(b"refused WrongType signal[1].red\n"),
 )];
 
-pub const TABLES: &[SearchTable] = &[
-    SearchTable {
-        name: "far",
-        artery: ARTERY,
-        put: "c.txt",
-        cases: FAR,
-    },
-    SearchTable {
-        name: "near by",
-        artery: NEAR,
-        put: "c.txt",
-        cases: NEAR_BY,
-    },
-    SearchTable {
-        name: "asked",
-        artery: NEAR,
-        put: "c.txt",
-        cases: ASKED,
-    },
-    SearchTable {
-        name: "twenty-four signals",
-        artery: LONGEST,
-        put: "c.txt",
-        cases: TWENTY_FOUR,
-    },
-    SearchTable {
-        name: "limits",
-        artery: NEAR,
-        put: "c.txt",
-        cases: LIMITS,
-    },
-    SearchTable {
-        name: "three signals",
-        artery: THREE,
-        put: "c.txt",
-        cases: ROOT_OF_THREE,
-    },
-    SearchTable {
-        name: "of a street",
-        artery: STREET,
-        put: "c.txt",
-        cases: OF_STREET,
-    },
-    SearchTable {
-        name: "over itself",
-        artery: ARTERY,
-        put: "a.toml",
-        cases: OVER_ITSELF,
-    },
-    SearchTable {
-        name: "no artery",
-        artery: ARTERY,
-        put: "c.txt",
-        cases: NO_ARTERY,
-    },
-];
+/// The tables of searches, numbered from 0 up to 8.
+pub fn table(number: u32) -> SearchTable {
+    match number {
+        0 => SearchTable {
+            name: "far",
+            artery: ARTERY,
+            put: "c.txt",
+            cases: &FAR,
+        },
+        1 => SearchTable {
+            name: "near by",
+            artery: NEAR,
+            put: "c.txt",
+            cases: &NEAR_BY,
+        },
+        2 => SearchTable {
+            name: "asked",
+            artery: NEAR,
+            put: "c.txt",
+            cases: &ASKED,
+        },
+        3 => SearchTable {
+            name: "twenty-four signals",
+            artery: LONGEST,
+            put: "c.txt",
+            cases: &TWENTY_FOUR,
+        },
+        4 => SearchTable {
+            name: "limits",
+            artery: NEAR,
+            put: "c.txt",
+            cases: &LIMITS,
+        },
+        5 => SearchTable {
+            name: "three signals",
+            artery: THREE,
+            put: "c.txt",
+            cases: &ROOT_OF_THREE,
+        },
+        6 => SearchTable {
+            name: "of a street",
+            artery: STREET,
+            put: "c.txt",
+            cases: &OF_STREET,
+        },
+        7 => SearchTable {
+            name: "over itself",
+            artery: ARTERY,
+            put: "a.toml",
+            cases: &OVER_ITSELF,
+        },
+        _ => SearchTable {
+            name: "no artery",
+            artery: ARTERY,
+            put: "c.txt",
+            cases: &NO_ARTERY,
+        },
+    }
+}
 
 /// A search that the usual limit of work ends.
 pub const USUAL_LIMIT: SearchTable = SearchTable {
@@ -508,7 +511,7 @@ pub const USUAL_LIMIT: SearchTable = SearchTable {
 };
 
 /// The whole report of the far signals, with its diagram of 60 places in each line.
-pub const WHOLE_REPORT: &[Shipped] = &[Shipped {
+pub static WHOLE_REPORT: [Shipped; 1] = [Shipped {
     name: "far signals",
     street: ARTERY,
     status: 0,

@@ -10,7 +10,7 @@ use outer_edge::SureFiles;
 use std::alloc::Global;
 
 /// The words after the names of the two files are the limit of the work and the cycles.
-pub const SWEEPS: &[Sweep] = &[
+pub static SWEEPS: [Sweep; 7] = [
     Sweep {
         name: "limits, between them and beyond",
         lines: &[(4, b"cycle = [50, 100]")],
@@ -92,7 +92,7 @@ pub fn first_wrong_sweep(alloc: Global, sweeps: &[Sweep]) -> Result<&'static str
 }
 
 /// How many cycles are asked for, the number of the status, and what is written.
-pub const COUNTS: &[(usize, u8, &[u8])] = &[
+pub static COUNTS: [(usize, u8, &[u8]); 4] = [
     (0, 5, b"words not understood\n"),
     (1, 0, b"rows 1\n"),
     (100, 0, b"rows 100\n"),

@@ -8,7 +8,7 @@ use crate::length_cases::{LINE_FEEDS, PADDED, is_checked, is_read};
 use crate::made_cases::{CANONICAL, TRIALS, is_canonical, is_found};
 use crate::plan_cases::{HALVED, MEASURES, ROUNDED, is_as_planned};
 use crate::renew_cases::{RENEWALS, is_renewed};
-use crate::running::{first_wrong, first_wrong_search, is_answered, is_reported};
+use crate::running::{first_wrong, first_wrong_report, first_wrong_search, is_answered};
 use crate::shipped::STREETS;
 use crate::sweep_cases::{COUNTS, SWEEPS, first_wrong_sweep, is_counted};
 use crate::word_cases::{NO_FORMS, are_no_form};
@@ -44,9 +44,10 @@ fn certificates_of_links(rt: HostRuntime) -> Result<(), Fail> {
 
 #[test]
 fn searches_and_their_certificates(rt: HostRuntime) -> Result<(), Fail> {
-    for table in solve_cases::TABLES {
+    for number in 0..9 {
+        let table = solve_cases::table(number);
         assert_eq!(rt;
-            first_wrong_search(rt.alloc(), "solve", "check", table)?,
+            first_wrong_search(rt.alloc(), "solve", "check", &table)?,
             "",
             "{}",
             table.name
@@ -57,9 +58,10 @@ fn searches_and_their_certificates(rt: HostRuntime) -> Result<(), Fail> {
 
 #[test]
 fn searches_of_links_and_their_certificates(rt: HostRuntime) -> Result<(), Fail> {
-    for table in link_cases::SEARCHES {
+    for number in 0..3 {
+        let table = link_cases::search_table(number);
         assert_eq!(rt;
-            first_wrong_search(rt.alloc(), "links", "check-links", table)?,
+            first_wrong_search(rt.alloc(), "links", "check-links", &table)?,
             "",
             "{}",
             table.name
@@ -79,11 +81,15 @@ fn usual_limit_of_work(rt: HostRuntime) -> Result<(), Fail> {
 
 #[test]
 fn whole_reports(rt: HostRuntime) -> Result<(), Fail> {
-    for streets in [STREETS, width_streets::STREETS, solve_cases::WHOLE_REPORT] {
-        for street in streets {
-            assert!(rt; is_reported(rt.alloc(), street)?, "{}", street.name);
-        }
-    }
+    assert_eq!(rt; first_wrong_report(rt.alloc(), &STREETS)?, "");
+    assert_eq!(rt;
+        first_wrong_report(rt.alloc(), &width_streets::STREETS)?,
+        ""
+    );
+    assert_eq!(rt;
+        first_wrong_report(rt.alloc(), &solve_cases::WHOLE_REPORT)?,
+        ""
+    );
     Ok(())
 }
 
@@ -97,7 +103,7 @@ fn words_of_no_form(rt: HostRuntime) -> Result<(), Fail> {
 
 #[test]
 fn calls_that_fail(rt: HostRuntime) -> Result<(), Fail> {
-    for fault in FAULTS {
+    for fault in &FAULTS {
         assert!(rt; is_answered(rt.alloc(), fault)?, "{}", fault.name);
     }
     Ok(())
@@ -105,7 +111,7 @@ fn calls_that_fail(rt: HostRuntime) -> Result<(), Fail> {
 
 #[test]
 fn canonical_descriptions(rt: HostRuntime) -> Result<(), Fail> {
-    for case in CANONICAL {
+    for case in &CANONICAL {
         assert!(rt; is_canonical(rt.alloc(), case)?, "{}", case.name);
     }
     Ok(())
@@ -113,7 +119,7 @@ fn canonical_descriptions(rt: HostRuntime) -> Result<(), Fail> {
 
 #[test]
 fn what_trials_find(rt: HostRuntime) -> Result<(), Fail> {
-    for trial in TRIALS {
+    for trial in &TRIALS {
         assert!(rt;
             is_found(rt.alloc(), trial)?,
             "{} {} {}",
@@ -136,7 +142,7 @@ fn certificates_that_are_cut(rt: HostRuntime) -> Result<(), Fail> {
 
 #[test]
 fn certificates_that_are_damaged(rt: HostRuntime) -> Result<(), Fail> {
-    for damage in DAMAGES {
+    for damage in &DAMAGES {
         assert!(rt; is_told(rt.alloc(), damage)?, "{}", damage.0);
     }
     Ok(())
@@ -155,7 +161,7 @@ fn each_single_call_that_fails(rt: HostRuntime) -> Result<(), Fail> {
 
 #[test]
 fn certificates_that_are_renewed(rt: HostRuntime) -> Result<(), Fail> {
-    for renewal in RENEWALS {
+    for renewal in &RENEWALS {
         assert!(rt; is_renewed(rt.alloc(), renewal)?, "{}", renewal.name);
     }
     Ok(())
@@ -163,13 +169,13 @@ fn certificates_that_are_renewed(rt: HostRuntime) -> Result<(), Fail> {
 
 #[test]
 fn sweeps_and_their_tables(rt: HostRuntime) -> Result<(), Fail> {
-    assert_eq!(rt; first_wrong_sweep(rt.alloc(), SWEEPS)?, "");
+    assert_eq!(rt; first_wrong_sweep(rt.alloc(), &SWEEPS)?, "");
     Ok(())
 }
 
 #[test]
 fn how_many_cycles_a_sweep_takes(rt: HostRuntime) -> Result<(), Fail> {
-    for (cycles, number, written) in COUNTS {
+    for (cycles, number, written) in &COUNTS {
         assert!(rt;
             is_counted(rt.alloc(), *cycles, *number, *written)?,
             "{cycles}"
@@ -180,7 +186,7 @@ fn how_many_cycles_a_sweep_takes(rt: HostRuntime) -> Result<(), Fail> {
 
 #[test]
 fn texts_about_their_greatest_length(rt: HostRuntime) -> Result<(), Fail> {
-    for padded in PADDED {
+    for padded in &PADDED {
         assert!(rt; is_read(rt.alloc(), padded)?, "{}", padded.name);
     }
     Ok(())
@@ -188,7 +194,7 @@ fn texts_about_their_greatest_length(rt: HostRuntime) -> Result<(), Fail> {
 
 #[test]
 fn certificates_about_their_greatest_length(rt: HostRuntime) -> Result<(), Fail> {
-    for (length, number, written) in LINE_FEEDS {
+    for (length, number, written) in &LINE_FEEDS {
         assert!(rt;
             is_checked(rt.alloc(), *length, *number, *written)?,
             "{length}"

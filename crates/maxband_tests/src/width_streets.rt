@@ -441,7 +441,7 @@ no timing
 "#,
 };
 
-pub const STREETS: &[Shipped] = &[
+pub static STREETS: [Shipped; 7] = [
     CELL_IN_ROOT,
     CELL_IN_PART,
     BOUND_OF_LEAF,

@@ -6,7 +6,7 @@ use narrow_fraction::Memory;
 use outer_edge::SureFiles;
 use std::alloc::Global;
 
-pub const NO_FORMS: &[&[&str]] = &[
+pub static NO_FORMS: [&[&str]; 97] = [
     &[],
     &["--help"],
     &["hold"],
