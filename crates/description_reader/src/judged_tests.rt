@@ -1,44 +1,53 @@
 //! Which fault of a description is named: each table of cases in turn.
 
 use crate::key_tests::{KEYS, PLACES, TWO_UNKNOWN};
-use crate::limit_tests::{CHANGE_NUMBERS, ENDS, LIMITS, NUMBERS, TURN_LIMITS};
+use crate::limit_tests::{CHANGE_NUMBERS, ENDS, FEW_PARTS, LIMITS, NUMBERS, TURN_LIMITS};
 use crate::order_tests::{
     BAD_NUMBERS, BROKEN_RULES, FAULTS, KINDS, MISSING_KEYS, OUT_OF_RANGE, TURN_FAULTS,
     UNKNOWN_KEYS, WRONG_TYPES,
 };
 use crate::rule_tests::{RULES, TURN_RULES};
-use crate::samples::{BASE, EVERY_KEY, Fault, Row, answer, first_hidden, first_wrong};
+use crate::samples::{
+    BASE, EVERY_KEY, OneLine, Row, answer, first_hidden, first_wrong, first_wrong_line,
+};
 use crate::table_tests::{COUNTS, TABLES};
 use crate::type_tests::{TURN_TYPES, TYPES};
 use crate::version_tests::VERSIONS;
 use std::rt::HostRuntime;
 use std::test::Fail;
 
-/// The tables of changed lines, and the description that they change.
-fn changed(table: u32) -> (&'static str, &'static [Row]) {
+/// The tables of changes of one line, and the description that they change.
+fn changed_line(table: u32) -> (&'static str, &'static [OneLine]) {
     match table {
         0 => (BASE, &KEYS),
         1 => (BASE, &TWO_UNKNOWN),
         2 => (EVERY_KEY, &PLACES),
-        3 => (BASE, &TABLES),
-        4 => (BASE, &COUNTS),
-        5 => (BASE, &TYPES),
-        6 => (EVERY_KEY, &TURN_TYPES),
-        7 => (BASE, &NUMBERS),
-        8 => (EVERY_KEY, &CHANGE_NUMBERS),
-        9 => (BASE, &LIMITS),
-        10 => (BASE, &ENDS),
-        11 => (EVERY_KEY, &TURN_LIMITS),
-        12 => (BASE, &RULES),
-        13 => (EVERY_KEY, &TURN_RULES),
-        14 => (BASE, &FAULTS),
-        15 => (EVERY_KEY, &TURN_FAULTS),
+        3 => (BASE, &TYPES),
+        4 => (EVERY_KEY, &TURN_TYPES),
+        5 => (BASE, &NUMBERS),
+        6 => (EVERY_KEY, &CHANGE_NUMBERS),
+        7 => (BASE, &LIMITS),
+        8 => (BASE, &ENDS),
+        9 => (EVERY_KEY, &TURN_LIMITS),
+        10 => (BASE, &RULES),
+        _ => (EVERY_KEY, &TURN_RULES),
+    }
+}
+
+/// The tables of changes of several lines, and the description that they change.
+fn changed_lines(table: u32) -> (&'static str, &'static [Row]) {
+    match table {
+        0 => (BASE, &TABLES),
+        1 => (BASE, &COUNTS),
+        2 => (BASE, &FEW_PARTS),
+        3 => (BASE, &FAULTS),
+        4 => (EVERY_KEY, &TURN_FAULTS),
         _ => (BASE, &VERSIONS),
     }
 }
 
 /// Faults in the order in which they are looked for: of two neighbours the first is named.
-fn in_order(table: u32) -> &'static [Fault] {
+fn in_order(table: u32) -> &'static [OneLine] {
     match table {
         0 => &KINDS,
         1 => &UNKNOWN_KEYS,
@@ -52,8 +61,16 @@ fn in_order(table: u32) -> &'static [Fault] {
 
 #[test]
 fn first_fault_is_named(rt: HostRuntime) -> Result<(), Fail> {
-    for table in 0..17 {
-        let (base, rows) = changed(table);
+    for table in 0..12 {
+        let (base, rows) = changed_line(table);
+        assert_eq!(rt;
+            first_wrong_line(rt.alloc(), base, rows)?,
+            0,
+            "table {table} of changed lines"
+        );
+    }
+    for table in 0..6 {
+        let (base, rows) = changed_lines(table);
         assert_eq!(rt; first_wrong(rt.alloc(), base, rows)?, 0, "table {table}");
     }
     Ok(())

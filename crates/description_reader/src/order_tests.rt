@@ -1,6 +1,6 @@
 //! Descriptions with several faults: which of them is named.
 
-use crate::samples::{Fault, Row};
+use crate::samples::{OneLine, Row};
 
 /// Several faults of the keys that each description has.
 pub static FAULTS: [Row; 16] = [
@@ -169,7 +169,7 @@ pub static TURN_FAULTS: [Row; 19] = [
 ];
 
 /// A fault of each kind, in the order of the kinds, the first kinds at the last places.
-pub static KINDS: [Fault; 11] = [
+pub static KINDS: [OneLine; 11] = [
     (44, "speed_in = [20, 45", "NotToml file"),
     (43, "speed_out = [25, 25]\nzz = 1", "UnknownKey link[2].zz"),
     (42, "", "Missing link[2].distance_in"),
@@ -196,7 +196,7 @@ pub static KINDS: [Fault; 11] = [
 ];
 
 /// A key that no description has in each table, in the order of the tables.
-pub static UNKNOWN_KEYS: [Fault; 7] = [
+pub static UNKNOWN_KEYS: [OneLine; 7] = [
     (1, "version = 1\nzz = 1", "UnknownKey zz"),
     (4, "name = 'Main Street'\nzz = 1", "UnknownKey artery.zz"),
     (11, "name = 'Oak'\nzz = 1", "UnknownKey signal[1].zz"),
@@ -207,7 +207,7 @@ pub static UNKNOWN_KEYS: [Fault; 7] = [
 ];
 
 /// Each needed key taken away, in the order of the places.
-pub static MISSING_KEYS: [Fault; 18] = [
+pub static MISSING_KEYS: [OneLine; 18] = [
     (5, "", "Missing artery.units"),
     (6, "", "Missing artery.parts"),
     (7, "", "Missing artery.cycle"),
@@ -229,7 +229,7 @@ pub static MISSING_KEYS: [Fault; 18] = [
 ];
 
 /// A value of another type at each place, in the order of the places.
-pub static WRONG_TYPES: [Fault; 43] = [
+pub static WRONG_TYPES: [OneLine; 43] = [
     (1, "version = '1'", "WrongType version"),
     (4, "name = 7", "WrongType artery.name"),
     (5, "units = 1", "WrongType artery.units"),
@@ -320,7 +320,7 @@ pub static WRONG_TYPES: [Fault; 43] = [
 ];
 
 /// A text that is no number at each place of a quantity, in the order of the places.
-pub static BAD_NUMBERS: [Fault; 15] = [
+pub static BAD_NUMBERS: [OneLine; 15] = [
     (7, "cycle = ['x', '']", "BadNumber artery.cycle[1]"),
     (7, "cycle = [60, '']", "BadNumber artery.cycle[2]"),
     (8, "ratio = '1/0'", "BadNumber artery.ratio"),
@@ -359,7 +359,7 @@ pub static BAD_NUMBERS: [Fault; 15] = [
 ];
 
 /// A value outside its limits at each place, in the order of the places.
-pub static OUT_OF_RANGE: [Fault; 35] = [
+pub static OUT_OF_RANGE: [OneLine; 35] = [
     (1, "version = 3", "OutOfRange version"),
     (4, "name = ''", "OutOfRange artery.name"),
     (5, "units = 'feet'", "OutOfRange artery.units"),
@@ -430,7 +430,7 @@ pub static OUT_OF_RANGE: [Fault; 35] = [
 ];
 
 /// A broken rule at each place, kind by kind, in the order of the places.
-pub static BROKEN_RULES: [Fault; 15] = [
+pub static BROKEN_RULES: [OneLine; 15] = [
     (20, "name = 'Oak'", "RepeatedName signal[2].name"),
     (24, "name = 'Oak'", "RepeatedName signal[3].name"),
     (15, "patterns = []", "NoPattern signal[1].patterns"),

@@ -3,9 +3,11 @@
 ghost use Rattle.std.specs.Prelude.{◌≤◌, ◌<◌};
 ghost use Rattle.progression.specs.Street.{count};
 
-use crate::samples::BASE;
-use crate::{Artery, print_artery, read_artery};
+use crate::samples::{BASE, read};
+use crate::{Artery, print_artery};
 use artery_model::{Dir, Pair};
+use narrow_fraction::Memory;
+use std::alloc::Global;
 use std::rt::HostRuntime;
 use std::test::Fail;
 
@@ -165,40 +167,79 @@ fn same_answers(a: &Artery, b: &Artery) -> bool {
     same_names(a, b) && same_pair(a.cycle(), b.cycle()) && a.ratio() == b.ratio()
 }
 
+/// The bytes that are printed for an artery.
+pub fn printed(alloc: Global, artery: &Artery) -> Result<Vec<u8>, Memory> {
+    print_artery(alloc, artery)
+}
+
+/// Whether the artery that is read from its printed bytes has the same answers, and is printed as the same bytes again.
+fn comes_back(alloc: Global, artery: &Artery, bytes: &[u8]) -> Result<bool, Fail> {
+    let back = read(alloc, bytes)?;
+    let again = printed(alloc, &back)?;
+    Ok(same_answers(artery, &back) && again.as_slice() == bytes)
+}
+
 fn has_line(text: &str, line: &str) -> bool {
     text.lines().any(|found| found == line)
 }
 
+/// The number of the first line, counted from 1, that a text hasn't, or 0.
+fn first_absent(text: &str, lines: &[&str]) -> usize {
+    for (index, line) in lines.iter().enumerate() {
+        if !has_line(text, line) {
+            return index + 1;
+        }
+    }
+    0
+}
+
+/// The number of the first word, counted from 1, that a text has, or 0.
+fn first_present(text: &str, words: &[&str]) -> usize {
+    for (index, word) in words.iter().enumerate() {
+        if text.contains(*word) {
+            return index + 1;
+        }
+    }
+    0
+}
+
+/// What is said of an artery's printed text where it is read as the same artery, and has each line and no word of two
+/// lists.
+pub const AS_WANTED: (bool, usize, usize) = (true, 0, 0);
+
+/// Whether an artery comes back from its printed text, the first of the lines that the text hasn't, and the first of the
+/// words that it has.
+pub fn look_at(
+    alloc: Global,
+    artery: &Artery,
+    lines: &[&str],
+    words: &[&str],
+) -> Result<(bool, usize, usize), Fail> {
+    let bytes = printed(alloc, artery)?;
+    let back = comes_back(alloc, artery, bytes.as_slice())?;
+    let text = std::str::from_utf8(bytes.as_slice())?;
+    Ok((back, first_absent(text, lines), first_present(text, words)))
+}
+
 #[test]
 fn base_is_printed_and_read(rt: HostRuntime) -> Result<(), Fail> {
-    let alloc = rt.alloc();
-    let artery = read_artery(alloc, BASE.as_bytes())?;
-    let printed = print_artery(alloc, &artery)?;
-    let back = read_artery(alloc, printed.as_slice())?;
-    assert!(rt; same_answers(&artery, &back));
-    let again = print_artery(alloc, &back)?;
-    assert_eq!(rt; again.as_slice(), printed.as_slice());
-    let text = std::str::from_utf8(printed.as_slice())?;
-    assert!(rt; has_line(text, "version = 1"));
-    assert!(rt; has_line(text, "cycle = [\"100\", \"100\"]"));
-    assert!(rt; has_line(text, "patterns = [1, 2, 3, 4]"));
-    assert!(rt; has_line(text, "clear_out = 0"));
-    assert!(rt; !text.contains("change"));
+    let lines = [
+        "version = 1",
+        "cycle = [\"100\", \"100\"]",
+        "patterns = [1, 2, 3, 4]",
+        "clear_out = 0",
+    ];
+    let artery = read(rt.alloc(), BASE.as_bytes())?;
+    assert_eq!(rt;
+        look_at(rt.alloc(), &artery, &lines, &["change"])?,
+        AS_WANTED
+    );
     Ok(())
 }
 
 #[test]
 fn every_key_is_printed_and_read(rt: HostRuntime) -> Result<(), Fail> {
-    let alloc = rt.alloc();
-    let artery = read_artery(alloc, FULL.as_bytes())?;
-    let printed = print_artery(alloc, &artery)?;
-    let back = read_artery(alloc, printed.as_slice())?;
-    assert!(rt; same_answers(&artery, &back));
-    let again = print_artery(alloc, &back)?;
-    assert_eq!(rt; again.as_slice(), printed.as_slice());
-    let text = std::str::from_utf8(printed.as_slice())?;
-    for line in FULL_LINES {
-        assert!(rt; has_line(text, line), "{line}");
-    }
+    let artery = read(rt.alloc(), FULL.as_bytes())?;
+    assert_eq!(rt; look_at(rt.alloc(), &artery, &FULL_LINES, &[])?, AS_WANTED);
     Ok(())
 }

@@ -2,8 +2,9 @@
 
 ghost use Rattle.std.specs.Prelude.{◌<◌, length};
 
-use crate::{Flaw, Kind, read_artery};
+use crate::{Artery, Flaw, Kind, read_artery};
 use std::alloc::{AllocError, Global};
+use std::test::Fail;
 
 /// Two signals half a kilometre apart.
 pub const BASE: &str = "[artery]
@@ -94,6 +95,17 @@ pub fn with_lines(
     Ok(out)
 }
 
+/// The artery of a description.
+pub fn read(alloc: Global, description: &[u8]) -> Result<Artery, Flaw> {
+    read_artery(alloc, description)
+}
+
+/// The artery of a description with some of its lines replaced.
+pub fn read_with_lines(alloc: Global, base: &str, lines: &[(usize, &str)]) -> Result<Artery, Fail> {
+    let description = with_lines(alloc, base, lines)?;
+    Ok(read(alloc, description.as_bytes())?)
+}
+
 fn name_of(kind: Kind) -> &'static str {
     match kind {
         Kind::NotUtf8 => "NotUtf8",
@@ -127,29 +139,43 @@ pub fn answer(alloc: Global, bytes: &[u8]) -> Result<String, AllocError> {
 /// Lines of a description replaced, and the kind and the place of the first fault.
 pub type Row = (&'static [(usize, &'static str)], &'static str);
 
-/// Whether a row's answer is another than the one that is wanted.
-fn is_wrong(alloc: Global, base: &str, row: &Row) -> Result<bool, AllocError> {
-    let (lines, want) = row;
+/// A line of a description, counted from 1, what stands in its place, and the kind and the place of the first fault.
+pub type OneLine = (usize, &'static str, &'static str);
+
+/// Whether the answer for a description with some of its lines replaced is another than the one that is wanted.
+fn is_wrong(
+    alloc: Global,
+    base: &str,
+    lines: &[(usize, &str)],
+    want: &str,
+) -> Result<bool, AllocError> {
     let description = with_lines(alloc, base, lines)?;
     let got = answer(alloc, description.as_bytes())?;
-    Ok(got.as_str() != *want)
+    Ok(got.as_str() != want)
 }
 
 /// The number of the first row with a wrong answer, counted from 1, or 0.
 pub fn first_wrong(alloc: Global, base: &str, rows: &[Row]) -> Result<usize, AllocError> {
     for (index, row) in rows.iter().enumerate() {
-        if is_wrong(alloc, base, row)? {
+        if is_wrong(alloc, base, row.0, row.1)? {
             return Ok(index + 1);
         }
     }
     Ok(0)
 }
 
-/// A line of `EVERY_KEY`, counted from 1, what stands in its place, and the kind and the place of the fault.
-pub type Fault = (usize, &'static str, &'static str);
+/// The same where each row replaces one line.
+pub fn first_wrong_line(alloc: Global, base: &str, rows: &[OneLine]) -> Result<usize, AllocError> {
+    for (index, row) in rows.iter().enumerate() {
+        if is_wrong(alloc, base, &[(row.0, row.1)], row.2)? {
+            return Ok(index + 1);
+        }
+    }
+    Ok(0)
+}
 
 /// What is answered for `EVERY_KEY` with a fault at a place of a list, and the next one behind it, where there is one.
-fn answer_of_two(alloc: Global, faults: &[Fault], index: usize) -> Result<String, AllocError>
+fn answer_of_two(alloc: Global, faults: &[OneLine], index: usize) -> Result<String, AllocError>
     requires { index < length faults.now }
 {
     let (line, text, _) = faults[index];
@@ -162,7 +188,7 @@ fn answer_of_two(alloc: Global, faults: &[Fault], index: usize) -> Result<String
 }
 
 /// The number of the first fault, counted from 1, that is not named where the next one of the list is there too, or 0.
-pub fn first_hidden(alloc: Global, faults: &[Fault]) -> Result<usize, AllocError> {
+pub fn first_hidden(alloc: Global, faults: &[OneLine]) -> Result<usize, AllocError> {
     for (index, fault) in faults.iter().enumerate() {
         let (_, _, want) = fault;
         let got = answer_of_two(alloc, faults, index)?;

@@ -1,8 +1,8 @@
 //! Descriptions of the second version, and which keys and how many signals each version has.
 
-use crate::samples::{BASE, Row, answer, with_lines};
-use crate::{print_artery, read_artery};
-use artery_model::Dir;
+use crate::print_tests::{AS_WANTED, look_at, printed};
+use crate::samples::{BASE, Row, answer, read, read_with_lines};
+use artery_model::{Artery, Dir};
 use narrow_fraction::Frac;
 use std::alloc::{AllocError, Global};
 use std::rt::HostRuntime;
@@ -197,84 +197,89 @@ fn street(alloc: Global, version: &str, signals: u32) -> Result<String, AllocErr
     Ok(out)
 }
 
+/// A version's line, a number of signals, and what is answered for a street of so many.
+type Size = (&'static str, u32, &'static str);
+
+/// How many signals each version has.
+static SIZES: [Size; 10] = [
+    ("", 16, "described"),
+    ("", 17, "OutOfRange signal"),
+    ("version = 1\n", 16, "described"),
+    ("version = 1\n", 17, "OutOfRange signal"),
+    ("version = 1\n", 24, "OutOfRange signal"),
+    ("version = 2\n", 2, "described"),
+    ("version = 2\n", 17, "described"),
+    ("version = 2\n", 24, "described"),
+    ("version = 2\n", 25, "OutOfRange signal"),
+    ("version = 3\n", 17, "OutOfRange version"),
+];
+
+/// Whether the answer for a street of so many signals is another than the one that is wanted.
+fn is_wrong_size(alloc: Global, size: &Size) -> Result<bool, AllocError> {
+    let (version, signals, want) = *size;
+    let description = street(alloc, version, signals)?;
+    let got = answer(alloc, description.as_bytes())?;
+    Ok(got.as_str() != want)
+}
+
 #[test]
 fn each_version_has_its_number_of_signals(rt: HostRuntime) -> Result<(), Fail> {
-    let cases = [
-        ("", 16, "described"),
-        ("", 17, "OutOfRange signal"),
-        ("version = 1\n", 16, "described"),
-        ("version = 1\n", 17, "OutOfRange signal"),
-        ("version = 1\n", 24, "OutOfRange signal"),
-        ("version = 2\n", 2, "described"),
-        ("version = 2\n", 17, "described"),
-        ("version = 2\n", 24, "described"),
-        ("version = 2\n", 25, "OutOfRange signal"),
-        ("version = 3\n", 17, "OutOfRange version"),
-    ];
-    for (version, signals, want) in cases {
-        let description = street(rt.alloc(), version, signals)?;
-        let got = answer(rt.alloc(), description.as_bytes())?;
-        assert_eq!(rt; got.as_str(), want, "{version}{signals}");
+    for (index, size) in SIZES.iter().enumerate() {
+        assert!(rt; !is_wrong_size(rt.alloc(), size)?, "street {index}");
     }
     Ok(())
 }
 
-fn has_line(text: &str, line: &str) -> bool {
-    text.lines().any(|found| found == line)
+/// The artery that is read from what is printed for one.
+fn read_back(alloc: Global, artery: &Artery) -> Result<Artery, Fail> {
+    let bytes = printed(alloc, artery)?;
+    Ok(read(alloc, bytes.as_slice())?)
+}
+
+/// Whether the version is the second, the least bands are a quarter and 0, and the bands have to be equal.
+fn has_second_keys(artery: &Artery) -> bool {
+    artery.version() == 2
+        && Frac::new(1, 4) == Ok(artery.least_band(Dir::Outbound))
+        && artery.least_band(Dir::Inbound) == Frac::whole(0)
+        && artery.equal()
 }
 
 #[test]
 fn second_version_is_printed_and_read(rt: HostRuntime) -> Result<(), Fail> {
-    let alloc = rt.alloc();
-    let lines = [
+    let replaced = [
         (1, "version = 2\n[artery]"),
         (5, "ratio = 1\nleast_out = '0.25'\nequal = true"),
     ];
-    let description = with_lines(alloc, BASE, &lines)?;
-    let artery = read_artery(alloc, description.as_bytes())?;
-    let printed = print_artery(alloc, &artery)?;
-    let back = read_artery(alloc, printed.as_slice())?;
-    assert_eq!(rt; back.version(), 2);
-    assert!(rt; Frac::new(1, 4) == Ok(back.least_band(Dir::Outbound)));
-    assert!(rt; back.least_band(Dir::Inbound) == Frac::whole(0));
-    assert!(rt; back.equal());
-    let again = print_artery(alloc, &back)?;
-    assert_eq!(rt; again.as_slice(), printed.as_slice());
-    let text = std::str::from_utf8(printed.as_slice())?;
-    for line in [
+    let lines = [
         "version = 2",
         "least_out = \"1/4\"",
         "least_in = \"0\"",
         "equal = true",
-    ] {
-        assert!(rt; has_line(text, line), "{line}");
-    }
+    ];
+    let artery = read_with_lines(rt.alloc(), BASE, &replaced)?;
+    assert_eq!(rt; look_at(rt.alloc(), &artery, &lines, &[])?, AS_WANTED);
+    let back = read_back(rt.alloc(), &artery)?;
+    assert!(rt; has_second_keys(&back));
     Ok(())
 }
 
 #[test]
 fn second_version_has_all_keys_printed(rt: HostRuntime) -> Result<(), Fail> {
-    let alloc = rt.alloc();
-    let description = with_lines(alloc, BASE, &[(1, "version = 2\n[artery]")])?;
-    let artery = read_artery(alloc, description.as_bytes())?;
+    let lines = ["least_out = \"0\"", "least_in = \"0\"", "equal = false"];
+    let artery = read_with_lines(rt.alloc(), BASE, &[(1, "version = 2\n[artery]")])?;
     assert!(rt; !artery.equal());
-    let printed = print_artery(alloc, &artery)?;
-    let text = std::str::from_utf8(printed.as_slice())?;
-    for line in ["least_out = \"0\"", "least_in = \"0\"", "equal = false"] {
-        assert!(rt; has_line(text, line), "{line}");
-    }
+    assert_eq!(rt; look_at(rt.alloc(), &artery, &lines, &[])?, AS_WANTED);
     Ok(())
 }
 
 #[test]
 fn first_version_has_no_new_keys_printed(rt: HostRuntime) -> Result<(), Fail> {
-    let alloc = rt.alloc();
-    let artery = read_artery(alloc, BASE.as_bytes())?;
+    let artery = read(rt.alloc(), BASE.as_bytes())?;
     assert_eq!(rt; artery.version(), 1);
-    let printed = print_artery(alloc, &artery)?;
-    let text = std::str::from_utf8(printed.as_slice())?;
-    assert!(rt; has_line(text, "version = 1"));
-    assert!(rt; !text.contains("least"));
-    assert!(rt; !text.contains("equal"));
+    let words = ["least", "equal"];
+    assert_eq!(rt;
+        look_at(rt.alloc(), &artery, &["version = 1"], &words)?,
+        AS_WANTED
+    );
     Ok(())
 }
