@@ -244,49 +244,56 @@ fn is_removed(rt: &HostRuntime, name: &str) -> bool {
     fs::remove_file(rt, name).is_ok()
 }
 
+const SURE_STEPS: [Step; 4] = [
+    Step::Put("notes", b"second", Ok(())),
+    Step::Whole("notes", 100, Ok(b"second")),
+    Step::Read("notes", 2, Ok((4, *b"cond"))),
+    Step::Read("absent", 0, Ok((0, [0; 4]))),
+];
+
 #[test]
 fn sure_files_hold_what_was_put(rt: HostRuntime) -> Result<(), Fail> {
     let mut files = SureFiles::new(rt.alloc());
     files.add("notes", b"first")?;
-    let steps = [
-        Step::Put("notes", b"second", Ok(())),
-        Step::Whole("notes", 100, Ok(b"second")),
-        Step::Read("notes", 2, Ok((4, *b"cond"))),
-        Step::Read("absent", 0, Ok((0, [0; 4]))),
-    ];
-    assert_eq!(rt; answered(rt.alloc(), &mut files, &steps), 4);
+    assert_eq!(rt; answered(rt.alloc(), &mut files, &SURE_STEPS), 4);
     assert!(rt; files.bytes("absent").is_none());
     Ok(())
 }
 
+const TO_THE_THIRD: [Step; 3] = [
+    Step::Read("notes", 1, Ok((2, *b"ld\0\0"))),
+    Step::Put("other", b"kept", Ok(())),
+    Step::Put("notes", b"new", Err(FileEnd::Failed)),
+];
+
+const AFTER_THE_THIRD: [Step; 2] = [
+    Step::Read("absent", 0, Err(FileEnd::Failed)),
+    Step::Put("notes", b"new", Ok(())),
+];
+
 #[test]
 fn the_third_call_is_a_put_that_fails(rt: HostRuntime) -> Result<(), Fail> {
     let mut files = mem_files(rt.alloc(), 3, "notes", b"old")?;
-    let steps = [
-        Step::Read("notes", 1, Ok((2, *b"ld\0\0"))),
-        Step::Put("other", b"kept", Ok(())),
-        Step::Put("notes", b"new", Err(FileEnd::Failed)),
-    ];
-    assert_eq!(rt; answered(rt.alloc(), &mut files, &steps), 3);
+    assert_eq!(rt; answered(rt.alloc(), &mut files, &TO_THE_THIRD), 3);
     assert!(rt; mem_file_is(&files, "notes", b"old"));
-    let steps = [
-        Step::Read("absent", 0, Err(FileEnd::Failed)),
-        Step::Put("notes", b"new", Ok(())),
-    ];
-    assert_eq!(rt; answered(rt.alloc(), &mut files, &steps), 2);
+    assert_eq!(rt; answered(rt.alloc(), &mut files, &AFTER_THE_THIRD), 2);
     assert!(rt; mem_file_is(&files, "notes", b"new"));
     Ok(())
 }
 
+const LONG_TEXT: &[u8] = b"the first sixteen, and then some more";
+
+/// Whether an output of sixteen bytes a call, of which these calls fail, ends the long text so and takes this of it.
+fn takes(alloc: Global, fail: Vec<u64>, answer: Result<(), Failed>, taken: &[u8]) -> bool {
+    let mut out = MemSink::new(alloc, 16, fail);
+    writes_whole(&mut out, 100, LONG_TEXT, answer) && out.bytes() == taken
+}
+
 #[test]
 fn the_second_piece_of_sixteen_fails(rt: HostRuntime) -> Result<(), Fail> {
-    let text = b"the first sixteen, and then some more";
-    let mut out = MemSink::new(rt.alloc(), 16, vec![in rt.alloc(); 2]?);
-    assert!(rt; writes_whole(&mut out, 100, text, Err(Failed)));
-    assert!(rt; out.bytes() == b"the first sixtee".as_slice());
-    let mut out = MemSink::new(rt.alloc(), 16, Vec::new(rt.alloc()));
-    assert!(rt; writes_whole(&mut out, 100, text, Ok(())));
-    assert!(rt; out.bytes() == text.as_slice());
+    let second = vec![in rt.alloc(); 2]?;
+    assert!(rt; takes(rt.alloc(), second, Err(Failed), b"the first sixtee"));
+    assert!(rt; takes(rt.alloc(), Vec::new(rt.alloc()), Ok(()), LONG_TEXT));
     Ok(())
 }
 
@@ -297,47 +304,52 @@ fn a_sure_output_takes_all_at_once(rt: HostRuntime) {
     assert!(rt; out.bytes() == b"hello".as_slice());
 }
 
+// Calls 1 and 2 read the file, 3 found it too long, 4 found no file, 5 read: the sixth fails.
+const TEN_BYTES: [Step; 4] = [
+    Step::Whole("ten", 10, Ok(b"0123456789")),
+    Step::Whole("ten", 9, Err(ReadEnd::TooLong)),
+    Step::Whole("absent", 9, Err(ReadEnd::ReadFault)),
+    Step::Whole("ten", 10, Err(ReadEnd::ReadFault)),
+];
+
 #[test]
 fn ten_bytes_are_too_long_for_a_limit_of_nine(rt: HostRuntime) -> Result<(), Fail> {
     let mut files = mem_files(rt.alloc(), 6, "ten", b"0123456789")?;
-    // Calls 1 and 2 read the file, 3 found it too long, 4 found no file, 5 read: the sixth fails.
-    let steps = [
-        Step::Whole("ten", 10, Ok(b"0123456789")),
-        Step::Whole("ten", 9, Err(ReadEnd::TooLong)),
-        Step::Whole("absent", 9, Err(ReadEnd::ReadFault)),
-        Step::Whole("ten", 10, Err(ReadEnd::ReadFault)),
-    ];
-    assert_eq!(rt; answered(rt.alloc(), &mut files, &steps), 4);
+    assert_eq!(rt; answered(rt.alloc(), &mut files, &TEN_BYTES), 4);
     Ok(())
 }
+
+const PUT_AND_READ: [Step; 2] = [
+    Step::Put("outer_edge.trial", b"put and read", Ok(())),
+    Step::Whole("outer_edge.trial", 100, Ok(b"put and read")),
+];
+
+const ABSENT: [Step; 2] = [
+    Step::Read("outer_edge.trial", 0, Err(FileEnd::Failed)),
+    Step::Put("no/such/folder", b"x", Err(FileEnd::Failed)),
+];
 
 #[test]
 fn a_file_of_the_system_is_read_back(rt: HostRuntime) -> Result<(), Fail> {
     let mut files = RealFiles::new(&rt, rt.alloc())?;
-    let steps = [
-        Step::Put("outer_edge.trial", b"put and read", Ok(())),
-        Step::Whole("outer_edge.trial", 100, Ok(b"put and read")),
-    ];
-    assert_eq!(rt; answered(rt.alloc(), &mut files, &steps), 2);
+    assert_eq!(rt; answered(rt.alloc(), &mut files, &PUT_AND_READ), 2);
     assert!(rt; is_removed(&rt, "outer_edge.trial"));
-    let steps = [
-        Step::Read("outer_edge.trial", 0, Err(FileEnd::Failed)),
-        Step::Put("no/such/folder", b"x", Err(FileEnd::Failed)),
-    ];
-    assert_eq!(rt; answered(rt.alloc(), &mut files, &steps), 2);
+    assert_eq!(rt; answered(rt.alloc(), &mut files, &ABSENT), 2);
     Ok(())
 }
+
+const NEWER: Step = Step::Put("outer_edge.full", b"newer", Err(FileEnd::Failed));
+
+const OLD_AND_NEWER: [Step; 2] = [Step::Put("outer_edge.full", b"old", Ok(())), NEWER];
 
 #[test]
 fn a_full_disk_leaves_the_old_file(rt: HostRuntime) -> Result<(), Fail> {
     let mut files = RealFiles::new(&FullDisk { rt: rt.clone()? }, rt.alloc())?;
-    let old = Step::Put("outer_edge.full", b"old", Ok(()));
-    let newer = Step::Put("outer_edge.full", b"newer", Err(FileEnd::Failed));
-    assert_eq!(rt; answered(rt.alloc(), &mut files, &[old, newer]), 2);
+    assert_eq!(rt; answered(rt.alloc(), &mut files, &OLD_AND_NEWER), 2);
     assert!(rt; system_file_is(&rt, "outer_edge.full", b"old"));
     assert!(rt; is_absent(&rt, "outer_edge.full.new1"));
     assert!(rt; is_removed(&rt, "outer_edge.full"));
-    assert_eq!(rt; answered(rt.alloc(), &mut files, &[newer]), 1);
+    assert!(rt; is_answered(rt.alloc(), &mut files, NEWER));
     assert!(rt; is_absent(&rt, "outer_edge.full"));
     Ok(())
 }
