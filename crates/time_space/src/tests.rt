@@ -157,8 +157,12 @@ fn broken(artery: &Artery, timing: &Timing) -> Option<Failing> {
     holds(artery, timing).err()
 }
 
+fn first_of_times(alloc: Global, artery: &Artery, times: Times) -> Result<Option<Failing>, Fail> {
+    Ok(broken(artery, &timing(alloc, times)?))
+}
+
 fn first_failing(alloc: Global, street: Street, times: Times) -> Result<Option<Failing>, Fail> {
-    Ok(broken(&artery(alloc, street)?, &timing(alloc, times)?))
+    first_of_times(alloc, &artery(alloc, street)?, times)
 }
 
 const TWO_SIGNALS: [(Street, Times, Option<Failing>); 15] = [
@@ -569,6 +573,12 @@ const THREE_SIGNALS: [(Long, Option<Failing>); 22] = [
     ),
 ];
 
+/// A pattern that isn't allowed, and too few signals.
+const SHORT: Times = Times {
+    pattern: 2,
+    ..WHOLE_BAND
+};
+
 /// The limits of three signals alone, and then two rules broken at once, or one at two places: the first is named.
 #[test]
 fn the_first_of_two_rules(rt: HostRuntime) -> Result<(), Fail> {
@@ -576,12 +586,7 @@ fn the_first_of_two_rules(rt: HostRuntime) -> Result<(), Fail> {
     for (long, expected) in &THREE_SIGNALS {
         assert!(rt; first_of_long(rt.alloc(), &artery, *long)? == *expected);
     }
-    // A pattern that isn't allowed, and too few signals.
-    let short = Times {
-        pattern: 2,
-        ..WHOLE_BAND
-    };
-    assert!(rt; broken(&artery, &timing(rt.alloc(), short)?) == Some(Failing::Shape));
+    assert!(rt; first_of_times(rt.alloc(), &artery, SHORT)? == Some(Failing::Shape));
     Ok(())
 }
 
@@ -612,7 +617,7 @@ fn first_asked(alloc: Global, asked: Asked) -> Result<Option<Failing>, Fail> {
         bands: asked.bands,
         ..WHOLE_BAND
     };
-    Ok(broken(&asking_artery(alloc, asked)?, &timing(alloc, times)?))
+    first_of_times(alloc, &asking_artery(alloc, asked)?, times)
 }
 
 const FREE: Asked = Asked {
@@ -760,10 +765,10 @@ fn rules_that_speak_of_no_band(rt: HostRuntime) -> Result<(), Fail> {
     Ok(())
 }
 
-/// The weighted band's numerator and denominator.
-fn weighted_band(artery: &Artery, timing: &Timing) -> (i128, i128) {
-    let found = value(artery, timing);
-    (found.num(), found.den())
+/// The numerator and the denominator of the weighted band.
+fn weighted_band(alloc: Global, street: Street, times: Times) -> Result<(i128, i128), Fail> {
+    let found = value(&artery(alloc, street)?, &timing(alloc, times)?);
+    Ok((found.num(), found.den()))
 }
 
 const WEIGHTED: [(Street, Times, (i128, i128)); 3] = [
@@ -782,9 +787,7 @@ const WEIGHTED: [(Street, Times, (i128, i128)); 3] = [
 #[test]
 fn weighted_bands(rt: HostRuntime) -> Result<(), Fail> {
     for (street, times, expected) in &WEIGHTED {
-        let artery = artery(rt.alloc(), *street)?;
-        let timing = timing(rt.alloc(), *times)?;
-        assert_eq!(rt; weighted_band(&artery, &timing), *expected);
+        assert!(rt; weighted_band(rt.alloc(), *street, *times)? == *expected);
     }
     Ok(())
 }
@@ -801,19 +804,21 @@ fn seen(artery: &Artery, timing: &Timing, tick: i32) -> Option<(bool, bool)> {
     Some((is_green, is_in_band))
 }
 
+const SEEN: [(i32, bool, bool); 6] = [
+    (-100, true, true),
+    (0, true, true),
+    (1, false, false),
+    (99, false, false),
+    (100, true, true),
+    (200, true, true),
+];
+
 #[test]
 fn what_is_seen_at_a_signal(rt: HostRuntime) -> Result<(), Fail> {
     let artery = artery(rt.alloc(), BASE)?;
     let timing = timing(rt.alloc(), WHOLE_BAND)?;
-    for (tick, expected) in [
-        (-100, (true, true)),
-        (0, (true, true)),
-        (1, (false, false)),
-        (99, (false, false)),
-        (100, (true, true)),
-        (200, (true, true)),
-    ] {
-        assert!(rt; seen(&artery, &timing, tick) == Some(expected));
+    for (tick, is_green, is_in_band) in &SEEN {
+        assert!(rt; seen(&artery, &timing, *tick) == Some((*is_green, *is_in_band)));
     }
     Ok(())
 }
