@@ -206,6 +206,10 @@ fn mem_files(alloc: Global, fail: u64, name: &str, bytes: &[u8]) -> Result<MemFi
     Ok(files)
 }
 
+fn mem_answered(alloc: Global, files: &mut MemFiles, steps: &[Step]) -> u64 {
+    answered(alloc, files, steps)
+}
+
 fn mem_file_is(files: &MemFiles, name: &str, bytes: &[u8]) -> bool {
     files.bytes(name) == Some(bytes)
 }
@@ -274,9 +278,9 @@ const AFTER_THE_THIRD: [Step; 2] = [
 #[test]
 fn the_third_call_is_a_put_that_fails(rt: HostRuntime) -> Result<(), Fail> {
     let mut files = mem_files(rt.alloc(), 3, "notes", b"old")?;
-    assert_eq!(rt; answered(rt.alloc(), &mut files, &TO_THE_THIRD), 3);
+    assert_eq!(rt; mem_answered(rt.alloc(), &mut files, &TO_THE_THIRD), 3);
     assert!(rt; mem_file_is(&files, "notes", b"old"));
-    assert_eq!(rt; answered(rt.alloc(), &mut files, &AFTER_THE_THIRD), 2);
+    assert_eq!(rt; mem_answered(rt.alloc(), &mut files, &AFTER_THE_THIRD), 2);
     assert!(rt; mem_file_is(&files, "notes", b"new"));
     Ok(())
 }
@@ -315,7 +319,7 @@ const TEN_BYTES: [Step; 4] = [
 #[test]
 fn ten_bytes_are_too_long_for_a_limit_of_nine(rt: HostRuntime) -> Result<(), Fail> {
     let mut files = mem_files(rt.alloc(), 6, "ten", b"0123456789")?;
-    assert_eq!(rt; answered(rt.alloc(), &mut files, &TEN_BYTES), 4);
+    assert_eq!(rt; mem_answered(rt.alloc(), &mut files, &TEN_BYTES), 4);
     Ok(())
 }
 
