@@ -150,6 +150,8 @@ impl rt::Files for FullDisk {
     }
 }
 
+// The helpers below have no clauses, so that the tests' proofs don't carry the contracts of what they call.
+
 /// A call on files, and its answer.
 #[derive(Clone, Copy)]
 enum Step {
@@ -206,6 +208,7 @@ fn mem_files(alloc: Global, fail: u64, name: &str, bytes: &[u8]) -> Result<MemFi
     Ok(files)
 }
 
+/// `answered` at files in memory, so that it is instantiated once and not in each test.
 fn mem_answered(alloc: Global, files: &mut MemFiles, steps: &[Step]) -> u64 {
     answered(alloc, files, steps)
 }
