@@ -4,7 +4,7 @@ use crate::{
     Failed, FileEnd, Files, MemFiles, MemSink, ReadEnd, RealFiles, RealOut, Sink, SureFiles,
     SureSink, read_whole, write_whole,
 };
-use std::alloc::Allocator;
+use std::alloc::{Allocator, Global};
 use std::cell::Cell;
 use std::fmt::Display;
 use std::fs::{Metadata, OpenFile, OpenOptions};
@@ -150,135 +150,258 @@ impl rt::Files for FullDisk {
     }
 }
 
+// The helpers below have no clauses, so that the tests' proofs don't carry the contracts of what they call.
+
+/// A call on files, and its answer.
+#[derive(Clone, Copy)]
+enum Step {
+    Put(&'static str, &'static [u8], Result<(), FileEnd>),
+    /// Reads up to four bytes from a place on: how many, and what the buffer holds then.
+    Read(&'static str, u64, Result<(usize, [u8; 4]), FileEnd>),
+    /// Reads the whole of a file that has at most so many bytes.
+    Whole(&'static str, u32, Result<&'static [u8], ReadEnd>),
+}
+
+fn read_four<F: Files>(files: &mut F, name: &str, at: u64) -> Result<(usize, [u8; 4]), FileEnd> {
+    let mut into = [0; 4];
+    let count = files.read(name, &mut into, at)?;
+    Ok((count, into))
+}
+
+fn reads_whole<F: Files>(
+    alloc: Global,
+    files: &mut F,
+    name: &str,
+    limit: u32,
+    answer: Result<&[u8], ReadEnd>,
+) -> bool {
+    match read_whole(alloc, files, name, u64::from(limit)) {
+        Ok(all) => answer == Ok(all.as_slice()),
+        Err(end) => answer == Err(end),
+    }
+}
+
+fn is_answered<F: Files>(alloc: Global, files: &mut F, step: Step) -> bool {
+    match step {
+        Step::Put(name, bytes, answer) => files.put(name, bytes) == answer,
+        Step::Read(name, at, answer) => read_four(files, name, at) == answer,
+        Step::Whole(name, limit, answer) => reads_whole(alloc, files, name, limit, answer),
+    }
+}
+
+/// How many of the calls, one after the other, are answered so up to the first that isn't.
+fn answered<F: Files>(alloc: Global, files: &mut F, steps: &[Step]) -> u64 {
+    let mut count = 0u64;
+    for step in steps {
+        if !is_answered(alloc, files, *step) {
+            return count;
+        }
+        count = count.saturating_add(1);
+    }
+    count
+}
+
+/// Files of which one call fails, with one file added.
+fn mem_files(alloc: Global, fail: u64, name: &str, bytes: &[u8]) -> Result<MemFiles, Fail> {
+    let mut files = MemFiles::new(alloc, vec![in alloc; fail]?);
+    files.add(name, bytes)?;
+    Ok(files)
+}
+
+/// `answered` at files in memory, so that it is instantiated once and not in each test.
+fn mem_answered(alloc: Global, files: &mut MemFiles, steps: &[Step]) -> u64 {
+    answered(alloc, files, steps)
+}
+
+fn mem_file_is(files: &MemFiles, name: &str, bytes: &[u8]) -> bool {
+    files.bytes(name) == Some(bytes)
+}
+
+/// Makes so much room, and answers whether one write ends so.
+fn writes_once<K: Sink>(
+    out: &mut K,
+    room: u64,
+    bytes: &[u8],
+    answer: Result<usize, Failed>,
+) -> bool {
+    !bytes.is_empty()
+        && bytes.len() as u64 <= room
+        && out.reserve(room).is_ok()
+        && out.write(bytes) == answer
+}
+
+/// Makes so much room, and answers whether a write of all ends so.
+fn writes_whole<K: Sink>(out: &mut K, room: u64, bytes: &[u8], answer: Result<(), Failed>) -> bool {
+    bytes.len() as u64 <= room && out.reserve(room).is_ok() && write_whole(out, bytes) == answer
+}
+
+/// Whether the file of the system holds these bytes.
+fn system_file_is(rt: &HostRuntime, name: &str, bytes: &[u8]) -> bool {
+    match fs::read(rt, name) {
+        Ok(found) => found.as_slice() == bytes,
+        Err(_) => false,
+    }
+}
+
+fn is_absent(rt: &HostRuntime, name: &str) -> bool {
+    matches!(fs::exists(rt, name), Ok(false))
+}
+
+fn is_removed(rt: &HostRuntime, name: &str) -> bool {
+    fs::remove_file(rt, name).is_ok()
+}
+
+const SURE_STEPS: [Step; 4] = [
+    Step::Put("notes", b"second", Ok(())),
+    Step::Whole("notes", 100, Ok(b"second")),
+    Step::Read("notes", 2, Ok((4, *b"cond"))),
+    Step::Read("absent", 0, Ok((0, [0; 4]))),
+];
+
 #[test]
 fn sure_files_hold_what_was_put(rt: HostRuntime) -> Result<(), Fail> {
     let mut files = SureFiles::new(rt.alloc());
     files.add("notes", b"first")?;
-    files.put("notes", b"second")?;
-    let all = read_whole(rt.alloc(), &mut files, "notes", 100)?;
-    assert_eq!(rt; all.as_slice(), b"second".as_slice());
-    let mut into = [0u8; 4];
-    assert_eq!(rt; files.read("notes", &mut into, 2)?, 4);
-    assert_eq!(rt; into.as_slice(), b"cond".as_slice());
-    assert_eq!(rt; files.read("absent", &mut into, 0)?, 0);
+    assert_eq!(rt; answered(rt.alloc(), &mut files, &SURE_STEPS), 4);
     assert!(rt; files.bytes("absent").is_none());
     Ok(())
 }
 
+const TO_THE_THIRD: [Step; 3] = [
+    Step::Read("notes", 1, Ok((2, *b"ld\0\0"))),
+    Step::Put("other", b"kept", Ok(())),
+    Step::Put("notes", b"new", Err(FileEnd::Failed)),
+];
+
+const AFTER_THE_THIRD: [Step; 2] = [
+    Step::Read("absent", 0, Err(FileEnd::Failed)),
+    Step::Put("notes", b"new", Ok(())),
+];
+
 #[test]
 fn the_third_call_is_a_put_that_fails(rt: HostRuntime) -> Result<(), Fail> {
-    let mut files = MemFiles::new(rt.alloc(), vec![in rt.alloc(); 3]?);
-    let mut into = [0u8; 8];
-    files.add("notes", b"old")?;
-    assert_eq!(rt; files.read("notes", &mut into, 1)?, 2);
-    files.put("other", b"kept")?;
-    assert_eq!(rt; files.put("notes", b"new"), Err(FileEnd::Failed));
-    assert_eq!(rt; files.bytes("notes").ok_or("gone")?, b"old".as_slice());
-    assert_eq!(rt; files.read("absent", &mut into, 0), Err(FileEnd::Failed));
-    files.put("notes", b"new")?;
-    assert_eq!(rt; files.bytes("notes").ok_or("gone")?, b"new".as_slice());
+    let mut files = mem_files(rt.alloc(), 3, "notes", b"old")?;
+    assert_eq!(rt; mem_answered(rt.alloc(), &mut files, &TO_THE_THIRD), 3);
+    assert!(rt; mem_file_is(&files, "notes", b"old"));
+    assert_eq!(rt; mem_answered(rt.alloc(), &mut files, &AFTER_THE_THIRD), 2);
+    assert!(rt; mem_file_is(&files, "notes", b"new"));
     Ok(())
+}
+
+const LONG_TEXT: &[u8] = b"the first sixteen, and then some more";
+
+/// Whether an output of sixteen bytes a call, of which these calls fail, ends the long text so and takes this of it.
+fn takes(alloc: Global, fail: Vec<u64>, answer: Result<(), Failed>, taken: &[u8]) -> bool {
+    let mut out = MemSink::new(alloc, 16, fail);
+    writes_whole(&mut out, 100, LONG_TEXT, answer) && out.bytes() == taken
 }
 
 #[test]
 fn the_second_piece_of_sixteen_fails(rt: HostRuntime) -> Result<(), Fail> {
-    let text = b"the first sixteen, and then some more";
-    let mut out = MemSink::new(rt.alloc(), 16, vec![in rt.alloc(); 2]?);
-    out.reserve(100)?;
-    assert_eq!(rt; write_whole(&mut out, text), Err(Failed));
-    assert_eq!(rt; out.bytes(), b"the first sixtee".as_slice());
-    let mut out = MemSink::new(rt.alloc(), 16, Vec::new(rt.alloc()));
-    out.reserve(100)?;
-    assert!(rt; write_whole(&mut out, text).is_ok());
-    assert_eq!(rt; out.bytes(), text.as_slice());
+    let second = vec![in rt.alloc(); 2]?;
+    assert!(rt; takes(rt.alloc(), second, Err(Failed), b"the first sixtee"));
+    assert!(rt; takes(rt.alloc(), Vec::new(rt.alloc()), Ok(()), LONG_TEXT));
     Ok(())
 }
 
 #[test]
-fn a_sure_output_takes_all_at_once(rt: HostRuntime) -> Result<(), Fail> {
+fn a_sure_output_takes_all_at_once(rt: HostRuntime) {
     let mut out = SureSink::new(rt.alloc());
-    out.reserve(5)?;
-    assert_eq!(rt; out.write(b"hello"), Ok(5));
-    assert_eq!(rt; out.bytes(), b"hello".as_slice());
-    Ok(())
+    assert!(rt; writes_once(&mut out, 5, b"hello", Ok(5)));
+    assert!(rt; out.bytes() == b"hello".as_slice());
 }
+
+// Calls 1 and 2 read the file, 3 found it too long, 4 found no file, 5 read: the sixth fails.
+const TEN_BYTES: [Step; 4] = [
+    Step::Whole("ten", 10, Ok(b"0123456789")),
+    Step::Whole("ten", 9, Err(ReadEnd::TooLong)),
+    Step::Whole("absent", 9, Err(ReadEnd::ReadFault)),
+    Step::Whole("ten", 10, Err(ReadEnd::ReadFault)),
+];
 
 #[test]
 fn ten_bytes_are_too_long_for_a_limit_of_nine(rt: HostRuntime) -> Result<(), Fail> {
-    let mut files = MemFiles::new(rt.alloc(), vec![in rt.alloc(); 6]?);
-    files.add("ten", b"0123456789")?;
-    let all = read_whole(rt.alloc(), &mut files, "ten", 10)?;
-    assert_eq!(rt; all.as_slice(), b"0123456789".as_slice());
-    let long = read_whole(rt.alloc(), &mut files, "ten", 9);
-    assert!(rt; matches!(long, Err(ReadEnd::TooLong)));
-    let absent = read_whole(rt.alloc(), &mut files, "absent", 9);
-    assert!(rt; matches!(absent, Err(ReadEnd::ReadFault)));
-    // Calls 1 and 2 read the file, 3 found it too long, 4 found no file, 5 read: the sixth fails.
-    let fault = read_whole(rt.alloc(), &mut files, "ten", 10);
-    assert!(rt; matches!(fault, Err(ReadEnd::ReadFault)));
+    let mut files = mem_files(rt.alloc(), 6, "ten", b"0123456789")?;
+    assert_eq!(rt; mem_answered(rt.alloc(), &mut files, &TEN_BYTES), 4);
     Ok(())
 }
+
+const PUT_AND_READ: [Step; 2] = [
+    Step::Put("outer_edge.trial", b"put and read", Ok(())),
+    Step::Whole("outer_edge.trial", 100, Ok(b"put and read")),
+];
+
+const ABSENT: [Step; 2] = [
+    Step::Read("outer_edge.trial", 0, Err(FileEnd::Failed)),
+    Step::Put("no/such/folder", b"x", Err(FileEnd::Failed)),
+];
 
 #[test]
 fn a_file_of_the_system_is_read_back(rt: HostRuntime) -> Result<(), Fail> {
     let mut files = RealFiles::new(&rt, rt.alloc())?;
-    files.put("outer_edge.trial", b"put and read")?;
-    let all = read_whole(rt.alloc(), &mut files, "outer_edge.trial", 100)?;
-    assert_eq!(rt; all.as_slice(), b"put and read".as_slice());
-    fs::remove_file(&rt, "outer_edge.trial")?;
-    let mut into = [0u8; 8];
-    assert_eq!(rt;
-        files.read("outer_edge.trial", &mut into, 0),
-        Err(FileEnd::Failed)
-    );
-    assert_eq!(rt; files.put("no/such/folder", b"x"), Err(FileEnd::Failed));
+    assert_eq!(rt; answered(rt.alloc(), &mut files, &PUT_AND_READ), 2);
+    assert!(rt; is_removed(&rt, "outer_edge.trial"));
+    assert_eq!(rt; answered(rt.alloc(), &mut files, &ABSENT), 2);
     Ok(())
 }
+
+const NEWER: Step = Step::Put("outer_edge.full", b"newer", Err(FileEnd::Failed));
+
+const OLD_AND_NEWER: [Step; 2] = [Step::Put("outer_edge.full", b"old", Ok(())), NEWER];
 
 #[test]
 fn a_full_disk_leaves_the_old_file(rt: HostRuntime) -> Result<(), Fail> {
     let mut files = RealFiles::new(&FullDisk { rt: rt.clone()? }, rt.alloc())?;
-    files.put("outer_edge.full", b"old")?;
-    assert_eq!(rt;
-        files.put("outer_edge.full", b"newer"),
-        Err(FileEnd::Failed)
-    );
-    assert_eq!(rt;
-        fs::read(&rt, "outer_edge.full")?.as_slice(),
-        b"old".as_slice()
-    );
-    assert!(rt; !fs::exists(&rt, "outer_edge.full.new1")?);
-    fs::remove_file(&rt, "outer_edge.full")?;
-    assert_eq!(rt;
-        files.put("outer_edge.full", b"newer"),
-        Err(FileEnd::Failed)
-    );
-    assert!(rt; !fs::exists(&rt, "outer_edge.full")?);
+    assert_eq!(rt; answered(rt.alloc(), &mut files, &OLD_AND_NEWER), 2);
+    assert!(rt; system_file_is(&rt, "outer_edge.full", b"old"));
+    assert!(rt; is_absent(&rt, "outer_edge.full.new1"));
+    assert!(rt; is_removed(&rt, "outer_edge.full"));
+    assert!(rt; is_answered(rt.alloc(), &mut files, NEWER));
+    assert!(rt; is_absent(&rt, "outer_edge.full"));
     Ok(())
+}
+
+/// Makes an empty file that only its owner may read and write.
+fn make_private(rt: &HostRuntime, name: &str) -> bool {
+    let mut private = OpenOptions::new();
+    private.write(true).create_new(true).mode(0o600);
+    private.open(rt, name).is_ok()
+}
+
+/// Makes a link to a private file, beside which another's stands.
+fn make_link(rt: &HostRuntime) -> bool {
+    make_private(rt, "outer_edge.kept")
+        && fs::write(rt, "outer_edge.kept.new1", b"another's").is_ok()
+        && symlink(rt, "outer_edge.kept", "outer_edge.link").is_ok()
+}
+
+fn is_link(rt: &HostRuntime, name: &str) -> bool {
+    match fs::symlink_metadata(rt, name) {
+        Ok(found) => found.is_symlink(),
+        Err(_) => false,
+    }
+}
+
+fn is_private(rt: &HostRuntime, name: &str) -> bool {
+    match fs::metadata(rt, name) {
+        Ok(found) => found.mode() & 0o777 == 0o600,
+        Err(_) => false,
+    }
 }
 
 #[test]
 fn a_put_keeps_links_permissions_and_other_files(rt: HostRuntime) -> Result<(), Fail> {
-    let mut private = OpenOptions::new();
-    private.write(true).create_new(true).mode(0o600);
-    private.open(&rt, "outer_edge.kept")?;
-    fs::write(&rt, "outer_edge.kept.new1", b"another's")?;
-    symlink(&rt, "outer_edge.kept", "outer_edge.link")?;
+    assert!(rt; make_link(&rt));
     let mut files = RealFiles::new(&rt, rt.alloc())?;
-    files.put("outer_edge.link", b"through the link")?;
-    assert!(rt; fs::symlink_metadata(&rt, "outer_edge.link")?.is_symlink());
-    assert_eq!(rt;
-        fs::read(&rt, "outer_edge.kept")?.as_slice(),
-        b"through the link".as_slice()
-    );
-    assert_eq!(rt; fs::metadata(&rt, "outer_edge.kept")?.mode() & 0o777, 0o600);
-    assert_eq!(rt;
-        fs::read(&rt, "outer_edge.kept.new1")?.as_slice(),
-        b"another's".as_slice()
-    );
-    assert!(rt; !fs::exists(&rt, "outer_edge.kept.new2")?);
+    let through = Step::Put("outer_edge.link", b"through the link", Ok(()));
+    assert!(rt; is_answered(rt.alloc(), &mut files, through));
+    assert!(rt; is_link(&rt, "outer_edge.link"));
+    assert!(rt; system_file_is(&rt, "outer_edge.kept", b"through the link"));
+    assert!(rt; is_private(&rt, "outer_edge.kept"));
+    assert!(rt; system_file_is(&rt, "outer_edge.kept.new1", b"another's"));
+    assert!(rt; is_absent(&rt, "outer_edge.kept.new2"));
     for name in ["outer_edge.link", "outer_edge.kept", "outer_edge.kept.new1"] {
-        fs::remove_file(&rt, name)?;
+        assert!(rt; is_removed(&rt, name));
     }
     Ok(())
 }
@@ -286,8 +409,7 @@ fn a_put_keeps_links_permissions_and_other_files(rt: HostRuntime) -> Result<(), 
 #[test]
 fn standard_output_takes_bytes(rt: HostRuntime) -> Result<(), Fail> {
     let mut out = RealOut::new(&rt, rt.alloc())?;
-    out.reserve(100)?;
-    assert_eq!(rt; out.write(b"three\n"), Ok(6));
+    assert!(rt; writes_once(&mut out, 100, b"three\n", Ok(6)));
     Ok(())
 }
 
@@ -295,11 +417,10 @@ fn standard_output_takes_bytes(rt: HostRuntime) -> Result<(), Fail> {
 fn a_narrow_pipe_takes_a_text_in_pieces(rt: HostRuntime) -> Result<(), Fail> {
     let taken = Cell::new(0);
     let mut out = RealOut::new(&Narrow { taken: &taken }, rt.alloc())?;
-    out.reserve(100)?;
-    assert_eq!(rt; out.write(b"three\n"), Ok(4));
-    assert!(rt; write_whole(&mut out, b"nine more").is_ok());
+    assert!(rt; writes_once(&mut out, 100, b"three\n", Ok(4)));
+    assert!(rt; writes_whole(&mut out, 100, b"nine more", Ok(())));
     assert_eq!(rt; taken.get(), 13);
-    assert_eq!(rt; write_whole(&mut out, b"full"), Err(Failed));
+    assert!(rt; writes_whole(&mut out, 100, b"full", Err(Failed)));
     assert_eq!(rt; taken.get(), 16);
     Ok(())
 }

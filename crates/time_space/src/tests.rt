@@ -32,43 +32,63 @@ struct Times {
     bands: [u128; 2],
 }
 
-fn base() -> Street {
-    Street {
-        distance: 500,
-        red: 50,
-        left: 0,
-        clear_out: 0,
-        patterns: [true, false, true, false],
-        halves: 2,
-    }
-}
+const BASE: Street = Street {
+    distance: 500,
+    red: 50,
+    left: 0,
+    clear_out: 0,
+    patterns: [true, false, true, false],
+    halves: 2,
+};
 
-fn whole_band() -> Times {
-    Times {
-        grid: 2,
-        pattern: 1,
-        red: 100,
-        runs: [100, 100],
-        firsts: [100, 200],
-        bands: [100, 100],
-    }
-}
+const NEAR: Street = Street {
+    distance: 250,
+    ..BASE
+};
 
-fn half_band() -> Times {
-    Times {
-        grid: 2,
-        pattern: 1,
-        red: 50,
-        runs: [50, 50],
-        firsts: [100, 150],
-        bands: [100, 0],
+const LEFTS: Street = Street {
+    red: 40,
+    left: 10,
+    ..NEAR
+};
+
+const CLEARS: Street = Street {
+    clear_out: 10,
+    ..BASE
+};
+
+const HALVED: Street = Street { halves: 1, ..BASE };
+
+const WHOLE_BAND: Times = Times {
+    grid: 2,
+    pattern: 1,
+    red: 100,
+    runs: [100, 100],
+    firsts: [100, 200],
+    bands: [100, 100],
+};
+
+const HALF_BAND: Times = Times {
+    grid: 2,
+    pattern: 1,
+    red: 50,
+    runs: [50, 50],
+    firsts: [100, 150],
+    bands: [100, 0],
+};
+
+/// A fraction of a whole.
+fn share(num: i128, den: i128) -> Result<Frac, Fail> {
+    match Frac::new(num, den) {
+        Ok(share) => Ok(share),
+        Err(_) => Err("no fraction".into()),
     }
 }
 
 /// The inbound band counts so many halves.
 fn head(halves: i128) -> Result<SampleHead, Fail> {
     Ok(SampleHead {
-        ratio: Frac::new(halves, 2).ok().ok_or("no ratio")?,
+        ratio: share(halves, 2)?,
         ..plain_head()
     })
 }
@@ -92,14 +112,22 @@ fn signal(name: &'static str, street: Street) -> SampleSignal {
     }
 }
 
-fn artery(alloc: Global, street: Street) -> Result<Artery, Fail> {
-    let head = head(street.halves)?;
-    let link = plain_link(street.distance);
-    let signals = [signal("A", base()), signal("B", street)];
-    match sample_street(alloc, head, &signals, &[link]) {
+fn artery_of(
+    alloc: Global,
+    head: SampleHead,
+    signals: &[SampleSignal],
+    links: &[SampleLink],
+) -> Result<Artery, Fail> {
+    match sample_street(alloc, head, signals, links) {
         Ok(artery) => Ok(artery),
         Err(_) => Err("no artery".into()),
     }
+}
+
+fn artery(alloc: Global, street: Street) -> Result<Artery, Fail> {
+    let signals = [signal("A", BASE), signal("B", street)];
+    let links = [plain_link(street.distance)];
+    artery_of(alloc, head(street.halves)?, &signals, &links)
 }
 
 fn make_timing(alloc: Global, times: Times) -> Result<Option<Timing>, Fail> {
@@ -118,116 +146,154 @@ fn make_timing(alloc: Global, times: Times) -> Result<Option<Timing>, Fail> {
 }
 
 fn timing(alloc: Global, times: Times) -> Result<Timing, Fail> {
-    Ok(make_timing(alloc, times)?.ok_or("no timing")?)
+    match make_timing(alloc, times)? {
+        Some(timing) => Ok(timing),
+        None => Err("no timing".into()),
+    }
+}
+
+/// The first rule that the timing breaks.
+fn broken(artery: &Artery, timing: &Timing) -> Option<Failing> {
+    holds(artery, timing).err()
+}
+
+fn first_of_times(alloc: Global, artery: &Artery, times: Times) -> Result<Option<Failing>, Fail> {
+    Ok(broken(artery, &timing(alloc, times)?))
 }
 
 fn first_failing(alloc: Global, street: Street, times: Times) -> Result<Option<Failing>, Fail> {
-    let artery = artery(alloc, street)?;
-    let timing = timing(alloc, times)?;
-    Ok(holds(&artery, &timing).err())
+    first_of_times(alloc, &artery(alloc, street)?, times)
 }
+
+const TWO_SIGNALS: [(Street, Times, Option<Failing>); 15] = [
+    (BASE, WHOLE_BAND, None),
+    (
+        BASE,
+        Times {
+            bands: [101, 100],
+            ..WHOLE_BAND
+        },
+        Some(Failing::Outbound {
+            signal: 1,
+            tick: 201,
+        }),
+    ),
+    (
+        BASE,
+        Times {
+            bands: [100, 101],
+            ..WHOLE_BAND
+        },
+        Some(Failing::Inbound {
+            signal: 2,
+            tick: 301,
+        }),
+    ),
+    (
+        BASE,
+        Times {
+            firsts: [50, 200],
+            bands: [0, 0],
+            ..WHOLE_BAND
+        },
+        Some(Failing::Outbound {
+            signal: 1,
+            tick: 50,
+        }),
+    ),
+    (
+        BASE,
+        Times {
+            grid: 1,
+            ..WHOLE_BAND
+        },
+        Some(Failing::CycleLong),
+    ),
+    (
+        BASE,
+        Times {
+            grid: 3,
+            ..WHOLE_BAND
+        },
+        Some(Failing::CycleShort),
+    ),
+    (
+        BASE,
+        Times {
+            runs: [99, 100],
+            ..WHOLE_BAND
+        },
+        Some(Failing::Fast {
+            dir: Dir::Outbound,
+            link: 1,
+        }),
+    ),
+    (
+        BASE,
+        Times {
+            runs: [100, 101],
+            ..WHOLE_BAND
+        },
+        Some(Failing::Slow {
+            dir: Dir::Inbound,
+            link: 1,
+        }),
+    ),
+    (
+        BASE,
+        Times {
+            pattern: 2,
+            ..WHOLE_BAND
+        },
+        Some(Failing::Pattern { signal: 2 }),
+    ),
+    (NEAR, HALF_BAND, None),
+    (
+        LEFTS,
+        HALF_BAND,
+        Some(Failing::Outbound {
+            signal: 2,
+            tick: 231,
+        }),
+    ),
+    (
+        LEFTS,
+        Times {
+            pattern: 3,
+            ..HALF_BAND
+        },
+        None,
+    ),
+    (
+        CLEARS,
+        WHOLE_BAND,
+        Some(Failing::Outbound {
+            signal: 2,
+            tick: 180,
+        }),
+    ),
+    (
+        HALVED,
+        Times {
+            bands: [100, 49],
+            ..WHOLE_BAND
+        },
+        Some(Failing::Ratio),
+    ),
+    (
+        HALVED,
+        Times {
+            bands: [100, 50],
+            ..WHOLE_BAND
+        },
+        None,
+    ),
+];
 
 #[test]
 fn rules_of_two_signals(rt: HostRuntime) -> Result<(), Fail> {
-    let street = base();
-    let good = whole_band();
-    let near = Street {
-        distance: 250,
-        ..street
-    };
-    let lefts = Street {
-        red: 40,
-        left: 10,
-        ..near
-    };
-    let clears = Street {
-        clear_out: 10,
-        ..street
-    };
-    let halved = Street {
-        halves: 1,
-        ..street
-    };
-    let rows = [
-        (street, good, None),
-        (
-            street,
-            Times {
-                bands: [101, 100],
-                ..good
-            },
-            outbound(1, 201),
-        ),
-        (
-            street,
-            Times {
-                bands: [100, 101],
-                ..good
-            },
-            inbound(2, 301),
-        ),
-        (
-            street,
-            Times {
-                firsts: [50, 200],
-                bands: [0, 0],
-                ..good
-            },
-            outbound(1, 50),
-        ),
-        (street, Times { grid: 1, ..good }, Some(Failing::CycleLong)),
-        (street, Times { grid: 3, ..good }, Some(Failing::CycleShort)),
-        (
-            street,
-            Times {
-                runs: [99, 100],
-                ..good
-            },
-            fast(Dir::Outbound, 1),
-        ),
-        (
-            street,
-            Times {
-                runs: [100, 101],
-                ..good
-            },
-            slow(Dir::Inbound, 1),
-        ),
-        (
-            street,
-            Times { pattern: 2, ..good },
-            Some(Failing::Pattern { signal: 2 }),
-        ),
-        (near, half_band(), None),
-        (lefts, half_band(), outbound(2, 231)),
-        (
-            lefts,
-            Times {
-                pattern: 3,
-                ..half_band()
-            },
-            None,
-        ),
-        (clears, good, outbound(2, 180)),
-        (
-            halved,
-            Times {
-                bands: [100, 49],
-                ..good
-            },
-            Some(Failing::Ratio),
-        ),
-        (
-            halved,
-            Times {
-                bands: [100, 50],
-                ..good
-            },
-            None,
-        ),
-    ];
-    for (street, times, expected) in rows {
-        assert!(rt; first_failing(rt.alloc(), street, times)? == expected);
+    for (street, times, expected) in &TWO_SIGNALS {
+        assert!(rt; first_failing(rt.alloc(), *street, *times)? == *expected);
     }
     Ok(())
 }
@@ -245,15 +311,8 @@ fn long_artery(alloc: Global) -> Result<Artery, Fail> {
         change_in: Some(range(-10, 10)),
         ..after
     };
-    let signals = [
-        signal("A", base()),
-        signal("B", base()),
-        signal("C", base()),
-    ];
-    match sample_street(alloc, head(1)?, &signals, &[before, after]) {
-        Ok(artery) => Ok(artery),
-        Err(_) => Err("no artery".into()),
-    }
+    let signals = [signal("A", BASE), signal("B", BASE), signal("C", BASE)];
+    artery_of(alloc, head(1)?, &signals, &[before, after])
 }
 
 /// What differs between the timings of three signals.
@@ -275,8 +334,8 @@ const LINES: Long = Long {
     bands: [0, 0],
 };
 
-fn long_timing(alloc: Global, long: Long) -> Result<Timing, Fail> {
-    let made = Timing::new(
+fn make_long_timing(alloc: Global, long: Long) -> Result<Option<Timing>, Fail> {
+    Ok(Timing::new(
         long.grid,
         2,
         vec![in alloc; 1, long.patterns[0], long.patterns[1]]?,
@@ -287,222 +346,247 @@ fn long_timing(alloc: Global, long: Long) -> Result<Timing, Fail> {
         100,
         long.bands[0],
         long.bands[1],
-    );
-    Ok(made.ok_or("no timing")?)
+    ))
 }
 
-fn fast(dir: Dir, link: u32) -> Option<Failing> {
-    Some(Failing::Fast { dir, link })
+fn first_of_long(alloc: Global, artery: &Artery, long: Long) -> Result<Option<Failing>, Fail> {
+    match make_long_timing(alloc, long)? {
+        Some(timing) => Ok(broken(artery, &timing)),
+        None => Err("no timing".into()),
+    }
 }
 
-fn slow(dir: Dir, link: u32) -> Option<Failing> {
-    Some(Failing::Slow { dir, link })
-}
+const THREE_SIGNALS: [(Long, Option<Failing>); 22] = [
+    (LINES, None),
+    (
+        Long {
+            runs_out: [100, 111],
+            ..LINES
+        },
+        Some(Failing::Rise {
+            dir: Dir::Outbound,
+            link: 1,
+        }),
+    ),
+    (
+        Long {
+            runs_in: [100, 89],
+            ..LINES
+        },
+        Some(Failing::Drop {
+            dir: Dir::Inbound,
+            link: 1,
+        }),
+    ),
+    (
+        Long {
+            runs_out: [100, 110],
+            runs_in: [100, 90],
+            ..LINES
+        },
+        Some(Failing::Inbound {
+            signal: 2,
+            tick: 190,
+        }),
+    ),
+    // Two rules: the first of them.
+    (
+        Long {
+            patterns: [2, 1],
+            grid: 3,
+            ..LINES
+        },
+        Some(Failing::Pattern { signal: 2 }),
+    ),
+    (
+        Long {
+            grid: 3,
+            runs_out: [70, 100],
+            ..LINES
+        },
+        Some(Failing::CycleShort),
+    ),
+    (
+        Long {
+            grid: 1,
+            runs_out: [24, 100],
+            ..LINES
+        },
+        Some(Failing::CycleLong),
+    ),
+    (
+        Long {
+            runs_out: [201, 200],
+            runs_in: [50, 49],
+            ..LINES
+        },
+        Some(Failing::Fast {
+            dir: Dir::Inbound,
+            link: 2,
+        }),
+    ),
+    (
+        Long {
+            runs_out: [100, 111],
+            runs_in: [200, 201],
+            ..LINES
+        },
+        Some(Failing::Slow {
+            dir: Dir::Inbound,
+            link: 2,
+        }),
+    ),
+    (
+        Long {
+            runs_out: [100, 89],
+            runs_in: [100, 111],
+            ..LINES
+        },
+        Some(Failing::Rise {
+            dir: Dir::Inbound,
+            link: 1,
+        }),
+    ),
+    (
+        Long {
+            runs_in: [100, 89],
+            bands: [100, 49],
+            ..LINES
+        },
+        Some(Failing::Drop {
+            dir: Dir::Inbound,
+            link: 1,
+        }),
+    ),
+    (
+        Long {
+            bands: [101, 50],
+            ..LINES
+        },
+        Some(Failing::Ratio),
+    ),
+    (
+        Long {
+            runs_out: [100, 101],
+            bands: [100, 101],
+            ..LINES
+        },
+        Some(Failing::Outbound {
+            signal: 3,
+            tick: 401,
+        }),
+    ),
+    // One rule both ways: outbound.
+    (
+        Long {
+            runs_out: [50, 49],
+            runs_in: [49, 50],
+            ..LINES
+        },
+        Some(Failing::Fast {
+            dir: Dir::Outbound,
+            link: 2,
+        }),
+    ),
+    (
+        Long {
+            runs_out: [200, 201],
+            runs_in: [201, 200],
+            ..LINES
+        },
+        Some(Failing::Slow {
+            dir: Dir::Outbound,
+            link: 2,
+        }),
+    ),
+    (
+        Long {
+            runs_out: [100, 111],
+            runs_in: [100, 111],
+            ..LINES
+        },
+        Some(Failing::Rise {
+            dir: Dir::Outbound,
+            link: 1,
+        }),
+    ),
+    (
+        Long {
+            runs_out: [100, 89],
+            runs_in: [100, 89],
+            ..LINES
+        },
+        Some(Failing::Drop {
+            dir: Dir::Outbound,
+            link: 1,
+        }),
+    ),
+    // One rule at two numbers: the first that the band or the list comes to.
+    (
+        Long {
+            patterns: [2, 2],
+            ..LINES
+        },
+        Some(Failing::Pattern { signal: 2 }),
+    ),
+    (
+        Long {
+            runs_out: [49, 49],
+            ..LINES
+        },
+        Some(Failing::Fast {
+            dir: Dir::Outbound,
+            link: 1,
+        }),
+    ),
+    (
+        Long {
+            runs_in: [201, 201],
+            ..LINES
+        },
+        Some(Failing::Slow {
+            dir: Dir::Inbound,
+            link: 1,
+        }),
+    ),
+    (
+        Long {
+            runs_out: [101, 100],
+            bands: [100, 100],
+            ..LINES
+        },
+        Some(Failing::Outbound {
+            signal: 2,
+            tick: 301,
+        }),
+    ),
+    (
+        Long {
+            runs_in: [100, 101],
+            bands: [100, 100],
+            ..LINES
+        },
+        Some(Failing::Inbound {
+            signal: 2,
+            tick: 301,
+        }),
+    ),
+];
 
-fn rise(dir: Dir) -> Option<Failing> {
-    Some(Failing::Rise { dir, link: 1 })
-}
-
-fn drop_of_pace(dir: Dir) -> Option<Failing> {
-    Some(Failing::Drop { dir, link: 1 })
-}
-
-fn least(dir: Dir) -> Option<Failing> {
-    Some(Failing::Least { dir })
-}
-
-fn outbound(signal: u32, tick: i128) -> Option<Failing> {
-    Some(Failing::Outbound { signal, tick })
-}
-
-fn inbound(signal: u32, tick: i128) -> Option<Failing> {
-    Some(Failing::Inbound { signal, tick })
-}
+/// A pattern that isn't allowed, and too few signals.
+const SHORT: Times = Times {
+    pattern: 2,
+    ..WHOLE_BAND
+};
 
 /// The limits of three signals alone, and then two rules broken at once, or one at two places: the first is named.
 #[test]
 fn the_first_of_two_rules(rt: HostRuntime) -> Result<(), Fail> {
-    let alloc = rt.alloc();
-    let artery = long_artery(alloc)?;
-    let pattern = Some(Failing::Pattern { signal: 2 });
-    let rows = [
-        (LINES, None),
-        (
-            Long {
-                runs_out: [100, 111],
-                ..LINES
-            },
-            rise(Dir::Outbound),
-        ),
-        (
-            Long {
-                runs_in: [100, 89],
-                ..LINES
-            },
-            drop_of_pace(Dir::Inbound),
-        ),
-        (
-            Long {
-                runs_out: [100, 110],
-                runs_in: [100, 90],
-                ..LINES
-            },
-            inbound(2, 190),
-        ),
-        // Two rules: the first of them.
-        (
-            Long {
-                patterns: [2, 1],
-                grid: 3,
-                ..LINES
-            },
-            pattern,
-        ),
-        (
-            Long {
-                grid: 3,
-                runs_out: [70, 100],
-                ..LINES
-            },
-            Some(Failing::CycleShort),
-        ),
-        (
-            Long {
-                grid: 1,
-                runs_out: [24, 100],
-                ..LINES
-            },
-            Some(Failing::CycleLong),
-        ),
-        (
-            Long {
-                runs_out: [201, 200],
-                runs_in: [50, 49],
-                ..LINES
-            },
-            fast(Dir::Inbound, 2),
-        ),
-        (
-            Long {
-                runs_out: [100, 111],
-                runs_in: [200, 201],
-                ..LINES
-            },
-            slow(Dir::Inbound, 2),
-        ),
-        (
-            Long {
-                runs_out: [100, 89],
-                runs_in: [100, 111],
-                ..LINES
-            },
-            rise(Dir::Inbound),
-        ),
-        (
-            Long {
-                runs_in: [100, 89],
-                bands: [100, 49],
-                ..LINES
-            },
-            drop_of_pace(Dir::Inbound),
-        ),
-        (
-            Long {
-                bands: [101, 50],
-                ..LINES
-            },
-            Some(Failing::Ratio),
-        ),
-        (
-            Long {
-                runs_out: [100, 101],
-                bands: [100, 101],
-                ..LINES
-            },
-            outbound(3, 401),
-        ),
-        // One rule both ways: outbound.
-        (
-            Long {
-                runs_out: [50, 49],
-                runs_in: [49, 50],
-                ..LINES
-            },
-            fast(Dir::Outbound, 2),
-        ),
-        (
-            Long {
-                runs_out: [200, 201],
-                runs_in: [201, 200],
-                ..LINES
-            },
-            slow(Dir::Outbound, 2),
-        ),
-        (
-            Long {
-                runs_out: [100, 111],
-                runs_in: [100, 111],
-                ..LINES
-            },
-            rise(Dir::Outbound),
-        ),
-        (
-            Long {
-                runs_out: [100, 89],
-                runs_in: [100, 89],
-                ..LINES
-            },
-            drop_of_pace(Dir::Outbound),
-        ),
-        // One rule at two numbers: the first that the band or the list comes to.
-        (
-            Long {
-                patterns: [2, 2],
-                ..LINES
-            },
-            pattern,
-        ),
-        (
-            Long {
-                runs_out: [49, 49],
-                ..LINES
-            },
-            fast(Dir::Outbound, 1),
-        ),
-        (
-            Long {
-                runs_in: [201, 201],
-                ..LINES
-            },
-            slow(Dir::Inbound, 1),
-        ),
-        (
-            Long {
-                runs_out: [101, 100],
-                bands: [100, 100],
-                ..LINES
-            },
-            outbound(2, 301),
-        ),
-        (
-            Long {
-                runs_in: [100, 101],
-                bands: [100, 100],
-                ..LINES
-            },
-            inbound(2, 301),
-        ),
-    ];
-    for (long, expected) in rows {
-        let timing = long_timing(alloc, long)?;
-        assert!(rt; holds(&artery, &timing).err() == expected);
+    let artery = long_artery(rt.alloc())?;
+    for (long, expected) in &THREE_SIGNALS {
+        assert!(rt; first_of_long(rt.alloc(), &artery, *long)? == *expected);
     }
-    // A pattern that isn't allowed, and too few signals.
-    let short = Times {
-        pattern: 2,
-        ..whole_band()
-    };
-    assert!(rt; holds(&artery, &timing(alloc, short)?).err() == Some(Failing::Shape));
+    assert!(rt; first_of_times(rt.alloc(), &artery, SHORT)? == Some(Failing::Shape));
     Ok(())
 }
 
@@ -515,252 +599,274 @@ struct Asked {
     bands: [u128; 2],
 }
 
-/// What the wide bands of two signals break of these, of which each is up to 100 of 200 ticks wide.
-fn first_asked(alloc: Global, asked: Asked) -> Result<Option<Failing>, Fail> {
+fn asking_artery(alloc: Global, asked: Asked) -> Result<Artery, Fail> {
     let head = SampleHead {
         version: 2,
-        least_out: Frac::new(asked.least[0], 10).ok().ok_or("no share")?,
-        least_in: Frac::new(asked.least[1], 10).ok().ok_or("no share")?,
+        least_out: share(asked.least[0], 10)?,
+        least_in: share(asked.least[1], 10)?,
         equal: asked.equal,
         ..head(asked.halves)?
     };
-    let link = plain_link(500);
-    let signals = [signal("A", base()), signal("B", base())];
-    let artery = match sample_street(alloc, head, &signals, &[link]) {
-        Ok(artery) => artery,
-        Err(_) => return Err("no artery".into()),
-    };
+    let signals = [signal("A", BASE), signal("B", BASE)];
+    artery_of(alloc, head, &signals, &[plain_link(500)])
+}
+
+/// What the wide bands of two signals break of these, of which each is up to 100 of 200 ticks wide.
+fn first_asked(alloc: Global, asked: Asked) -> Result<Option<Failing>, Fail> {
     let times = Times {
         bands: asked.bands,
-        ..whole_band()
+        ..WHOLE_BAND
     };
-    Ok(holds(&artery, &timing(alloc, times)?).err())
+    first_of_times(alloc, &asking_artery(alloc, asked)?, times)
 }
+
+const FREE: Asked = Asked {
+    halves: 2,
+    least: [0, 0],
+    equal: false,
+    bands: [100, 99],
+};
+
+const LEAST_AND_EQUAL: [(Asked, Option<Failing>); 12] = [
+    (FREE, None),
+    (
+        Asked {
+            least: [5, 4],
+            ..FREE
+        },
+        None,
+    ),
+    (
+        Asked {
+            least: [4, 5],
+            ..FREE
+        },
+        Some(Failing::Least { dir: Dir::Inbound }),
+    ),
+    (
+        Asked {
+            least: [6, 0],
+            ..FREE
+        },
+        Some(Failing::Least { dir: Dir::Outbound }),
+    ),
+    (
+        Asked {
+            equal: true,
+            ..FREE
+        },
+        Some(Failing::Equal),
+    ),
+    (
+        Asked {
+            equal: true,
+            bands: [99, 100],
+            ..FREE
+        },
+        Some(Failing::Equal),
+    ),
+    (
+        Asked {
+            least: [5, 5],
+            equal: true,
+            bands: [100, 100],
+            ..FREE
+        },
+        None,
+    ),
+    // Two rules: the first of them.
+    (
+        Asked {
+            halves: 4,
+            least: [6, 6],
+            bands: [50, 101],
+            ..FREE
+        },
+        Some(Failing::Ratio),
+    ),
+    (
+        Asked {
+            least: [6, 6],
+            equal: true,
+            ..FREE
+        },
+        Some(Failing::Least { dir: Dir::Outbound }),
+    ),
+    (
+        Asked {
+            least: [5, 5],
+            equal: true,
+            ..FREE
+        },
+        Some(Failing::Least { dir: Dir::Inbound }),
+    ),
+    (
+        Asked {
+            equal: true,
+            bands: [101, 100],
+            ..FREE
+        },
+        Some(Failing::Equal),
+    ),
+    (
+        Asked {
+            least: [6, 0],
+            bands: [101, 100],
+            ..FREE
+        },
+        Some(Failing::Least { dir: Dir::Outbound }),
+    ),
+];
 
 #[test]
 fn least_and_equal_bands(rt: HostRuntime) -> Result<(), Fail> {
-    let free = Asked {
-        halves: 2,
-        least: [0, 0],
-        equal: false,
-        bands: [100, 99],
-    };
-    let rows = [
-        (free, None),
-        (
-            Asked {
-                least: [5, 4],
-                ..free
-            },
-            None,
-        ),
-        (
-            Asked {
-                least: [4, 5],
-                ..free
-            },
-            least(Dir::Inbound),
-        ),
-        (
-            Asked {
-                least: [6, 0],
-                ..free
-            },
-            least(Dir::Outbound),
-        ),
-        (
-            Asked {
-                equal: true,
-                ..free
-            },
-            Some(Failing::Equal),
-        ),
-        (
-            Asked {
-                equal: true,
-                bands: [99, 100],
-                ..free
-            },
-            Some(Failing::Equal),
-        ),
-        (
-            Asked {
-                least: [5, 5],
-                equal: true,
-                bands: [100, 100],
-                ..free
-            },
-            None,
-        ),
-        // Two rules: the first of them.
-        (
-            Asked {
-                halves: 4,
-                least: [6, 6],
-                bands: [50, 101],
-                ..free
-            },
-            Some(Failing::Ratio),
-        ),
-        (
-            Asked {
-                least: [6, 6],
-                equal: true,
-                ..free
-            },
-            least(Dir::Outbound),
-        ),
-        (
-            Asked {
-                least: [5, 5],
-                equal: true,
-                ..free
-            },
-            least(Dir::Inbound),
-        ),
-        (
-            Asked {
-                equal: true,
-                bands: [101, 100],
-                ..free
-            },
-            Some(Failing::Equal),
-        ),
-        (
-            Asked {
-                least: [6, 0],
-                bands: [101, 100],
-                ..free
-            },
-            least(Dir::Outbound),
-        ),
-    ];
-    for (asked, expected) in rows {
-        assert!(rt; first_asked(rt.alloc(), asked)? == expected);
+    for (asked, expected) in &LEAST_AND_EQUAL {
+        assert!(rt; first_asked(rt.alloc(), *asked)? == *expected);
     }
     Ok(())
+}
+
+/// Bands that are too wide, and a first line in the red.
+const WIDE: Times = Times {
+    firsts: [50, 200],
+    bands: [101, 101],
+    ..WHOLE_BAND
+};
+
+const NO_BAND: [(Times, Option<Failing>); 4] = [
+    (WIDE, None),
+    (Times { grid: 1, ..WIDE }, Some(Failing::CycleLong)),
+    (
+        Times {
+            runs: [99, 101],
+            ..WIDE
+        },
+        Some(Failing::Fast {
+            dir: Dir::Outbound,
+            link: 1,
+        }),
+    ),
+    (
+        Times { pattern: 2, ..WIDE },
+        Some(Failing::Pattern { signal: 2 }),
+    ),
+];
+
+fn first_of_base(alloc: Global, street: Street, times: Times) -> Result<Option<Failing>, Fail> {
+    Ok(base_holds(&artery(alloc, street)?, &timing(alloc, times)?).err())
 }
 
 /// Firsts and bands play no part in the rules that speak of no band.
 #[test]
 fn rules_that_speak_of_no_band(rt: HostRuntime) -> Result<(), Fail> {
-    let street = base();
-    let wide = Times {
-        firsts: [50, 200],
-        bands: [101, 101],
-        ..whole_band()
-    };
-    let rows = [
-        (wide, None),
-        (Times { grid: 1, ..wide }, Some(Failing::CycleLong)),
-        (
-            Times {
-                runs: [99, 101],
-                ..wide
-            },
-            fast(Dir::Outbound, 1),
-        ),
-        (
-            Times { pattern: 2, ..wide },
-            Some(Failing::Pattern { signal: 2 }),
-        ),
-    ];
-    for (times, expected) in rows {
-        let artery = artery(rt.alloc(), street)?;
-        let timing = timing(rt.alloc(), times)?;
-        assert!(rt; base_holds(&artery, &timing).err() == expected);
+    for (times, expected) in &NO_BAND {
+        assert!(rt; first_of_base(rt.alloc(), BASE, *times)? == *expected);
     }
     Ok(())
 }
+
+/// The numerator and the denominator of the weighted band.
+fn weighted_band(alloc: Global, street: Street, times: Times) -> Result<(i128, i128), Fail> {
+    let found = value(&artery(alloc, street)?, &timing(alloc, times)?);
+    Ok((found.num(), found.den()))
+}
+
+const WEIGHTED: [(Street, Times, (i128, i128)); 3] = [
+    (BASE, WHOLE_BAND, (1, 1)),
+    (NEAR, HALF_BAND, (1, 2)),
+    (
+        HALVED,
+        Times {
+            bands: [100, 50],
+            ..WHOLE_BAND
+        },
+        (5, 8),
+    ),
+];
 
 #[test]
 fn weighted_bands(rt: HostRuntime) -> Result<(), Fail> {
-    let near = Street {
-        distance: 250,
-        ..base()
-    };
-    let halved = Street {
-        halves: 1,
-        ..base()
-    };
-    let rows = [
-        (base(), whole_band(), (1, 1)),
-        (near, half_band(), (1, 2)),
-        (
-            halved,
-            Times {
-                bands: [100, 50],
-                ..whole_band()
-            },
-            (5, 8),
-        ),
-    ];
-    for (street, times, expected) in rows {
-        let found = value(&artery(rt.alloc(), street)?, &timing(rt.alloc(), times)?);
-        assert_eq!(rt; (found.num(), found.den()), expected);
+    for (street, times, expected) in &WEIGHTED {
+        assert!(rt; weighted_band(rt.alloc(), *street, *times)? == *expected);
     }
     Ok(())
 }
 
+/// Whether signal 1 is green outbound at the tick, and whether the inbound band is there 200 ticks later. None where the
+/// two have other counts of signals.
+fn seen(artery: &Artery, timing: &Timing, tick: i32) -> Option<(bool, bool)> {
+    if timing.count() != artery.count() {
+        return None;
+    }
+    let tick = i128::from(tick);
+    let is_green = green(artery, timing, Dir::Outbound, 1, tick);
+    let is_in_band = in_band(artery, timing, Dir::Inbound, 1, tick + 200);
+    Some((is_green, is_in_band))
+}
+
+const SEEN: [(i32, bool, bool); 6] = [
+    (-100, true, true),
+    (0, true, true),
+    (1, false, false),
+    (99, false, false),
+    (100, true, true),
+    (200, true, true),
+];
+
 #[test]
 fn what_is_seen_at_a_signal(rt: HostRuntime) -> Result<(), Fail> {
-    let artery = artery(rt.alloc(), base())?;
-    let timing = timing(rt.alloc(), whole_band())?;
-    assert_eq!(rt; timing.count(), artery.count());
-    let rows = [
-        (-100i32, true, true),
-        (0, true, true),
-        (1, false, false),
-        (99, false, false),
-        (100, true, true),
-        (200, true, true),
-    ];
-    for (tick, is_green, is_in_band) in rows {
-        let tick = i128::from(tick);
-        assert!(rt; green(&artery, &timing, Dir::Outbound, 1, tick) == is_green);
-        assert!(rt; in_band(&artery, &timing, Dir::Inbound, 1, tick + 200) == is_in_band);
+    let artery = artery(rt.alloc(), BASE)?;
+    let timing = timing(rt.alloc(), WHOLE_BAND)?;
+    for (tick, is_green, is_in_band) in &SEEN {
+        assert!(rt; seen(&artery, &timing, *tick) == Some((*is_green, *is_in_band)));
     }
     Ok(())
+}
+
+/// The count, the grid and the unit.
+fn measures(timing: &Timing) -> (u32, u128, u128) {
+    (timing.count(), timing.grid(), timing.unit())
+}
+
+/// The pattern and the common red of signal 2.
+fn at_signal_two(timing: &Timing) -> (u32, i128) {
+    let _ = timing.count();
+    (timing.pattern(2), timing.common_red(2))
+}
+
+/// A direction's run on link 1, its first line and its band.
+fn one_way(timing: &Timing, dir: Dir) -> (u128, i128, u128) {
+    let _ = timing.count();
+    (timing.run(dir, 1), timing.first(dir), timing.band(dir))
+}
+
+/// Whether the lists are these.
+fn has_lists(timing: &Timing, patterns: &[u32], reds: &[u128], runs: [&[u128]; 2]) -> bool {
+    timing.patterns() == patterns
+        && timing.reds() == reds
+        && timing.run_out() == runs[0]
+        && timing.run_in() == runs[1]
 }
 
 #[test]
 fn a_timing_is_read_back(rt: HostRuntime) -> Result<(), Fail> {
-    let read = timing(rt.alloc(), half_band())?;
-    assert_eq!(rt; (read.count(), read.grid(), read.unit()), (2, 2, 2));
-    assert_eq!(rt; (read.pattern(2), read.common_red(2)), (1, 50));
-    assert_eq!(rt;
-        (read.run(Dir::Outbound, 1), read.run(Dir::Inbound, 1)),
-        (50, 50)
-    );
-    assert_eq!(rt;
-        (read.first(Dir::Outbound), read.first(Dir::Inbound)),
-        (100, 150)
-    );
-    assert_eq!(rt;
-        (read.band(Dir::Outbound), read.band(Dir::Inbound)),
-        (100, 0)
-    );
-    assert!(rt; read.patterns() == [1, 1].as_slice() && read.reds() == [0, 50].as_slice());
-    assert!(rt; read.run_out() == [50].as_slice() && read.run_in() == [50].as_slice());
-    assert!(rt;
-        make_timing(
-            rt.alloc(),
-            Times {
-                grid: 0,
-                ..half_band()
-            }
-        )?
-        .is_none()
-    );
-    assert!(rt;
-        make_timing(
-            rt.alloc(),
-            Times {
-                pattern: 5,
-                ..half_band()
-            }
-        )?
-        .is_none()
-    );
+    let read = timing(rt.alloc(), HALF_BAND)?;
+    assert_eq!(rt; measures(&read), (2, 2, 2));
+    assert_eq!(rt; at_signal_two(&read), (1, 50));
+    assert_eq!(rt; one_way(&read, Dir::Outbound), (50, 100, 100));
+    assert_eq!(rt; one_way(&read, Dir::Inbound), (50, 150, 0));
+    assert!(rt; has_lists(&read, &[1, 1], &[0, 50], [&[50], &[50]]));
+    for outside in [
+        Times {
+            grid: 0,
+            ..HALF_BAND
+        },
+        Times {
+            pattern: 5,
+            ..HALF_BAND
+        },
+    ] {
+        assert!(rt; make_timing(rt.alloc(), outside)?.is_none());
+    }
     Ok(())
 }
