@@ -9,7 +9,7 @@ use crate::{Found, Stop, TreeNode, Verdict, certificate_of, search};
 use artery_model::Artery;
 use certificate_checker::check;
 use named_row::RowId;
-use narrow_fraction::Frac;
+use narrow_fraction::{Frac, Unfit};
 use sample_streets::{SampleHead, plain_head, plain_link, plain_signal, sample_street};
 use std::alloc::Global;
 use std::rt::HostRuntime;
@@ -29,8 +29,16 @@ fn artery_of(alloc: Global, head: SampleHead, red: u32, distance: u32) -> Result
     }
 }
 
+/// The quotient, with nothing said of it: what `Frac::new` says is a long term.
+fn quotient(num: i128, den: i128) -> Result<Frac, Unfit> {
+    Frac::new(num, den)
+}
+
 pub(crate) fn fraction(num: i128, den: i128) -> Result<Frac, Fail> {
-    Ok(Frac::new(num, den).ok().ok_or("no fraction")?)
+    match quotient(num, den) {
+        Ok(fraction) => Ok(fraction),
+        Err(_) => Err("no fraction".into()),
+    }
 }
 
 pub(crate) fn searched(alloc: Global, artery: &Artery, limit: u64) -> Result<Found, Fail>

@@ -10,7 +10,7 @@ use crate::{Aim, ArteryRows, Reject, TreeReject, check, check_tree};
 use artery_model::{Artery, Dir};
 use loop_rows::column_count;
 use named_row::{Leaf, Place, Row, RowId, WideAt};
-use narrow_fraction::{Frac, Op, Wide};
+use narrow_fraction::{Frac, Op, Unfit, Wide};
 use plan_text::{CertNode, read_certificate};
 use sample_streets::{SampleHead, plain_head, plain_link, plain_signal, sample_street};
 use search_box::SearchBox;
@@ -82,8 +82,16 @@ fn artery(alloc: Global, red: u32, distance: u32) -> Result<Artery, Fail> {
     }
 }
 
+/// The quotient, with nothing said of it: what `Frac::new` says is a long term.
+fn quotient(num: i128, den: i128) -> Result<Frac, Unfit> {
+    Frac::new(num, den)
+}
+
 fn fraction(num: i128, den: i128) -> Result<Frac, Fail> {
-    Ok(Frac::new(num, den).ok().ok_or("no fraction")?)
+    match quotient(num, den) {
+        Ok(fraction) => Ok(fraction),
+        Err(_) => Err("no fraction".into()),
+    }
 }
 
 fn row(family: u8, index: u32) -> RowId {

@@ -10,7 +10,7 @@ use artery_model::{Artery, Units};
 use branch_tree::{Found, Site, SitePart, Stop, Verdict};
 use fraction_tableau::WideCell;
 use named_row::{Place, RowId, WideAt};
-use narrow_fraction::{Frac, Op, Wide};
+use narrow_fraction::{Frac, Op, Unfit, Wide};
 use offset_recovery::WideTiming;
 use plan_text::FamilyName;
 use sample_streets::{
@@ -148,8 +148,16 @@ diagram
 1 in ###########################<<<<<<<=======================###
 ";
 
+/// The quotient, with nothing said of it: what `Frac::new` says is a long term.
+fn quotient(num: i128, den: i128) -> Result<Frac, Unfit> {
+    Frac::new(num, den)
+}
+
 fn fraction(num: i128, den: i128) -> Result<Frac, Fail> {
-    Ok(Frac::new(num, den).ok().ok_or("no fraction")?)
+    match quotient(num, den) {
+        Ok(fraction) => Ok(fraction),
+        Err(_) => Err("no fraction".into()),
+    }
 }
 
 fn artery(alloc: Global, street: Street) -> Result<Artery, Fail> {

@@ -7,14 +7,22 @@ ghost use Rattle.simplex_theory.specs.Tableau.{cell, bound, height, width};
 use crate::{leaf_of, point_of, refuter_of};
 use fraction_tableau::Tableau;
 use named_row::{Leaf, Place, Point, Row, RowId, Weight};
-use narrow_fraction::{Frac, Memory};
+use narrow_fraction::{Frac, Memory, Unfit};
 use std::alloc::Global;
 use std::process::Abort;
 use std::rt::HostRuntime;
 
+/// The quotient, with nothing said of it: what `Frac::new` says is a long term.
+fn quotient(num: i128, den: i128) -> Result<Frac, Unfit> {
+    Frac::new(num, den)
+}
+
 /// The fraction, or 0 where there is none.
 fn fraction(num: i128, den: i128) -> Frac {
-    Frac::new(num, den).unwrap_or(Frac::whole(0))
+    match quotient(num, den) {
+        Ok(fraction) => fraction,
+        Err(_) => Frac::whole(0),
+    }
 }
 
 /// A row of two columns.

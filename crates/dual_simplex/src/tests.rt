@@ -9,16 +9,24 @@ ghost use Rattle.fraction_tableau.specs.Loading.{IsUnpivoted};
 use crate::{Meter, NodeEnd, Step, solve_node, step};
 use fraction_tableau::{Tableau, WideCell};
 use named_row::{Place, Row, RowId};
-use narrow_fraction::{Frac, Op, Wide};
+use narrow_fraction::{Frac, Op, Unfit, Wide};
 use std::alloc::Global;
 use std::process::Abort;
 use std::rt::HostRuntime;
 
 const TWO_126: i128 = 85_070_591_730_234_615_865_843_651_857_942_052_864;
 
+/// The quotient, with nothing said of it: what `Frac::new` says is a long term.
+fn quotient(num: i128, den: i128) -> Result<Frac, Unfit> {
+    Frac::new(num, den)
+}
+
 /// The fraction, or 0 where there is none.
 fn fraction(num: i128, den: i128) -> Frac {
-    Frac::new(num, den).unwrap_or(Frac::whole(0))
+    match quotient(num, den) {
+        Ok(fraction) => fraction,
+        Err(_) => Frac::whole(0),
+    }
 }
 
 /// A row of two columns.

@@ -5,7 +5,7 @@ use crate::{LinkReject, link_check, read_links};
 use artery_model::Artery;
 use link_space::LinkFailing;
 use named_row::{Place, RowId, WideAt};
-use narrow_fraction::{Frac, Op, Wide};
+use narrow_fraction::{Frac, Op, Unfit, Wide};
 use sample_streets::{plain_head, plain_link, plain_signal, sample_street};
 use std::alloc::Global;
 use std::rt::HostRuntime;
@@ -39,8 +39,16 @@ fn artery(alloc: Global) -> Result<Artery, Fail> {
     }
 }
 
+/// The quotient, with nothing said of it: what `Frac::new` says is a long term.
+fn quotient(num: i128, den: i128) -> Result<Frac, Unfit> {
+    Frac::new(num, den)
+}
+
 fn fraction(num: i128, den: i128) -> Result<Frac, Fail> {
-    Ok(Frac::new(num, den).ok().ok_or("no fraction")?)
+    match quotient(num, den) {
+        Ok(fraction) => Ok(fraction),
+        Err(_) => Err("no fraction".into()),
+    }
 }
 
 /// What the check answers for a claim with its link timing and its nodes.

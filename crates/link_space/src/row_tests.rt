@@ -7,7 +7,7 @@ use crate::{fill_link_goal, fill_link_row, link_sum, next_link_row};
 use artery_model::Artery;
 use loop_rows::SumFault;
 use named_row::{Leaf, Place, Row, RowId, Weight};
-use narrow_fraction::Frac;
+use narrow_fraction::{Frac, Unfit};
 use sample_streets::{SampleHead, plain_head, plain_link, plain_signal, sample_street};
 use search_box::SearchBox;
 use std::alloc::Global;
@@ -63,8 +63,16 @@ fn root_rows() -> [Expected; 21] {
     ]
 }
 
+/// The quotient, with nothing said of it: what `Frac::new` says is a long term.
+fn quotient(num: i128, den: i128) -> Result<Frac, Unfit> {
+    Frac::new(num, den)
+}
+
 fn fraction(num: i128, den: i128) -> Frac {
-    Frac::new(num, den).unwrap_or(Frac::whole(0))
+    match quotient(num, den) {
+        Ok(fraction) => fraction,
+        Err(_) => Frac::whole(0),
+    }
 }
 
 /// The artery whose inbound bands count so many halves.
