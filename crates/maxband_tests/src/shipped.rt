@@ -1,4 +1,5 @@
-//! The streets of `examples/` with what `solve` prints of them. Written by `scripts/examples --write`.
+//! The streets of `examples/` with what `solve` prints of them, five to a list, since the checker takes a list in one go. Written by
+//! `scripts/examples --write`.
 
 /// A street of `examples/`: its name there, its description, and the status and the output of `solve`.
 pub struct Shipped {
@@ -8,7 +9,7 @@ pub struct Shipped {
     pub report: &'static str,
 }
 
-pub static STREETS: [Shipped; 13] = [
+pub static FIRST: [Shipped; 5] = [
     Shipped {
         name: "bridge",
         street: r##"# River Road: five signals 450 to 520 m apart, of which the fourth is red for 72 of 100 parts: all that crosses the river
@@ -730,6 +731,9 @@ diagram
 1 in <##########################==================<<<<<<<<<<<<<<<
 "##,
     },
+];
+
+pub static SECOND: [Shipped; 5] = [
     Shipped {
         name: "market",
         street: r##"# Market Street: left turns, and queues that have to clear. 36 to 50 km/h.
@@ -1098,6 +1102,9 @@ speed_in = [40, 40]
         report: r##"verdict none
 "##,
     },
+];
+
+pub static THIRD: [Shipped; 3] = [
     Shipped {
         name: "river",
         street: r##"# A road along a river: the inbound lane of the second link is 30 m longer.

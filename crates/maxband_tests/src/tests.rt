@@ -9,10 +9,10 @@ use crate::made_cases::{CANONICAL, TRIALS, is_canonical, is_found};
 use crate::plan_cases::{HALVED, MEASURES, ROUNDED, is_as_planned};
 use crate::renew_cases::{RENEWALS, is_renewed};
 use crate::running::{first_wrong, first_wrong_report, first_wrong_search, is_answered};
-use crate::shipped::{STREETS, Shipped};
+use crate::shipped::Shipped;
 use crate::sweep_cases::{COUNTS, SWEEPS, first_wrong_sweep, is_counted};
 use crate::word_cases::{NO_FORMS, are_no_form};
-use crate::{check_cases, hold_cases, link_cases, solve_cases, width_streets};
+use crate::{check_cases, hold_cases, link_cases, shipped, solve_cases, width_streets};
 use std::test::Fail;
 
 #[test]
@@ -79,18 +79,20 @@ fn usual_limit_of_work(rt: HostRuntime) -> Result<(), Fail> {
     Ok(())
 }
 
-/// The streets whose whole reports are known, in three lists.
+/// The streets whose whole reports are known, in five lists.
 fn streets(number: u32) -> &'static [Shipped] {
     match number {
-        0 => &STREETS,
-        1 => &width_streets::STREETS,
+        0 => &shipped::FIRST,
+        1 => &shipped::SECOND,
+        2 => &shipped::THIRD,
+        3 => &width_streets::STREETS,
         _ => &solve_cases::WHOLE_REPORT,
     }
 }
 
 #[test]
 fn whole_reports(rt: HostRuntime) -> Result<(), Fail> {
-    for number in 0..3 {
+    for number in 0..5 {
         assert_eq!(rt; first_wrong_report(rt.alloc(), streets(number))?, "");
     }
     Ok(())
