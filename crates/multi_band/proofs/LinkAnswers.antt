@@ -1,5 +1,5 @@
 -- What the engine's answer tells of a search of links: its link timing, its tree and its certificate, its site, and when work may have stopped it.
-use Rattle.std.proofs.Common.{◌≡◌, ℕ, inl, inr, List, [], ◌∷◌, map, Option, Some, None, IfSome, refl, sym, subst, option_map}
+use Rattle.std.proofs.Common.{◌≡◌, ℕ, inl, inr, List, [], ◌∷◌, map, Option, Some, None, IfSome, option_map}
 use Rattle.rational_theory.specs.Rational.{ℚ}
 use Rattle.progression.specs.Street.{Street}
 use Rattle.artery_model.specs.Valid.{IsValid}
@@ -7,7 +7,6 @@ use Rattle.linear_theory.specs.Boxes.{Area, root_box}
 use Rattle.named_row.specs.declared.leaves.Leaf.{Leaf}
 use Rattle.plan_text.specs.declared.certificate.Claim.{Claim}
 use Rattle.plan_text.specs.Warrants.{Node}
-use Rattle.certificate_checker.specs.Accepted.{limit_of}
 use Rattle.certificate_checker.specs.TreeProofs.{IsTreeProof}
 use Rattle.link_theory.specs.LinkPlan.{LinkPlan}
 use Rattle.link_theory.specs.GoodLinks.{GoodLinks}

@@ -1,7 +1,6 @@
 -- What a site of links names is there: the row, the column and the link are ones of links.
-use Rattle.std.proofs.Common.{arith, ◌≡◌, ℕ, suc, ◌+◌, ◌-◌, ◌<◌, List, length, refl, sym, subst}
+use Rattle.std.proofs.Common.{arith, ◌≡◌, ℕ, ◌+◌, ◌-◌, ◌<◌, List, length, refl, sym, subst}
 use Rattle.rational_theory.specs.Rational.{ℚ}
-use Rattle.narrow_fraction.specs.Attempt.{earlier}
 use Rattle.progression.specs.Street.{Street, count, HasLink}
 use Rattle.progression.specs.declared.parts.Dir.{Dir}
 use Rattle.progression.specs.declared.parts.Dir.TheVariants.{Outbound, Inbound}
@@ -13,7 +12,7 @@ use Rattle.link_space.specs.LinkWeights.{link_name_at, link_rows}
 use Rattle.link_space.specs.laws.LinkSheets.{link_sheet_width}
 use Rattle.link_space.proofs.LinkRowTests.{link_row_decided}
 use Rattle.offset_recovery.specs.declared.outcome.WideTiming.{WideTiming}
-use Rattle.offset_recovery.specs.Recovered.{unit_tests, line_tests, placed_tests, recovered_by}
+use Rattle.offset_recovery.specs.Recovered.{unit_tests, line_tests, recovered_by}
 use Rattle.branch_and_bound.specs.Lines.{Line}
 use Rattle.branch_and_bound.specs.Rules.{IsMet}
 use Rattle.branch_and_bound.specs.Answer.{IsSite}

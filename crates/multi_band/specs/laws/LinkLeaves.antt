@@ -1,5 +1,5 @@
 -- A leaf over the rows of links: what the row that its numbers are added up in says of the sum of the rows that it names, and back.
-use Rattle.std.proofs.Common.{◌≡◌, ◌≤◌, ℕ, inl, inr, None, Some, Option, List, [], ◌∷◌, map, length, sym, subst, arith}
+use Rattle.std.proofs.Common.{◌≡◌, ◌≤◌, ℕ, inl, inr, Some, List, [], ◌∷◌, map, length, sym, subst, arith}
 use Rattle.rational_theory.specs.Rational.{ℚ, ◌≤ℚ◌, ◌<ℚ◌}
 use Rattle.rational_theory.proofs.Order.{≤ℚ_trans}
 use Rattle.progression.specs.Street.{Street, count}

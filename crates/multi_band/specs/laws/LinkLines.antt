@@ -1,16 +1,16 @@
 -- What the end of a line of boxes of links is: its vertex is one of links, whose place lies in the box and whose link timing is good, its leaf covers the goal with
 -- the bound, or refutes; and along a line of splits every box is a box of the artery.
 use Rattle.std.proofs.Common.{◌≡◌, ℕ, ◌<◌, List, [], ◌∷◌, map, get_or, sym, ◌∙◌, subst, arith}
-use Rattle.rational_theory.specs.Rational.{ℚ, ◌≤ℚ◌}
+use Rattle.rational_theory.specs.Rational.{◌≤ℚ◌}
 use Rattle.rational_theory.proofs.Order.{≤ℚ_refl}
 use Rattle.rational_theory.specs.Rows as maths
 use Rattle.rational_theory.specs.Rows.{dot}
 use Rattle.progression.specs.Street.{Street, count}
 use Rattle.progression.specs.Speeds.{number}
 use Rattle.artery_model.specs.Valid.{IsValid}
-use Rattle.linear_theory.specs.Boxes.{Area, IsBoxOf, root_box}
+use Rattle.linear_theory.specs.Boxes.{IsBoxOf, root_box}
 use Rattle.named_row.specs.declared.leaves.Weight.{Weight}
-use Rattle.simplex_theory.specs.BlandRule.{optimal, infeasible}
+use Rattle.simplex_theory.specs.BlandRule.{optimal}
 use Rattle.dual_leaf.specs.Leaves.{CoversWith, RefutesAt}
 use Rattle.search_box.specs.declared.span.At.{At}
 use Rattle.search_box.specs.Places.{IsPlace}
@@ -41,7 +41,6 @@ use Rattle.branch_tree.specs.laws.Lineage.{sound_along, boxed_along}
 use Rattle.branch_tree.specs.laws.RunLaws as runs
 use Rattle.multi_band.specs.LinkRecovered.{link_recovered}
 use Rattle.multi_band.specs.LinkTables.{names_of_links}
-use Rattle.multi_band.specs.LinkOpening.{link_opening}
 use Rattle.multi_band.specs.LinkProgram.{link_program}
 use Rattle.multi_band.specs.laws.IdleBands.{bands_are_zero}
 use Rattle.multi_band.specs.laws.LinkTables.{among_links_is}

@@ -1,5 +1,5 @@
 -- The rows of links of a part of a box say at least what those of the box say: a point that meets them meets the box's.
-use Rattle.std.proofs.Common.{◌≡◌, ℕ, ◌-◌, ◌*◌, ◌<◌, List, [], ◌∷◌, ◌++◌, replicate, length, refl, ap}
+use Rattle.std.proofs.Common.{◌≡◌, ℕ, ◌-◌, ◌*◌, ◌<◌, List, [], ◌∷◌, ◌++◌, replicate, refl, ap}
 use Rattle.rational_theory.specs.Rational.{ℚ, ◌+ℚ◌, ◌*ℚ◌}
 use Rattle.rational_theory.specs.Rows as maths
 use Rattle.rational_theory.specs.Rows.{dot, IsMet}
