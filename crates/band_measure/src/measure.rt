@@ -70,8 +70,8 @@ pub fn widest(artery: &Artery, timing: &Timing, dir: Dir) -> Option<Widest>
     ensures first { IfSome result (λ w. w.first < cycle artery.now timing.now) }
     ensures band { IfSome result (λ w. w.band < cycle artery.now timing.now) }
 {
-    let _ = artery.head();
-    let _ = timing.unit();
+    artery.known_valid();
+    prove!(2 <= timing.unit());
     let mut best = None;
     let mut later = 0;
     for place in 0..artery.count() {

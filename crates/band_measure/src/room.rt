@@ -83,8 +83,8 @@ pub fn band_from(artery: &Artery, timing: &Timing, dir: Dir, first: u128) -> Opt
     ensures { MatchOption result ((b : ℕ) → ¬ RunsOn artery.now timing.now dir (pos first) b)
         (λ w. IsWidestFrom artery.now timing.now dir (pos first) w) }
 {
-    let _ = artery.head();
-    let _ = timing.unit();
+    artery.known_valid();
+    prove!(2 <= timing.unit());
     let mut band = cycle(artery, timing);
     let mut later = 0;
     for place in 0..artery.count() {

@@ -71,8 +71,8 @@ pub fn bands(alloc: Global, artery: &Artery, timing: &Timing) -> Result<Answer<'
         let lines = fails_line(alloc, failing)?.into_bytes();
         return Ok(told(Cause::Fails(failing), lines));
     }
-    let _ = artery.head();
-    let _ = timing.unit();
+    artery.known_valid();
+    prove!(2 <= timing.unit());
     let outbound = widest(artery, timing, Dir::Outbound);
     let inbound = widest(artery, timing, Dir::Inbound);
     let mut lines = widest_line(alloc, artery, timing, Dir::Outbound, outbound)?;

@@ -157,7 +157,7 @@ pub fn round<'a>(
     let (Some(timing), Some(claim)) = (&certificate.timing, limit_of(&certificate.claim)) else {
         return unplanned(alloc, PlanEnd::NoTimingGiven);
     };
-    let _ = artery.head();
+    artery.known_valid();
     match plan(alloc, artery, claim, timing) {
         Ok(plan) => tell_plan(alloc, artery, &plan, name),
         Err(PlanFault::End(end)) => unplanned(alloc, end),

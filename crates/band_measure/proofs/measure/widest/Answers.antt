@@ -12,8 +12,8 @@ returns c =
     let two : 2 ≤ c.args.timing.now.unit = omega (arith, c.unit.ensures.value, c.unit.ensures.least) in
     let found = subst (λ n. FoundOfEdges c.args.artery.now c.args.timing.now c.args.dir n c.loop-place.best) all c.loop-place.invariant.best in
     record {
-      widest = widest_of_edges c.args.artery.now c.args.timing.now c.args.dir c.loop-place.best c.head.ensures.valid two found;
-      some = some_run c.args.artery.now c.args.timing.now c.args.dir c.loop-place.best c.head.ensures.valid two found;
+      widest = widest_of_edges c.args.artery.now c.args.timing.now c.args.dir c.loop-place.best c.known_valid.ensures two found;
+      some = some_run c.args.artery.now c.args.timing.now c.args.dir c.loop-place.best c.known_valid.ensures two found;
       first = first_below_cycle c.args.artery.now c.args.timing.now c.args.dir c.loop-place.best found;
-      band = band_below_cycle c.args.artery.now c.args.timing.now c.args.dir c.loop-place.best c.head.ensures.valid two found;
+      band = band_below_cycle c.args.artery.now c.args.timing.now c.args.dir c.loop-place.best c.known_valid.ensures two found;
     }

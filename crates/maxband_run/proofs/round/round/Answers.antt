@@ -9,7 +9,7 @@ returns-in-Ok c =
     let timing_is : c.args.certificate.now.timing ≡ Some c.in-Some-Some.timing = search rules in
     let claim_is : limit_of c.args.certificate.now.claim ≡ Some c.in-Some-Some.claim = search rules in
     let certified : IsCertified c.args.artery.now c.args.certificate.now c.in-Some-Some.timing c.in-Some-Some.claim =
-    record { valid = c.head.ensures.valid; accepted = c.in_default.ensures.accepted; timing_is = timing_is; claim_is = claim_is } in
+    record { valid = c.known_valid.ensures; accepted = c.in_default.ensures.accepted; timing_is = timing_is; claim_is = claim_is } in
     let bounded = claim_bounds c.args.artery.now c.args.certificate.now.claim c.args.certificate.now.timing c.in-Some-Some.claim claim_is c.in_default.ensures.holds in
     record {
       finds = round_told c.args.artery.now c.args.certificate.now c.in-Some-Some.timing c.in-Some-Some.claim c.in-Ok.plan c.args.name.now c.tell_plan.result certified c.in-Ok.ensures.plan c.in-Ok.ensures.best
@@ -21,7 +21,7 @@ returns-in-Err-End c =
     let timing_is : c.args.certificate.now.timing ≡ Some c.in-Some-Some.timing = search rules in
     let claim_is : limit_of c.args.certificate.now.claim ≡ Some c.in-Some-Some.claim = search rules in
     let certified : IsCertified c.args.artery.now c.args.certificate.now c.in-Some-Some.timing c.in-Some-Some.claim =
-    record { valid = c.head.ensures.valid; accepted = c.in_default.ensures.accepted; timing_is = timing_is; claim_is = claim_is } in
+    record { valid = c.known_valid.ensures; accepted = c.in_default.ensures.accepted; timing_is = timing_is; claim_is = claim_is } in
     let ends = rw c.in-Err-End.field-0-is at c.in-Err-End.ensures.faults in
     record {
       finds = unplanned_told c.args.artery.now c.args.certificate.now c.in-Some-Some.timing c.in-Some-Some.claim c.in-Err-End.end c.args.name.now c.unplanned-in-Err-End.result certified ends
