@@ -25,6 +25,10 @@ words_take line bytes x e =
     moved (λ (y : List (List ℕ) × List ℕ). bytes ≡ line_of y.0 ++ 10 ∷ y.1) (words a.0.0, a.0.1) x a.2
     (line_takes line bytes a.0 a.1 ∙ ap (λ (y : List ℕ). y ++ 10 ∷ a.0.1) (sym (joined_words a.0.0)))
 
+pub words_read : (line : ℕ) (bytes text rest : List ℕ) (ws : List (List ℕ)) → line_at line bytes ≡ Ok (text, rest) → ws ≡ words text → words_at line bytes ≡ Ok (ws, rest)
+unfolding words_at
+words_read line bytes text rest ws l w = rw (l, w) refl
+
 -- what follows a line is shorter
 pub words_shorter : (line : ℕ) (bytes : List ℕ) (x : List (List ℕ) × List ℕ) → words_at line bytes ≡ Ok x → length x.1 + 1 ≤ length bytes
 words_shorter line bytes x e = omega (arith, ap length (words_take line bytes x e), length-append (line_of x.0) (10 ∷ x.1))

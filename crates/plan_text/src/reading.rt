@@ -2,7 +2,7 @@
 
 ghost use Rattle.std.specs.Prelude.{◌≡◌, ◌+◌, ◌-◌, ◌<◌, ◌≤◌, ◌^◌, All, length, IfOk, Ok};
 ghost use Rattle.progression.specs.Plan.{Plan};
-ghost use Rattle.plan_text.specs.Lines.{Gives};
+ghost use Rattle.plan_text.specs.Lines.{Gives, numbers_at};
 ghost use Rattle.plan_text.specs.Spelling.{timing_text, IsHeld};
 ghost use Rattle.plan_text.specs.Reading.{place_of, pattern_place, scale_at, signals_at, both_ways_at, pair_at, base_of, base_at, plan_at, timing_of};
 
@@ -38,6 +38,21 @@ fn place(line: u64, count: usize, least: u128) -> NumberLine
     }
 }
 
+/// Just so many numbers of the next line below `2^80`, of which none is less than `least`, and what follows it.
+fn count_at<'a>(
+    alloc: Global,
+    key: &[u8],
+    line: u64,
+    count: usize,
+    least: u128,
+    bytes: &'a [u8],
+) -> Result<(Vec<u128>, &'a [u8]), TextEnd>
+    ensures exact { Gives (λ x. (x.0.items, x.1.now)) result (numbers_at key.now (place_of line count least) bytes.now) }
+    ensures count { IfOk result (λ x. length x.0.items ≡ count) }
+{
+    numbers_at(alloc, key, place(line, count, least), bytes)
+}
+
 /// The place of a line of 2 to 24 patterns.
 fn patterns_place(line: u64) -> NumberLine
     ensures { result ≡ pattern_place line }
@@ -57,8 +72,8 @@ fn scale_at(alloc: Global, line: u64, bytes: &[u8]) -> Result<(u128, u128, &[u8]
     requires { line + 1 < 2 ^ 64 }
     ensures exact { Gives (λ x. (x.0, x.1, x.2.now)) result (scale_at line bytes.now) }
 {
-    let (grid, rest) = numbers_at(alloc, b"grid", place(line, 1, 1), bytes)?;
-    let (unit, rest) = numbers_at(alloc, b"unit", place(line + 1, 1, 2), rest)?;
+    let (grid, rest) = count_at(alloc, b"grid", line, 1, 1, bytes)?;
+    let (unit, rest) = count_at(alloc, b"unit", line + 1, 1, 2, rest)?;
     Ok((grid[0], unit[0], rest))
 }
 
@@ -75,7 +90,7 @@ fn signals_at(
     ensures each { IfOk result (λ x. All (λ p. (1 ≤ p) × (p ≤ 4)) x.0.items) }
 {
     let (patterns, rest) = numbers_at(alloc, b"pattern", patterns_place(line), bytes)?;
-    let (reds, rest) = numbers_at(alloc, b"red", place(line + 1, patterns.len(), 0), rest)?;
+    let (reds, rest) = count_at(alloc, b"red", line + 1, patterns.len(), 0, rest)?;
     Ok((patterns, reds, rest))
 }
 
@@ -93,8 +108,8 @@ pub fn both_ways_at<'a>(
     requires { line + 1 < 2 ^ 64 }
     ensures { Gives (λ x. (x.0.items, x.1.items, x.2.now)) result (both_ways_at out_key.now in_key.now line links bytes.now) }
 {
-    let (outbound, rest) = numbers_at(alloc, out_key, place(line, links, 0), bytes)?;
-    let (inbound, rest) = numbers_at(alloc, in_key, place(line + 1, links, 0), rest)?;
+    let (outbound, rest) = count_at(alloc, out_key, line, links, 0, bytes)?;
+    let (inbound, rest) = count_at(alloc, in_key, line + 1, links, 0, rest)?;
     Ok((outbound, inbound, rest))
 }
 
@@ -108,7 +123,7 @@ fn pair_at<'a>(
 ) -> Result<(u128, u128, &'a [u8]), TextEnd>
     ensures { Gives (λ x. (x.0, x.1, x.2.now)) result (pair_at key.now line bytes.now) }
 {
-    let (pair, rest) = numbers_at(alloc, key, place(line, 2, 0), bytes)?;
+    let (pair, rest) = count_at(alloc, key, line, 2, 0, bytes)?;
     Ok((pair[0], pair[1], rest))
 }
 
