@@ -15,5 +15,4 @@ pub mod Stopping
 pub mod Halting
 pub mod Rooting
 pub mod Counting
-pub mod Capping
 pub mod Readings

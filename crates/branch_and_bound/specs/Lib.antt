@@ -12,6 +12,3 @@ pub mod Answer
 pub mod State
 pub mod Greatest
 pub mod Enough
-pub mod Capped
-pub mod CappedRules
-pub mod laws

@@ -14,7 +14,7 @@
 //!   a box answers, in units of work, which the `Meter` of `work_meter` counts.
 //! - `Answer`: `IsAccepted`, `IsSorted`, `StopCase`, `IsNeeded`, `IsOpenBound`, and the three verdicts.
 //! - `Enough`: how many units are enough.
-//! - `State`, `Volumes` and `Greatest` are what the search keeps true; nothing above rests on them. `Capped` is for the tests.
+//! - `State`, `Volumes` and `Greatest` are what the search keeps true; nothing above rests on them.
 #![tactic(auto)]
 
 mod best_first;
@@ -38,8 +38,3 @@ pub use node::TreeNode;
 pub use opened::Opened;
 pub use relaxation::Relaxation;
 pub use work_meter::Meter;
-
-#[cfg(test)]
-mod tests;
-#[cfg(test)]
-mod toy;

@@ -23,8 +23,6 @@
 mod artery;
 mod certifying;
 mod copying;
-#[cfg(test)]
-mod end_tests;
 mod found;
 mod kept;
 mod laws;
@@ -34,10 +32,6 @@ mod relaxed;
 mod searching;
 mod site;
 mod starting;
-#[cfg(test)]
-mod tests;
-#[cfg(test)]
-mod wide_tests;
 
 pub use certifying::{certificate_of, claim_by, nodes_of};
 pub use copying::copied;

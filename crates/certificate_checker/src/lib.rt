@@ -16,8 +16,6 @@ mod leaves;
 mod owed;
 mod reject;
 mod rows;
-#[cfg(test)]
-mod tests;
 mod walk;
 mod way;
 

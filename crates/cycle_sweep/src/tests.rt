@@ -69,13 +69,16 @@ const CASES: [Case; 7] = [
     },
 ];
 
-fn street(alloc: Global, red: u32) -> Result<Artery, Fail> {
-    let head = SampleHead {
+fn head() -> SampleHead {
+    SampleHead {
         cycle: range(50, 100),
         ..plain_head()
-    };
+    }
+}
+
+fn street(alloc: Global, red: u32) -> Result<Artery, Fail> {
     let signals = [plain_signal("A", red), plain_signal("B", red)];
-    match sample_street(alloc, head, &signals, &[plain_link(250)]) {
+    match sample_street(alloc, head(), &signals, &[plain_link(250)]) {
         Ok(artery) => Ok(artery),
         Err(_) => Err("no artery".into()),
     }

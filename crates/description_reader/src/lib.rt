@@ -14,35 +14,13 @@ mod build;
 mod check;
 mod demand;
 mod judge;
-#[cfg(test)]
-mod judged_tests;
 mod key_table;
-#[cfg(test)]
-mod key_tests;
 mod keys;
-#[cfg(test)]
-mod limit_tests;
-#[cfg(test)]
-mod order_tests;
 mod place;
 mod print;
-#[cfg(test)]
-mod print_tests;
 mod quantity;
 mod read;
-#[cfg(test)]
-mod reading_tests;
-#[cfg(test)]
-mod rule_tests;
-#[cfg(test)]
-mod samples;
-#[cfg(test)]
-mod table_tests;
-#[cfg(test)]
-mod type_tests;
 mod values;
-#[cfg(test)]
-mod version_tests;
 
 pub use artery_model::{Artery, Flaw, Kind, Refusal};
 pub use print::{law_one_text, print_artery};

@@ -22,6 +22,3 @@ pub use measures::{
 pub use names::{column_text, place_text, row_text, row_text_in};
 pub use offsets::{signal_lines, signal_name};
 pub use speeds::link_lines;
-
-#[cfg(test)]
-mod tests;

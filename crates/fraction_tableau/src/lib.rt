@@ -17,8 +17,6 @@ mod lines;
 mod loading;
 mod merging;
 mod tableau;
-#[cfg(test)]
-mod tests;
 mod turning;
 mod wide_cell;
 

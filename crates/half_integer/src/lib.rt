@@ -9,8 +9,6 @@ mod laws;
 mod phase;
 mod plan;
 mod search;
-#[cfg(test)]
-mod tests;
 mod too_fine;
 mod uneven;
 

@@ -15,13 +15,9 @@ mod goal;
 mod greens;
 mod problem;
 mod ratios;
-#[cfg(test)]
-mod row_tests;
 mod rows;
 mod rules;
 mod sum;
-#[cfg(test)]
-mod tests;
 mod timing;
 mod weight;
 

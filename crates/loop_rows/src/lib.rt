@@ -21,12 +21,8 @@ mod cycles;
 mod equal;
 mod family;
 mod fault;
-#[cfg(test)]
-mod feature_tests;
 mod following;
 pub mod laws;
-#[cfg(test)]
-mod leaf_tests;
 mod least;
 mod leaves;
 mod loops;
@@ -35,8 +31,6 @@ mod rows;
 mod runs;
 mod source;
 mod sums;
-#[cfg(test)]
-mod tests;
 mod turns;
 mod waits;
 

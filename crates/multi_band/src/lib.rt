@@ -22,14 +22,8 @@ mod found;
 mod laws;
 mod program;
 mod recovery;
-#[cfg(test)]
-mod recovery_tests;
 mod relaxed;
-#[cfg(test)]
-mod search_tests;
 mod searching;
-#[cfg(test)]
-mod start_tests;
 mod starting;
 mod table;
 

@@ -31,6 +31,3 @@ pub use sink::{Failed, Sink};
 pub use sure_files::SureFiles;
 pub use sure_sink::SureSink;
 pub use writing::write_whole;
-
-#[cfg(test)]
-mod tests;

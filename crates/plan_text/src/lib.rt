@@ -49,14 +49,3 @@ pub use second_writing::write_second;
 pub use timing_text::{OneBand, TimingKind};
 pub use tree::tree_at;
 pub use writing::{push_base, push_numbers, write_timing};
-
-#[cfg(test)]
-mod cert_tests;
-#[cfg(test)]
-mod limit_tests;
-#[cfg(test)]
-mod second_reading_tests;
-#[cfg(test)]
-mod second_tests;
-#[cfg(test)]
-mod tests;

@@ -22,6 +22,3 @@ pub use laws::{law_shifts_are_ranked, law_valid_street};
 pub use root::root_span;
 pub use shifts::{shift_at, shift_count};
 pub use span::{At, Span};
-
-#[cfg(test)]
-mod tests;

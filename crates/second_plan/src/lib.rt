@@ -10,8 +10,6 @@ mod laws;
 mod nearest;
 mod planning;
 mod seconds;
-#[cfg(test)]
-mod tests;
 
 pub use answer::{Plan, PlanEnd, PlanFault};
 pub use laws::{law_one_end, law_one_plan, law_plan_or_end};

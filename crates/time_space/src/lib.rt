@@ -11,8 +11,6 @@ mod limits;
 mod links;
 mod rules;
 mod seen;
-#[cfg(test)]
-mod tests;
 mod ticks;
 mod timing;
 mod weight;

@@ -1,0 +1,3 @@
+pub mod Capped
+pub mod CappedRules
+pub mod laws

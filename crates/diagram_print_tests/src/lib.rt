@@ -1,0 +1,5 @@
+//! Tests of `diagram_print`, through what is public of it.
+#![tactic(auto)]
+
+#[cfg(test)]
+mod tests;

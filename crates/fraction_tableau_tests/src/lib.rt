@@ -1,0 +1,5 @@
+//! Tests of `fraction_tableau`, through what is public of it.
+#![tactic(auto)]
+
+#[cfg(test)]
+mod tests;

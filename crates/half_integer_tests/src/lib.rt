@@ -1,0 +1,5 @@
+//! Tests of `half_integer`, through what is public of it.
+#![tactic(auto)]
+
+#[cfg(test)]
+mod tests;

@@ -1,0 +1,5 @@
+//! Tests of `offset_recovery`, through what is public of it.
+#![tactic(auto)]
+
+#[cfg(test)]
+mod tests;

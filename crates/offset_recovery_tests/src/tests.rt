@@ -1,0 +1,207 @@
+//! Vertices of two signals 250 metres apart, each with half of a cycle of 100 seconds red, driven at 36 kilometres an
+//! hour.
+
+ghost use Rattle.std.specs.Prelude.{◌≡◌, ◌<◌, IfOk, length};
+ghost use Rattle.rational_theory.specs.Rational.{◌/ℚ◌};
+ghost use Rattle.progression.specs.Speeds.{number};
+ghost use Rattle.progression.specs.Worked.{half_red};
+ghost use Rattle.sample_streets.specs.Samples.{signal_of};
+ghost use Rattle.linear_theory.specs.Boxes.{IsBoxOf, root_box};
+ghost use Rattle.linear_theory.specs.Worked.{apart};
+ghost use Rattle.recovery_theory.specs.Worked.{quarter_point, quarter_box};
+
+use artery_model::{Artery, Dir};
+use named_row::Point;
+use narrow_fraction::{Frac, Op, Wide};
+use offset_recovery::{RecoverFault, Recovered, WideTiming, check_number, common_unit, recover};
+use recovery_theory::law_worked_vertices;
+use sample_streets::{SampleSignal, plain_head, plain_link, plain_signal, sample_street};
+use search_box::{At, SearchBox};
+use std::alloc::Global;
+use std::rt::HostRuntime;
+use std::test::Fail;
+use time_space::Timing;
+
+const THREE_51: i128 = 2_153_693_963_075_557_766_310_747;
+
+const GREATEST: i128 = 170_141_183_460_469_231_731_687_303_715_884_105_727;
+
+/// A signal with all four left turn patterns.
+fn half_red(name: &'static str) -> SampleSignal
+    ensures { signal_of result ≡ half_red name.now }
+{
+    SampleSignal {
+        patterns: [true, true, true, true],
+        ..plain_signal(name, 50)
+    }
+}
+
+fn artery(alloc: Global) -> Result<Artery, Fail>
+    ensures { IfOk result (λ a. a ≡ apart 250) }
+{
+    let signals = [half_red("A"), half_red("B")];
+    match sample_street(alloc, plain_head(), &signals, &[plain_link(250)]) {
+        Ok(artery) => Ok(artery),
+        Err(_) => Err("no artery".into()),
+    }
+}
+
+#[tactic(auto, using(rational_theory::proofs::Order::whole_not_zero))]
+fn one_over(bottom: u32) -> Result<Frac, Fail>
+    requires { 0 < bottom }
+    ensures { IfOk result (λ f. f ≡ number 1 /ℚ number bottom) }
+{
+    match Frac::whole(1).over(Frac::whole(i64::from(bottom))) {
+        Ok(fraction) => Ok(fraction),
+        Err(_) => Err("no fraction".into()),
+    }
+}
+
+/// The outbound band half of the cycle, the runs a quarter, and this inbound wait at the second signal.
+fn point(alloc: Global, wait_in: Frac) -> Result<Point, Fail>
+    ensures { IfOk result (λ point. point.values.items ≡ quarter_point wait_in) }
+{
+    let half = one_over(2)?;
+    let quarter = one_over(4)?;
+    let frequency = one_over(100)?;
+    let zero = Frac::whole(0);
+    let values = vec![in alloc;
+        half, zero, frequency, zero, zero, zero, wait_in, quarter, quarter, zero, zero,
+    ]?;
+    Ok(Point { values })
+}
+
+fn root(alloc: Global, artery: &Artery) -> Result<SearchBox, Fail>
+    ensures value { IfOk result (λ area. area ≡ root_box artery.now) }
+    ensures boxed { IfOk result (λ area. IsBoxOf artery.now area) }
+{
+    match SearchBox::root(alloc, artery) {
+        Ok(area) => Ok(area),
+        Err(_) => Err("no memory".into()),
+    }
+}
+
+/// What becomes of the vertex without the inbound wait in the root box.
+fn outcome_in_root(alloc: Global) -> Result<Result<Recovered<Timing>, RecoverFault>, Fail> {
+    law_worked_vertices();
+    let artery = artery(alloc)?;
+    let area = root(alloc, &artery)?;
+    let point = point(alloc, Frac::whole(0))?;
+    Ok(recover(alloc, &artery, &area, &point))
+}
+
+/// The part of the root box where the block sum is 0.
+fn low_box(alloc: Global, artery: &Artery) -> Result<SearchBox, Fail>
+    requires { artery.now ≡ apart 250 }
+    ensures value { IfOk result (λ area. area ≡ quarter_box) }
+    ensures boxed { IfOk result (λ area. IsBoxOf artery.now area) }
+{
+    let root = root(alloc, artery)?;
+    match root.split(alloc, At::Loop { link: 1, at: 0 }) {
+        Ok(Some((low, _high))) => Ok(low),
+        _ => Err("no parts".into()),
+    }
+}
+
+/// What becomes of the vertex with half of a cycle of inbound wait in that part.
+fn outcome_in_part(alloc: Global) -> Result<Result<Recovered<Timing>, RecoverFault>, Fail> {
+    law_worked_vertices();
+    let artery = artery(alloc)?;
+    let area = low_box(alloc, &artery)?;
+    let point = point(alloc, one_over(2)?)?;
+    Ok(recover(alloc, &artery, &area, &point))
+}
+
+/// Two ticks a second and a part, and the second signal a quarter of a cycle after the first.
+fn is_quarter_apart(timing: &Timing) -> bool {
+    timing.grid() == 2
+        && timing.unit() == 2
+        && timing.patterns() == [1, 1].as_slice()
+        && timing.reds() == [0, 50].as_slice()
+        && timing.run_out() == [50].as_slice()
+        && timing.run_in() == [50].as_slice()
+        && timing.first(Dir::Outbound) == 100
+        && timing.first(Dir::Inbound) == 150
+        && timing.band(Dir::Outbound) == 100
+        && timing.band(Dir::Inbound) == 0
+}
+
+#[test]
+fn a_whole_vertex_is_a_timing(rt: HostRuntime) -> Result<(), Fail> {
+    match outcome_in_part(rt.alloc())? {
+        Ok(Recovered::Timing(timing)) => {
+            assert!(rt; is_quarter_apart(&timing));
+            Ok(())
+        }
+        _ => Err("no timing".into()),
+    }
+}
+
+#[test]
+fn a_block_sum_of_one_half_splits(rt: HostRuntime) -> Result<(), Fail> {
+    match outcome_in_root(rt.alloc())? {
+        Ok(Recovered::SplitAt(place)) => {
+            assert_eq!(rt; place, At::Loop { link: 1, at: 0 });
+            Ok(())
+        }
+        _ => Err("no place".into()),
+    }
+}
+
+/// The same runs and shifts, with these bands and frequency.
+fn wide_point(alloc: Global, band: Frac, frequency: Frac) -> Result<Point, Fail>
+    ensures { IfOk result (λ point. length point.values.items ≡ 11) }
+{
+    let quarter = one_over(4)?;
+    let zero = Frac::whole(0);
+    let values = vec![in alloc;
+        band, zero, frequency, zero, zero, zero, zero, quarter, quarter, zero, zero,
+    ]?;
+    Ok(Point { values })
+}
+
+fn fraction(top: i128, bottom: i128) -> Result<Frac, Fail> {
+    match Frac::new(top, bottom) {
+        Ok(fraction) => Ok(fraction),
+        Err(_) => Err("no fraction".into()),
+    }
+}
+
+#[test]
+fn a_great_product_is_refused(rt: HostRuntime) -> Result<(), Fail> {
+    let artery = artery(rt.alloc())?;
+    let frequency = fraction(GREATEST, 1)?;
+    let point = wide_point(rt.alloc(), one_over(2)?, frequency)?;
+    let wide = Wide {
+        op: Op::Mul,
+        left: frequency,
+        right: Frac::whole(100),
+    };
+    assert_eq!(rt;
+        common_unit(&artery, &point),
+        Err(WideTiming::Product { column: 2, wide })
+    );
+    Ok(())
+}
+
+#[test]
+fn a_great_denominator_is_refused(rt: HostRuntime) -> Result<(), Fail> {
+    let artery = artery(rt.alloc())?;
+    let point = wide_point(rt.alloc(), fraction(1, THREE_51)?, one_over(100)?)?;
+    let refused = WideTiming::Unit {
+        left: 1,
+        right: THREE_51 as u128,
+    };
+    assert_eq!(rt; common_unit(&artery, &point), Err(refused));
+    Ok(())
+}
+
+#[test]
+fn numbers_below_the_limit_fit(rt: HostRuntime) {
+    assert_eq!(rt; check_number(3, (1 << 80) - 1), Ok(()));
+    let refused = WideTiming::Number {
+        column: 3,
+        ticks: 1 << 80,
+    };
+    assert_eq!(rt; check_number(3, 1 << 80), Err(refused));
+}

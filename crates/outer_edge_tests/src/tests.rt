@@ -1,0 +1,426 @@
+//! Files and outputs in memory and of the system, whole reads and whole writes.
+
+use outer_edge::{
+    Failed, FileEnd, Files, MemFiles, MemSink, ReadEnd, RealFiles, RealOut, Sink, SureFiles,
+    SureSink, read_whole, write_whole,
+};
+use std::alloc::{Allocator, Global};
+use std::cell::Cell;
+use std::fmt::Display;
+use std::fs::{Metadata, OpenFile, OpenOptions};
+use std::io::{ErrorKind, Read, Seek, SeekFrom, Write};
+use std::os::unix::fs::{MetadataExt, OpenOptionsExt, symlink};
+use std::test::Fail;
+use std::{fs, io, rt};
+
+/// A pipe that takes at most four bytes a call and sixteen in all, and tells how many it took.
+#[derive(Clone, Drop)]
+struct Narrow<'a> {
+    taken: &'a Cell<usize>,
+}
+
+impl Print for Narrow<'_> {
+    fn print<D: Display + Drop>(&self, value: D) -> io::Result<()> {
+        let _ = value;
+        Ok(())
+    }
+
+    fn println<D: Display + Drop>(&self, value: D) -> io::Result<()> {
+        let _ = value;
+        Ok(())
+    }
+
+    fn write_all(&self, bytes: &[u8]) -> io::Result<()> {
+        let _ = bytes;
+        Ok(())
+    }
+
+    fn write_some(&self, bytes: &[u8]) -> io::Result<usize> {
+        let before = self.taken.get();
+        let count = bytes.len().min(4).min(16usize.saturating_sub(before));
+        self.taken.set(before.saturating_add(count));
+        Ok(count)
+    }
+}
+
+/// The system's files on a disk that is full: each takes four bytes more.
+#[derive(Clone, Drop)]
+struct FullDisk {
+    rt: HostRuntime,
+}
+
+#[derive(Drop)]
+struct FullFile {
+    file: fs::File,
+    room: usize,
+}
+
+impl Read for FullFile {
+    fn read(&mut self, buf: &mut [u8]) -> io::Result<usize> {
+        self.file.read(buf)
+    }
+}
+
+impl Write for FullFile {
+    fn write(&mut self, buf: &[u8]) -> io::Result<usize> {
+        if self.room == 0 {
+            return Err(io::Error::from(ErrorKind::StorageFull));
+        }
+        let count = self.file.write(&buf[..buf.len().min(self.room)])?;
+        self.room = self.room.saturating_sub(count);
+        Ok(count)
+    }
+
+    fn flush(&mut self) -> io::Result<()> {
+        Ok(())
+    }
+}
+
+impl Seek for FullFile {
+    fn seek(&mut self, to: SeekFrom) -> io::Result<u64> {
+        self.file.seek(to)
+    }
+}
+
+impl OpenFile for FullFile {
+    fn metadata(&self) -> io::Result<Metadata> {
+        self.file.metadata()
+    }
+
+    fn set_len(&self, size: u64) -> io::Result<()> {
+        self.file.set_len(size)
+    }
+
+    fn sync_all(&self) -> io::Result<()> {
+        self.file.sync_all()
+    }
+
+    fn sync_data(&self) -> io::Result<()> {
+        self.file.sync_data()
+    }
+}
+
+impl rt::Files for FullDisk {
+    type File = FullFile;
+
+    type Dir = FullFile;
+
+    fn open_file(&self, how: &OpenOptions, path: &str) -> io::Result<FullFile> {
+        Ok(FullFile {
+            file: self.rt.open_file(how, path)?,
+            room: 4,
+        })
+    }
+
+    fn open_dir(&self, path: &str) -> io::Result<FullFile> {
+        let _ = path;
+        Err(io::Error::from(ErrorKind::Unsupported))
+    }
+
+    fn metadata(&self, path: &str) -> io::Result<Metadata> {
+        self.rt.metadata(path)
+    }
+
+    fn symlink_metadata(&self, path: &str) -> io::Result<Metadata> {
+        self.rt.symlink_metadata(path)
+    }
+
+    fn copy(&self, from: &str, to: &str) -> io::Result<u64> {
+        self.rt.copy(from, to)
+    }
+
+    fn rename(&self, from: &str, to: &str) -> io::Result<()> {
+        self.rt.rename(from, to)
+    }
+
+    fn remove_file(&self, path: &str) -> io::Result<()> {
+        self.rt.remove_file(path)
+    }
+
+    fn create_dir(&self, path: &str) -> io::Result<()> {
+        self.rt.create_dir(path)
+    }
+
+    fn remove_dir(&self, path: &str) -> io::Result<()> {
+        self.rt.remove_dir(path)
+    }
+
+    fn remove_dir_all<B: Allocator>(&self, alloc: B, path: &str) -> io::Result<()> {
+        self.rt.remove_dir_all(alloc, path)
+    }
+}
+
+// The helpers below have no clauses, so that the tests' proofs don't carry the contracts of what they call.
+
+/// A call on files, and its answer.
+#[derive(Clone, Copy)]
+enum Step {
+    Put(&'static str, &'static [u8], Result<(), FileEnd>),
+    /// Reads up to four bytes from a place on: how many, and what the buffer holds then.
+    Read(&'static str, u64, Result<(usize, [u8; 4]), FileEnd>),
+    /// Reads the whole of a file that has at most so many bytes.
+    Whole(&'static str, u32, Result<&'static [u8], ReadEnd>),
+}
+
+fn read_four<F: Files>(files: &mut F, name: &str, at: u64) -> Result<(usize, [u8; 4]), FileEnd> {
+    let mut into = [0; 4];
+    let count = files.read(name, &mut into, at)?;
+    Ok((count, into))
+}
+
+fn reads_whole<F: Files>(
+    alloc: Global,
+    files: &mut F,
+    name: &str,
+    limit: u32,
+    answer: Result<&[u8], ReadEnd>,
+) -> bool {
+    match read_whole(alloc, files, name, u64::from(limit)) {
+        Ok(all) => answer == Ok(all.as_slice()),
+        Err(end) => answer == Err(end),
+    }
+}
+
+fn is_answered<F: Files>(alloc: Global, files: &mut F, step: Step) -> bool {
+    match step {
+        Step::Put(name, bytes, answer) => files.put(name, bytes) == answer,
+        Step::Read(name, at, answer) => read_four(files, name, at) == answer,
+        Step::Whole(name, limit, answer) => reads_whole(alloc, files, name, limit, answer),
+    }
+}
+
+/// How many of the calls, one after the other, are answered so up to the first that isn't.
+fn answered<F: Files>(alloc: Global, files: &mut F, steps: &[Step]) -> u64 {
+    let mut count = 0u64;
+    for step in steps {
+        if !is_answered(alloc, files, *step) {
+            return count;
+        }
+        count = count.saturating_add(1);
+    }
+    count
+}
+
+/// Files of which one call fails, with one file added.
+fn mem_files(alloc: Global, fail: u64, name: &str, bytes: &[u8]) -> Result<MemFiles, Fail> {
+    let mut files = MemFiles::new(alloc, vec![in alloc; fail]?);
+    files.add(name, bytes)?;
+    Ok(files)
+}
+
+/// `answered` at files in memory, so that it is instantiated once and not in each test.
+fn mem_answered(alloc: Global, files: &mut MemFiles, steps: &[Step]) -> u64 {
+    answered(alloc, files, steps)
+}
+
+fn mem_file_is(files: &MemFiles, name: &str, bytes: &[u8]) -> bool {
+    files.bytes(name) == Some(bytes)
+}
+
+/// Makes so much room, and answers whether one write ends so.
+fn writes_once<K: Sink>(
+    out: &mut K,
+    room: u64,
+    bytes: &[u8],
+    answer: Result<usize, Failed>,
+) -> bool {
+    !bytes.is_empty()
+        && bytes.len() as u64 <= room
+        && out.reserve(room).is_ok()
+        && out.write(bytes) == answer
+}
+
+/// Makes so much room, and answers whether a write of all ends so.
+fn writes_whole<K: Sink>(out: &mut K, room: u64, bytes: &[u8], answer: Result<(), Failed>) -> bool {
+    bytes.len() as u64 <= room && out.reserve(room).is_ok() && write_whole(out, bytes) == answer
+}
+
+/// Whether the file of the system holds these bytes.
+fn system_file_is(rt: &HostRuntime, name: &str, bytes: &[u8]) -> bool {
+    match fs::read(rt, name) {
+        Ok(found) => found.as_slice() == bytes,
+        Err(_) => false,
+    }
+}
+
+fn is_absent(rt: &HostRuntime, name: &str) -> bool {
+    matches!(fs::exists(rt, name), Ok(false))
+}
+
+fn is_removed(rt: &HostRuntime, name: &str) -> bool {
+    fs::remove_file(rt, name).is_ok()
+}
+
+const SURE_STEPS: [Step; 4] = [
+    Step::Put("notes", b"second", Ok(())),
+    Step::Whole("notes", 100, Ok(b"second")),
+    Step::Read("notes", 2, Ok((4, *b"cond"))),
+    Step::Read("absent", 0, Ok((0, [0; 4]))),
+];
+
+#[test]
+fn sure_files_hold_what_was_put(rt: HostRuntime) -> Result<(), Fail> {
+    let mut files = SureFiles::new(rt.alloc());
+    files.add("notes", b"first")?;
+    assert_eq!(rt; answered(rt.alloc(), &mut files, &SURE_STEPS), 4);
+    assert!(rt; files.bytes("absent").is_none());
+    Ok(())
+}
+
+const TO_THE_THIRD: [Step; 3] = [
+    Step::Read("notes", 1, Ok((2, *b"ld\0\0"))),
+    Step::Put("other", b"kept", Ok(())),
+    Step::Put("notes", b"new", Err(FileEnd::Failed)),
+];
+
+const AFTER_THE_THIRD: [Step; 2] = [
+    Step::Read("absent", 0, Err(FileEnd::Failed)),
+    Step::Put("notes", b"new", Ok(())),
+];
+
+#[test]
+fn the_third_call_is_a_put_that_fails(rt: HostRuntime) -> Result<(), Fail> {
+    let mut files = mem_files(rt.alloc(), 3, "notes", b"old")?;
+    assert_eq!(rt; mem_answered(rt.alloc(), &mut files, &TO_THE_THIRD), 3);
+    assert!(rt; mem_file_is(&files, "notes", b"old"));
+    assert_eq!(rt; mem_answered(rt.alloc(), &mut files, &AFTER_THE_THIRD), 2);
+    assert!(rt; mem_file_is(&files, "notes", b"new"));
+    Ok(())
+}
+
+const LONG_TEXT: &[u8] = b"the first sixteen, and then some more";
+
+/// Whether an output of sixteen bytes a call, of which these calls fail, ends the long text so and takes this of it.
+fn takes(alloc: Global, fail: Vec<u64>, answer: Result<(), Failed>, taken: &[u8]) -> bool {
+    let mut out = MemSink::new(alloc, 16, fail);
+    writes_whole(&mut out, 100, LONG_TEXT, answer) && out.bytes() == taken
+}
+
+#[test]
+fn the_second_piece_of_sixteen_fails(rt: HostRuntime) -> Result<(), Fail> {
+    let second = vec![in rt.alloc(); 2]?;
+    assert!(rt; takes(rt.alloc(), second, Err(Failed), b"the first sixtee"));
+    assert!(rt; takes(rt.alloc(), Vec::new(rt.alloc()), Ok(()), LONG_TEXT));
+    Ok(())
+}
+
+#[test]
+fn a_sure_output_takes_all_at_once(rt: HostRuntime) {
+    let mut out = SureSink::new(rt.alloc());
+    assert!(rt; writes_once(&mut out, 5, b"hello", Ok(5)));
+    assert!(rt; out.bytes() == b"hello".as_slice());
+}
+
+// Calls 1 and 2 read the file, 3 found it too long, 4 found no file, 5 read: the sixth fails.
+const TEN_BYTES: [Step; 4] = [
+    Step::Whole("ten", 10, Ok(b"0123456789")),
+    Step::Whole("ten", 9, Err(ReadEnd::TooLong)),
+    Step::Whole("absent", 9, Err(ReadEnd::ReadFault)),
+    Step::Whole("ten", 10, Err(ReadEnd::ReadFault)),
+];
+
+#[test]
+fn ten_bytes_are_too_long_for_a_limit_of_nine(rt: HostRuntime) -> Result<(), Fail> {
+    let mut files = mem_files(rt.alloc(), 6, "ten", b"0123456789")?;
+    assert_eq!(rt; mem_answered(rt.alloc(), &mut files, &TEN_BYTES), 4);
+    Ok(())
+}
+
+const PUT_AND_READ: [Step; 2] = [
+    Step::Put("outer_edge.trial", b"put and read", Ok(())),
+    Step::Whole("outer_edge.trial", 100, Ok(b"put and read")),
+];
+
+const ABSENT: [Step; 2] = [
+    Step::Read("outer_edge.trial", 0, Err(FileEnd::Failed)),
+    Step::Put("no/such/folder", b"x", Err(FileEnd::Failed)),
+];
+
+#[test]
+fn a_file_of_the_system_is_read_back(rt: HostRuntime) -> Result<(), Fail> {
+    let mut files = RealFiles::new(&rt, rt.alloc())?;
+    assert_eq!(rt; answered(rt.alloc(), &mut files, &PUT_AND_READ), 2);
+    assert!(rt; is_removed(&rt, "outer_edge.trial"));
+    assert_eq!(rt; answered(rt.alloc(), &mut files, &ABSENT), 2);
+    Ok(())
+}
+
+const NEWER: Step = Step::Put("outer_edge.full", b"newer", Err(FileEnd::Failed));
+
+const OLD_AND_NEWER: [Step; 2] = [Step::Put("outer_edge.full", b"old", Ok(())), NEWER];
+
+#[test]
+fn a_full_disk_leaves_the_old_file(rt: HostRuntime) -> Result<(), Fail> {
+    let mut files = RealFiles::new(&FullDisk { rt: rt.clone()? }, rt.alloc())?;
+    assert_eq!(rt; answered(rt.alloc(), &mut files, &OLD_AND_NEWER), 2);
+    assert!(rt; system_file_is(&rt, "outer_edge.full", b"old"));
+    assert!(rt; is_absent(&rt, "outer_edge.full.new1"));
+    assert!(rt; is_removed(&rt, "outer_edge.full"));
+    assert!(rt; is_answered(rt.alloc(), &mut files, NEWER));
+    assert!(rt; is_absent(&rt, "outer_edge.full"));
+    Ok(())
+}
+
+/// Makes an empty file that only its owner may read and write.
+fn make_private(rt: &HostRuntime, name: &str) -> bool {
+    let mut private = OpenOptions::new();
+    private.write(true).create_new(true).mode(0o600);
+    private.open(rt, name).is_ok()
+}
+
+/// Makes a link to a private file, beside which another's stands.
+fn make_link(rt: &HostRuntime) -> bool {
+    make_private(rt, "outer_edge.kept")
+        && fs::write(rt, "outer_edge.kept.new1", b"another's").is_ok()
+        && symlink(rt, "outer_edge.kept", "outer_edge.link").is_ok()
+}
+
+fn is_link(rt: &HostRuntime, name: &str) -> bool {
+    match fs::symlink_metadata(rt, name) {
+        Ok(found) => found.is_symlink(),
+        Err(_) => false,
+    }
+}
+
+fn is_private(rt: &HostRuntime, name: &str) -> bool {
+    match fs::metadata(rt, name) {
+        Ok(found) => found.mode() & 0o777 == 0o600,
+        Err(_) => false,
+    }
+}
+
+#[test]
+fn a_put_keeps_links_permissions_and_other_files(rt: HostRuntime) -> Result<(), Fail> {
+    assert!(rt; make_link(&rt));
+    let mut files = RealFiles::new(&rt, rt.alloc())?;
+    let through = Step::Put("outer_edge.link", b"through the link", Ok(()));
+    assert!(rt; is_answered(rt.alloc(), &mut files, through));
+    assert!(rt; is_link(&rt, "outer_edge.link"));
+    assert!(rt; system_file_is(&rt, "outer_edge.kept", b"through the link"));
+    assert!(rt; is_private(&rt, "outer_edge.kept"));
+    assert!(rt; system_file_is(&rt, "outer_edge.kept.new1", b"another's"));
+    assert!(rt; is_absent(&rt, "outer_edge.kept.new2"));
+    for name in ["outer_edge.link", "outer_edge.kept", "outer_edge.kept.new1"] {
+        assert!(rt; is_removed(&rt, name));
+    }
+    Ok(())
+}
+
+#[test]
+fn standard_output_takes_bytes(rt: HostRuntime) -> Result<(), Fail> {
+    let mut out = RealOut::new(&rt, rt.alloc())?;
+    assert!(rt; writes_once(&mut out, 100, b"three\n", Ok(6)));
+    Ok(())
+}
+
+#[test]
+fn a_narrow_pipe_takes_a_text_in_pieces(rt: HostRuntime) -> Result<(), Fail> {
+    let taken = Cell::new(0);
+    let mut out = RealOut::new(&Narrow { taken: &taken }, rt.alloc())?;
+    assert!(rt; writes_once(&mut out, 100, b"three\n", Ok(4)));
+    assert!(rt; writes_whole(&mut out, 100, b"nine more", Ok(())));
+    assert_eq!(rt; taken.get(), 13);
+    assert!(rt; writes_whole(&mut out, 100, b"full", Err(Failed)));
+    assert_eq!(rt; taken.get(), 16);
+    Ok(())
+}
