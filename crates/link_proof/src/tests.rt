@@ -74,6 +74,11 @@ fn push_line(text: &mut Vec<u8>, line: &[u8]) -> Result<(), AllocError> {
     Ok(())
 }
 
+/// One line, or the other where both numbers are the same.
+fn other_at<'a>(number: u64, line: u64, kept: &'a [u8], other: &'a [u8]) -> &'a [u8] {
+    if number == line { other } else { kept }
+}
+
 /// The text of these lines, with another line in place of this one.
 fn replaced(
     alloc: Global,
@@ -85,7 +90,7 @@ fn replaced(
     let mut number = 0u64;
     for kept in lines {
         number = number.wrapping_add(1);
-        push_line(&mut text, if number == line { other } else { *kept })?;
+        push_line(&mut text, other_at(number, line, kept, other))?;
     }
     Ok(text)
 }

@@ -20,13 +20,18 @@ const LINES: [&[u8]; 10] = [
     b"end",
 ];
 
+/// One line, or the other where both numbers are the same.
+fn other_at<'a>(number: u64, line: u64, kept: &'a [u8], other: &'a [u8]) -> &'a [u8] {
+    if number == line { other } else { kept }
+}
+
 /// The base text with another line in place of this one.
 fn replaced(alloc: Global, line: u64, other: &[u8]) -> Result<Vec<u8>, AllocError> {
     let mut text = Vec::new(alloc);
     let mut number = 0u64;
     for kept in LINES.iter() {
         number = number.wrapping_add(1);
-        text.extend_from_slice(if number == line { other } else { *kept })?;
+        text.extend_from_slice(other_at(number, line, kept, other))?;
         text.push(b'\n')?;
     }
     Ok(text)

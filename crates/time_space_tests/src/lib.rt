@@ -2,4 +2,8 @@
 #![tactic(auto)]
 
 #[cfg(test)]
+mod rule_tests;
+#[cfg(test)]
+mod streets;
+#[cfg(test)]
 mod tests;
