@@ -52,7 +52,7 @@ cycles_more text words i word cycles now cycle lt is e h k =
     let mapped : map text (take (i + 1) words) ≡ map text (take i words) ++ text word ∷ [] = ap (map text) taken ∙ map-append text (take i words) (word ∷ []) in
     rw (e, mapped) (all_zipped_more (λ w q. cycle_of w ≡ Some q) (map text (take i words)) cycles (text word) cycle h k)
 
--- words of no form
+-- words of no usage
 pub few_words : {S : Type 0} (text : S → List ℕ) (words : List S) → length words < 2 → None ≡ request_of (map text words)
 few_words text [] h = refl
 few_words text (word ∷ []) h = refl

@@ -1,10 +1,10 @@
--- The numbers of each form are in their limits.
+-- The numbers of each usage are in their limits.
 use Rattle.std.proofs.Common.{◌≡◌, ℕ, ◌-◌, ◌^◌, ◌<◌, ◌≤◌, Bool, true, false, List, [], ◌∷◌, Option, Some, None, codes, refl, subst, arith}
 use Rattle.std.specs.Prelude.{option_map, option_and_then, if◌then◌else◌}
 use Rattle.std.specs.Str.{bytes_eq}
 use Rattle.work_meter.specs.Work.{IsBelow}
 use Rattle.maxband_run.specs.Numbers.{usual_work, number_within, signals_of, seed_of, limit_of}
-use Rattle.maxband_run.specs.Command.{Request, Solve, Links, Make, Trial, Sweep, Form, form_of, one_more, two_more, three_more, any_more, request_of, InLimits}
+use Rattle.maxband_run.specs.Command.{Request, Solve, Links, Make, Trial, Sweep, Usage, asked, one_more, two_more, three_more, any_more, request_of, InLimits}
 use Rattle.maxband_run.specs.Cycles.{are_cycles, SpellCycles}
 use Rattle.maxband_run.proofs.Spelled.{in_limits}
 use Rattle.maxband_run.proofs.Cycling.{cycles_spelled}
@@ -55,26 +55,26 @@ sweep_limits artery table cycles true None h k = tt
 sweep_limits artery table cycles true (Some limit) h k = (k limit refl, h refl)
 
 -- ---- the words
--- each of the forms asks for what is in its limits
-abbrev AreInLimits : List Form → Type 0
+-- each of the usages asks for what is in its limits
+abbrev AreInLimits : List Usage → Type 0
 AreInLimits [] = Unit {0}
 AreInLimits (f ∷ fs) = InLimits f.asks × AreInLimits fs
 
-form_limits : (word : List ℕ) (fs : List Form) → AreInLimits fs → InLimits (form_of word fs)
-form_limits word [] h = tt
-form_limits word (f ∷ fs) h = either (bytes_eq word f.word) f.asks (form_of word fs) h.0 (form_limits word fs h.1)
+usage_limits : (word : List ℕ) (fs : List Usage) → AreInLimits fs → InLimits (asked word fs)
+usage_limits word [] h = tt
+usage_limits word (f ∷ fs) h = either (bytes_eq word f.word) f.asks (asked word fs) h.0 (usage_limits word fs h.1)
 
 pub command_limits : (words : List (List ℕ)) → InLimits (request_of words)
 command_limits [] = tt
 command_limits (word ∷ []) = tt
-command_limits (word ∷ first ∷ []) = form_limits word (one_more first) (tt, tt)
+command_limits (word ∷ first ∷ []) = usage_limits word (one_more first) (tt, tt)
 command_limits (word ∷ first ∷ second ∷ []) =
-    form_limits word (two_more first second) (tt, (tt, (tt, (usual, (usual, (tt, (tt, (make_limits (signals_of first) (seed_of second) (in_limits 2 16 first), tt))))))))
+    usage_limits word (two_more first second) (tt, (tt, (tt, (usual, (usual, (tt, (tt, (make_limits (signals_of first) (seed_of second) (in_limits 2 16 first), tt))))))))
 command_limits (word ∷ first ∷ second ∷ third ∷ []) =
-    form_limits word (three_more first second third) (
+    usage_limits word (three_more first second third) (
       solve_limits first second (limit_of third) (some_limit third),
       (links_limits first second (limit_of third) (some_limit third), (tt, (tt, (trial_limits (signals_of first) (seed_of second) (limit_of third) (in_limits 2 16 first) (some_limit third), tt)))),
     )
 command_limits (word ∷ first ∷ second ∷ third ∷ fourth ∷ more) =
-    form_limits word (any_more first second third (fourth ∷ more))
+    usage_limits word (any_more first second third (fourth ∷ more))
     (sweep_limits first second (fourth ∷ more) (are_cycles (fourth ∷ more)) (limit_of third) (cycles_spelled (fourth ∷ more)) (some_limit third), tt)

@@ -82,54 +82,54 @@ abbrev pub trial_of : List ℕ → List ℕ → List ℕ → Option Request
 trial_of signals seed limit = option_and_then (λ n. option_and_then (λ s. option_map (Trial n s) (limit_of limit)) (seed_of seed)) (signals_of signals)
 
 -- a first word, and what the words after it ask for
-pub record Form : Type 0 where
+pub record Usage : Type 0 where
   pub word : List ℕ
   pub asks : Option Request
 
-abbrev pub form : List ℕ → Option Request → Form
-form word asks = record { word = word; asks = asks }
+abbrev pub usage : List ℕ → Option Request → Usage
+usage word asks = record { word = word; asks = asks }
 
--- what the first form with this word asks for
-abbrev pub form_of : List ℕ → List Form → Option Request
-form_of word [] = None
-form_of word (f ∷ fs) = if bytes_eq word f.word then f.asks else form_of word fs
+-- what the first usage with this word asks for
+abbrev pub asked : List ℕ → List Usage → Option Request
+asked word [] = None
+asked word (f ∷ fs) = if bytes_eq word f.word then f.asks else asked word fs
 
--- the forms with one word more, with two, and with three
-abbrev pub one_more : List ℕ → List Form
-one_more first = form (codes "show") (Some (Show first)) ∷ []
+-- the usages with one word more, with two, and with three
+abbrev pub one_more : List ℕ → List Usage
+one_more first = usage (codes "show") (Some (Show first)) ∷ []
 
-abbrev pub two_more : List ℕ → List ℕ → List Form
+abbrev pub two_more : List ℕ → List ℕ → List Usage
 two_more first second =
-    form (codes "hold") (Some (Hold first second))
-    ∷ form (codes "check") (Some (Check first second))
-    ∷ form (codes "check-links") (Some (CheckLinks first second))
-    ∷ form (codes "solve") (Some (Solve first second (Some usual_work)))
-    ∷ form (codes "links") (Some (Links first second (Some usual_work)))
-    ∷ form (codes "renew") (Some (Renew first second))
-    ∷ form (codes "bands") (Some (Bands first second))
-    ∷ form (codes "make") (make_of first second)
+    usage (codes "hold") (Some (Hold first second))
+    ∷ usage (codes "check") (Some (Check first second))
+    ∷ usage (codes "check-links") (Some (CheckLinks first second))
+    ∷ usage (codes "solve") (Some (Solve first second (Some usual_work)))
+    ∷ usage (codes "links") (Some (Links first second (Some usual_work)))
+    ∷ usage (codes "renew") (Some (Renew first second))
+    ∷ usage (codes "bands") (Some (Bands first second))
+    ∷ usage (codes "make") (make_of first second)
     ∷ []
 
-abbrev pub three_more : List ℕ → List ℕ → List ℕ → List Form
+abbrev pub three_more : List ℕ → List ℕ → List ℕ → List Usage
 three_more first second third =
-    form (codes "solve") (option_map (Solve first second) (limit_of third))
-    ∷ form (codes "links") (option_map (Links first second) (limit_of third))
-    ∷ form (codes "round") (Some (Round first second third))
-    ∷ form (codes "half") (Some (Half first second third))
-    ∷ form (codes "trial") (trial_of first second third)
+    usage (codes "solve") (option_map (Solve first second) (limit_of third))
+    ∷ usage (codes "links") (option_map (Links first second) (limit_of third))
+    ∷ usage (codes "round") (Some (Round first second third))
+    ∷ usage (codes "half") (Some (Half first second third))
+    ∷ usage (codes "trial") (trial_of first second third)
     ∷ []
 
 -- the words for the limit and for the cycles
 abbrev pub sweep_of : List ℕ → List ℕ → List ℕ → List (List ℕ) → Option Request
 sweep_of artery table limit cycles = if are_cycles cycles then option_map (λ units. Sweep artery table units cycles) (limit_of limit) else None
 
--- the forms with three words more and any number besides
-abbrev pub any_more : List ℕ → List ℕ → List ℕ → List (List ℕ) → List Form
-any_more first second third more = form (codes "sweep") (sweep_of first second third more) ∷ []
+-- the usages with three words more and any number besides
+abbrev pub any_more : List ℕ → List ℕ → List ℕ → List (List ℕ) → List Usage
+any_more first second third more = usage (codes "sweep") (sweep_of first second third more) ∷ []
 
 abbrev pub request_of : List (List ℕ) → Option Request
-request_of (word ∷ first ∷ []) = form_of word (one_more first)
-request_of (word ∷ first ∷ second ∷ []) = form_of word (two_more first second)
-request_of (word ∷ first ∷ second ∷ third ∷ []) = form_of word (three_more first second third)
-request_of (word ∷ first ∷ second ∷ third ∷ fourth ∷ more) = form_of word (any_more first second third (fourth ∷ more))
+request_of (word ∷ first ∷ []) = asked word (one_more first)
+request_of (word ∷ first ∷ second ∷ []) = asked word (two_more first second)
+request_of (word ∷ first ∷ second ∷ third ∷ []) = asked word (three_more first second third)
+request_of (word ∷ first ∷ second ∷ third ∷ fourth ∷ more) = asked word (any_more first second third (fourth ∷ more))
 request_of _ = None

@@ -26,7 +26,7 @@ pub data Reader : Type 0 where
   LinkCertificate : Reader  -- a certificate of link timings
 
 -- what a file is read as, the most bytes of such a file, which value the bytes are read as, and for which cause and with which line they are refused
-pub record Row : Type 1 where
+pub record Reading : Type 1 where
   pub Value : Type 0
   pub most_bytes : ℕ
   pub IsReadAs : List ℕ → Value → Type 0
@@ -41,26 +41,26 @@ IsBadText reads bytes (cause.BadText b) lines = (reads bytes ≡ Err b) × (line
 IsBadText reads bytes c lines = ⊥
 
 -- a text of at most so many bytes, which is read by this
-abbrev pub text_row : (V : Type 0) → ℕ → (List ℕ → Result V BadText) → Row
-text_row V most reads = record { Value = V; most_bytes = most; IsReadAs = λ bytes v. reads bytes ≡ Ok v; IsRefusedFor = IsBadText reads }
+abbrev pub text_reading : (V : Type 0) → ℕ → (List ℕ → Result V BadText) → Reading
+text_reading V most reads = record { Value = V; most_bytes = most; IsReadAs = λ bytes v. reads bytes ≡ Ok v; IsRefusedFor = IsBadText reads }
 
-abbrev pub row : Reader → Row
-row Description = record { Value = Street; most_bytes = 1048576; IsReadAs = Described; IsRefusedFor = IsNoDescription }
-row Timing = text_row Plan 1048576 timing_of
-row Certificate = text_row Warrant 268435456 certificate_of
-row LinkCertificate = text_row LinkWarrant 268435456 links_of
+abbrev pub reading : Reader → Reading
+reading Description = record { Value = Street; most_bytes = 1048576; IsReadAs = Described; IsRefusedFor = IsNoDescription }
+reading Timing = text_reading Plan 1048576 timing_of
+reading Certificate = text_reading Warrant 268435456 certificate_of
+reading LinkCertificate = text_reading LinkWarrant 268435456 links_of
 
 abbrev pub Value : Reader → Type 0
-Value r = (row r).Value
+Value r = (reading r).Value
 
 abbrev pub most_bytes : Reader → ℕ
-most_bytes r = (row r).most_bytes
+most_bytes r = (reading r).most_bytes
 
 abbrev pub IsReadAs : (r : Reader) → List ℕ → Value r → Type 0
-IsReadAs r bytes v = (row r).IsReadAs bytes v
+IsReadAs r bytes v = (reading r).IsReadAs bytes v
 
 abbrev pub IsRefusedFor : Reader → List ℕ → Cause → List ℕ → Type 0
-IsRefusedFor r bytes c lines = (row r).IsRefusedFor bytes c lines
+IsRefusedFor r bytes c lines = (reading r).IsRefusedFor bytes c lines
 
 -- ---- one file
 pub record Input : Type 0 where

@@ -28,7 +28,7 @@ use narrow_fraction::Memory;
 use outer_edge::Files;
 use std::alloc::Global;
 
-/// The answer to words that are none of the forms.
+/// The answer to words that are none of the usages.
 fn words_answer(alloc: Global) -> Result<Answer<'static>, Memory>
     ensures cause { IfOk result (λ a. a.cause ≡ Cause.Words) }
     ensures lines { IfOk result (λ a. a.lines.items ≡ words_line) }

@@ -32,7 +32,7 @@ pub enum Cause {
     Rejected(Reject),
     /// The certificate of link timings is refused: the first refusal, which is never want of memory.
     LinkRejected(LinkReject),
-    /// The words are none of the forms.
+    /// The words are none of the usages.
     Words,
     /// A read of this file failed, and was counted.
     ReadFault { file: u8 },

@@ -2,7 +2,7 @@
 
 ghost use Rattle.std.specs.Prelude.{◌≡◌, length, map, option_map, string_bytes};
 ghost use Rattle.maxband_run.specs.Numbers.{limit_of};
-ghost use Rattle.maxband_run.specs.Command.{Solve, Links, request_of, make_of, trial_of, sweep_of, form_of, one_more, two_more, three_more, any_more, view, shape};
+ghost use Rattle.maxband_run.specs.Command.{Solve, Links, request_of, make_of, trial_of, sweep_of, asked, one_more, two_more, three_more, any_more, view, shape};
 ghost use Rattle.maxband_run.specs.Lines.{cannot_read_line};
 ghost use Rattle.maxband_run.specs.Reading.{IsRoomForFaults};
 
@@ -95,7 +95,7 @@ fn trial_of(signals: &str, seed: &str, limit: &str) -> Option<Command<'static>>
 
 /// The command of a word with one more.
 fn with_one<'a>(word: &str, first: &'a str) -> Option<Command<'a>>
-    ensures { option_map view result ≡ form_of word.now (one_more first.now) }
+    ensures { option_map view result ≡ asked word.now (one_more first.now) }
 {
     match word {
         "show" => Some(Command::Show(first)),
@@ -105,7 +105,7 @@ fn with_one<'a>(word: &str, first: &'a str) -> Option<Command<'a>>
 
 /// The command of a word with two more.
 fn with_two<'a>(word: &str, first: &'a str, second: &'a str) -> Option<Command<'a>>
-    ensures { option_map view result ≡ form_of word.now (two_more first.now second.now) }
+    ensures { option_map view result ≡ asked word.now (two_more first.now second.now) }
 {
     match word {
         "hold" => Some(Command::Hold(first, second)),
@@ -127,7 +127,7 @@ fn with_three<'a>(
     second: &'a str,
     third: &'a str,
 ) -> Option<Command<'a>>
-    ensures { option_map view result ≡ form_of word.now (three_more first.now second.now third.now) }
+    ensures { option_map view result ≡ asked word.now (three_more first.now second.now third.now) }
 {
     match word {
         "solve" => solve_of(first, second, third),
@@ -168,7 +168,7 @@ fn with_more<'a>(
     third: &str,
     more: &'a [String],
 ) -> Option<Command<'a>>
-    ensures { option_map view result ≡ form_of word.now (any_more first.now second.now third.now (map string_bytes more.now)) }
+    ensures { option_map view result ≡ asked word.now (any_more first.now second.now third.now (map string_bytes more.now)) }
 {
     match word {
         "sweep" => sweep_of(first, second, third, more),
@@ -176,7 +176,7 @@ fn with_more<'a>(
     }
 }
 
-/// The command of these words, where they are one of the forms.
+/// The command of these words, where they are one of the usages.
 pub fn command_in(words: &[String]) -> Option<Command<'_>>
     ensures { option_map view result ≡ request_of (map string_bytes words.now) }
 {

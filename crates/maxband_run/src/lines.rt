@@ -110,7 +110,7 @@ pub fn bad_text_line(alloc: Global, bad: BadText) -> Result<String, AllocError>
     format!(in alloc; "refused BadText line {line} {fault}\n")
 }
 
-/// The line of words that are none of the forms.
+/// The line of words that are none of the usages.
 pub fn words_line(alloc: Global) -> Result<String, AllocError>
     ensures { IfOk result (λ text. string_bytes text ≡ words_line) }
 {
