@@ -2,7 +2,7 @@
 
 use crate::link_cases;
 use crate::running::Fault;
-use crate::running::Wanted::{Absent, Front, Text, Whole};
+use crate::running::Wanted::{Absent, Front, Text};
 use crate::texts::SECOND_BEST;
 
 const HOLD: &[&str] = &["hold", "a.toml", "b.txt"];
@@ -28,7 +28,7 @@ pub static FAULTS: [Fault; 36] = [
         fail_files: &[],
         fail_writes: &[],
         number: 0,
-        written: b"holds\nweighted 1\n",
+        written: "holds\nweighted 1\n",
         kept: Absent,
     },
     Fault {
@@ -37,7 +37,7 @@ pub static FAULTS: [Fault; 36] = [
         fail_files: &[1],
         fail_writes: &[],
         number: 6,
-        written: b"cannot read a.toml\n",
+        written: "cannot read a.toml\n",
         kept: Absent,
     },
     Fault {
@@ -46,7 +46,7 @@ pub static FAULTS: [Fault; 36] = [
         fail_files: &[3],
         fail_writes: &[],
         number: 6,
-        written: b"cannot read b.txt\n",
+        written: "cannot read b.txt\n",
         kept: Absent,
     },
     Fault {
@@ -55,7 +55,7 @@ pub static FAULTS: [Fault; 36] = [
         fail_files: &[],
         fail_writes: &[],
         number: 6,
-        written: b"cannot read absent.txt\n",
+        written: "cannot read absent.txt\n",
         kept: Absent,
     },
     Fault {
@@ -64,7 +64,7 @@ pub static FAULTS: [Fault; 36] = [
         fail_files: &[],
         fail_writes: &[1],
         number: 7,
-        written: b"",
+        written: "",
         kept: Absent,
     },
     Fault {
@@ -73,7 +73,7 @@ pub static FAULTS: [Fault; 36] = [
         fail_files: &[],
         fail_writes: &[2],
         number: 7,
-        written: b"holds\nweighted 1",
+        written: "holds\nweighted 1",
         kept: Absent,
     },
     Fault {
@@ -82,7 +82,7 @@ pub static FAULTS: [Fault; 36] = [
         fail_files: &[],
         fail_writes: &[],
         number: 0,
-        written: b"accepted best 1/2\n",
+        written: "accepted best 1/2\n",
         kept: Absent,
     },
     Fault {
@@ -91,7 +91,7 @@ pub static FAULTS: [Fault; 36] = [
         fail_files: &[1],
         fail_writes: &[],
         number: 6,
-        written: b"cannot read near.toml\n",
+        written: "cannot read near.toml\n",
         kept: Absent,
     },
     Fault {
@@ -100,7 +100,7 @@ pub static FAULTS: [Fault; 36] = [
         fail_files: &[3],
         fail_writes: &[],
         number: 6,
-        written: b"cannot read best.txt\n",
+        written: "cannot read best.txt\n",
         kept: Absent,
     },
     Fault {
@@ -109,7 +109,7 @@ pub static FAULTS: [Fault; 36] = [
         fail_files: &[],
         fail_writes: &[],
         number: 6,
-        written: b"cannot read absent.txt\n",
+        written: "cannot read absent.txt\n",
         kept: Absent,
     },
     Fault {
@@ -118,7 +118,7 @@ pub static FAULTS: [Fault; 36] = [
         fail_files: &[],
         fail_writes: &[1],
         number: 7,
-        written: b"",
+        written: "",
         kept: Absent,
     },
     Fault {
@@ -127,7 +127,7 @@ pub static FAULTS: [Fault; 36] = [
         fail_files: &[],
         fail_writes: &[2],
         number: 7,
-        written: b"accepted best 1/",
+        written: "accepted best 1/",
         kept: Absent,
     },
     Fault {
@@ -136,7 +136,7 @@ pub static FAULTS: [Fault; 36] = [
         fail_files: &[1],
         fail_writes: &[],
         number: 6,
-        written: b"cannot read a.toml\n",
+        written: "cannot read a.toml\n",
         kept: Absent,
     },
     Fault {
@@ -145,7 +145,7 @@ pub static FAULTS: [Fault; 36] = [
         fail_files: &[],
         fail_writes: &[],
         number: 6,
-        written: b"cannot read absent.toml\n",
+        written: "cannot read absent.toml\n",
         kept: Absent,
     },
     Fault {
@@ -154,7 +154,7 @@ pub static FAULTS: [Fault; 36] = [
         fail_files: &[3],
         fail_writes: &[],
         number: 7,
-        written: b"",
+        written: "",
         kept: Absent,
     },
     Fault {
@@ -163,8 +163,8 @@ pub static FAULTS: [Fault; 36] = [
         fail_files: &[],
         fail_writes: &[2],
         number: 7,
-        written: b"verdict best\nwei",
-        kept: Front(b"maxband-certificate 2\nverdict best\n"),
+        written: "verdict best\nwei",
+        kept: Front("maxband-certificate 2\nverdict best\n"),
     },
     Fault {
         name: "links, description",
@@ -172,7 +172,7 @@ pub static FAULTS: [Fault; 36] = [
         fail_files: &[1],
         fail_writes: &[],
         number: 6,
-        written: b"cannot read a.toml\n",
+        written: "cannot read a.toml\n",
         kept: Absent,
     },
     Fault {
@@ -181,7 +181,7 @@ pub static FAULTS: [Fault; 36] = [
         fail_files: &[],
         fail_writes: &[],
         number: 6,
-        written: b"cannot read absent.toml\n",
+        written: "cannot read absent.toml\n",
         kept: Absent,
     },
     Fault {
@@ -190,7 +190,7 @@ pub static FAULTS: [Fault; 36] = [
         fail_files: &[3],
         fail_writes: &[],
         number: 7,
-        written: b"",
+        written: "",
         kept: Absent,
     },
     Fault {
@@ -199,7 +199,7 @@ pub static FAULTS: [Fault; 36] = [
         fail_files: &[],
         fail_writes: &[2],
         number: 7,
-        written: b"verdict best\nwei",
+        written: "verdict best\nwei",
         kept: Text(link_cases::BEST),
     },
     Fault {
@@ -208,7 +208,7 @@ pub static FAULTS: [Fault; 36] = [
         fail_files: &[],
         fail_writes: &[],
         number: 0,
-        written: b"accepted best 1\n",
+        written: "accepted best 1\n",
         kept: Absent,
     },
     Fault {
@@ -217,7 +217,7 @@ pub static FAULTS: [Fault; 36] = [
         fail_files: &[1],
         fail_writes: &[],
         number: 6,
-        written: b"cannot read a.toml\n",
+        written: "cannot read a.toml\n",
         kept: Absent,
     },
     Fault {
@@ -226,7 +226,7 @@ pub static FAULTS: [Fault; 36] = [
         fail_files: &[3],
         fail_writes: &[],
         number: 6,
-        written: b"cannot read links.txt\n",
+        written: "cannot read links.txt\n",
         kept: Absent,
     },
     Fault {
@@ -235,7 +235,7 @@ pub static FAULTS: [Fault; 36] = [
         fail_files: &[],
         fail_writes: &[1],
         number: 7,
-        written: b"",
+        written: "",
         kept: Absent,
     },
     Fault {
@@ -244,7 +244,7 @@ pub static FAULTS: [Fault; 36] = [
         fail_files: &[],
         fail_writes: &[],
         number: 0,
-        written: b"renewed\n",
+        written: "renewed\n",
         kept: Text(SECOND_BEST),
     },
     Fault {
@@ -253,7 +253,7 @@ pub static FAULTS: [Fault; 36] = [
         fail_files: &[1],
         fail_writes: &[],
         number: 6,
-        written: b"cannot read best.txt\n",
+        written: "cannot read best.txt\n",
         kept: Absent,
     },
     Fault {
@@ -262,7 +262,7 @@ pub static FAULTS: [Fault; 36] = [
         fail_files: &[],
         fail_writes: &[],
         number: 6,
-        written: b"cannot read absent.txt\n",
+        written: "cannot read absent.txt\n",
         kept: Absent,
     },
     Fault {
@@ -271,7 +271,7 @@ pub static FAULTS: [Fault; 36] = [
         fail_files: &[3],
         fail_writes: &[],
         number: 7,
-        written: b"",
+        written: "",
         kept: Absent,
     },
     Fault {
@@ -280,7 +280,7 @@ pub static FAULTS: [Fault; 36] = [
         fail_files: &[],
         fail_writes: &[1],
         number: 7,
-        written: b"",
+        written: "",
         kept: Text(SECOND_BEST),
     },
     Fault {
@@ -289,8 +289,8 @@ pub static FAULTS: [Fault; 36] = [
         fail_files: &[],
         fail_writes: &[],
         number: 0,
-        written: b"rows 2\n",
-        kept: Whole(b"cycle,verdict,weighted,bound,cause\n100,best,1/2,1/2,-\n120,outside,-,-,-\n"),
+        written: "rows 2\n",
+        kept: Text("cycle,verdict,weighted,bound,cause\n100,best,1/2,1/2,-\n120,outside,-,-,-\n"),
     },
     Fault {
         name: "sweep, description",
@@ -298,7 +298,7 @@ pub static FAULTS: [Fault; 36] = [
         fail_files: &[1],
         fail_writes: &[],
         number: 6,
-        written: b"cannot read near.toml\n",
+        written: "cannot read near.toml\n",
         kept: Absent,
     },
     Fault {
@@ -307,7 +307,7 @@ pub static FAULTS: [Fault; 36] = [
         fail_files: &[],
         fail_writes: &[],
         number: 6,
-        written: b"cannot read absent.toml\n",
+        written: "cannot read absent.toml\n",
         kept: Absent,
     },
     Fault {
@@ -316,7 +316,7 @@ pub static FAULTS: [Fault; 36] = [
         fail_files: &[3],
         fail_writes: &[],
         number: 7,
-        written: b"",
+        written: "",
         kept: Absent,
     },
     Fault {
@@ -325,8 +325,8 @@ pub static FAULTS: [Fault; 36] = [
         fail_files: &[],
         fail_writes: &[1],
         number: 7,
-        written: b"",
-        kept: Whole(b"cycle,verdict,weighted,bound,cause\n100,best,1/2,1/2,-\n120,outside,-,-,-\n"),
+        written: "",
+        kept: Text("cycle,verdict,weighted,bound,cause\n100,best,1/2,1/2,-\n120,outside,-,-,-\n"),
     },
     // `make` and `trial` call no file.
     Fault {
@@ -335,7 +335,7 @@ pub static FAULTS: [Fault; 36] = [
         fail_files: &[1, 2, 3],
         fail_writes: &[2],
         number: 7,
-        written: b"version = 1\n\n[ar",
+        written: "version = 1\n\n[ar",
         kept: Absent,
     },
     Fault {
@@ -344,7 +344,7 @@ pub static FAULTS: [Fault; 36] = [
         fail_files: &[1, 2, 3],
         fail_writes: &[2],
         number: 7,
-        written: b"signals 2\nseed 0",
+        written: "signals 2\nseed 0",
         kept: Absent,
     },
 ];

@@ -16,7 +16,7 @@ pub struct Padded {
     pub fill: u8,
     pub length: usize,
     pub number: u8,
-    pub written: &'static [u8],
+    pub written: &'static str,
 }
 
 pub static PADDED: [Padded; 6] = [
@@ -27,7 +27,7 @@ pub static PADDED: [Padded; 6] = [
         fill: b'\n',
         length: 1_048_576,
         number: 0,
-        written: b"holds\nweighted 1\n",
+        written: "holds\nweighted 1\n",
     },
     Padded {
         name: "description too long",
@@ -36,7 +36,7 @@ pub static PADDED: [Padded; 6] = [
         fill: b'\n',
         length: 1_048_577,
         number: 9,
-        written: b"too long long.txt\n",
+        written: "too long long.txt\n",
     },
     Padded {
         name: "longest timing",
@@ -45,7 +45,7 @@ pub static PADDED: [Padded; 6] = [
         fill: b'\n',
         length: 1_048_576,
         number: 3,
-        written: b"refused BadText line 11 Shape\n",
+        written: "refused BadText line 11 Shape\n",
     },
     Padded {
         name: "timing too long",
@@ -54,7 +54,7 @@ pub static PADDED: [Padded; 6] = [
         fill: b'\n',
         length: 1_048_577,
         number: 9,
-        written: b"too long long.txt\n",
+        written: "too long long.txt\n",
     },
     // A certificate may be longer than a description or a timing: it is read, and its second line is bad.
     Padded {
@@ -64,7 +64,7 @@ pub static PADDED: [Padded; 6] = [
         fill: b'n',
         length: 1_100_000,
         number: 3,
-        written: b"refused BadText line 2 Shape\n",
+        written: "refused BadText line 2 Shape\n",
     },
     Padded {
         name: "description of a check too long",
@@ -73,7 +73,7 @@ pub static PADDED: [Padded; 6] = [
         fill: b'n',
         length: 1_100_000,
         number: 9,
-        written: b"too long long.txt\n",
+        written: "too long long.txt\n",
     },
 ];
 
@@ -103,23 +103,23 @@ pub fn is_read(alloc: Global, padded: &Padded) -> Result<bool, Memory> {
     let text = filled(alloc, padded.text, padded.fill, padded.length)?;
     files.add("long.txt", text.as_slice())?;
     let got = answered(alloc, padded.words, &mut files)?;
-    Ok(got.number == padded.number && got.out.bytes() == padded.written)
+    Ok(got.number == padded.number && got.out.bytes() == padded.written.as_bytes())
 }
 
 /// How many line feeds a certificate has, the number of the status of `check`, and what it writes.
-pub static LINE_FEEDS: [(u64, u8, &[u8]); 3] = [
-    (268_435_456, 3, b"refused BadText line 1 Shape\n"),
-    (268_435_457, 9, b"too long long.txt\n"),
+pub static LINE_FEEDS: [(u64, u8, &str); 3] = [
+    (268_435_456, 3, "refused BadText line 1 Shape\n"),
+    (268_435_457, 9, "too long long.txt\n"),
     // A file without an end.
-    (u64::MAX, 9, b"too long long.txt\n"),
+    (u64::MAX, 9, "too long long.txt\n"),
 ];
 
 /// Whether `check` comes to this number and writes this of a certificate of so many line feeds.
-pub fn is_checked(alloc: Global, length: u64, number: u8, written: &[u8]) -> Result<bool, Memory> {
+pub fn is_checked(alloc: Global, length: u64, number: u8, written: &str) -> Result<bool, Memory> {
     let told = files_beside(alloc)?;
     let mut files = LongFiles { told, length };
     let mut out = SureSink::new(alloc);
     let words = owned(alloc, &["check", "near.toml", "long.txt"])?;
     let status = run(alloc, words.as_slice(), &mut files, &mut out);
-    Ok(status.number == number && out.bytes() == written)
+    Ok(status.number == number && out.bytes() == written.as_bytes())
 }

@@ -1,7 +1,7 @@
 //! Searches by `links`, and certificates of links that `check-links` reads. The expected lines and certificates are those of a second
 //! program that searches, looks at every tick and adds the rows up by itself, or were worked by hand.
 
-use crate::running::Wanted::{Absent, Text, Whole};
+use crate::running::Wanted::{Absent, Text};
 use crate::running::{Case, Search, SearchTable, Table, Wanted};
 use crate::solve_cases::THREE;
 use crate::texts::{ARTERY, NEAR};
@@ -34,156 +34,156 @@ end
 ";
 
 static OF_BEST: [Case; 22] = [
-    ("whole greens", &[], &[], 0, b"accepted best 1\n"),
+    ("whole greens", &[], &[], 0, "accepted best 1\n"),
     (
         "a tick more outbound",
         &[],
-        &[(11, b"half_out 51")],
+        &[(11, "half_out 51")],
         4,
-        b"rejected timing outbound link 1 signal 1 tick 99\n",
+        "rejected timing outbound link 1 signal 1 tick 99\n",
     ),
     (
         "a tick more inbound",
         &[],
-        &[(12, b"half_in 51")],
+        &[(12, "half_in 51")],
         4,
-        b"rejected timing inbound link 1 signal 2 tick -1\n",
+        "rejected timing inbound link 1 signal 2 tick -1\n",
     ),
     (
         "a late outbound line",
         &[],
-        &[(10, b"first 151 50")],
+        &[(10, "first 151 50")],
         4,
-        b"rejected timing outbound link 1 signal 1 tick 201\n",
+        "rejected timing outbound link 1 signal 1 tick 201\n",
     ),
     (
         "a late inbound line",
         &[],
-        &[(10, b"first 150 51")],
+        &[(10, "first 150 51")],
         4,
-        b"rejected timing inbound link 1 signal 2 tick 101\n",
+        "rejected timing inbound link 1 signal 2 tick 101\n",
     ),
     (
         "a pattern that isn't allowed",
         &[
-            (9, b"red = 50\npatterns = [1]"),
-            (13, b"red = 50\npatterns = [1]"),
+            (9, "red = 50\npatterns = [1]"),
+            (13, "red = 50\npatterns = [1]"),
         ],
-        &[(6, b"pattern 1 2")],
+        &[(6, "pattern 1 2")],
         4,
-        b"rejected timing pattern signal 2\n",
+        "rejected timing pattern signal 2\n",
     ),
     (
         "a short cycle",
         &[],
-        &[(4, b"grid 3")],
+        &[(4, "grid 3")],
         4,
-        b"rejected timing cycle short\n",
+        "rejected timing cycle short\n",
     ),
     (
         "too fast",
         &[],
-        &[(8, b"run_out 99")],
+        &[(8, "run_out 99")],
         4,
-        b"rejected timing fast out link 1\n",
+        "rejected timing fast out link 1\n",
     ),
     (
         "too slow",
         &[],
-        &[(9, b"run_in 101")],
+        &[(9, "run_in 101")],
         4,
-        b"rejected timing slow in link 1\n",
+        "rejected timing slow in link 1\n",
     ),
     (
         "an inbound half below the ratio",
-        &[(5, b"ratio = \"1/2\"")],
-        &[(12, b"half_in 24")],
+        &[(5, "ratio = \"1/2\"")],
+        &[(12, "half_in 24")],
         4,
-        b"rejected timing ratio link 1\n",
+        "rejected timing ratio link 1\n",
     ),
     (
         "another value",
         &[],
-        &[(3, b"value 9/10")],
+        &[(3, "value 9/10")],
         4,
-        b"rejected value kept 1 claimed 9/10\n",
+        "rejected value kept 1 claimed 9/10\n",
     ),
     (
         "a bound below the value",
         &[],
-        &[(2, b"verdict open\nbound 9/10")],
+        &[(2, "verdict open\nbound 9/10")],
         4,
-        b"rejected bound 9/10 value 1\n",
+        "rejected bound 9/10 value 1\n",
     ),
     (
         "open with the value as its bound",
         &[],
-        &[(2, b"verdict open\nbound 1")],
+        &[(2, "verdict open\nbound 1")],
         0,
-        b"accepted open bound 1 value 1\n",
+        "accepted open bound 1 value 1\n",
     ),
     (
         "a split outside the box",
         &[],
-        &[(14, b"split loop 1 2\nleaf 0\nleaf 4")],
+        &[(14, "split loop 1 2\nleaf 0\nleaf 4")],
         4,
-        b"rejected split node 1\n",
+        "rejected split node 1\n",
     ),
     (
         "a row of a band for the whole street",
         &[],
-        &[(15, b"wout 1 1")],
+        &[(15, "wout 1 1")],
         4,
-        b"rejected row leaf 1 wout 1\n",
+        "rejected row leaf 1 wout 1\n",
     ),
     (
         "the ratio's row where the ratio is 1",
         &[],
-        &[(18, b"link_ratio 1 1")],
+        &[(18, "link_ratio 1 1")],
         4,
-        b"rejected row leaf 1 link_ratio 1\n",
+        "rejected row leaf 1 link_ratio 1\n",
     ),
     (
         "a row of a link that isn't there",
         &[],
-        &[(18, b"far_in_a 2 1")],
+        &[(18, "far_in_a 2 1")],
         4,
-        b"rejected row leaf 1 far_in_a 2\n",
+        "rejected row leaf 1 far_in_a 2\n",
     ),
     (
         "a negative multiplier",
         &[],
-        &[(17, b"near_in_a 1 -1")],
+        &[(17, "near_in_a 1 -1")],
         4,
-        b"rejected negative leaf 1 near_in_a 1\n",
+        "rejected negative leaf 1 near_in_a 1\n",
     ),
     (
         "weak at a half",
         &[],
-        &[(17, b"near_in_a 1 1/2")],
+        &[(17, "near_in_a 1 1/2")],
         4,
-        b"rejected weak leaf 1 h_in 1\n",
+        "rejected weak leaf 1 h_in 1\n",
     ),
     (
         "weak at the bound",
         &[],
-        &[(18, b"far_in_a 1 2")],
+        &[(18, "far_in_a 1 2")],
         4,
-        b"rejected weak leaf 1 bound\n",
+        "rejected weak leaf 1 bound\n",
     ),
     (
         "the first line of an ordinary certificate",
         &[],
-        &[(1, b"maxband-certificate 1")],
+        &[(1, "maxband-certificate 1")],
         3,
-        b"refused BadText line 1 Shape\n",
+        "refused BadText line 1 Shape\n",
     ),
     (
         "a half too many",
         &[],
-        &[(12, b"half_in 50 50")],
+        &[(12, "half_in 50 50")],
         3,
-        b"refused BadText line 12 Shape\n",
+        "refused BadText line 12 Shape\n",
     ),
 ];
 
@@ -200,27 +200,27 @@ end
 static OF_NONE: [Case; 3] = [
     (
         "reds too long",
-        &[(9, b"red = 80"), (13, b"red = 80")],
+        &[(9, "red = 80"), (13, "red = 80")],
         &[],
         0,
-        b"accepted none\n",
+        "accepted none\n",
     ),
     (
         "half of a row",
-        &[(9, b"red = 80"), (13, b"red = 80")],
-        &[(6, b"loop_hi 1 1/2")],
+        &[(9, "red = 80"), (13, "red = 80")],
+        &[(6, "loop_hi 1 1/2")],
         4,
-        b"rejected weak leaf 1 w_out 1\n",
+        "rejected weak leaf 1 w_out 1\n",
     ),
     (
         "a sum past 128 bits",
-        &[(9, b"red = 80"), (13, b"red = 80")],
+        &[(9, "red = 80"), (13, "red = 80")],
         &[(
             4,
-            b"leaf 3\ncycle_low 1/85070591730234615865843651857942052864",
+            "leaf 3\ncycle_low 1/85070591730234615865843651857942052864",
         )],
         4,
-        b"rejected wide leaf 1 cycle_low bound\n",
+        "rejected wide leaf 1 cycle_low bound\n",
     ),
 ];
 
@@ -229,7 +229,7 @@ static CUT: [Case; 1] = [(
     &[],
     &[],
     3,
-    b"refused BadText line 2 Ended\n",
+    "refused BadText line 2 Ended\n",
 )];
 
 static ORDINARY: [Case; 1] = [(
@@ -237,7 +237,7 @@ static ORDINARY: [Case; 1] = [(
     &[],
     &[],
     3,
-    b"refused BadText line 1 Shape\n",
+    "refused BadText line 1 Shape\n",
 )];
 
 /// What `links` prints of the two signals: the one link has all the green in each direction.
@@ -315,7 +315,7 @@ static FAR: [Search; 6] = [
         0,
         Text(REPORT),
         Text(BEST),
-        Whole(b"accepted best 1\n"),
+        Text("accepted best 1\n"),
     ),
     (
         "without a limit",
@@ -324,7 +324,7 @@ static FAR: [Search; 6] = [
         0,
         Text(REPORT),
         Text(BEST),
-        Whole(b"accepted best 1\n"),
+        Text("accepted best 1\n"),
     ),
     (
         "all units that it takes",
@@ -333,55 +333,55 @@ static FAR: [Search; 6] = [
         0,
         Text(REPORT),
         Text(BEST),
-        Whole(b"accepted best 1\n"),
+        Text("accepted best 1\n"),
     ),
     (
         "a unit too few",
         &[],
         "7",
         2,
-        Whole(b"verdict open\nstopped work 7\nbound 2\nno timing\n"),
+        Text("verdict open\nstopped work 7\nbound 2\nno timing\n"),
         Text(OPEN),
-        Whole(b"accepted open bound 2\n"),
+        Text("accepted open bound 2\n"),
     ),
     (
         "one unit",
         &[],
         "1",
         2,
-        Whole(b"verdict open\nstopped work 1\nbound 2\nno timing\n"),
+        Text("verdict open\nstopped work 1\nbound 2\nno timing\n"),
         Text(OPEN),
-        Whole(b"accepted open bound 2\n"),
+        Text("accepted open bound 2\n"),
     ),
     (
         "red of a half",
-        &[(9, b"red = 47.5")],
+        &[(9, "red = 47.5")],
         "",
         3,
-        Whole(b"refused WrongType signal[1].red\n"),
+        Text("refused WrongType signal[1].red\n"),
         Absent,
-        Whole(b"refused WrongType signal[1].red\n"),
+        Text("refused WrongType signal[1].red\n"),
     ),
 ];
 
 static NEAR_BY: [Search; 1] = [(
     "reds too long",
-    &[(9, b"red = 80"), (13, b"red = 80")],
+    &[(9, "red = 80"), (13, "red = 80")],
     "",
     1,
-    Whole(b"verdict none\n"),
+    Text("verdict none\n"),
     Text(NONE),
-    Whole(b"accepted none\n"),
+    Text("accepted none\n"),
 )];
 
 static LONG_RED: [Search; 1] = [(
     "a long red at the end",
-    &[(17, b"red = 80")],
+    &[(17, "red = 80")],
     "",
     0,
     Text(OF_THREE),
     Text(BEST_OF_THREE),
-    Whole(b"accepted best 7/5\n"),
+    Text("accepted best 7/5\n"),
 )];
 
 /// The tables of searches, numbered from 0 up to 2.

@@ -14,10 +14,10 @@ pub struct Canonical {
     pub words: &'static [&'static str],
     pub artery: &'static str,
     pub timing: &'static str,
-    pub holds: &'static [u8],
+    pub holds: &'static str,
 }
 
-const NO_TIMING: &[u8] = b"refused BadText line 1 Ended\n";
+const NO_TIMING: &str = "refused BadText line 1 Ended\n";
 
 pub static CANONICAL: [Canonical; 5] = [
     Canonical {
@@ -25,14 +25,14 @@ pub static CANONICAL: [Canonical; 5] = [
         words: &["show", "a.toml"],
         artery: ARTERY,
         timing: TIMING,
-        holds: b"holds\nweighted 1\n",
+        holds: "holds\nweighted 1\n",
     },
     Canonical {
         name: "every key",
         words: &["show", "a.toml"],
         artery: WIDE,
         timing: WIDE_TIMING,
-        holds: b"holds\nweighted 13/20\n",
+        holds: "holds\nweighted 13/20\n",
     },
     Canonical {
         name: "two of the seed 0",
@@ -74,7 +74,7 @@ pub fn is_canonical(alloc: Global, case: &Canonical) -> Result<bool, Memory> {
         first.number == 0
             && again.out.bytes() == first.out.bytes()
             && same.out.bytes() == first.out.bytes()
-            && held.out.bytes() == case.holds,
+            && held.out.bytes() == case.holds.as_bytes(),
     )
 }
 

@@ -1,6 +1,6 @@
 //! Certificates that `renew` puts in the second format, and damaged ones. The texts were made by hand.
 
-use crate::running::Wanted::{Absent, Text, Whole};
+use crate::running::Wanted::{Absent, Text};
 use crate::running::{Lines, Wanted, answered, with_lines};
 use crate::texts::{BEST, NEAR, SECOND_BEST};
 use narrow_fraction::Memory;
@@ -17,7 +17,7 @@ wout 2 1/2503155504993241601315571986085849
 end
 ";
 
-const LONG_SUM_PLAIN: &[u8] = b"maxband-certificate 2
+const LONG_SUM_PLAIN: &str = "maxband-certificate 2
 verdict none
 rows 2
 wout 1
@@ -40,7 +40,7 @@ win 1 1
 end
 ";
 
-const SECOND_START: &[u8] = b"maxband-certificate 2
+const SECOND_START: &str = "maxband-certificate 2
 verdict open
 bound 1
 no timing
@@ -61,9 +61,9 @@ pub struct Renewal {
     pub text: &'static str,
     pub lines: Lines,
     pub number: u8,
-    pub written: &'static [u8],
+    pub written: &'static str,
     pub new: Wanted,
-    pub checked: &'static [u8],
+    pub checked: &'static str,
 }
 
 pub static RENEWALS: [Renewal; 11] = [
@@ -72,108 +72,108 @@ pub static RENEWALS: [Renewal; 11] = [
         text: BEST,
         lines: &[],
         number: 0,
-        written: b"renewed\n",
+        written: "renewed\n",
         new: Text(SECOND_BEST),
-        checked: b"accepted best 1/2\n",
+        checked: "accepted best 1/2\n",
     },
     Renewal {
         name: "second format",
         text: SECOND_BEST,
         lines: &[],
         number: 0,
-        written: b"renewed\n",
+        written: "renewed\n",
         new: Text(SECOND_BEST),
-        checked: b"accepted best 1/2\n",
+        checked: "accepted best 1/2\n",
     },
     Renewal {
         name: "plain leaf",
         text: LONG_SUM,
         lines: &[],
         number: 0,
-        written: b"renewed\n",
-        new: Whole(LONG_SUM_PLAIN),
-        checked: b"rejected wide leaf 1 wout 2 b_out\n",
+        written: "renewed\n",
+        new: Text(LONG_SUM_PLAIN),
+        checked: "rejected wide leaf 1 wout 2 b_out\n",
     },
     Renewal {
         name: "start leaf alone",
         text: START,
         lines: &[],
         number: 0,
-        written: b"renewed\n",
-        new: Whole(SECOND_START),
-        checked: b"accepted open bound 1\n",
+        written: "renewed\n",
+        new: Text(SECOND_START),
+        checked: "accepted open bound 1\n",
     },
     Renewal {
         name: "rejected all the same",
         text: BEST,
-        lines: &[(27, b"cycle_high 49")],
+        lines: &[(27, "cycle_high 49")],
         number: 0,
-        written: b"renewed\n",
-        new: Wanted::Front(b"maxband-certificate 2\nverdict best\n"),
-        checked: b"rejected weak leaf 2 z\n",
+        written: "renewed\n",
+        new: Wanted::Front("maxband-certificate 2\nverdict best\n"),
+        checked: "rejected weak leaf 2 z\n",
     },
     Renewal {
         name: "another format",
         text: BEST,
-        lines: &[(1, b"maxband-certificate 3")],
+        lines: &[(1, "maxband-certificate 3")],
         number: 3,
-        written: b"refused BadText line 1 Shape\n",
+        written: "refused BadText line 1 Shape\n",
         new: Absent,
-        checked: b"refused BadText line 1 Shape\n",
+        checked: "refused BadText line 1 Shape\n",
     },
     Renewal {
         name: "leaf of the first format in the second",
         text: SECOND_BEST,
-        lines: &[(29, b"leaf 7")],
+        lines: &[(29, "leaf 7")],
         number: 3,
-        written: b"refused BadText line 29 Shape\n",
+        written: "refused BadText line 29 Shape\n",
         new: Absent,
-        checked: b"refused BadText line 29 Shape\n",
+        checked: "refused BadText line 29 Shape\n",
     },
     Renewal {
         name: "leaf over twice its denominator",
         text: SECOND_BEST,
         lines: &[
-            (29, b"leaf 2 7"),
-            (30, b"2 2"),
-            (31, b"4 2"),
-            (32, b"5 2"),
-            (33, b"6 2"),
-            (34, b"9 100"),
-            (35, b"12 2"),
-            (36, b"14 2"),
+            (29, "leaf 2 7"),
+            (30, "2 2"),
+            (31, "4 2"),
+            (32, "5 2"),
+            (33, "6 2"),
+            (34, "9 100"),
+            (35, "12 2"),
+            (36, "14 2"),
         ],
         number: 3,
-        written: b"refused BadText line 36 Number\n",
+        written: "refused BadText line 36 Number\n",
         new: Absent,
-        checked: b"refused BadText line 36 Number\n",
+        checked: "refused BadText line 36 Number\n",
     },
     Renewal {
         name: "row of the list that no leaf names",
         text: SECOND_BEST,
-        lines: &[(12, b"rows 15"), (26, b"turn_hi 2\nturn_hi 3")],
+        lines: &[(12, "rows 15"), (26, "turn_hi 2\nturn_hi 3")],
         number: 3,
-        written: b"refused BadText line 46 Shape\n",
+        written: "refused BadText line 46 Shape\n",
         new: Absent,
-        checked: b"refused BadText line 46 Shape\n",
+        checked: "refused BadText line 46 Shape\n",
     },
     Renewal {
         name: "too few rows",
         text: SECOND_BEST,
-        lines: &[(12, b"rows 15")],
+        lines: &[(12, "rows 15")],
         number: 3,
-        written: b"refused BadText line 27 Shape\n",
+        written: "refused BadText line 27 Shape\n",
         new: Absent,
-        checked: b"refused BadText line 27 Shape\n",
+        checked: "refused BadText line 27 Shape\n",
     },
     Renewal {
         name: "more rows than any text has",
         text: SECOND_BEST,
-        lines: &[(12, b"rows 18446744073709551615")],
+        lines: &[(12, "rows 18446744073709551615")],
         number: 3,
-        written: b"refused BadText line 27 Shape\n",
+        written: "refused BadText line 27 Shape\n",
         new: Absent,
-        checked: b"refused BadText line 27 Shape\n",
+        checked: "refused BadText line 27 Shape\n",
     },
 ];
 
@@ -191,9 +191,9 @@ pub fn is_renewed(alloc: Global, case: &Renewal) -> Result<bool, Memory> {
     let again = answered(alloc, &["check", "near.toml", "new.txt"], &mut files)?;
     Ok(
         got.number == case.number
-            && got.out.bytes() == case.written
+            && got.out.bytes() == case.written.as_bytes()
             && case.new.is(files.bytes("new.txt"))
-            && checked.out.bytes() == case.checked
-            && (!put || again.out.bytes() == case.checked),
+            && checked.out.bytes() == case.checked.as_bytes()
+            && (!put || again.out.bytes() == case.checked.as_bytes()),
     )
 }

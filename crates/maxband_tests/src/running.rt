@@ -11,10 +11,10 @@ use outer_edge::{MemFiles, MemSink, SureFiles, SureSink};
 use std::alloc::Global;
 
 /// Lines of a text, counted from 1, and what stands in their place.
-pub type Lines = &'static [(usize, &'static [u8])];
+pub type Lines = &'static [(usize, &'static str)];
 
 /// The name of a case, the replaced lines of the first file and of the second, the number of the status, and what is written.
-pub type Case = (&'static str, Lines, Lines, u8, &'static [u8]);
+pub type Case = (&'static str, Lines, Lines, u8, &'static str);
 
 /// Cases of the same words over the files `a.toml` and `b.txt`, which hold these two texts with the lines of each case.
 #[derive(Clone, Copy)]
@@ -28,11 +28,10 @@ pub struct Table {
 
 /// What bytes are to be.
 pub enum Wanted {
-    Whole(&'static [u8]),
     /// The whole text.
     Text(&'static str),
-    Front(&'static [u8]),
-    End(&'static [u8]),
+    Front(&'static str),
+    End(&'static str),
     /// There are none.
     Absent,
 }
@@ -40,10 +39,9 @@ pub enum Wanted {
 impl Wanted {
     pub fn is(&self, bytes: Option<&[u8]>) -> bool {
         match (self, bytes) {
-            (Wanted::Whole(whole), Some(bytes)) => *whole == bytes,
             (Wanted::Text(text), Some(bytes)) => text.as_bytes() == bytes,
-            (Wanted::Front(front), Some(bytes)) => bytes.starts_with(front),
-            (Wanted::End(end), Some(bytes)) => bytes.ends_with(end),
+            (Wanted::Front(front), Some(bytes)) => bytes.starts_with(front.as_bytes()),
+            (Wanted::End(end), Some(bytes)) => bytes.ends_with(end.as_bytes()),
             (Wanted::Absent, None) => true,
             _ => false,
         }
@@ -77,7 +75,7 @@ pub struct Sweep {
     pub lines: Lines,
     pub words: &'static [&'static str],
     pub number: u8,
-    pub written: &'static [u8],
+    pub written: &'static str,
     pub table: Wanted,
 }
 
@@ -89,7 +87,7 @@ impl Sweep {
         let got = answered(alloc, self.words, &mut files)?;
         Ok(
             got.number == self.number
-                && got.out.bytes() == self.written
+                && got.out.bytes() == self.written.as_bytes()
                 && self.table.is(files.bytes("t.csv")),
         )
     }
@@ -102,7 +100,7 @@ pub struct Fault {
     pub fail_files: &'static [u64],
     pub fail_writes: &'static [u64],
     pub number: u8,
-    pub written: &'static [u8],
+    pub written: &'static str,
     pub kept: Wanted,
 }
 
@@ -114,16 +112,16 @@ pub struct Answer {
 }
 
 /// A text with some of its lines replaced.
-pub fn with_lines(alloc: Global, text: &str, lines: &[(usize, &[u8])]) -> Result<Vec<u8>, Memory> {
+pub fn with_lines(alloc: Global, text: &str, lines: &[(usize, &str)]) -> Result<Vec<u8>, Memory> {
     let mut bytes = Vec::new(alloc);
     for (index, line) in text.lines().enumerate() {
-        let mut new = line.as_bytes();
+        let mut new = line;
         for (number, replaced) in lines {
             if *number == index + 1 {
                 new = replaced;
             }
         }
-        bytes.extend_from_slice(new)?;
+        bytes.extend_from_slice(new.as_bytes())?;
         bytes.push(b'\n')?;
     }
     Ok(bytes)
@@ -163,7 +161,7 @@ pub fn first_wrong(alloc: Global, table: &Table) -> Result<&'static str, Memory>
         files.add("a.toml", with_lines(alloc, table.first, first)?.as_slice())?;
         files.add("b.txt", with_lines(alloc, table.second, second)?.as_slice())?;
         let got = answered(alloc, table.words, &mut files)?;
-        if got.number != *number || got.out.bytes() != *written {
+        if got.number != *number || got.out.bytes() != written.as_bytes() {
             return Ok(*name);
         }
     }
@@ -234,7 +232,7 @@ pub fn is_answered(alloc: Global, fault: &Fault) -> Result<bool, Memory> {
     let status = run(alloc, words.as_slice(), &mut files, &mut out);
     Ok(
         status.number == fault.number
-            && out.bytes() == fault.written
+            && out.bytes() == fault.written.as_bytes()
             && fault.kept.is(files.bytes("new.txt")),
     )
 }

@@ -1,6 +1,6 @@
 //! Arteries that `solve` searches. The expected lines were worked by hand.
 
-use crate::running::Wanted::{Absent, End, Front, Whole};
+use crate::running::Wanted::{Absent, End, Front, Text};
 use crate::running::{Search, SearchTable, Wanted};
 use crate::shipped::Shipped;
 use crate::texts::{ARTERY, LONGEST, NEAR};
@@ -118,11 +118,11 @@ ratio = 1
 ";
 
 /// The certificate where the root alone was searched, and no timing was found.
-const ROOT_ALONE: &[u8] =
-    b"maxband-certificate 2\nverdict open\nbound 1\nno timing\nrows 2\nwout 1\nwin 1\ntree\nleaf 1 2\n1 1\n2 1\nend\n";
+const ROOT_ALONE: &str =
+    "maxband-certificate 2\nverdict open\nbound 1\nno timing\nrows 2\nwout 1\nwin 1\ntree\nleaf 1 2\n1 1\n2 1\nend\n";
 
 /// Any certificate.
-const ANY: Wanted = Front(b"maxband-certificate 2\nverdict ");
+const ANY: Wanted = Front("maxband-certificate 2\nverdict ");
 
 /// The distance is 500, and a vehicle meets the green of both signals in both directions.
 static FAR: [Search; 4] = [
@@ -131,36 +131,36 @@ static FAR: [Search; 4] = [
         &[],
         "",
         0,
-        Front(b"verdict best\nweighted 1 = 1.000000\n"),
+        Front("verdict best\nweighted 1 = 1.000000\n"),
         ANY,
-        Whole(b"accepted best 1\n"),
+        Text("accepted best 1\n"),
     ),
     (
         "the greatest work",
         &[],
         "18446744073709551615",
         0,
-        Front(b"verdict best\nweighted 1 = 1.000000\n"),
+        Front("verdict best\nweighted 1 = 1.000000\n"),
         ANY,
-        Whole(b"accepted best 1\n"),
+        Text("accepted best 1\n"),
     ),
     (
         "outbound clearance",
-        &[(13, b"red = 50\nclear_out = 10")],
+        &[(13, "red = 50\nclear_out = 10")],
         "",
         0,
-        Front(b"verdict best\nweighted 9/10 = 0.900000\n"),
+        Front("verdict best\nweighted 9/10 = 0.900000\n"),
         ANY,
-        Whole(b"accepted best 9/10\n"),
+        Text("accepted best 9/10\n"),
     ),
     (
         "five times the distance",
-        &[(16, b"distance_out = 2500"), (17, b"distance_in = 2500")],
+        &[(16, "distance_out = 2500"), (17, "distance_in = 2500")],
         "",
         0,
-        Front(b"verdict best\nweighted 1 = 1.000000\n"),
+        Front("verdict best\nweighted 1 = 1.000000\n"),
         ANY,
-        Whole(b"accepted best 1\n"),
+        Text("accepted best 1\n"),
     ),
 ];
 
@@ -171,72 +171,72 @@ static NEAR_BY: [Search; 8] = [
         &[],
         "",
         0,
-        Front(b"verdict best\nweighted 1/2 = 0.500000\n"),
+        Front("verdict best\nweighted 1/2 = 0.500000\n"),
         ANY,
-        Whole(b"accepted best 1/2\n"),
+        Text("accepted best 1/2\n"),
     ),
     (
         "cycle from 50 seconds",
-        &[(4, b"cycle = [50, 100]")],
+        &[(4, "cycle = [50, 100]")],
         "",
         0,
-        Front(b"verdict best\nweighted 1 = 1.000000\n"),
+        Front("verdict best\nweighted 1 = 1.000000\n"),
         ANY,
-        Whole(b"accepted best 1\n"),
+        Text("accepted best 1\n"),
     ),
     (
         "left turns",
-        &[(13, b"red = 40\nleft_out = 10\nleft_in = 10")],
+        &[(13, "red = 40\nleft_out = 10\nleft_in = 10")],
         "",
         0,
-        Front(b"verdict best\nweighted 3/5 = 0.600000\n"),
+        Front("verdict best\nweighted 3/5 = 0.600000\n"),
         ANY,
-        Whole(b"accepted best 3/5\n"),
+        Text("accepted best 3/5\n"),
     ),
     (
         "left turns in pattern 3",
-        &[(13, b"red = 40\nleft_out = 10\nleft_in = 10\npatterns = [3]")],
+        &[(13, "red = 40\nleft_out = 10\nleft_in = 10\npatterns = [3]")],
         "",
         0,
-        Front(b"verdict best\nweighted 1/2 = 0.500000\n"),
+        Front("verdict best\nweighted 1/2 = 0.500000\n"),
         ANY,
-        Whole(b"accepted best 1/2\n"),
+        Text("accepted best 1/2\n"),
     ),
     (
         "outbound clearance",
-        &[(13, b"red = 50\nclear_out = 10")],
+        &[(13, "red = 50\nclear_out = 10")],
         "",
         0,
-        Front(b"verdict best\nweighted 3/5 = 0.600000\n"),
+        Front("verdict best\nweighted 3/5 = 0.600000\n"),
         ANY,
-        Whole(b"accepted best 3/5\n"),
+        Text("accepted best 3/5\n"),
     ),
     (
         "ratio of 1/2",
-        &[(5, b"ratio = \"1/2\"")],
+        &[(5, "ratio = \"1/2\"")],
         "",
         0,
-        Front(b"verdict best\nweighted 5/12 = 0.416666\n"),
+        Front("verdict best\nweighted 5/12 = 0.416666\n"),
         ANY,
-        Whole(b"accepted best 5/12\n"),
+        Text("accepted best 5/12\n"),
     ),
     (
         "ratio of 2",
-        &[(5, b"ratio = 2")],
+        &[(5, "ratio = 2")],
         "",
         0,
-        Front(b"verdict best\nweighted 5/6 = 0.833333\n"),
+        Front("verdict best\nweighted 5/6 = 0.833333\n"),
         ANY,
-        Whole(b"accepted best 5/6\n"),
+        Text("accepted best 5/6\n"),
     ),
     (
         "ratio of 0",
-        &[(5, b"ratio = 0")],
+        &[(5, "ratio = 0")],
         "",
         0,
-        Front(b"verdict best\nweighted 1/2 = 0.500000\n"),
+        Front("verdict best\nweighted 1/2 = 0.500000\n"),
         ANY,
-        Whole(b"accepted best 1/2\n"),
+        Text("accepted best 1/2\n"),
     ),
 ];
 
@@ -244,43 +244,37 @@ static NEAR_BY: [Search; 8] = [
 static ASKED: [Search; 3] = [
     (
         "equal bands",
-        &[
-            (1, b"version = 2\n[artery]"),
-            (5, b"ratio = 1\nequal = true"),
-        ],
+        &[(1, "version = 2\n[artery]"), (5, "ratio = 1\nequal = true")],
         "",
         0,
         Front(
-            b"verdict best\nweighted 1/2 = 0.500000\nband out 1/4 = 0.250000\nband in 1/4 = 0.250000\n",
+            "verdict best\nweighted 1/2 = 0.500000\nband out 1/4 = 0.250000\nband in 1/4 = 0.250000\n",
         ),
         ANY,
-        Whole(b"accepted best 1/2\n"),
+        Text("accepted best 1/2\n"),
     ),
     (
         "equal bands, ratio of 2",
-        &[
-            (1, b"version = 2\n[artery]"),
-            (5, b"ratio = 2\nequal = true"),
-        ],
+        &[(1, "version = 2\n[artery]"), (5, "ratio = 2\nequal = true")],
         "",
         0,
         Front(
-            b"verdict best\nweighted 3/4 = 0.750000\nband out 1/4 = 0.250000\nband in 1/4 = 0.250000\n",
+            "verdict best\nweighted 3/4 = 0.750000\nband out 1/4 = 0.250000\nband in 1/4 = 0.250000\n",
         ),
         ANY,
-        Whole(b"accepted best 3/4\n"),
+        Text("accepted best 3/4\n"),
     ),
     (
         "least bands of three tenths",
         &[
-            (1, b"version = 2\n[artery]"),
-            (5, b"ratio = 1\nleast_out = \"3/10\"\nleast_in = \"3/10\""),
+            (1, "version = 2\n[artery]"),
+            (5, "ratio = 1\nleast_out = \"3/10\"\nleast_in = \"3/10\""),
         ],
         "",
         1,
-        Whole(b"verdict none\n"),
-        Front(b"maxband-certificate 2\nverdict none\n"),
-        Whole(b"accepted none\n"),
+        Text("verdict none\n"),
+        Front("maxband-certificate 2\nverdict none\n"),
+        Text("accepted none\n"),
     ),
 ];
 
@@ -290,11 +284,9 @@ static TWENTY_FOUR: [Search; 1] = [(
     &[],
     "",
     0,
-    Front(
-        b"verdict best\nweighted 1 = 1.000000\nband out 1/2 = 0.500000\nband in 1/2 = 0.500000\n",
-    ),
+    Front("verdict best\nweighted 1 = 1.000000\nband out 1/2 = 0.500000\nband in 1/2 = 0.500000\n"),
     ANY,
-    Whole(b"accepted best 1\n"),
+    Text("accepted best 1\n"),
 )];
 
 /// The root costs 4 units, its low part 5 and its high part 6; with reds of 80 the root costs 5.
@@ -304,63 +296,63 @@ static LIMITS: [Search; 7] = [
         &[],
         "15",
         0,
-        Front(b"verdict best\nweighted 1/2 = 0.500000\n"),
+        Front("verdict best\nweighted 1/2 = 0.500000\n"),
         ANY,
-        Whole(b"accepted best 1/2\n"),
+        Text("accepted best 1/2\n"),
     ),
     (
         "without a limit",
         &[],
         "all",
         0,
-        Front(b"verdict best\nweighted 1/2 = 0.500000\n"),
+        Front("verdict best\nweighted 1/2 = 0.500000\n"),
         ANY,
-        Whole(b"accepted best 1/2\n"),
+        Text("accepted best 1/2\n"),
     ),
     (
         "14 units",
         &[],
         "14",
         2,
-        Front(b"verdict open\nstopped work 14\nbound 1\nweighted 1/2 = 0.500000\n"),
-        End(b"\nrows 2\nwout 1\nwin 1\ntree\nleaf 1 2\n1 1\n2 1\nend\n"),
-        Whole(b"accepted open bound 1 value 1/2\n"),
+        Front("verdict open\nstopped work 14\nbound 1\nweighted 1/2 = 0.500000\n"),
+        End("\nrows 2\nwout 1\nwin 1\ntree\nleaf 1 2\n1 1\n2 1\nend\n"),
+        Text("accepted open bound 1 value 1/2\n"),
     ),
     (
         "4 units",
         &[],
         "4",
         2,
-        Whole(b"verdict open\nstopped work 4\nbound 1\nno timing\n"),
-        Whole(ROOT_ALONE),
-        Whole(b"accepted open bound 1\n"),
+        Text("verdict open\nstopped work 4\nbound 1\nno timing\n"),
+        Text(ROOT_ALONE),
+        Text("accepted open bound 1\n"),
     ),
     (
         "1 unit",
         &[],
         "1",
         2,
-        Whole(b"verdict open\nstopped work 1\nbound 1\nno timing\n"),
-        Whole(ROOT_ALONE),
-        Whole(b"accepted open bound 1\n"),
+        Text("verdict open\nstopped work 1\nbound 1\nno timing\n"),
+        Text(ROOT_ALONE),
+        Text("accepted open bound 1\n"),
     ),
     (
         "none by 5 units",
-        &[(9, b"red = 80"), (13, b"red = 80")],
+        &[(9, "red = 80"), (13, "red = 80")],
         "5",
         1,
-        Front(b"verdict none\n"),
+        Front("verdict none\n"),
         ANY,
-        Whole(b"accepted none\n"),
+        Text("accepted none\n"),
     ),
     (
         "none by 4 units",
-        &[(9, b"red = 80"), (13, b"red = 80")],
+        &[(9, "red = 80"), (13, "red = 80")],
         "4",
         2,
-        Front(b"verdict open\nstopped work 4\nbound 2/5\nno timing\n"),
+        Front("verdict open\nstopped work 4\nbound 2/5\nno timing\n"),
         ANY,
-        Whole(b"accepted open bound 2/5\n"),
+        Text("accepted open bound 2/5\n"),
     ),
 ];
 
@@ -371,36 +363,36 @@ static ROOT_OF_THREE: [Search; 4] = [
         &[],
         "6",
         0,
-        Front(b"verdict best\nweighted 1 = 1.000000\n"),
+        Front("verdict best\nweighted 1 = 1.000000\n"),
         ANY,
-        Whole(b"accepted best 1\n"),
+        Text("accepted best 1\n"),
     ),
     (
         "5 units",
         &[],
         "5",
         2,
-        Whole(b"verdict open\nstopped work 5\nbound 1\nno timing\n"),
-        Whole(ROOT_ALONE),
-        Whole(b"accepted open bound 1\n"),
+        Text("verdict open\nstopped work 5\nbound 1\nno timing\n"),
+        Text(ROOT_ALONE),
+        Text("accepted open bound 1\n"),
     ),
     (
         "three without a limit",
         &[],
         "all",
         0,
-        Front(b"verdict best\nweighted 1 = 1.000000\n"),
+        Front("verdict best\nweighted 1 = 1.000000\n"),
         ANY,
-        Whole(b"accepted best 1\n"),
+        Text("accepted best 1\n"),
     ),
     (
         "a long red at the end",
-        &[(17, b"red = 80")],
+        &[(17, "red = 80")],
         "",
         0,
-        Front(b"verdict best\nweighted 2/5 = 0.400000\n"),
+        Front("verdict best\nweighted 2/5 = 0.400000\n"),
         ANY,
-        Whole(b"accepted best 2/5\n"),
+        Text("accepted best 2/5\n"),
     ),
 ];
 
@@ -409,9 +401,9 @@ static OF_STREET: [Search; 1] = [(
     &[],
     "",
     0,
-    Front(b"verdict best\nweighted 49/50 = 0.980000\n"),
-    Front(b"maxband-certificate 2\nverdict best\n"),
-    Whole(b"accepted best 49/50\n"),
+    Front("verdict best\nweighted 49/50 = 0.980000\n"),
+    Front("maxband-certificate 2\nverdict best\n"),
+    Text("accepted best 49/50\n"),
 )];
 
 static OVER_ITSELF: [Search; 1] = [(
@@ -419,19 +411,19 @@ static OVER_ITSELF: [Search; 1] = [(
     &[],
     "",
     0,
-    Front(b"verdict best\n"),
-    Front(b"maxband-certificate 2\nverdict best\n"),
-    Whole(b"accepted best 1\n"),
+    Front("verdict best\n"),
+    Front("maxband-certificate 2\nverdict best\n"),
+    Text("accepted best 1\n"),
 )];
 
 static NO_ARTERY: [Search; 1] = [(
     "red of a half",
-    &[(9, b"red = 47.5")],
+    &[(9, "red = 47.5")],
     "",
     3,
-    Whole(b"refused WrongType signal[1].red\n"),
+    Text("refused WrongType signal[1].red\n"),
     Absent,
-    Whole(b"refused WrongType signal[1].red\n"),
+    Text("refused WrongType signal[1].red\n"),
 )];
 
 /// The tables of searches, numbered from 0 up to 8.
@@ -504,9 +496,9 @@ pub const USUAL_LIMIT: SearchTable = SearchTable {
         &[],
         "",
         2,
-        Front(b"verdict open\nstopped work 100000\n"),
-        Front(b"maxband-certificate 2\nverdict open\n"),
-        Front(b"accepted open bound "),
+        Front("verdict open\nstopped work 100000\n"),
+        Front("maxband-certificate 2\nverdict open\n"),
+        Front("accepted open bound "),
     )],
 };
 

@@ -2,7 +2,7 @@
 //! cycle the best weighted band at a cycle of c is 1 less the distance of 50/c from a whole number. At 100 seconds the root takes 4
 //! units, its low part 8 and its high part 9.
 
-use crate::running::Wanted::{Absent, Whole};
+use crate::running::Wanted::{Absent, Text};
 use crate::running::{Sweep, answered};
 use crate::texts::NEAR;
 use narrow_fraction::Memory;
@@ -13,70 +13,66 @@ use std::alloc::Global;
 pub static SWEEPS: [Sweep; 7] = [
     Sweep {
         name: "limits, between them and beyond",
-        lines: &[(4, b"cycle = [50, 100]")],
+        lines: &[(4, "cycle = [50, 100]")],
         words: &["sweep", "a.toml", "t.csv", "5000", "50", "75", "100", "120"],
         number: 0,
-        written: b"rows 4\n",
-        table: Whole(
-            b"cycle,verdict,weighted,bound,cause\n50,best,1,1,-\n75,best,2/3,2/3,-\n100,best,1/2,1/2,-\n120,outside,-,-,-\n",
+        written: "rows 4\n",
+        table: Text(
+            "cycle,verdict,weighted,bound,cause\n50,best,1,1,-\n75,best,2/3,2/3,-\n100,best,1/2,1/2,-\n120,outside,-,-,-\n",
         ),
     },
     Sweep {
         name: "spelled in other ways, in any order, and twice",
-        lines: &[(4, b"cycle = [50, 100]")],
+        lines: &[(4, "cycle = [50, 100]")],
         words: &[
             "sweep", "a.toml", "t.csv", "all", "62.5", "00100", "250/4", "49.99", "100.00",
         ],
         number: 0,
-        written: b"rows 5\n",
-        table: Whole(
-            b"cycle,verdict,weighted,bound,cause\n125/2,best,4/5,4/5,-\n100,best,1/2,1/2,-\n125/2,best,4/5,4/5,-\n4999/100,outside,-,-,-\n100,best,1/2,1/2,-\n",
+        written: "rows 5\n",
+        table: Text(
+            "cycle,verdict,weighted,bound,cause\n125/2,best,4/5,4/5,-\n100,best,1/2,1/2,-\n125/2,best,4/5,4/5,-\n4999/100,outside,-,-,-\n100,best,1/2,1/2,-\n",
         ),
     },
     Sweep {
         name: "work that is spent at the root",
-        lines: &[(4, b"cycle = [50, 100]")],
+        lines: &[(4, "cycle = [50, 100]")],
         words: &["sweep", "a.toml", "t.csv", "4", "100"],
         number: 0,
-        written: b"rows 1\n",
-        table: Whole(b"cycle,verdict,weighted,bound,cause\n100,open,-,1,work\n"),
+        written: "rows 1\n",
+        table: Text("cycle,verdict,weighted,bound,cause\n100,open,-,1,work\n"),
     },
     Sweep {
         name: "work that is spent in the high part, at each cycle anew",
-        lines: &[(4, b"cycle = [50, 100]")],
+        lines: &[(4, "cycle = [50, 100]")],
         words: &["sweep", "a.toml", "t.csv", "14", "100", "100"],
         number: 0,
-        written: b"rows 2\n",
-        table: Whole(
-            b"cycle,verdict,weighted,bound,cause\n100,open,1/2,1,work\n100,open,1/2,1,work\n",
+        written: "rows 2\n",
+        table: Text(
+            "cycle,verdict,weighted,bound,cause\n100,open,1/2,1,work\n100,open,1/2,1,work\n",
         ),
     },
     Sweep {
         name: "long reds",
-        lines: &[
-            (4, b"cycle = [50, 100]"),
-            (9, b"red = 80"),
-            (13, b"red = 80"),
-        ],
+        lines: &[(4, "cycle = [50, 100]"), (9, "red = 80"), (13, "red = 80")],
         words: &["sweep", "a.toml", "t.csv", "all", "100"],
         number: 0,
-        written: b"rows 1\n",
-        table: Whole(b"cycle,verdict,weighted,bound,cause\n100,none,-,-,-\n"),
+        written: "rows 1\n",
+        table: Text("cycle,verdict,weighted,bound,cause\n100,none,-,-,-\n"),
     },
     Sweep {
         name: "the limits of every cycle",
         lines: &[],
         words: &["sweep", "a.toml", "t.csv", "1", "1", "3600"],
         number: 0,
-        written: b"rows 2\n",
-        table: Whole(b"cycle,verdict,weighted,bound,cause\n1,outside,-,-,-\n3600,outside,-,-,-\n"),
+        written: "rows 2\n",
+        table: Text("cycle,verdict,weighted,bound,cause\n1,outside,-,-,-\n3600,outside,-,-,-\n"),
     },
     Sweep {
         name: "a description that is refused",
-        lines: &[(9, b"red = 0")],
+        lines: &[(9, "red = 0")],
         words: &["sweep", "a.toml", "t.csv", "all", "100"],
         number: 3,
-        written: b"refused OutOfRange signal[1].red\n",
+        written: "refused OutOfRange signal[1].red\n",
         table: Absent,
     },
 ];
@@ -92,20 +88,15 @@ pub fn first_wrong_sweep(alloc: Global, sweeps: &[Sweep]) -> Result<&'static str
 }
 
 /// How many cycles are asked for, the number of the status, and what is written.
-pub static COUNTS: [(usize, u8, &[u8]); 4] = [
-    (0, 5, b"words not understood\n"),
-    (1, 0, b"rows 1\n"),
-    (100, 0, b"rows 100\n"),
-    (101, 5, b"words not understood\n"),
+pub static COUNTS: [(usize, u8, &str); 4] = [
+    (0, 5, "words not understood\n"),
+    (1, 0, "rows 1\n"),
+    (100, 0, "rows 100\n"),
+    (101, 5, "words not understood\n"),
 ];
 
 /// Whether a sweep of so many cycles, all beyond the street's limits, ends so.
-pub fn is_counted(
-    alloc: Global,
-    cycles: usize,
-    number: u8,
-    written: &[u8],
-) -> Result<bool, Memory> {
+pub fn is_counted(alloc: Global, cycles: usize, number: u8, written: &str) -> Result<bool, Memory> {
     let mut files = SureFiles::new(alloc);
     files.add("a.toml", NEAR.as_bytes())?;
     let mut words = Vec::new(alloc);
@@ -116,7 +107,7 @@ pub fn is_counted(
     let got = answered(alloc, words.as_slice(), &mut files)?;
     Ok(
         got.number == number
-            && got.out.bytes() == written
+            && got.out.bytes() == written.as_bytes()
             && files.bytes("t.csv").is_some() == (number == 0),
     )
 }

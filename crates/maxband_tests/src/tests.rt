@@ -1,7 +1,7 @@
 //! Each table of cases in turn.
 
 use crate::damage_cases::{
-    DAMAGES, FILE_CALLS, LINES, WRITES, is_cut, is_cut_by_a_byte, is_faulty, is_told,
+    DAMAGES, FILE_CALLS, LINES, WRITES, is_cut, is_cut_by_a_byte, is_faulty, is_no_text, is_told,
 };
 use crate::fault_cases::FAULTS;
 use crate::length_cases::{LINE_FEEDS, PADDED, is_checked, is_read};
@@ -11,7 +11,7 @@ use crate::renew_cases::{RENEWALS, is_renewed};
 use crate::running::{first_wrong, first_wrong_report, first_wrong_search, is_answered};
 use crate::shipped::Shipped;
 use crate::sweep_cases::{COUNTS, SWEEPS, first_wrong_sweep, is_counted};
-use crate::word_cases::{NO_FORMS, are_no_form};
+use crate::word_cases::{NO_USAGES, are_no_usage};
 use crate::{check_cases, hold_cases, link_cases, shipped, solve_cases, width_streets};
 use std::test::Fail;
 
@@ -21,6 +21,12 @@ fn timings_and_descriptions(rt: HostRuntime) -> Result<(), Fail> {
         let table = hold_cases::table(number);
         assert_eq!(rt; first_wrong(rt.alloc(), &table)?, "", "{}", table.name);
     }
+    Ok(())
+}
+
+#[test]
+fn a_description_that_is_no_text(rt: HostRuntime) -> Result<(), Fail> {
+    assert!(rt; is_no_text(rt.alloc())?);
     Ok(())
 }
 
@@ -99,9 +105,9 @@ fn whole_reports(rt: HostRuntime) -> Result<(), Fail> {
 }
 
 #[test]
-fn words_of_no_form(rt: HostRuntime) -> Result<(), Fail> {
-    for (index, words) in NO_FORMS.iter().enumerate() {
-        assert!(rt; are_no_form(rt.alloc(), words)?, "words {index}");
+fn words_of_no_usage(rt: HostRuntime) -> Result<(), Fail> {
+    for (index, words) in NO_USAGES.iter().enumerate() {
+        assert!(rt; are_no_usage(rt.alloc(), words)?, "words {index}");
     }
     Ok(())
 }

@@ -1,4 +1,4 @@
-//! Words that are none of the forms.
+//! Words that are none of the usages.
 
 use crate::running::answered;
 use crate::texts::ARTERY;
@@ -6,7 +6,7 @@ use narrow_fraction::Memory;
 use outer_edge::SureFiles;
 use std::alloc::Global;
 
-pub static NO_FORMS: [&[&str]; 97] = [
+pub static NO_USAGES: [&[&str]; 97] = [
     &[],
     &["--help"],
     &["hold"],
@@ -106,14 +106,14 @@ pub static NO_FORMS: [&[&str]; 97] = [
     &["sweep", "a.toml", "c.txt", "all", "100001/1000"],
 ];
 
-/// Whether the words are of no form, and no file is put.
-pub fn are_no_form(alloc: Global, words: &[&str]) -> Result<bool, Memory> {
+/// Whether the words are of no usage, and no file is put.
+pub fn are_no_usage(alloc: Global, words: &[&str]) -> Result<bool, Memory> {
     let mut files = SureFiles::new(alloc);
     files.add("a.toml", ARTERY.as_bytes())?;
     let got = answered(alloc, words, &mut files)?;
     Ok(
         got.number == 5
-            && got.out.bytes() == b"words not understood\n".as_slice()
+            && got.out.bytes() == "words not understood\n".as_bytes()
             && files.bytes("c.txt").is_none(),
     )
 }
