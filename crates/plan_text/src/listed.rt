@@ -21,11 +21,13 @@ fn add_rows(rows: &mut BTreeSet<RowId, Global>, weights: &[Weight]) -> Result<()
     Ok(())
 }
 
-/// The rows of a set in their order.
+/// The rows of a set in their order. Room for all of them is asked for at once: `collect` asks for as much by a hint alone, and goes on
+/// where that is refused.
 fn in_order(alloc: Global, rows: BTreeSet<RowId, Global>) -> Result<Vec<RowId>, Memory>
     ensures { IfOk result (λ v. v.items ≡ rows.keys) }
 {
-    let list = rows.into_iter().collect(alloc)?;
+    let mut list = Vec::with_capacity(alloc, rows.len())?;
+    list.extend(rows)?;
     Ok(list)
 }
 
