@@ -14,6 +14,7 @@ pub mod Reading
 pub mod Opens
 pub mod TreeProofs
 pub mod Certificates
+mod Solved
 pub mod KeptLeaves
 pub mod NamedCells
 pub mod NamedSites

@@ -15,6 +15,7 @@ pub mod Told
 pub mod SiteNames
 pub mod Searches
 pub mod Certified
+pub mod Searched
 pub mod BoxRuns
 pub mod ArteryRules
 pub mod laws

@@ -3,7 +3,9 @@
 //!
 //! Begin with `search`. What it answers is `IsSearch` (`specs/Searches.antt`): a tree of boxes that proves the verdict, each
 //! box of which was needed, the units that it took, and why the search stopped. `certificate_of` makes the certificate of an
-//! answer, which `certificate_checker` accepts. `specs/Told.antt` and `specs/SiteNames.antt` say what else follows of an answer.
+//! answer, which `certificate_checker` accepts. `search_and_check` does both and checks that certificate; what it answers is
+//! `IsSearched` (`specs/Searched.antt`): what the search says, and what its accepted certificate proves of every timing on any
+//! grid. `specs/Told.antt` and `specs/SiteNames.antt` say what else follows of an answer.
 //!
 //! - `specs/Program.antt`: what a program over boxes is, of which all runs are told; its lines are those of `branch_and_bound`, a box
 //!   with the boxes above it. `specs/ArteryProgram.antt`: `program_of`, an artery as one.
@@ -22,6 +24,7 @@
 
 mod artery;
 mod certifying;
+mod checked;
 mod copying;
 mod found;
 mod kept;
@@ -34,6 +37,7 @@ mod site;
 mod starting;
 
 pub use certifying::{certificate_of, claim_by, nodes_of};
+pub use checked::{Searched, search_and_check};
 pub use copying::copied;
 pub use found::{Found, Site, Stop, TreeNode, Verdict};
 pub use kept::Kept;

@@ -14,7 +14,7 @@ use fraction_tableau::Tableau;
 use loop_rows::column_count;
 use named_row::{Leaf, Row};
 use narrow_fraction::{Frac, Memory};
-use program_builder::{enter, reset, start};
+use program_builder::{ArteryTable, enter, make_tableau, reset};
 use search_box::SearchBox;
 use std::alloc::Global;
 use time_space::Timing;
@@ -32,8 +32,7 @@ pub fn make_room(alloc: Global, artery: &Artery) -> Result<Room, Memory>
 {
     // its contract says that the artery is valid
     artery.known_valid();
-    let area = SearchBox::root(alloc, artery)?;
-    let tableau = start(alloc, artery, &area)?;
+    let tableau = make_tableau(alloc, &ArteryTable { artery })?;
     let row = Row::zero(alloc, column_count(artery))?;
     Ok(Room { tableau, row })
 }

@@ -18,7 +18,7 @@ use Rattle.branch_tree.specs.Searches.{incumbent_of}
 use Rattle.branch_tree.specs.ArteryRules.{rules_of}
 use Rattle.branch_tree.specs.Trees.{node_of}
 use Rattle.branch_tree.specs.Certified.{value_of, claim_by}
-use Rattle.certified_search.specs.Searched.{Proves}
+use Rattle.branch_tree.specs.Searched.{Proves}
 use Rattle.cycle_sweep.specs.declared.row.SweepRow.TheVariants.{Outside, Searched}
 use Rattle.cycle_sweep.specs.Rows.{at_cycle}
 use Rattle.cycle_sweep.specs.Table.{fields, number_text, verdict_text, cause_text, bound_of, outside_fields, found_fields}

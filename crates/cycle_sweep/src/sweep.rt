@@ -10,7 +10,7 @@ use crate::copying::artery_at;
 use crate::cycle::is_allowed;
 use crate::row::SweepRow;
 use artery_model::Artery;
-use certified_search::search_and_check;
+use branch_tree::search_and_check;
 use narrow_fraction::{Frac, Memory};
 use std::alloc::Global;
 

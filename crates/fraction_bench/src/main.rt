@@ -15,6 +15,9 @@ const PAIRS: usize = 128;
 /// How often all pairs are taken where they are timed.
 const ROUNDS: u32 = 20_000;
 
+/// A tenth of the operations that are timed at once: so many nanoseconds are a tenth of one for each.
+const TENTH: u128 = ROUNDS as u128 * PAIRS as u128 / 10;
+
 #[derive(Clone, Copy)]
 enum Operation {
     Plus,
@@ -88,11 +91,13 @@ struct Set {
     mix: Mix,
 }
 
-/// The next state of a generator of numbers (Knuth's constants).
+/// The generator's constants (Knuth's).
+const FACTOR: u64 = 6364136223846793005;
+const STEP: u64 = 1442695040888963407;
+
+/// The next state of a generator of numbers.
 fn next(state: u64) -> u64 {
-    state
-        .wrapping_mul(6364136223846793005)
-        .wrapping_add(1442695040888963407)
+    state.wrapping_mul(FACTOR).wrapping_add(STEP)
 }
 
 /// An odd number of at most so many bits.
@@ -138,9 +143,8 @@ fn fitting(all: &[Frac], operation: Operation) -> u64 {
     fit
 }
 
-fn print_line<R: AllocGlobal + Print + std::rt::Clock>(
+fn print_fitting<R: AllocGlobal + Print>(
     rt: &R,
-    timed: bool,
     set: Set,
     all: &[Frac],
     operation: Operation,
@@ -148,19 +152,33 @@ fn print_line<R: AllocGlobal + Print + std::rt::Clock>(
     let name = operation.name();
     let bits = set.bits;
     let words = set.mix.words();
-    if !timed {
-        let fit = fitting(all, operation);
-        return println!(rt; "{name} {bits} bits{words} {fit} fit");
-    }
-    let start = Instant::now(rt)?;
+    let fit = fitting(all, operation);
+    println!(rt; "{name} {bits} bits{words} {fit} fit")
+}
+
+/// Takes all pairs, round by round.
+fn take_rounds(all: &[Frac], operation: Operation) {
     let mut fit: u64 = 0;
     for _ in 0..ROUNDS {
         fit = fit.wrapping_add(fitting(all, operation));
     }
-    let picos = start.elapsed(rt)?.as_nanos() * 1_000 / (u128::from(ROUNDS) * PAIRS as u128);
-    let nanos = picos / 1_000;
-    let tenths = picos / 100 % 10;
-    println!(rt; "{name} {bits} bits{words} {nanos}.{tenths} ns")
+}
+
+fn print_time<R: AllocGlobal + Print + std::rt::Clock>(
+    rt: &R,
+    set: Set,
+    all: &[Frac],
+    operation: Operation,
+) -> io::Result<()> {
+    let name = operation.name();
+    let bits = set.bits;
+    let words = set.mix.words();
+    let start = Instant::now(rt)?;
+    take_rounds(all, operation);
+    let tenths = start.elapsed(rt)?.as_nanos() / TENTH;
+    let nanos = tenths / 10;
+    let rest = tenths % 10;
+    println!(rt; "{name} {bits} bits{words} {nanos}.{rest} ns")
 }
 
 fn print_lines<R: AllocGlobal + Print + std::rt::Clock>(
@@ -179,7 +197,11 @@ fn print_lines<R: AllocGlobal + Print + std::rt::Clock>(
         Operation::Times,
         Operation::Over,
     ] {
-        print_line(rt, timed, set, all.as_slice(), operation)?;
+        if timed {
+            print_time(rt, set, all.as_slice(), operation)?;
+        } else {
+            print_fitting(rt, set, all.as_slice(), operation)?;
+        }
     }
     Ok(())
 }

@@ -22,7 +22,7 @@ use Rattle.multi_band.specs.LinkCertified.{link_warrant_of}
 use Rattle.multi_band.specs.LinksSearched.{LinksProve}
 use Rattle.maxband_run.specs.Command.{Request, Hold, Check, CheckLinks, Solve, Links, Renew, shape}
 use Rattle.maxband_run.specs.Outside.{Outside}
-use Rattle.certified_search.specs.Searched.{Proves}
+use Rattle.branch_tree.specs.Searched.{Proves}
 use Rattle.maxband_run.specs.Searched.{cause_of}
 use Rattle.maxband_run.specs.Reading.{Value, IsReadAs, Reads, Description}
 use Rattle.maxband_run.specs.Sought.{Sought, whole_bands, bands_of_links}

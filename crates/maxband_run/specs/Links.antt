@@ -4,7 +4,7 @@ use Rattle.progression.specs.Street.{Street}
 use Rattle.multi_band.specs.declared.found.LinkFound.{LinkFound}
 use Rattle.multi_band.specs.LinkCertified.{link_warrant_of}
 use Rattle.multi_band.specs.LinksSearched.{IsLinksSearched}
-use Rattle.link_report.specs.LinkReport.{link_report_lines}
+use Rattle.multi_band.specs.LinkReport.{link_report_lines}
 use Rattle.maxband_run.specs.Searched.{cause_of, IsLinkTextOf}
 use Rattle.maxband_run.specs.declared.cause.Cause.{Cause}
 

@@ -4,7 +4,7 @@ use Rattle.progression.specs.Street.{Street}
 use Rattle.branch_tree.specs.declared.found.Found.{Found}
 use Rattle.branch_tree.specs.Certified.{warrant_of}
 use Rattle.diagram_print.specs.Report.{report_lines}
-use Rattle.certified_search.specs.Searched.{IsSearched}
+use Rattle.branch_tree.specs.Searched.{IsSearched}
 use Rattle.maxband_run.specs.Searched.{cause_of, IsTextOf}
 use Rattle.maxband_run.specs.declared.cause.Cause.{Cause}
 

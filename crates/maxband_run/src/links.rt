@@ -8,8 +8,7 @@ use crate::answer::{Answer, Put};
 use crate::searching::cause_of;
 use artery_model::Artery;
 use link_proof::write_links;
-use link_report::link_report;
-use multi_band::{SearchedLinks, search_links_and_check};
+use multi_band::{SearchedLinks, link_report, search_links_and_check};
 use narrow_fraction::Memory;
 use std::alloc::Global;
 

@@ -4,13 +4,12 @@ ghost use Rattle.std.specs.Prelude.{◌≡◌, IfOk, IfSome};
 ghost use Rattle.progression.specs.Good.{Good};
 ghost use Rattle.work_meter.specs.Work.{IsBelow};
 ghost use Rattle.branch_tree.specs.Certified.{warrant_of};
-ghost use Rattle.certified_search.specs.Searched.{IsSearched};
+ghost use Rattle.branch_tree.specs.Searched.{IsSearched};
 ghost use Rattle.maxband_run.specs.Searched.{IsTextOf, cause_of};
 
 use crate::cause::Cause;
 use artery_model::Artery;
-use branch_tree::{Found, Verdict};
-use certified_search::{Searched, search_and_check};
+use branch_tree::{Found, Searched, Verdict, search_and_check};
 use narrow_fraction::Memory;
 use plan_text::{Claim, write_second};
 use std::alloc::Global;

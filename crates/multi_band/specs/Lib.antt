@@ -15,4 +15,5 @@ pub mod LinkEnough
 pub mod LinkSites
 pub mod LinkCertified
 pub mod LinksSearched
+pub mod LinkReport
 pub mod laws

@@ -13,8 +13,11 @@
 //! - The search: `specs/LinkProgram.antt` and `specs/LinkRules.antt` are the links of an artery as a program over boxes and as a relaxation
 //!   (`branch_tree`, `branch_and_bound`). What is answered stands in `specs/LinkSearches.antt`, `LinkTold.antt`, `LinkSites.antt`,
 //!   `LinkEnough.antt` and `LinkCertified.antt`.
+//! - The report: `link_report` writes the lines of what was found, each a function to bytes (`specs/LinkReport.antt`); what they share
+//!   with the report of whole bands is `diagram_print`'s.
 #![tactic(auto)]
 
+mod band_lines;
 mod building;
 mod certifying;
 mod checked;
@@ -23,6 +26,7 @@ mod laws;
 mod program;
 mod recovery;
 mod relaxed;
+mod report;
 mod searching;
 mod starting;
 mod table;
@@ -36,6 +40,7 @@ pub use laws::{
     law_worked_link_vertices,
 };
 pub use recovery::{RecoveredLinks, recover_links};
+pub use report::link_report;
 pub use searching::link_search;
 pub use starting::start_link_leaf;
 pub use table::LinkBandsTable;

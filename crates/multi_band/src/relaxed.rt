@@ -8,8 +8,9 @@ ghost use Rattle.branch_and_bound.specs.OpenedNodes.{Opens};
 ghost use Rattle.multi_band.specs.LinkRooms.{IsLinkRoomFor};
 ghost use Rattle.multi_band.specs.LinkRules.{link_rules};
 
-use crate::building::{reset_links, start_links};
+use crate::building::reset_links;
 use crate::starting::start_link_leaf;
+use crate::table::LinkBandsTable;
 use artery_model::Artery;
 use branch_and_bound::{Meter, Opened, Relaxation};
 use branch_tree::{SitePart, open};
@@ -18,6 +19,7 @@ use link_space::{LinkTiming, link_column_count};
 use loop_rows::column_count;
 use named_row::{Leaf, Row};
 use narrow_fraction::{Frac, Memory};
+use program_builder::make_tableau;
 use search_box::SearchBox;
 use std::alloc::Global;
 
@@ -36,8 +38,7 @@ pub fn make_link_room(alloc: Global, artery: &Artery) -> Result<LinkRoom, Memory
 {
     // its contract says that the artery is valid
     artery.known_valid();
-    let area = SearchBox::root(alloc, artery)?;
-    let tableau = start_links(alloc, artery, &area)?;
+    let tableau = make_tableau(alloc, &LinkBandsTable { artery })?;
     let spare = Row::zero(alloc, column_count(artery))?;
     let row = Row::zero(alloc, link_column_count(artery))?;
     Ok(LinkRoom {

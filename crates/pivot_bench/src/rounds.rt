@@ -14,7 +14,7 @@ use fraction_tableau::Tableau;
 use loop_rows::column_count;
 use named_row::Row;
 use narrow_fraction::Memory;
-use program_builder::{reset, start};
+use program_builder::{ArteryTable, make_tableau, reset};
 use search_box::SearchBox;
 use std::alloc::Global;
 
@@ -86,7 +86,7 @@ fn pivots_of(
 /// How many pivots so many rounds make in all. The error is want of memory.
 pub fn pivots_of_rounds(alloc: Global, artery: &Artery, rounds: u32) -> Result<u64, Memory> {
     let area = SearchBox::root(alloc, artery)?;
-    let mut tableau = start(alloc, artery, &area)?;
+    let mut tableau = make_tableau(alloc, &ArteryTable { artery })?;
     let mut room = Row::zero(alloc, column_count(artery))?;
     Ok(pivots_of(&mut tableau, artery, &area, &mut room, rounds))
 }

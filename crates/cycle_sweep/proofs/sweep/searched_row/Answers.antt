@@ -1,6 +1,6 @@
 use Rattle.std.proofs.Common.{refl, subst}
 use Rattle.progression.specs.Street.{Street}
-use Rattle.certified_search.specs.Searched.{IsSearched}
+use Rattle.branch_tree.specs.Searched.{IsSearched}
 use Rattle.cycle_sweep.proofs.sweep.searched_row.Goals as goal
 
 pub returns-clause-row : goal.returns-clause-row

@@ -1,4 +1,5 @@
-//! The search, the certificate, and its check.
+//! A search of an artery together with the check of its own certificate: what is found is told only once the certificate of it
+//! was accepted, which it always is.
 
 ghost use Rattle.std.specs.Prelude.{◌≡◌, IfOk, IfSome, OnOk};
 ghost use Rattle.progression.specs.Good.{Good};
@@ -7,10 +8,12 @@ ghost use Rattle.certificate_checker.specs.Accepted.{IsAccepted};
 ghost use Rattle.certificate_checker.specs.Claims.{ClaimHolds};
 ghost use Rattle.branch_tree.specs.Certified.{warrant_of};
 ghost use Rattle.branch_tree.specs.Told.{IsTimed};
-ghost use Rattle.certified_search.specs.Searched.{IsSearched};
+ghost use Rattle.branch_tree.specs.Searched.{IsSearched};
 
+use crate::certifying::certificate_of;
+use crate::found::Found;
+use crate::searching::search;
 use artery_model::Artery;
-use branch_tree::{Found, certificate_of, search};
 use certificate_checker::{check, law_accepted_or_refused};
 use narrow_fraction::Memory;
 use plan_text::Certificate;

@@ -13,7 +13,7 @@ use Rattle.branch_tree.specs.declared.site.SitePart.{SitePart}
 use Rattle.branch_tree.specs.declared.found.Found.{Found}
 use Rattle.branch_tree.specs.Searches.{Tells}
 use Rattle.branch_tree.specs.Certified.{value_of, claim_by, warrant_of}
-use Rattle.certified_search.specs.Searched.{Proves}
+use Rattle.branch_tree.specs.Searched.{Proves}
 
 verdict_proves : (a : Street) (timing : Option Plan) (bound : ℚ) (verdict : Verdict SitePart)
     → IfSome timing (λ plan. Good a plan) → Tells a timing bound verdict → ClaimHolds a (claim_by verdict bound (value_of a timing)) timing → Proves a timing bound verdict

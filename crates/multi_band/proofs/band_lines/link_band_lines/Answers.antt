@@ -2,8 +2,8 @@ use Rattle.std.proofs.Common.{◌≡◌, ◌+◌, ◌-◌, flat_map, ap, ◌∙�
 use Rattle.std.specs.List.{range_with_len}
 use Rattle.progression.specs.Street.{count}
 use Rattle.diagram_print.proofs.Pieces.{extended, piece_up}
-use Rattle.link_report.specs.LinkReport.{both_band_lines}
-use Rattle.link_report.proofs.bands.link_band_lines.Goals as goal
+use Rattle.multi_band.specs.LinkReport.{both_band_lines}
+use Rattle.multi_band.proofs.band_lines.link_band_lines.Goals as goal
 
 pub loop-link-preserved : goal.loop-link-preserved
 loop-link-preserved c =

@@ -2,7 +2,7 @@
 
 ghost use Rattle.std.specs.Prelude.{◌≡◌, ◌<◌, ◌≤◌, length, IfOk, string_bytes};
 ghost use Rattle.progression.specs.Street.{count};
-ghost use Rattle.link_report.specs.LinkReport.{band_name, link_band_line, both_band_lines, link_band_lines};
+ghost use Rattle.multi_band.specs.LinkReport.{band_name, link_band_line, both_band_lines, link_band_lines};
 
 use artery_model::{Artery, Dir};
 use diagram_print::{dir_name, quotient_line};

@@ -1,8 +1,8 @@
 use Rattle.std.proofs.Common.{subst}
 use Rattle.plan_text.specs.Warrants.{Warrant}
 use Rattle.certificate_checker.specs.Accepted.{IsAccepted}
-use Rattle.certified_search.proofs.Solved.{found_proves}
-use Rattle.certified_search.proofs.searching.search_and_check.Goals as goal
+use Rattle.branch_tree.proofs.Solved.{found_proves}
+use Rattle.branch_tree.proofs.checked.search_and_check.Goals as goal
 
 pub confirm-requires : goal.confirm-requires
 confirm-requires c = c.in_ok-certificate.ensures.accepted c.args.limit c.in_ok-found.ensures.answer

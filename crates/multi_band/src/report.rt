@@ -3,14 +3,14 @@
 ghost use Rattle.std.specs.Prelude.{◌≡◌, IfOk, IfSome, option_map};
 ghost use Rattle.link_theory.specs.GoodLinks.{GoodLinks};
 ghost use Rattle.multi_band.specs.LinkSites.{HasLinkSite};
-ghost use Rattle.link_report.specs.LinkReport.{link_timing_lines, link_report_lines};
+ghost use Rattle.multi_band.specs.LinkReport.{link_timing_lines, link_report_lines};
 
-use crate::bands::link_band_lines;
+use crate::band_lines::link_band_lines;
+use crate::found::LinkFound;
 use artery_model::Artery;
 use diagram_print::{cycle_line, link_lines, measure_line, signal_lines, verdict_lines};
 use link_proof::link_families;
 use link_space::{LinkTiming, link_value};
-use multi_band::LinkFound;
 use narrow_fraction::Memory;
 use std::alloc::Global;
 

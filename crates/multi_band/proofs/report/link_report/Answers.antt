@@ -1,5 +1,5 @@
 use Rattle.diagram_print.proofs.Boxed.{ends_at}
-use Rattle.link_report.proofs.lines.link_report.Goals as goal
+use Rattle.multi_band.proofs.report.link_report.Goals as goal
 
 pub verdict_lines-requires : goal.verdict_lines-requires
 verdict_lines-requires c = ends_at (λ site h. h.boxed) c.args.found.now.verdict c.requires.site
