@@ -1,0 +1,5 @@
+//! Tests of the engines: `branch_and_bound`, through what is public of it.
+#![tactic(auto)]
+
+#[cfg(test)]
+mod branch_and_bound_tests;

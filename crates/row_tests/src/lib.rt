@@ -1,0 +1,9 @@
+//! Tests of rows, and of what is shown by them: `loop_rows`, `offset_recovery` and `certificate_checker`, through what is public of them.
+#![tactic(auto)]
+
+#[cfg(test)]
+mod certificate_checker_tests;
+#[cfg(test)]
+mod loop_rows_tests;
+#[cfg(test)]
+mod offset_recovery_tests;

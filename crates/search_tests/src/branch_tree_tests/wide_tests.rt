@@ -1,0 +1,128 @@
+//! A street whose root is finished and can't be read, worked by hand: three signals with 100 parts and reds of 60, two links of
+//! 1387 metres.
+//!
+//! With speeds just below 100 kilometres an hour and a cycle of 99.929 seconds each run is just below half a cycle, so that both
+//! block sums are 1 in the whole root box. From signal to signal the waits then fall by what the two runs of the link leave of
+//! a whole cycle, and at each signal the waits and the bands fit into greens of 2/5. So the root's bound is the four runs less 6/5.
+//! The four speeds and the cycle have five different prime numbers of thousandths. A common denominator of 2^80 or more has to
+//! have all five, since any four of them and the number of parts make less.
+
+use super::tests::{fraction, is_accepted, is_first_waits, searched};
+use artery_model::{Artery, Pair};
+use branch_tree::{Found, Site, SitePart, Stop, Verdict};
+use narrow_fraction::Frac;
+use offset_recovery::WideTiming;
+use sample_streets::{SampleHead, SampleLink, plain_head, plain_link, plain_signal, sample_street};
+use std::alloc::Global;
+use std::rt::HostRuntime;
+use std::test::Fail;
+
+/// The speeds in thousandths of a kilometre an hour, and the cycle in thousandths of a second.
+const PRIMES: [u32; 5] = [99991, 99989, 99971, 99961, 99929];
+
+/// A number of thousandths.
+fn thousandths(number: u32) -> Result<Frac, Fail> {
+    fraction(i128::from(number), 1000)
+}
+
+/// A range of this number alone.
+fn pair_of(number: Frac) -> Pair {
+    Pair {
+        least: number,
+        most: number,
+    }
+}
+
+fn link(speed_out: u32, speed_in: u32) -> Result<SampleLink, Fail> {
+    Ok(SampleLink {
+        speed_out: pair_of(thousandths(speed_out)?),
+        speed_in: pair_of(thousandths(speed_in)?),
+        ..plain_link(1387)
+    })
+}
+
+/// The cycle has so many thousandths of a second.
+fn head(cycle: u32) -> Result<SampleHead, Fail> {
+    Ok(SampleHead {
+        cycle: pair_of(thousandths(cycle)?),
+        ..plain_head()
+    })
+}
+
+fn street(alloc: Global) -> Result<Artery, Fail> {
+    let [first_out, first_in, second_out, second_in, cycle] = PRIMES;
+    let head = head(cycle)?;
+    let signals = [
+        plain_signal("A", 60),
+        plain_signal("B", 60),
+        plain_signal("C", 60),
+    ];
+    let links = [link(first_out, first_in)?, link(second_out, second_in)?];
+    match sample_street(alloc, head, &signals, &links) {
+        Ok(artery) => Ok(artery),
+        Err(_) => Err("no artery".into()),
+    }
+}
+
+/// One over a number of thousandths.
+fn per(number: u32) -> Result<Frac, Fail> {
+    fraction(1000, i128::from(number))
+}
+
+/// The part of a cycle that 1387 metres take: 4993.2 over the speed and the cycle.
+fn run(speed: u32, cycle: u32) -> Result<Frac, Fail> {
+    let slow = fraction(49932, 10)?.times(per(speed)?);
+    let seconds = slow.ok().ok_or("no time")?;
+    Ok(seconds.times(per(cycle)?).ok().ok_or("no part of a cycle")?)
+}
+
+/// The four runs less 6/5.
+fn root_bound() -> Result<Frac, Fail> {
+    let [first_out, first_in, second_out, second_in, cycle] = PRIMES;
+    let mut bound = fraction(-6, 5)?;
+    for speed in [first_out, first_in, second_out, second_in] {
+        bound = bound.plus(run(speed, cycle)?).ok().ok_or("no sum")?;
+    }
+    Ok(bound)
+}
+
+/// The site of a stop by width.
+fn site(found: &Found) -> Option<&Site> {
+    match &found.verdict {
+        Verdict::Stopped(Stop::Wide(site)) => Some(site),
+        _ => None,
+    }
+}
+
+/// The two numbers whose least common multiple is too great, and zeros for any other site.
+fn operands(part: SitePart) -> (u128, u128) {
+    match part {
+        SitePart::Timing(WideTiming::Unit { left, right }) => (left, right),
+        _ => (0, 0),
+    }
+}
+
+fn is_factor(prime: u32, number: u128) -> bool {
+    prime != 0 && number != 0 && number % u128::from(prime) == 0
+}
+
+#[test]
+fn an_unread_root_keeps_its_own_leaf(rt: HostRuntime) -> Result<(), Fail> {
+    let alloc = rt.alloc();
+    let artery = street(alloc)?;
+    let found = searched(alloc, &artery, 1000)?;
+    let site = site(&found).ok_or("no stop by width")?;
+    assert!(rt; found.spent == site.pivots.saturating_add(1));
+    let (left, right) = operands(site.part);
+    for prime in PRIMES {
+        assert!(rt; is_factor(prime, left) || is_factor(prime, right));
+    }
+    assert!(rt; found.bound == root_bound()?);
+    assert!(rt; found.timing.is_none());
+    match found.nodes.as_slice() {
+        [node] => assert!(rt; !is_first_waits(node)),
+        _ => return Err("not one node".into()),
+    }
+    assert!(rt; is_accepted(alloc, &artery, &found));
+    Ok(())
+}

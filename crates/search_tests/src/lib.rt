@@ -1,0 +1,9 @@
+//! Tests of whole searches and their reports: `branch_tree`, `multi_band` and `diagram_print`, through what is public of them.
+#![tactic(auto)]
+
+#[cfg(test)]
+mod branch_tree_tests;
+#[cfg(test)]
+mod diagram_print_tests;
+#[cfg(test)]
+mod multi_band_tests;

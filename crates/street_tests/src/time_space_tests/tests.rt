@@ -1,0 +1,116 @@
+//! What a timing is worth, what is seen at a signal, and its numbers.
+
+use super::streets::{
+    BASE, HALF_BAND, HALVED, NEAR, Street, Times, WHOLE_BAND, artery, make_timing, signal, timing,
+};
+use artery_model::Artery;
+use progression::Dir;
+use std::alloc::Global;
+use std::test::Fail;
+use time_space::{Timing, green, in_band, value};
+
+/// The numerator and the denominator of the weighted band.
+fn weighted_band(alloc: Global, street: Street, times: Times) -> Result<(i128, i128), Fail> {
+    let found = value(&artery(alloc, street)?, &timing(alloc, times)?);
+    Ok((found.num(), found.den()))
+}
+
+const WEIGHTED: [(Street, Times, (i128, i128)); 3] = [
+    (BASE, WHOLE_BAND, (1, 1)),
+    (NEAR, HALF_BAND, (1, 2)),
+    (
+        HALVED,
+        Times {
+            bands: [100, 50],
+            ..WHOLE_BAND
+        },
+        (5, 8),
+    ),
+];
+
+#[test]
+fn weighted_bands(rt: HostRuntime) -> Result<(), Fail> {
+    for (street, times, expected) in &WEIGHTED {
+        assert!(rt; weighted_band(rt.alloc(), *street, *times)? == *expected);
+    }
+    Ok(())
+}
+
+/// Whether signal 1 is green outbound at the tick, and whether the inbound band is there 200 ticks later. None where the
+/// two have other counts of signals.
+fn seen(artery: &Artery, timing: &Timing, tick: i32) -> Option<(bool, bool)> {
+    if timing.count() != artery.count() {
+        return None;
+    }
+    let tick = i128::from(tick);
+    let is_green = green(artery, timing, Dir::Outbound, 1, tick);
+    let is_in_band = in_band(artery, timing, Dir::Inbound, 1, tick + 200);
+    Some((is_green, is_in_band))
+}
+
+const SEEN: [(i32, bool, bool); 6] = [
+    (-100, true, true),
+    (0, true, true),
+    (1, false, false),
+    (99, false, false),
+    (100, true, true),
+    (200, true, true),
+];
+
+#[test]
+fn what_is_seen_at_a_signal(rt: HostRuntime) -> Result<(), Fail> {
+    let artery = artery(rt.alloc(), BASE)?;
+    let timing = timing(rt.alloc(), WHOLE_BAND)?;
+    for (tick, is_green, is_in_band) in &SEEN {
+        assert!(rt; seen(&artery, &timing, *tick) == Some((*is_green, *is_in_band)));
+    }
+    Ok(())
+}
+
+/// The count, the grid and the unit.
+fn measures(timing: &Timing) -> (u32, u128, u128) {
+    (timing.count(), timing.grid(), timing.unit())
+}
+
+/// The pattern and the common red of signal 2.
+fn at_signal_two(timing: &Timing) -> (u32, i128) {
+    let _ = timing.count();
+    (timing.pattern(2), timing.common_red(2))
+}
+
+/// A direction's run on link 1, its first line and its band.
+fn one_way(timing: &Timing, dir: Dir) -> (u128, i128, u128) {
+    let _ = timing.count();
+    (timing.run(dir, 1), timing.first(dir), timing.band(dir))
+}
+
+/// Whether the lists are these.
+fn has_lists(timing: &Timing, patterns: &[u32], reds: &[u128], runs: [&[u128]; 2]) -> bool {
+    timing.patterns() == patterns
+        && timing.reds() == reds
+        && timing.run_out() == runs[0]
+        && timing.run_in() == runs[1]
+}
+
+#[test]
+fn a_timing_is_read_back(rt: HostRuntime) -> Result<(), Fail> {
+    let read = timing(rt.alloc(), HALF_BAND)?;
+    assert_eq!(rt; measures(&read), (2, 2, 2));
+    assert_eq!(rt; at_signal_two(&read), (1, 50));
+    assert_eq!(rt; one_way(&read, Dir::Outbound), (50, 100, 100));
+    assert_eq!(rt; one_way(&read, Dir::Inbound), (50, 150, 0));
+    assert!(rt; has_lists(&read, &[1, 1], &[0, 50], [&[50], &[50]]));
+    for outside in [
+        Times {
+            grid: 0,
+            ..HALF_BAND
+        },
+        Times {
+            pattern: 5,
+            ..HALF_BAND
+        },
+    ] {
+        assert!(rt; make_timing(rt.alloc(), outside)?.is_none());
+    }
+    Ok(())
+}

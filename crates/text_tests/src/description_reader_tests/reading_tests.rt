@@ -1,0 +1,295 @@
+//! Descriptions that are read: each key comes back, and the same street in other spellings.
+
+ghost use Rattle.std.specs.Prelude.{◌≤◌, ◌<◌};
+ghost use Rattle.progression.specs.Street.{count};
+
+use super::samples::{BASE, EVERY_KEY, read, read_with_lines};
+use artery_model::{Artery, Dir, Link, Pair, Units};
+use narrow_fraction::Frac;
+use std::rt::HostRuntime;
+use std::test::Fail;
+
+/// Lines of the base replaced by others that mean the same.
+const SAME: [&[(usize, &str)]; 12] = [
+    &[],
+    &[(1, "\u{feff}[artery]")],
+    &[(1, "version = 1\n[artery]")],
+    &[(
+        1,
+        "[artery]\nname = 'aaaaaaaaaaaaaaaaaaaaaaaaaaaaaaaaaaaaaaaaaaaaaaaaaaaaaaaaaaaa'",
+    )],
+    &[(4, "cycle = ['200000/2000', 100]")],
+    &[(5, "ratio = '2/2'")],
+    &[(5, "ratio = 1")],
+    &[(9, "red = 0x32")],
+    &[(9, "red = 50\nleft_out = 0\nclear_in = 0")],
+    &[(13, "red = 50\nleft_in = 0\npatterns = [4, 1, 3, 2, 1]")],
+    &[(18, "speed_out = ['036', 36]")],
+    &[(19, "speed_in = ['36.0', '72/2']")],
+];
+
+/// A signal: its number, the outbound and the inbound red, the two left turns and the two clearances, and which of the
+/// patterns 1 to 4 it allows.
+type AtSignal = (u32, [u32; 2], [u32; 4], [bool; 4]);
+
+/// The signals of `BASE`.
+const BASE_SIGNALS: [AtSignal; 2] = [
+    (1, [50, 50], [0, 0, 0, 0], [true, true, true, true]),
+    (2, [50, 50], [0, 0, 0, 0], [true, true, true, true]),
+];
+
+/// The signals of `EVERY_KEY`. An outbound left turn adds to the inbound red.
+const SIGNALS: [AtSignal; 3] = [
+    (1, [52, 50], [10, 12, 5, 7], [false, true, false, true]),
+    (2, [45, 45], [0, 0, 0, 0], [true, true, true, true]),
+    (3, [30, 99], [69, 0, 0, 99], [true, false, false, false]),
+];
+
+fn red_out_at(artery: &Artery, signal: u32) -> u32
+    requires first { 1 ≤ signal }
+    requires last { signal ≤ count artery.now }
+{
+    artery.red_out(signal)
+}
+
+fn red_in_at(artery: &Artery, signal: u32) -> u32
+    requires first { 1 ≤ signal }
+    requires last { signal ≤ count artery.now }
+{
+    artery.red_in(signal)
+}
+
+/// The outbound and the inbound red of a signal.
+fn reds_at(artery: &Artery, signal: u32) -> [u32; 2]
+    requires first { 1 ≤ signal }
+    requires last { signal ≤ count artery.now }
+{
+    [red_out_at(artery, signal), red_in_at(artery, signal)]
+}
+
+/// The same, asked by direction.
+fn reds_by_direction(artery: &Artery, signal: u32) -> [u32; 2]
+    requires first { 1 ≤ signal }
+    requires last { signal ≤ count artery.now }
+{
+    [
+        artery.red(Dir::Outbound, signal),
+        artery.red(Dir::Inbound, signal),
+    ]
+}
+
+/// The outbound and the inbound left turn of a signal, and the two clearances.
+fn turns_at(artery: &Artery, signal: u32) -> [u32; 4]
+    requires first { 1 ≤ signal }
+    requires last { signal ≤ count artery.now }
+{
+    [
+        artery.left_against(Dir::Inbound, signal),
+        artery.left_against(Dir::Outbound, signal),
+        artery.clearance(Dir::Outbound, signal),
+        artery.clearance(Dir::Inbound, signal),
+    ]
+}
+
+/// Which of the patterns 1 to 4 a signal allows.
+fn patterns_at(artery: &Artery, signal: u32) -> [bool; 4]
+    requires first { 1 ≤ signal }
+    requires last { signal ≤ count artery.now }
+{
+    [
+        artery.allows(signal, 1),
+        artery.allows(signal, 2),
+        artery.allows(signal, 3),
+        artery.allows(signal, 4),
+    ]
+}
+
+/// Whether a signal is as it should be.
+fn is_signal(artery: &Artery, want: &AtSignal) -> bool {
+    let (signal, reds, turns, patterns) = want;
+    if *signal < 1 || *signal > artery.count() {
+        return false;
+    }
+    reds_at(artery, *signal) == *reds
+        && reds_by_direction(artery, *signal) == *reds
+        && turns_at(artery, *signal) == *turns
+        && patterns_at(artery, *signal) == *patterns
+}
+
+/// The number of the first signal that isn't as it should be, or 0.
+fn first_other(artery: &Artery, signals: &[AtSignal]) -> u32 {
+    for want in signals {
+        if !is_signal(artery, want) {
+            return want.0;
+        }
+    }
+    0
+}
+
+/// A fraction: its numerator and its denominator.
+type Number = (i128, i128);
+
+/// Whether two limits are these fractions.
+fn are(limits: Pair, least: Number, most: Number) -> bool {
+    Frac::new(least.0, least.1) == Ok(limits.least) && Frac::new(most.0, most.1) == Ok(limits.most)
+}
+
+/// Whether there are limits, and they are these fractions.
+fn are_given(limits: Option<Pair>, least: Number, most: Number) -> bool {
+    match limits {
+        Some(limits) => are(limits, least, most),
+        None => false,
+    }
+}
+
+/// The runs on a link at the greatest and at the least speed, in seconds, where there is that link.
+fn runs_at(artery: &Artery, dir: Dir, link: u32) -> Option<Pair> {
+    if link < 1 || link >= artery.count() {
+        return None;
+    }
+    Some(Pair {
+        least: artery.run_low(dir, link),
+        most: artery.run_high(dir, link),
+    })
+}
+
+/// The outbound and the inbound length of a link, where there is that link.
+fn lengths_at(artery: &Artery, link: u32) -> Option<[u32; 2]> {
+    if link < 1 || link >= artery.count() {
+        return None;
+    }
+    Some([
+        artery.distance(Dir::Outbound, link),
+        artery.distance(Dir::Inbound, link),
+    ])
+}
+
+/// The limits of the change of pace behind a link, where there is that link and it has them.
+fn change_at(artery: &Artery, dir: Dir, link: u32) -> Option<Pair> {
+    if link < 1 || link >= artery.count() {
+        return None;
+    }
+    artery.change(dir, link)
+}
+
+/// Whether there are no limits of the changes of pace behind a link.
+fn has_no_change(artery: &Artery, link: u32) -> bool {
+    change_at(artery, Dir::Outbound, link).is_none()
+        && change_at(artery, Dir::Inbound, link).is_none()
+}
+
+/// Whether the artery's own values are those of `BASE`.
+fn has_base_head(artery: &Artery) -> bool {
+    artery.count() == 2
+        && artery.parts() == 100
+        && artery.ratio() == Frac::whole(1)
+        && artery.head().units == Units::Metric
+        && artery.head().cycle.least == Frac::whole(100)
+}
+
+/// Whether the speeds of the only link are those of `BASE`.
+fn has_base_speeds(links: &[Link]) -> bool {
+    let [link] = links else {
+        return false;
+    };
+    link.speed_out.most == Frac::whole(36) && link.speed_in.least == Frac::whole(36)
+}
+
+#[test]
+fn base_is_read(rt: HostRuntime) -> Result<(), Fail> {
+    for lines in SAME {
+        let artery = read_with_lines(rt.alloc(), BASE, lines)?;
+        assert!(rt; has_base_head(&artery));
+        assert_eq!(rt; first_other(&artery, &BASE_SIGNALS), 0);
+        assert_eq!(rt; lengths_at(&artery, 1), Some([500, 500]));
+        assert!(rt; has_no_change(&artery, 1));
+        assert!(rt; has_base_speeds(artery.links()));
+    }
+    Ok(())
+}
+
+/// Whether an artery has this name.
+fn is_named(artery: &Artery, want: &str) -> bool {
+    match &artery.head().name {
+        Some(name) => name.as_str() == want,
+        None => false,
+    }
+}
+
+/// Whether the names of the signals are A and B.
+fn has_base_names(artery: &Artery) -> bool {
+    let [first, second] = artery.signals() else {
+        return false;
+    };
+    first.name.as_str() == "A" && second.name.as_str() == "B"
+}
+
+/// Whether the greatest outbound speed of the only link is this one.
+fn has_greatest_speed(links: &[Link], want: Number) -> bool {
+    let [link] = links else {
+        return false;
+    };
+    Frac::new(want.0, want.1) == Ok(link.speed_out.most)
+}
+
+#[test]
+fn english_street_is_read(rt: HostRuntime) -> Result<(), Fail> {
+    let lines = [
+        (1, "version = 1\n[artery]\nname = 'Main Street'"),
+        (2, "units = 'english'"),
+        (18, "speed_out = ['13.50', '27/2']"),
+    ];
+    let artery = read_with_lines(rt.alloc(), BASE, &lines)?;
+    assert!(rt; artery.head().units == Units::English);
+    assert!(rt; is_named(&artery, "Main Street"));
+    assert!(rt; has_base_names(&artery));
+    assert!(rt; has_greatest_speed(artery.links(), (27, 2)));
+    Ok(())
+}
+
+/// Whether the artery's own values are those of `EVERY_KEY`.
+fn has_every_value(artery: &Artery) -> bool {
+    artery.head().units == Units::English
+        && artery.parts() == 100
+        && are(artery.cycle(), (60, 1), (181, 2))
+        && Frac::new(3, 4) == Ok(artery.ratio())
+}
+
+/// Whether the speeds of the links are those of `EVERY_KEY`.
+fn has_every_speed(links: &[Link]) -> bool {
+    let [first, second] = links else {
+        return false;
+    };
+    are(first.speed_out, (30, 1), (40, 1))
+        && are(first.speed_in, (55, 2), (35, 1))
+        && are(second.speed_out, (25, 1), (25, 1))
+        && are(second.speed_in, (20, 1), (45, 1))
+}
+
+/// Whether the runs on the first link are those of `EVERY_KEY`. Thirty miles an hour are 44 feet a second.
+fn has_every_run(artery: &Artery) -> bool {
+    are_given(runs_at(artery, Dir::Outbound, 1), (525, 22), (350, 11))
+        && are_given(runs_at(artery, Dir::Inbound, 1), (2250, 77), (4500, 121))
+}
+
+/// Whether the changes of pace behind the first link are those of `EVERY_KEY`, in seconds for a foot, of which a mile
+/// has 5280.
+fn has_every_change(artery: &Artery) -> bool {
+    are_given(change_at(artery, Dir::Outbound, 1), (-1, 528), (1, 264))
+        && are_given(change_at(artery, Dir::Inbound, 1), (-25, 132), (1, 15840))
+}
+
+#[test]
+fn every_key_is_read(rt: HostRuntime) -> Result<(), Fail> {
+    let artery = read(rt.alloc(), EVERY_KEY.as_bytes())?;
+    assert!(rt; is_named(&artery, "Main Street"));
+    assert!(rt; has_every_value(&artery));
+    assert_eq!(rt; artery.count(), 3);
+    assert_eq!(rt; first_other(&artery, &SIGNALS), 0);
+    assert!(rt; has_every_speed(artery.links()));
+    assert!(rt; has_every_run(&artery));
+    assert_eq!(rt; lengths_at(&artery, 2), Some([900, 800]));
+    assert!(rt; has_every_change(&artery));
+    assert!(rt; has_no_change(&artery, 2));
+    Ok(())
+}

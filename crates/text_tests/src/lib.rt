@@ -1,0 +1,7 @@
+//! Tests of what is read and written: `description_reader` and `plan_text`, through what is public of them.
+#![tactic(auto)]
+
+#[cfg(test)]
+mod description_reader_tests;
+#[cfg(test)]
+mod plan_text_tests;
