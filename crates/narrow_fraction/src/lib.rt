@@ -20,6 +20,7 @@ mod multiple;
 mod operations;
 mod order;
 mod products;
+mod quotient;
 mod sums;
 #[cfg(test)]
 mod tests;
@@ -29,5 +30,6 @@ mod wide;
 pub use frac::Frac;
 pub use memory::Memory;
 pub use multiple::common_multiple;
+pub use quotient::Quotient;
 pub use unfit::Unfit;
 pub use wide::{Op, Wide};
