@@ -3,8 +3,9 @@ use Rattle.std.proofs.Common.{◌≡◌, ℕ, suc, ℤ, pos, negsuc, neg_ℤ, �
 use Rattle.std.specs.Prelude.{int_lt}
 use Rattle.std.specs.Ordering.{MatchOrdering}
 use Rattle.std.proofs.lemmas.Int.{ints}
-use Rattle.rational_theory.specs.Rational.{ℚ, ◌<ℚ◌}
-use Rattle.rational_theory.proofs.Arithmetic.{same_cross}
+use Rattle.rational_theory.specs.Rational.{ℚ, ◌<ℚ◌, over}
+use Rattle.rational_theory.proofs.Arithmetic.{same_cross, same_ratio, over_ratio}
+use Rattle.rational_theory.proofs.Order.{not-≤ℚ, over_≤ℚ}
 
 pub quotients_apart : (a b c d q p r s : ℕ) → 0 < d → a ≡ q * b + r → c ≡ p * d + s → r < b → q < p → a * d < c * b
 quotients_apart a b c d q p r s h e f k l =
@@ -74,3 +75,13 @@ rank_apart (negsuc a) (negsuc c) b d p q r = absurd (true≢false r)
 pub rank_ℚ : (o : Ordering) (x y : ℚ) → MatchOrdering o ((x.num *ℤ pos y.den) <ℤ (y.num *ℤ pos x.den)) (x.num *ℤ pos y.den ≡ y.num *ℤ pos x.den) ((y.num *ℤ pos x.den) <ℤ (x.num *ℤ pos y.den))
     → MatchOrdering o (x <ℚ y) (x ≡ y) (y <ℚ x)
 rank_ℚ o x y m = order_map o (λ h. record { cross = h }) (λ h. same_cross x y h) (λ h. record { cross = h }) m
+
+-- at quotients in any terms
+pub rank_over : (o : Ordering) (a b : ℤ) (d e : ℕ) → 0 < d → 0 < e → MatchOrdering o ((a *ℤ pos e) <ℤ (b *ℤ pos d)) (a *ℤ pos e ≡ b *ℤ pos d) ((b *ℤ pos d) <ℤ (a *ℤ pos e))
+    → MatchOrdering o (over a d <ℚ over b e) (over a d ≡ over b e) (over b e <ℚ over a d)
+rank_over o a b d e h k m =
+    order_map o
+    (λ l. not-≤ℚ (over a d) (over b e) (λ q. let t = (over_≤ℚ b a e d k h).0 q in omega (arith, ints, l, t)))
+    (λ l. same_ratio _ _ _ _ _ _ _ _ (over_ratio a d h) (over_ratio b e k) (omega (arith, ints, l)))
+    (λ l. not-≤ℚ (over b e) (over a d) (λ q. let t = (over_≤ℚ a b d e h k).0 q in omega (arith, ints, l, t)))
+    m

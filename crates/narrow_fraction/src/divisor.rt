@@ -99,7 +99,7 @@ pub fn divided(n: u128, by: u128) -> u128
 }
 
 /// `n % by`, with no division of 128 bits where a shorter one serves.
-fn remainder(n: u128, by: u128) -> u128
+pub fn remainder(n: u128, by: u128) -> u128
     requires { 0 < by }
     ensures { result ≡ n % by }
 {

@@ -4,6 +4,9 @@
 //! from 1 to `2^127 - 1` and its numerator at most `2^127 - 1` in size. Begin with `Frac::whole`, with
 //! `Frac::reduced` for two numbers that fit, or with `Frac::new` for any two.
 //!
+//! A `Quotient` is seen as the same rational number, and may be held over a denominator that isn't its least: so many numbers
+//! can stand over one denominator, with a common divisor sought for none. Operations are those of its `fraction`.
+//!
 //! A crate that compares two `Frac`s writes at the head of its `lib.rt`
 //!
 //! `#![tactic(auto, using(rational_theory::proofs::Compare::ne_false, rational_theory::proofs::Compare::eq_true, rational_theory::proofs::Compare::lt_true, rational_theory::proofs::Compare::lt_false, rational_theory::proofs::Compare::le_true, rational_theory::proofs::Compare::le_false))]`
@@ -20,6 +23,7 @@ mod multiple;
 mod operations;
 mod order;
 mod products;
+mod quotient;
 mod sums;
 #[cfg(test)]
 mod tests;
@@ -29,5 +33,6 @@ mod wide;
 pub use frac::Frac;
 pub use memory::Memory;
 pub use multiple::common_multiple;
+pub use quotient::Quotient;
 pub use unfit::Unfit;
 pub use wide::{Op, Wide};

@@ -1,6 +1,7 @@
 //! Worked fractions, up to the greatest of 128 bits.
 
-use crate::{Frac, Op, Unfit, Wide, common_multiple};
+use crate::{Frac, Op, Quotient, Unfit, Wide, common_multiple};
+use std::alloc::AllocError;
 use std::rt::HostRuntime;
 
 const TWO_63: i128 = 9_223_372_036_854_775_808;
@@ -143,4 +144,104 @@ fn least_common_multiples(rt: HostRuntime) {
     for (left, right, want) in table {
         assert_eq!(rt; common_multiple(left, right), want);
     }
+}
+
+/// The quotient of two words, or 0 where there is none.
+fn quotient(numerator: i64, denominator: u64) -> Quotient {
+    if denominator == 0 {
+        return Quotient::of_fraction(Frac::whole(0));
+    }
+    Quotient::of_words(numerator, denominator)
+}
+
+/// The numerator over a denominator; over 0 there is none.
+fn numerator_over(held: &Quotient, denominator: u64) -> Option<i64> {
+    if denominator == 0 {
+        return None;
+    }
+    held.numerator_over(denominator)
+}
+
+#[test]
+fn operations_on_quotients_with_common_divisors(rt: HostRuntime) {
+    let table = [
+        (Op::Add, (2, 12), (6, 60), (4, 15)),
+        (Op::Add, (4, 8), (-3, 6), (0, 1)),
+        (Op::Add, (-14, 6), (6, 3), (-1, 3)),
+        (Op::Sub, (5, 10), (4, 6), (-1, 6)),
+        (Op::Sub, (0, 9), (10, 6), (-5, 3)),
+        (Op::Mul, (4, 6), (-18, 8), (-3, 2)),
+        (Op::Mul, (i64::MIN, 2), (4, 1 << 63), (-2, 1)),
+        (Op::Div, (4, 6), (-8, 18), (-3, 2)),
+        (Op::Div, (i64::MAX, u64::MAX - 1), (3, 6), (1, 1)),
+    ];
+    for (op, left, right, want) in table {
+        let first = quotient(left.0, left.1);
+        let second = quotient(right.0, right.1);
+        let exact = answer(op, first.fraction(), second.fraction());
+        assert_eq!(rt; exact, Ok(fraction(want.0, want.1)));
+    }
+}
+
+#[test]
+fn quotients_at_128_bits(rt: HostRuntime) {
+    let table = [
+        (Op::Mul, (TWO_126, 1), (6, 6), true),
+        (Op::Mul, (TWO_126, 1), (4, 2), false),
+        (Op::Mul, (1, TWO_126), (3, 6), false),
+        (Op::Add, (1, TWO_126), (3, 12), true),
+        (Op::Add, (-TWO_126, 1), (2, 4), false),
+        (Op::Sub, (-TWO_126, 1), (-9, 9), true),
+        (Op::Div, (TWO_126, 1), (5, 5), true),
+        (Op::Div, (TWO_126, 1), (2, 4), false),
+    ];
+    for (op, first, second, fits) in table {
+        let left = Quotient::of_fraction(fraction(first.0, first.1)).fraction();
+        let right = quotient(second.0, second.1).fraction();
+        match answer(op, left, right) {
+            Ok(_) => assert!(rt; fits),
+            Err(wide) => assert!(rt; !fits && wide == Wide { op, left, right }),
+        }
+    }
+}
+
+#[test]
+fn numerators_over_denominators(rt: HostRuntime) {
+    let table = [
+        ((6, 4), 4, Some(6)),
+        ((6, 4), 2, Some(3)),
+        ((6, 4), 8, Some(12)),
+        ((-6, 4), 10, Some(-15)),
+        ((6, 4), 3, None),
+        ((0, 7), 3, Some(0)),
+        ((i64::MIN, 1), 1, Some(i64::MIN)),
+        ((i64::MIN, 1), 2, None),
+        ((i64::MAX, 3), 6, None),
+        ((-3, u64::MAX), u64::MAX, Some(-3)),
+        ((1, 3), u64::MAX, Some(6_148_914_691_236_517_205)),
+    ];
+    for (parts, denominator, want) in table {
+        let held = quotient(parts.0, parts.1);
+        assert_eq!(rt; numerator_over(&held, denominator), want);
+        let lowest = Quotient::of_fraction(held.fraction());
+        assert_eq!(rt; numerator_over(&lowest, denominator), want);
+    }
+    let great = Quotient::of_fraction(fraction(TWO_126, 1));
+    assert_eq!(rt; numerator_over(&great, u64::MAX), None);
+}
+
+#[test]
+fn order_of_quotients(rt: HostRuntime) -> Result<(), AllocError> {
+    let half = quotient(2, 4);
+    assert!(rt; half == quotient(3, 6) && half == Quotient::of_fraction(fraction(1, 2)));
+    assert!(rt; quotient(-4, 6) < quotient(-6, 10) && half > quotient(-9, 6));
+    assert!(rt; half.copied() == half && half.clone()? == half);
+    assert!(rt; quotient(0, 9).is_zero() && !half.is_zero());
+    assert!(rt; quotient(-3, 9).is_negative() && !half.is_negative());
+    let alloc = rt.alloc();
+    assert_eq!(rt;
+        format!(in alloc; "{half:?}")?,
+        format!(in alloc; "{:?}", fraction(1, 2))?
+    );
+    Ok(())
 }

@@ -1,0 +1,152 @@
+//! A number held as a quotient that may not be in lowest terms.
+
+ghost use Rattle.std.specs.Prelude.{◌≡◌, ◌<◌, ◌↔◌, IsTrue, pos};
+ghost use Rattle.rational_theory.specs.Rational.{◌<ℚ◌, over, whole};
+ghost use Rattle.rational_theory.specs.Compare.{cmp_ℚ};
+ghost use Rattle.std.specs.Ordering.{MatchOrdering};
+ghost use Rattle.narrow_fraction.specs.Fraction.{FitsFrac};
+ghost use Rattle.narrow_fraction.specs.Numerators.{IsNumerator};
+
+use crate::compare::compare_quotients;
+use crate::divisor::{divided, remainder};
+use crate::frac::{Frac, already_reduced};
+use std::cmp::Ordering;
+use std::fmt;
+use std::marker::Model;
+
+/// A rational number held as the quotient of two numbers: in lowest terms, as a `Frac` is, or of two words as they are.
+///
+/// Numbers of one row are held over its one denominator, and no common divisor is sought until one is asked for as a
+/// fraction. Clauses see the rational number alone, so it can't be `Copy`; `copied` serves instead.
+#[derive(Clone, Drop)]
+pub struct Quotient {
+    num: i128,
+    /// Below 0 where the numbers are words that may have a common divisor: so a quotient takes no more room than a fraction.
+    den: i128,
+}
+
+impl Model for Quotient {
+    ghost use Rattle.std.specs.Prelude.{unsigned_abs};
+    ghost use Rattle.rational_theory.specs.Rational.{ℚ, over};
+    ghost use Rattle.narrow_fraction.specs.laws.Fraction.{ℚ_code};
+    ghost use Rattle.narrow_fraction.specs.Held.{IsHeld};
+
+    ghost Value = { ℚ };
+
+    ghost coded = { ℚ_code };
+
+    ghost view = { λ q. over q.num (unsigned_abs q.den) };
+
+    ghost invariant = { λ q. IsHeld q.num q.den };
+}
+
+/// The numerator of a fraction over a denominator, where it is a number of 64 bits with a sign.
+fn numerator_of(fraction: Frac, denominator: u64) -> Option<i64>
+    requires { 0 < denominator }
+    ensures { IsNumerator fraction denominator result }
+{
+    let below = denominator as u128;
+    let own = fraction.bottom();
+    if remainder(below, own) != 0 {
+        return None;
+    }
+    let times = divided(below, own) as i128;
+    let Some(numerator) = fraction.num().checked_mul(times) else {
+        return None;
+    };
+    match i64::try_from(numerator) {
+        Ok(word) => Some(word),
+        Err(_) => None,
+    }
+}
+
+impl Quotient {
+    /// The quotient of two words as they are. No common divisor is sought.
+    pub fn of_words(numerator: i64, denominator: u64) -> Quotient
+        requires { 0 < denominator }
+        ensures { result ≡ over numerator denominator }
+    {
+        Quotient {
+            num: numerator as i128,
+            den: -(denominator as i128),
+        }
+    }
+
+    /// A fraction, as a quotient.
+    pub fn of_fraction(fraction: Frac) -> Quotient
+        ensures { result ≡ fraction }
+    {
+        Quotient {
+            num: fraction.num(),
+            den: fraction.den(),
+        }
+    }
+
+    /// The same number in lowest terms. A common divisor is sought only where it was made of words.
+    pub fn fraction(&self) -> Frac
+        ensures value { result ≡ self.now }
+        ensures fits { FitsFrac self.now }
+    {
+        if self.den > 0 {
+            already_reduced(self.num, self.den as u128).fitting()
+        } else {
+            Frac::reduced(self.num, self.den.unsigned_abs()).fitting()
+        }
+    }
+
+    /// The numerator over a denominator, where it is a number of 64 bits with a sign: at once where the quotient is held
+    /// over just this one.
+    pub fn numerator_over(&self, denominator: u64) -> Option<i64>
+        requires { 0 < denominator }
+        ensures { IsNumerator self.now denominator result }
+    {
+        if self.den == -(denominator as i128) {
+            return Some(self.num as i64);
+        }
+        numerator_of(self.fraction(), denominator)
+    }
+
+    /// The same number.
+    pub fn copied(&self) -> Quotient
+        ensures { result ≡ self.now }
+    {
+        Quotient {
+            num: self.num,
+            den: self.den,
+        }
+    }
+
+    /// The order, exact at any two values, with no common divisor.
+    pub(crate) fn order(&self, other: &Quotient) -> Ordering
+        ensures value { result ≡ cmp_ℚ self.now other.now }
+        ensures says { MatchOrdering result (self.now <ℚ other.now) (self.now ≡ other.now) (other.now <ℚ self.now) }
+    {
+        compare_quotients(
+            self.num,
+            self.den.unsigned_abs(),
+            other.num,
+            other.den.unsigned_abs(),
+        )
+    }
+
+    /// Whether this is 0.
+    pub fn is_zero(&self) -> bool
+        ensures { IsTrue result ↔ self.now ≡ whole (pos 0) }
+    {
+        self.num.unsigned_abs() == 0
+    }
+
+    /// Whether this is below 0.
+    pub fn is_negative(&self) -> bool
+        ensures { IsTrue result ↔ self.now <ℚ whole (pos 0) }
+    {
+        self.num < 0
+    }
+}
+
+/// In lowest terms, as a fraction.
+impl fmt::Debug for Quotient {
+    fn fmt<W: fmt::Write>(&self, f: &mut fmt::Formatter<W>) -> fmt::Result {
+        self.fraction().fmt(f)
+    }
+}
