@@ -1,9 +1,12 @@
 //! What is found of a file, and what follows from it.
 
-ghost use Rattle.std.specs.Prelude.{◌≡◌};
+ghost use Rattle.std.specs.Prelude.{◌≡◌, ◌↔◌, IsTrue};
+ghost use Rattle.std.specs.Fs.{metadata_mode, file_type, IsFile};
 ghost use Rattle.outer_edge.specs.Replaced.{is_of_system, is_regular, is_alike, is_of_one_owner, is_absence, is_taken, is_want_of_room};
 
+use std::fs::Metadata;
 use std::io::ErrorKind;
+use std::os::unix::fs::MetadataExt;
 
 /// What is found of a file.
 #[derive(Clone, Copy, Debug)]
@@ -19,6 +22,20 @@ pub struct Facts {
 }
 
 impl Facts {
+    /// Of what the system tells.
+    pub fn of(found: &Metadata) -> Facts
+        ensures is_file { IsTrue result.is_file ↔ IsFile (file_type found.now) }
+        ensures mode { result.mode ≡ metadata_mode found.now }
+    {
+        Facts {
+            is_file: found.is_file(),
+            names: found.nlink(),
+            owner: found.uid(),
+            group: found.gid(),
+            mode: found.mode(),
+        }
+    }
+
     /// Whether it is a regular file of one name.
     pub fn is_regular(self) -> bool
         ensures { result ≡ is_regular self }

@@ -86,7 +86,12 @@ impl<R: rt::Files + Clone + Drop> Files for RealFiles<R> {
         ensures puts { self.old.puts ≤ self.new.puts }
     {
         self.reading.close();
-        let mut place = SystemPlace::new(&self.rt, self.alloc, name);
+        let mut place = SystemPlace {
+            rt: &self.rt,
+            alloc: self.alloc,
+            name,
+            followed: None,
+        };
         put_counted(&mut place, self.alloc, &mut self.put_faults, bytes)
     }
 }

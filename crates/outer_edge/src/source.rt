@@ -17,8 +17,8 @@ pub trait Reader {
     /// It is open on a file of these bytes, and its next piece begins at this place.
     ghost StandsAt: { Self → List ℕ → ℕ → Type 0 };
 
-    /// Goes to a place of the file.
-    fn go_to(&mut self, at: u64) -> io::Result<()>
+    /// Goes to a place of the file, and answers it.
+    fn go_to(&mut self, at: u64) -> io::Result<u64>
         ensures { OnOk result ((file : List ℕ) (before : ℕ) → StandsAt self.old file before → StandsAt self.new file at) };
 
     /// Reads the next bytes, and answers how many; 0 exactly at the end.

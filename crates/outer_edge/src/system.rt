@@ -3,16 +3,14 @@
 //! It tells nothing of what its files and outputs hold, and allows all that a file's facts would decide: so the contracts
 //! of these calls say nothing here, and those of their callers are proved for whatever tells more.
 
-ghost use Rattle.std.specs.Prelude.{⊤};
-
 use crate::facts::Facts;
 use crate::pipe::Pipe;
 use crate::place::Place;
 use crate::source::{Reader, Source};
 use std::alloc::Global;
-use std::fs::{self, Metadata, OpenFile, OpenOptions, Permissions};
+use std::fs::{self, OpenFile, OpenOptions, Permissions};
 use std::io::{self, Read, Seek, SeekFrom, Write};
-use std::os::unix::fs::{MetadataExt, OpenOptionsExt, PermissionsExt};
+use std::os::unix::fs::{OpenOptionsExt, PermissionsExt};
 use std::path::PathBuf;
 use std::rt;
 
@@ -27,9 +25,8 @@ impl<P: Print> Pipe for P {
 impl<F: Read + Seek> Reader for F {
     ghost StandsAt = { λ f file at. ⊥ };
 
-    fn go_to(&mut self, at: u64) -> io::Result<()> {
-        self.seek(SeekFrom::Start(at))?;
-        Ok(())
+    fn go_to(&mut self, at: u64) -> io::Result<u64> {
+        self.seek(SeekFrom::Start(at))
     }
 
     fn read_piece(&mut self, into: &mut [u8]) -> io::Result<usize> {
@@ -50,11 +47,11 @@ impl<R: rt::Files> Source for R {
 /// A name of the system that is put to.
 #[derive(Drop)]
 pub struct SystemPlace<'a, R> {
-    rt: &'a R,
-    alloc: Global,
-    name: &'a str,
+    pub rt: &'a R,
+    pub alloc: Global,
+    pub name: &'a str,
     /// The file that the name names, where that is a link.
-    followed: Option<PathBuf>,
+    pub followed: Option<PathBuf>,
 }
 
 /// A new file of the system, and its name.
@@ -62,27 +59,6 @@ pub struct SystemPlace<'a, R> {
 pub struct NewFile<F> {
     file: F,
     path: String,
-}
-
-impl<'a, R: rt::Files> SystemPlace<'a, R> {
-    pub fn new(rt: &'a R, alloc: Global, name: &'a str) -> SystemPlace<'a, R> {
-        SystemPlace {
-            rt,
-            alloc,
-            name,
-            followed: None,
-        }
-    }
-}
-
-fn facts_of(found: &Metadata) -> Facts {
-    Facts {
-        is_file: found.is_file(),
-        names: found.nlink(),
-        owner: found.uid(),
-        group: found.gid(),
-        mode: found.mode(),
-    }
 }
 
 impl<R: rt::Files> Place for SystemPlace<'_, R> {
@@ -127,14 +103,12 @@ impl<R: rt::Files> Place for SystemPlace<'_, R> {
     }
 
     fn facts(&self) -> io::Result<Facts> {
-        Ok(facts_of(&fs::metadata(self.rt, self.name())?))
+        Ok(Facts::of(&fs::metadata(self.rt, self.name())?))
     }
 
     fn opens(&self) -> bool {
-        OpenOptions::new()
-            .write(true)
-            .open(self.rt, self.name())
-            .is_ok()
+        let mut how = OpenOptions::new();
+        how.write(true).open(self.rt, self.name()).is_ok()
     }
 
     fn make(&self, path: String, mode: Option<u32>) -> io::Result<NewFile<R::File>> {
@@ -145,7 +119,7 @@ impl<R: rt::Files> Place for SystemPlace<'_, R> {
     }
 
     fn new_facts(&self, new: &NewFile<R::File>) -> io::Result<Facts> {
-        Ok(facts_of(&new.file.metadata()?))
+        Ok(Facts::of(&new.file.metadata()?))
     }
 
     fn set_mode(&self, new: &mut NewFile<R::File>, mode: u32) -> io::Result<()> {
@@ -161,10 +135,7 @@ impl<R: rt::Files> Place for SystemPlace<'_, R> {
     }
 
     fn take_name(&self, new: NewFile<R::File>) -> Result<(), NewFile<R::File>> {
-        match fs::rename(self.rt, new.path.as_str(), self.name()) {
-            Ok(()) => Ok(()),
-            Err(_) => Err(new),
-        }
+        fs::rename(self.rt, new.path.as_str(), self.name()).map_err(|_| new)
     }
 
     fn remove(&self, new: NewFile<R::File>) {
