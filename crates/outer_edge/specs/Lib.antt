@@ -2,7 +2,9 @@ pub mod Counts
 pub mod Device
 pub mod Held
 pub mod Faults
+pub mod Kept
 pub mod Named
 pub mod Outlet
+pub mod Replaced
 pub mod Store
 pub mod Taken

@@ -7,18 +7,23 @@
 //! `SureFiles` and `SureSink` are in memory and never fail; `MemFiles` and `MemSink` fail at the calls that one names.
 #![tactic(auto)]
 
+mod facts;
 mod files;
 mod mem_files;
 mod mem_sink;
 mod numbered;
+mod pipe;
+mod place;
 mod reading;
 mod real_files;
 mod real_out;
 mod replacing;
 mod sink;
+mod source;
 mod stored;
 mod sure_files;
 mod sure_sink;
+mod system;
 mod writing;
 
 pub use files::{FileEnd, Files};

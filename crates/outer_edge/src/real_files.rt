@@ -5,12 +5,13 @@ ghost use Rattle.outer_edge.specs.Counts.{next_count};
 ghost use Rattle.outer_edge.specs.Device.{count_if};
 
 use crate::files::{FileEnd, Files};
-use crate::replacing::{Unreplaced, replace};
+use crate::replacing::put_counted;
+use crate::source::{Reading, read_counted};
+use crate::system::SystemPlace;
 use narrow_fraction::Memory;
 use std::alloc::Global;
-use std::io::{self, Read, Seek, SeekFrom};
 use std::marker::Model;
-use std::{fs, rt};
+use std::rt;
 
 /// The files of the system. It tells no contents, and gives one count of failed reads and one of
 /// failed puts as the count of every name.
@@ -32,6 +33,7 @@ use std::{fs, rt};
 pub struct RealFiles<R: rt::Files + Clone + Drop> {
     rt: R,
     alloc: Global,
+    reading: Reading<R::File>,
     read_faults: u64,
     put_faults: u64,
 }
@@ -52,30 +54,10 @@ impl<R: rt::Files + Clone + Drop> RealFiles<R> {
         Ok(RealFiles {
             rt: rt.clone()?,
             alloc,
+            reading: Reading::new(alloc)?,
             read_faults: 0,
             put_faults: 0,
         })
-    }
-}
-
-fn read_at<R: rt::Files>(rt: &R, name: &str, into: &mut [u8], at: u64) -> io::Result<usize>
-    ensures { IfOk result (λ k. k ≤ length into.new) }
-{
-    let mut file = fs::open(rt, name)?;
-    file.seek(SeekFrom::Start(at))?;
-    file.read(into)
-}
-
-/// Replaces the file by a new one, or writes it in place where none may take its place.
-fn put_text<R: rt::Files>(rt: &R, alloc: Global, name: &str, bytes: &[u8]) -> Result<(), FileEnd> {
-    match replace(rt, alloc, name, bytes) {
-        Ok(()) => Ok(()),
-        Err(Unreplaced::Memory) => Err(FileEnd::Memory),
-        Err(Unreplaced::Failed) => Err(FileEnd::Failed),
-        Err(Unreplaced::Unfit) => match fs::write(rt, name, bytes) {
-            Ok(()) => Ok(()),
-            Err(_) => Err(FileEnd::Failed),
-        },
     }
 }
 
@@ -93,13 +75,8 @@ impl<R: rt::Files + Clone + Drop> Files for RealFiles<R> {
         ensures reads { self.old.reads ≤ self.new.reads }
         ensures not_memory { IsErrOf result FileEnd.Memory → ⊥ }
     {
-        match read_at(&self.rt, name, into, at) {
-            Ok(count) => Ok(count),
-            Err(_) => {
-                self.read_faults = self.read_faults.saturating_add(1);
-                Err(FileEnd::Failed)
-            }
-        }
+        let faults = &mut self.read_faults;
+        read_counted(&self.rt, &mut self.reading, faults, name, into, at)
     }
 
     fn put(&mut self, name: &str, bytes: &[u8]) -> Result<(), FileEnd>
@@ -108,12 +85,13 @@ impl<R: rt::Files + Clone + Drop> Files for RealFiles<R> {
         ensures memory { IsErrOf result FileEnd.Memory → self.new ≡ self.old }
         ensures puts { self.old.puts ≤ self.new.puts }
     {
-        match put_text(&self.rt, self.alloc, name, bytes) {
-            Err(FileEnd::Failed) => {
-                self.put_faults = self.put_faults.saturating_add(1);
-                Err(FileEnd::Failed)
-            }
-            end => end,
-        }
+        self.reading.close();
+        let mut place = SystemPlace {
+            rt: &self.rt,
+            alloc: self.alloc,
+            name,
+            followed: None,
+        };
+        put_counted(&mut place, self.alloc, &mut self.put_faults, bytes)
     }
 }

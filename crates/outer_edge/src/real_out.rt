@@ -1,13 +1,12 @@
 //! The system's standard output.
 
 ghost use Rattle.std.specs.Prelude.{◌≡◌, ◌<◌, ◌≤◌, ◌^◌, false, None, IfOk, OnOk, length, is_err};
-ghost use Rattle.outer_edge.specs.Counts.{next_count};
 ghost use Rattle.outer_edge.specs.Device.{count_if};
 
+use crate::pipe::write_counted;
 use crate::sink::{Failed, Sink};
 use narrow_fraction::Memory;
 use std::alloc::Global;
-use std::io::{self, Write};
 use std::marker::Model;
 
 /// Standard output. It doesn't tell what it took, and takes no memory: its room is always `2^64`.
@@ -36,15 +35,6 @@ impl<R: Print + Clone + Drop> RealOut<R> {
             faults: 0,
         })
     }
-
-    /// Counts a failed write.
-    fn failed(&mut self) -> Failed
-        ensures counted { self.new ≡ next_count self.old }
-        ensures rises { self.old ≤ self.new }
-    {
-        self.faults = self.faults.saturating_add(1);
-        Failed
-    }
 }
 
 impl<R: Print + Clone + Drop> Sink for RealOut<R> {
@@ -70,10 +60,6 @@ impl<R: Print + Clone + Drop> Sink for RealOut<R> {
         ensures counts { self.new ≡ count_if (is_err result) self.old }
         ensures faults { self.old ≤ self.new }
     {
-        match io::writer(&self.rt).write(bytes) {
-            Ok(0) => Err(self.failed()),
-            Ok(count) => Ok(count),
-            Err(_) => Err(self.failed()),
-        }
+        write_counted(&mut self.rt, &mut self.faults, bytes)
     }
 }

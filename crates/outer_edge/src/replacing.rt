@@ -1,11 +1,13 @@
-//! Files of the system that are replaced by whole new ones.
+//! Files that are replaced by whole new ones: when, and in which order.
 
-use std::alloc::{AllocError, AllocFailed, Global};
-use std::fs::{self, Metadata, OpenFile, OpenOptions};
-use std::io::{ErrorKind, Write};
-use std::os::unix::fs::{MetadataExt, OpenOptionsExt};
-use std::path::PathBuf;
-use std::rt;
+ghost use Rattle.std.specs.Prelude.{◌≡◌, ◌≤◌, [], true, false, List, ℕ, IfOk, IsErrOf, OnOk, OnErr, MatchOption};
+ghost use Rattle.outer_edge.specs.Counts.{next_count};
+
+use crate::facts::{Facts, is_absence, is_of_system, is_taken, is_want_of_room};
+use crate::files::FileEnd;
+use crate::place::Place;
+use std::alloc::Global;
+use std::io::ErrorKind;
 
 /// The new file's name is the file's with `.new1` at its end, or with the next number that is free up to this one.
 const GREATEST_NUMBER: u32 = 100;
@@ -24,147 +26,160 @@ pub enum Unreplaced {
     Memory,
 }
 
-impl From<AllocError> for Unreplaced {
-    fn from(_: AllocError) -> Unreplaced {
-        Unreplaced::Memory
+/// Follows a link to the file that it names, but none of the system.
+fn followed<P: Place>(place: &mut P) -> Result<(), Unreplaced>
+    ensures itself { OnOk result (P.IsItself place.new) }
+    ensures unfit { IsErrOf result Unreplaced.Unfit → P.MayWriteOver place.new }
+{
+    if !place.is_link() {
+        return Ok(());
     }
-}
-
-impl<T: Drop> From<AllocFailed<T>> for Unreplaced {
-    fn from(_: AllocFailed<T>) -> Unreplaced {
-        Unreplaced::Memory
-    }
-}
-
-/// Writes the bytes into a new file beside the named one, and gives it the name when it is whole. A symbolic link stays
-/// and is followed.
-pub fn replace<R: rt::Files>(
-    rt: &R,
-    alloc: Global,
-    name: &str,
-    bytes: &[u8],
-) -> Result<(), Unreplaced> {
-    if !is_link(rt, name) {
-        return replace_file(rt, alloc, name, bytes);
-    }
-    let file = followed(rt, alloc, name)?;
-    replace_file(rt, alloc, file.as_str(), bytes)
-}
-
-fn is_link<R: rt::Files>(rt: &R, name: &str) -> bool {
-    match fs::symlink_metadata(rt, name) {
-        Ok(found) => found.is_symlink(),
-        Err(_) => false,
-    }
-}
-
-/// The file that a link names. The links of the system, as `/dev/stdout`, stand for files that are open: a new one
-/// would not be what is open there.
-fn followed<R: rt::Files>(rt: &R, alloc: Global, link: &str) -> Result<PathBuf, Unreplaced> {
-    if link.starts_with("/dev/") || link.starts_with("/proc/") {
+    if is_of_system(place.name()) {
         return Err(Unreplaced::Unfit);
     }
-    match rt.canonicalize(alloc, link) {
-        Ok(file) => Ok(file),
+    match place.follow() {
+        Ok(()) => Ok(()),
         Err(error) if error.kind() == ErrorKind::OutOfMemory => Err(Unreplaced::Memory),
         Err(_) => Err(Unreplaced::Unfit),
     }
 }
 
-fn replace_file<R: rt::Files>(
-    rt: &R,
-    alloc: Global,
-    name: &str,
-    bytes: &[u8],
-) -> Result<(), Unreplaced> {
-    let old = standing(rt, name)?;
-    let (mut file, path) = new_beside(rt, alloc, name, old.as_ref())?;
-    let end = fill_and_name(rt, &mut file, path.as_str(), name, old.as_ref(), bytes);
-    if end.is_err() {
-        let _ = fs::remove_file(rt, path.as_str());
-    }
-    end
-}
-
-/// What stands under the name; None where nothing does. Unfit is all but a regular file of this one name that may be
-/// written to.
-fn standing<R: rt::Files>(rt: &R, name: &str) -> Result<Option<Metadata>, Unreplaced> {
-    match fs::metadata(rt, name) {
-        Ok(found) if found.is_file() && found.nlink() <= 1 && may_be_written(rt, name) => {
-            Ok(Some(found))
-        }
-        Err(error) if error.kind() == ErrorKind::NotFound => Ok(None),
+/// What stands under the name and may give way to a new file; None where nothing stands there.
+fn giving_way<P: Place>(place: &P) -> Result<Option<Facts>, Unreplaced>
+    ensures gives_way { OnOk result (P.MayGiveWay place.now) }
+    ensures found { IfOk result (λ old. MatchOption old (P.IsAbsent place.now) (λ f. P.IsFound place.now f)) }
+    ensures unfit { OnErr result (P.MayWriteOver place.now) }
+{
+    match place.facts() {
+        Ok(found) if found.is_regular() && place.opens() => Ok(Some(found)),
+        Err(error) if is_absence(error.kind()) => Ok(None),
         _ => Err(Unreplaced::Unfit),
     }
 }
 
-fn may_be_written<R: rt::Files>(rt: &R, name: &str) -> bool {
-    OpenOptions::new().write(true).open(rt, name).is_ok()
-}
-
-/// Makes an empty file beside the named one, and answers it with its name.
-fn new_beside<R: rt::Files>(
-    rt: &R,
-    alloc: Global,
-    name: &str,
-    old: Option<&Metadata>,
-) -> Result<(R::File, String), Unreplaced> {
-    let how = options_for(old);
-    for number in 1..=GREATEST_NUMBER {
-        let path = format!(in alloc; "{name}.new{number}")?;
-        match how.open(rt, path.as_str()) {
-            Ok(file) => return Ok((file, path)),
-            Err(error) if error.kind() == ErrorKind::AlreadyExists => {}
+/// Makes an empty file beside the named one.
+fn new_beside<P: Place>(place: &P, alloc: Global, old: Option<Facts>) -> Result<P::New, Unreplaced>
+    ensures empty { IfOk result (λ new. P.Holds new []) }
+    ensures alike { IfOk result (λ new. P.IsAbsent place.now → P.IsAlike place.now new) }
+    ensures unfit { IsErrOf result Unreplaced.Unfit → P.MayWriteOver place.now }
+{
+    let mode = old.map(|old| old.mode & PERMISSIONS);
+    'numbers: for number in 1..=GREATEST_NUMBER {
+        let Ok(path) = format!(in alloc; "{}.new{number}", place.name()) else {
+            return Err(Unreplaced::Memory);
+        };
+        match place.make(path, mode) {
+            Ok(new) => return Ok(new),
             Err(error) if is_want_of_room(error.kind()) => return Err(Unreplaced::Failed),
+            Err(error) if is_taken(error.kind()) => {}
             Err(_) => return Err(Unreplaced::Unfit),
         }
     }
     Err(Unreplaced::Unfit)
 }
 
-fn options_for(old: Option<&Metadata>) -> OpenOptions {
-    let mut how = OpenOptions::new();
-    how.write(true).create_new(true);
-    if let Some(old) = old {
-        how.mode(old.mode() & PERMISSIONS);
-    }
-    how
-}
-
-fn is_want_of_room(kind: ErrorKind) -> bool {
-    matches!(kind, ErrorKind::StorageFull | ErrorKind::QuotaExceeded)
-}
-
-fn fill_and_name<R: rt::Files>(
-    rt: &R,
-    file: &mut R::File,
-    path: &str,
-    name: &str,
-    old: Option<&Metadata>,
-    bytes: &[u8],
-) -> Result<(), Unreplaced> {
-    if !is_alike(file, old) {
-        return Err(Unreplaced::Unfit);
-    }
-    // The system may tell only when it stores the bytes that the disk is full.
-    if file.write_all(bytes).is_err() || file.sync_all().is_err() {
-        return Err(Unreplaced::Failed);
-    }
-    match fs::rename(rt, path, name) {
-        Ok(()) => Ok(()),
-        Err(_) => Err(Unreplaced::Unfit),
-    }
-}
-
-/// Whether the new file has the old one's owner and group, and now its permissions too.
-fn is_alike<F: OpenFile>(file: &F, old: Option<&Metadata>) -> bool {
+/// Makes the new file like what stands under the name, and answers whether it is.
+fn is_made_alike<P: Place>(place: &P, new: &mut P::New, old: Option<Facts>) -> bool
+    requires { MatchOption old (P.IsAlike place.now new.old) (λ f. P.IsFound place.now f) }
+    ensures alike { result ≡ true → P.IsAlike place.now new.new }
+    ensures unfit { result ≡ false → P.MayWriteOver place.now }
+    ensures bytes { (bytes : List ℕ) → P.Holds new.old bytes → P.Holds new.new bytes }
+{
     let Some(old) = old else {
         return true;
     };
-    match file.metadata() {
-        Ok(new) if new.uid() == old.uid() && new.gid() == old.gid() => {
-            new.mode() == old.mode() || file.set_permissions(old.permissions()).is_ok()
+    match place.new_facts(new) {
+        Ok(made) if old.is_of_one_owner(made) => {
+            made.mode == old.mode || place.set_mode(new, old.mode).is_ok()
         }
         _ => false,
     }
+}
+
+/// Makes the new file whole: like the old one, with these bytes, and stored.
+fn made_whole<P: Place>(
+    place: &P,
+    new: &mut P::New,
+    old: Option<Facts>,
+    bytes: &[u8],
+) -> Result<(), Unreplaced>
+    requires old { MatchOption old (P.IsAlike place.now new.old) (λ f. P.IsFound place.now f) }
+    requires empty { P.Holds new.old [] }
+    ensures alike { OnOk result (P.IsAlike place.now new.new) }
+    ensures bytes { OnOk result (P.Holds new.new bytes.now) }
+    ensures stored { OnOk result (P.IsStored new.new) }
+    ensures unfit { IsErrOf result Unreplaced.Unfit → P.MayWriteOver place.now }
+{
+    if !is_made_alike(place, new, old) {
+        return Err(Unreplaced::Unfit);
+    }
+    if place.fill(new, bytes).is_err() || place.store(new).is_err() {
+        return Err(Unreplaced::Failed);
+    }
+    Ok(())
+}
+
+/// Makes the new file whole and gives it the name, or removes it.
+fn named<P: Place>(
+    place: &P,
+    mut new: P::New,
+    old: Option<Facts>,
+    bytes: &[u8],
+) -> Result<(), Unreplaced>
+    requires itself { P.IsItself place.now }
+    requires gives_way { P.MayGiveWay place.now }
+    requires old { MatchOption old (P.IsAlike place.now new) (λ f. P.IsFound place.now f) }
+    requires empty { P.Holds new [] }
+    ensures has { OnOk result (P.Has place.now bytes.now) }
+    ensures unfit { IsErrOf result Unreplaced.Unfit → P.MayWriteOver place.now }
+{
+    if let Err(end) = made_whole(place, &mut new, old, bytes) {
+        place.remove(new);
+        return Err(end);
+    }
+    match place.take_name(new) {
+        Ok(()) => Ok(()),
+        Err(new) => {
+            place.remove(new);
+            Err(Unreplaced::Unfit)
+        }
+    }
+}
+
+/// Writes the bytes into a new file beside the named one, and gives it the name when it is whole. A symbolic link stays
+/// and is followed.
+fn replace<P: Place>(place: &mut P, alloc: Global, bytes: &[u8]) -> Result<(), Unreplaced>
+    ensures has { OnOk result (P.Has place.new bytes.now) }
+    ensures unfit { IsErrOf result Unreplaced.Unfit → P.MayWriteOver place.new }
+{
+    followed(place)?;
+    let old = giving_way(place)?;
+    let new = new_beside(place, alloc, old)?;
+    named(place, new, old, bytes)
+}
+
+/// Replaces the file by a new one, or writes it in place where none may take its place. A put that fails is counted.
+pub fn put_counted<P: Place>(
+    place: &mut P,
+    alloc: Global,
+    faults: &mut u64,
+    bytes: &[u8],
+) -> Result<(), FileEnd>
+    ensures has { OnOk result (P.Has place.new bytes.now) }
+    ensures none_failed { OnOk result (faults.new ≡ faults.old) }
+    ensures counted { IsErrOf result FileEnd.Failed → faults.new ≡ next_count faults.old }
+    ensures memory { IsErrOf result FileEnd.Memory → faults.new ≡ faults.old }
+    ensures rises { faults.old ≤ faults.new }
+{
+    let is_put = match replace(place, alloc, bytes) {
+        Ok(()) => true,
+        Err(Unreplaced::Unfit) => place.write_over(bytes).is_ok(),
+        Err(Unreplaced::Failed) => false,
+        Err(Unreplaced::Memory) => return Err(FileEnd::Memory),
+    };
+    if is_put {
+        return Ok(());
+    }
+    *faults = faults.saturating_add(1);
+    Err(FileEnd::Failed)
 }

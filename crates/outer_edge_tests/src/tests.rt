@@ -7,13 +7,13 @@ use outer_edge::{
 use std::alloc::{Allocator, Global};
 use std::cell::Cell;
 use std::fmt::Display;
-use std::fs::{Metadata, OpenFile, OpenOptions};
+use std::fs::{Metadata, OpenFile, OpenOptions, Permissions};
 use std::io::{ErrorKind, Read, Seek, SeekFrom, Write};
-use std::os::unix::fs::{MetadataExt, OpenOptionsExt, symlink};
+use std::os::unix::fs::{MetadataExt, OpenOptionsExt, chown, symlink};
 use std::test::Fail;
 use std::{fs, io, rt};
 
-/// A pipe that takes at most four bytes a call and sixteen in all, and tells how many it took.
+/// A pipe that takes at most four bytes a call and sixteen in all, and is broken then. It tells how many it took.
 #[derive(Clone, Drop)]
 struct Narrow<'a> {
     taken: &'a Cell<usize>,
@@ -37,34 +37,69 @@ impl Print for Narrow<'_> {
 
     fn write_some(&self, bytes: &[u8]) -> io::Result<usize> {
         let before = self.taken.get();
+        if before == 16 {
+            return Err(io::Error::from(ErrorKind::BrokenPipe));
+        }
         let count = bytes.len().min(4).min(16usize.saturating_sub(before));
         self.taken.set(before.saturating_add(count));
         Ok(count)
     }
 }
 
-/// The system's files on a disk that is full: each takes four bytes more.
+/// What is wrong with a disk.
+#[derive(Clone, Copy, PartialEq, Eq)]
+enum Fault {
+    Nothing,
+    /// Each file takes four bytes more.
+    Full,
+    /// No new file can be made.
+    FullForNew,
+    /// No file can be stored.
+    FullForStoring,
+    /// No file that stands there may be written to.
+    NotWritable,
+    /// New files are the superuser's, and all others somebody else's.
+    OtherOwner,
+    /// A file's first piece can be read, and no more of it.
+    Unreadable,
+}
+
+/// The system's files on a disk of which something is wrong. It counts how often a file is opened.
 #[derive(Clone, Drop)]
-struct FullDisk {
+struct FaultyDisk<'a> {
     rt: HostRuntime,
+    fault: Fault,
+    opened: &'a Cell<u64>,
 }
 
 #[derive(Drop)]
-struct FullFile {
+struct FaultyFile {
     file: fs::File,
+    fault: Fault,
     room: usize,
 }
 
-impl Read for FullFile {
+fn full() -> io::Error {
+    io::Error::from(ErrorKind::StorageFull)
+}
+
+impl Read for FaultyFile {
     fn read(&mut self, buf: &mut [u8]) -> io::Result<usize> {
+        if self.fault == Fault::Unreadable && self.room == 0 {
+            return Err(io::Error::from(ErrorKind::Other));
+        }
+        self.room = 0;
         self.file.read(buf)
     }
 }
 
-impl Write for FullFile {
+impl Write for FaultyFile {
     fn write(&mut self, buf: &[u8]) -> io::Result<usize> {
+        if self.fault != Fault::Full {
+            return self.file.write(buf);
+        }
         if self.room == 0 {
-            return Err(io::Error::from(ErrorKind::StorageFull));
+            return Err(full());
         }
         let count = self.file.write(&buf[..buf.len().min(self.room)])?;
         self.room = self.room.saturating_sub(count);
@@ -76,14 +111,17 @@ impl Write for FullFile {
     }
 }
 
-impl Seek for FullFile {
+impl Seek for FaultyFile {
     fn seek(&mut self, to: SeekFrom) -> io::Result<u64> {
         self.file.seek(to)
     }
 }
 
-impl OpenFile for FullFile {
+impl OpenFile for FaultyFile {
     fn metadata(&self) -> io::Result<Metadata> {
+        if self.fault == Fault::OtherOwner {
+            return Ok(Metadata::of_file(0));
+        }
         self.file.metadata()
     }
 
@@ -92,27 +130,49 @@ impl OpenFile for FullFile {
     }
 
     fn sync_all(&self) -> io::Result<()> {
+        if self.fault == Fault::FullForStoring {
+            return Err(full());
+        }
         self.file.sync_all()
     }
 
     fn sync_data(&self) -> io::Result<()> {
         self.file.sync_data()
     }
+
+    fn set_permissions(&self, permissions: Permissions) -> io::Result<()> {
+        self.file.set_permissions(permissions)
+    }
 }
 
-impl rt::Files for FullDisk {
-    type File = FullFile;
+fn refuses(fault: Fault, how: &OpenOptions) -> Option<ErrorKind> {
+    match fault {
+        Fault::FullForNew if how.asks_create_new() => Some(ErrorKind::StorageFull),
+        Fault::NotWritable if how.asks_write() && !how.asks_create_new() => {
+            Some(ErrorKind::PermissionDenied)
+        }
+        _ => None,
+    }
+}
 
-    type Dir = FullFile;
+impl rt::Files for FaultyDisk<'_> {
+    type File = FaultyFile;
 
-    fn open_file(&self, how: &OpenOptions, path: &str) -> io::Result<FullFile> {
-        Ok(FullFile {
+    type Dir = FaultyFile;
+
+    fn open_file(&self, how: &OpenOptions, path: &str) -> io::Result<FaultyFile> {
+        if let Some(kind) = refuses(self.fault, how) {
+            return Err(io::Error::from(kind));
+        }
+        self.opened.set(self.opened.get().saturating_add(1));
+        Ok(FaultyFile {
             file: self.rt.open_file(how, path)?,
+            fault: self.fault,
             room: 4,
         })
     }
 
-    fn open_dir(&self, path: &str) -> io::Result<FullFile> {
+    fn open_dir(&self, path: &str) -> io::Result<FaultyFile> {
         let _ = path;
         Err(io::Error::from(ErrorKind::Unsupported))
     }
@@ -351,13 +411,144 @@ const OLD_AND_NEWER: [Step; 2] = [Step::Put("outer_edge.full", b"old", Ok(())), 
 
 #[test]
 fn a_full_disk_leaves_the_old_file(rt: HostRuntime) -> Result<(), Fail> {
-    let mut files = RealFiles::new(&FullDisk { rt: rt.clone()? }, rt.alloc())?;
+    let opened = Cell::new(0);
+    let mut files = faulty_files(&rt, Fault::Full, &opened)?;
     assert_eq!(rt; answered(rt.alloc(), &mut files, &OLD_AND_NEWER), 2);
     assert!(rt; system_file_is(&rt, "outer_edge.full", b"old"));
     assert!(rt; is_absent(&rt, "outer_edge.full.new1"));
     assert!(rt; is_removed(&rt, "outer_edge.full"));
     assert!(rt; is_answered(rt.alloc(), &mut files, NEWER));
     assert!(rt; is_absent(&rt, "outer_edge.full"));
+    Ok(())
+}
+
+fn faulty_files<'a>(
+    rt: &HostRuntime,
+    fault: Fault,
+    opened: &'a Cell<u64>,
+) -> Result<RealFiles<FaultyDisk<'a>>, Fail> {
+    let rt = rt.clone()?;
+    let alloc = rt.alloc();
+    Ok(RealFiles::new(&FaultyDisk { rt, fault, opened }, alloc)?)
+}
+
+/// The number by which the system knows a file.
+fn number_of(rt: &HostRuntime, name: &str) -> Option<u64> {
+    match fs::metadata(rt, name) {
+        Ok(found) => Some(found.ino()),
+        Err(_) => None,
+    }
+}
+
+/// A put of new bytes to an old file: its answer, what the file holds then, and whether it is another file.
+type FaultyPut = (Fault, Result<(), FileEnd>, &'static [u8], bool);
+
+const NOT_PUT: Result<(), FileEnd> = Err(FileEnd::Failed);
+
+static FAULTY_PUTS: [FaultyPut; 6] = [
+    (Fault::Nothing, Ok(()), b"newer", true),
+    (Fault::Full, NOT_PUT, b"old", false),
+    (Fault::FullForNew, NOT_PUT, b"old", false),
+    (Fault::FullForStoring, NOT_PUT, b"old", false),
+    (Fault::NotWritable, NOT_PUT, b"old", false),
+    (Fault::OtherOwner, Ok(()), b"newer", false),
+];
+
+const FAULTY: &str = "outer_edge.faulty";
+
+/// Makes an old file, which isn't the superuser's where new files are.
+fn make_old(rt: &HostRuntime, fault: Fault) -> bool {
+    let is_made = fs::write(rt, FAULTY, b"old").is_ok();
+    if fault == Fault::OtherOwner {
+        let _ = chown(rt, FAULTY, Some(1), Some(1));
+    }
+    is_made
+}
+
+fn is_put_so(rt: &HostRuntime, put: &FaultyPut) -> Result<bool, Fail> {
+    let opened = Cell::new(0);
+    let mut files = faulty_files(rt, put.0, &opened)?;
+    let before = number_of(rt, FAULTY);
+    let is_answered = files.put(FAULTY, b"newer") == put.1;
+    let is_replaced = number_of(rt, FAULTY) != before;
+    Ok(is_answered && is_replaced == put.3 && system_file_is(rt, FAULTY, put.2))
+}
+
+#[test]
+fn a_put_replaces_only_what_may_be_replaced(rt: HostRuntime) -> Result<(), Fail> {
+    for put in &FAULTY_PUTS {
+        assert!(rt; make_old(&rt, put.0));
+        assert!(rt; is_put_so(&rt, put)?);
+        assert!(rt; is_absent(&rt, "outer_edge.faulty.new1"));
+        assert!(rt; is_removed(&rt, FAULTY));
+    }
+    Ok(())
+}
+
+#[test]
+fn a_file_of_two_names_keeps_them(rt: HostRuntime) -> Result<(), Fail> {
+    let mut files = RealFiles::new(&rt, rt.alloc())?;
+    assert!(rt; fs::write(&rt, "outer_edge.first", b"old").is_ok());
+    assert!(rt; fs::hard_link(&rt, "outer_edge.first", "outer_edge.second").is_ok());
+    assert!(rt; files.put("outer_edge.first", b"newer").is_ok());
+    assert!(rt; system_file_is(&rt, "outer_edge.second", b"newer"));
+    assert!(rt; is_removed(&rt, "outer_edge.first"));
+    assert!(rt; is_removed(&rt, "outer_edge.second"));
+    Ok(())
+}
+
+/// Makes a file of a mebibyte of zeros and four bytes more.
+fn make_long(rt: &HostRuntime, name: &str) -> io::Result<()> {
+    let mut long = fs::create(rt, name)?;
+    long.set_len(1_048_576)?;
+    long.seek(SeekFrom::End(0))?;
+    long.write_all(b"tail")
+}
+
+const LONG: &str = "outer_edge.long";
+
+// Each read begins where the one before ended, but the fourth, which goes back, and the last, which follows a put.
+const LONG_STEPS: [Step; 7] = [
+    Step::Read(LONG, 1_048_570, Ok((4, [0; 4]))),
+    Step::Read(LONG, 1_048_574, Ok((4, *b"\0\0ta"))),
+    Step::Read(LONG, 1_048_578, Ok((2, *b"il\0\0"))),
+    Step::Read(LONG, 1_048_577, Ok((3, *b"ail\0"))),
+    Step::Read(LONG, 1_048_580, Ok((0, [0; 4]))),
+    Step::Read(LONG, 0, Ok((4, [0; 4]))),
+    Step::Put(LONG, b"and short", Ok(())),
+];
+
+const AFTER_THE_PUT: [Step; 1] = [Step::Read(LONG, 4, Ok((4, *b"shor")))];
+
+#[test]
+fn a_long_file_is_opened_once_and_read_on(rt: HostRuntime) -> Result<(), Fail> {
+    assert!(rt; make_long(&rt, LONG).is_ok());
+    let opened = Cell::new(0);
+    let mut files = faulty_files(&rt, Fault::Nothing, &opened)?;
+    assert!(rt;
+        reads_whole(
+            rt.alloc(),
+            &mut files,
+            LONG,
+            1_048_576,
+            Err(ReadEnd::TooLong)
+        )
+    );
+    assert_eq!(rt; opened.get(), 1);
+    assert_eq!(rt; answered(rt.alloc(), &mut files, &LONG_STEPS), 7);
+    assert_eq!(rt; answered(rt.alloc(), &mut files, &AFTER_THE_PUT), 1);
+    assert!(rt; is_removed(&rt, LONG));
+    Ok(())
+}
+
+#[test]
+fn a_read_that_fails_in_the_midst_is_no_end(rt: HostRuntime) -> Result<(), Fail> {
+    assert!(rt; make_long(&rt, "outer_edge.cut").is_ok());
+    let opened = Cell::new(0);
+    let mut files = faulty_files(&rt, Fault::Unreadable, &opened)?;
+    let fault = Err(ReadEnd::ReadFault);
+    assert!(rt; reads_whole(rt.alloc(), &mut files, "outer_edge.cut", 2_000_000, fault));
+    assert!(rt; is_removed(&rt, "outer_edge.cut"));
     Ok(())
 }
 
