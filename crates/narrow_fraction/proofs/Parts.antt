@@ -79,7 +79,7 @@ unfolding over
 num-over z zero h = absurd (omega arith)
 num-over z (suc d) h = refl
 
-den-over : (z : ℤ) (d : ℕ) → 0 < d → (over z d).den ≡ d / gcd (unsigned_abs z) d
+pub den-over : (z : ℤ) (d : ℕ) → 0 < d → (over z d).den ≡ d / gcd (unsigned_abs z) d
 unfolding over
 den-over z zero h = absurd (omega arith)
 den-over z (suc d) h = refl

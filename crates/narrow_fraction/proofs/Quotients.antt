@@ -12,7 +12,7 @@ use Rattle.rational_theory.specs.Rational.{ℚ, over, whole, ◌*ℚ◌, ◌<ℚ
 use Rattle.rational_theory.specs.laws.Fractions.{times_part}
 use Rattle.rational_theory.proofs.Arithmetic.{same_ratio, over_ratio, over_terms, own_ratio, whole_ratio, ≤ℚ_in, ≤ℚ_out, *ℚ_comm, *ℚ-zero}
 use Rattle.rational_theory.proofs.Order.{not-≤ℚ, <ℚ_not-≤ℚ, times_den, whole_not_zero}
-use Rattle.narrow_fraction.proofs.Parts.{zero_over}
+use Rattle.narrow_fraction.proofs.Parts.{zero_over, den-over}
 
 -- ---- signs
 over_not_zero : (p : ℤ) (d : ℕ) → 0 < d → (p ≡ pos 0 → ⊥) → over p d ≡ whole (pos 0) → ⊥
@@ -45,11 +45,6 @@ over_multiple x d h e = same_ratio _ _ _ _ _ _ _ _ (over_terms (x.num *ℤ pos (
   where
     spread : (u v q n d : ℕ) → n * q ≡ d → u * q * n + v * d ≡ v * q * n + u * d
     spread u v q n d e = rw (← e) (omega arith)
-
-den-over : (z : ℤ) (d : ℕ) → 0 < d → (over z d).den ≡ d / gcd (unsigned_abs z) d
-unfolding over
-den-over z zero h = absurd (omega arith)
-den-over z (suc d) h = refl
 
 over_den : (n : ℤ) (d : ℕ) → 0 < d → (over n d).den ∣ d
 over_den n d h =
