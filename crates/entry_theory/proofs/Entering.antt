@@ -70,9 +70,6 @@ module _ (vs : List ℕ) (m w n : ℕ) (t : Tableau) (r : ℕ) (e : IsEntering v
   j : ℕ
   j = variable_at vs n
 
-  u : Tableau
-  u = exchange r j t
-
   pub entering_place : IsPlace t r (variable_at vs n)
   entering_place = record { row = c.row; place = rw e.columns column; pivot = c.pivot }
 

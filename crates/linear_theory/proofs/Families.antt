@@ -3,7 +3,7 @@ use Rattle.std.proofs.Common.{◌≡◌, ℕ, ◌+◌, ◌<◌, ◌≤◌, ◌�
 use Rattle.std.proofs.lemmas.Bool.{eqb-true}
 use Rattle.std.specs.Prelude.{◌==◌, ◌||◌}
 use Rattle.progression.specs.Street.{Street, count}
-use Rattle.linear_theory.specs.Names.{Name, NoRow, FamilyOf, Family, families, last_family, row_among, name_of, lone_among, is_lone, Seat, AtSignal, AtLink, AtChange, ByItself, AtRatio, AtLeast, AtEqual, Nowhere, HasSeat, rule_of, HasRow}
+use Rattle.linear_theory.specs.Names.{Name, NoRow, Family, families, last_family, row_among, name_of, lone_among, is_lone, Seat, AtSignal, AtLink, AtChange, ByItself, AtRatio, AtLeast, AtEqual, Nowhere, HasSeat, rule_of, HasRow}
 
 -- ---- numbers
 record IsWithin (n m g : ℕ) : Type 0 where
@@ -75,9 +75,6 @@ seat_index a true (AtEqual j) i e h = subst (IsIndex a true) e (single a j h.0)
 seat_index a true Nowhere i e h = absurd e
 
 -- ---- which family has one row alone
-or_false : (b : Bool) → (b || false) ≡ b
-or_false true = refl
-or_false false = refl
 
 lone_step : (lone b rest : Bool) → b ≡ false → (if lone then b || rest else rest) ≡ rest
 lone_step true false rest e = refl

@@ -60,10 +60,6 @@ above_ratio x h =
     let n = natural_num x x.num refl h in
     rebase x _ _ _ _ _ _ (own_ratio x) x.positive (let e = n.0 in let f = n.1 in rw (e, f) (omega arith))
 
--- its numerator is above 0
-pub num_above : (x : ℚ) → number 0 <ℚ x → 0 < unsigned_abs x.num
-num_above x h = (natural_num x x.num refl h).2
-
 -- the quotient of two fractions, the divisor above 0
 pub quotient_terms : (x y : ℚ) (p d q e : ℕ) → IsRatio x p 0 d → IsRatio y q 0 e → 0 < q → IsRatio (x /ℚ y) (p * e) 0 (d * q)
 quotient_terms x y p d q e h k l =

@@ -1,72 +1,18 @@
 -- Lemmas on the definitions of `Spans`.
-use Rattle.std.proofs.Common.{◌≡◌, ℕ, ℤ, pos, neg_ℤ, ◌+ℤ◌, ◌-ℤ◌, ◌*ℤ◌, ◌+◌, ◌*◌, ◌<◌, refl, ◌∙◌, ap, arith, unsigned_abs, mul-pos, [], ◌∷◌}
+use Rattle.std.proofs.Common.{◌≡◌, ℕ, pos, ◌-ℤ◌, ◌+◌, ◌<◌, refl, ◌∙◌, ap, arith, [], ◌∷◌}
 use Rattle.std.proofs.lemmas.Int.{ints}
-use Rattle.std.specs.Int.{int_div_euclid}
-use borrow.Author.Differences.{up, down}
-use Rattle.rational_theory.specs.Rational.{ℚ, over, ◌+ℚ◌, ◌-ℚ◌, ◌*ℚ◌, ◌/ℚ◌, ◌<ℚ◌}
-use Rattle.rational_theory.proofs.Arithmetic.{IsRatio, own_ratio, over_ratio, over_terms, rebase, sum_ratio, product_ratio, whole_ratio, same_ratio}
-use Rattle.rational_theory.specs.Floor.{floor_ℚ, ceil_ℚ}
+use Rattle.rational_theory.specs.Rational.{ℚ, over, ◌+ℚ◌, ◌-ℚ◌}
+use Rattle.rational_theory.proofs.Arithmetic.{IsRatio, over_terms, rebase, same_ratio}
 use Rattle.rational_theory.proofs.Ring.{ring, at, lit, ◌⊕◌}
 use Rattle.rational_theory.proofs.Shares.{nothing, one_cycle, joined_ticks, less_ticks}
 use Rattle.progression.specs.Street.{Street, red_parts}
-use Rattle.progression.specs.Speeds.{number, seconds}
-use Rattle.progression.specs.declared.parts.Units.{Units}
-use Rattle.progression.specs.declared.parts.Units.TheVariants.{Metric, English}
+use Rattle.progression.specs.Speeds.{number}
 use Rattle.progression.specs.declared.parts.Dir.TheVariants.{Outbound, Inbound}
 use Rattle.linear_theory.specs.Blocks.{part, block_of}
-use Rattle.linear_theory.specs.Boxes.{run_least, run_greatest, least_sum, greatest_sum, root_span}
+use Rattle.linear_theory.specs.Boxes.{run_least, run_greatest, least_sum, greatest_sum}
 use Rattle.linear_theory.proofs.Shares.{part_ratio}
 use Rattle.linear_theory.proofs.Terms.{block_term}
-use Rattle.linear_theory.proofs.Quotients.{floor_over, ceil_over, above_ratio, num_above, quotient_terms}
 use Rattle.linear_theory.specs.Spans.{least_parts, greatest_parts}
-
--- ---- runs
--- 1 km/h is 5/18 metres a second, and 1 mile an hour is 22/15 feet a second
-abbrev pub pace_top : Units → ℕ
-pace_top Metric = 18
-pace_top English = 15
-
-abbrev pub pace_bottom : Units → ℕ
-pace_bottom Metric = 5
-pace_bottom English = 22
-
--- the seconds of a distance at a speed above 0
-seconds_ratio : (u : Units) (d : ℕ) (v : ℚ) → number 0 <ℚ v → IsRatio (seconds u d v) (pace_top u * d * v.den) 0 (pace_bottom u * unsigned_abs v.num)
-seconds_ratio Metric d v h = rebase _ _ _ _ _ _ _ (quotient_terms (number (18 * d)) (number 5 *ℚ v) _ _ _ _ (whole_ratio (pos (18 * d)))
-    (rebase _ _ _ _ (5 * unsigned_abs v.num) _ _ (product_ratio (number 5) v _ _ _ _ _ _ (whole_ratio (pos 5)) (above_ratio v h)) v.positive (omega arith)) (mul-pos (omega arith) (num_above v h)))
-    (mul-pos (omega arith) (num_above v h)) (omega arith)
-seconds_ratio English d v h = rebase _ _ _ _ _ _ _ (quotient_terms (number (15 * d)) (number 22 *ℚ v) _ _ _ _ (whole_ratio (pos (15 * d)))
-    (rebase _ _ _ _ (22 * unsigned_abs v.num) _ _ (product_ratio (number 22) v _ _ _ _ _ _ (whole_ratio (pos 22)) (above_ratio v h)) v.positive (omega arith)) (mul-pos (omega arith) (num_above v h)))
-    (mul-pos (omega arith) (num_above v h)) (omega arith)
-
--- as one fraction
-pub seconds_is : (u : Units) (d : ℕ) (v : ℚ) → number 0 <ℚ v → seconds u d v ≡ over (pos (pace_top u * d * v.den)) (pace_bottom u * unsigned_abs v.num)
-seconds_is u d v h = let r = seconds_ratio u d v h in same_ratio _ _ _ _ _ _ _ _ r (over_ratio (pos (pace_top u * d * v.den)) (pace_bottom u * unsigned_abs v.num) r.above) (omega arith)
-
--- over a cycle above 0
-pub seconds_over_is : (u : Units) (d : ℕ) (v c : ℚ) → number 0 <ℚ v → number 0 <ℚ c
-    → seconds u d v /ℚ c ≡ over (pos (pace_top u * d * v.den * c.den)) (pace_bottom u * unsigned_abs v.num * unsigned_abs c.num)
-seconds_over_is u d v c h k =
-    let r = quotient_terms (seconds u d v) c _ _ _ _ (seconds_ratio u d v h) (above_ratio c k) (num_above c k) in
-    same_ratio _ _ _ _ _ _ _ _ r (over_ratio (pos (pace_top u * d * v.den * c.den)) (pace_bottom u * unsigned_abs v.num * unsigned_abs c.num) r.above) (omega arith)
-
--- ---- one fraction
--- the numerator of a number of parts and two fractions
-abbrev pub span_top : ℤ → ℕ → ℚ → ℚ → ℤ
-span_top p n x y = p *ℤ pos (x.den * y.den) +ℤ x.num *ℤ pos (n * y.den) +ℤ y.num *ℤ pos (n * x.den)
-
--- and the denominator
-abbrev pub span_bottom : ℕ → ℚ → ℚ → ℕ
-span_bottom n x y = n * (x.den * y.den)
-
--- their sum
-pub three_is : (p : ℤ) (n : ℕ) (x y : ℚ) → 0 < n → over p n +ℚ x +ℚ y ≡ over (span_top p n x y) (span_bottom n x y)
-three_is p n x y h =
-    same_ratio _ _ _ _ _ _ _ _
-    (sum_ratio _ _ _ _ _ _ _ _ (sum_ratio _ _ _ _ _ _ _ _ (over_ratio p n h) (own_ratio x)) (own_ratio y))
-    (over_terms (span_top p n x y) (up p * (x.den * y.den) + up x.num * (n * y.den) + up y.num * (n * x.den))
-    (down p * (x.den * y.den) + down x.num * (n * y.den) + down y.num * (n * x.den)) (span_bottom n x y) (mul-pos h (mul-pos x.positive y.positive)) (omega (arith, ints)))
-    (omega arith)
 
 -- a block sum with no runs, and the runs
 split_runs : (w w' v v' y y' s s' r r' k k' : ℚ) → block_of w w' v v' y y' s s' r r' k k' ≡ block_of w w' v v' (number 0) (number 0) s s' r r' k k' +ℚ y +ℚ y'
@@ -121,15 +67,3 @@ module _ (a : Street) (h : 0 < a.head.parts) where
       ∙ ap (λ x. x +ℚ run_greatest a Outbound i +ℚ run_greatest a Inbound i)
       (differs _ _ _ _ (block_parts _ _ _ _ _ _ _ _ _ _ _ _ _ _ _ _ _ _ (rest_ratio (red_parts a Outbound i)) (rest_ratio (red_parts a Inbound i)) (nothing a.head.parts h) (nothing a.head.parts h))
       ∙ ap (λ z. over z a.head.parts) (omega (arith, ints)))
-
-  -- the least number of the root's span
-  pub root_least_is : (i : ℕ) → let x = run_least a Outbound i in let y = run_least a Inbound i in
-      (root_span a i).least ≡ neg_ℤ (int_div_euclid (neg_ℤ (span_top (least_parts a i) a.head.parts x y)) (pos (span_bottom a.head.parts x y)))
-  root_least_is i = let x = run_least a Outbound i in let y = run_least a Inbound i in
-      ap ceil_ℚ (least_sum_is i ∙ three_is (least_parts a i) a.head.parts x y h) ∙ ceil_over _ (span_bottom a.head.parts x y) (mul-pos h (mul-pos x.positive y.positive))
-
-  -- and the greatest number
-  pub root_most_is : (i : ℕ) → let x = run_greatest a Outbound i in let y = run_greatest a Inbound i in
-      (root_span a i).most ≡ int_div_euclid (span_top (greatest_parts a i) a.head.parts x y) (pos (span_bottom a.head.parts x y))
-  root_most_is i = let x = run_greatest a Outbound i in let y = run_greatest a Inbound i in
-      ap floor_ℚ (greatest_sum_is i ∙ three_is (greatest_parts a i) a.head.parts x y h) ∙ floor_over _ (span_bottom a.head.parts x y) (mul-pos h (mul-pos x.positive y.positive))

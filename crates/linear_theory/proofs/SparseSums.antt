@@ -7,7 +7,7 @@ use Rattle.progression.specs.Street.{Street, count}
 use Rattle.progression.specs.Speeds.{number}
 use Rattle.progression.specs.Plan.{Plan}
 use Rattle.progression.specs.Columns.{ticks, point}
-use Rattle.linear_theory.specs.Places.{place, width, value_at}
+use Rattle.linear_theory.specs.Places.{place, width}
 use Rattle.linear_theory.proofs.Places.{IsColumn}
 use Rattle.linear_theory.specs.Rows.{Entry, Form, places_of, line}
 use Rattle.linear_theory.proofs.PlacedRows.{Rises, cells_sum, placed_total, placed_width}

@@ -26,7 +26,7 @@
 //!   `line_total` at any point, `line_width`.
 //! - Are block sums whole? `WholeBlocks` in ticks, `Shares` and `BlockSums` in fractions: `block_sum_whole`.
 //! - Are they in range? `RankedShifts`, `Ranges`, `Divided` (a rule of a good timing over its cycle), `Roots`: `root_law`; `RootBoxes`:
-//!   `root_boxed`, `root_is`, `root_only`.
+//!   `root_boxed`, `root_is`.
 //! - Which rows are met? `Ratios` (the rule of the ratio in shares of the cycle, both ways), `RowLaws`, `BoxRowLaws`: a law for each family; `NamedRows`: `row_law`, `row_at_point`.
 //! - Which numbers and indices do rows have? `Families`: `family_least`, `family_most`, `row_index`.
 //! - What does a split lose? `Splits`, `TurnSplits`: `loop_split`, `loop_joined`, `loop_once`; `PartBoxes`: `low_loop_boxed`.

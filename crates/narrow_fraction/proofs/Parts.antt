@@ -32,18 +32,6 @@ fits_parts b n d h r f =
     let l = lowest b n d h r in
     (subst (λ t. t < 2 ^ 127) (ap unsigned_abs l.0 ∙ abs-signed b n) f.num_fits, subst (λ t. t < 2 ^ 127) l.1 f.den_fits)
 
-pub parts_fit : (b : Bool) (n d : ℕ) → 0 < d → gcd n d ≡ 1 → n < 2 ^ 127 → d < 2 ^ 127 → FitsFrac (over (signed b n) d)
-parts_fit b n d h r p q =
-    let l = lowest b n d h r in
-    record {
-      num_fits = subst (λ t. t < 2 ^ 127) (sym (ap unsigned_abs l.0 ∙ abs-signed b n)) p;
-      den_fits = subst (λ t. t < 2 ^ 127) (sym l.1) q;
-    }
-
-pub signed-abs : (z : ℤ) → signed (int_lt z (pos 0)) (unsigned_abs z) ≡ z
-signed-abs (pos n) = grind (arith, ints)
-signed-abs (negsuc n) = refl
-
 -- ---- coprime numbers
 pub coprime_part : (a b z : ℕ) → IsGcd a b 1 → z ∣ b → IsGcd a z 1
 coprime_part a b z h p = (one-dvd a, one-dvd z, λ e q r. h.2 e q (dvd_trans e r p))
@@ -90,9 +78,6 @@ signed-int_div (negsuc n) g = refl
 
 pub over-parts : (z : ℤ) (d : ℕ) → 0 < d → over (signed (int_lt z (pos 0)) (unsigned_abs z / gcd (unsigned_abs z) d)) (d / gcd (unsigned_abs z) d) ≡ over z d
 over-parts z d h = ap₂ over (signed-int_div z (gcd (unsigned_abs z) d) ∙ sym (num-over z d h)) (sym (den-over z d h)) ∙ over-own (over z d)
-
-pub signed-is : (b c : Bool) (n : ℕ) → b ≡ c → signed b n ≡ signed c n
-signed-is b c n e = ap (λ t. signed t n) e
 
 -- ---- products
 -- divided by what is shared, the product is the same

@@ -161,9 +161,6 @@ neg-neg x = same_ratio _ _ _ _ _ _ _ _ (neg_ratio _ _ _ _ (neg_ratio x _ _ _ (ow
 pub neg-*ℚ : (x y : ℚ) → neg_ℚ x *ℚ y ≡ neg_ℚ (x *ℚ y)
 neg-*ℚ x y = same_ratio _ _ _ _ _ _ _ _ (product_ratio _ y _ _ _ _ _ _ (neg_ratio x _ _ _ (own_ratio x)) (own_ratio y)) (neg_ratio _ _ _ _ (product_ratio x y _ _ _ _ _ _ (own_ratio x) (own_ratio y))) (omega arith)
 
-pub neg-+ℚ : (x y : ℚ) → neg_ℚ (x +ℚ y) ≡ neg_ℚ x +ℚ neg_ℚ y
-neg-+ℚ x y = same_ratio _ _ _ _ _ _ _ _ (neg_ratio _ _ _ _ (sum_ratio x y _ _ _ _ _ _ (own_ratio x) (own_ratio y))) (sum_ratio _ _ _ _ _ _ _ _ (neg_ratio x _ _ _ (own_ratio x)) (neg_ratio y _ _ _ (own_ratio y))) (omega arith)
-
 -- ---- order
 -- the order in any terms, out and in
 pub ≤ℚ_out : (x y : ℚ) (p n d q m e : ℕ) → IsRatio x p n d → IsRatio y q m e → x ≤ℚ y → p * e + m * d ≤ n * e + q * d

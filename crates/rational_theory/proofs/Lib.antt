@@ -1,5 +1,4 @@
 pub mod Floor
-pub mod Pivot
 pub mod Compare
 pub mod Lowest
 pub mod Ring

@@ -141,11 +141,6 @@ over_≤ℚ a b d e h k = (
 pub whole_num : (x : ℚ) → x.den ≡ 1 → x ≡ whole x.num
 whole_num x e = same_ratio x _ _ _ _ _ _ _ (own_ratio x) (whole_ratio x.num) (rw e (omega arith))
 
--- what is not 0
-pub num_not_zero : (x : ℚ) → (x.num ≡ pos 0 → ⊥) → x ≡ whole (pos 0) → ⊥
-unfolding whole
-num_not_zero x n e = n (ap (λ (t : ℚ). t.num) e)
-
 pub whole_not_zero : (z : ℤ) → (z ≡ pos 0 → ⊥) → whole z ≡ whole (pos 0) → ⊥
 unfolding whole
 whole_not_zero z n e = n (ap (λ (t : ℚ). t.num) e)

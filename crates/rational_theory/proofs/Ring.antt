@@ -26,9 +26,6 @@ pub +ℚ_left_comm : (x y z : ℚ) → x +ℚ (y +ℚ z) ≡ y +ℚ (x +ℚ z)
 pub *ℚ_left_comm : (x y z : ℚ) → x *ℚ (y *ℚ z) ≡ y *ℚ (x *ℚ z)
 *ℚ_left_comm x y z = sym (*ℚ_assoc x y z) ∙ ap (λ t. t *ℚ z) (*ℚ_comm x y) ∙ *ℚ_assoc y x z
 
--- to sort sums, and products
-pub ruleset sums = (+ℚ_assoc, +ℚ_comm, +ℚ_left_comm)
-
 pub ruleset products = (*ℚ_assoc, *ℚ_comm, *ℚ_left_comm)
 
 -- ---- terms
@@ -167,7 +164,7 @@ normal_value (minus s) ρ =
 pub ring : (s t : Term) (ρ : List ℚ) → clean (normal s) ≡ clean (normal t) → value s ρ ≡ value t ρ
 ring s t ρ e = sym (clean_value (normal s) ρ ∙ normal_value s ρ) ∙ ap (λ p. poly_value p ρ) e ∙ clean_value (normal t) ρ ∙ normal_value t ρ
 
--- ---- a trial
+-- ---- to write sums and products
 infixl 65 ◌⊕◌
 infixl 70 ◌⊗◌
 abbrev pub ◌⊕◌ : Term → Term → Term
@@ -175,23 +172,3 @@ s ⊕ t = plus s t
 
 abbrev pub ◌⊗◌ : Term → Term → Term
 s ⊗ t = times s t
-
-pub square : (x y : ℚ) → (x +ℚ y) *ℚ (x +ℚ neg_ℚ y) ≡ x *ℚ x +ℚ neg_ℚ (y *ℚ y)
-square x y = ring ((at 0 ⊕ at 1) ⊗ (at 0 ⊕ minus (at 1))) (at 0 ⊗ at 0 ⊕ minus (at 1 ⊗ at 1)) (x ∷ y ∷ []) refl
-
-pub cube : (x y : ℚ) → (x +ℚ y) *ℚ (x +ℚ y) *ℚ (x +ℚ y) ≡ x *ℚ x *ℚ x +ℚ whole (pos 3) *ℚ x *ℚ x *ℚ y +ℚ whole (pos 3) *ℚ x *ℚ y *ℚ y +ℚ y *ℚ y *ℚ y
-cube x y = ring ((at 0 ⊕ at 1) ⊗ (at 0 ⊕ at 1) ⊗ (at 0 ⊕ at 1)) (at 0 ⊗ at 0 ⊗ at 0 ⊕ lit (pos 3) ⊗ at 0 ⊗ at 0 ⊗ at 1 ⊕ lit (pos 3) ⊗ at 0 ⊗ at 1 ⊗ at 1 ⊕ at 1 ⊗ at 1 ⊗ at 1) (x ∷ y ∷ []) refl
-
--- a Lagrange identity: 8 variables, degree 4
-pub large : (a b c d w x y z : ℚ) → (a *ℚ a +ℚ b *ℚ b +ℚ c *ℚ c +ℚ d *ℚ d) *ℚ (w *ℚ w +ℚ x *ℚ x +ℚ y *ℚ y +ℚ z *ℚ z)
-    ≡ (z *ℚ z +ℚ y *ℚ y +ℚ x *ℚ x +ℚ w *ℚ w) *ℚ (b *ℚ b +ℚ a *ℚ a +ℚ d *ℚ d +ℚ c *ℚ c)
-large a b c d w x y z = ring
-    ((at 0 ⊗ at 0 ⊕ at 1 ⊗ at 1 ⊕ at 2 ⊗ at 2 ⊕ at 3 ⊗ at 3) ⊗ (at 4 ⊗ at 4 ⊕ at 5 ⊗ at 5 ⊕ at 6 ⊗ at 6 ⊕ at 7 ⊗ at 7))
-    ((at 7 ⊗ at 7 ⊕ at 6 ⊗ at 6 ⊕ at 5 ⊗ at 5 ⊕ at 4 ⊗ at 4) ⊗ (at 1 ⊗ at 1 ⊕ at 0 ⊗ at 0 ⊕ at 3 ⊗ at 3 ⊕ at 2 ⊗ at 2))
-    (a ∷ b ∷ c ∷ d ∷ w ∷ x ∷ y ∷ z ∷ []) refl
-
-pub shuffled : (a b c d e : ℚ) → a +ℚ (b +ℚ c) *ℚ d +ℚ e ≡ e +ℚ d *ℚ c +ℚ a +ℚ d *ℚ b
-shuffled a b c d e = simp (sums, products, *ℚ-+ℚ, +ℚ-*ℚ)
-
-pub by_cc : (a b c : ℚ) → a ≡ b → b *ℚ c ≡ c → a *ℚ c ≡ c
-by_cc a b c e f = cc

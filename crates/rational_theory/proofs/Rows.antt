@@ -1,10 +1,10 @@
 -- Lemmas on the definitions of `Rows`.
-use Rattle.std.proofs.Common.{◌≡◌, ◌↔◌, pos, List, [], ◌∷◌, refl, sym, ◌∙◌, ap, ap₂}
+use Rattle.std.proofs.Common.{◌≡◌, pos, List, [], ◌∷◌, refl, sym, ◌∙◌, ap, ap₂}
 use Rattle.rational_theory.specs.Rational.{ℚ, whole, ◌+ℚ◌, ◌*ℚ◌, neg_ℚ, ◌≤ℚ◌}
 use Rattle.rational_theory.proofs.Arithmetic.{+ℚ_comm, +ℚ-zero, *ℚ_assoc, *ℚ_comm, *ℚ-zero, *ℚ-+ℚ}
-use Rattle.rational_theory.proofs.Order.{≤ℚ_refl, ≤ℚ_trans, ≤ℚ-+ℚ, ≤ℚ-*ℚ, *ℚ_cancel}
-use Rattle.rational_theory.proofs.Ring.{zero-+ℚ, zero-*ℚ, ring, at, minus, ◌⊕◌, ◌⊗◌}
-use Rattle.rational_theory.specs.Rows.{dot, scale, add, Row, IsMet, combine, AllNonNegative, AllMet, added}
+use Rattle.rational_theory.proofs.Order.{≤ℚ_refl, ≤ℚ_trans, ≤ℚ-+ℚ, ≤ℚ-*ℚ}
+use Rattle.rational_theory.proofs.Ring.{zero-+ℚ, ring, at, minus, ◌⊕◌, ◌⊗◌}
+use Rattle.rational_theory.specs.Rows.{dot, scale, add, Row, IsMet, combine, AllNonNegative, AllMet}
 
 -- ---- dot
 pub dot-scale : (k : ℚ) (a x : List ℚ) → dot (scale k a) x ≡ k *ℚ dot a x
@@ -34,38 +34,11 @@ combine_met (k ∷ ks) [] x p h = record { met = ≤ℚ_refl (whole (pos 0)) }
 combine_met (k ∷ ks) (r ∷ rs) x p h =
     record { met = rw (dot-add, dot-scale) (≤ℚ-sum _ _ _ _ (≤ℚ-left k _ _ p.0 h.0.met) (combine_met ks rs x p.1 h.1).met) }
 
--- Farkas: where the weighted sum has no left side and a negative right side, no x meets the rows
-abbrev pub AllZero : List ℚ → Type 0
-AllZero [] = Unit {0}
-AllZero (a ∷ us) = (a ≡ whole (pos 0)) × AllZero us
-
-pub dot-zero : (a x : List ℚ) → AllZero a → dot a x ≡ whole (pos 0)
-dot-zero [] x h = refl
-dot-zero (a ∷ us) [] h = refl
-dot-zero (a ∷ us) (x ∷ xs) h = rw (h.0, dot-zero us xs h.1) (+ℚ-zero _ ∙ zero-*ℚ x)
-
-pub farkas : (ks : List ℚ) (rs : List Row) → AllNonNegative ks → AllZero (combine ks rs).coefs → (whole (pos 0) ≤ℚ (combine ks rs).bound → ⊥) → (x : List ℚ) → AllMet x rs → ⊥
-farkas ks rs p z n x h = n (rw (← (dot-zero (combine ks rs).coefs x z)) (combine_met ks rs x p h).met)
-
 -- ---- pivots: an equation stays one, both ways
-pub record Equals (x : List ℚ) (r : Row) : Type 0 where
-  pub equal : dot r.coefs x ≡ r.bound
 
 abbrev pub scaled : ℚ → Row → Row
 scaled k r = record { coefs = scale k r.coefs; bound = k *ℚ r.bound }
 
-pub scaled_equals : (k : ℚ) (r : Row) (x : List ℚ) → (k ≡ whole (pos 0) → ⊥) → Equals x (scaled k r) ↔ Equals x r
-scaled_equals k r x n = (
-  λ h. record { equal = *ℚ_cancel _ _ k n (*ℚ_comm _ k ∙ sym (dot-scale k r.coefs x) ∙ h.equal ∙ *ℚ_comm k _) },
-  λ h. record { equal = dot-scale k r.coefs x ∙ ap (λ t. k *ℚ t) h.equal },
-)
-
 pub +ℚ_cancel : (a b c : ℚ) → a +ℚ c ≡ b +ℚ c → a ≡ b
 +ℚ_cancel a b c e =
     ring (at 0) ((at 0 ⊕ at 1) ⊕ minus (at 1)) (a ∷ c ∷ []) refl ∙ ap (λ t. t +ℚ neg_ℚ c) e ∙ ring ((at 0 ⊕ at 1) ⊕ minus (at 1)) (at 0) (b ∷ c ∷ []) refl
-
-pub added_equals : (r s : Row) (x : List ℚ) → Equals x s → Equals x (added r s) ↔ Equals x r
-added_equals r s x e = (
-  λ h. record { equal = +ℚ_cancel _ _ s.bound (ap (λ t. dot r.coefs x +ℚ t) (sym e.equal) ∙ sym (dot-add r.coefs s.coefs x) ∙ h.equal) },
-  λ h. record { equal = dot-add r.coefs s.coefs x ∙ ap₂ (λ u v. u +ℚ v) h.equal e.equal },
-)

@@ -1,7 +1,7 @@
 -- Rational numbers over one denominator c, as sums of ticks over the cycle: each is (p - n) / c for naturals p and n.
-use Rattle.std.proofs.Common.{◌≡◌, ℕ, pos, negsuc, ◌+◌, ◌*◌, ◌<◌, ◌≤◌, ◌⊎◌, inl, inr, ◌∙◌, ap, subst, arith, mul-le-mul_right}
-use Rattle.rational_theory.specs.Rational.{ℚ, whole, over, ◌+ℚ◌, ◌*ℚ◌, ◌-ℚ◌, ◌/ℚ◌, neg_ℚ, inverse_ℚ, ◌≤ℚ◌}
-use Rattle.rational_theory.proofs.Arithmetic.{IsRatio, over_ratio, rebase, sum_ratio, product_ratio, neg_ratio, whole_ratio, ≤ℚ_in}
+use Rattle.std.proofs.Common.{◌≡◌, ℕ, pos, ◌+◌, ◌<◌, ◌≤◌, ◌⊎◌, inl, inr, ◌∙◌, ap, subst, arith, mul-le-mul_right}
+use Rattle.rational_theory.specs.Rational.{ℚ, whole, ◌+ℚ◌, ◌*ℚ◌, ◌-ℚ◌, ◌/ℚ◌, neg_ℚ, inverse_ℚ, ◌≤ℚ◌}
+use Rattle.rational_theory.proofs.Arithmetic.{IsRatio, rebase, sum_ratio, product_ratio, neg_ratio, whole_ratio, ≤ℚ_in}
 use Rattle.rational_theory.proofs.Arithmetic.{*ℚ_assoc, *ℚ_comm, *ℚ-one}
 use Rattle.rational_theory.proofs.Order.{≤ℚ_refl, ≤ℚ_total, ≤ℚ_antisymm, ≤ℚ-*ℚ, *ℚ_cancel, *ℚ-inverse}
 
@@ -12,12 +12,6 @@ module _ (c : ℕ) (h : 0 < c) where
   pub one_cycle : IsRatio (whole (pos 1)) c 0 c
   one_cycle = rebase _ _ _ _ _ _ _ (whole_ratio (pos 1)) h (omega arith)
 
-  pub some_ticks : (k : ℕ) → IsRatio (over (pos k) c) k 0 c
-  some_ticks k = over_ratio (pos k) c h
-
-  pub part_ticks : (r parts unit : ℕ) → 0 < parts → parts * unit ≡ c → IsRatio (over (pos r) parts) (r * unit) 0 c
-  part_ticks r parts unit p e = rebase _ _ _ _ _ _ _ (over_ratio (pos r) parts p) h (omega (arith, ap (λ n. r * n) e))
-
   pub joined_ticks : (x y : ℚ) (p n q m : ℕ) → IsRatio x p n c → IsRatio y q m c → IsRatio (x +ℚ y) (p + q) (n + m) c
   joined_ticks x y p n q m k l = rebase _ _ _ _ _ _ _ (sum_ratio x y _ _ _ _ _ _ k l) h (omega arith)
 
@@ -26,9 +20,6 @@ module _ (c : ℕ) (h : 0 < c) where
 
   pub once : (x : ℚ) (p n : ℕ) → IsRatio x p n c → IsRatio (whole (pos 1) *ℚ x) p n c
   once x p n k = rebase _ _ _ _ _ _ _ (product_ratio _ x _ _ _ _ _ _ (whole_ratio (pos 1)) k) h (omega arith)
-
-  pub minus_once : (x : ℚ) (p n : ℕ) → IsRatio x p n c → IsRatio (whole (negsuc 0) *ℚ x) n p c
-  minus_once x p n k = rebase _ _ _ _ _ _ _ (product_ratio _ x _ _ _ _ _ _ (whole_ratio (negsuc 0)) k) h (omega arith)
 
   pub at_most_ticks : (x y : ℚ) (p n q m : ℕ) → IsRatio x p n c → IsRatio y q m c → p + m ≤ n + q → x ≤ℚ y
   at_most_ticks x y p n q m k l w = ≤ℚ_in x y p n c q m c k l (let e = mul-le-mul_right c w in omega (arith, e))

@@ -35,10 +35,6 @@ module _ (a : Street) (unit : ℕ) (ticks : Column → ℕ) (pattern : ℕ → �
       let b = length-numbered (count a - 1) 1 (λ i. ticks (RunOf Inbound i)) in
       record { grid = g; unit = u; reds = omega arith; run_out = omega arith; run_in = omega arith }
 
-  -- the first common red begins at 0, and each further one where it was placed
-  pub first_red : common_red (placed a unit ticks pattern) 1 ≡ pos 0
-  first_red = refl
-
   pub next_red : (i : ℕ) → 2 ≤ i → i ≤ count a → common_red (placed a unit ticks pattern) i ≡ pos (red_of a unit ticks pattern i)
   next_red i h k =
       let f = red_of a unit ticks pattern in

@@ -66,10 +66,6 @@ get_or-values x z [] j h = absurd (omega arith)
 get_or-values x z (v ∷ vs) zero h = refl
 get_or-values x z (v ∷ vs) (suc j) h = get_or-values x z vs j (omega arith)
 
-pub get_or-values_last : (x : ℕ → ℚ) (z : ℚ) (vs : List ℕ) → get_or (values x z vs) (length vs) (whole (pos 0)) ≡ neg_ℚ z
-get_or-values_last x z [] = refl
-get_or-values_last x z (v ∷ vs) = get_or-values_last x z vs
-
 -- ---- cells
 pub length-scale : (k : ℚ) (c : List ℚ) → length (scale k c) ≡ length c
 length-scale k [] = refl

@@ -1,13 +1,10 @@
 -- Lemmas on the definitions of `Work`.
-use Rattle.std.proofs.Common.{◌≡◌, ℕ, true, false, true≢false, Option, Some, None, eqb, ◌+◌, ◌<◌, ◌≤◌, ◌^◌, sym, ◌∙◌, ap, arith}
-use Rattle.std.proofs.lemmas.Bool.{eqb-true, eq-eqb}
+use Rattle.std.proofs.Common.{◌≡◌, ℕ, false, true≢false, Option, Some, None, eqb, ◌+◌, ◌<◌, ◌≤◌, ◌^◌, sym, ◌∙◌, ap, arith}
+use Rattle.std.proofs.lemmas.Bool.{eq-eqb}
 use Rattle.work_meter.specs.declared.meter.Meter.{Meter}
 use Rattle.work_meter.specs.Work.{capped, metered, IsBelow, IsWithin, is_at_limit}
 
 -- ---- what the test says
-pub at_limit : (n : ℕ) (limit : Option ℕ) → is_at_limit n limit ≡ true → limit ≡ Some n
-at_limit n None e = absurd (true≢false (sym e))
-at_limit n (Some most) e = ap Some (sym (eqb-true n most e))
 
 different : (n most : ℕ) → eqb n most ≡ false → n ≡ most → ⊥
 different n most e q = true≢false (sym (eq-eqb n most q) ∙ e)
