@@ -74,8 +74,8 @@ pub trait Place {
         ensures writable { result ≡ true → (f : Facts) → IsFound self.now f → is_regular f ≡ true → MayGiveWay self.now }
         ensures not { result ≡ false → MayWriteOver self.now };
 
-    /// Makes an empty file of this name and mode.
-    fn make(&self, path: String, mode: Option<u32>) -> io::Result<Self::New>
+    /// Makes an empty file of this name, with these permissions.
+    fn make(&self, path: String, mode: u32) -> io::Result<Self::New>
         ensures empty { IfOk result (λ new. Holds new []) }
         ensures alike { IfOk result (λ new. IsAbsent self.now → IsAlike self.now new) }
         ensures refused { IfErr result (λ e. is_want_of_room (error_kind e) ≡ false → MayWriteOver self.now) };

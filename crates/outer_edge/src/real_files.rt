@@ -16,6 +16,9 @@ use std::rt;
 /// The files of the system. It tells no contents, and gives one count of failed reads and one of
 /// failed puts as the count of every name.
 ///
+/// A file that is read stays open up to its end, to its next put or to a read of another place or file. So a long one is
+/// opened once, and read on as it was opened where another program replaces it meanwhile.
+///
 /// A put writes a new file in the same folder, and gives it the name when all of it is stored. So a put that fails, as on
 /// a full disk, leaves what stood there, and the new file is removed. Until then it is named as the file, with `.new1` at
 /// the end, or with the next number up to 100 where there are such files; a program that is killed in the midst of a put

@@ -15,6 +15,9 @@ const GREATEST_NUMBER: u32 = 100;
 /// The bits of a file's mode with which one is made.
 const PERMISSIONS: u32 = 0o777;
 
+/// The permissions of a file where there was none, from which the system takes those that the user's mask names.
+const USUAL: u32 = 0o666;
+
 /// Why a file was not replaced. It is as before, and the new one is gone.
 #[derive(Clone, Copy, Debug, PartialEq, Eq)]
 pub enum Unreplaced {
@@ -63,7 +66,7 @@ fn new_beside<P: Place>(place: &P, alloc: Global, old: Option<Facts>) -> Result<
     ensures alike { IfOk result (λ new. P.IsAbsent place.now → P.IsAlike place.now new) }
     ensures unfit { IsErrOf result Unreplaced.Unfit → P.MayWriteOver place.now }
 {
-    let mode = old.map(|old| old.mode & PERMISSIONS);
+    let mode = old.map_or(USUAL, |old| old.mode & PERMISSIONS);
     'numbers: for number in 1..=GREATEST_NUMBER {
         let Ok(path) = format!(in alloc; "{}.new{number}", place.name()) else {
             return Err(Unreplaced::Memory);

@@ -111,9 +111,9 @@ impl<R: rt::Files> Place for SystemPlace<'_, R> {
         how.write(true).open(self.rt, self.name()).is_ok()
     }
 
-    fn make(&self, path: String, mode: Option<u32>) -> io::Result<NewFile<R::File>> {
+    fn make(&self, path: String, mode: u32) -> io::Result<NewFile<R::File>> {
         let mut how = OpenOptions::new();
-        how.write(true).create_new(true).mode(mode.unwrap_or(0o666));
+        how.write(true).create_new(true).mode(mode);
         let file = how.open(self.rt, path.as_str())?;
         Ok(NewFile { file, path })
     }
