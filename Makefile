@@ -1,5 +1,5 @@
-# make                 builds the program: every function is proved first, JOBS crates at a time
-# make try             runs README's example with nothing proved, in about a minute; STREET=FILE tries another street
+# make                 builds the program: every function of it is proved first, on JOBS processors
+# make try             runs README's example with nothing proved, in about a minute; STREET=FILE tries another street, of any name
 # make example         builds the program and finds the best timing of a shipped street
 # make test            proves everything and runs every test
 # make check-examples  solves each shipped street, compares what is printed with its report, and checks its certificate
@@ -7,7 +7,9 @@
 # make install         puts the program and its manual page under PREFIX (/usr/local)
 PREFIX ?= /usr/local
 STREET ?= examples/broadway.toml
-# As many crates as there are processors; a proof takes 1 to 4 GB of memory, so give fewer where memory is short.
+# Recipes read the name from the environment, since it may have blanks, quotes and dollars in it.
+export STREET_FILE := $(value STREET)
+# As many proofs at a time as there are processors; one takes 1 to 4 GB of memory, so give fewer where memory is short.
 JOBS ?= $(shell nproc 2>/dev/null || echo 1)
 PROGRAM = crates/maxband/out/maxband
 FRACTIONS = crates/fraction_bench/out/fraction_bench
@@ -16,18 +18,18 @@ SOURCES := crates.txt $(shell find crates \( -name out -o -name must-fail \) -pr
 
 all: $(PROGRAM)
 
-# The crates are proved side by side, each once those below it are. Then the program is linked by running it: with no words it
-# answers that it doesn't understand them.
-$(PROGRAM): $(SOURCES)
-	rm -f $@
-	rt all check --jobs $(JOBS)
-	cd crates/maxband && { rt run -- >/dev/null || true; }
-	test -x $@
+# A program that is there was built of proved crates, so one whose crates have changed since goes where they aren't proved.
+PROVE = scripts/prove --jobs $(JOBS) $(notdir $@) && touch $@ || { rm -f $@; exit 1; }
 
-# The status of the program is 1 or 2 where there is no timing or the answer is open; 127 is that of no rt.
+$(PROGRAM): $(SOURCES)
+	@$(PROVE)
+
+# The status of the program is 1 or 2 where there is no timing or the answer is open. The street is named from the top.
 try:
-	@cd crates/maxband && { rt try --data street.toml='$(abspath $(STREET))' -- solve street.toml certificate.txt || test $$? -ne 127; }
-	@echo 'nothing was proved: `make` builds the proved program'
+	@test -f "$$STREET_FILE" || { printf 'there is no street %s\n' "$$STREET_FILE" >&2; exit 1; }
+	@case $$STREET_FILE in /*) file=$$STREET_FILE ;; *) file=$$PWD/$$STREET_FILE ;; esac; cd crates/maxband; \
+		rt try --data "street.toml=$$file" -- solve street.toml certificate.txt || test $$? -le 2
+	@echo 'nothing was proved and no certificate is kept: `make` builds the proved program, whose `solve` puts one'
 
 example: $(PROGRAM)
 	$(PROGRAM) solve examples/broadway.toml broadway-certificate.txt
@@ -41,15 +43,8 @@ check-examples: $(PROGRAM)
 bench: $(PROGRAM) $(FRACTIONS) $(PIVOTS)
 	scripts/bench
 
-$(FRACTIONS): $(SOURCES)
-	rm -f $@
-	cd crates/fraction_bench && rt run >/dev/null
-	test -x $@
-
-$(PIVOTS): $(SOURCES)
-	rm -f $@
-	cd crates/pivot_bench && rt run -- 4 1 >/dev/null
-	test -x $@
+$(FRACTIONS) $(PIVOTS): $(SOURCES)
+	@$(PROVE)
 
 install: $(PROGRAM)
 	install -D -m 755 $(PROGRAM) $(DESTDIR)$(PREFIX)/bin/maxband

@@ -82,7 +82,9 @@ fn multiples(alloc: Global, numbers: &[u128], by: u128) -> Result<Vec<u128>, Mem
     requires by { by ≤ 7200 }
     ensures { IfOk result (λ made. made.items ≡ map (λ n. n * by) numbers.now) }
 {
-    Ok(numbers.iter().map(|number| *number * by).collect(alloc)?)
+    let mut made = Vec::with_capacity(alloc, numbers.len())?;
+    made.extend(numbers.iter().map(|number| *number * by))?;
+    Ok(made)
 }
 
 /// The starts of the reds, in ticks of the plan.
@@ -91,12 +93,9 @@ fn reds(alloc: Global, offsets: &[u64], grid: u128) -> Result<Vec<u128>, Memory>
     requires grid { grid < 2 ^ 93 }
     ensures { IfOk result (λ made. made.items ≡ map (λ offset. offset * grid) offsets.now) }
 {
-    Ok(
-        offsets
-            .iter()
-            .map(|offset| u128::from(*offset) * grid)
-            .collect(alloc)?,
-    )
+    let mut made = Vec::with_capacity(alloc, offsets.len())?;
+    made.extend(offsets.iter().map(|offset| u128::from(*offset) * grid))?;
+    Ok(made)
 }
 
 fn patterns(alloc: Global, timing: &Timing) -> Result<Vec<u32>, Memory>

@@ -105,10 +105,9 @@ fn draw_distances(alloc: Global, draws: &mut Draws, count: u32) -> Result<Vec<u3
 fn links_of(alloc: Global, distances: &[u32]) -> Result<Vec<Link>, AllocError>
     ensures { IfOk result (λ v. v.items ≡ map link_with distances.now) }
 {
-    distances
-        .iter()
-        .map(|distance| link_of(*distance))
-        .collect(alloc)
+    let mut links = Vec::with_capacity(alloc, distances.len())?;
+    links.extend(distances.iter().map(|distance| link_of(*distance)))?;
+    Ok(links)
 }
 
 /// The signals, and then the links.
