@@ -3,3 +3,5 @@
 
 #[cfg(test)]
 mod branch_and_bound_tests;
+#[cfg(test)]
+mod program_builder_tests;

@@ -4,6 +4,8 @@
 #[cfg(test)]
 mod certificate_checker_tests;
 #[cfg(test)]
+mod link_proof_tests;
+#[cfg(test)]
 mod loop_rows_tests;
 #[cfg(test)]
 mod offset_recovery_tests;

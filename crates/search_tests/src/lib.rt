@@ -4,6 +4,8 @@
 #[cfg(test)]
 mod branch_tree_tests;
 #[cfg(test)]
+mod cycle_sweep_tests;
+#[cfg(test)]
 mod diagram_print_tests;
 #[cfg(test)]
 mod multi_band_tests;

@@ -6,8 +6,8 @@ ghost use Rattle.simplex_theory.specs.DualSteps.{IsDual};
 ghost use Rattle.program_builder.specs.Building.{IsMadeFor};
 ghost use Rattle.program_builder.specs.Entry.{IsBasisOf};
 
-use crate::tests::{artery, fraction, is_same, root, solved};
-use crate::{enter, start};
+use super::tests::{artery, fraction, is_same, root, solved};
+use program_builder::{enter, start};
 use artery_model::{Artery, Pair};
 use dual_simplex::{Meter, NodeEnd, solve_node};
 use fraction_tableau::Tableau;
