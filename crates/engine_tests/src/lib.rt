@@ -1,4 +1,4 @@
-//! Tests of the engines: `branch_and_bound`, through what is public of it.
+//! Tests of the engines and of what they begin from: `branch_and_bound` and `program_builder`, through what is public of them.
 #![tactic(auto)]
 
 #[cfg(test)]

@@ -1,4 +1,5 @@
-//! Tests of rows, and of what is shown by them: `loop_rows`, `offset_recovery` and `certificate_checker`, through what is public of them.
+//! Tests of rows, and of what is shown by them: `loop_rows`, `offset_recovery`, `certificate_checker` and `link_proof`, through what is
+//! public of them.
 #![tactic(auto)]
 
 #[cfg(test)]

@@ -7,13 +7,13 @@ ghost use Rattle.program_builder.specs.Building.{IsMadeFor};
 ghost use Rattle.program_builder.specs.Entry.{IsBasisOf};
 
 use super::tests::{artery, fraction, is_same, root, solved};
-use program_builder::{enter, start};
 use artery_model::{Artery, Pair};
 use dual_simplex::{Meter, NodeEnd, solve_node};
 use fraction_tableau::Tableau;
 use loop_rows::column_count;
 use named_row::Row;
 use narrow_fraction::Frac;
+use program_builder::{enter, start};
 use sample_streets::{SampleHead, SampleLink, plain_head, plain_signal, sample_street};
 use search_box::{At, SearchBox};
 use std::alloc::Global;
