@@ -11,8 +11,6 @@ mod laws;
 mod row;
 mod sweep;
 mod table;
-#[cfg(test)]
-mod tests;
 mod words;
 
 pub use cycle::is_cycle;

@@ -1,5 +1,7 @@
-//! Tests of the engines: `branch_and_bound`, through what is public of it.
+//! Tests of the engines and of what they begin from: `branch_and_bound` and `program_builder`, through what is public of them.
 #![tactic(auto)]
 
 #[cfg(test)]
 mod branch_and_bound_tests;
+#[cfg(test)]
+mod program_builder_tests;

@@ -9,15 +9,11 @@
 #![tactic(auto)]
 
 mod certificate;
-#[cfg(test)]
-mod check_tests;
 mod checking;
 mod families;
 mod laws;
 mod reading;
 mod reject;
-#[cfg(test)]
-mod tests;
 mod timing_text;
 mod writing;
 

@@ -1,206 +1,79 @@
-//! Each table of cases in turn.
+//! Certificates about their greatest length, and a search that the usual limit of work ends.
 
-use crate::damage_cases::{
-    DAMAGES, FILE_CALLS, LINES, WRITES, is_cut, is_cut_by_a_byte, is_faulty, is_no_text, is_told,
-};
-use crate::fault_cases::FAULTS;
-use crate::length_cases::{LINE_FEEDS, PADDED, is_checked, is_read};
-use crate::made_cases::{CANONICAL, TRIALS, is_canonical, is_found};
-use crate::plan_cases::{HALVED, MEASURES, ROUNDED, is_as_planned};
-use crate::renew_cases::{RENEWALS, is_renewed};
-use crate::running::{first_wrong, first_wrong_report, first_wrong_search, is_answered};
-use crate::shipped::Shipped;
-use crate::sweep_cases::{COUNTS, SWEEPS, first_wrong_sweep, is_counted};
-use crate::word_cases::{NO_USAGES, are_no_usage};
-use crate::{check_cases, hold_cases, link_cases, shipped, solve_cases, width_streets};
+use crate::long_files::LongFiles;
+use crate::running::{answered, owned};
+use maxband_run::run;
+use narrow_fraction::Memory;
+use outer_edge::{SureFiles, SureSink};
+use std::alloc::Global;
 use std::test::Fail;
 
-#[test]
-fn timings_and_descriptions(rt: HostRuntime) -> Result<(), Fail> {
-    for number in 0..9 {
-        let table = hold_cases::table(number);
-        assert_eq!(rt; first_wrong(rt.alloc(), &table)?, "", "{}", table.name);
-    }
-    Ok(())
-}
+/// Two signals 25 seconds apart with a cycle of 100 seconds, half of it red. The block sum is 0 or 1, the shifts are 0, and
+/// no weighted band is above 1/2.
+const NEAR: &str = "[artery]
+units = \"metric\"
+parts = 100
+cycle = [\"100\", \"100\"]
+ratio = \"1\"
 
-#[test]
-fn a_description_that_is_no_text(rt: HostRuntime) -> Result<(), Fail> {
-    assert!(rt; is_no_text(rt.alloc())?);
-    Ok(())
-}
+[[signal]]
+name = \"A\"
+red = 50
 
-#[test]
-fn certificates(rt: HostRuntime) -> Result<(), Fail> {
-    for number in 0..12 {
-        let table = check_cases::table(number);
-        assert_eq!(rt; first_wrong(rt.alloc(), &table)?, "", "{}", table.name);
-    }
-    Ok(())
-}
+[[signal]]
+name = \"B\"
+red = 50
 
-#[test]
-fn certificates_of_links(rt: HostRuntime) -> Result<(), Fail> {
-    for number in 0..4 {
-        let table = link_cases::table(number);
-        assert_eq!(rt; first_wrong(rt.alloc(), &table)?, "", "{}", table.name);
-    }
-    Ok(())
-}
+[[link]]
+distance_out = 250
+distance_in = 250
+speed_out = [\"36\", \"36\"]
+speed_in = [\"36\", \"36\"]
+";
 
-#[test]
-fn searches_and_their_certificates(rt: HostRuntime) -> Result<(), Fail> {
-    for number in 0..9 {
-        let table = solve_cases::table(number);
-        assert_eq!(rt;
-            first_wrong_search(rt.alloc(), "solve", "check", &table)?,
-            "",
-            "{}",
-            table.name
-        );
-    }
-    Ok(())
-}
+/// Seven signals far apart, driven through at one pace: a search that is not done by the usual limit of work, which is 100000 units.
+const LONG_STREET: &str = "signal = [
+    { name = \"S1\", red = 87 },
+    { name = \"S2\", red = 90 },
+    { name = \"S3\", red = 85 },
+    { name = \"S4\", red = 88 },
+    { name = \"S5\", red = 95 },
+    { name = \"S6\", red = 89 },
+    { name = \"S7\", red = 89 },
+]
+link = [
+    { distance_out = 28140, distance_in = 28140, speed_out = [1, 100], speed_in = [1, 100], change_out = [0, 0], change_in = [0, 0] },
+    { distance_out = 21523, distance_in = 21523, speed_out = [1, 100], speed_in = [1, 100], change_out = [0, 0], change_in = [0, 0] },
+    { distance_out = 23421, distance_in = 23421, speed_out = [1, 100], speed_in = [1, 100], change_out = [0, 0], change_in = [0, 0] },
+    { distance_out = 21965, distance_in = 21965, speed_out = [1, 100], speed_in = [1, 100], change_out = [0, 0], change_in = [0, 0] },
+    { distance_out = 21625, distance_in = 21625, speed_out = [1, 100], speed_in = [1, 100], change_out = [0, 0], change_in = [0, 0] },
+    { distance_out = 26345, distance_in = 26345, speed_out = [1, 100], speed_in = [1, 100] },
+]
 
-#[test]
-fn searches_of_links_and_their_certificates(rt: HostRuntime) -> Result<(), Fail> {
-    for number in 0..3 {
-        let table = link_cases::search_table(number);
-        assert_eq!(rt;
-            first_wrong_search(rt.alloc(), "links", "check-links", &table)?,
-            "",
-            "{}",
-            table.name
-        );
-    }
-    Ok(())
-}
+[artery]
+units = \"metric\"
+parts = 100
+cycle = [5, 5]
+ratio = 1
+";
 
-#[test]
-fn usual_limit_of_work(rt: HostRuntime) -> Result<(), Fail> {
-    assert_eq!(rt;
-        first_wrong_search(rt.alloc(), "solve", "check", &solve_cases::USUAL_LIMIT)?,
-        ""
-    );
-    Ok(())
-}
+/// How many line feeds a certificate has, the number of the status of `check`, and what it writes.
+static LINE_FEEDS: [(u64, u8, &str); 3] = [
+    (268_435_456, 3, "refused BadText line 1 Shape\n"),
+    (268_435_457, 9, "too long long.txt\n"),
+    // A file without an end.
+    (u64::MAX, 9, "too long long.txt\n"),
+];
 
-/// The streets whose whole reports are known, in five lists.
-fn streets(number: u32) -> &'static [Shipped] {
-    match number {
-        0 => &shipped::FIRST,
-        1 => &shipped::SECOND,
-        2 => &shipped::THIRD,
-        3 => &width_streets::STREETS,
-        _ => &solve_cases::WHOLE_REPORT,
-    }
-}
-
-#[test]
-fn whole_reports(rt: HostRuntime) -> Result<(), Fail> {
-    for number in 0..5 {
-        assert_eq!(rt; first_wrong_report(rt.alloc(), streets(number))?, "");
-    }
-    Ok(())
-}
-
-#[test]
-fn words_of_no_usage(rt: HostRuntime) -> Result<(), Fail> {
-    for (index, words) in NO_USAGES.iter().enumerate() {
-        assert!(rt; are_no_usage(rt.alloc(), words)?, "words {index}");
-    }
-    Ok(())
-}
-
-#[test]
-fn calls_that_fail(rt: HostRuntime) -> Result<(), Fail> {
-    for fault in &FAULTS {
-        assert!(rt; is_answered(rt.alloc(), fault)?, "{}", fault.name);
-    }
-    Ok(())
-}
-
-#[test]
-fn canonical_descriptions(rt: HostRuntime) -> Result<(), Fail> {
-    for case in &CANONICAL {
-        assert!(rt; is_canonical(rt.alloc(), case)?, "{}", case.name);
-    }
-    Ok(())
-}
-
-#[test]
-fn what_trials_find(rt: HostRuntime) -> Result<(), Fail> {
-    for trial in &TRIALS {
-        assert!(rt;
-            is_found(rt.alloc(), trial)?,
-            "{} {} {}",
-            trial.0,
-            trial.1,
-            trial.2
-        );
-    }
-    Ok(())
-}
-
-#[test]
-fn certificates_that_are_cut(rt: HostRuntime) -> Result<(), Fail> {
-    for lines in 0..LINES {
-        assert!(rt; is_cut(rt.alloc(), lines)?, "after line {lines}");
-    }
-    assert!(rt; is_cut_by_a_byte(rt.alloc())?);
-    Ok(())
-}
-
-#[test]
-fn certificates_that_are_damaged(rt: HostRuntime) -> Result<(), Fail> {
-    for damage in &DAMAGES {
-        assert!(rt; is_told(rt.alloc(), damage)?, "{}", damage.0);
-    }
-    Ok(())
-}
-
-#[test]
-fn each_single_call_that_fails(rt: HostRuntime) -> Result<(), Fail> {
-    for call in 0..FILE_CALLS + 1 {
-        assert!(rt; is_faulty(rt.alloc(), call, 0)?, "file call {call}");
-    }
-    for write in 1..WRITES + 1 {
-        assert!(rt; is_faulty(rt.alloc(), 0, write)?, "write {write}");
-    }
-    Ok(())
-}
-
-#[test]
-fn certificates_that_are_renewed(rt: HostRuntime) -> Result<(), Fail> {
-    for renewal in &RENEWALS {
-        assert!(rt; is_renewed(rt.alloc(), renewal)?, "{}", renewal.name);
-    }
-    Ok(())
-}
-
-#[test]
-fn sweeps_and_their_tables(rt: HostRuntime) -> Result<(), Fail> {
-    assert_eq!(rt; first_wrong_sweep(rt.alloc(), &SWEEPS)?, "");
-    Ok(())
-}
-
-#[test]
-fn how_many_cycles_a_sweep_takes(rt: HostRuntime) -> Result<(), Fail> {
-    for (cycles, number, written) in &COUNTS {
-        assert!(rt;
-            is_counted(rt.alloc(), *cycles, *number, *written)?,
-            "{cycles}"
-        );
-    }
-    Ok(())
-}
-
-#[test]
-fn texts_about_their_greatest_length(rt: HostRuntime) -> Result<(), Fail> {
-    for padded in &PADDED {
-        assert!(rt; is_read(rt.alloc(), padded)?, "{}", padded.name);
-    }
-    Ok(())
+/// Whether `check` comes to this number and writes this of a certificate of so many line feeds.
+fn is_checked(alloc: Global, length: u64, number: u8, written: &str) -> Result<bool, Memory> {
+    let mut told = SureFiles::new(alloc);
+    told.add("near.toml", NEAR.as_bytes())?;
+    let mut files = LongFiles { told, length };
+    let mut out = SureSink::new(alloc);
+    let words = owned(alloc, &["check", "near.toml", "long.txt"])?;
+    let status = run(alloc, words.as_slice(), &mut files, &mut out);
+    Ok(status.number == number && out.bytes() == written.as_bytes())
 }
 
 #[test]
@@ -215,25 +88,19 @@ fn certificates_about_their_greatest_length(rt: HostRuntime) -> Result<(), Fail>
 }
 
 #[test]
-fn measures_of_plans(rt: HostRuntime) -> Result<(), Fail> {
-    for case in &MEASURES {
-        assert!(rt; is_as_planned(rt.alloc(), case)?, "{}", case.name);
-    }
-    Ok(())
-}
-
-#[test]
-fn plans_in_whole_seconds(rt: HostRuntime) -> Result<(), Fail> {
-    for case in &ROUNDED {
-        assert!(rt; is_as_planned(rt.alloc(), case)?, "{}", case.name);
-    }
-    Ok(())
-}
-
-#[test]
-fn half_cycle_plans(rt: HostRuntime) -> Result<(), Fail> {
-    for case in &HALVED {
-        assert!(rt; is_as_planned(rt.alloc(), case)?, "{}", case.name);
-    }
+fn usual_limit_of_work(rt: HostRuntime) -> Result<(), Fail> {
+    let mut files = SureFiles::new(rt.alloc());
+    files.add("a.toml", LONG_STREET.as_bytes())?;
+    let got = answered(rt.alloc(), &["solve", "a.toml", "c.txt"], &mut files)?;
+    assert_eq!(rt; got.number, 2);
+    assert!(rt;
+        got.out
+            .bytes()
+            .starts_with(b"verdict open\nstopped work 100000\n")
+    );
+    let put = files.bytes("c.txt").unwrap_or(&[]);
+    assert!(rt; put.starts_with(b"maxband-certificate 2\nverdict open\n"));
+    let told = answered(rt.alloc(), &["check", "a.toml", "c.txt"], &mut files)?;
+    assert!(rt; told.out.bytes().starts_with(b"accepted open bound "));
     Ok(())
 }

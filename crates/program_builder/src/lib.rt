@@ -18,14 +18,10 @@ mod building;
 mod choosing;
 mod counting;
 mod entering;
-#[cfg(test)]
-mod entry_tests;
 pub mod laws;
 mod loading;
 mod pivots;
 mod table;
-#[cfg(test)]
-mod tests;
 mod turning;
 
 pub use building::{reset, start};

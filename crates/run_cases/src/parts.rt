@@ -2,11 +2,11 @@
 
 use std::alloc::{AllocError, Global};
 
-/// A line that says what to do, with its number, and the rows below it, each with its line feed.
+/// A line that says what to do, with its number, and the bytes of the rows below it.
 #[derive(Drop)]
-pub struct Part<'a> {
+pub struct Part {
     pub number: usize,
-    pub head: &'a str,
+    pub head: String,
     pub rows: Vec<u8>,
 }
 
@@ -30,14 +30,28 @@ fn line_of(line: &str) -> Line<'_> {
         return Line::OpenRow(row);
     }
     match line.split_once('|') {
-        Some(("", row)) => Line::Row(row),
-        Some((head, row)) => Line::HeadWithRow(head, row),
+        Some((head, row)) => {
+            if head.is_empty() {
+                Line::Row(row)
+            } else {
+                Line::HeadWithRow(head, row)
+            }
+        }
         None => Line::Head(line),
     }
 }
 
-/// Adds a row to the last part.
-fn add_row(parts: &mut Vec<Part<'_>>, row: &str, end: &str) -> Result<(), AllocError> {
+/// A part without rows.
+fn part_of(alloc: Global, number: usize, head: &str) -> Result<Part, AllocError> {
+    Ok(Part {
+        number,
+        head: String::from_str(alloc, head)?,
+        rows: Vec::new(alloc),
+    })
+}
+
+/// Adds a row with its end to the last part.
+fn add_row(parts: &mut Vec<Part>, row: &str, end: &str) -> Result<(), AllocError> {
     if let Some(part) = parts.last_mut() {
         part.rows.extend_from_slice(row.as_bytes())?;
         part.rows.extend_from_slice(end.as_bytes())?;
@@ -46,16 +60,15 @@ fn add_row(parts: &mut Vec<Part<'_>>, row: &str, end: &str) -> Result<(), AllocE
 }
 
 /// The parts of a file of cases. Rows before the first head are of none.
-pub fn parts_of<'a>(alloc: Global, text: &'a str) -> Result<Vec<Part<'a>>, AllocError> {
+pub fn parts_of(alloc: Global, text: &str) -> Result<Vec<Part>, AllocError> {
     let mut parts = Vec::new(alloc);
     for (index, line) in text.lines().enumerate() {
         let number = index.saturating_add(1);
-        let rows = Vec::new(alloc);
         match line_of(line) {
             Line::Note => {}
-            Line::Head(head) => parts.push(Part { number, head, rows })?,
+            Line::Head(head) => parts.push(part_of(alloc, number, head)?)?,
             Line::HeadWithRow(head, row) => {
-                parts.push(Part { number, head, rows })?;
+                parts.push(part_of(alloc, number, head)?)?;
                 add_row(&mut parts, row, "\n")?;
             }
             Line::Row(row) => add_row(&mut parts, row, "\n")?,

@@ -7,11 +7,11 @@ use narrow_fraction::Memory;
 use std::alloc::Global;
 use std::io;
 
-/// A text with a name.
-#[derive(Clone, Copy)]
-struct Text<'a> {
-    name: &'a str,
-    bytes: &'a [u8],
+/// A name with bytes: a named text, or the head of a part with its rows.
+#[derive(Drop)]
+struct Named {
+    name: String,
+    bytes: Vec<u8>,
 }
 
 /// How a part ends.
@@ -40,14 +40,14 @@ const NOTHING: Tally = Tally {
 
 /// A play, up to some part of a file.
 #[derive(Drop)]
-pub struct Play<'a> {
+pub struct Play {
     alloc: Global,
-    texts: Vec<Text<'a>>,
+    texts: Vec<Named>,
     /// What each case of the table begins with.
-    table: Vec<&'a Part<'a>>,
+    table: Vec<Named>,
     is_in_table: bool,
     stage: Stage,
-    case: &'a str,
+    case: String,
     tally: Tally,
 }
 
@@ -55,92 +55,108 @@ fn done(is_done: bool) -> End {
     if is_done { End::Done } else { End::Unknown }
 }
 
-impl<'a> Play<'a> {
+fn with_name(alloc: Global, name: &str, bytes: &[u8]) -> Result<Named, Memory> {
+    Ok(Named {
+        name: String::from_str(alloc, name)?,
+        bytes: Vec::from_slice(alloc, bytes)?,
+    })
+}
+
+/// The text of a name, which is empty for no name, or nothing where there is none.
+fn text_of<'a>(texts: &'a [Named], name: &str) -> Option<&'a [u8]> {
+    if name.is_empty() {
+        return Some(&[]);
+    }
+    for text in texts {
+        if text.name.as_str() == name {
+            return Some(text.bytes.as_slice());
+        }
+    }
+    None
+}
+
+/// Lays something out on the stage. Whether that is done.
+fn lay_out(stage: &mut Stage, texts: &[Named], lay: Lay<'_>, rows: &[u8]) -> Result<bool, Memory> {
+    let name = match lay {
+        Lay::File { text, .. } => text,
+        _ => "",
+    };
+    match text_of(texts, name) {
+        Some(text) => stage.lay(lay, text, rows),
+        None => Ok(false),
+    }
+}
+
+/// Whether the stage is as expected, or nothing where something that is named isn't there.
+fn is_as_expected(
+    stage: &Stage,
+    texts: &[Named],
+    expected: Expected<'_>,
+    rows: &[u8],
+) -> Option<bool> {
+    let is = match expected {
+        Expected::Status(number) => stage.number()? == number,
+        Expected::Holds { name, text } => {
+            let text = text_of(texts, text)?;
+            stage.bytes(name)?.strip_prefix(text) == Some(rows)
+        }
+        Expected::Begins(name) => stage.bytes(name)?.starts_with(rows),
+        Expected::Ends(name) => stage.bytes(name)?.ends_with(rows),
+        Expected::Front { name, text, length } => {
+            let text = text_of(texts, text)?;
+            stage.bytes(name)? == text.get(..length)?
+        }
+        Expected::Same(name, other) => stage.bytes(name)? == stage.bytes(other)?,
+        Expected::Size { name, length } => stage.bytes(name)?.len() == length,
+        Expected::There(name) => stage.bytes(name).is_some(),
+        Expected::Absent(name) => stage.bytes(name).is_none(),
+    };
+    Some(is)
+}
+
+impl Play {
     /// No texts, and nothing on the stage.
-    pub fn new(alloc: Global) -> Play<'a> {
+    pub fn new(alloc: Global) -> Play {
         Play {
             alloc,
             texts: Vec::new(alloc),
             table: Vec::new(alloc),
             is_in_table: false,
             stage: Stage::new(alloc),
-            case: "",
+            case: String::new(alloc),
             tally: NOTHING,
         }
     }
 
-    /// The text of a name, which is empty for no name, or nothing where there is none.
-    fn text(&self, name: &str) -> Option<&'a [u8]> {
-        if name.is_empty() {
-            return Some(&[]);
-        }
-        for text in self.texts.iter() {
-            if text.name == name {
-                return Some(text.bytes);
-            }
-        }
-        None
-    }
-
-    fn lay(&mut self, lay: Lay<'_>, rows: &[u8]) -> Result<End, Memory> {
-        let name = match lay {
-            Lay::File { text, .. } => text,
-            _ => "",
-        };
-        match self.text(name) {
-            Some(text) => Ok(done(self.stage.lay(lay, text, rows)?)),
-            None => Ok(End::Unknown),
-        }
-    }
-
-    fn begin(&mut self, name: &'a str) -> Result<End, Memory> {
+    /// Begins a case, with what the table has.
+    fn begin(&mut self, name: &str) -> Result<End, Memory> {
         self.stage = Stage::new(self.alloc);
-        self.case = name;
+        self.case = String::from_str(self.alloc, name)?;
         self.tally.cases = self.tally.cases.saturating_add(1);
         self.is_in_table = false;
-        let table = Vec::from_slice(self.alloc, self.table.as_slice())?;
-        for part in table {
-            if let Some(Step::Lay(lay)) = step_of(part.head) {
-                let _ = self.lay(lay, part.rows.as_slice())?;
+        let mut all = true;
+        for part in self.table.iter() {
+            if let Some(Step::Lay(lay)) = step_of(part.name.as_str()) {
+                let texts = self.texts.as_slice();
+                all &= lay_out(&mut self.stage, texts, lay, part.bytes.as_slice())?;
             }
         }
-        Ok(End::Done)
-    }
-
-    fn is_as_expected(&self, expected: Expected<'_>, rows: &[u8]) -> Option<bool> {
-        let is = match expected {
-            Expected::Status(number) => self.stage.number()? == number,
-            Expected::Holds { name, text } => {
-                let text = self.text(text)?;
-                let bytes = self.stage.bytes(name)?;
-                bytes.strip_prefix(text) == Some(rows)
-            }
-            Expected::Begins(name) => self.stage.bytes(name)?.starts_with(rows),
-            Expected::Ends(name) => self.stage.bytes(name)?.ends_with(rows),
-            Expected::Front { name, text, length } => {
-                Some(self.stage.bytes(name)?) == self.text(text)?.get(..length)
-            }
-            Expected::Same(name, other) => self.stage.bytes(name)? == self.stage.bytes(other)?,
-            Expected::Size { name, length } => self.stage.bytes(name)?.len() == length,
-            Expected::There(name) => self.stage.bytes(name).is_some(),
-            Expected::Absent(name) => self.stage.bytes(name).is_none(),
-        };
-        Some(is)
+        Ok(done(all))
     }
 
     fn expect(&self, expected: Expected<'_>, rows: &[u8]) -> End {
-        match self.is_as_expected(expected, rows) {
+        match is_as_expected(&self.stage, self.texts.as_slice(), expected, rows) {
             Some(true) => End::AsExpected,
             Some(false) => End::Differs,
             None => End::Unknown,
         }
     }
 
-    fn play(&mut self, part: &'a Part<'a>) -> Result<End, Memory> {
+    fn play(&mut self, part: &Part) -> Result<End, Memory> {
         let rows = part.rows.as_slice();
-        match step_of(part.head) {
+        match step_of(part.head.as_str()) {
             Some(Step::Text(name)) => {
-                self.texts.push(Text { name, bytes: rows })?;
+                self.texts.push(with_name(self.alloc, name, rows)?)?;
                 Ok(End::Done)
             }
             Some(Step::Table) => {
@@ -150,10 +166,14 @@ impl<'a> Play<'a> {
             }
             Some(Step::Case(name)) => self.begin(name),
             Some(Step::Lay(_)) if self.is_in_table => {
-                self.table.push(part)?;
+                self.table
+                    .push(with_name(self.alloc, part.head.as_str(), rows)?)?;
                 Ok(End::Done)
             }
-            Some(Step::Lay(lay)) => self.lay(lay, rows),
+            Some(Step::Lay(lay)) => {
+                let texts = self.texts.as_slice();
+                Ok(done(lay_out(&mut self.stage, texts, lay, rows)?))
+            }
             Some(Step::Run(line)) => {
                 self.stage.run(line, rows)?;
                 Ok(End::Done)
@@ -163,55 +183,51 @@ impl<'a> Play<'a> {
             None => Ok(End::Unknown),
         }
     }
-}
 
-/// Says where a value differs or a part isn't understood.
-fn tell<R: Print>(rt: &R, file: &str, play: &Play<'_>, part: &Part<'_>) -> io::Result<()> {
-    let number = part.number;
-    let head = part.head;
-    let case = play.case;
-    println!(rt; "{file} line {number}: {case}: {head}")?;
-    let out = play.stage.bytes("out").unwrap_or(&[]);
-    let out = std::str::from_utf8(out).unwrap_or("");
-    println!(rt; "status {:?}, out\n{out}", play.stage.number())
-}
-
-/// Counts how a part ended, and tells where it wasn't as it should be.
-fn count<R: Print>(
-    rt: &R,
-    play: &mut Play<'_>,
-    file: &str,
-    part: &Part<'_>,
-    end: End,
-) -> io::Result<()> {
-    match end {
-        End::Done => Ok(()),
-        End::AsExpected => {
-            play.tally.as_expected = play.tally.as_expected.saturating_add(1);
-            Ok(())
-        }
-        End::Differs | End::Unknown => {
-            play.tally.differing = play.tally.differing.saturating_add(1);
-            tell(rt, file, play, part)
+    /// Counts how a part ended. Whether that is as it should be.
+    fn count(&mut self, end: End) -> bool {
+        match end {
+            End::Done => true,
+            End::AsExpected => {
+                self.tally.as_expected = self.tally.as_expected.saturating_add(1);
+                true
+            }
+            End::Differs | End::Unknown => {
+                self.tally.differing = self.tally.differing.saturating_add(1);
+                false
+            }
         }
     }
 }
 
+/// Says where a value differs or a part isn't understood.
+fn tell<R: Print>(rt: &R, file: &str, play: &Play, part: &Part) -> io::Result<()> {
+    let line = part.number;
+    let case = play.case.as_str();
+    let head = part.head.as_str();
+    println!(rt; "{file} line {line}: {case}: {head}")?;
+    let number = play.stage.number().unwrap_or(u8::MAX);
+    let out = play.stage.bytes("out").unwrap_or(&[]);
+    let out = std::str::from_utf8(out).unwrap_or("");
+    println!(rt; "status {number}, out\n{out}")
+}
+
 /// Plays the cases of a file. Whether all came as expected.
-pub fn play_file<'a, R: Print>(
+pub fn play_file<R: Print>(
     rt: &R,
-    play: &mut Play<'a>,
+    play: &mut Play,
     file: &str,
-    parts: &'a [Part<'a>],
+    parts: &[Part],
 ) -> io::Result<bool> {
+    play.table.clear();
     play.tally = NOTHING;
     for part in parts {
-        match play.play(part) {
-            Ok(end) => count(rt, play, file, part, end)?,
-            Err(Memory) => {
-                println!(rt; "{file}: out of memory")?;
-                return Ok(false);
-            }
+        let Ok(end) = play.play(part) else {
+            println!(rt; "{file}: out of memory")?;
+            return Ok(false);
+        };
+        if !play.count(end) {
+            tell(rt, file, play, part)?;
         }
     }
     let Tally {

@@ -1,8 +1,11 @@
-//! Tests of whole searches and their reports: `branch_tree`, `multi_band` and `diagram_print`, through what is public of them.
+//! Tests of whole searches and their reports: `branch_tree`, `multi_band`, `diagram_print` and `cycle_sweep`, through what is public of
+//! them.
 #![tactic(auto)]
 
 #[cfg(test)]
 mod branch_tree_tests;
+#[cfg(test)]
+mod cycle_sweep_tests;
 #[cfg(test)]
 mod diagram_print_tests;
 #[cfg(test)]

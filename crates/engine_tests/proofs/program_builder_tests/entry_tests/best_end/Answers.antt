@@ -8,7 +8,7 @@ use Rattle.entry_theory.specs.Basics.{basics_of}
 use Rattle.program_builder.specs.Entry.{IsBasisOf}
 use Rattle.program_builder.specs.First.{IsFirstFor}
 use Rattle.program_builder.proofs.First.{first_after, basis_of_first, made_first}
-use Rattle.program_builder.proofs.entry_tests.best_end.Goals as goal
+use Rattle.engine_tests.proofs.program_builder_tests.entry_tests.best_end.Goals as goal
 
 first_here : (a : Street) (box : Area) (s t : NamedTableau) (k : ℕ) → IsFirstFor a box s.table → t ≡ stepped s k → IsFirstFor a box t.table
 first_here a box s t k f e = subst (λ (u : NamedTableau). IsFirstFor a box u.table) (sym e) (first_after a box s.table k f)

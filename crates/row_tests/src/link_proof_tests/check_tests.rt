@@ -1,8 +1,8 @@
 //! Worked link certificates of two signals 500 metres apart, 100 parts and 100 seconds, half of the cycle red, driven in 50 seconds. Two ticks
 //! a part and a second: each band can be 100 ticks wide, half of the cycle, and no value is above 1.
 
-use crate::{LinkReject, link_check, read_links};
 use artery_model::Artery;
+use link_proof::{LinkReject, link_check, read_links};
 use link_space::LinkFailing;
 use named_row::{Place, RowId, WideAt};
 use narrow_fraction::{Frac, Op, Unfit, Wide};

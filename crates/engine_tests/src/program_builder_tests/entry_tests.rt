@@ -6,14 +6,14 @@ ghost use Rattle.simplex_theory.specs.DualSteps.{IsDual};
 ghost use Rattle.program_builder.specs.Building.{IsMadeFor};
 ghost use Rattle.program_builder.specs.Entry.{IsBasisOf};
 
-use crate::tests::{artery, fraction, is_same, root, solved};
-use crate::{enter, start};
+use super::tests::{artery, fraction, is_same, root, solved};
 use artery_model::{Artery, Pair};
 use dual_simplex::{Meter, NodeEnd, solve_node};
 use fraction_tableau::Tableau;
 use loop_rows::column_count;
 use named_row::Row;
 use narrow_fraction::Frac;
+use program_builder::{enter, start};
 use sample_streets::{SampleHead, SampleLink, plain_head, plain_signal, sample_street};
 use search_box::{At, SearchBox};
 use std::alloc::Global;

@@ -1,6 +1,6 @@
 //! Texts of link certificates, written and read again, and each kind of bad line.
 
-use super::*;
+use link_proof::*;
 use named_row::{Leaf, RowId};
 use narrow_fraction::Frac;
 use plan_text::{BadText, CertNode, Claim, TextEnd, TextFault};

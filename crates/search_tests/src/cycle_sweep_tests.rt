@@ -7,8 +7,8 @@ ghost use Rattle.artery_model.specs.Bounds.{least_cycle, most_cycle};
 ghost use Rattle.artery_model.specs.Valid.{IsQuantity};
 ghost use Rattle.work_meter.specs.Work.{IsBelow};
 
-use crate::{is_cycle, sweep_rows, sweep_table};
 use artery_model::Artery;
+use cycle_sweep::{is_cycle, sweep_rows, sweep_table};
 use narrow_fraction::Frac;
 use sample_streets::{SampleHead, plain_head, plain_link, plain_signal, range, sample_street};
 use std::alloc::Global;
