@@ -1,5 +1,5 @@
 -- The walk over a row's cells before a place, which are copied.
-use Rattle.std.proofs.Common.{◌≡◌, ℕ, pos, List, ◌++◌, length, get_or, set, take, ◌+◌, ◌<◌, ◌≤◌, refl, sym, ◌∙◌, ap, ap₂, arith}
+use Rattle.std.proofs.Common.{◌≡◌, ℕ, pos, List, ◌++◌, length, get_or, set, take, ◌+◌, ◌<◌, ◌≤◌, sym, ◌∙◌, ap, ap₂, arith}
 use Rattle.std.proofs.Math.ListN.{length-set}
 use Rattle.std.proofs.lemmas.List.{take_more_set}
 use Rattle.rational_theory.specs.Rational.{ℚ, whole}
@@ -15,9 +15,6 @@ pub record Keeping (f : ℕ → ℚ) (from place start : ℕ) (old now : List Ke
   pub fewer : made ≤ at
   pub kept : length now ≡ length old
   pub cells : (h : ℕ → ℚ) → ((m : ℕ) → from ≤ m → m < place → h m ≡ f m) → take start old ≡ kept_below h from → take made now ≡ kept_below h at
-
-pub keeping_none : (f : ℕ → ℚ) (from place start : ℕ) (old : List Kept) (i : ℕ) → from ≤ place → i ≡ length (kept_below f from) → start ≤ from → Keeping f from place start old old i start
-keeping_none f from place start old i a b c = record { at = from; after = omega arith; low = a; count = b; fewer = c; kept = refl; cells = λ h g e. e }
 
 pub keeping_room : (f : ℕ → ℚ) (from place start : ℕ) (old now : List Kept) (i made w : ℕ) (ks : List Kept) (k : Kept) → Keeping f from place start old now i made → place ≤ w → w ≡ length old → ks ≡ kept_below f w → k ≡ get_or ks i k → i < length ks → k.place < place
     → made < length now

@@ -77,14 +77,6 @@ zeros_skip f n (suc p) h z = pick (last_or_before n p h) (λ q. zeros_skip f n p
     pick (inl q) g = ap (kept_below f) (sym q)
     pick (inr q) g = ap (λ t. kept_below f p ++ t) (kept_zero p (f p) (z p q (omega arith))) ∙ append-nil (kept_below f p) ∙ g q
 
-pub kept_le : (f : ℕ → ℚ) (n : ℕ) → length (kept_below f n) ≤ n
-kept_le f zero = omega arith
-kept_le f (suc n) =
-    let a = kept_le f n in
-    let b = at_most_one n (f n) in
-    let c = length-append (kept_below f n) (kept_at n (f n)) in
-    omega arith
-
 pub kept_mono : (f : ℕ → ℚ) (n m : ℕ) → n ≤ m → length (kept_below f n) ≤ length (kept_below f m)
 kept_mono f n zero h = let e : n ≡ 0 = omega arith in rw e (omega arith)
 kept_mono f n (suc m) h = pick (last_or_before n m h) (λ q. kept_mono f n m q)
@@ -255,9 +247,6 @@ pub record Reached (f : ℕ → ℚ) (place i : ℕ) : Type 0 where
   pub at : ℕ
   pub low : at ≤ place
   pub count : i ≡ length (kept_below f at)
-
-pub reached_none : (f : ℕ → ℚ) (place : ℕ) → Reached f place 0
-reached_none f place = record { at = 0; low = omega arith; count = refl }
 
 pub reached_at : (f : ℕ → ℚ) (place i : ℕ) → i ≡ length (kept_below f place) → Reached f place i
 reached_at f place i e = record { at = place; low = omega arith; count = e }

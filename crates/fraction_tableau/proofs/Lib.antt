@@ -7,6 +7,5 @@ pub mod Pivots
 pub mod Filling
 pub mod Tableaus
 pub mod Named
-pub mod Narrow
 pub mod Refusals
 pub mod LoadingLaws

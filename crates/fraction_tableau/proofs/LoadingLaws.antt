@@ -5,21 +5,11 @@ use Rattle.std.proofs.lemmas.List.{length-replicate, get_or-set_same, get_or-set
 use Rattle.std.proofs.lemmas.List.FromFn.{length-range_with_len, get_or-range_with_len}
 use Rattle.std.proofs.lemmas.Bool.{cases_eq}
 use Rattle.rational_theory.specs.Rational.{whole}
-use Rattle.simplex_theory.specs.Tableau.{Tableau, height, width, basic_at}
-use Rattle.simplex_theory.specs.DualSteps.{IsPlaced}
+use Rattle.simplex_theory.specs.Tableau.{height, width, basic_at}
 use Rattle.named_row.specs.Sheets.{Sheet}
 use Rattle.named_row.specs.declared.names.RowId.{RowId}
 use Rattle.fraction_tableau.specs.NamedTableaus.{NamedTableau, blank_table, blank_tableau, row_cells, with_row, with_goal}
 use Rattle.fraction_tableau.specs.Loading.{IsUnpivoted}
-
-pub placed-unpivoted : (t : Tableau) → IsUnpivoted t → IsPlaced t
-placed-unpivoted t l = record {
-  rows = λ i k a b e. let f = l.slacks i a in let g = l.slacks k b in omega arith;
-  places = λ i k a b e. let f = l.columns i a in let g = l.columns k b in omega arith;
-  apart = λ i k a b e. absurd (let f = l.slacks i a in let g = l.columns k b in omega arith);
-  low_rows = λ i a. let f = l.slacks i a in omega arith;
-  low_places = λ k a. let f = l.columns k a in omega arith;
-}
 
 pub unpivoted-blank : (m w : ℕ) → IsUnpivoted (blank_tableau m w).table
 unfolding blank_table blank_tableau

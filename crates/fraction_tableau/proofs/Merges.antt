@@ -95,9 +95,6 @@ pub record Turning (i j : ℕ) (v : ℚ) (c : List ℚ) (w : ℕ) (now : List Ke
   pub passed : first_below (turn_at i j c) at ≡ None
   pub fits : (m : ℕ) → m < at → FitsFrac (turned_cell j v c m)
 
-pub turning_none : (i j : ℕ) (v : ℚ) (c : List ℚ) (now : List Kept) → Turning i j v c (length now) now 0 0
-turning_none i j v c now = record { at = 0; inside = omega arith; kept = refl; count = refl; fewer = omega arith; cells = refl; passed = refl; fits = λ m h. absurd (omega arith) }
-
 idle_number : (j : ℕ) (v : ℚ) (c : List ℚ) (m : ℕ) → number_in c m ≡ whole (pos 0) → (number_in c j ≡ whole (pos 0) → ⊥) → turned_cell j v c m ≡ whole (pos 0)
 idle_number j v c m z n =
     cond-false (eqb m j) v _ (ne_eqb m j (λ q. n (ap (number_in c) (sym q) ∙ z))) ∙ ap (λ t. t *ℚ inverse_ℚ (number_in c j)) z ∙ zero-*ℚ (inverse_ℚ (number_in c j))
@@ -163,9 +160,6 @@ turning_next i j v c w now new index made put k x o t n h q a b g u =
     pick : (m : ℕ) → (m ≡ k.place) ⊎ (m < k.place) → FitsFrac (turned_cell j v c m)
     pick m (inl r) = rw r (subst FitsFrac q u)
     pick m (inr r) = idle_fits j v c t.at k.place o t.fits n.zeros m r
-
-pub merged_none : (i j : ℕ) (v : ℚ) (e d : List ℚ) (cells : List Kept) → IsMerged i j v e d cells (record { below = 0; taken = 0; made = 0 })
-merged_none i j v e d cells = record { inside = omega arith; taken = refl; made = omega arith; merged = refl; passed = refl; fits = λ m h. absurd (omega arith) }
 
 -- ---- the bound, which comes last
 bound_below : {E : Type 0} (g : ℕ → Option E) (n w : ℕ) → n ≡ w + 1 → first_below g n ≡ earlier (first_below g w) (g w)

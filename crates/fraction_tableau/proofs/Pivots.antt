@@ -1,25 +1,13 @@
 -- The parts of a pivot put together.
-use Rattle.std.proofs.Common.{◌≡◌, ℕ, pos, Some, None, List, [], map, length, get_or, cond, eqb, ◌<◌, ◌⊎◌, inl, inr, sym, ◌∙◌, ap, ap₂, arith}
+use Rattle.std.proofs.Common.{◌≡◌, ℕ, pos, Some, None, List, [], map, length, get_or, ◌<◌, ◌⊎◌, inl, inr, sym, ◌∙◌, ap, ap₂, arith}
 use Rattle.std.proofs.Math.ListN.{set, length-set}
 use Rattle.std.proofs.lemmas.List.{ext_get_or, get_or-set_same, get_or-set_other, get_or-map, length-map}
-use Rattle.std.proofs.lemmas.Bool.{cases_eq, cond-true, eq-eqb}
+use Rattle.std.proofs.lemmas.Bool.{cases_eq}
 use Rattle.rational_theory.specs.Rational.{ℚ, whole}
 use Rattle.simplex_theory.specs.Lines.{turned, cleared}
 use Rattle.narrow_fraction.specs.Attempt.{earlier, first_below}
-use Rattle.narrow_fraction.proofs.Attempt.{first_same}
 use Rattle.fraction_tableau.specs.Refusals.{turn_refusal, clear_refusal, line_refusal, pivot_refusal, exchanged_rows}
 use Rattle.fraction_tableau.specs.declared.wide_cell.WideCell.{WideCell}
-
--- the other rows are refused at the same place, before and after the pivot's own row is turned
-line_kept : (r j : ℕ) (e : List ℚ) (p : ℚ) (rows : List (List ℚ)) (u : List ℚ) (i : ℕ) → line_refusal r j e p (set rows r u) i ≡ line_refusal r j e p rows i
-line_kept r j e p rows u i = pick (cases_eq i r)
-  where
-    pick : (i ≡ r) ⊎ (i ≡ r → ⊥) → line_refusal r j e p (set rows r u) i ≡ line_refusal r j e p rows i
-    pick (inl q) = cond-true (eqb i r) _ _ (eq-eqb i r q) ∙ sym (cond-true (eqb i r) _ _ (eq-eqb i r q))
-    pick (inr q) = ap (λ d. cond (eqb i r) None (clear_refusal i j e d p)) (get_or-set_other rows r i u [] q)
-
-pub lines_kept : (r j : ℕ) (e : List ℚ) (p : ℚ) (rows : List (List ℚ)) (u : List ℚ) (n : ℕ) → first_below (line_refusal r j e p (set rows r u)) n ≡ first_below (line_refusal r j e p rows) n
-lines_kept r j e p rows u n = first_same (line_refusal r j e p (set rows r u)) (line_refusal r j e p rows) n (λ k h. line_kept r j e p rows u k)
 
 pub pivot_first : (r j : ℕ) (rows : List (List ℚ)) (goal : List ℚ) (w : WideCell) → turn_refusal r j (get_or rows r []) ≡ Some w → pivot_refusal r j rows goal ≡ Some w
 unfolding pivot_refusal

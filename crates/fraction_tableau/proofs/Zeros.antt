@@ -1,5 +1,5 @@
 -- Operations with 0 are never refused, and change nothing.
-use Rattle.std.proofs.Common.{◌≡◌, ℕ, pos, zero, suc, Bool, true, false, cond, eqb, Option, None, List, [], length, get_or, ◌<◌, ◌⊎◌, inl, inr, refl, sym, ◌∙◌, ap, ap₂, subst}
+use Rattle.std.proofs.Common.{◌≡◌, ℕ, pos, zero, suc, eqb, Option, None, List, [], length, get_or, ◌<◌, ◌⊎◌, inl, inr, refl, sym, ◌∙◌, ap, ap₂, subst}
 use Rattle.std.proofs.lemmas.List.{ext_get_or}
 use Rattle.std.proofs.lemmas.Bool.{cases_eq, cond_both}
 use Rattle.rational_theory.specs.Rational.{ℚ, whole, neg_ℚ, inverse_ℚ, ◌+ℚ◌, ◌*ℚ◌}
@@ -27,13 +27,6 @@ zero_quotient y i k = refused_none Div (whole (pos 0)) y i k (subst FitsFrac (sy
 
 pub zero_difference : (x y : ℚ) (i k : ℕ) → FitsFrac x → y ≡ whole (pos 0) → refused Sub x y i k ≡ None
 zero_difference x y i k f e = refused_none Sub x y i k (subst (λ t. SumFits x t) (sym (ap neg_ℚ e ∙ negated_zero)) (sum_with_zero x f))
-
-same_less_zero : (x y : ℚ) → y ≡ whole (pos 0) → x ≡ x +ℚ neg_ℚ y
-same_less_zero x y e = sym (ap (λ t. x +ℚ neg_ℚ t) e ∙ ap (λ t. x +ℚ t) negated_zero ∙ +ℚ-zero x)
-
-either : {X : Type 0} (b : Bool) (x y : X) → x ≡ y → y ≡ cond b y x
-either true x y e = refl
-either false x y e = sym e
 
 -- ---- one place, where the product is 0
 pub zero_cell : (i j : ℕ) (f u : ℚ) (d : List ℚ) (k : ℕ) → IsNarrow d → f *ℚ u ≡ whole (pos 0) → clear_cell_refusal i j f u d k ≡ None
