@@ -22,16 +22,16 @@ none_some : (f : Fault) → Some f ≡ None → ⊥
 none_some f e = none-some f (sym e)
 
 -- every test passed
-abbrev AllNone : List (Option Fault) → Type 0
+abbrev pub AllNone : List (Option Fault) → Type 0
 AllNone [] = Unit {0}
 AllNone (f ∷ tests) = (f ≡ None) × AllNone tests
 
-each_none : (tests : List (Option Fault)) → first_fault tests ≡ None → AllNone tests
+pub each_none : (tests : List (Option Fault)) → first_fault tests ≡ None → AllNone tests
 each_none [] e = tt
 each_none (None ∷ tests) e = (refl, each_none tests e)
 each_none (Some f ∷ tests) e = absurd (none_some f e)
 
-passes_of : (b : Bool) (k : Kind) (p : List ℕ) → unless b k p ≡ None → b ≡ true
+pub passes_of : (b : Bool) (k : Kind) (p : List ℕ) → unless b k p ≡ None → b ≡ true
 passes_of true k p e = refl
 passes_of false k p e = absurd (none_some _ e)
 
@@ -60,7 +60,7 @@ high_of : (high : ℤ) (q : ℚ) → q ≤ℚ whole high → q.num ≤ℤ (high 
 unfolding whole
 high_of high q h = omega (arith, ints, h.cross)
 
-quantity_of : (low high : ℤ) (q : ℚ) → within (whole low) (whole high) q ≡ true → IsQuantity low high q
+pub quantity_of : (low high : ℤ) (q : ℚ) → within (whole low) (whole high) q ≡ true → IsQuantity low high q
 quantity_of low high q e =
     let p = both_of _ _ e in
     let r = both_of _ _ p.0 in

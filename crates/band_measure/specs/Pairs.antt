@@ -11,18 +11,7 @@ use Rattle.time_space.specs.Finer.{finer}
 
 -- the timing with an outbound and an inbound pair
 abbrev pub with_pairs : ℤ → ℕ → ℤ → ℕ → Plan → Plan
-with_pairs first_out band_out first_in band_in t = record {
-  grid = t.grid;
-  unit = t.unit;
-  patterns = t.patterns;
-  reds = t.reds;
-  run_out = t.run_out;
-  run_in = t.run_in;
-  first_out = first_out;
-  first_in = first_in;
-  band_out = band_out;
-  band_in = band_in;
-}
+with_pairs first_out band_out first_in band_in t = record t { first_out = first_out; first_in = first_in; band_out = band_out; band_in = band_in }
 
 -- the timing with one pair in both directions
 abbrev pub with_pair : ℤ → ℕ → Plan → Plan

@@ -36,24 +36,18 @@ Matches-at R i (n ∷ nodes) (o ∷ others) (suc index) other h e =
     record { node = m.node; at = m.at; is = subst (λ k. R k m.node other) j m.is }
 
 -- and back
-pub record HasOther {N M : Type 0} (R : ℕ → N → M → Type 0) (i : ℕ) (others : List M) (index : ℕ) (node : N) : Type 0 where
-  pub other : M
-  pub at : slice_get others index ≡ Some other
-  pub is : R (i + index) node other
+Matches-flip : {N M : Type 0} (R : ℕ → N → M → Type 0) (i : ℕ) (nodes : List N) (others : List M) → Matches R i nodes others → Matches (λ j other node. R j node other) i others nodes
+Matches-flip R i [] [] h = tt
+Matches-flip R i [] (o ∷ others) h = absurd h
+Matches-flip R i (n ∷ nodes) [] h = absurd h
+Matches-flip R i (n ∷ nodes) (o ∷ others) h = (h.0, Matches-flip R (suc i) nodes others h.1)
+
+abbrev pub HasOther : {N M : Type 0} → (ℕ → N → M → Type 0) → ℕ → List M → ℕ → N → Type 0
+HasOther R = HasMatch (λ j other node. R j node other)
 
 pub Matches-back : {N M : Type 0} (R : ℕ → N → M → Type 0) (i : ℕ) (nodes : List N) (others : List M) (index : ℕ) (node : N)
     → Matches R i nodes others → slice_get nodes index ≡ Some node → HasOther R i others index node
-Matches-back R i [] [] index node h e = cc
-Matches-back R i [] (o ∷ others) index node h e = absurd h
-Matches-back R i (n ∷ nodes) [] index node h e = absurd h
-Matches-back R i (n ∷ nodes) (o ∷ others) zero node h e =
-    let q : n ≡ node = cc in
-    let j : i ≡ i + 0 = omega arith in
-    record { other = o; at = refl; is = subst (λ k. R k node o) j (subst (λ x. R i x o) q h.0) }
-Matches-back R i (n ∷ nodes) (o ∷ others) (suc index) node h e =
-    let m = Matches-back R (suc i) nodes others index node h.1 e in
-    let j : suc i + index ≡ i + suc index = omega arith in
-    record { other = m.other; at = m.at; is = subst (λ k. R k node m.other) j m.is }
+Matches-back R i nodes others index node h e = Matches-at (λ j other this. R j this other) i others nodes index node (Matches-flip R i nodes others h) e
 
 module _ {N M : Type 0} (cut : N → Option At) (cut_other : M → Option At) (R : ℕ → N → M → Type 0) (same : (i : ℕ) (node : N) (other : M) → R i node other → cut_other other ≡ cut node) where
   -- what the nodes tell of their lines, the others tell too

@@ -205,7 +205,7 @@ stopped r nodes shown g (Waiting area leaf b p point kept) old new top spent par
     (λ i l n other s k. node_shown r old new top g.bound (Some g.index) bound_top i l n other s (k.0, λ q e. over_bound g (bound_of n) q e k.1))
     0 lines nodes shown m (Fills-each place_of (IsNode r old top) (λ n. IsOverBound (Some g) (bound_of n)) lines nodes over h.tree) in
     let back : HasOther (IsShown new (Some g.index)) 0 shown g.index node = Matches-back (IsShown new (Some g.index)) 0 nodes shown g.index node m at in
-    let again : WaitsAgain shown g.index = waits_again new g.index shown area leaf b p point kept back.other back.at back.is in
+    let again : WaitsAgain shown g.index = waits_again new g.index shown area leaf b p point kept back.node back.at back.is in
     let waiting : StillWaits r g.bound line again.leaf = there cut_of (IsTreeNode r old new g.bound) lines shown g.index (tree.Waiting again.leaf) nodes_are again.at in
     let stays : r.Refutes line.area again.leaf → ⊥ = r.not_refuted line again.leaf waiting.lineage (subst IsOptimal (sym end) tt) waiting.leaf_is in
     let leaves : Fills cut_of (IsNodeUnder r g.bound) lines shown = Fills-map cut_of (IsTreeNode r old new g.bound) (IsNodeUnder r g.bound) (leaf_under r old new g.bound old_under) lines shown nodes_are in

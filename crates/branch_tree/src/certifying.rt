@@ -18,8 +18,8 @@ use plan_text::{CertNode, Certificate, Claim};
 use std::alloc::Global;
 use time_space::{Timing, value};
 
-/// The timing's weighted band.
-fn value_of(artery: &Artery, timing: &Option<Timing>) -> Option<Frac>
+/// The weighted band of a timing, where there is one.
+pub fn value_of(artery: &Artery, timing: &Option<Timing>) -> Option<Frac>
     ensures { result ≡ certified.value_of artery.now timing.now }
 {
     match timing {

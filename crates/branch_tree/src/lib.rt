@@ -36,7 +36,7 @@ mod searching;
 mod site;
 mod starting;
 
-pub use certifying::{certificate_of, claim_by, nodes_of};
+pub use certifying::{certificate_of, claim_by, nodes_of, value_of};
 pub use checked::{Searched, search_and_check};
 pub use copying::copied;
 pub use found::{Found, Site, Stop, TreeNode, Verdict};

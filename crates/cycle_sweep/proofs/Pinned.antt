@@ -11,6 +11,7 @@ use Rattle.progression.specs.declared.parts.Link.{Link}
 use Rattle.artery_model.specs.Faults.{Fault, first_fault, unless, artery_place, Names, fault_of}
 use Rattle.artery_model.specs.Limits.{within, at_most, pair_ranges, head_ranges, range_tests, rule_tests, artery_fault}
 use Rattle.artery_model.specs.Valid.{IsQuantity, IsValid}
+use Rattle.artery_model.proofs.Validity.{AllNone, each_none}
 use Rattle.artery_model.specs.declared.kind.Kind.{Kind}
 use Rattle.artery_model.specs.declared.kind.Kind.TheVariants as kind
 use Rattle.artery_model.specs.declared.kind.Flaw.{Flaw}
@@ -20,16 +21,6 @@ use Rattle.cycle_sweep.specs.Rows.{head_at, at_cycle}
 use Rattle.cycle_sweep.proofs.Quantities.{order_is, quantity_is}
 
 -- ---- lists of tests
--- every test passed
-abbrev AllNone : List (Option Fault) → Type 0
-AllNone [] = Unit {0}
-AllNone (f ∷ tests) = (f ≡ None) × AllNone tests
-
-each_none : (tests : List (Option Fault)) → first_fault tests ≡ None → AllNone tests
-each_none [] e = tt
-each_none (None ∷ tests) e = (refl, each_none tests e)
-each_none (Some f ∷ tests) e = absurd (none-some f (sym e))
-
 none_of : (tests : List (Option Fault)) → AllNone tests → first_fault tests ≡ None
 none_of [] all = refl
 none_of (f ∷ tests) all = rw all.0 (none_of tests all.1)

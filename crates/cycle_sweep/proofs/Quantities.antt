@@ -1,11 +1,12 @@
 -- Quantities within whole numbers, and the test of them.
-use Rattle.std.proofs.Common.{◌≡◌, ℕ, ℤ, pos, ◌≤◌, ◌≤ℤ◌, ◌*ℤ◌, Bool, true, false, true≢false, ◌&&◌, nat_le, IsTrue, ◌↔◌, refl, sym, ◌∙◌, arith}
+use Rattle.std.proofs.Common.{◌≡◌, ℕ, ℤ, pos, ◌≤◌, ◌≤ℤ◌, ◌*ℤ◌, Bool, true, ◌&&◌, nat_le, IsTrue, ◌↔◌, refl, sym, ◌∙◌, arith}
 use Rattle.std.proofs.lemmas.Bool.Decides.{nat_tests}
 use Rattle.std.proofs.lemmas.Int.{ints}
 use Rattle.rational_theory.specs.Rational.{ℚ, whole, ◌≤ℚ◌}
-use Rattle.rational_theory.proofs.Compare.{le_says, le_true}
+use Rattle.rational_theory.proofs.Compare.{le_says}
 use Rattle.artery_model.specs.Limits.{within, at_most}
 use Rattle.artery_model.specs.Valid.{IsQuantity}
+use Rattle.artery_model.proofs.Validity.{quantity_of}
 
 -- ---- what makes the test true
 both : (b c : Bool) → b ≡ true → c ≡ true → (b && c) ≡ true
@@ -30,33 +31,5 @@ quantity_is low high q h =
     both _ _ (both _ _ (both _ _ (at_most_is _ _ h.num) (at_most_is _ _ h.den)) (order_is _ _ (low_is low q h.least))) (order_is _ _ (high_is high q h.most))
 
 -- ---- what the test says
-both_of : (a b : Bool) → (a && b) ≡ true → (a ≡ true) × (b ≡ true)
-both_of true true e = (refl, refl)
-both_of true false e = absurd (true≢false (sym e))
-both_of false b e = absurd (true≢false (sym e))
-
-at_most_of : (n m : ℕ) → nat_le n m ≡ true → n ≤ m
-at_most_of n m e = grind (arith, nat_tests)
-
-low_of : (low : ℤ) (q : ℚ) → whole low ≤ℚ q → (low *ℤ pos q.den) ≤ℤ q.num
-unfolding whole
-low_of low q h = omega (arith, ints, h.cross)
-
-high_of : (high : ℤ) (q : ℚ) → q ≤ℚ whole high → q.num ≤ℤ (high *ℤ pos q.den)
-unfolding whole
-high_of high q h = omega (arith, ints, h.cross)
-
-quantity_of : (low high : ℤ) (q : ℚ) → within (whole low) (whole high) q ≡ true → IsQuantity low high q
-quantity_of low high q e =
-    let p = both_of _ _ e in
-    let r = both_of _ _ p.0 in
-    let s = both_of _ _ r.0 in
-    record {
-      num = at_most_of _ _ s.0;
-      den = at_most_of _ _ s.1;
-      least = low_of low q (le_true (whole low) q (sym r.1));
-      most = high_of high q (le_true q (whole high) (sym p.1));
-    }
-
 pub quantity_says : (low high : ℤ) (q : ℚ) (b : Bool) → b ≡ within (whole low) (whole high) q → IsTrue b ↔ IsQuantity low high q
 quantity_says low high q b e = (λ t. quantity_of low high q (sym e ∙ t), λ h. e ∙ quantity_is low high q h)

@@ -8,9 +8,9 @@ ghost use Rattle.cycle_sweep.specs.Table.{fields, header_fields, outside_fields,
 ghost use Rattle.cycle_sweep.specs.Writers.{IsReady};
 
 use crate::row::SweepRow;
-use crate::words::{bound_of, cause_word, number_text, value_of, verdict_word};
+use crate::words::{bound_of, cause_word, number_text, verdict_word};
 use artery_model::Artery;
-use branch_tree::Found;
+use branch_tree::{Found, value_of};
 use csv::Writer;
 use narrow_fraction::{Frac, Memory};
 use quantity_text::exact_text;

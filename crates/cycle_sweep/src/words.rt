@@ -1,15 +1,12 @@
 //! The words and numbers of a record.
 
 ghost use Rattle.std.specs.Prelude.{◌≡◌, IfOk};
-ghost use Rattle.branch_tree.specs.Certified as certified;
 ghost use Rattle.cycle_sweep.specs.Table.{verdict_text, cause_text, number_text, bound_of, stop_text, dash};
 
-use artery_model::Artery;
 use branch_tree::{Stop, Verdict};
 use narrow_fraction::{Frac, Memory};
 use quantity_text::exact_text;
 use std::alloc::Global;
-use time_space::{Timing, value};
 
 /// The verdict's word.
 pub(crate) fn verdict_word(verdict: &Verdict) -> &'static str
@@ -39,16 +36,6 @@ pub(crate) fn cause_word(verdict: &Verdict) -> &'static str
         Verdict::Best => "-",
         Verdict::NoTiming => "-",
         Verdict::Stopped(stop) => stop_word(stop),
-    }
-}
-
-/// The timing's weighted band.
-pub(crate) fn value_of(artery: &Artery, timing: &Option<Timing>) -> Option<Frac>
-    ensures { result ≡ certified.value_of artery.now timing.now }
-{
-    match timing {
-        Some(timing) => Some(value(artery, timing)),
-        None => None,
     }
 }
 

@@ -93,6 +93,7 @@ struct Set {
 
 /// The generator's constants (Knuth's).
 const FACTOR: u64 = 6364136223846793005;
+
 const STEP: u64 = 1442695040888963407;
 
 /// The next state of a generator of numbers.

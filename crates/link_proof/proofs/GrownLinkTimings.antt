@@ -8,8 +8,7 @@ use Rattle.plan_text.specs.FirstBad.{lines_in}
 use Rattle.plan_text.proofs.Grown.{Grows, Reaches, grows_then, reaches_then, one_and, two_and}
 use Rattle.plan_text.proofs.GrownTimings.{ways_grow, ways_later, base_grows, base_later}
 use Rattle.plan_text.proofs.TimingLaws.{TimingLaws}
-use Rattle.link_theory.specs.LinkPlan.{LinkPlan}
-use Rattle.link_space.specs.LinkTiming.{with_halves}
+use Rattle.link_theory.specs.LinkPlan.{LinkPlan, with_halves}
 use Rattle.link_proof.specs.LinkTimingTexts.{half_out_key, half_in_key, link_plan_at, link_bands}
 use Rattle.link_proof.proofs.LinkTimings.{link_takes, link_again}
 

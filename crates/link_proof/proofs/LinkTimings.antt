@@ -7,8 +7,8 @@ use Rattle.plan_text.specs.Reading.{place_of, both_ways_at, base_at}
 use Rattle.plan_text.proofs.WordLines.{ended_and}
 use Rattle.plan_text.proofs.Fields.{bind_ok, moved, Suits}
 use Rattle.plan_text.proofs.Timings.{small_of, suits_small, banded_is_held, ways_take, ways_again, base_takes, base_fits, base_again}
-use Rattle.link_theory.specs.LinkPlan.{LinkPlan, lines}
-use Rattle.link_space.specs.LinkTiming.{AreHalves, IsLinkTiming, with_halves}
+use Rattle.link_theory.specs.LinkPlan.{LinkPlan, lines, with_halves}
+use Rattle.link_space.specs.LinkTiming.{AreHalves, IsLinkTiming}
 use Rattle.link_proof.specs.LinkTimingTexts.{half_out_key, half_in_key, link_lines, link_plan_at, IsHeldLinks}
 
 -- one half for each link

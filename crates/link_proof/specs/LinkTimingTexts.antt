@@ -5,8 +5,8 @@ use Rattle.plan_text.specs.Spelling.{spelled, base_lines, IsHeld}
 use Rattle.plan_text.specs.Lines.{◌>>=◌}
 use Rattle.plan_text.specs.Reading.{both_ways_at, base_at}
 use Rattle.plan_text.specs.TimingTexts.{TimingText}
-use Rattle.link_theory.specs.LinkPlan.{LinkPlan, lines}
-use Rattle.link_space.specs.LinkTiming.{AreHalves, with_halves}
+use Rattle.link_theory.specs.LinkPlan.{LinkPlan, lines, with_halves}
+use Rattle.link_space.specs.LinkTiming.{AreHalves}
 
 abbrev pub half_out_key : List ℕ
 half_out_key = codes "half_out"

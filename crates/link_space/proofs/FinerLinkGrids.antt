@@ -16,25 +16,13 @@ use Rattle.time_space.proofs.Multiples.{ratio_finer}
 use Rattle.time_space.proofs.FinerGrids.{get_or-scale, cycle_finer, red_start_finer, red_ticks_finer, crossing_finer, mul-le, below, red_bounds, base_both}
 use Rattle.link_theory.specs.LinkPlan.{LinkPlan, lines, half}
 use Rattle.link_theory.specs.GoodLinks.{GoodLinks, IsGreenAround}
+use Rattle.link_theory.proofs.Halves.{lines_of}
 use Rattle.link_space.specs.FinerLinks.{finer_links, FinerLinkGrids}
 
 module _ (a : Street) (t : LinkPlan) (m : ℕ) where
   -- its lines are the finer lines
   lines_finer : finer m (lines t) ≡ lines (finer_links m t)
-  lines_finer =
-      let none : 0 * m ≡ 0 = omega arith in
-      let fine = finer m (lines t) in λ i. record {
-        grid = fine.grid;
-        unit = fine.unit;
-        patterns = fine.patterns;
-        reds = fine.reds;
-        run_out = fine.run_out;
-        run_in = fine.run_in;
-        first_out = fine.first_out;
-        first_in = fine.first_in;
-        band_out = none i;
-        band_in = none i;
-      }
+  lines_finer = let none : 0 * m ≡ 0 = omega arith in lines_of (finer m (lines t)) (finer_links m t).half_out (finer_links m t).half_in none none
 
   half_finer : (d : Dir) (i : ℕ) → half (finer_links m t) d i ≡ half t d i * m
   half_finer Outbound i = get_or-scale t.half_out (i - 1) m

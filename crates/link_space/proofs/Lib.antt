@@ -1,4 +1,3 @@
-pub mod Halves
 pub mod Ends
 pub mod LinkFirsts
 pub mod LinkRulesOut

@@ -3,9 +3,8 @@ use Rattle.std.specs.Prelude.{ℕ, ◌*◌, ◌≤◌, map, ◌↔◌}
 use Rattle.progression.specs.Street.{Street}
 use Rattle.artery_model.specs.Valid.{IsValid}
 use Rattle.time_space.specs.Finer.{finer}
-use Rattle.link_theory.specs.LinkPlan.{LinkPlan, lines}
+use Rattle.link_theory.specs.LinkPlan.{LinkPlan, lines, with_halves}
 use Rattle.link_theory.specs.GoodLinks.{GoodLinks}
-use Rattle.link_space.specs.LinkTiming.{with_halves}
 
 -- on a grid that is m times as fine
 abbrev pub finer_links : ℕ → LinkPlan → LinkPlan

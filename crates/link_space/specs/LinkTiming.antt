@@ -3,7 +3,7 @@ use Rattle.std.specs.Prelude.{◌≡◌, ℕ, ◌+◌, ◌<◌, ◌≤◌, ◌^�
 use Rattle.progression.specs.Plan.{Plan}
 use Rattle.artery_model.specs.Bounds.{most_signals}
 use Rattle.time_space.specs.Timing.{IsTiming, plan_of}
-use Rattle.link_theory.specs.LinkPlan.{LinkPlan}
+use Rattle.link_theory.specs.LinkPlan.{LinkPlan, with_halves}
 
 -- so many halves as the timing has links, each of them small
 pub record AreHalves (patterns halves : List ℕ) : Type 0 where
@@ -14,21 +14,6 @@ pub record IsLinkTiming (grid unit : ℕ) (patterns reds run_out run_in : List �
   pub lines : IsTiming grid unit patterns reds run_out run_in first_out first_in 0 0
   pub outbound : AreHalves patterns half_out
   pub inbound : AreHalves patterns half_in
-
--- two lines, and the halves about them
-abbrev pub with_halves : Plan → List ℕ → List ℕ → LinkPlan
-with_halves t half_out half_in = record {
-  grid = t.grid;
-  unit = t.unit;
-  patterns = t.patterns;
-  reds = t.reds;
-  run_out = t.run_out;
-  run_in = t.run_in;
-  first_out = t.first_out;
-  first_in = t.first_in;
-  half_out = half_out;
-  half_in = half_in;
-}
 
 -- the link timing of these numbers
 abbrev pub link_plan_of : ℕ → ℕ → List ℕ → List ℕ → List ℕ → List ℕ → ℕ → ℕ → List ℕ → List ℕ → LinkPlan

@@ -20,8 +20,8 @@ pub struct LinkTiming {
 }
 
 impl Model for LinkTiming {
-    ghost use Rattle.link_theory.specs.LinkPlan.{LinkPlan};
-    ghost use Rattle.link_space.specs.LinkTiming.{IsLinked, with_halves};
+    ghost use Rattle.link_theory.specs.LinkPlan.{LinkPlan, with_halves};
+    ghost use Rattle.link_space.specs.LinkTiming.{IsLinked};
 
     ghost Value = { LinkPlan };
 
@@ -71,7 +71,7 @@ impl LinkTiming {
     }
 
     /// Its two lines, as a timing whose bands are lines.
-    #[tactic(auto, using(crate::proofs::Halves::lines_of))]
+    #[tactic(auto, using(link_theory::proofs::Halves::lines_of))]
     pub fn lines(&self) -> &Timing
         ensures { result.now ≡ lines self.now }
     {

@@ -1,3 +1,4 @@
+pub mod Halves
 pub mod PlainStreets
 pub mod SymmetricWindows
 pub mod Surroundings

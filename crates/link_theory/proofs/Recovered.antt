@@ -36,6 +36,7 @@ use Rattle.recovery_theory.proofs.Shown.{column_shown}
 use Rattle.recovery_theory.proofs.Rules.{timing_good}
 use Rattle.link_theory.specs.LinkVertices.{IsLinkVertex, half_ticks, link_timing_of}
 use Rattle.link_theory.specs.Plain.{plain}
+use Rattle.link_theory.proofs.Halves.{lines_of}
 use Rattle.link_theory.proofs.PlainStreets.{same_ticks, plain_street, from_plain_base}
 use Rattle.link_theory.proofs.PlainVertices.{same_timing, plain_whole}
 use Rattle.link_theory.proofs.LinesOfVertices.{lines_vertex}
@@ -57,20 +58,7 @@ module _ (a : Street) (box : Area) (x : List ℚ) (h : IsStreet a) (v : IsLinkVe
       ap (λ y. unsigned_abs (floor_ℚ (y *ℚ c))) (v.no_bands d) ∙ ap (λ y. unsigned_abs (floor_ℚ y)) (zero-*ℚ c) ∙ ap unsigned_abs (floor_whole (pos 0))
 
   pub same_lines : lines timing ≡ timing_of a x
-  same_lines =
-      let t = timing_of a x in let o = sym (no_ticks Outbound) in let b = sym (no_ticks Inbound) in
-      λ i. record {
-        grid = t.grid;
-        unit = t.unit;
-        patterns = t.patterns;
-        reds = t.reds;
-        run_out = t.run_out;
-        run_in = t.run_in;
-        first_out = t.first_out;
-        first_in = t.first_in;
-        band_out = o i;
-        band_in = b i;
-      }
+  same_lines = sym (lines_of (timing_of a x) timing.half_out timing.half_in (no_ticks Outbound) (no_ticks Inbound))
 
   good_lines : Good (plain a) (lines timing)
   good_lines = subst (Good (plain a)) (same_timing a x ∙ sym same_lines) (timing_good (plain a) box x (plain_street a h) vertex (plain_whole a x w))

@@ -32,6 +32,21 @@ lines t = record {
   band_in = 0;
 }
 
+-- two lines, and the halves about them
+abbrev pub with_halves : Plan → List ℕ → List ℕ → LinkPlan
+with_halves t half_out half_in = record {
+  grid = t.grid;
+  unit = t.unit;
+  patterns = t.patterns;
+  reds = t.reds;
+  run_out = t.run_out;
+  run_in = t.run_in;
+  first_out = t.first_out;
+  first_in = t.first_in;
+  half_out = half_out;
+  half_in = half_in;
+}
+
 -- a timing record with a half for each link
 pub record IsLinkPlan (t : LinkPlan) : Type 0 where
   pub lines : IsPlan (lines t)

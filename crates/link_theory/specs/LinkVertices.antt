@@ -10,7 +10,7 @@ use Rattle.progression.specs.declared.parts.Dir.{Dir}
 use Rattle.progression.specs.declared.parts.Dir.TheVariants.{Outbound, Inbound}
 use Rattle.linear_theory.specs.Places.{value_at}
 use Rattle.linear_theory.specs.Boxes.{Area}
-use Rattle.link_theory.specs.LinkPlan.{LinkPlan}
+use Rattle.link_theory.specs.LinkPlan.{LinkPlan, with_halves}
 use Rattle.link_theory.specs.LinkColumns.{link_width, half_place}
 use Rattle.link_theory.specs.LinkNames.{LinkName, HasLinkRow, link_row}
 use Rattle.recovery_theory.specs.Ticks.{ticks_in}
@@ -29,15 +29,4 @@ half_ticks a x d i = ticks_in a x (half_place (count a) d i)
 
 -- the link timing of a point; its unit is that of all columns
 abbrev pub link_timing_of : Street → List ℚ → LinkPlan
-link_timing_of a x = let t = timing_of a x in record {
-  grid = t.grid;
-  unit = t.unit;
-  patterns = t.patterns;
-  reds = t.reds;
-  run_out = t.run_out;
-  run_in = t.run_in;
-  first_out = t.first_out;
-  first_in = t.first_in;
-  half_out = numbered (count a - 1) 1 (half_ticks a x Outbound);
-  half_in = numbered (count a - 1) 1 (half_ticks a x Inbound);
-}
+link_timing_of a x = with_halves (timing_of a x) (numbered (count a - 1) 1 (half_ticks a x Outbound)) (numbered (count a - 1) 1 (half_ticks a x Inbound))

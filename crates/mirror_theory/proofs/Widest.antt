@@ -1,5 +1,5 @@
 -- The widest band that runs on the doubled grid bounds the equal bands of all offsets on all grids.
-use Rattle.std.proofs.Common.{◌≡◌, inl, inr, ℕ, zero, suc, ℤ, ◌+◌, ◌-◌, ◌*◌, ◌≤◌, ap, arith}
+use Rattle.std.proofs.Common.{◌≡◌, inl, inr, ℕ, zero, suc, ℤ, ◌+◌, ◌-◌, ◌*◌, ◌≤◌, ◌⊎◌, ap, sym, subst, arith}
 use Rattle.std.proofs.Math.Nat.{mul-le-mul_right, le_of_mul-le-mul_right}
 use Rattle.std.proofs.lemmas.Bool.{cases_lt}
 use Rattle.progression.specs.Street.{Street, count, HasSignal}
@@ -19,55 +19,44 @@ pub record Extreme (n : ℕ) (Beats : ℕ → ℕ → Type 0) : Type 0 where
 only_one : (i : ℕ) → 1 ≤ i → i ≤ 1 → i ≡ 1
 only_one i h k = omega arith
 
-pub greatest : (n : ℕ) (f : ℕ → ℕ) → Extreme (suc n) (λ k i. f i ≤ f k)
-greatest zero f = record { place = 1; first = omega arith; last = omega arith; beats = λ i h k. rw (only_one i h k) (omega arith) }
-greatest (suc n) f =
-    let e = greatest n f in
-    elim (cases_lt (f e.place) (f (suc (suc n)))) [
+-- one of f 1 to f n beats all, where each of two beats the other or is beaten
+extreme : (n : ℕ) (Beats : ℕ → ℕ → Type 0) → ((k i : ℕ) → Beats k i ⊎ Beats i k) → ((k i j : ℕ) → Beats k i → Beats i j → Beats k j) → Extreme (suc n) Beats
+extreme zero Beats either through =
+    let self : Beats 1 1 = elim (either 1 1) [ inl w ↦ w | inr w ↦ w ] in
+    record { place = 1; first = omega arith; last = omega arith; beats = λ i h k. subst (Beats 1) (sym (only_one i h k)) self }
+extreme (suc n) Beats either through =
+    let e = extreme n Beats either through in
+    let new = suc (suc n) in
+    let self : Beats new new = elim (either new new) [ inl w ↦ w | inr w ↦ w ] in
+    elim (either e.place new) [
       | inl w ↦ record {
-        place = suc (suc n);
-        first = omega arith;
-        last = omega arith;
-        beats = λ i h k. elim (cases_lt i (suc (suc n))) [
-          | inl l ↦ let g = e.beats i h (omega arith) in omega arith
-          | inr l ↦ let same : i ≡ suc (suc n) = omega arith in rw same (omega arith)
-        ];
-      }
-      | inr w ↦ record {
         place = e.place;
         first = e.first;
         last = let g = e.last in omega arith;
-        beats = λ i h k. elim (cases_lt i (suc (suc n))) [
+        beats = λ i h k. elim (cases_lt i new) [
           | inl l ↦ e.beats i h (omega arith)
-          | inr l ↦ let same : i ≡ suc (suc n) = omega arith in rw same w
+          | inr l ↦ let same : new ≡ i = omega arith in subst (Beats e.place) same w
+        ];
+      }
+      | inr w ↦ record {
+        place = new;
+        first = omega arith;
+        last = omega arith;
+        beats = λ i h k. elim (cases_lt i new) [
+          | inl l ↦ through new e.place i w (e.beats i h (omega arith))
+          | inr l ↦ let same : new ≡ i = omega arith in subst (Beats new) same self
         ];
       }
     ]
 
+either_le : (m n : ℕ) → (m ≤ n) ⊎ (n ≤ m)
+either_le m n = elim (cases_lt m n) [ inl w ↦ inl (omega arith) | inr w ↦ inr w ]
+
+pub greatest : (n : ℕ) (f : ℕ → ℕ) → Extreme (suc n) (λ k i. f i ≤ f k)
+greatest n f = extreme n (λ k i. f i ≤ f k) (λ k i. either_le (f i) (f k)) (λ k i j h g. omega (arith, h, g))
+
 pub least : (n : ℕ) (f : ℕ → ℕ) → Extreme (suc n) (λ k i. f k ≤ f i)
-least zero f = record { place = 1; first = omega arith; last = omega arith; beats = λ i h k. rw (only_one i h k) (omega arith) }
-least (suc n) f =
-    let e = least n f in
-    elim (cases_lt (f (suc (suc n))) (f e.place)) [
-      | inl w ↦ record {
-        place = suc (suc n);
-        first = omega arith;
-        last = omega arith;
-        beats = λ i h k. elim (cases_lt i (suc (suc n))) [
-          | inl l ↦ let g = e.beats i h (omega arith) in omega arith
-          | inr l ↦ let same : i ≡ suc (suc n) = omega arith in rw same (omega arith)
-        ];
-      }
-      | inr w ↦ record {
-        place = e.place;
-        first = e.first;
-        last = let g = e.last in omega arith;
-        beats = λ i h k. elim (cases_lt i (suc (suc n))) [
-          | inl l ↦ e.beats i h (omega arith)
-          | inr l ↦ let same : i ≡ suc (suc n) = omega arith in rw same w
-        ];
-      }
-    ]
+least n f = extreme n (λ k i. f k ≤ f i) (λ k i. either_le (f k) (f i)) (λ k i j h g. omega (arith, h, g))
 
 -- what leaves room for w at each signal runs as wide as the fullest signal allows
 pub record RunsFrom (a : Street) (t : Plan) (m w : ℕ) : Type 0 where

@@ -10,13 +10,12 @@ use Rattle.progression.specs.Columns.{numbered}
 use Rattle.progression.specs.declared.parts.Dir.{Dir}
 use Rattle.progression.specs.declared.parts.Dir.TheVariants.{Outbound, Inbound}
 use Rattle.linear_theory.specs.Boxes.{Area}
-use Rattle.link_theory.specs.LinkPlan.{LinkPlan}
+use Rattle.link_theory.specs.LinkPlan.{LinkPlan, with_halves}
 use Rattle.link_theory.specs.GoodLinks.{GoodLinks}
 use Rattle.link_theory.specs.BestLinks.{link_value}
 use Rattle.link_theory.specs.LinkColumns.{half_place}
 use Rattle.link_theory.specs.LinkRows.{link_goal}
 use Rattle.link_theory.specs.LinkVertices.{half_ticks}
-use Rattle.link_space.specs.LinkTiming.{with_halves}
 use Rattle.search_box.specs.Places.{IsPlace}
 use Rattle.offset_recovery.specs.declared.outcome.WideTiming.{WideTiming}
 use Rattle.offset_recovery.specs.declared.outcome.Recovered.{Recovered}

@@ -7,6 +7,7 @@ use Rattle.progression.specs.Worked.{two_signals}
 use Rattle.linear_theory.specs.Boxes.{root_box}
 use Rattle.search_box.specs.declared.span.At.TheVariants.{Loop}
 use Rattle.link_theory.specs.LinkPlan.{LinkPlan}
+use Rattle.link_theory.specs.Worked.{link_timing}
 use Rattle.link_theory.specs.LinkVertices.{IsLinkVertex}
 use Rattle.offset_recovery.specs.declared.outcome.WideTiming.TheVariants as wide
 use Rattle.offset_recovery.specs.Outcomes.{Refused, Splits, Gives}
@@ -39,18 +40,7 @@ large_run = over (pos 2417851639229258349412353) 2
 
 -- the second signal half a cycle after the first
 abbrev pub amid_timing : LinkPlan
-amid_timing = record {
-  grid = 2;
-  unit = 2;
-  patterns = 1 ∷ 1 ∷ [];
-  reds = pos 0 ∷ pos 100 ∷ [];
-  run_out = 100 ∷ [];
-  run_in = 100 ∷ [];
-  first_out = pos 150;
-  first_in = pos 50;
-  half_out = 50 ∷ [];
-  half_in = 50 ∷ [];
-}
+amid_timing = record (link_timing (pos 150) 50 50) { first_in = pos 50 }
 
 -- the same with three ticks a part, and an inbound half of a twelfth of the cycle
 abbrev pub finer_timing : LinkPlan

@@ -1,31 +1,17 @@
 -- Each signal of a valid artery has a shift.
-use Rattle.std.proofs.Common.{◌≡◌, ℕ, zero, suc, ◌+◌, ◌-◌, ◌<◌, ◌≤◌, ◌==◌, List, [], ◌∷◌, length, slice_index_or, Option, None, Some, Bool, true, false, true≢false, nat_lt, refl, sym, ap, arith}
+use Rattle.std.proofs.Common.{◌≡◌, ℕ, zero, suc, ◌+◌, ◌-◌, ◌<◌, ◌≤◌, ◌==◌, List, [], ◌∷◌, length, slice_index_or, Bool, true, false, true≢false, nat_lt, refl, sym, ap, arith}
 use Rattle.std.specs.Prelude.{if◌then◌else◌}
 use Rattle.std.specs.List.{list_any}
-use Rattle.std.proofs.lemmas.Option.{none-some}
 use Rattle.progression.specs.Street.{Street, signal_of, allows, no_signal}
 use Rattle.progression.specs.Columns.{pattern_shift}
 use Rattle.progression.specs.declared.parts.Signal.{Signal}
-use Rattle.artery_model.specs.Faults.{Fault, first_fault, unless, each_numbered}
+use Rattle.artery_model.specs.Faults.{first_fault, each_numbered}
 use Rattle.artery_model.specs.Limits.{has_pattern, range_tests, rule_tests}
 use Rattle.artery_model.specs.Valid.{IsValid}
-use Rattle.artery_model.specs.declared.kind.Kind.{Kind}
+use Rattle.artery_model.proofs.Validity.{AllNone, each_none, passes_of}
 use Rattle.linear_theory.specs.Shifts.{put_shift, with_pattern, shift_count}
 
 -- ---- a signal allows a pattern
-abbrev AllNone : List (Option Fault) → Type 0
-AllNone [] = Unit {0}
-AllNone (f ∷ tests) = (f ≡ None) × AllNone tests
-
-each_none : (tests : List (Option Fault)) → first_fault tests ≡ None → AllNone tests
-each_none [] e = tt
-each_none (None ∷ tests) e = (refl, each_none tests e)
-each_none (Some f ∷ tests) e = absurd (none-some f (sym e))
-
-passes_of : (b : Bool) (k : Kind) (p : List ℕ) → unless b k p ≡ None → b ≡ true
-passes_of true k p e = refl
-passes_of false k p e = absurd (none-some _ (sym e))
-
 each_allows : (i : ℕ) (signals : List Signal) → AllNone (each_numbered has_pattern i signals) → (k : ℕ) → k < length signals → list_any (λ b. b) (slice_index_or signals k no_signal).patterns ≡ true
 each_allows i [] e k lt = absurd (omega arith)
 each_allows i (s ∷ signals) e zero lt = passes_of _ _ _ e.0

@@ -1,8 +1,7 @@
 -- Two lines, and the halves about them.
 use Rattle.std.proofs.Common.{◌≡◌, ℕ, List}
 use Rattle.progression.specs.Plan.{Plan}
-use Rattle.link_theory.specs.LinkPlan.{lines}
-use Rattle.link_space.specs.LinkTiming.{with_halves}
+use Rattle.link_theory.specs.LinkPlan.{lines, with_halves}
 
 -- a timing whose bands are lines is what halves about it have as their lines
 pub lines_of : (t : Plan) (half_out half_in : List ℕ) → t.band_out ≡ 0 → t.band_in ≡ 0 → t ≡ lines (with_halves t half_out half_in)
