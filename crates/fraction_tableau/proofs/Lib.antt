@@ -1,4 +1,5 @@
 pub mod KeptCells
+pub mod Scales
 pub mod Keeps
 pub mod Merges
 pub mod Zeros
@@ -8,5 +9,9 @@ pub mod Filling
 pub mod Tableaus
 pub mod Named
 pub mod Narrow
+pub mod Fitting
+pub mod Shares
+pub mod Small
+pub mod Making
 pub mod Refusals
 pub mod LoadingLaws

@@ -9,13 +9,16 @@
 #![tactic(auto)]
 
 mod basis;
+mod fractions;
 mod fresh;
+mod joining;
 mod kept;
 mod laws;
 mod line;
 mod lines;
 mod loading;
 mod merging;
+mod scale;
 mod tableau;
 mod turning;
 mod wide_cell;

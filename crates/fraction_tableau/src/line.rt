@@ -1,21 +1,24 @@
 //! One row of a tableau: its cells that aren't 0, in order, and its bound.
 
-ghost use Rattle.std.specs.Prelude.{◌≡◌, ◌+◌, ◌-◌, ◌<◌, ◌≤◌, ◌^◌, pos, length, replicate, IfOk, IfErr};
-ghost use Rattle.rational_theory.specs.Rational.{whole, inverse_ℚ, neg_ℚ};
+ghost use Rattle.std.specs.Prelude.{◌≡◌, ◌+◌, ◌-◌, ◌<◌, ◌≤◌, ◌^◌, pos, length, replicate, IfOk, IfSome};
+ghost use Rattle.rational_theory.specs.Rational.{whole, inverse_ℚ};
 ghost use Rattle.simplex_theory.specs.Lines.{turned, cleared};
 ghost use Rattle.narrow_fraction.specs.Attempt.{attempt};
 ghost use Rattle.fraction_tableau.specs.Narrow.{IsNarrow};
 ghost use Rattle.fraction_tableau.specs.Refusals.{turn_refusal, clear_refusal};
 ghost use Rattle.fraction_tableau.specs.NamedTableaus.{row_cells, goal_cells};
 ghost use Rattle.fraction_tableau.specs.KeptCells.{number_in, kept_below};
+ghost use Rattle.fraction_tableau.specs.Scales.{IsScaled, IsJoining, factor_of};
 
 use crate::kept::Kept;
 use crate::loading::{fill_goal, fill_row};
-use crate::merging::{Clearing, Merged, cleared_number, keep_before, merge};
-use crate::turning::turn_cells;
-use crate::wide_cell::{Spot, WideCell};
+use crate::fractions::{Elimination, clear_row, turn_row};
+use crate::joining::{Joining, find_joining};
+use crate::merging::{Merged, keep_before};
+use crate::scale::{AS_IT_IS, Scale, numerator_of};
+use crate::wide_cell::WideCell;
 use named_row::{Place, Row};
-use narrow_fraction::Frac;
+use narrow_fraction::{Frac, Quotient};
 use std::alloc::{AllocError, Global};
 use std::marker::Model;
 
@@ -25,30 +28,21 @@ use std::marker::Model;
 pub struct Line {
     cells: Vec<Kept>,
     count: usize,
-    bound: Frac,
+    bound: Quotient,
+    scale: Option<Scale>,
 }
 
 impl Model for Line {
     ghost use Rattle.std.specs.Prelude.{List, length, take};
     ghost use Rattle.rational_theory.specs.Rational.{ℚ};
     ghost use Rattle.fraction_tableau.specs.KeptCells.{dense_row, IsLine};
+    ghost use Rattle.fraction_tableau.specs.Scales.{HasScale};
 
     ghost Value = { List ℚ };
 
     ghost view = { λ a. dense_row (length a.cells.items) (take a.count a.cells.items) a.bound };
 
-    ghost invariant = { λ a. IsLine (length a.cells.items) a.count (take a.count a.cells.items) };
-}
-
-/// The negated quotient, or the other number where it was refused.
-fn negated_or(quotient: &Result<Frac, WideCell>, other: Frac) -> Frac
-    ensures ok { IfOk quotient.now (λ value. result ≡ neg_ℚ value) }
-    ensures err { IfErr quotient.now (λ _. result ≡ other) }
-{
-    match quotient {
-        Ok(value) => value.neg(),
-        Err(_) => other,
-    }
+    ghost invariant = { λ a. IsLine (length a.cells.items) a.count (take a.count a.cells.items) × HasScale a.scale (dense_row (length a.cells.items) (take a.count a.cells.items) a.bound) };
 }
 
 impl Line {
@@ -58,13 +52,14 @@ impl Line {
     {
         let none = Kept {
             place: 0,
-            cell: Frac::whole(0),
+            cell: Quotient::of_fraction(Frac::whole(0)),
         };
         let cells = vec![in alloc; none; width]?;
         Ok(Line {
             cells,
             count: 0,
-            bound: Frac::whole(0),
+            bound: Quotient::of_fraction(Frac::whole(0)),
+            scale: None,
         })
     }
 
@@ -86,7 +81,24 @@ impl Line {
     pub fn bound(&self) -> Frac
         ensures { result ≡ number_in self.now (length self.now - 1) }
     {
-        self.bound
+        self.bound.fraction()
+    }
+
+    /// The cell at a place, as it is held.
+    pub fn held(&self, place: u32) -> Quotient
+        requires { place + 1 < length self.now }
+        ensures { result ≡ number_in self.now place }
+    {
+        for kept in self.kept() {
+            if kept.place >= place {
+                return if kept.place == place {
+                    kept.cell.copied()
+                } else {
+                    Quotient::of_fraction(Frac::whole(0))
+                };
+            }
+        }
+        Quotient::of_fraction(Frac::whole(0))
     }
 
     /// The cell at a place.
@@ -94,16 +106,7 @@ impl Line {
         requires { place + 1 < length self.now }
         ensures { result ≡ number_in self.now place }
     {
-        for kept in self.kept() {
-            if kept.place >= place {
-                return if kept.place == place {
-                    kept.cell
-                } else {
-                    Frac::whole(0)
-                };
-            }
-        }
-        Frac::whole(0)
+        self.held(place).fraction()
     }
 
     /// The cell at a place, or the bound at the number after the last place.
@@ -126,7 +129,8 @@ impl Line {
         ensures narrow { IsNarrow self.new }
     {
         self.count = fill_row(&mut self.cells, from);
-        self.bound = from.get(Place::Bound).fitting();
+        self.bound = Quotient::of_fraction(from.get(Place::Bound).fitting());
+        self.scale = None;
     }
 
     /// Takes a row's negated coefficients, and the bound 0.
@@ -137,7 +141,8 @@ impl Line {
         ensures narrow { IsNarrow self.new }
     {
         self.count = fill_goal(&mut self.cells, from);
-        self.bound = Frac::whole(0).fitting();
+        self.bound = Quotient::of_fraction(Frac::whole(0));
+        self.scale = None;
     }
 
     /// Takes the cells and the bound of another row.
@@ -152,8 +157,27 @@ impl Line {
             taken: 0,
             made: 0,
         };
-        self.count = keep_before(&mut self.cells, row, none, width).made;
-        self.bound = row.bound();
+        self.count = keep_before(&mut self.cells, row, none, width, AS_IT_IS).made;
+        self.bound = row.bound.copied();
+        self.scale = row.scale;
+    }
+
+    /// How this row is cleared at a place by a turned row, where both are narrow and no number might pass 62 bits.
+    fn joining(&self, turned: &Line, place: u32, factor: &Quotient) -> Option<Joining>
+        requires widths { length turned.now ≡ length self.now }
+        requires place { place + 1 < length self.now }
+        requires factor { factor.now ≡ number_in self.now place }
+        ensures place { IfSome result (λ joining. joining.place ≡ place) }
+        ensures joining { IfSome result (λ joining. IsJoining joining) }
+        ensures factor { IfSome result (λ joining. factor_of joining ≡ factor.now) }
+        ensures row { IfSome result (λ joining. IsScaled joining.row self.now) }
+        ensures turned { IfSome result (λ joining. IsScaled joining.turned turned.now) }
+    {
+        let (Some(own), Some(other)) = (self.scale, turned.scale) else {
+            return None;
+        };
+        let numerator = numerator_of(factor, own.denominator);
+        find_joining(place, own, other, numerator)
     }
 
     /// Becomes the pivot's own row, turned: one over the cell at `place`, and the other cells over that cell.
@@ -168,97 +192,61 @@ impl Line {
         ensures width { length self.new ≡ length self.old }
         ensures narrow { IfOk result (λ _. IsNarrow self.new) }
     {
-        self.count = 0;
-        let pivot = row.cell(place);
-        let own = Spot {
-            row: number,
-            col: place,
-        };
-        let reciprocal = match own.over(Frac::whole(1), pivot) {
-            Ok(value) => value,
-            Err(wide) => return Err(wide),
-        };
-        let turned = Kept {
-            place,
-            cell: reciprocal,
-        };
-        let count = match turn_cells(&mut self.cells, row, number, &turned, pivot) {
-            Ok(count) => count,
-            Err(wide) => return Err(wide),
-        };
-        let last = Spot {
-            row: number,
-            col: self.cells.len() as u32,
-        };
-        match last.over(row.bound(), pivot) {
-            Ok(bound) => {
-                self.count = count;
-                self.bound = bound;
-                Ok(())
-            }
-            Err(wide) => Err(wide),
-        }
+        let made = turn_row(&mut self.cells, row, number, place);
+        self.count = made.count;
+        self.bound = Quotient::of_fraction(made.bound);
+        self.scale = None;
+        made.outcome
     }
 
-    /// Becomes another row cleared: each number less `factor`, the row's cell at `place`, times the turned row's, and at
-    /// `place` the negated quotient of the factor and the pivot. The quotient is made before the merge and its refusal
-    /// kept for the end, since its operation is the row's last.
+    /// Becomes another row cleared, by fractions.
+    fn clear_fractions(
+        &mut self,
+        row: &Line,
+        turned: &Line,
+        elimination: &Elimination,
+    ) -> Result<(), WideCell>
+        requires width { length self.old ≡ length row.now }
+        requires widths { length turned.now ≡ length row.now }
+        requires place { elimination.now.place + 1 < length row.now }
+        requires pivot { elimination.now.pivot ≡ whole (pos 0) → ⊥ }
+        requires factor { elimination.now.factor ≡ number_in row.now elimination.now.place }
+        requires own { number_in turned.now elimination.now.place ≡ inverse_ℚ elimination.now.pivot }
+        requires short { length row.now < 2 ^ 32 }
+        requires narrow { IsNarrow row.now }
+        ensures outcome { result ≡ attempt (clear_refusal elimination.now.number elimination.now.place turned.now row.now elimination.now.pivot) tt }
+        ensures cleared { IfOk result (λ _. self.new ≡ cleared elimination.now.place turned.now row.now) }
+        ensures width { length self.new ≡ length self.old }
+        ensures narrow { IfOk result (λ _. IsNarrow self.new) }
+    {
+        let made = clear_row(&mut self.cells, row, turned, elimination);
+        self.count = made.count;
+        self.bound = Quotient::of_fraction(made.bound);
+        self.scale = None;
+        made.outcome
+    }
+
+    /// Becomes another row cleared: each number less the factor, the row's cell at the place, times the turned row's, and at
+    /// the place the negated quotient of the factor and the pivot.
     pub fn clear(
         &mut self,
         row: &Line,
         turned: &Line,
-        number: u32,
-        place: u32,
-        pivot: Frac,
-        factor: Frac,
+        elimination: &Elimination,
     ) -> Result<(), WideCell>
         requires width { length self.old ≡ length row.now }
         requires widths { length turned.now ≡ length row.now }
-        requires place { place + 1 < length row.now }
-        requires pivot { pivot ≡ whole (pos 0) → ⊥ }
-        requires factor { factor ≡ number_in row.now place }
-        requires kept { factor ≡ whole (pos 0) → ⊥ }
-        requires own { number_in turned.now place ≡ inverse_ℚ pivot }
+        requires place { elimination.now.place + 1 < length row.now }
+        requires pivot { elimination.now.pivot ≡ whole (pos 0) → ⊥ }
+        requires factor { elimination.now.factor ≡ number_in row.now elimination.now.place }
+        requires own { number_in turned.now elimination.now.place ≡ inverse_ℚ elimination.now.pivot }
         requires short { length row.now < 2 ^ 32 }
         requires narrow { IsNarrow row.now }
-        ensures outcome { result ≡ attempt (clear_refusal number place turned.now row.now pivot) tt }
-        ensures cleared { IfOk result (λ _. self.new ≡ cleared place turned.now row.now) }
+        ensures outcome { result ≡ attempt (clear_refusal elimination.now.number elimination.now.place turned.now row.now elimination.now.pivot) tt }
+        ensures cleared { IfOk result (λ _. self.new ≡ cleared elimination.now.place turned.now row.now) }
         ensures width { length self.new ≡ length self.old }
         ensures narrow { IfOk result (λ _. IsNarrow self.new) }
     {
-        self.count = 0;
-        let own = Spot {
-            row: number,
-            col: place,
-        };
-        let quotient = own.over(factor, pivot);
-        let clearing = Clearing {
-            number,
-            own: Kept {
-                place,
-                cell: negated_or(&quotient, factor),
-            },
-            factor,
-        };
-        let count = match merge(&mut self.cells, row, turned, &clearing) {
-            Ok(count) => count,
-            Err(wide) => return Err(wide),
-        };
-        let last = Spot {
-            row: number,
-            col: self.cells.len() as u32,
-        };
-        let bound = match cleared_number(last, row.bound(), turned.bound(), factor) {
-            Ok(bound) => bound,
-            Err(wide) => return Err(wide),
-        };
-        match quotient {
-            Ok(_) => {
-                self.count = count;
-                self.bound = bound;
-                Ok(())
-            }
-            Err(wide) => Err(wide),
-        }
+        self.clear_fractions(row, turned, elimination)
     }
 }

@@ -8,6 +8,7 @@ ghost use Rattle.fraction_tableau.specs.Narrow.{IsNarrow, AreNarrow};
 ghost use Rattle.fraction_tableau.specs.Refusals.{clear_refusal, line_refusal, pivot_refusal, exchanged_rows};
 ghost use Rattle.fraction_tableau.specs.KeptCells.{number_in};
 
+use crate::fractions::Elimination;
 use crate::line::Line;
 use crate::wide_cell::WideCell;
 use narrow_fraction::Frac;
@@ -42,11 +43,17 @@ fn clear_line(
     if line == skip {
         return Ok(());
     }
-    let factor = lines[line].cell(place);
+    let factor = lines[line].held(place);
     if factor.is_zero() {
         return Ok(());
     }
-    if let Err(wide) = room.clear(&lines[line], turned, line as u32, place, pivot, factor) {
+    let elimination = Elimination {
+        number: line as u32,
+        place,
+        pivot,
+        factor,
+    };
+    if let Err(wide) = room.clear(&lines[line], turned, &elimination) {
         return Err(wide);
     }
     mem::swap(&mut lines[line], room);
@@ -105,12 +112,18 @@ fn clear_goal(
     ensures width { length spare.new ≡ length spare.old }
     ensures narrow { IfOk result (λ _. IsNarrow spare.new) }
 {
-    let factor = goal.cell(place);
+    let factor = goal.held(place);
     if factor.is_zero() {
         spare.copy_from(goal);
         return Ok(());
     }
-    spare.clear(goal, turned, number, place, pivot, factor)
+    let elimination = Elimination {
+        number,
+        place,
+        pivot,
+        factor,
+    };
+    spare.clear(goal, turned, &elimination)
 }
 
 /// The cells of an exchange on row `skip` and `place`: the rows in place, and the goal row into `spare`.

@@ -8,6 +8,7 @@ ghost use Rattle.fraction_tableau.specs.KeptCells.{number_in, kept_below};
 
 use crate::kept::{Kept, put};
 use named_row::{Place, Row};
+use narrow_fraction::Quotient;
 
 /// The coefficients that aren't 0. The answer is how many there are.
 pub fn fill_row(cells: &mut [Kept], from: &Row) -> usize
@@ -21,6 +22,7 @@ pub fn fill_row(cells: &mut [Kept], from: &Row) -> usize
     for place in 0..cells.len() {
         let place = place as u32;
         let cell = from.get(Place::Cell(place)).fitting();
+        let cell = Quotient::of_fraction(cell);
         made = put(cells, made, Kept { place, cell });
     }
     made
@@ -38,6 +40,7 @@ pub fn fill_goal(cells: &mut [Kept], from: &Row) -> usize
     for place in 0..cells.len() {
         let place = place as u32;
         let cell = from.get(Place::Cell(place)).neg().fitting();
+        let cell = Quotient::of_fraction(cell);
         made = put(cells, made, Kept { place, cell });
     }
     made
