@@ -5,6 +5,7 @@ use native.Mathlib.Nat.{mul-div_cancel', dvd-mul_left}
 use Rattle.std.proofs.lemmas.Bool.{cases_eq, cond-true, cond-false, eq-eqb, ne_eqb}
 use Rattle.std.proofs.lemmas.Int.{ints, unsigned_abs-mul}
 use Rattle.std.specs.Int.{w64}
+use Rattle.std.specs.Option.{unwrap_or}
 use borrow.Author.Differences.{up, down}
 use Rattle.rational_theory.specs.Gcd.{gcd}
 use Rattle.rational_theory.specs.laws.Fractions.{times_part}
@@ -66,6 +67,10 @@ some_numerator x d None n h i e = absurd (none_some e)
   where
     none_some : None ≡ Some n → ⊥
     none_some p = cc
+
+pub numerator_or : (x : ℚ) (d : ℕ) (o : Option ℤ) (m n : ℤ) → IsNumerator x d o → n ≡ unwrap_or o m → (n ≡ m → ⊥) → x ≡ over n d
+numerator_or x d (Some a) m n i e k = i ∙ ap (λ z. over z d) (sym e)
+numerator_or x d None m n i e k = absurd (k e)
 
 -- the same over more
 pub over_part : (n : ℤ) (d g : ℕ) → 0 < d → 0 < g → over n d ≡ over (n *ℤ pos g) (d * g)

@@ -1,6 +1,6 @@
 -- Narrow rows: all numbers of the row, its bound included, are whole numbers over one denominator, and none is great.
-use Rattle.std.specs.Prelude.{◌≡◌, ℕ, ℤ, pos, List, Option, Some, None, ◌*ℤ◌, ◌*◌, ◌/◌, ◌+◌, ◌<◌, ◌≤◌, ◌^◌, length, take, unsigned_abs}
-use Rattle.rational_theory.specs.Rational.{ℚ, over}
+use Rattle.std.specs.Prelude.{◌≡◌, ℕ, ℤ, pos, List, Option, Some, None, ◌*ℤ◌, ◌*◌, ◌/◌, ◌+◌, ◌<◌, ◌≤◌, ◌^◌, get_or, length, take, unsigned_abs}
+use Rattle.rational_theory.specs.Rational.{ℚ, whole, over}
 use Rattle.fraction_tableau.specs.KeptCells.{number_in, kept_below}
 use Rattle.fraction_tableau.specs.declared.kept.Kept.{Kept}
 use Rattle.fraction_tableau.specs.declared.merging.Merged.{Merged}
@@ -16,6 +16,10 @@ numerator d x = x.num *ℤ pos (d / x.den)
 pub record IsOver (d b : ℕ) (x : ℚ) : Type 0 where
   pub same : over (numerator d x) d ≡ x
   pub size : unsigned_abs (numerator d x) ≤ b
+
+-- the number of the cell at a place of a list, 0 past its end
+abbrev pub cell_at : List Kept → ℕ → ℚ
+cell_at cells i = (get_or cells i (record { place = 0; cell = whole (pos 0) })).cell
 
 -- the row is narrow, at this scale
 pub record IsScaled (s : Scale) (row : List ℚ) : Type 0 where

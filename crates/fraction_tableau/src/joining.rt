@@ -1,6 +1,6 @@
 //! A narrow row cleared by a narrow turned row: by whole numbers, with no common divisor of a cell.
 
-ghost use Rattle.std.specs.Prelude.{◌≡◌, ℕ, ◌+◌, ◌*◌, ◌/◌, ◌<◌, ◌≤◌, ◌^◌, ◌*ℤ◌, ◌+ℤ◌, neg_ℤ, pos, cond, length, take, unsigned_abs, IfSome};
+ghost use Rattle.std.specs.Prelude.{◌≡◌, ℕ, ◌+◌, ◌*◌, ◌/◌, ◌<◌, ◌≤◌, ◌^◌, ◌*ℤ◌, ◌+ℤ◌, neg_ℤ, pos, cond, length, take, unsigned_abs, IfSome, SomeIff};
 ghost use Rattle.rational_theory.specs.Rational.{whole, over, neg_ℚ, ◌+ℚ◌, ◌*ℚ◌};
 ghost use Rattle.simplex_theory.specs.Lines.{cleared};
 ghost use Rattle.fraction_tableau.specs.KeptCells.{number_in, kept_below};
@@ -9,7 +9,7 @@ ghost use Rattle.fraction_tableau.specs.Scales.{numerator, factor_of, IsOver, Is
 use crate::kept::{Kept, put};
 use crate::line::Line;
 use crate::merging::{Merged, keep_before, take_at};
-use crate::scale::{Rescaling, Scale, numerator_of};
+use crate::scale::{MOST, Rescaling, Scale, numerator_of};
 use narrow_fraction::{Quotient, word_divisor, word_quotient};
 
 /// The greatest size that a number may have while a row is joined with another one: 62 bits.
@@ -26,6 +26,21 @@ pub struct Joining {
     pub shared: u64,
     pub part: i64,
     pub most: u64,
+}
+
+impl Joining {
+    /// The scale of the row that is made, where no number of it might have more than 42 bits.
+    pub fn scale(&self) -> Option<Scale>
+        ensures { SomeIff result (self.now.most < 2 ^ 42) (record { denominator = self.now.rescaling.to; most = self.now.most }) }
+    {
+        if self.most > MOST {
+            return None;
+        }
+        Some(Scale {
+            denominator: self.rescaling.to,
+            most: self.most,
+        })
+    }
 }
 
 /// A quotient that leaves no rest.

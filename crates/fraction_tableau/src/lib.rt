@@ -18,6 +18,7 @@ mod line;
 mod lines;
 mod loading;
 mod merging;
+mod narrowing;
 mod scale;
 mod tableau;
 mod turning;

@@ -1,7 +1,7 @@
 //! One row of a tableau: its cells that aren't 0, in order, and its bound.
 
-ghost use Rattle.std.specs.Prelude.{◌≡◌, ◌+◌, ◌-◌, ◌<◌, ◌≤◌, ◌^◌, pos, length, replicate, IfOk, IfSome};
-ghost use Rattle.rational_theory.specs.Rational.{whole, inverse_ℚ};
+ghost use Rattle.std.specs.Prelude.{◌≡◌, ◌+◌, ◌-◌, ◌<◌, ◌≤◌, ◌^◌, ℕ, None, true, false, pos, length, replicate, IfOk, IfSome};
+ghost use Rattle.rational_theory.specs.Rational.{ℚ, whole, inverse_ℚ};
 ghost use Rattle.simplex_theory.specs.Lines.{turned, cleared};
 ghost use Rattle.narrow_fraction.specs.Attempt.{attempt};
 ghost use Rattle.fraction_tableau.specs.Narrow.{IsNarrow};
@@ -13,8 +13,9 @@ ghost use Rattle.fraction_tableau.specs.Scales.{IsScaled, IsJoining, factor_of};
 use crate::kept::Kept;
 use crate::loading::{fill_goal, fill_row};
 use crate::fractions::{Elimination, clear_row, turn_row};
-use crate::joining::{Joining, find_joining};
+use crate::joining::{Joining, find_joining, join, joined};
 use crate::merging::{Merged, keep_before};
+use crate::narrowing::{find_scale, held_over, hold_over};
 use crate::scale::{AS_IT_IS, Scale, numerator_of};
 use crate::wide_cell::WideCell;
 use named_row::{Place, Row};
@@ -121,8 +122,8 @@ impl Line {
         }
     }
 
-    /// Takes a row's coefficients and its bound.
-    pub fn load(&mut self, from: &Row)
+    /// Takes a row's coefficients and its bound, as fractions.
+    fn fill(&mut self, from: &Row)
         requires width { length self.old ≡ length from.now.coefs + 1 }
         requires short { length self.old ≤ 2 ^ 32 }
         ensures cells { self.new ≡ row_cells from.now }
@@ -133,8 +134,19 @@ impl Line {
         self.scale = None;
     }
 
-    /// Takes a row's negated coefficients, and the bound 0.
-    pub fn load_goal(&mut self, from: &Row)
+    /// Takes a row's coefficients and its bound.
+    pub fn load(&mut self, from: &Row)
+        requires width { length self.old ≡ length from.now.coefs + 1 }
+        requires short { length self.old ≤ 2 ^ 32 }
+        ensures cells { self.new ≡ row_cells from.now }
+        ensures narrow { IsNarrow self.new }
+    {
+        self.fill(from);
+        self.narrow();
+    }
+
+    /// Takes a row's negated coefficients, and the bound 0, as fractions.
+    fn fill_goal(&mut self, from: &Row)
         requires width { length self.old ≡ length from.now.coefs + 1 }
         requires short { length self.old ≤ 2 ^ 32 }
         ensures cells { self.new ≡ goal_cells from.now }
@@ -143,6 +155,17 @@ impl Line {
         self.count = fill_goal(&mut self.cells, from);
         self.bound = Quotient::of_fraction(Frac::whole(0));
         self.scale = None;
+    }
+
+    /// Takes a row's negated coefficients, and the bound 0.
+    pub fn load_goal(&mut self, from: &Row)
+        requires width { length self.old ≡ length from.now.coefs + 1 }
+        requires short { length self.old ≤ 2 ^ 32 }
+        ensures cells { self.new ≡ goal_cells from.now }
+        ensures narrow { IsNarrow self.new }
+    {
+        self.fill_goal(from);
+        self.narrow();
     }
 
     /// Takes the cells and the bound of another row.
@@ -160,6 +183,20 @@ impl Line {
         self.count = keep_before(&mut self.cells, row, none, width, AS_IT_IS).made;
         self.bound = row.bound.copied();
         self.scale = row.scale;
+    }
+
+    /// Becomes narrow, where it isn't and can be. The row stays what it is.
+    fn narrow(&mut self)
+        ensures { self.new ≡ self.old }
+    {
+        if self.scale.is_some() {
+            return;
+        }
+        if let Some(scale) = find_scale(&self.cells, self.count, &self.bound) {
+            hold_over(&mut self.cells, self.count, scale);
+            self.bound = held_over(&self.bound, scale);
+            self.scale = Some(scale);
+        }
     }
 
     /// How this row is cleared at a place by a turned row, where both are narrow and no number might pass 62 bits.
@@ -180,8 +217,8 @@ impl Line {
         find_joining(place, own, other, numerator)
     }
 
-    /// Becomes the pivot's own row, turned: one over the cell at `place`, and the other cells over that cell.
-    pub fn turn(&mut self, row: &Line, number: u32, place: u32) -> Result<(), WideCell>
+    /// Becomes the pivot's own row, turned, by fractions.
+    fn turn_fractions(&mut self, row: &Line, number: u32, place: u32) -> Result<(), WideCell>
         requires width { length self.old ≡ length row.now }
         requires place { place + 1 < length row.now }
         requires pivot { number_in row.now place ≡ whole (pos 0) → ⊥ }
@@ -197,6 +234,23 @@ impl Line {
         self.bound = Quotient::of_fraction(made.bound);
         self.scale = None;
         made.outcome
+    }
+
+    /// Becomes the pivot's own row, turned: one over the cell at `place`, and the other cells over that cell.
+    pub fn turn(&mut self, row: &Line, number: u32, place: u32) -> Result<(), WideCell>
+        requires width { length self.old ≡ length row.now }
+        requires place { place + 1 < length row.now }
+        requires pivot { number_in row.now place ≡ whole (pos 0) → ⊥ }
+        requires short { length row.now < 2 ^ 32 }
+        requires narrow { IsNarrow row.now }
+        ensures outcome { result ≡ attempt (turn_refusal number place row.now) tt }
+        ensures turned { IfOk result (λ _. self.new ≡ turned place row.now) }
+        ensures width { length self.new ≡ length self.old }
+        ensures narrow { IfOk result (λ _. IsNarrow self.new) }
+    {
+        let outcome = self.turn_fractions(row, number, place);
+        self.narrow();
+        outcome
     }
 
     /// Becomes another row cleared, by fractions.
@@ -226,6 +280,61 @@ impl Line {
         made.outcome
     }
 
+    /// Becomes another row cleared, by whole numbers, where both rows are narrow and no number might pass 62 bits; else it
+    /// stays, and the answer is false. No operation on the fractions is refused then.
+    fn clear_narrow(
+        &mut self,
+        row: &Line,
+        turned: &Line,
+        place: u32,
+        factor: &Quotient,
+    ) -> bool
+        requires width { length self.old ≡ length row.now }
+        requires widths { length turned.now ≡ length row.now }
+        requires place { place + 1 < length row.now }
+        requires factor { factor.now ≡ number_in row.now place }
+        requires own { number_in turned.now place ≡ whole (pos 0) → ⊥ }
+        requires short { length row.now < 2 ^ 32 }
+        ensures passed { result ≡ true → (i : ℕ) (pivot : ℚ) → (pivot ≡ whole (pos 0) → ⊥) → number_in turned.now place ≡ inverse_ℚ pivot → clear_refusal i place turned.now row.now pivot ≡ None }
+        ensures cleared { result ≡ true → self.new ≡ cleared place turned.now row.now }
+        ensures width { length self.new ≡ length self.old }
+        ensures narrow { result ≡ true → IsNarrow self.new }
+    {
+        let Some(joining) = row.joining(turned, place, factor) else {
+            return false;
+        };
+        self.count = join(&mut self.cells, row, turned, &joining);
+        self.bound = joined(&joining, &row.bound, false, &turned.bound);
+        self.scale = joining.scale();
+        true
+    }
+
+    /// Becomes another row cleared, by whole numbers or else by fractions.
+    fn clear_either(
+        &mut self,
+        row: &Line,
+        turned: &Line,
+        elimination: &Elimination,
+    ) -> Result<(), WideCell>
+        requires width { length self.old ≡ length row.now }
+        requires widths { length turned.now ≡ length row.now }
+        requires place { elimination.now.place + 1 < length row.now }
+        requires pivot { elimination.now.pivot ≡ whole (pos 0) → ⊥ }
+        requires factor { elimination.now.factor ≡ number_in row.now elimination.now.place }
+        requires own { number_in turned.now elimination.now.place ≡ inverse_ℚ elimination.now.pivot }
+        requires short { length row.now < 2 ^ 32 }
+        requires narrow { IsNarrow row.now }
+        ensures outcome { result ≡ attempt (clear_refusal elimination.now.number elimination.now.place turned.now row.now elimination.now.pivot) tt }
+        ensures cleared { IfOk result (λ _. self.new ≡ cleared elimination.now.place turned.now row.now) }
+        ensures width { length self.new ≡ length self.old }
+        ensures narrow { IfOk result (λ _. IsNarrow self.new) }
+    {
+        if self.clear_narrow(row, turned, elimination.place, &elimination.factor) {
+            return Ok(());
+        }
+        self.clear_fractions(row, turned, elimination)
+    }
+
     /// Becomes another row cleared: each number less the factor, the row's cell at the place, times the turned row's, and at
     /// the place the negated quotient of the factor and the pivot.
     pub fn clear(
@@ -247,6 +356,8 @@ impl Line {
         ensures width { length self.new ≡ length self.old }
         ensures narrow { IfOk result (λ _. IsNarrow self.new) }
     {
-        self.clear_fractions(row, turned, elimination)
+        let outcome = self.clear_either(row, turned, elimination);
+        self.narrow();
+        outcome
     }
 }

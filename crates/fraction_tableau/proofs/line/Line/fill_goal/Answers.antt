@@ -8,7 +8,7 @@ use Rattle.fraction_tableau.specs.Narrow.{IsNarrow}
 use Rattle.fraction_tableau.specs.NamedTableaus.{goal_cells}
 use Rattle.fraction_tableau.specs.KeptCells.{number_in, kept_below}
 use Rattle.fraction_tableau.proofs.KeptCells.{open_row, line_new, line_narrow, front_is, last_is}
-use Rattle.fraction_tableau.proofs.line.Line.load_goal.Goals as goal
+use Rattle.fraction_tableau.proofs.line.Line.fill_goal.Goals as goal
 
 pub fill_goal-self-inside-requires-clause-width : goal.fill_goal-self-inside-requires-clause-width
 fill_goal-self-inside-requires-clause-width c =

@@ -1,7 +1,7 @@
 use Rattle.std.proofs.Common.{length, ◌+◌, sym, ◌∙◌, ap, arith}
 use Rattle.std.proofs.lemmas.List.{with_items_is}
 use Rattle.fraction_tableau.proofs.KeptCells.{open_row, length-dense}
-use Rattle.fraction_tableau.proofs.line.Line.turn.Goals as goal
+use Rattle.fraction_tableau.proofs.line.Line.turn_fractions.Goals as goal
 
 pub turn_row-made-requires-clause-width : goal.turn_row-made-requires-clause-width
 turn_row-made-requires-clause-width c =
