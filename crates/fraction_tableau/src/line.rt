@@ -78,11 +78,18 @@ impl Line {
         &self.cells[..self.count]
     }
 
+    /// The bound, as it is held.
+    fn held_bound(&self) -> Quotient
+        ensures { result ≡ number_in self.now (length self.now - 1) }
+    {
+        self.bound.copied()
+    }
+
     /// The bound.
     pub fn bound(&self) -> Frac
         ensures { result ≡ number_in self.now (length self.now - 1) }
     {
-        self.bound.fraction()
+        self.held_bound().fraction()
     }
 
     /// The cell at a place, as it is held.
@@ -110,15 +117,15 @@ impl Line {
         self.held(place).fraction()
     }
 
-    /// The cell at a place, or the bound at the number after the last place.
-    pub fn get(&self, col: u32) -> Frac
+    /// The cell at a place, or the bound at the number after the last place, as it is held.
+    pub fn get(&self, col: u32) -> Quotient
         requires { col < length self.now }
         ensures { result ≡ number_in self.now col }
     {
         if col as usize == self.width() {
-            self.bound()
+            self.held_bound()
         } else {
-            self.cell(col)
+            self.held(col)
         }
     }
 
