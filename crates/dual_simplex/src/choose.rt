@@ -164,7 +164,8 @@ pub fn has_negative(tableau: &Tableau, row: u32) -> bool
 {
     let entries = tableau.kept(row);
     for index in 0..entries.len() {
-        if is_negative(&entries[index].cell) {
+        let entry = &entries[index];
+        if is_negative(&entry.cell) {
             return true;
         }
     }
