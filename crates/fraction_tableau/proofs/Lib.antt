@@ -13,5 +13,6 @@ pub mod Fitting
 pub mod Shares
 pub mod Small
 pub mod Making
+pub mod Turns
 pub mod Refusals
 pub mod LoadingLaws

@@ -1,5 +1,5 @@
 -- Rows that are made of their cells and a bound.
-use Rattle.std.proofs.Common.{◌^◌, ◌≡◌, ℕ, zero, suc, pos, List, [], ◌∷◌, Option, Some, None, length, take, get_or, eqb, ◌+◌, ◌<◌, ◌≤◌, ◌⊎◌, inl, inr, sym, ◌∙◌, ap, subst, arith}
+use Rattle.std.proofs.Common.{◌^◌, ◌≡◌, ℕ, zero, suc, pos, List, [], ◌∷◌, Option, Some, None, length, take, eqb, ◌+◌, ◌<◌, ◌≤◌, ◌⊎◌, inl, inr, sym, ◌∙◌, ap, subst, arith}
 use Rattle.std.specs.Prelude.{IfSome, SomeIff}
 use Rattle.std.proofs.lemmas.List.{get_or_past}
 use Rattle.std.proofs.lemmas.Bool.{cond_both}
@@ -76,14 +76,14 @@ scale_joined (Some s) j row h i n =
     subst (λ (t : Scale). IsScaled t row) (sym h.1) (record { above = to_above j i; denominator = to_least j i; short = h.0; numbers = n })
 
 -- numbers over a denominator fit
+pub over_fit : (d b : ℕ) (x : ℚ) → 0 < d → d ≤ b → b < 2 ^ 62 → IsOver d b x → FitsFrac x
+over_fit d b x p l h o =
+    let s = num_size (numerator d x) d p in
+    let t = den_size (numerator d x) d p in
+    subst FitsFrac o.same (record { num_fits = omega (arith, s, o.size, h); den_fits = omega (arith, t, l, h) })
+
 pub over_fits : (d b : ℕ) (row : List ℚ) → 0 < d → d ≤ b → b < 2 ^ 62 → ((k : ℕ) → IsOver d b (number_in row k)) → IsNarrow row
-over_fits d b row p l h n = record {
-  fits = λ k.
-      let o = n k in
-      let s = num_size (numerator d (number_in row k)) d p in
-      let t = den_size (numerator d (number_in row k)) d p in
-      subst FitsFrac o.same (record { num_fits = omega (arith, s, o.size, h); den_fits = omega (arith, t, l, h) });
-}
+over_fits d b row p l h n = record { fits = λ k. over_fit d b (number_in row k) p l h (n k) }
 
 pub over_more : (d b m : ℕ) (x : ℚ) → b ≤ m → IsOver d b x → IsOver d m x
 over_more d b m x h o = record { same = o.same; size = omega (arith, o.size, h) }

@@ -98,11 +98,11 @@ first_none : {E : Type 0} (f : ℕ → Option E) (n : ℕ) → ((k : ℕ) → f 
 first_none f zero h = refl
 first_none f (suc n) h = earlier_none (first_below f n) (f n) (first_none f n h) (h n)
 
-other_none : {E : Type 0} (b : Bool) (x : Option E) → x ≡ None → cond b None x ≡ None
+pub other_none : {E : Type 0} (b : Bool) (x : Option E) → x ≡ None → cond b None x ≡ None
 other_none true x e = refl
 other_none false x e = e
 
-quotient_free : (x y : ℚ) (i k : ℕ) → (y ≡ whole (pos 0) → ⊥) → IsSmall (2 ^ 42) x → IsSmall (2 ^ 42) y → refused Div x y i k ≡ None
+pub quotient_free : (x y : ℚ) (i k : ℕ) → (y ≡ whole (pos 0) → ⊥) → IsSmall (2 ^ 42) x → IsSmall (2 ^ 42) y → refused Div x y i k ≡ None
 quotient_free x y i k n h g = refused_none Div x y i k (quotient_fits x y n h g)
 
 pub turn_free : (i j : ℕ) (c : List ℚ) → AreSmall c → (get_or c j (whole (pos 0)) ≡ whole (pos 0) → ⊥) → turn_refusal i j c ≡ None

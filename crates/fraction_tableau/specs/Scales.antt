@@ -7,6 +7,7 @@ use Rattle.fraction_tableau.specs.declared.merging.Merged.{Merged}
 use Rattle.fraction_tableau.specs.declared.scale.Scale.{Scale}
 use Rattle.fraction_tableau.specs.declared.scale.Rescaling.{Rescaling}
 use Rattle.fraction_tableau.specs.declared.joining.Joining.{Joining}
+use Rattle.fraction_tableau.specs.declared.whole_turning.Turning.{Turning}
 
 -- the numerator of x over d, where it has one
 abbrev pub numerator : ℕ → ℚ → ℤ
@@ -71,3 +72,16 @@ pub record IsJoined (target d : List ℚ) (cells : List Kept) (done : Merged) : 
   pub taken : done.taken ≡ length (kept_below (number_in d) done.below)
   pub made : done.made ≤ done.below
   pub joined : take done.made cells ≡ kept_below (number_in target) done.below
+
+-- ---- turning
+-- the pivot
+abbrev pub pivot_of : Turning → ℚ
+pivot_of t = over t.pivot t.row.denominator
+
+-- the pivot isn't 0, and its numerator is one of the row's
+pub record IsTurning (t : Turning) : Type 0 where
+  pub above : 0 < t.row.denominator
+  pub least : t.row.denominator ≤ t.row.most
+  pub short : t.row.most < 2 ^ 42
+  pub size : unsigned_abs t.pivot ≤ t.row.most
+  pub some : t.pivot ≡ pos 0 → ⊥

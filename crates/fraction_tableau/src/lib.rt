@@ -22,6 +22,7 @@ mod narrowing;
 mod scale;
 mod tableau;
 mod turning;
+mod whole_turning;
 mod wide_cell;
 
 pub use kept::Kept;

@@ -8,15 +8,16 @@ ghost use Rattle.fraction_tableau.specs.Narrow.{IsNarrow};
 ghost use Rattle.fraction_tableau.specs.Refusals.{turn_refusal, clear_refusal};
 ghost use Rattle.fraction_tableau.specs.NamedTableaus.{row_cells, goal_cells};
 ghost use Rattle.fraction_tableau.specs.KeptCells.{number_in, kept_below};
-ghost use Rattle.fraction_tableau.specs.Scales.{IsScaled, IsJoining, factor_of};
+ghost use Rattle.fraction_tableau.specs.Scales.{IsScaled, IsJoining, IsTurning, factor_of, pivot_of};
 
 use crate::kept::Kept;
 use crate::loading::{fill_goal, fill_row};
 use crate::fractions::{Elimination, clear_row, turn_row};
 use crate::joining::{Joining, find_joining, join, joined};
 use crate::merging::{Merged, keep_before};
-use crate::narrowing::{find_scale, held_over, hold_over};
+use crate::narrowing::{find_scale, have_divisor, held_over, hold_over};
 use crate::scale::{AS_IT_IS, Scale, numerator_of};
+use crate::whole_turning::{Turning, turn_whole};
 use crate::wide_cell::WideCell;
 use named_row::{Place, Row};
 use narrow_fraction::{Frac, Quotient};
@@ -206,6 +207,40 @@ impl Line {
         }
     }
 
+    /// Whether the row is narrow and its numbers have a common divisor with its denominator.
+    fn has_divisor(&self) -> bool {
+        match self.scale {
+            Some(scale) => have_divisor(&self.cells, self.count, &self.bound, scale.denominator),
+            None => false,
+        }
+    }
+
+    /// Divides the numbers of a narrow row and its denominator by what they have in common. The row stays what it is.
+    fn reduce(&mut self)
+        ensures { self.new ≡ self.old }
+    {
+        if self.has_divisor() {
+            self.scale = None;
+        }
+        self.narrow();
+    }
+
+    /// How this row is turned at a place, where it is narrow.
+    fn turning(&self, place: u32) -> Option<Turning>
+        requires place { place + 1 < length self.now }
+        requires pivot { number_in self.now place ≡ whole (pos 0) → ⊥ }
+        ensures place { IfSome result (λ turning. turning.place ≡ place) }
+        ensures turning { IfSome result (λ turning. IsTurning turning) }
+        ensures row { IfSome result (λ turning. IsScaled turning.row self.now) }
+        ensures pivot { IfSome result (λ turning. pivot_of turning ≡ number_in self.now place) }
+    {
+        let Some(row) = self.scale else {
+            return None;
+        };
+        let pivot = numerator_of(&self.held(place), row.denominator);
+        Some(Turning { place, row, pivot })
+    }
+
     /// How this row is cleared at a place by a turned row, where both are narrow and no number might pass 62 bits.
     fn joining(&self, turned: &Line, place: u32, factor: &Quotient) -> Option<Joining>
         requires widths { length turned.now ≡ length self.now }
@@ -243,6 +278,45 @@ impl Line {
         made.outcome
     }
 
+    /// Becomes the pivot's own row, turned, by whole numbers, where that row is narrow; else it stays, and the answer is
+    /// false. No operation on the fractions is refused then.
+    fn turn_narrow(&mut self, row: &Line, place: u32) -> bool
+        requires width { length self.old ≡ length row.now }
+        requires place { place + 1 < length row.now }
+        requires pivot { number_in row.now place ≡ whole (pos 0) → ⊥ }
+        requires short { length row.now < 2 ^ 32 }
+        ensures passed { result ≡ true → (i : ℕ) → turn_refusal i place row.now ≡ None }
+        ensures turned { result ≡ true → self.new ≡ turned place row.now }
+        ensures width { length self.new ≡ length self.old }
+        ensures narrow { result ≡ true → IsNarrow self.new }
+    {
+        let Some(turning) = row.turning(place) else {
+            return false;
+        };
+        self.count = turn_whole(&mut self.cells, row, &turning);
+        self.bound = turning.turned(&row.bound, false);
+        self.scale = Some(turning.scale());
+        true
+    }
+
+    /// Becomes the pivot's own row, turned, by whole numbers or else by fractions.
+    fn turn_either(&mut self, row: &Line, number: u32, place: u32) -> Result<(), WideCell>
+        requires width { length self.old ≡ length row.now }
+        requires place { place + 1 < length row.now }
+        requires pivot { number_in row.now place ≡ whole (pos 0) → ⊥ }
+        requires short { length row.now < 2 ^ 32 }
+        requires narrow { IsNarrow row.now }
+        ensures outcome { result ≡ attempt (turn_refusal number place row.now) tt }
+        ensures turned { IfOk result (λ _. self.new ≡ turned place row.now) }
+        ensures width { length self.new ≡ length self.old }
+        ensures narrow { IfOk result (λ _. IsNarrow self.new) }
+    {
+        if self.turn_narrow(row, place) {
+            return Ok(());
+        }
+        self.turn_fractions(row, number, place)
+    }
+
     /// Becomes the pivot's own row, turned: one over the cell at `place`, and the other cells over that cell.
     pub fn turn(&mut self, row: &Line, number: u32, place: u32) -> Result<(), WideCell>
         requires width { length self.old ≡ length row.now }
@@ -255,8 +329,8 @@ impl Line {
         ensures width { length self.new ≡ length self.old }
         ensures narrow { IfOk result (λ _. IsNarrow self.new) }
     {
-        let outcome = self.turn_fractions(row, number, place);
-        self.narrow();
+        let outcome = self.turn_either(row, number, place);
+        self.reduce();
         outcome
     }
 

@@ -6,7 +6,7 @@ ghost use Rattle.fraction_tableau.specs.Scales.{IsOver, cell_at};
 
 use crate::kept::Kept;
 use crate::scale::{MOST, Scale, numerator_of};
-use narrow_fraction::{Frac, Quotient, common_multiple};
+use narrow_fraction::{Frac, Quotient, common_multiple, word_divisor};
 
 /// The least common multiple of a denominator and that of a number, where it has at most 42 bits.
 fn join_denominator(denominator: u64, number: Frac) -> Option<u64>
@@ -112,4 +112,34 @@ pub fn hold_over(cells: &mut [Kept], count: usize, scale: Scale)
     for index in 0..count {
         cells[index].cell = held_over(&cells[index].cell, scale);
     }
+}
+
+/// The size of the numerator of a number over a denominator, or 1 where it has none.
+fn size_over(number: &Quotient, denominator: u64) -> u64
+    requires { 0 < denominator }
+{
+    number
+        .numerator_over(denominator)
+        .unwrap_or(1)
+        .unsigned_abs()
+}
+
+/// Whether a denominator and the numerators of the first `count` cells and the bound have a common divisor other than 1.
+pub fn have_divisor(
+    cells: &[Kept],
+    count: usize,
+    bound: &Quotient,
+    denominator: u64,
+) -> bool
+    requires count { count ≤ length cells.now }
+    requires above { 0 < denominator }
+{
+    let mut shared = word_divisor(size_over(bound, denominator), denominator);
+    for index in 0..count {
+        if shared == 1 {
+            return false;
+        }
+        shared = word_divisor(size_over(&cells[index].cell, denominator), shared);
+    }
+    shared != 1
 }

@@ -1,4 +1,4 @@
-use Rattle.std.proofs.Common.{◌≡◌, ◌≤◌, ◌∙◌, ap, sym, arith, unsigned_abs, SFits, ℤ, negsuc}
+use Rattle.std.proofs.Common.{◌≡◌, ap, arith, unsigned_abs, SFits, negsuc}
 use Rattle.std.specs.Int.{w64}
 use Rattle.std.proofs.lemmas.Int.{ints, to_z-of_z}
 use Rattle.fraction_tableau.proofs.Scales.{is_over, numerator_or}

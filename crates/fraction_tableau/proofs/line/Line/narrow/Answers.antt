@@ -1,4 +1,4 @@
-use Rattle.std.proofs.Common.{ℕ, List, length, take, ◌<◌, ◌∙◌, sym, ap, subst, arith}
+use Rattle.std.proofs.Common.{ℕ, List, length, take, ◌<◌, ◌∙◌, sym, ap, subst}
 use Rattle.std.proofs.lemmas.List.{with_items_is}
 use Rattle.rational_theory.specs.Rational.{ℚ}
 use Rattle.fraction_tableau.specs.KeptCells.{dense_row, IsLine}
