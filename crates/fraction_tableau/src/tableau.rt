@@ -13,7 +13,7 @@ use crate::kept::Kept;
 use crate::line::Line;
 use crate::lines::exchange_cells;
 use crate::loading::count_up;
-use crate::wide_cell::WideCell;
+use crate::wide_cell::{Spot, WideCell};
 use named_row::{Row, RowId};
 use narrow_fraction::{Frac, Memory, Quotient};
 use std::alloc::Global;
@@ -214,8 +214,7 @@ impl Tableau {
             &mut self.spare,
             &mut self.held,
             &mut self.room,
-            line,
-            col,
+            Spot { row, col },
         ) {
             self.spent = true;
             return Err(wide);
