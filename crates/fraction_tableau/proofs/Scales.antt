@@ -101,9 +101,6 @@ combined_size a f x m b t h k =
     let q = at_most (unsigned_abs a) m b (unsigned_abs f) (unsigned_abs x) t h k in
     omega (arith, p, q)
 
-
-
-
 zeroed : (b : Bool) (n : ℤ) (d : ℕ) → 0 < d → over (cond b (pos 0) n) d ≡ cond b (whole (pos 0)) (over n d)
 zeroed true n d h = zero_over d h
 zeroed false n d h = refl
@@ -201,9 +198,6 @@ rescales j d i p k n =
       same = rw i.from o.same;
       size = rw i.from (omega (arith, s, i.most, i.short));
     }
-
-
-
 
 pub first_above : (m g e : ℕ) → m * g ≡ e → 0 < e → 0 < m
 first_above zero g e h k = absurd (omega (arith, h, k))

@@ -102,12 +102,7 @@ pub fn turn_row(cells: &mut [Kept], row: &Line, number: u32, place: u32) -> Made
 /// Another row cleared: each number less the factor times the turned row's, and at the place the negated quotient of the
 /// factor and the pivot. The quotient is made before the merge and its refusal kept for the end, since its operation is the
 /// row's last.
-pub fn clear_row(
-    cells: &mut [Kept],
-    row: &Line,
-    turned: &Line,
-    elimination: &Elimination,
-) -> Made
+pub fn clear_row(cells: &mut [Kept], row: &Line, turned: &Line, elimination: &Elimination) -> Made
     requires width { length row.now ≡ length cells.old + 1 }
     requires widths { length turned.now ≡ length row.now }
     requires place { elimination.now.place + 1 < length row.now }

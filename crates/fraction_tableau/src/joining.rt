@@ -74,8 +74,7 @@ pub fn find_joining(place: u32, row: Scale, turned: Scale, factor: i64) -> Optio
     let shared = word_divisor(factor.unsigned_abs(), turned.denominator);
     let part = part_of(factor, shared);
     let times = word_quotient(turned.denominator, shared);
-    let most = row.most as u128 * times as u128
-        + part.unsigned_abs() as u128 * turned.most as u128;
+    let most = row.most as u128 * times as u128 + part.unsigned_abs() as u128 * turned.most as u128;
     if most > MOST_JOINED {
         return None;
     }
@@ -171,12 +170,7 @@ fn join_next(
     let next = &others[index];
     let done = keep_before(cells, row, done, next.place, joining.rescaling);
     let own = take_at(row, done.taken, next.place);
-    let cell = joined(
-        joining,
-        &own.cell,
-        next.place == joining.place,
-        &next.cell,
-    );
+    let cell = joined(joining, &own.cell, next.place == joining.place, &next.cell);
     let made = put(
         cells,
         done.made,

@@ -10,12 +10,12 @@ ghost use Rattle.fraction_tableau.specs.NamedTableaus.{row_cells, goal_cells};
 ghost use Rattle.fraction_tableau.specs.KeptCells.{number_in, kept_below};
 ghost use Rattle.fraction_tableau.specs.Scales.{IsScaled, IsJoining, IsTurning, factor_of, pivot_of};
 
-use crate::kept::Kept;
-use crate::loading::{fill_goal, fill_row};
 use crate::fractions::{Elimination, clear_row, turn_row};
 use crate::joining::{Joining, find_joining, join, joined};
+use crate::kept::Kept;
+use crate::loading::{fill_goal, fill_row};
 use crate::merging::{Merged, keep_before};
-use crate::narrowing::{find_scale, have_divisor, held_over, hold_over};
+use crate::narrowing::{find_scale, have_divisor, held_over, hold_lowest, hold_over};
 use crate::scale::{AS_IT_IS, Scale, numerator_of};
 use crate::whole_turning::{Turning, turn_whole};
 use crate::wide_cell::WideCell;
@@ -25,7 +25,8 @@ use std::alloc::{AllocError, Global};
 use std::marker::Model;
 
 /// A row. `cells` has room for a cell at each place and never grows; its first `count` are the row's cells that aren't 0,
-/// ascending by place, and what stands behind them means nothing.
+/// ascending by place, and what stands behind them means nothing. A row with a scale is narrow: its numbers are whole ones
+/// over the scale's denominator, and are held so. Other rows are wide.
 #[derive(Drop)]
 pub struct Line {
     cells: Vec<Kept>,
@@ -200,10 +201,13 @@ impl Line {
         if self.scale.is_some() {
             return;
         }
-        if let Some(scale) = find_scale(&self.cells, self.count, &self.bound) {
-            hold_over(&mut self.cells, self.count, scale);
-            self.bound = held_over(&self.bound, scale);
-            self.scale = Some(scale);
+        match find_scale(&self.cells, self.count, &self.bound) {
+            Some(scale) => {
+                hold_over(&mut self.cells, self.count, scale);
+                self.bound = held_over(&self.bound, scale);
+                self.scale = Some(scale);
+            }
+            None => hold_lowest(&mut self.cells, self.count),
         }
     }
 
@@ -363,13 +367,7 @@ impl Line {
 
     /// Becomes another row cleared, by whole numbers, where both rows are narrow and no number might pass 62 bits; else it
     /// stays, and the answer is false. No operation on the fractions is refused then.
-    fn clear_narrow(
-        &mut self,
-        row: &Line,
-        turned: &Line,
-        place: u32,
-        factor: &Quotient,
-    ) -> bool
+    fn clear_narrow(&mut self, row: &Line, turned: &Line, place: u32, factor: &Quotient) -> bool
         requires width { length self.old ≡ length row.now }
         requires widths { length turned.now ≡ length row.now }
         requires place { place + 1 < length row.now }

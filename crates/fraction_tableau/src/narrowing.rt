@@ -95,10 +95,7 @@ pub fn held_over(number: &Quotient, scale: Scale) -> Quotient
     requires over { IsOver scale.denominator scale.most number.now }
     ensures { result ≡ number.now }
 {
-    Quotient::of_words(
-        numerator_of(number, scale.denominator),
-        scale.denominator,
-    )
+    Quotient::of_words(numerator_of(number, scale.denominator), scale.denominator)
 }
 
 /// The first `count` cells, held over the scale's denominator: the same numbers.
@@ -114,6 +111,16 @@ pub fn hold_over(cells: &mut [Kept], count: usize, scale: Scale)
     }
 }
 
+/// The first `count` cells, held in lowest terms: the same numbers.
+pub fn hold_lowest(cells: &mut [Kept], count: usize)
+    requires { count ≤ length cells.old }
+    ensures { cells.new ≡ cells.old }
+{
+    for index in 0..count {
+        cells[index].cell = Quotient::of_fraction(cells[index].cell.fraction());
+    }
+}
+
 /// The size of the numerator of a number over a denominator, or 1 where it has none.
 fn size_over(number: &Quotient, denominator: u64) -> u64
     requires { 0 < denominator }
@@ -125,12 +132,7 @@ fn size_over(number: &Quotient, denominator: u64) -> u64
 }
 
 /// Whether a denominator and the numerators of the first `count` cells and the bound have a common divisor other than 1.
-pub fn have_divisor(
-    cells: &[Kept],
-    count: usize,
-    bound: &Quotient,
-    denominator: u64,
-) -> bool
+pub fn have_divisor(cells: &[Kept], count: usize, bound: &Quotient, denominator: u64) -> bool
     requires count { count ≤ length cells.now }
     requires above { 0 < denominator }
 {

@@ -50,9 +50,6 @@ impl Rescaling {
         if self.times == 1 {
             return number.copied();
         }
-        Quotient::of_words(
-            numerator_of(number, self.from) * self.times as i64,
-            self.to,
-        )
+        Quotient::of_words(numerator_of(number, self.from) * self.times as i64, self.to)
     }
 }

@@ -32,7 +32,11 @@ fn turned_numerator(numerator: i64, denominator: u64, is_own: bool) -> i64
     requires { denominator < 2 ^ 62 }
     ensures { result ≡ cond is_own (pos denominator) numerator }
 {
-    if is_own { denominator as i64 } else { numerator }
+    if is_own {
+        denominator as i64
+    } else {
+        numerator
+    }
 }
 
 impl Turning {

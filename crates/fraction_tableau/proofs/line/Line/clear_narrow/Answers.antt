@@ -76,16 +76,17 @@ invariant_of-self c =
     let b = cleared_last j.place w e d c.joined-self-inside.result (factor_of j) c.row.inside.bound c.turned.inside.bound h is x y c.joined-self-inside.ensures in
     let m = row_made t w c.join-self-inside.result (number_in t) c.join-self-inside.new.cells c.joined-self-inside.result l high k (λ a z. refl) b in
     let v = row_in _ c.join-self-inside.new.cells w c.join-self-inside.result c.joined-self-inside.result same len ∙ m.1 in
-    let o = cleared_scaled j e d f.joining f.row f.turned is (omega (arith, h, n)) in
-    (line_in _ c.join-self-inside.new.cells w c.join-self-inside.result same len m.0,
-    subst (HasScale c.scale-self-inside.result) (sym v) (scale_joined c.scale-self-inside.result j t c.scale-self-inside.ensures f.joining o))
+    let o = cleared_scaled j e d f.joining f.row f.turned is (omega (arith, h, n)) in (
+      line_in _ c.join-self-inside.new.cells w c.join-self-inside.result same len m.0,
+      subst (HasScale c.scale-self-inside.result) (sym v) (scale_joined c.scale-self-inside.result j t c.scale-self-inside.ensures f.joining o),
+    )
 
 pub returns-clause-passed : goal.returns-clause-passed
 returns-clause-passed c =
     λ _ k pivot z o.
-        let j = c.in-Some.joining in
-        let f = c.in-Some.ensures in
-        clear_free_own k c.args.place c.args.turned.now c.args.row.now pivot (scaled_small j.turned c.args.turned.now f.turned) (scaled_small j.row c.args.row.now f.row) z o
+    let j = c.in-Some.joining in
+    let f = c.in-Some.ensures in
+    clear_free_own k c.args.place c.args.turned.now c.args.row.now pivot (scaled_small j.turned c.args.turned.now f.turned) (scaled_small j.row c.args.row.now f.row) z o
 
 pub returns-clause-cleared : goal.returns-clause-cleared
 returns-clause-cleared c =

@@ -65,9 +65,10 @@ invariant_of-self c =
     let b = turned_last j.place w d c.turned-self-inside.result c.row.inside.bound (pivot_of j) h is x c.turned-self-inside.ensures in
     let m = row_made t w c.turn_whole-self-inside.result (number_in t) c.turn_whole-self-inside.new.cells c.turned-self-inside.result l high k (λ a z. refl) b in
     let v = row_in _ c.turn_whole-self-inside.new.cells w c.turn_whole-self-inside.result c.turned-self-inside.result same len ∙ m.1 in
-    let o = turned_scaled j d f.turning f.row is (omega (arith, h, n)) in
-    (line_in _ c.turn_whole-self-inside.new.cells w c.turn_whole-self-inside.result same len m.0,
-    subst (IsScaled c.scale.result) (sym v) (scale_turned j c.scale.result t f.turning c.scale.ensures.denominator c.scale.ensures.most o))
+    let o = turned_scaled j d f.turning f.row is (omega (arith, h, n)) in (
+      line_in _ c.turn_whole-self-inside.new.cells w c.turn_whole-self-inside.result same len m.0,
+      subst (IsScaled c.scale.result) (sym v) (scale_turned j c.scale.result t f.turning c.scale.ensures.denominator c.scale.ensures.most o),
+    )
 
 pub returns-clause-passed : goal.returns-clause-passed
 returns-clause-passed c =
