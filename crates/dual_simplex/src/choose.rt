@@ -13,23 +13,22 @@ ghost use Rattle.fraction_tableau.specs.Refusals.{refused};
 ghost use Rattle.dual_simplex.specs.Ratios.{ratio_at, ratio_refusal, with_ratio, place_of};
 
 use fraction_tableau::{Kept, Tableau, WideCell};
-use narrow_fraction::Frac;
+use narrow_fraction::{Frac, Quotient};
 use std::cmp::Ordering;
 
 /// Whether a number is below 0.
-fn is_negative(number: Frac) -> bool
-    ensures { result ≡ is_negative number }
+fn is_negative(number: &Quotient) -> bool
+    ensures { result ≡ is_negative number.now }
 {
     number.is_negative()
 }
 
-/// The cell of a row, or its bound.
-fn row_cell(tableau: &Tableau, row: u32, col: u32) -> Frac
-    requires row { row < height tableau.now.table }
-    requires col { col ≤ width tableau.now.table }
-    ensures { result ≡ cell tableau.now.table row col }
+/// The bound of a row.
+fn row_bound(tableau: &Tableau, row: u32) -> Quotient
+    requires { row < height tableau.now.table }
+    ensures { result ≡ bound tableau.now.table row }
 {
-    tableau.cell(row, col)
+    tableau.held(row, tableau.width())
 }
 
 /// The cell of the goal row.
@@ -46,7 +45,7 @@ fn better_row(tableau: &Tableau, best: Option<u32>, row: u32) -> Option<u32>
     requires best { IfSome best (λ other. other < height tableau.now.table) }
     ensures { result ≡ best_step (λ i. is_negative (bound tableau.now.table i)) (row_before tableau.now.table) row best }
 {
-    let negative = is_negative(row_cell(tableau, row, tableau.width()));
+    let negative = is_negative(&row_bound(tableau, row));
     match best {
         None => { if negative { Some(row) } else { None } }
         Some(other) => {
@@ -104,19 +103,24 @@ fn better_place(
     tableau: &Tableau,
     row: u32,
     best: Option<Chosen>,
-    entry: Kept,
+    entry: &Kept,
 ) -> Result<Option<Chosen>, WideCell>
     requires row { row < height tableau.now.table }
-    requires place { entry.place < width tableau.now.table }
-    requires cell { entry.cell ≡ cell tableau.now.table row entry.place }
+    requires place { entry.now.place < width tableau.now.table }
+    requires cell { entry.now.cell ≡ cell tableau.now.table row entry.now.place }
     requires best { IfSome best (λ other. (other.place < width tableau.now.table) × (other.ratio ≡ ratio tableau.now.table row other.place)) }
-    ensures { result ≡ attempt (ratio_at tableau.now.table row entry.place) (with_ratio tableau.now.table row (best_step (λ k. is_negative (cell tableau.now.table row k)) (place_before tableau.now.table row) entry.place (place_of best))) }
+    ensures { result ≡ attempt (ratio_at tableau.now.table row entry.now.place) (with_ratio tableau.now.table row (best_step (λ k. is_negative (cell tableau.now.table row k)) (place_before tableau.now.table row) entry.now.place (place_of best))) }
 {
-    if !is_negative(entry.cell) {
+    if !is_negative(&entry.cell) {
         return Ok(best);
     }
     let place = entry.place;
-    let ratio = match ratio_of(goal_row_cell(tableau, place), entry.cell, row, place) {
+    let ratio = match ratio_of(
+        goal_row_cell(tableau, place),
+        entry.cell.fraction(),
+        row,
+        place,
+    ) {
         Ok(ratio) => ratio,
         Err(wide) => return Err(wide),
     };
@@ -145,7 +149,7 @@ pub fn chosen_place(tableau: &Tableau, row: u32) -> Result<Option<Chosen>, WideC
     let entries = tableau.kept(row);
     let mut best = None;
     for index in 0..entries.len() {
-        match better_place(tableau, row, best, entries[index]) {
+        match better_place(tableau, row, best, &entries[index]) {
             Ok(next) => best = next,
             Err(wide) => return Err(wide),
         }
@@ -160,8 +164,8 @@ pub fn has_negative(tableau: &Tableau, row: u32) -> bool
 {
     let entries = tableau.kept(row);
     for index in 0..entries.len() {
-        let entry = entries[index];
-        if is_negative(entry.cell) {
+        let entry = &entries[index];
+        if is_negative(&entry.cell) {
             return true;
         }
     }

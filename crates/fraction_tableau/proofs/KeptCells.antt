@@ -187,7 +187,7 @@ dense_length : (w : ℕ) (cells : List Kept) (b : ℚ) → length (dense_row w c
 unfolding dense_row
 dense_length w cells b = length_push (map (cell_in cells) (range_with_len 0 w)) b ∙ ap (λ n. n + 1) (length-map (range_with_len 0 w) (cell_in cells) ∙ length-range_with_len 0 w)
 
-dense_cell : (w : ℕ) (cells : List Kept) (b : ℚ) (m : ℕ) → m < w → number_in (dense_row w cells b) m ≡ cell_in cells m
+pub dense_cell : (w : ℕ) (cells : List Kept) (b : ℚ) (m : ℕ) → m < w → number_in (dense_row w cells b) m ≡ cell_in cells m
 unfolding dense_row
 dense_cell w cells b m h =
     let a = length-range_with_len 0 w in
@@ -196,7 +196,7 @@ dense_cell w cells b m h =
     ∙ get_or-map (cell_in cells) (range_with_len 0 w) m 0 (whole (pos 0)) (omega arith)
     ∙ ap (cell_in cells) (get_or-range_with_len 0 w m 0 h ∙ zero_plus m)
 
-dense_bound : (w : ℕ) (cells : List Kept) (b : ℚ) → number_in (dense_row w cells b) w ≡ b
+pub dense_bound : (w : ℕ) (cells : List Kept) (b : ℚ) → number_in (dense_row w cells b) w ≡ b
 unfolding dense_row
 dense_bound w cells b = get_or_push (map (cell_in cells) (range_with_len 0 w)) b (whole (pos 0)) w (length-map (range_with_len 0 w) (cell_in cells) ∙ length-range_with_len 0 w)
 

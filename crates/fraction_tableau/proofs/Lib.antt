@@ -1,4 +1,5 @@
 pub mod KeptCells
+pub mod Scales
 pub mod Keeps
 pub mod Merges
 pub mod Zeros
@@ -7,5 +8,10 @@ pub mod Pivots
 pub mod Filling
 pub mod Tableaus
 pub mod Named
+pub mod Fitting
+pub mod Shares
+pub mod Small
+pub mod Making
+pub mod Turns
 pub mod Refusals
 pub mod LoadingLaws

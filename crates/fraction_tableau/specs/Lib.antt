@@ -1,5 +1,6 @@
 pub mod Narrow
 pub mod KeptCells
+pub mod Scales
 pub mod Refusals
 pub mod NamedTableaus
 pub mod Loading

@@ -9,15 +9,20 @@
 #![tactic(auto)]
 
 mod basis;
+mod fractions;
 mod fresh;
+mod joining;
 mod kept;
 mod laws;
 mod line;
 mod lines;
 mod loading;
 mod merging;
+mod narrowing;
+mod scale;
 mod tableau;
 mod turning;
+mod whole_turning;
 mod wide_cell;
 
 pub use kept::Kept;

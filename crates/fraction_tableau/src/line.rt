@@ -1,54 +1,51 @@
 //! One row of a tableau: its cells that aren't 0, in order, and its bound.
 
-ghost use Rattle.std.specs.Prelude.{◌≡◌, ◌+◌, ◌-◌, ◌<◌, ◌≤◌, ◌^◌, pos, length, replicate, IfOk, IfErr};
-ghost use Rattle.rational_theory.specs.Rational.{whole, inverse_ℚ, neg_ℚ};
+ghost use Rattle.std.specs.Prelude.{◌≡◌, ◌+◌, ◌-◌, ◌<◌, ◌≤◌, ◌^◌, ℕ, None, true, false, pos, length, replicate, IfOk, IfSome};
+ghost use Rattle.rational_theory.specs.Rational.{ℚ, whole, inverse_ℚ};
 ghost use Rattle.simplex_theory.specs.Lines.{turned, cleared};
 ghost use Rattle.narrow_fraction.specs.Attempt.{attempt};
 ghost use Rattle.fraction_tableau.specs.Narrow.{IsNarrow};
 ghost use Rattle.fraction_tableau.specs.Refusals.{turn_refusal, clear_refusal};
 ghost use Rattle.fraction_tableau.specs.NamedTableaus.{row_cells, goal_cells};
 ghost use Rattle.fraction_tableau.specs.KeptCells.{number_in, kept_below};
+ghost use Rattle.fraction_tableau.specs.Scales.{IsScaled, IsJoining, IsTurning, factor_of, pivot_of};
 
+use crate::fractions::{Elimination, clear_row, turn_row};
+use crate::joining::{Joining, find_joining, join, joined};
 use crate::kept::Kept;
 use crate::loading::{fill_goal, fill_row};
-use crate::merging::{Clearing, Merged, cleared_number, keep_before, merge};
-use crate::turning::turn_cells;
-use crate::wide_cell::{Spot, WideCell};
+use crate::merging::{Merged, keep_before};
+use crate::narrowing::{find_scale, have_divisor, held_over, hold_lowest, hold_over};
+use crate::scale::{AS_IT_IS, Scale, numerator_of};
+use crate::whole_turning::{Turning, turn_whole};
+use crate::wide_cell::WideCell;
 use named_row::{Place, Row};
-use narrow_fraction::Frac;
+use narrow_fraction::{Frac, Quotient};
 use std::alloc::{AllocError, Global};
 use std::marker::Model;
 
 /// A row. `cells` has room for a cell at each place and never grows; its first `count` are the row's cells that aren't 0,
-/// ascending by place, and what stands behind them means nothing.
+/// ascending by place, and what stands behind them means nothing. A row with a scale is narrow: its numbers are whole ones
+/// over the scale's denominator, and are held so. Other rows are wide.
 #[derive(Drop)]
 pub struct Line {
     cells: Vec<Kept>,
     count: usize,
-    bound: Frac,
+    bound: Quotient,
+    scale: Option<Scale>,
 }
 
 impl Model for Line {
     ghost use Rattle.std.specs.Prelude.{List, length, take};
     ghost use Rattle.rational_theory.specs.Rational.{ℚ};
     ghost use Rattle.fraction_tableau.specs.KeptCells.{dense_row, IsLine};
+    ghost use Rattle.fraction_tableau.specs.Scales.{HasScale};
 
     ghost Value = { List ℚ };
 
     ghost view = { λ a. dense_row (length a.cells.items) (take a.count a.cells.items) a.bound };
 
-    ghost invariant = { λ a. IsLine (length a.cells.items) a.count (take a.count a.cells.items) };
-}
-
-/// The negated quotient, or the other number where it was refused.
-fn negated_or(quotient: &Result<Frac, WideCell>, other: Frac) -> Frac
-    ensures ok { IfOk quotient.now (λ value. result ≡ neg_ℚ value) }
-    ensures err { IfErr quotient.now (λ _. result ≡ other) }
-{
-    match quotient {
-        Ok(value) => value.neg(),
-        Err(_) => other,
-    }
+    ghost invariant = { λ a. IsLine (length a.cells.items) a.count (take a.count a.cells.items) × HasScale a.scale (dense_row (length a.cells.items) (take a.count a.cells.items) a.bound) };
 }
 
 impl Line {
@@ -58,13 +55,14 @@ impl Line {
     {
         let none = Kept {
             place: 0,
-            cell: Frac::whole(0),
+            cell: Quotient::of_fraction(Frac::whole(0)),
         };
         let cells = vec![in alloc; none; width]?;
         Ok(Line {
             cells,
             count: 0,
-            bound: Frac::whole(0),
+            bound: Quotient::of_fraction(Frac::whole(0)),
+            scale: None,
         })
     }
 
@@ -82,11 +80,35 @@ impl Line {
         &self.cells[..self.count]
     }
 
+    /// The bound, as it is held.
+    fn held_bound(&self) -> Quotient
+        ensures { result ≡ number_in self.now (length self.now - 1) }
+    {
+        self.bound.copied()
+    }
+
     /// The bound.
     pub fn bound(&self) -> Frac
         ensures { result ≡ number_in self.now (length self.now - 1) }
     {
-        self.bound
+        self.held_bound().fraction()
+    }
+
+    /// The cell at a place, as it is held.
+    pub fn held(&self, place: u32) -> Quotient
+        requires { place + 1 < length self.now }
+        ensures { result ≡ number_in self.now place }
+    {
+        for kept in self.kept() {
+            if kept.place >= place {
+                return if kept.place == place {
+                    kept.cell.copied()
+                } else {
+                    Quotient::of_fraction(Frac::whole(0))
+                };
+            }
+        }
+        Quotient::of_fraction(Frac::whole(0))
     }
 
     /// The cell at a place.
@@ -94,28 +116,31 @@ impl Line {
         requires { place + 1 < length self.now }
         ensures { result ≡ number_in self.now place }
     {
-        for kept in self.kept() {
-            if kept.place >= place {
-                return if kept.place == place {
-                    kept.cell
-                } else {
-                    Frac::whole(0)
-                };
-            }
-        }
-        Frac::whole(0)
+        self.held(place).fraction()
     }
 
-    /// The cell at a place, or the bound at the number after the last place.
-    pub fn get(&self, col: u32) -> Frac
+    /// The cell at a place, or the bound at the number after the last place, as it is held.
+    pub fn get(&self, col: u32) -> Quotient
         requires { col < length self.now }
         ensures { result ≡ number_in self.now col }
     {
         if col as usize == self.width() {
-            self.bound()
+            self.held_bound()
         } else {
-            self.cell(col)
+            self.held(col)
         }
+    }
+
+    /// Takes a row's coefficients and its bound, as fractions.
+    fn fill(&mut self, from: &Row)
+        requires width { length self.old ≡ length from.now.coefs + 1 }
+        requires short { length self.old ≤ 2 ^ 32 }
+        ensures cells { self.new ≡ row_cells from.now }
+        ensures narrow { IsNarrow self.new }
+    {
+        self.count = fill_row(&mut self.cells, from);
+        self.bound = Quotient::of_fraction(from.get(Place::Bound).fitting());
+        self.scale = None;
     }
 
     /// Takes a row's coefficients and its bound.
@@ -125,8 +150,20 @@ impl Line {
         ensures cells { self.new ≡ row_cells from.now }
         ensures narrow { IsNarrow self.new }
     {
-        self.count = fill_row(&mut self.cells, from);
-        self.bound = from.get(Place::Bound).fitting();
+        self.fill(from);
+        self.narrow();
+    }
+
+    /// Takes a row's negated coefficients, and the bound 0, as fractions.
+    fn fill_goal(&mut self, from: &Row)
+        requires width { length self.old ≡ length from.now.coefs + 1 }
+        requires short { length self.old ≤ 2 ^ 32 }
+        ensures cells { self.new ≡ goal_cells from.now }
+        ensures narrow { IsNarrow self.new }
+    {
+        self.count = fill_goal(&mut self.cells, from);
+        self.bound = Quotient::of_fraction(Frac::whole(0));
+        self.scale = None;
     }
 
     /// Takes a row's negated coefficients, and the bound 0.
@@ -136,8 +173,8 @@ impl Line {
         ensures cells { self.new ≡ goal_cells from.now }
         ensures narrow { IsNarrow self.new }
     {
-        self.count = fill_goal(&mut self.cells, from);
-        self.bound = Frac::whole(0).fitting();
+        self.fill_goal(from);
+        self.narrow();
     }
 
     /// Takes the cells and the bound of another row.
@@ -152,8 +189,136 @@ impl Line {
             taken: 0,
             made: 0,
         };
-        self.count = keep_before(&mut self.cells, row, none, width).made;
-        self.bound = row.bound();
+        self.count = keep_before(&mut self.cells, row, none, width, AS_IT_IS).made;
+        self.bound = row.bound.copied();
+        self.scale = row.scale;
+    }
+
+    /// Becomes narrow, where it isn't and can be. The row stays what it is.
+    fn narrow(&mut self)
+        ensures { self.new ≡ self.old }
+    {
+        if self.scale.is_some() {
+            return;
+        }
+        match find_scale(&self.cells, self.count, &self.bound) {
+            Some(scale) => {
+                hold_over(&mut self.cells, self.count, scale);
+                self.bound = held_over(&self.bound, scale);
+                self.scale = Some(scale);
+            }
+            None => hold_lowest(&mut self.cells, self.count),
+        }
+    }
+
+    /// Whether the row is narrow and its numbers have a common divisor with its denominator.
+    fn has_divisor(&self) -> bool {
+        match self.scale {
+            Some(scale) => have_divisor(&self.cells, self.count, &self.bound, scale.denominator),
+            None => false,
+        }
+    }
+
+    /// Divides the numbers of a narrow row and its denominator by what they have in common. The row stays what it is.
+    fn reduce(&mut self)
+        ensures { self.new ≡ self.old }
+    {
+        if self.has_divisor() {
+            self.scale = None;
+        }
+        self.narrow();
+    }
+
+    /// How this row is turned at a place, where it is narrow.
+    fn turning(&self, place: u32) -> Option<Turning>
+        requires place { place + 1 < length self.now }
+        requires pivot { number_in self.now place ≡ whole (pos 0) → ⊥ }
+        ensures place { IfSome result (λ turning. turning.place ≡ place) }
+        ensures turning { IfSome result (λ turning. IsTurning turning) }
+        ensures row { IfSome result (λ turning. IsScaled turning.row self.now) }
+        ensures pivot { IfSome result (λ turning. pivot_of turning ≡ number_in self.now place) }
+    {
+        let Some(row) = self.scale else {
+            return None;
+        };
+        let pivot = numerator_of(&self.held(place), row.denominator);
+        Some(Turning { place, row, pivot })
+    }
+
+    /// How this row is cleared at a place by a turned row, where both are narrow and no number might pass 62 bits.
+    fn joining(&self, turned: &Line, place: u32, factor: &Quotient) -> Option<Joining>
+        requires widths { length turned.now ≡ length self.now }
+        requires place { place + 1 < length self.now }
+        requires factor { factor.now ≡ number_in self.now place }
+        ensures place { IfSome result (λ joining. joining.place ≡ place) }
+        ensures joining { IfSome result (λ joining. IsJoining joining) }
+        ensures factor { IfSome result (λ joining. factor_of joining ≡ factor.now) }
+        ensures row { IfSome result (λ joining. IsScaled joining.row self.now) }
+        ensures turned { IfSome result (λ joining. IsScaled joining.turned turned.now) }
+    {
+        let (Some(own), Some(other)) = (self.scale, turned.scale) else {
+            return None;
+        };
+        let numerator = numerator_of(factor, own.denominator);
+        find_joining(place, own, other, numerator)
+    }
+
+    /// Becomes the pivot's own row, turned, by fractions.
+    fn turn_fractions(&mut self, row: &Line, number: u32, place: u32) -> Result<(), WideCell>
+        requires width { length self.old ≡ length row.now }
+        requires place { place + 1 < length row.now }
+        requires pivot { number_in row.now place ≡ whole (pos 0) → ⊥ }
+        requires short { length row.now < 2 ^ 32 }
+        requires narrow { IsNarrow row.now }
+        ensures outcome { result ≡ attempt (turn_refusal number place row.now) tt }
+        ensures turned { IfOk result (λ _. self.new ≡ turned place row.now) }
+        ensures width { length self.new ≡ length self.old }
+        ensures narrow { IfOk result (λ _. IsNarrow self.new) }
+    {
+        let made = turn_row(&mut self.cells, row, number, place);
+        self.count = made.count;
+        self.bound = Quotient::of_fraction(made.bound);
+        self.scale = None;
+        made.outcome
+    }
+
+    /// Becomes the pivot's own row, turned, by whole numbers, where that row is narrow; else it stays, and the answer is
+    /// false. No operation on the fractions is refused then.
+    fn turn_narrow(&mut self, row: &Line, place: u32) -> bool
+        requires width { length self.old ≡ length row.now }
+        requires place { place + 1 < length row.now }
+        requires pivot { number_in row.now place ≡ whole (pos 0) → ⊥ }
+        requires short { length row.now < 2 ^ 32 }
+        ensures passed { result ≡ true → (i : ℕ) → turn_refusal i place row.now ≡ None }
+        ensures turned { result ≡ true → self.new ≡ turned place row.now }
+        ensures width { length self.new ≡ length self.old }
+        ensures narrow { result ≡ true → IsNarrow self.new }
+    {
+        let Some(turning) = row.turning(place) else {
+            return false;
+        };
+        self.count = turn_whole(&mut self.cells, row, &turning);
+        self.bound = turning.turned(&row.bound, false);
+        self.scale = Some(turning.scale());
+        true
+    }
+
+    /// Becomes the pivot's own row, turned, by whole numbers or else by fractions.
+    fn turn_either(&mut self, row: &Line, number: u32, place: u32) -> Result<(), WideCell>
+        requires width { length self.old ≡ length row.now }
+        requires place { place + 1 < length row.now }
+        requires pivot { number_in row.now place ≡ whole (pos 0) → ⊥ }
+        requires short { length row.now < 2 ^ 32 }
+        requires narrow { IsNarrow row.now }
+        ensures outcome { result ≡ attempt (turn_refusal number place row.now) tt }
+        ensures turned { IfOk result (λ _. self.new ≡ turned place row.now) }
+        ensures width { length self.new ≡ length self.old }
+        ensures narrow { IfOk result (λ _. IsNarrow self.new) }
+    {
+        if self.turn_narrow(row, place) {
+            return Ok(());
+        }
+        self.turn_fractions(row, number, place)
     }
 
     /// Becomes the pivot's own row, turned: one over the cell at `place`, and the other cells over that cell.
@@ -168,97 +333,110 @@ impl Line {
         ensures width { length self.new ≡ length self.old }
         ensures narrow { IfOk result (λ _. IsNarrow self.new) }
     {
-        self.count = 0;
-        let pivot = row.cell(place);
-        let own = Spot {
-            row: number,
-            col: place,
-        };
-        let reciprocal = match own.over(Frac::whole(1), pivot) {
-            Ok(value) => value,
-            Err(wide) => return Err(wide),
-        };
-        let turned = Kept {
-            place,
-            cell: reciprocal,
-        };
-        let count = match turn_cells(&mut self.cells, row, number, &turned, pivot) {
-            Ok(count) => count,
-            Err(wide) => return Err(wide),
-        };
-        let last = Spot {
-            row: number,
-            col: self.cells.len() as u32,
-        };
-        match last.over(row.bound(), pivot) {
-            Ok(bound) => {
-                self.count = count;
-                self.bound = bound;
-                Ok(())
-            }
-            Err(wide) => Err(wide),
-        }
+        let outcome = self.turn_either(row, number, place);
+        self.reduce();
+        outcome
     }
 
-    /// Becomes another row cleared: each number less `factor`, the row's cell at `place`, times the turned row's, and at
-    /// `place` the negated quotient of the factor and the pivot. The quotient is made before the merge and its refusal
-    /// kept for the end, since its operation is the row's last.
+    /// Becomes another row cleared, by fractions.
+    fn clear_fractions(
+        &mut self,
+        row: &Line,
+        turned: &Line,
+        elimination: &Elimination,
+    ) -> Result<(), WideCell>
+        requires width { length self.old ≡ length row.now }
+        requires widths { length turned.now ≡ length row.now }
+        requires place { elimination.now.place + 1 < length row.now }
+        requires pivot { elimination.now.pivot ≡ whole (pos 0) → ⊥ }
+        requires factor { elimination.now.factor ≡ number_in row.now elimination.now.place }
+        requires own { number_in turned.now elimination.now.place ≡ inverse_ℚ elimination.now.pivot }
+        requires short { length row.now < 2 ^ 32 }
+        requires narrow { IsNarrow row.now }
+        ensures outcome { result ≡ attempt (clear_refusal elimination.now.number elimination.now.place turned.now row.now elimination.now.pivot) tt }
+        ensures cleared { IfOk result (λ _. self.new ≡ cleared elimination.now.place turned.now row.now) }
+        ensures width { length self.new ≡ length self.old }
+        ensures narrow { IfOk result (λ _. IsNarrow self.new) }
+    {
+        let made = clear_row(&mut self.cells, row, turned, elimination);
+        self.count = made.count;
+        self.bound = Quotient::of_fraction(made.bound);
+        self.scale = None;
+        made.outcome
+    }
+
+    /// Becomes another row cleared, by whole numbers, where both rows are narrow and no number might pass 62 bits; else it
+    /// stays, and the answer is false. No operation on the fractions is refused then.
+    fn clear_narrow(&mut self, row: &Line, turned: &Line, place: u32, factor: &Quotient) -> bool
+        requires width { length self.old ≡ length row.now }
+        requires widths { length turned.now ≡ length row.now }
+        requires place { place + 1 < length row.now }
+        requires factor { factor.now ≡ number_in row.now place }
+        requires own { number_in turned.now place ≡ whole (pos 0) → ⊥ }
+        requires short { length row.now < 2 ^ 32 }
+        ensures passed { result ≡ true → (i : ℕ) (pivot : ℚ) → (pivot ≡ whole (pos 0) → ⊥) → number_in turned.now place ≡ inverse_ℚ pivot → clear_refusal i place turned.now row.now pivot ≡ None }
+        ensures cleared { result ≡ true → self.new ≡ cleared place turned.now row.now }
+        ensures width { length self.new ≡ length self.old }
+        ensures narrow { result ≡ true → IsNarrow self.new }
+    {
+        let Some(joining) = row.joining(turned, place, factor) else {
+            return false;
+        };
+        self.count = join(&mut self.cells, row, turned, &joining);
+        self.bound = joined(&joining, &row.bound, false, &turned.bound);
+        self.scale = joining.scale();
+        true
+    }
+
+    /// Becomes another row cleared, by whole numbers or else by fractions.
+    fn clear_either(
+        &mut self,
+        row: &Line,
+        turned: &Line,
+        elimination: &Elimination,
+    ) -> Result<(), WideCell>
+        requires width { length self.old ≡ length row.now }
+        requires widths { length turned.now ≡ length row.now }
+        requires place { elimination.now.place + 1 < length row.now }
+        requires pivot { elimination.now.pivot ≡ whole (pos 0) → ⊥ }
+        requires factor { elimination.now.factor ≡ number_in row.now elimination.now.place }
+        requires own { number_in turned.now elimination.now.place ≡ inverse_ℚ elimination.now.pivot }
+        requires short { length row.now < 2 ^ 32 }
+        requires narrow { IsNarrow row.now }
+        ensures outcome { result ≡ attempt (clear_refusal elimination.now.number elimination.now.place turned.now row.now elimination.now.pivot) tt }
+        ensures cleared { IfOk result (λ _. self.new ≡ cleared elimination.now.place turned.now row.now) }
+        ensures width { length self.new ≡ length self.old }
+        ensures narrow { IfOk result (λ _. IsNarrow self.new) }
+    {
+        if self.clear_narrow(row, turned, elimination.place, &elimination.factor) {
+            return Ok(());
+        }
+        self.clear_fractions(row, turned, elimination)
+    }
+
+    /// Becomes another row cleared: each number less the factor, the row's cell at the place, times the turned row's, and at
+    /// the place the negated quotient of the factor and the pivot.
     pub fn clear(
         &mut self,
         row: &Line,
         turned: &Line,
-        number: u32,
-        place: u32,
-        pivot: Frac,
-        factor: Frac,
+        elimination: &Elimination,
     ) -> Result<(), WideCell>
         requires width { length self.old ≡ length row.now }
         requires widths { length turned.now ≡ length row.now }
-        requires place { place + 1 < length row.now }
-        requires pivot { pivot ≡ whole (pos 0) → ⊥ }
-        requires factor { factor ≡ number_in row.now place }
-        requires kept { factor ≡ whole (pos 0) → ⊥ }
-        requires own { number_in turned.now place ≡ inverse_ℚ pivot }
+        requires place { elimination.now.place + 1 < length row.now }
+        requires pivot { elimination.now.pivot ≡ whole (pos 0) → ⊥ }
+        requires factor { elimination.now.factor ≡ number_in row.now elimination.now.place }
+        requires own { number_in turned.now elimination.now.place ≡ inverse_ℚ elimination.now.pivot }
         requires short { length row.now < 2 ^ 32 }
         requires narrow { IsNarrow row.now }
-        ensures outcome { result ≡ attempt (clear_refusal number place turned.now row.now pivot) tt }
-        ensures cleared { IfOk result (λ _. self.new ≡ cleared place turned.now row.now) }
+        ensures outcome { result ≡ attempt (clear_refusal elimination.now.number elimination.now.place turned.now row.now elimination.now.pivot) tt }
+        ensures cleared { IfOk result (λ _. self.new ≡ cleared elimination.now.place turned.now row.now) }
         ensures width { length self.new ≡ length self.old }
         ensures narrow { IfOk result (λ _. IsNarrow self.new) }
     {
-        self.count = 0;
-        let own = Spot {
-            row: number,
-            col: place,
-        };
-        let quotient = own.over(factor, pivot);
-        let clearing = Clearing {
-            number,
-            own: Kept {
-                place,
-                cell: negated_or(&quotient, factor),
-            },
-            factor,
-        };
-        let count = match merge(&mut self.cells, row, turned, &clearing) {
-            Ok(count) => count,
-            Err(wide) => return Err(wide),
-        };
-        let last = Spot {
-            row: number,
-            col: self.cells.len() as u32,
-        };
-        let bound = match cleared_number(last, row.bound(), turned.bound(), factor) {
-            Ok(bound) => bound,
-            Err(wide) => return Err(wide),
-        };
-        match quotient {
-            Ok(_) => {
-                self.count = count;
-                self.bound = bound;
-                Ok(())
-            }
-            Err(wide) => Err(wide),
-        }
+        let outcome = self.clear_either(row, turned, elimination);
+        self.narrow();
+        outcome
     }
 }

@@ -8,11 +8,13 @@ ghost use Rattle.narrow_fraction.specs.declared.wide.Op.TheVariants.{Mul, Sub};
 ghost use Rattle.fraction_tableau.specs.Narrow.{IsNarrow};
 ghost use Rattle.fraction_tableau.specs.Refusals.{refused, clear_at};
 ghost use Rattle.fraction_tableau.specs.KeptCells.{number_in, kept_below, merged_at, IsMerged};
+ghost use Rattle.fraction_tableau.specs.Scales.{CanRescale};
 
 use crate::kept::{Kept, put};
 use crate::line::Line;
+use crate::scale::{AS_IT_IS, Rescaling};
 use crate::wide_cell::{Spot, WideCell};
-use narrow_fraction::Frac;
+use narrow_fraction::{Frac, Quotient};
 
 /// How far a merge is: the places below `below` are done, which are `taken` cells of the row and `made` of the result.
 #[derive(Clone, Copy)]
@@ -23,18 +25,25 @@ pub struct Merged {
 }
 
 /// By what a row of that number is cleared: its new cell at the pivot's place, and the old one there.
-#[derive(Clone, Copy)]
+#[derive(Drop)]
 pub struct Clearing {
     pub number: u32,
     pub own: Kept,
     pub factor: Frac,
 }
 
-/// The row's cells before `place`, as they are.
-pub fn keep_before(cells: &mut [Kept], row: &Line, done: Merged, place: u32) -> Merged
+/// The row's cells before `place`, rescaled.
+pub fn keep_before(
+    cells: &mut [Kept],
+    row: &Line,
+    done: Merged,
+    place: u32,
+    rescaling: Rescaling,
+) -> Merged
     requires width { length row.now ≡ length cells.old + 1 }
     requires place { place ≤ length cells.old }
     requires order { done.below ≤ place }
+    requires rescaling { (m : ℕ) → CanRescale rescaling (number_in row.now m) }
     requires taken { done.taken ≡ length (kept_below (number_in row.now) done.below) }
     requires made { done.made ≤ done.below }
     ensures below { result.below ≡ place }
@@ -45,7 +54,7 @@ pub fn keep_before(cells: &mut [Kept], row: &Line, done: Merged, place: u32) -> 
     let kept = row.kept();
     let mut made = done.made;
     for taken in done.taken..kept.len() {
-        let next = kept[taken];
+        let next = &kept[taken];
         if next.place >= place {
             return Merged {
                 below: place,
@@ -53,7 +62,10 @@ pub fn keep_before(cells: &mut [Kept], row: &Line, done: Merged, place: u32) -> 
                 made,
             };
         }
-        cells[made] = next;
+        cells[made] = Kept {
+            place: next.place,
+            cell: rescaling.rescaled(&next.cell),
+        };
         made += 1;
     }
     Merged {
@@ -64,14 +76,14 @@ pub fn keep_before(cells: &mut [Kept], row: &Line, done: Merged, place: u32) -> 
 }
 
 /// A cell of a row, and how many of the row's cells are taken with it.
-#[derive(Clone, Copy)]
-struct Taken {
-    cell: Frac,
-    taken: usize,
+#[derive(Drop)]
+pub struct Taken {
+    pub cell: Quotient,
+    pub taken: usize,
 }
 
 /// The cell at a place before which `taken` cells stand.
-fn take_at(row: &Line, taken: usize, place: u32) -> Taken
+pub fn take_at(row: &Line, taken: usize, place: u32) -> Taken
     requires place { place + 1 < length row.now }
     requires taken { taken ≡ length (kept_below (number_in row.now) place) }
     ensures cell { result.cell ≡ number_in row.now place }
@@ -79,16 +91,16 @@ fn take_at(row: &Line, taken: usize, place: u32) -> Taken
 {
     let kept = row.kept();
     if taken < kept.len() {
-        let next = kept[taken];
+        let next = &kept[taken];
         if next.place == place {
             return Taken {
-                cell: next.cell,
+                cell: next.cell.copied(),
                 taken: taken + 1,
             };
         }
     }
     Taken {
-        cell: Frac::whole(0),
+        cell: Quotient::of_fraction(Frac::whole(0)),
         taken,
     }
 }
@@ -117,13 +129,13 @@ fn cleared_cell(clearing: &Clearing, cell: Frac, turned: &Kept) -> Result<Frac, 
     ensures fits { IfOk result (λ value. FitsFrac value) }
 {
     if turned.place == clearing.own.place {
-        return Ok(clearing.own.cell);
+        return Ok(clearing.own.cell.fraction());
     }
     let spot = Spot {
         row: clearing.number,
         col: turned.place,
     };
-    cleared_number(spot, cell, turned.cell, clearing.factor)
+    cleared_number(spot, cell, turned.cell.fraction(), clearing.factor)
 }
 
 /// The next cell of the turned row, and the row's cells before it.
@@ -150,10 +162,10 @@ fn merge_next(
     ensures refused { IfErr result (λ wide. first_below (clear_at clearing.now.number clearing.now.own.place turned.now row.now) (length cells.old) ≡ Some wide) }
 {
     let others = turned.kept();
-    let next = others[index];
-    let done = keep_before(cells, row, done, next.place);
+    let next = &others[index];
+    let done = keep_before(cells, row, done, next.place, AS_IT_IS);
     let own = take_at(row, done.taken, next.place);
-    let cell = match cleared_cell(clearing, own.cell, &next) {
+    let cell = match cleared_cell(clearing, own.cell.fraction(), next) {
         Ok(cell) => cell,
         Err(wide) => return Err(wide),
     };
@@ -162,7 +174,7 @@ fn merge_next(
         done.made,
         Kept {
             place: next.place,
-            cell,
+            cell: Quotient::of_fraction(cell),
         },
     );
     Ok(Merged {
@@ -204,5 +216,5 @@ pub fn merge(
             Err(wide) => return Err(wide),
         }
     }
-    Ok(keep_before(cells, row, done, width).made)
+    Ok(keep_before(cells, row, done, width, AS_IT_IS).made)
 }

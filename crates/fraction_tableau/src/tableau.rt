@@ -13,9 +13,9 @@ use crate::kept::Kept;
 use crate::line::Line;
 use crate::lines::exchange_cells;
 use crate::loading::count_up;
-use crate::wide_cell::WideCell;
+use crate::wide_cell::{Spot, WideCell};
 use named_row::{Row, RowId};
-use narrow_fraction::{Frac, Memory};
+use narrow_fraction::{Frac, Memory, Quotient};
 use std::alloc::Global;
 use std::marker::Model;
 use std::mem;
@@ -101,6 +101,15 @@ impl Tableau {
 
     /// A cell. The goal row has the number after the last row, and the bound the number after the last column.
     pub fn cell(&self, row: u32, col: u32) -> Frac
+        requires row { row ≤ height self.now.table }
+        requires col { col ≤ width self.now.table }
+        ensures { result ≡ number_at self.now.table row col }
+    {
+        self.held(row, col).fraction()
+    }
+
+    /// A cell as the row holds it, for questions that need no common divisor: what its sign is, or whether it is 0.
+    pub fn held(&self, row: u32, col: u32) -> Quotient
         requires row { row ≤ height self.now.table }
         requires col { col ≤ width self.now.table }
         ensures { result ≡ number_at self.now.table row col }
@@ -205,8 +214,7 @@ impl Tableau {
             &mut self.spare,
             &mut self.held,
             &mut self.room,
-            line,
-            col,
+            Spot { row, col },
         ) {
             self.spent = true;
             return Err(wide);

@@ -11,7 +11,7 @@ ghost use Rattle.fraction_tableau.specs.KeptCells.{number_in, kept_below, turned
 use crate::kept::{Kept, put};
 use crate::line::Line;
 use crate::wide_cell::{Spot, WideCell};
-use narrow_fraction::Frac;
+use narrow_fraction::{Frac, Quotient};
 
 /// One cell of the pivot's row: over the pivot, or `own` at its place.
 fn turn_cell(kept: &Kept, number: u32, own: &Kept, pivot: Frac) -> Result<Frac, WideCell>
@@ -21,13 +21,13 @@ fn turn_cell(kept: &Kept, number: u32, own: &Kept, pivot: Frac) -> Result<Frac, 
     ensures fits { IfOk result (λ value. FitsFrac value) }
 {
     if kept.place == own.place {
-        return Ok(own.cell);
+        return Ok(own.cell.fraction());
     }
     let spot = Spot {
         row: number,
         col: kept.place,
     };
-    spot.over(kept.cell, pivot)
+    spot.over(kept.cell.fraction(), pivot)
 }
 
 /// The cells of the pivot's row over the pivot, and `own` at its place. The answer is how many there are.
@@ -52,11 +52,14 @@ pub fn turn_cells(
     let kept = row.kept();
     let mut made = 0;
     for index in 0..kept.len() {
-        let next = kept[index];
-        match turn_cell(&next, number, own, pivot) {
+        let next = &kept[index];
+        match turn_cell(next, number, own, pivot) {
             Ok(cell) => {
-                let place = next.place;
-                made = put(cells, made, Kept { place, cell });
+                let next = Kept {
+                    place: next.place,
+                    cell: Quotient::of_fraction(cell),
+                };
+                made = put(cells, made, next);
             }
             Err(wide) => return Err(wide),
         }

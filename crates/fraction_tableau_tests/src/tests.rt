@@ -2,7 +2,7 @@
 
 ghost use Rattle.std.specs.Prelude.{◌≡◌, length, IfSome, false};
 
-use fraction_tableau::{Kept, Tableau, WideCell};
+use fraction_tableau::{Tableau, WideCell};
 use named_row::{Place, Row, RowId};
 use narrow_fraction::{Frac, Op, Unfit, Wide};
 use std::alloc::Global;
@@ -226,19 +226,95 @@ fn cells_of_a_pivot(rt: HostRuntime) {
     assert_eq!(rt; variables(&tableau), [1, 3, 0, 2]);
 }
 
+/// A pivot, and the rows after it with the goal row behind them.
+struct Step {
+    row: u32,
+    col: u32,
+    rows: [Numbers; 3],
+}
+
+/// Of rows with numbers of 23 bits, the second one has numbers of 44 bits after the first step and of 46 after the second,
+/// and comes back by the last two (exact fractions by Python).
+static THERE_AND_BACK: [Step; 4] = [
+    Step {
+        row: 0,
+        col: 0,
+        rows: [
+            [(1, 3), (4_194_304, 3), (5, 3)],
+            [(-4_194_304, 3), (-17_592_186_044_395, 3), (-20_971_493, 3)],
+            [(1, 3), (-2_097_152, 3), (5, 3)],
+        ],
+    },
+    Step {
+        row: 1,
+        col: 1,
+        rows: [
+            [
+                (-7, 17_592_186_044_395),
+                (4_194_304, 17_592_186_044_395),
+                (37_748_701, 17_592_186_044_395),
+            ],
+            [
+                (4_194_304, 17_592_186_044_395),
+                (-3, 17_592_186_044_395),
+                (20_971_493, 17_592_186_044_395),
+            ],
+            [
+                (8_796_093_022_201, 17_592_186_044_395),
+                (-2_097_152, 17_592_186_044_395),
+                (43_980_446_236_637, 17_592_186_044_395),
+            ],
+        ],
+    },
+    Step {
+        row: 1,
+        col: 1,
+        rows: [
+            [(1, 3), (4_194_304, 3), (5, 3)],
+            [(-4_194_304, 3), (-17_592_186_044_395, 3), (-20_971_493, 3)],
+            [(1, 3), (-2_097_152, 3), (5, 3)],
+        ],
+    },
+    Step {
+        row: 0,
+        col: 0,
+        rows: [
+            [(3, 1), (4_194_304, 1), (5, 1)],
+            [(4_194_304, 1), (7, 1), (9, 1)],
+            [(-1, 1), (-2_097_152, 1), (0, 1)],
+        ],
+    },
+];
+
+#[test]
+fn rows_become_wide_and_narrow_again(rt: HostRuntime) {
+    let rows = [
+        [(3, 1), (4_194_304, 1), (5, 1)],
+        [(4_194_304, 1), (7, 1), (9, 1)],
+    ];
+    let goal = [ONE, (2_097_152, 1), ZERO];
+    let mut tableau = loaded(rt.alloc(), &rows, goal).expect(&rt, "a tableau");
+    for step in THERE_AND_BACK.iter() {
+        assert_eq!(rt; pivot(&mut tableau, step.row, step.col), Some(Ok(())));
+        assert_eq!(rt; first_other(&tableau, &step.rows), None);
+    }
+}
+
 /// How many cells of a row aren't 0, and the first of them; none where there is no such row.
-fn first_kept(tableau: &Tableau, row: u32) -> (usize, Option<Kept>) {
+fn first_kept(tableau: &Tableau, row: u32) -> (usize, Option<(u32, Frac)>) {
     if row > tableau.rows() {
         return (0, None);
     }
     let kept = tableau.kept(row);
-    (kept.len(), kept.first().copied())
+    match kept.first() {
+        Some(first) => (kept.len(), Some((first.place, first.cell.fraction()))),
+        None => (0, None),
+    }
 }
 
 /// What is said of a row whose only cell other than 0 is this one.
-fn only_kept(place: u32, cell: Number) -> (usize, Option<Kept>) {
-    let cell = fraction(cell);
-    (1, Some(Kept { place, cell }))
+fn only_kept(place: u32, cell: Number) -> (usize, Option<(u32, Frac)>) {
+    (1, Some((place, fraction(cell))))
 }
 
 #[test]

@@ -30,6 +30,7 @@ mod tests;
 mod unfit;
 mod wide;
 
+pub use divisor::{word_divisor, word_quotient};
 pub use frac::Frac;
 pub use memory::Memory;
 pub use multiple::common_multiple;

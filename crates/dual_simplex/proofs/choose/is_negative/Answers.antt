@@ -13,5 +13,5 @@ same_test false false f g = refl
 
 pub returns : goal.returns
 returns c =
-    let says = lt_says c.args.number (whole (pos 0)) (is_lt (cmp_ℚ c.args.number (whole (pos 0)))) refl in
+    let says = lt_says c.args.number.now (whole (pos 0)) (is_lt (cmp_ℚ c.args.number.now (whole (pos 0)))) refl in
     same_test _ _ (λ t. says.1 (c.is_negative.ensures.0 t)) (λ t. c.is_negative.ensures.1 (says.0 t))

@@ -5,20 +5,20 @@ use Rattle.fraction_tableau.proofs.kept.put.Goals as goal
 
 pub returns-then-is_zero-clause-count : goal.returns-then-is_zero-clause-count
 returns-then-is_zero-clause-count c =
-    let z = ap length (kept_zero c.args.kept.place c.args.kept.cell (c.is_zero.ensures.0 c.if-is_zero.true)) in
+    let z = ap length (kept_zero c.args.kept.place c.args.kept.cell (c.is_zero-is_zero.ensures.0 c.if-is_zero.true)) in
     omega arith
 
 pub returns-then-is_zero-clause-cells : goal.returns-then-is_zero-clause-cells
 returns-then-is_zero-clause-cells c =
-    rw (kept_zero c.args.kept.place c.args.kept.cell (c.is_zero.ensures.0 c.if-is_zero.true))
+    rw (kept_zero c.args.kept.place c.args.kept.cell (c.is_zero-is_zero.ensures.0 c.if-is_zero.true))
     (take-set c.args.cells.now c.args.made c.args.kept ∙ sym (append-nil (take c.args.made c.args.cells.now)))
 
 pub returns-else-is_zero-clause-count : goal.returns-else-is_zero-clause-count
 returns-else-is_zero-clause-count c =
-    let z = ap length (kept_some c.args.kept.place c.args.kept.cell (λ e. clash (c.is_zero.ensures.1 e) c.if-is_zero.false)) in
+    let z = ap length (kept_some c.args.kept.place c.args.kept.cell (λ e. clash (c.is_zero-is_zero.ensures.1 e) c.if-is_zero.false)) in
     omega arith
 
 pub returns-else-is_zero-clause-cells : goal.returns-else-is_zero-clause-cells
 returns-else-is_zero-clause-cells c =
-    rw (kept_some c.args.kept.place c.args.kept.cell (λ e. clash (c.is_zero.ensures.1 e) c.if-is_zero.false))
+    rw (kept_some c.args.kept.place c.args.kept.cell (λ e. clash (c.is_zero-is_zero.ensures.1 e) c.if-is_zero.false))
     (take_more_set c.args.cells.now c.args.made c.args.kept c.requires)

@@ -5,10 +5,10 @@ use Rattle.fraction_tableau.proofs.lines.clear_goal.Goals as goal
 
 pub returns-then-is_zero-clause-outcome : goal.returns-then-is_zero-clause-outcome
 returns-then-is_zero-clause-outcome c =
-    let z = sym c.cell-factor.ensures ∙ c.is_zero.ensures.0 c.if-is_zero.true in
+    let z = sym c.held-factor.ensures ∙ c.is_zero.ensures.0 c.if-is_zero.true in
     sym (ap (λ o. attempt o tt) (zero_row _ _ _ _ _ c.requires.narrow z))
 
 pub returns-then-is_zero-clause-cleared : goal.returns-then-is_zero-clause-cleared
 returns-then-is_zero-clause-cleared c =
-    let z = sym c.cell-factor.ensures ∙ c.is_zero.ensures.0 c.if-is_zero.true in
+    let z = sym c.held-factor.ensures ∙ c.is_zero.ensures.0 c.if-is_zero.true in
     c.copy_from.ensures ∙ zero_row_kept _ _ _ c.requires.width (omega (arith, c.requires.width, c.requires.place)) z

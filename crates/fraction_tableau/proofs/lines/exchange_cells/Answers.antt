@@ -13,75 +13,75 @@ use Rattle.fraction_tableau.proofs.lines.exchange_cells.Goals as goal
 
 pub returns-in-Err-clause-outcome : goal.returns-in-Err-clause-outcome
 returns-in-Err-clause-outcome c =
-    let row = get_or_default c.args.lines.now c.args.skip c.index-lines-skip.result [] c.requires.inside in
-    let again = get_or_default c.args.lines.now c.args.skip c.index-lines-skip-2.result [] c.requires.inside in
-    let wide = c.requires.widths c.args.skip c.requires.inside in
-    let p : c.cell-pivot.result ≡ number_in (get_or c.args.lines.now c.args.skip []) c.args.place = c.cell-pivot.ensures ∙ ap (λ (t : List ℚ). number_in t c.args.place) row in
-    sym (ap (λ o. attempt o tt) (pivot_first c.args.skip c.args.place c.args.lines.now c.args.goal.now c.in-Err.wide (ap (turn_refusal c.args.skip c.args.place) (sym again) ∙ attempt_err _ _ _ c.in-Err.ensures.outcome)))
+    let row = get_or_default c.args.lines.now c.args.at.row c.index-lines-row.result [] c.requires.inside in
+    let again = get_or_default c.args.lines.now c.args.at.row c.index-lines-row-2.result [] c.requires.inside in
+    let wide = c.requires.widths c.args.at.row c.requires.inside in
+    let p : c.cell.result ≡ number_in (get_or c.args.lines.now c.args.at.row []) c.args.at.col = c.cell.ensures ∙ ap (λ (t : List ℚ). number_in t c.args.at.col) row in
+    sym (ap (λ o. attempt o tt) (pivot_first c.args.at.row c.args.at.col c.args.lines.now c.args.goal.now c.in-Err.wide (ap (turn_refusal c.args.at.row c.args.at.col) (sym again) ∙ attempt_err _ _ _ c.in-Err.ensures.outcome)))
 
 pub clear_goal-requires-clause-own : goal.clear_goal-requires-clause-own
 clear_goal-requires-clause-own c =
-    let row = get_or_default c.args.lines.now c.args.skip c.index-lines-skip.result [] c.requires.inside in
-    let again = get_or_default c.args.lines.now c.args.skip c.index-lines-skip-2.result [] c.requires.inside in
-    let wide = c.requires.widths c.args.skip c.requires.inside in
-    let p : c.cell-pivot.result ≡ number_in (get_or c.args.lines.now c.args.skip []) c.args.place = c.cell-pivot.ensures ∙ ap (λ (t : List ℚ). number_in t c.args.place) row in
-    let held : c.turn.new.self ≡ turned c.args.place (get_or c.args.lines.now c.args.skip []) = c.in_default.ensures.turned ∙ ap (turned c.args.place) again in
-    let t = ap (turn_refusal c.args.skip c.args.place) (sym again) ∙ (attempt_ok _ _ _ c.in_default.ensures.outcome).0 in
-    ap (λ (u : List ℚ). number_in u c.args.place) held ∙ turned_at c.args.place (get_or c.args.lines.now c.args.skip []) (omega (arith, wide, c.requires.place)) ∙ ap inverse_ℚ (sym p)
+    let row = get_or_default c.args.lines.now c.args.at.row c.index-lines-row.result [] c.requires.inside in
+    let again = get_or_default c.args.lines.now c.args.at.row c.index-lines-row-2.result [] c.requires.inside in
+    let wide = c.requires.widths c.args.at.row c.requires.inside in
+    let p : c.cell.result ≡ number_in (get_or c.args.lines.now c.args.at.row []) c.args.at.col = c.cell.ensures ∙ ap (λ (t : List ℚ). number_in t c.args.at.col) row in
+    let held : c.turn.new.self ≡ turned c.args.at.col (get_or c.args.lines.now c.args.at.row []) = c.in_default.ensures.turned ∙ ap (turned c.args.at.col) again in
+    let t = ap (turn_refusal c.args.at.row c.args.at.col) (sym again) ∙ (attempt_ok _ _ _ c.in_default.ensures.outcome).0 in
+    ap (λ (u : List ℚ). number_in u c.args.at.col) held ∙ turned_at c.args.at.col (get_or c.args.lines.now c.args.at.row []) (omega (arith, wide, c.requires.place)) ∙ ap inverse_ℚ (sym p)
 
 pub returns-in-Err-clear_goal-clause-outcome : goal.returns-in-Err-clear_goal-clause-outcome
 returns-in-Err-clear_goal-clause-outcome c =
-    let row = get_or_default c.args.lines.now c.args.skip c.index-lines-skip.result [] c.requires.inside in
-    let again = get_or_default c.args.lines.now c.args.skip c.index-lines-skip-2.result [] c.requires.inside in
-    let wide = c.requires.widths c.args.skip c.requires.inside in
-    let p : c.cell-pivot.result ≡ number_in (get_or c.args.lines.now c.args.skip []) c.args.place = c.cell-pivot.ensures ∙ ap (λ (t : List ℚ). number_in t c.args.place) row in
-    let held : c.turn.new.self ≡ turned c.args.place (get_or c.args.lines.now c.args.skip []) = c.in_default.ensures.turned ∙ ap (turned c.args.place) again in
-    let t = ap (turn_refusal c.args.skip c.args.place) (sym again) ∙ (attempt_ok _ _ _ c.in_default.ensures.outcome).0 in
+    let row = get_or_default c.args.lines.now c.args.at.row c.index-lines-row.result [] c.requires.inside in
+    let again = get_or_default c.args.lines.now c.args.at.row c.index-lines-row-2.result [] c.requires.inside in
+    let wide = c.requires.widths c.args.at.row c.requires.inside in
+    let p : c.cell.result ≡ number_in (get_or c.args.lines.now c.args.at.row []) c.args.at.col = c.cell.ensures ∙ ap (λ (t : List ℚ). number_in t c.args.at.col) row in
+    let held : c.turn.new.self ≡ turned c.args.at.col (get_or c.args.lines.now c.args.at.row []) = c.in_default.ensures.turned ∙ ap (turned c.args.at.col) again in
+    let t = ap (turn_refusal c.args.at.row c.args.at.col) (sym again) ∙ (attempt_ok _ _ _ c.in_default.ensures.outcome).0 in
     sym (ap (λ o. attempt o tt) (pivot_second _ _ _ _ _ _ _ _ _ held p t refl refl (attempt_err _ _ _ c.in-Err-clear_goal.ensures.outcome)))
 
 pub clear_others-requires-clause-own : goal.clear_others-requires-clause-own
 clear_others-requires-clause-own c =
-    let row = get_or_default c.args.lines.now c.args.skip c.index-lines-skip.result [] c.requires.inside in
-    let again = get_or_default c.args.lines.now c.args.skip c.index-lines-skip-2.result [] c.requires.inside in
-    let wide = c.requires.widths c.args.skip c.requires.inside in
-    let p : c.cell-pivot.result ≡ number_in (get_or c.args.lines.now c.args.skip []) c.args.place = c.cell-pivot.ensures ∙ ap (λ (t : List ℚ). number_in t c.args.place) row in
-    let held : c.turn.new.self ≡ turned c.args.place (get_or c.args.lines.now c.args.skip []) = c.in_default.ensures.turned ∙ ap (turned c.args.place) again in
-    let t = ap (turn_refusal c.args.skip c.args.place) (sym again) ∙ (attempt_ok _ _ _ c.in_default.ensures.outcome).0 in
-    ap (λ (u : List ℚ). number_in u c.args.place) held ∙ turned_at c.args.place (get_or c.args.lines.now c.args.skip []) (omega (arith, wide, c.requires.place)) ∙ ap inverse_ℚ (sym p)
+    let row = get_or_default c.args.lines.now c.args.at.row c.index-lines-row.result [] c.requires.inside in
+    let again = get_or_default c.args.lines.now c.args.at.row c.index-lines-row-2.result [] c.requires.inside in
+    let wide = c.requires.widths c.args.at.row c.requires.inside in
+    let p : c.cell.result ≡ number_in (get_or c.args.lines.now c.args.at.row []) c.args.at.col = c.cell.ensures ∙ ap (λ (t : List ℚ). number_in t c.args.at.col) row in
+    let held : c.turn.new.self ≡ turned c.args.at.col (get_or c.args.lines.now c.args.at.row []) = c.in_default.ensures.turned ∙ ap (turned c.args.at.col) again in
+    let t = ap (turn_refusal c.args.at.row c.args.at.col) (sym again) ∙ (attempt_ok _ _ _ c.in_default.ensures.outcome).0 in
+    ap (λ (u : List ℚ). number_in u c.args.at.col) held ∙ turned_at c.args.at.col (get_or c.args.lines.now c.args.at.row []) (omega (arith, wide, c.requires.place)) ∙ ap inverse_ℚ (sym p)
 
 pub returns-in-Err-clear_others-clause-outcome : goal.returns-in-Err-clear_others-clause-outcome
 returns-in-Err-clear_others-clause-outcome c =
-    let row = get_or_default c.args.lines.now c.args.skip c.index-lines-skip.result [] c.requires.inside in
-    let again = get_or_default c.args.lines.now c.args.skip c.index-lines-skip-2.result [] c.requires.inside in
-    let wide = c.requires.widths c.args.skip c.requires.inside in
-    let p : c.cell-pivot.result ≡ number_in (get_or c.args.lines.now c.args.skip []) c.args.place = c.cell-pivot.ensures ∙ ap (λ (t : List ℚ). number_in t c.args.place) row in
-    let held : c.turn.new.self ≡ turned c.args.place (get_or c.args.lines.now c.args.skip []) = c.in_default.ensures.turned ∙ ap (turned c.args.place) again in
-    let t = ap (turn_refusal c.args.skip c.args.place) (sym again) ∙ (attempt_ok _ _ _ c.in_default.ensures.outcome).0 in
+    let row = get_or_default c.args.lines.now c.args.at.row c.index-lines-row.result [] c.requires.inside in
+    let again = get_or_default c.args.lines.now c.args.at.row c.index-lines-row-2.result [] c.requires.inside in
+    let wide = c.requires.widths c.args.at.row c.requires.inside in
+    let p : c.cell.result ≡ number_in (get_or c.args.lines.now c.args.at.row []) c.args.at.col = c.cell.ensures ∙ ap (λ (t : List ℚ). number_in t c.args.at.col) row in
+    let held : c.turn.new.self ≡ turned c.args.at.col (get_or c.args.lines.now c.args.at.row []) = c.in_default.ensures.turned ∙ ap (turned c.args.at.col) again in
+    let t = ap (turn_refusal c.args.at.row c.args.at.col) (sym again) ∙ (attempt_ok _ _ _ c.in_default.ensures.outcome).0 in
     let q = (attempt_ok _ _ _ c.in_default-clear_goal.ensures.outcome).0 in
-    sym (ap (λ o. attempt o tt) (pivot_third c.args.skip c.args.place c.args.lines.now c.args.goal.now c.turn.new.self c.cell-pivot.result held p t q ∙ attempt_err _ _ _ c.in-Err-clear_others.ensures.outcome))
+    sym (ap (λ o. attempt o tt) (pivot_third c.args.at.row c.args.at.col c.args.lines.now c.args.goal.now c.turn.new.self c.cell.result held p t q ∙ attempt_err _ _ _ c.in-Err-clear_others.ensures.outcome))
 
 pub returns-clause-outcome : goal.returns-clause-outcome
 returns-clause-outcome c =
-    let row = get_or_default c.args.lines.now c.args.skip c.index-lines-skip.result [] c.requires.inside in
-    let again = get_or_default c.args.lines.now c.args.skip c.index-lines-skip-2.result [] c.requires.inside in
-    let wide = c.requires.widths c.args.skip c.requires.inside in
-    let p : c.cell-pivot.result ≡ number_in (get_or c.args.lines.now c.args.skip []) c.args.place = c.cell-pivot.ensures ∙ ap (λ (t : List ℚ). number_in t c.args.place) row in
-    let held : c.turn.new.self ≡ turned c.args.place (get_or c.args.lines.now c.args.skip []) = c.in_default.ensures.turned ∙ ap (turned c.args.place) again in
-    let t = ap (turn_refusal c.args.skip c.args.place) (sym again) ∙ (attempt_ok _ _ _ c.in_default.ensures.outcome).0 in
+    let row = get_or_default c.args.lines.now c.args.at.row c.index-lines-row.result [] c.requires.inside in
+    let again = get_or_default c.args.lines.now c.args.at.row c.index-lines-row-2.result [] c.requires.inside in
+    let wide = c.requires.widths c.args.at.row c.requires.inside in
+    let p : c.cell.result ≡ number_in (get_or c.args.lines.now c.args.at.row []) c.args.at.col = c.cell.ensures ∙ ap (λ (t : List ℚ). number_in t c.args.at.col) row in
+    let held : c.turn.new.self ≡ turned c.args.at.col (get_or c.args.lines.now c.args.at.row []) = c.in_default.ensures.turned ∙ ap (turned c.args.at.col) again in
+    let t = ap (turn_refusal c.args.at.row c.args.at.col) (sym again) ∙ (attempt_ok _ _ _ c.in_default.ensures.outcome).0 in
     let q = (attempt_ok _ _ _ c.in_default-clear_goal.ensures.outcome).0 in
-    sym (ap (λ o. attempt o tt) (pivot_third c.args.skip c.args.place c.args.lines.now c.args.goal.now c.turn.new.self c.cell-pivot.result held p t q ∙ (attempt_ok _ _ _ c.in_default-clear_others.ensures.outcome).0))
+    sym (ap (λ o. attempt o tt) (pivot_third c.args.at.row c.args.at.col c.args.lines.now c.args.goal.now c.turn.new.self c.cell.result held p t q ∙ (attempt_ok _ _ _ c.in_default-clear_others.ensures.outcome).0))
 
 pub returns-clause-rows : goal.returns-clause-rows
 returns-clause-rows c =
-    let row = get_or_default c.args.lines.now c.args.skip c.index-lines-skip.result [] c.requires.inside in
-    let again = get_or_default c.args.lines.now c.args.skip c.index-lines-skip-2.result [] c.requires.inside in
-    let wide = c.requires.widths c.args.skip c.requires.inside in
-    let p : c.cell-pivot.result ≡ number_in (get_or c.args.lines.now c.args.skip []) c.args.place = c.cell-pivot.ensures ∙ ap (λ (t : List ℚ). number_in t c.args.place) row in
-    let held : c.turn.new.self ≡ turned c.args.place (get_or c.args.lines.now c.args.skip []) = c.in_default.ensures.turned ∙ ap (turned c.args.place) again in
-    let t = ap (turn_refusal c.args.skip c.args.place) (sym again) ∙ (attempt_ok _ _ _ c.in_default.ensures.outcome).0 in
+    let row = get_or_default c.args.lines.now c.args.at.row c.index-lines-row.result [] c.requires.inside in
+    let again = get_or_default c.args.lines.now c.args.at.row c.index-lines-row-2.result [] c.requires.inside in
+    let wide = c.requires.widths c.args.at.row c.requires.inside in
+    let p : c.cell.result ≡ number_in (get_or c.args.lines.now c.args.at.row []) c.args.at.col = c.cell.ensures ∙ ap (λ (t : List ℚ). number_in t c.args.at.col) row in
+    let held : c.turn.new.self ≡ turned c.args.at.col (get_or c.args.lines.now c.args.at.row []) = c.in_default.ensures.turned ∙ ap (turned c.args.at.col) again in
+    let t = ap (turn_refusal c.args.at.row c.args.at.col) (sym again) ∙ (attempt_ok _ _ _ c.in_default.ensures.outcome).0 in
     let now : List (List ℚ) = c.clear_others.new.lines in
     let many : length now ≡ length c.args.lines.now = c.clear_others.auto.lines in
-    ap (set now c.args.skip) c.swap.ensures.x_after
-    ∙ rows_done c.args.skip c.args.place c.args.lines.now (set now c.args.skip c.turn.new.self) c.turn.new.self held c.requires.inside (length-set now c.args.skip c.turn.new.self ∙ many)
-    (get_or-set_same now c.args.skip c.turn.new.self [] (omega (arith, c.requires.inside, many)))
-    (λ k l n. get_or-set_other now c.args.skip k c.turn.new.self [] n ∙ c.in_default-clear_others.ensures.cleared k l n)
+    ap (set now c.args.at.row) c.swap.ensures.x_after
+    ∙ rows_done c.args.at.row c.args.at.col c.args.lines.now (set now c.args.at.row c.turn.new.self) c.turn.new.self held c.requires.inside (length-set now c.args.at.row c.turn.new.self ∙ many)
+    (get_or-set_same now c.args.at.row c.turn.new.self [] (omega (arith, c.requires.inside, many)))
+    (λ k l n. get_or-set_other now c.args.at.row k c.turn.new.self [] n ∙ c.in_default-clear_others.ensures.cleared k l n)

@@ -1,5 +1,9 @@
-use Rattle.std.proofs.Common.{length, ◌-◌, arith}
-use Rattle.fraction_tableau.proofs.Keeps.{keeping_next, keeping_stop, keeping_end}
+use Rattle.std.proofs.Common.{length, set, ◌-◌, ◌+◌, sym, subst, arith}
+use Rattle.rational_theory.specs.Rational.{ℚ}
+use Rattle.fraction_tableau.specs.KeptCells.{number_in}
+use Rattle.fraction_tableau.specs.Scales.{CanRescale}
+use Rattle.fraction_tableau.proofs.KeptCells.{next_in}
+use Rattle.fraction_tableau.proofs.Keeps.{Keeping, keeping_next, keeping_stop, keeping_end}
 use Rattle.fraction_tableau.proofs.merging.keep_before.Goals as goal
 
 pub returns-then-next-place-clause-taken : goal.returns-then-next-place-clause-taken
@@ -10,9 +14,22 @@ pub returns-then-next-place-clause-cells : goal.returns-then-next-place-clause-c
 returns-then-next-place-clause-cells c =
     (keeping_stop _ _ _ _ _ _ _ _ (length c.args.row.now - 1) c.kept-kept.result.now c.index-kept-taken.result c.loop-taken.invariant (omega arith) c.kept-kept.ensures c.index-kept-taken.is (omega arith) (omega arith)).cells
 
+pub rescaled-requires : goal.rescaled-requires
+rescaled-requires c =
+    let k = c.index-kept-taken.result in
+    let f = number_in c.args.row.now in
+    let i = c.loop-taken.invariant in
+    let w = length c.args.row.now - 1 in
+    let a = i.low in
+    let x = next_in f i.at w c.loop-taken.taken c.kept-kept.result.now k c.kept-kept.ensures c.index-kept-taken.is (omega arith) i.count (omega arith) in
+    subst (CanRescale c.args.rescaling) x.is (c.requires.rescaling k.place)
+
 pub loop-taken-preserved : goal.loop-taken-preserved
 loop-taken-preserved c =
-    keeping_next _ _ _ _ _ _ _ _ (length c.args.row.now - 1) c.kept-kept.result.now c.index-kept-taken.result c.loop-taken.invariant (omega arith) (omega arith) c.kept-kept.ensures c.index-kept-taken.is (omega arith) (omega arith)
+    let k = c.index-kept-taken.result in
+    let f = number_in c.args.row.now in
+    subst (λ (x : ℚ). Keeping f c.args.done.below c.args.place c.args.done.made c.args.cells.now (set c.loop-taken.cells c.loop-taken.made (record { place = k.place; cell = x })) (c.loop-taken.taken + 1) (c.loop-taken.made + 1)) (sym c.rescaled.ensures)
+    (keeping_next _ _ _ _ _ _ _ _ (length c.args.row.now - 1) c.kept-kept.result.now k c.loop-taken.invariant (omega arith) (omega arith) c.kept-kept.ensures c.index-kept-taken.is (omega arith) (omega arith))
 
 pub returns-clause-taken : goal.returns-clause-taken
 returns-clause-taken c =

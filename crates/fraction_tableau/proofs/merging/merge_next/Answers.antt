@@ -1,4 +1,5 @@
 use Rattle.std.proofs.Common.{length, ◌+◌, ◌<◌, sym, ◌∙◌, ap, subst, arith}
+use Rattle.narrow_fraction.specs.Fraction.{FitsFrac}
 use Rattle.narrow_fraction.proofs.Attempt.{attempt_ok, attempt_err, first_is}
 use Rattle.fraction_tableau.specs.Refusals.{clear_at}
 use Rattle.fraction_tableau.specs.KeptCells.{number_in, kept_below, merged_at}
@@ -46,7 +47,7 @@ returns-in-Err-clause-refused c =
     let j = c.args.clearing.now.own.place in
     let v = c.args.clearing.now.own.cell in
     let f = c.args.clearing.now.factor in
-    let r = sym (same_refusal i j e d k c.take_at-own.result.cell f c.requires.factor x.is c.take_at-own.ensures.cell) ∙ attempt_err _ _ _ c.in-Err.ensures.outcome in
+    let r = sym (same_refusal i j e d k c.fraction.result f c.requires.factor x.is (c.fraction.ensures.value ∙ c.take_at-own.ensures.cell)) ∙ attempt_err _ _ _ c.in-Err.ensures.outcome in
     first_is (clear_at i j e d) k.place (length c.args.cells.now) c.in-Err.wide (merge_passed i j e d c.args.done.below k.place c.requires.narrow x.after c.requires.merged.passed x.zeros) r x.inside
 
 pub put-made-requires : goal.put-made-requires
@@ -82,11 +83,11 @@ returns-clause-merged c =
     let f = c.args.clearing.now.factor in
     let o = attempt_ok _ _ _ c.in-Ok.ensures.outcome in
     let y = x.inside in
-    merge_next_is i j v e d c.keep_before-done.new.cells c.put-made.new.cells c.take_at-own.result.taken c.keep_before-done.result.made c.put-made.result k c.in-Ok.cell c.put-made.auto.cells (omega (arith, c.keep_before-done.auto.cells))
+    merge_next_is i j v e d c.keep_before-done.new.cells c.put-made.new.cells c.take_at-own.result.taken c.keep_before-done.result.made c.put-made.result k c.of_fraction.result c.put-made.auto.cells (omega (arith, c.keep_before-done.auto.cells))
     c.take_at-own.ensures.taken c.keep_before-done.ensures.made (c.keep_before-done.ensures.cells (merged_at j v e d) (λ m a b. quiet_number j v e d m (x.zeros m a b) c.requires.own) c.requires.merged.merged)
-    (o.1 ∙ same_number j v e d k c.take_at-own.result.cell f c.requires.factor x.is c.take_at-own.ensures.cell) c.put-made.ensures.count c.put-made.ensures.cells
-    (merge_passed i j e d c.args.done.below k.place c.requires.narrow x.after c.requires.merged.passed x.zeros) (sym (same_refusal i j e d k c.take_at-own.result.cell f c.requires.factor x.is c.take_at-own.ensures.cell) ∙ o.0)
-    (merge_fits j v e d c.args.done.below k.place c.requires.narrow c.requires.own c.requires.merged.fits x.zeros) c.in-Ok.ensures.fits
+    (c.of_fraction.ensures ∙ o.1 ∙ same_number j v e d k c.fraction.result f c.requires.factor x.is (c.fraction.ensures.value ∙ c.take_at-own.ensures.cell)) c.put-made.ensures.count c.put-made.ensures.cells
+    (merge_passed i j e d c.args.done.below k.place c.requires.narrow x.after c.requires.merged.passed x.zeros) (sym (same_refusal i j e d k c.fraction.result f c.requires.factor x.is (c.fraction.ensures.value ∙ c.take_at-own.ensures.cell)) ∙ o.0)
+    (merge_fits j v e d c.args.done.below k.place c.requires.narrow c.requires.own c.requires.merged.fits x.zeros) (subst FitsFrac (sym c.of_fraction.ensures) c.in-Ok.ensures.fits)
 
 pub returns-clause-index : goal.returns-clause-index
 returns-clause-index c =

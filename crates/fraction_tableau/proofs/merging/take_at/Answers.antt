@@ -6,7 +6,8 @@ use Rattle.fraction_tableau.proofs.merging.take_at.Goals.{then-taken-kept+else-n
 
 pub returns-then-next-place-clause-cell : goal.returns-then-next-place-clause-cell
 returns-then-next-place-clause-cell c =
-    reached_here (number_in c.args.row.now) c.args.place c.args.taken (length c.args.row.now - 1) c.kept-kept.result.now c.index-kept-taken.result (reached_at _ _ _ c.requires.taken) (omega arith) c.kept-kept.ensures c.index-kept-taken.is (omega arith) (omega arith)
+    c.copied.ensures
+    ∙ reached_here (number_in c.args.row.now) c.args.place c.args.taken (length c.args.row.now - 1) c.kept-kept.result.now c.index-kept-taken.result (reached_at _ _ _ c.requires.taken) (omega arith) c.kept-kept.ensures c.index-kept-taken.is (omega arith) (omega arith)
 
 pub returns-then-next-place-clause-taken : goal.returns-then-next-place-clause-taken
 returns-then-next-place-clause-taken c =
@@ -20,7 +21,7 @@ returns-clause-cell c =
     let f = number_in c.args.row.now in
     let w = length c.args.row.now - 1 in
     let r = reached_at f c.args.place c.args.taken c.requires.taken in
-    c.whole.ensures
+    c.of_fraction.ensures ∙ c.whole.ensures
     ∙ elim c.if-taken-kept.branch [
       | then-taken-kept+else-next-place v ↦
           let x = next_in f c.args.place w c.args.taken c.kept-kept.result.now v.index-kept-taken.result c.kept-kept.ensures v.index-kept-taken.is (omega arith) c.requires.taken (omega (arith, v.if-taken-kept.true)) in
@@ -29,4 +30,4 @@ returns-clause-cell c =
     ]
 
 pub returns-clause-taken : goal.returns-clause-taken
-returns-clause-taken c = none_more (number_in c.args.row.now) c.args.place c.args.taken c.requires.taken (sym c.whole.ensures ∙ returns-clause-cell c)
+returns-clause-taken c = none_more (number_in c.args.row.now) c.args.place c.args.taken c.requires.taken (sym (c.of_fraction.ensures ∙ c.whole.ensures) ∙ returns-clause-cell c)

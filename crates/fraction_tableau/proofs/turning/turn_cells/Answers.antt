@@ -1,5 +1,6 @@
-use Rattle.std.proofs.Common.{◌≡◌, length, pos, refl, sym, ◌∙◌, ap, arith}
+use Rattle.std.proofs.Common.{◌≡◌, length, pos, refl, sym, ◌∙◌, ap, subst, arith}
 use Rattle.rational_theory.specs.Rational.{whole}
+use Rattle.narrow_fraction.specs.Fraction.{FitsFrac}
 use Rattle.narrow_fraction.proofs.Attempt.{attempt_ok, attempt_err, first_is}
 use Rattle.fraction_tableau.specs.Refusals.{turn_at}
 use Rattle.fraction_tableau.specs.KeptCells.{number_in, kept_below}
@@ -29,9 +30,9 @@ loop-index-preserved c =
     let x = next_in (number_in d) t.at (length c.args.cells.now) c.loop-index.index c.kept-kept.result.now k s c.index-kept-index.is t.inside t.count (omega arith) in
     let n : number_in d c.args.own.now.place ≡ whole (pos 0) → ⊥ = λ e. c.requires.pivot (c.requires.is ∙ e) in
     let o = attempt_ok _ _ _ c.in-Ok.ensures.outcome in
-    turning_next c.args.number c.args.own.now.place c.args.own.now.cell d (length c.args.cells.now) _ c.put-made.new.cells c.loop-index.index c.loop-index.made c.put-made.result k c.in-Ok.cell n t x c.put-made.auto.cells
-    (o.1 ∙ turn_number_same c.args.own.now.place c.args.own.now.cell d k c.args.pivot c.requires.is x.is) c.put-made.ensures.count c.put-made.ensures.cells
-    (sym (turn_refusal_same c.args.number c.args.own.now.place d k c.args.pivot c.requires.is x.is) ∙ o.0) c.in-Ok.ensures.fits
+    turning_next c.args.number c.args.own.now.place c.args.own.now.cell d (length c.args.cells.now) _ c.put-made.new.cells c.loop-index.index c.loop-index.made c.put-made.result k c.of_fraction.result n t x c.put-made.auto.cells
+    (c.of_fraction.ensures ∙ o.1 ∙ turn_number_same c.args.own.now.place c.args.own.now.cell d k c.args.pivot c.requires.is x.is) c.put-made.ensures.count c.put-made.ensures.cells
+    (sym (turn_refusal_same c.args.number c.args.own.now.place d k c.args.pivot c.requires.is x.is) ∙ o.0) (subst FitsFrac (sym c.of_fraction.ensures) c.in-Ok.ensures.fits)
 
 pub returns-clause-passed : goal.returns-clause-passed
 returns-clause-passed c =

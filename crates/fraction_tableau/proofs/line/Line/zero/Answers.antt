@@ -6,7 +6,7 @@ use Rattle.fraction_tableau.proofs.line.Line.zero.Goals as goal
 
 pub invariant_of-result : goal.invariant_of-result
 invariant_of-result c =
-    line_made (length c.in_ok-cells.cells.items) 0 (λ _. whole (pos 0)) _ (omega arith) (sym (zeros_skip (λ _. whole (pos 0)) 0 (length c.in_ok-cells.cells.items) (omega arith) (λ m a b. refl)))
+    (line_made (length c.in_ok-cells.cells.items) 0 (λ _. whole (pos 0)) _ (omega arith) (sym (zeros_skip (λ _. whole (pos 0)) 0 (length c.in_ok-cells.cells.items) (omega arith) (λ m a b. refl))), tt)
 
 pub returns : goal.returns
 returns c =
@@ -15,4 +15,4 @@ returns c =
     row_is (replicate (c.args.width + 1) (whole (pos 0))) w (λ _. whole (pos 0)) _ _ (length-replicate (c.args.width + 1) (whole (pos 0)) ∙ ap (λ k. k + 1) (sym n))
     (sym (zeros_skip (λ _. whole (pos 0)) 0 w (omega arith) (λ m a b. refl)))
     (λ m h. sym (get_or-replicate (c.args.width + 1) m (whole (pos 0)) (whole (pos 0)) (omega arith)))
-    (c.whole-2.ensures ∙ sym (get_or-replicate (c.args.width + 1) w (whole (pos 0)) (whole (pos 0)) (omega arith)))
+    (c.of_fraction-2.ensures ∙ c.whole-2.ensures ∙ sym (get_or-replicate (c.args.width + 1) w (whole (pos 0)) (whole (pos 0)) (omega arith)))

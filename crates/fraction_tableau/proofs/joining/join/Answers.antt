@@ -1,0 +1,18 @@
+use Rattle.std.proofs.Common.{length, ◌∙◌, ap, arith}
+use Rattle.simplex_theory.specs.Lines.{cleared}
+use Rattle.fraction_tableau.specs.KeptCells.{number_in, kept_below}
+use Rattle.fraction_tableau.proofs.KeptCells.{same_count, same_width}
+use Rattle.fraction_tableau.proofs.Scales.{quiet_is}
+use Rattle.fraction_tableau.proofs.joining.join.Goals as goal
+
+pub returns-clause-cells : goal.returns-clause-cells
+returns-clause-cells c =
+    let e = c.args.turned.now in
+    let d = c.args.row.now in
+    let j = c.args.joining.now in
+    let t = c.loop-index.invariant.joined in
+    let below = t.inside in
+    let s = ap length (c.kept-index-end.ensures ∙ ap (kept_below (number_in e)) (same_width _ _ _ c.requires.width c.requires.widths)) in
+    let u = c.loop-index.invariant.index in
+    let z = same_count (number_in e) c.loop-index.done.below (length c.args.cells.now) (omega (arith, c.loop-index.auto.cells)) (omega arith) in
+    c.keep_before.ensures.cells (number_in (cleared j.place e d)) (λ m a b. quiet_is j.place m e d c.requires.own (z m a (omega arith))) t.joined

@@ -1,0 +1,103 @@
+use Rattle.std.proofs.Common.{length, ◌+◌, ◌<◌, cond, eqb, pos, sym, ◌∙◌, ap, subst, arith}
+use Rattle.rational_theory.specs.Rational.{whole, neg_ℚ, ◌+ℚ◌, ◌*ℚ◌}
+use Rattle.simplex_theory.specs.Lines.{cleared}
+use Rattle.fraction_tableau.specs.KeptCells.{number_in, kept_below}
+use Rattle.fraction_tableau.specs.Scales.{IsOver, factor_of}
+use Rattle.fraction_tableau.proofs.KeptCells.{next_in, step_count, same_width}
+use Rattle.fraction_tableau.proofs.Scales.{quiet_is, cleared_number, joined_next}
+use Rattle.fraction_tableau.proofs.joining.join_next.Goals as goal
+
+pub keep_before-done-requires-clause-place : goal.keep_before-done-requires-clause-place
+keep_before-done-requires-clause-place c =
+    let e = c.args.turned.now in
+    let d = c.args.row.now in
+    let j = c.args.joining.now in
+    let k = c.index-others-index.result in
+    let s = c.kept-others.ensures ∙ ap (kept_below (number_in e)) (same_width _ _ _ c.requires.width c.requires.widths) in
+    let x = next_in (number_in e) c.args.done.below (length c.args.cells.now) c.args.index c.kept-others.result.now k s c.index-others-index.is c.requires.joined.inside c.requires.index (subst (λ t. c.args.index < length t) (sym s) c.requires.inside) in
+    let y = x.inside in
+    omega arith
+
+pub keep_before-done-requires-clause-order : goal.keep_before-done-requires-clause-order
+keep_before-done-requires-clause-order c =
+    let e = c.args.turned.now in
+    let d = c.args.row.now in
+    let j = c.args.joining.now in
+    let k = c.index-others-index.result in
+    let s = c.kept-others.ensures ∙ ap (kept_below (number_in e)) (same_width _ _ _ c.requires.width c.requires.widths) in
+    let x = next_in (number_in e) c.args.done.below (length c.args.cells.now) c.args.index c.kept-others.result.now k s c.index-others-index.is c.requires.joined.inside c.requires.index (subst (λ t. c.args.index < length t) (sym s) c.requires.inside) in
+    let y = x.inside in
+    x.after
+
+pub take_at-own-requires-clause-place : goal.take_at-own-requires-clause-place
+take_at-own-requires-clause-place c =
+    let e = c.args.turned.now in
+    let d = c.args.row.now in
+    let j = c.args.joining.now in
+    let k = c.index-others-index.result in
+    let s = c.kept-others.ensures ∙ ap (kept_below (number_in e)) (same_width _ _ _ c.requires.width c.requires.widths) in
+    let x = next_in (number_in e) c.args.done.below (length c.args.cells.now) c.args.index c.kept-others.result.now k s c.index-others-index.is c.requires.joined.inside c.requires.index (subst (λ t. c.args.index < length t) (sym s) c.requires.inside) in
+    let y = x.inside in
+    omega (arith, c.requires.width)
+
+pub joined-cell-requires-clause-turned : goal.joined-cell-requires-clause-turned
+joined-cell-requires-clause-turned c =
+    let e = c.args.turned.now in
+    let d = c.args.row.now in
+    let j = c.args.joining.now in
+    let k = c.index-others-index.result in
+    let s = c.kept-others.ensures ∙ ap (kept_below (number_in e)) (same_width _ _ _ c.requires.width c.requires.widths) in
+    let x = next_in (number_in e) c.args.done.below (length c.args.cells.now) c.args.index c.kept-others.result.now k s c.index-others-index.is c.requires.joined.inside c.requires.index (subst (λ t. c.args.index < length t) (sym s) c.requires.inside) in
+    let y = x.inside in
+    subst (IsOver j.turned.denominator j.turned.most) x.is (c.requires.turned.numbers k.place)
+
+pub put-made-requires : goal.put-made-requires
+put-made-requires c =
+    let e = c.args.turned.now in
+    let d = c.args.row.now in
+    let j = c.args.joining.now in
+    let k = c.index-others-index.result in
+    let s = c.kept-others.ensures ∙ ap (kept_below (number_in e)) (same_width _ _ _ c.requires.width c.requires.widths) in
+    let x = next_in (number_in e) c.args.done.below (length c.args.cells.now) c.args.index c.kept-others.result.now k s c.index-others-index.is c.requires.joined.inside c.requires.index (subst (λ t. c.args.index < length t) (sym s) c.requires.inside) in
+    let y = x.inside in
+    omega (arith, c.keep_before-done.auto.cells, c.keep_before-done.ensures.made)
+
+pub overflow_add-result : goal.overflow_add-result
+overflow_add-result c =
+    let e = c.args.turned.now in
+    let d = c.args.row.now in
+    let j = c.args.joining.now in
+    let k = c.index-others-index.result in
+    let s = c.kept-others.ensures ∙ ap (kept_below (number_in e)) (same_width _ _ _ c.requires.width c.requires.widths) in
+    let x = next_in (number_in e) c.args.done.below (length c.args.cells.now) c.args.index c.kept-others.result.now k s c.index-others-index.is c.requires.joined.inside c.requires.index (subst (λ t. c.args.index < length t) (sym s) c.requires.inside) in
+    let y = x.inside in
+    omega (arith, c.requires.width, c.requires.short)
+
+pub returns-clause-joined : goal.returns-clause-joined
+returns-clause-joined c =
+    let e = c.args.turned.now in
+    let d = c.args.row.now in
+    let j = c.args.joining.now in
+    let k = c.index-others-index.result in
+    let s = c.kept-others.ensures ∙ ap (kept_below (number_in e)) (same_width _ _ _ c.requires.width c.requires.widths) in
+    let x = next_in (number_in e) c.args.done.below (length c.args.cells.now) c.args.index c.kept-others.result.now k s c.index-others-index.is c.requires.joined.inside c.requires.index (subst (λ t. c.args.index < length t) (sym s) c.requires.inside) in
+    let y = x.inside in
+    let t = cleared j.place e d in
+    let n = c.keep_before-done.ensures.cells (number_in t) (λ m a b. quiet_is j.place m e d c.requires.own (x.zeros m a b)) c.requires.joined.joined in
+    let v = c.joined-cell.ensures ∙ ap (λ u. cond (eqb k.place j.place) (whole (pos 0)) u +ℚ neg_ℚ (factor_of j *ℚ k.cell)) c.take_at-own.ensures.cell
+    ∙ ap (λ u. cond (eqb k.place j.place) (whole (pos 0)) (number_in d k.place) +ℚ neg_ℚ (u *ℚ k.cell)) c.requires.factor
+    ∙ ap (λ u. cond (eqb k.place j.place) (whole (pos 0)) (number_in d k.place) +ℚ neg_ℚ (number_in d j.place *ℚ u)) (sym x.is)
+    ∙ cleared_number j.place k.place e d (omega (arith, c.requires.width, c.requires.place)) in
+    joined_next t d c.keep_before-done.new.cells c.put-made.new.cells c.take_at-own.result.taken c.keep_before-done.result.made c.put-made.result (record { place = k.place; cell = c.joined-cell.result }) c.put-made.auto.cells (omega (arith, c.keep_before-done.auto.cells))
+    c.take_at-own.ensures.taken c.keep_before-done.ensures.made n v c.put-made.ensures.count c.put-made.ensures.cells
+
+pub returns-clause-index : goal.returns-clause-index
+returns-clause-index c =
+    let e = c.args.turned.now in
+    let d = c.args.row.now in
+    let j = c.args.joining.now in
+    let k = c.index-others-index.result in
+    let s = c.kept-others.ensures ∙ ap (kept_below (number_in e)) (same_width _ _ _ c.requires.width c.requires.widths) in
+    let x = next_in (number_in e) c.args.done.below (length c.args.cells.now) c.args.index c.kept-others.result.now k s c.index-others-index.is c.requires.joined.inside c.requires.index (subst (λ t. c.args.index < length t) (sym s) c.requires.inside) in
+    let y = x.inside in
+    ap (λ n. n + 1) c.requires.index ∙ sym (step_count (number_in e) c.args.done.below (length c.args.cells.now) k x)

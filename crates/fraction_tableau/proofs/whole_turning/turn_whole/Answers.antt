@@ -1,0 +1,55 @@
+use Rattle.std.proofs.Common.{◌≡◌, length, cond, eqb, pos, refl, sym, ◌∙◌, ap, subst, arith}
+use Rattle.rational_theory.specs.Rational.{whole, inverse_ℚ, ◌*ℚ◌}
+use Rattle.narrow_fraction.specs.Fraction.{FitsFrac}
+use Rattle.simplex_theory.specs.Lines.{turned}
+use Rattle.fraction_tableau.specs.KeptCells.{number_in, kept_below}
+use Rattle.fraction_tableau.specs.Scales.{IsOver}
+use Rattle.fraction_tableau.proofs.KeptCells.{next_in, same_width, kept_same}
+use Rattle.fraction_tableau.proofs.Merges.{turning_next, turning_end, turned_number}
+use Rattle.fraction_tableau.proofs.Turns.{pivot_some, whole_passes, whole_fits}
+use Rattle.fraction_tableau.proofs.whole_turning.turn_whole.Goals as goal
+
+pub turned-cell-requires-clause-over : goal.turned-cell-requires-clause-over
+turned-cell-requires-clause-over c =
+    let d = c.args.row.now in
+    let s = c.args.turning.now in
+    let v = inverse_ℚ (number_in d s.place) in
+    let w = length c.args.cells.now in
+    let q = same_width _ _ _ c.requires.width refl in
+    let t = c.loop-index.invariant in
+    let n : number_in d s.place ≡ whole (pos 0) → ⊥ = λ e. pivot_some s c.requires.turning (c.requires.pivot ∙ e) in
+    let k = c.index-kept-index.result in
+    let e = c.kept-kept.ensures ∙ ap (kept_below (number_in d)) q in
+    let x = next_in (number_in d) t.at w c.loop-index.index c.kept-kept.result.now k e c.index-kept-index.is t.inside t.count (omega arith) in
+    subst (IsOver s.row.denominator s.row.most) x.is (c.requires.row.numbers k.place)
+
+pub loop-index-preserved : goal.loop-index-preserved
+loop-index-preserved c =
+    let d = c.args.row.now in
+    let s = c.args.turning.now in
+    let v = inverse_ℚ (number_in d s.place) in
+    let w = length c.args.cells.now in
+    let q = same_width _ _ _ c.requires.width refl in
+    let t = c.loop-index.invariant in
+    let n : number_in d s.place ≡ whole (pos 0) → ⊥ = λ e. pivot_some s c.requires.turning (c.requires.pivot ∙ e) in
+    let k = c.index-kept-index.result in
+    let e = c.kept-kept.ensures ∙ ap (kept_below (number_in d)) q in
+    let x = next_in (number_in d) t.at w c.loop-index.index c.kept-kept.result.now k e c.index-kept-index.is t.inside t.count (omega arith) in
+    let o = subst (IsOver s.row.denominator s.row.most) x.is (c.requires.row.numbers k.place) in
+    let y = c.turned-cell.ensures ∙ ap (λ p. cond (eqb k.place s.place) (inverse_ℚ p) (k.cell *ℚ inverse_ℚ p)) c.requires.pivot ∙ ap (λ u. cond (eqb k.place s.place) v (u *ℚ v)) (sym x.is) in
+    turning_next 0 s.place v d w _ c.put-made.new.cells c.loop-index.index c.loop-index.made c.put-made.result k c.turned-cell.result n t x c.put-made.auto.cells y c.put-made.ensures.count c.put-made.ensures.cells
+    (whole_passes 0 s.place s d k.place c.requires.row n) (subst FitsFrac (sym c.turned-cell.ensures) (whole_fits s d k.place (eqb k.place s.place) k.cell c.requires.turning o))
+
+pub returns-clause-cells : goal.returns-clause-cells
+returns-clause-cells c =
+    let d = c.args.row.now in
+    let s = c.args.turning.now in
+    let v = inverse_ℚ (number_in d s.place) in
+    let w = length c.args.cells.now in
+    let q = same_width _ _ _ c.requires.width refl in
+    let t = c.loop-index.invariant in
+    let n : number_in d s.place ≡ whole (pos 0) → ⊥ = λ e. pivot_some s c.requires.turning (c.requires.pivot ∙ e) in
+    let a = ap length (c.kept-kept.ensures ∙ ap (kept_below (number_in d)) q) in
+    let u = t.count in
+    let r = turning_end 0 s.place v d w c.loop-index.cells c.loop-index.index c.loop-index.made n t (omega arith) in
+    r.cells ∙ kept_same _ (number_in (turned s.place d)) w (λ m h. turned_number s.place v d m (omega (arith, c.requires.width, c.requires.place)) refl)

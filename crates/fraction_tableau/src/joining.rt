@@ -1,0 +1,213 @@
+//! A narrow row cleared by a narrow turned row: by whole numbers, with no common divisor of a cell.
+
+ghost use Rattle.std.specs.Prelude.{◌≡◌, ℕ, ◌+◌, ◌*◌, ◌/◌, ◌<◌, ◌≤◌, ◌^◌, ◌*ℤ◌, ◌+ℤ◌, neg_ℤ, pos, cond, length, take, unsigned_abs, IfSome, SomeIff};
+ghost use Rattle.rational_theory.specs.Rational.{whole, over, neg_ℚ, ◌+ℚ◌, ◌*ℚ◌};
+ghost use Rattle.simplex_theory.specs.Lines.{cleared};
+ghost use Rattle.fraction_tableau.specs.KeptCells.{number_in, kept_below};
+ghost use Rattle.fraction_tableau.specs.Scales.{numerator, factor_of, IsOver, IsScaled, IsJoining, IsJoined};
+
+use crate::kept::{Kept, put};
+use crate::line::Line;
+use crate::merging::{Merged, keep_before, take_at};
+use crate::scale::{MOST, Rescaling, Scale, numerator_of};
+use narrow_fraction::{Quotient, word_divisor, word_quotient};
+
+/// The greatest size that a number may have while a row is joined with another one: 62 bits.
+const MOST_JOINED: u128 = 4_611_686_018_427_387_903;
+
+/// How a row at the scale `row` is cleared at `place` by a turned row at the scale `turned`: its numerators rescaled, less
+/// `part` times the turned row's. The two denominators share `shared`, and no new number is more than `most`.
+#[derive(Clone, Copy)]
+pub struct Joining {
+    pub place: u32,
+    pub row: Scale,
+    pub turned: Scale,
+    pub rescaling: Rescaling,
+    pub shared: u64,
+    pub part: i64,
+    pub most: u64,
+}
+
+impl Joining {
+    /// The scale of the row that is made, where no number of it might have more than 42 bits.
+    pub fn scale(&self) -> Option<Scale>
+        ensures { SomeIff result (self.now.most < 2 ^ 42) (record { denominator = self.now.rescaling.to; most = self.now.most }) }
+    {
+        if self.most > MOST {
+            return None;
+        }
+        Some(Scale {
+            denominator: self.rescaling.to,
+            most: self.most,
+        })
+    }
+}
+
+/// A quotient that leaves no rest.
+fn part_of(factor: i64, shared: u64) -> i64
+    requires above { 0 < shared }
+    requires small { shared < 2 ^ 42 }
+    requires size { unsigned_abs factor < 2 ^ 42 }
+    requires whole { unsigned_abs factor / shared * shared ≡ unsigned_abs factor }
+    ensures value { result *ℤ pos shared ≡ factor }
+    ensures size { unsigned_abs result ≡ unsigned_abs factor / shared }
+{
+    let size = (factor.unsigned_abs() / shared) as i64;
+    if factor < 0 { -size } else { size }
+}
+
+/// How a row with the numerator `factor` at `place` is cleared by a turned one; None where a number might pass 62 bits.
+pub fn find_joining(place: u32, row: Scale, turned: Scale, factor: i64) -> Option<Joining>
+    requires above { 0 < row.denominator }
+    requires least { row.denominator ≤ row.most }
+    requires short { row.most < 2 ^ 42 }
+    requires turned_above { 0 < turned.denominator }
+    requires turned_least { turned.denominator ≤ turned.most }
+    requires turned_short { turned.most < 2 ^ 42 }
+    requires factor { unsigned_abs factor ≤ row.most }
+    ensures place { IfSome result (λ joining. joining.place ≡ place) }
+    ensures row { IfSome result (λ joining. joining.row ≡ row) }
+    ensures turned { IfSome result (λ joining. joining.turned ≡ turned) }
+    ensures factor { IfSome result (λ joining. factor_of joining ≡ over factor row.denominator) }
+    ensures joining { IfSome result (λ joining. IsJoining joining) }
+{
+    let shared = word_divisor(factor.unsigned_abs(), turned.denominator);
+    let part = part_of(factor, shared);
+    let times = word_quotient(turned.denominator, shared);
+    let most = row.most as u128 * times as u128 + part.unsigned_abs() as u128 * turned.most as u128;
+    if most > MOST_JOINED {
+        return None;
+    }
+    Some(Joining {
+        place,
+        row,
+        turned,
+        rescaling: Rescaling {
+            from: row.denominator,
+            times,
+            to: row.denominator * times,
+        },
+        shared,
+        part,
+        most: most as u64,
+    })
+}
+
+/// A number times `scale`, less `factor` times the other one.
+fn less_product(own: i64, scale: i64, factor: i64, other: i64) -> i64
+    requires { unsigned_abs own * unsigned_abs scale + unsigned_abs factor * unsigned_abs other < 2 ^ 62 }
+    ensures { result ≡ own *ℤ scale +ℤ neg_ℤ (factor *ℤ other) }
+{
+    own * scale - factor * other
+}
+
+/// A numerator of the row, or 0 for the one at the pivot's place.
+fn numerator_or_zero(own: i64, is_own: bool) -> i64
+    ensures { result ≡ cond is_own (pos 0) own }
+{
+    if is_own { 0 } else { own }
+}
+
+/// A numerator of the row times `times`, or 0 for the one at the pivot's place, less `part` times one of the turned row.
+fn joined_numerator(joining: &Joining, own: i64, is_own: bool, turned: i64) -> i64
+    requires joining { IsJoining joining.now }
+    requires own { unsigned_abs own ≤ joining.now.row.most }
+    requires turned { unsigned_abs turned ≤ joining.now.turned.most }
+    ensures value { result ≡ cond is_own (pos 0) own *ℤ pos joining.now.rescaling.times +ℤ neg_ℤ (joining.now.part *ℤ turned) }
+    ensures size { unsigned_abs result ≤ joining.now.most }
+{
+    less_product(
+        numerator_or_zero(own, is_own),
+        joining.rescaling.times as i64,
+        joining.part,
+        turned,
+    )
+}
+
+/// A number of the row, or 0 for the one at the pivot's place, less the factor times the turned row's.
+pub fn joined(joining: &Joining, own: &Quotient, is_own: bool, turned: &Quotient) -> Quotient
+    requires joining { IsJoining joining.now }
+    requires short { joining.now.row.most < 2 ^ 42 }
+    requires turned_short { joining.now.turned.most < 2 ^ 42 }
+    requires own { IsOver joining.now.row.denominator joining.now.row.most own.now }
+    requires turned { IsOver joining.now.turned.denominator joining.now.turned.most turned.now }
+    ensures { result ≡ cond is_own (whole (pos 0)) own.now +ℚ neg_ℚ (factor_of joining.now *ℚ turned.now) }
+{
+    let numerator = joined_numerator(
+        joining,
+        numerator_of(own, joining.row.denominator),
+        is_own,
+        numerator_of(turned, joining.turned.denominator),
+    );
+    Quotient::of_words(numerator, joining.rescaling.to)
+}
+
+/// The next cell of the turned row, and the row's cells before it.
+fn join_next(
+    cells: &mut [Kept],
+    row: &Line,
+    turned: &Line,
+    index: usize,
+    joining: &Joining,
+    done: Merged,
+) -> Merged
+    requires width { length row.now ≡ length cells.old + 1 }
+    requires widths { length turned.now ≡ length row.now }
+    requires short { length row.now < 2 ^ 32 }
+    requires own { number_in turned.now joining.now.place ≡ whole (pos 0) → ⊥ }
+    requires factor { factor_of joining.now ≡ number_in row.now joining.now.place }
+    requires place { joining.now.place < length cells.old }
+    requires joining { IsJoining joining.now }
+    requires row { IsScaled joining.now.row row.now }
+    requires turned { IsScaled joining.now.turned turned.now }
+    requires inside { index < length (kept_below (number_in turned.now) (length cells.old)) }
+    requires index { index ≡ length (kept_below (number_in turned.now) done.below) }
+    requires joined { IsJoined (cleared joining.now.place turned.now row.now) row.now cells.old done }
+    ensures joined { IsJoined (cleared joining.now.place turned.now row.now) row.now cells.new result }
+    ensures index { index + 1 ≡ length (kept_below (number_in turned.now) result.below) }
+{
+    let others = turned.kept();
+    let next = &others[index];
+    let done = keep_before(cells, row, done, next.place, joining.rescaling);
+    let own = take_at(row, done.taken, next.place);
+    let cell = joined(joining, &own.cell, next.place == joining.place, &next.cell);
+    let made = put(
+        cells,
+        done.made,
+        Kept {
+            place: next.place,
+            cell,
+        },
+    );
+    Merged {
+        below: next.place + 1,
+        taken: own.taken,
+        made,
+    }
+}
+
+/// The cells of the row cleared by the turned row. The answer is how many there are.
+pub fn join(cells: &mut [Kept], row: &Line, turned: &Line, joining: &Joining) -> usize
+    requires width { length row.now ≡ length cells.old + 1 }
+    requires widths { length turned.now ≡ length row.now }
+    requires short { length row.now < 2 ^ 32 }
+    requires own { number_in turned.now joining.now.place ≡ whole (pos 0) → ⊥ }
+    requires factor { factor_of joining.now ≡ number_in row.now joining.now.place }
+    requires place { joining.now.place < length cells.old }
+    requires joining { IsJoining joining.now }
+    requires row { IsScaled joining.now.row row.now }
+    requires turned { IsScaled joining.now.turned turned.now }
+    ensures count { result ≤ length cells.old }
+    ensures cells { take result cells.new ≡ kept_below (number_in (cleared joining.now.place turned.now row.now)) (length cells.old) }
+{
+    let width = cells.len() as u32;
+    let mut done = Merged {
+        below: 0,
+        taken: 0,
+        made: 0,
+    };
+    for index in 0..turned.kept().len() {
+        done = join_next(cells, row, turned, index, joining, done);
+    }
+    keep_before(cells, row, done, width, joining.rescaling).made
+}
