@@ -21,5 +21,8 @@ pub mod Make
 pub mod Trial
 pub mod Sweep
 pub mod Run
+pub mod Program
 pub mod Sought
 pub mod Laws
+pub mod PlanLaws
+pub mod StopLaws
