@@ -16,7 +16,7 @@ use Rattle.maxband_run.proofs.Stopped.{unread_stop, stops_same}
 use Rattle.maxband_run.proofs.Once.{verdict_cause, show_done}
 
 -- what was counted rose
-rose : (a b : ℕ) → b ≡ next_count a → Rose a b
+pub rose : (a b : ℕ) → b ≡ next_count a → Rose a b
 rose a b e = omega (arith, e)
 
 -- ---- faults are told
@@ -41,7 +41,7 @@ faults_are_told before now asked c h n = completes_same before now asked c n h
 
 -- ---- without a fault
 module _ (before now : Outside) (no_write : Rose before.writes now.writes → ⊥) where
-  not_broken : (lines : List ℕ) (put : Option NamedBytes) → ((p : NamedBytes) → put ≡ Some p → Rose (before.puts p.name) (now.puts p.name) → ⊥) → IsBroken before now lines put → ⊥
+  pub not_broken : (lines : List ℕ) (put : Option NamedBytes) → ((p : NamedBytes) → put ≡ Some p → Rose (before.puts p.name) (now.puts p.name) → ⊥) → IsBroken before now lines put → ⊥
   not_broken lines None no_put b = no_write (rose before.writes now.writes b.counted)
   not_broken lines (Some put) no_put (inl p) = no_put put refl (rose (before.puts put.name) (now.puts put.name) p.counted.once)
   not_broken lines (Some put) no_put (inr w) = no_write (rose before.writes now.writes w.counted)

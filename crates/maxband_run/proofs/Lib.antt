@@ -17,3 +17,6 @@ pub mod Cycling
 pub mod Unlimited
 pub mod Planning
 pub mod PlanHeld
+pub mod Found
+pub mod PlansSay
+pub mod Statuses

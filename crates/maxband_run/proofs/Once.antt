@@ -200,7 +200,7 @@ good_of a (Some u) (Some v) t e h = let same : u ≡ t = cc in subst (λ p. Good
 same_lines : (a : Street) (k m : ℕ) (ns os : List ℕ) (t u : Plan) (x y : ℚ) → k ≡ m → ns ≡ os → t ≡ u → x ≡ y → plan_lines a k ns t x ≡ plan_lines a m os u y
 same_lines a k m ns os t u x y e f g h = ap₂ (λ n ms. plan_lines a n ms t x) e f ∙ ap₂ (λ p z. plan_lines a m os p z) g h
 
-unplanned_accepted : (a : Street) (w : Warrant) (e : PlanEnd) → Unplans a w e → IsAccepted a w
+pub unplanned_accepted : (a : Street) (w : Warrant) (e : PlanEnd) → Unplans a w e → IsAccepted a w
 unplanned_accepted a w end.NoTimingGiven h = h.0
 unplanned_accepted a w e h = h.2.accepted
 

@@ -1,12 +1,20 @@
 -- The plan that `round` puts is good, and `hold` accepts it.
-use Rattle.std.proofs.Common.{◌≡◌, ℕ, List, Some, Ok, refl, sym, subst}
+use Rattle.std.proofs.Common.{◌≡◌, ℕ, List, [], ◌∷◌, Some, Ok, refl, sym, ◌∙◌, ap, subst}
 use Rattle.std.specs.Prelude.{IsSome}
 use Rattle.description_reader.specs.Described as described
 use Rattle.outer_edge.specs.Held.{HoldsExactly}
+use Rattle.outer_edge.specs.Taken.{Appends}
+use Rattle.rational_theory.specs.Rational.{ℚ, ◌+ℚ◌, ◌-ℚ◌, ◌≤ℚ◌}
+use Rattle.rational_theory.proofs.Ring.{ring, at, minus, ◌⊕◌}
 use Rattle.progression.specs.Street.{Street}
 use Rattle.progression.specs.Plan.{Plan}
 use Rattle.progression.specs.Good.{Good}
+use Rattle.progression.specs.Best.{weighted_band}
+use Rattle.search_box.proofs.Streets.{street_of}
 use Rattle.time_space.specs.Failing.{FailsRulesOut}
+use Rattle.plan_text.specs.Warrants.{Warrant}
+use Rattle.certificate_checker.specs.Laws.{RefusedIsNotAccepted}
+use Rattle.certificate_checker.proofs.Meaning.{accepted_holds}
 use Rattle.plan_text.specs.Spelling.{timing_text}
 use Rattle.plan_text.specs.Reading.{timing_of}
 use Rattle.maxband_run.specs.Command.{Hold, Round}
@@ -14,12 +22,22 @@ use Rattle.maxband_run.specs.Outside.{Outside}
 use Rattle.maxband_run.specs.Reading.{Reads, Description, Timing}
 use Rattle.maxband_run.specs.Hold.{HoldFinds}
 use Rattle.maxband_run.specs.Run.{Ends}
-use Rattle.maxband_run.specs.Laws.{PutsPlan, RoundSays, PlanIsHeld}
+use Rattle.maxband_run.specs.PlanLaws.{PutsPlan, RoundSays, PlanIsHeld}
+use Rattle.maxband_run.specs.Round.{IsCertified}
 use Rattle.maxband_run.specs.declared.cause.Cause.{Cause}
 use Rattle.maxband_run.specs.declared.cause.Cause.TheVariants as cause
 use Rattle.maxband_run.proofs.Complete.{Completes}
 use Rattle.maxband_run.proofs.PutRead.{verdict_found, is_put, reads_put, finds_of}
 use Rattle.maxband_run.proofs.Says.{zero_is}
+use Rattle.maxband_run.proofs.Planning.{claim_bounds}
+use Rattle.maxband_run.proofs.PlansSay.{round_four, round_ten}
+
+-- no good timing exceeds what an accepted certificate claims
+lost : (a : Street) (w : Warrant) (timing : Plan) (claim band loss : ℚ) → IsCertified a w timing claim → loss ≡ claim -ℚ band → (s : Plan) → Good a s → weighted_band a s ≤ℚ (band +ℚ loss)
+lost a w timing claim band loss c e s good =
+    let below : weighted_band a s ≤ℚ claim = claim_bounds a w.claim w.timing claim c.claim_is (accepted_holds a w (street_of a c.valid) c.accepted) s good in
+    let whole : claim ≡ band +ℚ loss = ring (at 0) (at 1 ⊕ (at 0 ⊕ minus (at 1))) (claim ∷ band ∷ []) refl ∙ ap (λ l. band +ℚ l) (sym e) in
+    subst (λ x. weighted_band a s ≤ℚ x) whole below
 
 module _ (before now : Outside) (artery certificate plan : List ℕ) where
   puts_plan : Completes before now (Some (Round artery certificate plan)) cause.Done → PutsPlan before now artery plan
@@ -30,10 +48,16 @@ module _ (before now : Outside) (artery certificate plan : List ℕ) where
       record {
         street = f.values.0;
         timing = found.plan.timing;
+        seconds = found.plan.seconds;
+        offsets = found.plan.offsets.items;
+        loss = found.plan.loss;
         description = f.read.0;
         good = found.answer.good;
+        best = found.best;
+        lost = lost f.values.0 f.values.1.0 found.timing found.claim (weighted_band f.values.0 found.plan.timing) found.plan.loss found.certified found.answer.loss;
         put = subst (λ (x : List ℕ). HoldsExactly (now.holds plan) x) found.written held.0;
         read_back = subst (λ (x : List ℕ). timing_of x ≡ Ok found.plan.timing) found.written found.read_back;
+        told = subst (λ (l : List ℕ). Appends before.taken now.taken l) found.lines_are h.3.written;
       }
 
   -- and the description is as it was, where it is another file
@@ -42,8 +66,12 @@ module _ (before now : Outside) (artery certificate plan : List ℕ) where
       let f = verdict_found before.holds before.reads now.reads (Some (Round artery certificate plan)) cause.Done h.0 h.1 tt h.2 in
       (is_put before now plan f.finds.0 h.0 h.1 f.bytes f.put_is f.finds.1 h.3).1 artery two
 
-pub round_says : RoundSays
-round_says before now artery certificate plan c h e = puts_plan before now artery certificate plan (subst (λ (d : Cause). Ends before now (Some (Round artery certificate plan)) d) (zero_is c e) h)
+pub round_says : RefusedIsNotAccepted → RoundSays
+round_says apart before now artery certificate plan c h = (
+  (λ e. puts_plan before now artery certificate plan (subst (λ (d : Cause). Ends before now (Some (Round artery certificate plan)) d) (zero_is c e) h)),
+  (λ e. round_four before now artery certificate plan apart c e h),
+  (λ e. round_ten before now artery certificate plan c e h),
+)
 
 good_done : FailsRulesOut → (a : Street) (t : Plan) (c : Cause) (lines : List ℕ) → Good a t → HoldFinds a t c lines → c ≡ cause.Done
 good_done rules a t cause.Done lines good h = refl

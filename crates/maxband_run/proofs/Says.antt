@@ -1,5 +1,5 @@
 -- What the numbers of the statuses say of the model.
-use Rattle.std.proofs.Common.{◌≡◌, ℕ, List, Option, Some, None, Ok, inl, inr, refl, sym, ◌∙◌, ap, subst}
+use Rattle.std.proofs.Common.{◌≡◌, ℕ, List, Option, Some, None, Ok, ◌<◌, inl, inr, refl, sym, ◌∙◌, ap, subst}
 use Rattle.std.specs.Prelude.{IfSome, option_map}
 use Rattle.outer_edge.specs.Held.{HoldsExactly}
 use Rattle.outer_edge.specs.Taken.{Appends}
@@ -12,14 +12,28 @@ use Rattle.plan_text.specs.declared.certificate.Claim.TheVariants as claim
 use Rattle.time_space.specs.Failing.{FailsRulesOut}
 use Rattle.certificate_checker.specs.Laws.{RefusedIsNotAccepted}
 use Rattle.link_proof.specs.LinkLaws.{LinkRefusedIsNotAccepted}
+use Rattle.branch_and_bound.specs.Rules.{Rules}
+use Rattle.branch_and_bound.specs.Answer.{IsAnswer, IsStoppedAnswer}
+use Rattle.branch_and_bound.specs.declared.incumbent.Incumbent.{Incumbent}
+use Rattle.branch_and_bound.specs.declared.node.TreeNode.{TreeNode}
+use Rattle.branch_and_bound.specs.declared.found.Site.{Site}
 use Rattle.branch_and_bound.specs.declared.found.Stop.{Stop}
+use Rattle.branch_and_bound.specs.declared.found.Stop.TheVariants.{Work, Wide}
 use Rattle.branch_and_bound.specs.declared.found.Verdict.{Verdict}
 use Rattle.branch_and_bound.specs.declared.found.Verdict.TheVariants.{Best, NoTiming, Stopped}
 use Rattle.branch_tree.specs.declared.site.SitePart.{SitePart}
 use Rattle.branch_tree.specs.Certified.{claim_by, warrant_of}
+use Rattle.branch_tree.specs.ArteryRules.{rules_of}
+use Rattle.branch_tree.specs.Searches.{incumbent_of}
+use Rattle.branch_tree.specs.SiteNames.{IsSiteOf, EndsAt}
+use Rattle.branch_tree.specs.Enough.{enough_of, IsTooLow, IsWithin}
 use Rattle.link_theory.specs.LinkPlan.{LinkPlan}
 use Rattle.multi_band.specs.LinkCertified.{link_warrant_of}
 use Rattle.multi_band.specs.LinksSearched.{LinksProve}
+use Rattle.multi_band.specs.LinkRules.{link_rules}
+use Rattle.multi_band.specs.LinkSearches.{link_incumbent_of}
+use Rattle.multi_band.specs.LinkSites.{IsLinkSiteOf}
+use Rattle.multi_band.specs.LinkEnough.{link_enough_of}
 use Rattle.maxband_run.specs.Command.{Request, Hold, Check, CheckLinks, Solve, Links, Renew, shape}
 use Rattle.maxband_run.specs.Outside.{Outside}
 use Rattle.branch_tree.specs.Searched.{Proves}
@@ -27,7 +41,8 @@ use Rattle.maxband_run.specs.Searched.{cause_of}
 use Rattle.maxband_run.specs.Reading.{Value, IsReadAs, Reads, Description}
 use Rattle.maxband_run.specs.Sought.{Sought, whole_bands, bands_of_links}
 use Rattle.maxband_run.specs.Run.{Ends}
-use Rattle.maxband_run.specs.Laws.{IsVerdict, PutsBest, PutsNone, PutsBound, SearchSays, SolveSays, LinksSay, HoldSays, CheckSays, CheckLinksSays, SaysGood, SaysBroken, SaysAccepted, SaysRejected, SaysLinksAccepted, SaysLinksRejected, PutsRenewed, RenewSays}
+use Rattle.maxband_run.specs.Laws.{IsVerdict, IsWholeLimit, PutsBest, PutsNone, PutsBound, SearchSays, SolveSays, LinksSay, HoldSays, CheckSays, CheckLinksSays, SaysGood, SaysBroken, SaysAccepted, SaysRejected, SaysLinksAccepted, SaysLinksRejected, PutsRenewed, RenewSays}
+use Rattle.maxband_run.specs.StopLaws.{IsOutOfWork, StopsFor, SearchStops, whole_stops, link_stops, StopSays, SolveStopSays, LinksStopSays}
 use Rattle.maxband_run.specs.Status.{number_of}
 use Rattle.maxband_run.specs.declared.cause.Cause.{Cause}
 use Rattle.maxband_run.specs.declared.cause.Cause.TheVariants as cause
@@ -58,8 +73,11 @@ verdict_none : (v : Verdict SitePart) → cause.NoTiming ≡ cause_of v → v �
 verdict_none NoTiming e = refl
 verdict_none v e = absurd cc
 
-verdict_stopped : (stop : Stop SitePart) (v : Verdict SitePart) → cause.Stopped stop ≡ cause_of v → (other : Stop SitePart) × (v ≡ Stopped other)
-verdict_stopped stop (Stopped other) e = (other, refl)
+same_stop : (stop other : Stop SitePart) → cause.Stopped stop ≡ cause.Stopped other → other ≡ stop
+same_stop stop other e = cc
+
+verdict_stopped : (stop : Stop SitePart) (v : Verdict SitePart) → cause.Stopped stop ≡ cause_of v → v ≡ Stopped stop
+verdict_stopped stop (Stopped other) e = ap Stopped (same_stop stop other e)
 verdict_stopped stop v e = absurd cc
 
 -- what a verdict says of the timing and the bound, of any kind of timing
@@ -75,8 +93,8 @@ ProvesOf k a timing bound (Stopped stop) = k.Bounded a bound × IfSome timing (�
 abbrev claimed_by : (k : Sought) → Street → Option k.Timing → ℚ → Verdict SitePart → Claim
 claimed_by k a timing bound verdict = claim_by verdict bound (option_map (k.value a) timing)
 
--- what the text that is put tells of what was found
-record Tells (k : Sought) (a : Street) (c : Cause) (text : List ℕ) : Type 0 where
+-- what the text that is put tells of what was found, and why the search stopped, where it did
+record Tells (k : Sought) (stops : SearchStops k.Timing) (a : Street) (limit : Option ℕ) (c : Cause) (text : List ℕ) : Type 0 where
   pub verdict : Verdict SitePart
   pub timing : Option k.Timing
   pub bound : ℚ
@@ -86,20 +104,25 @@ record Tells (k : Sought) (a : Street) (c : Cause) (text : List ℕ) : Type 0 wh
   pub read_back : IsReadAs k.reader text warrant
   pub claim_is : k.claim warrant ≡ claimed_by k a timing bound verdict
   pub timing_is : k.timing warrant ≡ timing
+  pub why : (stop : Stop SitePart) → verdict ≡ Stopped stop → stops a limit timing bound stop
 
-record HasPut (k : Sought) (before now : Outside) (artery certificate : List ℕ) (c : Cause) : Type 0 where
+record HasPut (k : Sought) (stops : SearchStops k.Timing) (before now : Outside) (artery certificate : List ℕ) (limit : Option ℕ) (c : Cause) : Type 0 where
   pub street : Street
   pub description : Reads Description (before.holds artery) street
   pub text : List ℕ
   pub held : HoldsExactly (now.holds certificate) text
-  pub tells : Tells k street c text
+  pub tells : Tells k stops street limit c text
 
 best_plan : (k : Sought) (a : Street) (timing : Option k.Timing) (bound : ℚ) → IsBestOf k a timing bound → (plan : k.Timing) × (timing ≡ Some plan) × k.Best a plan
 best_plan k a None bound h = absurd h
 best_plan k a (Some plan) bound h = (plan, refl, h.0)
 
-module _ (k : Sought) (before now : Outside) (artery certificate : List ℕ) where
-  puts_best : HasPut k before now artery certificate cause.Done → PutsBest k before now artery certificate
+-- a stop for such a reason spent the whole limit, where it is by work
+abbrev WholeLimits : (T : Type 0) → SearchStops T → Type 0
+WholeLimits T stops = (a : Street) (limit : Option ℕ) (timing : Option T) (bound : ℚ) (stop : Stop SitePart) → stops a limit timing bound stop → IsWholeLimit limit stop
+
+module _ (k : Sought) (stops : SearchStops k.Timing) (whole : WholeLimits k.Timing stops) (before now : Outside) (artery certificate : List ℕ) (limit : Option ℕ) where
+  puts_best : HasPut k stops before now artery certificate limit cause.Done → PutsBest k before now artery certificate
   puts_best h =
       let a = h.street in
       let t = h.tells in
@@ -109,7 +132,7 @@ module _ (k : Sought) (before now : Outside) (artery certificate : List ℕ) whe
       t.claim_is ∙ ap (claimed_by k a t.timing t.bound) is ∙ ap (λ (o : Option k.Timing). claimed_by k a o t.bound Best) best.1 in
       record { street = a; plan = best.0; description = h.description; best = best.2; put = (h.text, h.held, t.warrant, t.read_back, claimed, t.timing_is ∙ best.1) }
 
-  puts_none : HasPut k before now artery certificate cause.NoTiming → PutsNone k before now artery certificate
+  puts_none : HasPut k stops before now artery certificate limit cause.NoTiming → PutsNone k before now artery certificate
   puts_none h =
       let a = h.street in
       let t = h.tells in
@@ -118,45 +141,84 @@ module _ (k : Sought) (before now : Outside) (artery certificate : List ℕ) whe
       let claimed : k.claim t.warrant ≡ claim.NoTiming = t.claim_is ∙ ap (claimed_by k a t.timing t.bound) is in
       record { street = a; description = h.description; none = none.1; put = (h.text, h.held, t.warrant, t.read_back, claimed, t.timing_is ∙ none.0) }
 
-  puts_bound : (stop : Stop SitePart) → HasPut k before now artery certificate (cause.Stopped stop) → PutsBound k before now artery certificate (cause.Stopped stop)
-  puts_bound stop h =
+  abbrev PutsStop : Cause → Type 0
+  PutsStop c = (p : PutsBound k before now artery certificate limit c) × stops p.street limit p.timing p.bound p.stop
+
+  puts_stop : (stop : Stop SitePart) → HasPut k stops before now artery certificate limit (cause.Stopped stop) → PutsStop (cause.Stopped stop)
+  puts_stop stop h =
       let a = h.street in
       let t = h.tells in
       let is = verdict_stopped stop t.verdict t.cause_is in
-      let bound = subst (λ (v : Verdict SitePart). ProvesOf k a t.timing t.bound v) is.1 t.proves in
-      let claimed : k.claim t.warrant ≡ claim.Stopped t.bound (option_map (k.value a) t.timing) = t.claim_is ∙ ap (claimed_by k a t.timing t.bound) is.1 in
-      record {
-        street = a;
-        bound = t.bound;
-        timing = t.timing;
-        stop = stop;
-        description = h.description;
-        bounded = bound.0;
-        good = bound.1;
-        put = (h.text, h.held, t.warrant, t.read_back, claimed, t.timing_is);
-        cause_is = refl;
-      }
+      let bound = subst (λ (v : Verdict SitePart). ProvesOf k a t.timing t.bound v) is t.proves in
+      let claimed : k.claim t.warrant ≡ claim.Stopped t.bound (option_map (k.value a) t.timing) = t.claim_is ∙ ap (claimed_by k a t.timing t.bound) is in
+      let why = t.why stop is in (
+        record {
+          street = a;
+          bound = t.bound;
+          timing = t.timing;
+          stop = stop;
+          description = h.description;
+          bounded = bound.0;
+          good = bound.1;
+          put = (h.text, h.held, t.warrant, t.read_back, claimed, t.timing_is);
+          cause_is = refl;
+          whole_limit = whole a limit t.timing t.bound stop why;
+        },
+        why,
+      )
 
-module _ (k : Sought) (asks : List ℕ → List ℕ → Option ℕ → Request)
-    (put : (before now : Outside) (artery certificate : List ℕ) (limit : Option ℕ) (c : Cause) → IsVerdict c → Completes before now (Some (asks artery certificate limit)) c → HasPut k before now artery certificate c)
+module _ (k : Sought) (stops : SearchStops k.Timing) (whole : WholeLimits k.Timing stops) (asks : List ℕ → List ℕ → Option ℕ → Request)
+    (put : (before now : Outside) (artery certificate : List ℕ) (limit : Option ℕ) (c : Cause) → IsVerdict c → Completes before now (Some (asks artery certificate limit)) c → HasPut k stops before now artery certificate limit c)
   where
     module _ (before now : Outside) (artery certificate : List ℕ) (limit : Option ℕ) where
       zero_says : (c : Cause) → c ≡ cause.Done → Ends before now (Some (asks artery certificate limit)) c → PutsBest k before now artery certificate
-      zero_says c e h = puts_best k before now artery certificate (put before now artery certificate limit cause.Done tt (subst (λ (d : Cause). Ends before now (Some (asks artery certificate limit)) d) e h))
+      zero_says c e h =
+          puts_best k stops whole before now artery certificate limit (put before now artery certificate limit cause.Done tt (subst (λ (d : Cause). Ends before now (Some (asks artery certificate limit)) d) e h))
 
       one_says : (c : Cause) → c ≡ cause.NoTiming → Ends before now (Some (asks artery certificate limit)) c → PutsNone k before now artery certificate
-      one_says c e h = puts_none k before now artery certificate (put before now artery certificate limit cause.NoTiming tt (subst (λ (d : Cause). Ends before now (Some (asks artery certificate limit)) d) e h))
+      one_says c e h =
+          puts_none k stops whole before now artery certificate limit (put before now artery certificate limit cause.NoTiming tt (subst (λ (d : Cause). Ends before now (Some (asks artery certificate limit)) d) e h))
 
-      two_says : (c : Cause) (stop : Stop SitePart) → c ≡ cause.Stopped stop → Ends before now (Some (asks artery certificate limit)) c → PutsBound k before now artery certificate c
-      two_says c stop e h = subst (λ (d : Cause). PutsBound k before now artery certificate d) (sym e)
-          (puts_bound k before now artery certificate stop (put before now artery certificate limit (cause.Stopped stop) tt (subst (λ (d : Cause). Ends before now (Some (asks artery certificate limit)) d) e h)))
+      two_says : (c : Cause) (stop : Stop SitePart) → c ≡ cause.Stopped stop → Ends before now (Some (asks artery certificate limit)) c → PutsStop k stops whole before now artery certificate limit c
+      two_says c stop e h = subst (λ (d : Cause). PutsStop k stops whole before now artery certificate limit d) (sym e)
+          (puts_stop k stops whole before now artery certificate limit stop (put before now artery certificate limit (cause.Stopped stop) tt (subst (λ (d : Cause). Ends before now (Some (asks artery certificate limit)) d) e h)))
+
+    stop_says : StopSays k stops asks
+    stop_says before now artery certificate limit c h e = let s = two_is c e in two_says before now artery certificate limit c s.0 s.1 h
 
     search_says : SearchSays k asks
     search_says before now artery certificate limit c h = (
       (λ e. zero_says before now artery certificate limit c (zero_is c e) h),
       (λ e. one_says before now artery certificate limit c (one_is c e) h),
-      (λ e. let s = two_is c e in two_says before now artery certificate limit c s.0 s.1 h),
+      (λ e. (stop_says before now artery certificate limit c h e).0),
     )
+
+-- ---- why it stopped
+module _ {T K : Type 0} (r : Rules T K SitePart) (enough : ℕ) (IsNamed : Site SitePart → Type 0) (limit : Option ℕ) (bound : ℚ) where
+  whole_limit : (best : Option (Incumbent T)) (stop : Stop SitePart) → StopsFor r enough IsNamed limit best bound stop → IsWholeLimit limit stop
+  whole_limit best (Work units) h = h.by_work.1 ∙ ap Some (sym h.by_work.0)
+  whole_limit best (Wide site) h = tt
+
+  too_low : (spent : ℕ) → limit ≡ Some spent → IsTooLow enough limit → spent < enough
+  too_low spent e h = subst (λ (o : Option ℕ). IsTooLow enough o) e h
+
+  out_of_work : (nodes : List TreeNode) (best : Option (Incumbent T)) (spent : ℕ) (stop : Stop SitePart)
+      → IsStoppedAnswer r limit nodes best bound spent stop → IsWithin {W = SitePart} enough limit (Stopped stop) → IsOutOfWork enough limit spent stop
+  out_of_work nodes best spent (Work units) h w = (h.cause.0, h.cause.1, too_low spent h.cause.1 w)
+  out_of_work nodes best spent (Wide site) h w = tt
+
+  stopped_for : (nodes : List TreeNode) (best : Option (Incumbent T)) (spent : ℕ) (verdict : Verdict SitePart) → IsAnswer r limit nodes best bound spent verdict → IsWithin enough limit verdict → EndsAt IsNamed verdict
+      → (stop : Stop SitePart) → verdict ≡ Stopped stop → StopsFor r enough IsNamed limit best bound stop
+  stopped_for nodes best spent verdict h w n stop e =
+      let answer : IsStoppedAnswer r limit nodes best bound spent stop = subst (λ (v : Verdict SitePart). IsAnswer r limit nodes best bound spent v) e h in
+      let within : IsWithin {W = SitePart} enough limit (Stopped stop) = subst (λ (v : Verdict SitePart). IsWithin enough limit v) e w in
+      record {
+        nodes = nodes;
+        spent = spent;
+        answer = answer;
+        by_work = out_of_work nodes best spent stop answer within;
+        named = subst (λ (v : Verdict SitePart). EndsAt IsNamed v) e n;
+      }
 
 -- ---- solve
 whole_proves : (a : Street) (timing : Option Plan) (bound : ℚ) (verdict : Verdict SitePart) → Proves a timing bound verdict → ProvesOf whole_bands a timing bound verdict
@@ -166,7 +228,7 @@ whole_proves a timing bound NoTiming h = h
 whole_proves a timing bound (Stopped stop) h = h
 
 solve_put : (before now : Outside) (artery certificate : List ℕ) (limit : Option ℕ) (c : Cause) → IsVerdict c → Completes before now (Some (Solve artery certificate limit)) c
-    → HasPut whole_bands before now artery certificate c
+    → HasPut whole_bands whole_stops before now artery certificate limit c
 solve_put before now artery certificate limit c v h =
     let f = verdict_found before.holds before.reads now.reads (Some (Solve artery certificate limit)) c h.0 h.1 v h.2 in
     let s = f.finds.2 in
@@ -185,11 +247,19 @@ solve_put before now artery certificate limit c v h =
         read_back = s.certificate_is.read_back;
         claim_is = refl;
         timing_is = refl;
+        why = stopped_for (rules_of f.values.0) (enough_of f.values.0) (IsSiteOf f.values.0) limit s.found.bound s.found.nodes.items (incumbent_of f.values.0 s.found.timing) s.found.spent s.found.verdict
+        s.searched.search s.searched.enough s.searched.site;
       };
     }
 
+whole_spent : WholeLimits Plan whole_stops
+whole_spent a limit timing bound stop h = whole_limit (rules_of a) (enough_of a) (IsSiteOf a) limit bound (incumbent_of a timing) stop h
+
 pub solve_says : SolveSays
-solve_says = search_says whole_bands Solve solve_put
+solve_says = search_says whole_bands whole_stops whole_spent Solve solve_put
+
+pub solve_stop_says : SolveStopSays
+solve_stop_says = stop_says whole_bands whole_stops whole_spent Solve solve_put
 
 -- ---- links
 link_proves : (a : Street) (timing : Option LinkPlan) (bound : ℚ) (verdict : Verdict SitePart) → LinksProve a timing bound verdict → ProvesOf bands_of_links a timing bound verdict
@@ -199,7 +269,7 @@ link_proves a timing bound NoTiming h = h
 link_proves a timing bound (Stopped stop) h = h
 
 links_put : (before now : Outside) (artery certificate : List ℕ) (limit : Option ℕ) (c : Cause) → IsVerdict c → Completes before now (Some (Links artery certificate limit)) c
-    → HasPut bands_of_links before now artery certificate c
+    → HasPut bands_of_links link_stops before now artery certificate limit c
 links_put before now artery certificate limit c v h =
     let f = verdict_found before.holds before.reads now.reads (Some (Links artery certificate limit)) c h.0 h.1 v h.2 in
     let s = f.finds.2 in
@@ -218,11 +288,19 @@ links_put before now artery certificate limit c v h =
         read_back = s.certificate_is.read_back;
         claim_is = refl;
         timing_is = refl;
+        why = stopped_for (link_rules f.values.0) (link_enough_of f.values.0) (IsLinkSiteOf f.values.0) limit s.found.bound s.found.nodes.items (link_incumbent_of f.values.0 s.found.timing) s.found.spent s.found.verdict
+        s.searched.search s.searched.enough s.searched.site;
       };
     }
 
+links_spent : WholeLimits LinkPlan link_stops
+links_spent a limit timing bound stop h = whole_limit (link_rules a) (link_enough_of a) (IsLinkSiteOf a) limit bound (link_incumbent_of a timing) stop h
+
 pub links_say : LinksSay
-links_say = search_says bands_of_links Links links_put
+links_say = search_says bands_of_links link_stops links_spent Links links_put
+
+pub links_stop_says : LinksStopSays
+links_stop_says = stop_says bands_of_links link_stops links_spent Links links_put
 
 -- ---- hold
 module _ (rules : FailsRulesOut) (before now : Outside) (artery timing : List ℕ) where

@@ -12,8 +12,6 @@ use Rattle.time_space.specs.Failing.{Fails}
 use Rattle.time_space.specs.declared.failing.Failing.{Failing}
 use Rattle.plan_text.specs.Warrants.{Warrant}
 use Rattle.plan_text.specs.SecondText.{second_text}
-use Rattle.plan_text.specs.Spelling.{timing_text}
-use Rattle.plan_text.specs.Reading.{timing_of}
 use Rattle.plan_text.specs.CertificateReading.{certificate_of}
 use Rattle.plan_text.specs.declared.certificate.Claim.{Claim}
 use Rattle.plan_text.specs.declared.certificate.Claim.TheVariants as claim
@@ -27,12 +25,12 @@ use Rattle.link_proof.specs.LinkClaims.{LinkClaimHolds}
 use Rattle.link_proof.specs.LinkRefusals.{IsFirstLinkRefusal}
 use Rattle.link_proof.specs.declared.reject.LinkReject.{LinkReject}
 use Rattle.branch_and_bound.specs.declared.found.Stop.{Stop}
-use Rattle.branch_and_bound.specs.declared.found.Stop.TheVariants.{Wide}
+use Rattle.branch_and_bound.specs.declared.found.Stop.TheVariants.{Work, Wide}
 use Rattle.branch_tree.specs.declared.site.SitePart.{SitePart}
 use Rattle.maxband_run.specs.CheckLines.{accepted_line}
 use Rattle.maxband_run.specs.Lines.{holds_lines}
 use Rattle.maxband_run.specs.Outside.{Outside, NamedBytes}
-use Rattle.maxband_run.specs.Command.{Request, Hold, Check, CheckLinks, Solve, Links, Renew, Round, Make, Trial, Sweep, shape}
+use Rattle.maxband_run.specs.Command.{Request, Hold, Check, CheckLinks, Solve, Links, Renew, Make, Trial, Sweep, shape}
 use Rattle.maxband_run.specs.Reading.{Input, Value, most_bytes, IsReadAs, Reads, Describes, AreTold, Description, Timing, Certificate, LinkCertificate}
 use Rattle.maxband_run.specs.Sought.{Sought, whole_bands, bands_of_links}
 use Rattle.maxband_run.specs.Checked.{Checked, whole_checked, links_checked}
@@ -121,29 +119,6 @@ RenewIsComplete = (before now : Outside) (certificate new : List ℕ) (w : Warra
     → ¬ Rose (before.reads certificate) (now.reads certificate) → ¬ Rose (before.puts new) (now.puts new) → ¬ Rose before.writes now.writes
     → Ends before now (Some (Renew certificate new)) c → (c ≡ cause.Done) ⊎ (c ≡ cause.Memory)
 
--- a search without a limit
-abbrev pub IsUnlimited : Request → Type 0
-IsUnlimited (Solve artery certificate None) = Unit {0}
-IsUnlimited (Links artery certificate None) = Unit {0}
-IsUnlimited (Trial signals seed None) = Unit {0}
-IsUnlimited _ = ⊥
-
--- a best timing, none, or a named number that left 128 bits; a fault, want of memory, or a description that isn't one of an artery: but no stop by work
-abbrev pub EndsOtherThanByWork : Cause → Type 0
-EndsOtherThanByWork cause.Done = Unit {0}
-EndsOtherThanByWork cause.NoTiming = Unit {0}
-EndsOtherThanByWork (cause.Stopped (Wide site)) = Unit {0}
-EndsOtherThanByWork (cause.ReadFault file) = Unit {0}
-EndsOtherThanByWork cause.WriteFault = Unit {0}
-EndsOtherThanByWork cause.Memory = Unit {0}
-EndsOtherThanByWork (cause.Refused refusal) = Unit {0}
-EndsOtherThanByWork (cause.TooLong file) = Unit {0}
-EndsOtherThanByWork _ = ⊥
-
--- Where the words say `all`, the search isn't stopped by work.
-abbrev pub AllNeverStopsByWork : Type 0
-AllNeverStopsByWork = (before now : Outside) (asked : Request) (c : Cause) → IsUnlimited asked → Ends before now (Some asked) c → EndsOtherThanByWork c
-
 -- What a search found, of the artery that the file described, and that the check accepts the file that was put with just the claim of that.
 pub record IsConfirmed (k : Sought) (s : Checked k) (before between now : Outside) (artery certificate : List ℕ) (limit : Option ℕ) (c d : Cause) : Type 0 where
   pub street : Street
@@ -193,9 +168,14 @@ pub record PutsNone (k : Sought) (before now : Outside) (artery certificate : Li
   pub none : k.NoneGood street
   pub put : HoldsCertificate k (now.holds certificate) claim.NoTiming None
 
+-- a stop by work spent all units of the limit
+abbrev pub IsWholeLimit : Option ℕ → Stop SitePart → Type 0
+IsWholeLimit limit (Work units) = limit ≡ Some units
+IsWholeLimit limit (Wide site) = Unit {0}
+
 -- With status 2: no good timing of the described artery has a value above the bound, a timing that stands is good and no better than that, the file that is put has
--- both, and the cause is why the search stopped.
-pub record PutsBound (k : Sought) (before now : Outside) (artery certificate : List ℕ) (c : Cause) : Type 0 where
+-- both, and the cause is why the search stopped: by work only where the whole limit was spent.
+pub record PutsBound (k : Sought) (before now : Outside) (artery certificate : List ℕ) (limit : Option ℕ) (c : Cause) : Type 0 where
   pub street : Street
   pub bound : ℚ
   pub timing : Option k.Timing
@@ -205,13 +185,14 @@ pub record PutsBound (k : Sought) (before now : Outside) (artery certificate : L
   pub good : IfSome timing (λ plan. k.Good street plan × (k.value street plan ≤ℚ bound))
   pub put : HoldsCertificate k (now.holds certificate) (claim.Stopped bound (option_map (k.value street) timing)) timing
   pub cause_is : c ≡ cause.Stopped stop
+  pub whole_limit : IsWholeLimit limit stop
 
 -- what the statuses of a command say that is asked for so and searches for this
 abbrev pub SearchSays : Sought → (List ℕ → List ℕ → Option ℕ → Request) → Type 0
 SearchSays k asks = (before now : Outside) (artery certificate : List ℕ) (limit : Option ℕ) (c : Cause) → Ends before now (Some (asks artery certificate limit)) c
     → (number_of c ≡ 0 → PutsBest k before now artery certificate)
     × (number_of c ≡ 1 → PutsNone k before now artery certificate)
-    × (number_of c ≡ 2 → PutsBound k before now artery certificate c)
+    × (number_of c ≡ 2 → PutsBound k before now artery certificate limit c)
 
 abbrev pub SolveSays : Type 0
 SolveSays = SearchSays whole_bands Solve
@@ -301,22 +282,3 @@ pub record PutsRenewed (before now : Outside) (certificate new : List ℕ) : Typ
 
 abbrev pub RenewSays : Type 0
 RenewSays = (before now : Outside) (certificate new : List ℕ) (c : Cause) → Ends before now (Some (Renew certificate new)) c → number_of c ≡ 0 → PutsRenewed before now certificate new
-
--- `round` with status 0: the file that is put holds, where it is told, the text of a timing that is good on the described artery and is read back
-pub record PutsPlan (before now : Outside) (artery plan : List ℕ) : Type 0 where
-  pub street : Street
-  pub timing : Plan
-  pub description : Reads Description (before.holds artery) street
-  pub good : Good street timing
-  pub put : HoldsExactly (now.holds plan) (timing_text timing)
-  pub read_back : timing_of (timing_text timing) ≡ Ok timing
-
-abbrev pub RoundSays : Type 0
-RoundSays = (before now : Outside) (artery certificate plan : List ℕ) (c : Cause) → Ends before now (Some (Round artery certificate plan)) c → number_of c ≡ 0 → PutsPlan before now artery plan
-
--- So a run of `hold` over the same description and the file that was put accepts it, unless a fault or want of memory ends it: where these are two files that tell
--- their bytes, and the plan isn't too long to be read.
-abbrev pub PlanIsHeld : Type 0
-PlanIsHeld = (before between now : Outside) (artery certificate plan : List ℕ) (c d : Cause)
-    → artery ≢ plan → IsSome (before.holds artery) → IsSome (between.holds plan) → IfSome (between.holds plan) (λ bytes. length bytes ≤ most_bytes Timing)
-    → number_of c ≡ 0 → Ends before between (Some (Round artery certificate plan)) c → IsReached d → Ends between now (Some (Hold artery plan)) d → d ≡ cause.Done

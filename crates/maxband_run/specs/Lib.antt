@@ -21,6 +21,9 @@ pub mod Make
 pub mod Trial
 pub mod Sweep
 pub mod Run
+pub mod Program
 pub mod Sought
 pub mod Checked
 pub mod Laws
+pub mod PlanLaws
+pub mod StopLaws

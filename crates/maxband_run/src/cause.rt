@@ -16,15 +16,15 @@ use time_space::Failing;
 /// reads.
 #[derive(Debug, Drop)]
 pub enum Cause {
-    /// The work was done. For `solve` and `trial`: the timing that was found is a best one.
+    /// The work was done. For `solve`, `links` and `trial`: the timing that was found is a best one.
     Done,
-    /// There is no good timing, on any grid.
+    /// There is no good timing, or of `links` no good link timing, on any grid.
     NoTiming,
-    /// The search stopped, by work or because a number left 128 bits: no weighted band is above the bound that was found.
+    /// The search stopped, by work or because a number left 128 bits: no good timing is worth more than the bound that was found.
     Stopped(Stop),
     /// The first file doesn't describe an artery: what is wrong first, and where.
     Refused(Refusal),
-    /// The second file isn't the text of a timing or certificate: its first bad line.
+    /// The file that the command reads as a timing or a certificate isn't the text of one: its first bad line.
     BadText(BadText),
     /// The timing breaks a rule: the first that it breaks.
     Fails(Failing),
@@ -36,7 +36,7 @@ pub enum Cause {
     Words,
     /// A read of this file failed, and was counted.
     ReadFault { file: u8 },
-    /// The put of the certificate or a write failed, and was counted.
+    /// The put of the file that the command puts (a certificate, a plan or a table), or a write of its lines, failed and was counted.
     WriteFault,
     /// Memory was wanting.
     Memory,

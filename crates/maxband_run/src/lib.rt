@@ -23,6 +23,7 @@ mod lines;
 mod links;
 mod make;
 mod numbers;
+mod program;
 mod readable;
 mod renew;
 mod round;
@@ -34,10 +35,13 @@ mod top;
 mod trial;
 
 pub use cause::{Cause, Status};
+pub use program::{maxband_main, run_program};
 pub use top::{
-    law_all_never_stops_by_work, law_check_links_says, law_check_says, law_faults_are_told,
-    law_hold_says, law_links_are_complete, law_links_say, law_make_is_complete, law_one_answer,
-    law_plan_is_held, law_put_is_accepted, law_put_links_are_accepted, law_renew_is_complete,
-    law_renew_says, law_round_says, law_solve_is_complete, law_solve_says, law_sweep_is_complete,
-    law_trial_is_complete, run,
+    law_all_never_stops_by_work, law_bands_say, law_check_links_says, law_check_says,
+    law_faults_are_counted, law_faults_are_told, law_half_says, law_hold_says,
+    law_links_are_complete, law_links_say, law_links_stop_says, law_make_is_complete,
+    law_one_answer, law_plan_is_held, law_put_is_accepted, law_put_links_are_accepted,
+    law_renew_is_complete, law_renew_says, law_round_says, law_solve_is_complete, law_solve_says,
+    law_solve_stop_says, law_sweep_is_complete, law_sweep_says, law_trial_is_complete,
+    law_words_are_told, run,
 };

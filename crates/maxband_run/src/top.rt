@@ -6,7 +6,9 @@ ghost use Rattle.maxband_run.specs.Status.{number_of};
 ghost use Rattle.maxband_run.specs.Command.{request_of, shape};
 ghost use Rattle.maxband_run.specs.Outside.{outside, OthersKept, PutsCounted};
 ghost use Rattle.maxband_run.specs.Run.{Ends, LeavesAlone};
-ghost use Rattle.maxband_run.specs.Laws.{OneAnswer, FaultsAreTold, SolveIsComplete, LinksAreComplete, MakeIsComplete, TrialIsComplete, SweepIsComplete, RenewIsComplete, PutIsAccepted, PutLinksAreAccepted, AllNeverStopsByWork, SolveSays, LinksSay, HoldSays, CheckSays, CheckLinksSays, RenewSays, RoundSays, PlanIsHeld};
+ghost use Rattle.maxband_run.specs.Laws.{OneAnswer, FaultsAreTold, SolveIsComplete, LinksAreComplete, MakeIsComplete, TrialIsComplete, SweepIsComplete, RenewIsComplete, PutIsAccepted, PutLinksAreAccepted, SolveSays, LinksSay, HoldSays, CheckSays, CheckLinksSays, RenewSays};
+ghost use Rattle.maxband_run.specs.PlanLaws.{BandsSay, HalfSays, RoundSays, PlanIsHeld, SweepSays};
+ghost use Rattle.maxband_run.specs.StopLaws.{SolveStopSays, LinksStopSays, AllNeverStopsByWork, WordsAreTold, FaultsAreCounted};
 
 use crate::answers::answer_to;
 use crate::cause::{Cause, Status};
@@ -108,9 +110,9 @@ pub fn law_trial_is_complete()
     ensures { TrialIsComplete }
 {}
 
-/// A law over the definitions: where the words say `all`, the search isn't stopped by work: `solve`, `links` and `trial` then end with a
+/// A law over the definitions: where the words say `all`, no search is stopped by work: `solve`, `links` and `trial` then end with a
 /// best timing, with none, at a named number that left 128 bits, by a counted fault or by want of memory, and the first two also where
-/// their description is none of an artery.
+/// their description is none of an artery; and no row of the table of `sweep` is open by work.
 pub fn law_all_never_stops_by_work()
     ensures { AllNeverStopsByWork }
 {}
@@ -193,9 +195,59 @@ pub fn law_renew_says()
     ensures { RenewSays }
 {}
 
-/// A law over the definitions: after status 0 of `round` the file that it put holds the text of a timing that is good on the described artery.
+/// A law over the definitions: after status 0 of `bands` the widest bands on the timing's offsets were printed, and after 4 a rule
+/// fails that speaks of no band.
+pub fn law_bands_say()
+    ensures { BandsSay }
+{}
+
+/// A law over the definitions: after status 0 of `half` the file that it put has a timing with the widest equal bands over all
+/// offsets, or there are none on any grid and nothing was put; after 4 a rule fails that speaks of no band, and after 11 the timing
+/// can have no such plan.
+pub fn law_half_says()
+    ensures { HalfSays }
+{
+    half_integer::law_one_end();
+}
+
+/// A law over the definitions: after status 0 of `round` the file that it put holds the text of a timing that is good on the
+/// described artery and, on its grid, the best with its offsets, and no good timing is better by more than the printed loss; after
+/// 4 the certificate isn't accepted, and after 10 no plan is made of it.
 pub fn law_round_says()
     ensures { RoundSays }
+{
+    certificate_checker::law_accepted_or_refused();
+}
+
+/// A law over the definitions: after status 0 of `sweep` the file that it put holds the table of its cycles, and each record says what
+/// holds of the street at its cycle.
+pub fn law_sweep_says()
+    ensures { SweepSays }
+{
+    cycle_sweep::law_rows_say();
+}
+
+/// A law over the definitions: after status 2 of `solve` the search stopped by work, where all units of its limit were spent and they
+/// are fewer than are enough, or at the named site, to which the steps of a box of its tree lead.
+pub fn law_solve_stop_says()
+    ensures { SolveStopSays }
+{}
+
+/// A law over the definitions: the same of `links`.
+pub fn law_links_stop_says()
+    ensures { LinksStopSays }
+{}
+
+/// A law over the definitions: status 5 comes exactly where the words are none of the usages, unless a fault or want of memory ends
+/// the run, also where the files tell nothing.
+pub fn law_words_are_told()
+    ensures { WordsAreTold }
+{}
+
+/// A law over the definitions: where no count of failed calls rises, as over files and an output that never fail, statuses 6 and 7
+/// don't come.
+pub fn law_faults_are_counted()
+    ensures { FaultsAreCounted }
 {}
 
 /// A law over the definitions: `hold` accepts the plan that `round` put.

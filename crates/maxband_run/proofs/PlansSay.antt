@@ -1,0 +1,207 @@
+-- What the statuses of `bands`, `half` and `sweep` say of the model, and those of `round` but 0.
+use Rattle.std.proofs.Common.{◌≡◌, ℕ, List, [], ◌∷◌, Option, Some, None, Ok, inl, inr, refl, sym, ◌∙◌, ap, subst}
+use Rattle.std.specs.List.{AllZip}
+use Rattle.rational_theory.specs.Rational.{ℚ}
+use Rattle.outer_edge.specs.Held.{HoldsExactly}
+use Rattle.outer_edge.specs.Taken.{Appends}
+use Rattle.progression.specs.Street.{Street}
+use Rattle.time_space.specs.declared.failing.Failing.{Failing}
+use Rattle.half_integer.specs.Answers.{OneEnd}
+use Rattle.half_integer.specs.declared.end.HalfEnd.{HalfEnd}
+use Rattle.second_plan.specs.declared.answer.PlanEnd.{PlanEnd}
+use Rattle.plan_text.specs.Spelling.{timing_text}
+use Rattle.plan_text.specs.Reading.{timing_of}
+use Rattle.certificate_checker.specs.Laws.{RefusedIsNotAccepted}
+use Rattle.cycle_sweep.specs.declared.row.SweepRow.{SweepRow}
+use Rattle.cycle_sweep.specs.Rows.{IsRow}
+use Rattle.cycle_sweep.specs.Says.{RowsSay}
+use Rattle.cycle_sweep.specs.Table.{sweep_text}
+use Rattle.maxband_run.specs.Command.{Bands, Round, Half, Sweep}
+use Rattle.maxband_run.specs.Outside.{Outside, put_of, IsPut}
+use Rattle.maxband_run.specs.Half.{HasNoHalfPlan, IsHalfPlan}
+use Rattle.maxband_run.specs.Run.{Ends}
+use Rattle.maxband_run.specs.Laws.{SaysRejected}
+use Rattle.maxband_run.specs.PlanLaws.{SaysWidest, SaysNoBase, BandsSay, PutsHalf, SaysNoHalf, SaysHalf, SaysUnmatched, HalfSays, SaysUnplanned, SaysCycle, PutsTable, SweepSays}
+use Rattle.maxband_run.specs.Status.{number_of}
+use Rattle.maxband_run.specs.declared.cause.Cause.{Cause}
+use Rattle.maxband_run.specs.declared.cause.Cause.TheVariants as cause
+use Rattle.maxband_run.proofs.Found.{Found, found, ten_is, eleven_is}
+use Rattle.maxband_run.proofs.Once.{unplanned_accepted}
+use Rattle.maxband_run.proofs.PutRead.{is_put}
+use Rattle.maxband_run.proofs.Says.{zero_is}
+
+-- ---- bands
+module _ (before now : Outside) (artery timing : List ℕ) where
+  says_widest : Found before now (Some (Bands artery timing)) cause.Done → SaysWidest before now artery timing
+  says_widest f =
+      let k = f.answer.finds in
+      record {
+        street = f.answer.values.0;
+        plan = f.answer.values.1.0;
+        outbound = k.outbound;
+        inbound = k.inbound;
+        description = f.answer.read.0;
+        text = f.answer.read.1.0;
+        base = k.base;
+        outbound_is = k.outbound_is;
+        inbound_is = k.inbound_is;
+        told = subst (λ (l : List ℕ). Appends before.taken now.taken l) k.lines_are f.done.written;
+      }
+
+  says_no_base : (f : Failing) → Found before now (Some (Bands artery timing)) (cause.Fails f) → SaysNoBase before artery timing (cause.Fails f)
+  says_no_base f k = record {
+    street = k.answer.values.0;
+    plan = k.answer.values.1.0;
+    failing = f;
+    description = k.answer.read.0;
+    text = k.answer.read.1.0;
+    fails = k.answer.finds.first.fails;
+    not_base = k.answer.finds.not_base;
+    cause_is = refl;
+  }
+
+  bands_four : (c : Cause) → number_of c ≡ 4 → Ends before now (Some (Bands artery timing)) c → SaysNoBase before artery timing c
+  bands_four (cause.Fails f) e h = says_no_base f (found before now (Some (Bands artery timing)) (cause.Fails f) tt (λ s. s) h)
+  bands_four (cause.Rejected r) e h = absurd ((found before now (Some (Bands artery timing)) (cause.Rejected r) tt (λ s. s) h).answer.finds)
+  bands_four (cause.LinkRejected r) e h = absurd ((found before now (Some (Bands artery timing)) (cause.LinkRejected r) tt (λ s. s) h).answer.finds)
+  bands_four c e h = absurd cc
+
+pub bands_say : BandsSay
+bands_say before now artery timing c h = (
+  (λ e. says_widest before now artery timing (found before now (Some (Bands artery timing)) cause.Done tt (λ s. s) (subst (λ (d : Cause). Ends before now (Some (Bands artery timing)) d) (zero_is c e) h))),
+  (λ e. bands_four before now artery timing c e h),
+)
+
+-- ---- half
+module _ (before now : Outside) (artery timing new : List ℕ) where
+  says_half : Found before now (Some (Half artery timing new)) cause.Done → SaysHalf before now artery timing new
+  says_half f =
+      let a = f.answer.values.0 in
+      let t = f.answer.values.1.0 in
+      let k = f.answer.finds in
+      let none : HasNoHalfPlan a t f.lines f.answer.bytes → SaysNoHalf before now a t = λ h. record {
+        none = h.none;
+        kept = subst (λ p. IsPut p before.holds now.holds) (f.answer.put_is ∙ ap (put_of (Some new)) h.no_put) f.done.files;
+        told = subst (λ (l : List ℕ). Appends before.taken now.taken l) h.lines_are f.done.written;
+      } in
+      let some : (text : List ℕ) → f.answer.bytes ≡ Some text → IsHalfPlan a t f.lines text → PutsHalf before now a t new = λ text e h. record {
+        plan = h.plan;
+        best = h.best;
+        put = subst (λ (x : List ℕ). HoldsExactly (now.holds new) x) h.written (is_put before now new text f.lines f.put f.answer.bytes f.answer.put_is e f.done).0;
+        read_back = subst (λ (x : List ℕ). timing_of x ≡ Ok h.plan) h.written h.read_back;
+        told = subst (λ (l : List ℕ). Appends before.taken now.taken l) h.lines_are f.done.written;
+      } in
+      record {
+        street = a;
+        plan = t;
+        description = f.answer.read.0;
+        text = f.answer.read.1.0;
+        base = k.base;
+        found = elim k.found [ inl h ↦ inl (none h) | inr h ↦ inr (some h.0 h.1 h.2) ];
+      }
+
+  half_no_base : (f : Failing) → Found before now (Some (Half artery timing new)) (cause.Fails f) → SaysNoBase before artery timing (cause.Fails f)
+  half_no_base f k = record {
+    street = k.answer.values.0;
+    plan = k.answer.values.1.0;
+    failing = f;
+    description = k.answer.read.0;
+    text = k.answer.read.1.0;
+    fails = k.answer.finds.0.first.fails;
+    not_base = k.answer.finds.0.not_base;
+    cause_is = refl;
+  }
+
+  half_four : (c : Cause) → number_of c ≡ 4 → Ends before now (Some (Half artery timing new)) c → SaysNoBase before artery timing c
+  half_four (cause.Fails f) e h = half_no_base f (found before now (Some (Half artery timing new)) (cause.Fails f) tt (λ s. s) h)
+  half_four (cause.Rejected r) e h = absurd ((found before now (Some (Half artery timing new)) (cause.Rejected r) tt (λ s. s) h).answer.finds)
+  half_four (cause.LinkRejected r) e h = absurd ((found before now (Some (Half artery timing new)) (cause.LinkRejected r) tt (λ s. s) h).answer.finds)
+  half_four c e h = absurd cc
+
+  says_unmatched : OneEnd → (reason : HalfEnd) → Found before now (Some (Half artery timing new)) (cause.Unmatched reason) → SaysUnmatched before artery timing (cause.Unmatched reason)
+  says_unmatched ends reason k = record {
+    street = k.answer.values.0;
+    plan = k.answer.values.1.0;
+    reason = reason;
+    description = k.answer.read.0;
+    text = k.answer.read.1.0;
+    base = k.answer.finds.base;
+    first = k.answer.finds.first;
+    not_ready = ends.not_ready k.answer.values.0 k.answer.values.1.0 reason k.answer.finds.first;
+    cause_is = refl;
+  }
+
+  half_eleven : OneEnd → (c : Cause) (reason : HalfEnd) → c ≡ cause.Unmatched reason → Ends before now (Some (Half artery timing new)) c → SaysUnmatched before artery timing c
+  half_eleven ends c reason e h = subst (λ (d : Cause). SaysUnmatched before artery timing d) (sym e)
+      (says_unmatched ends reason (found before now (Some (Half artery timing new)) (cause.Unmatched reason) tt (λ s. s) (subst (λ (d : Cause). Ends before now (Some (Half artery timing new)) d) e h)))
+
+pub half_says : OneEnd → HalfSays
+half_says ends before now artery timing new c h = (
+  (λ e. says_half before now artery timing new (found before now (Some (Half artery timing new)) cause.Done tt (λ s. s) (subst (λ (d : Cause). Ends before now (Some (Half artery timing new)) d) (zero_is c e) h))),
+  (λ e. half_four before now artery timing new c e h),
+  (λ e. let r = eleven_is c e in half_eleven before now artery timing new ends c r.0 r.1 h),
+)
+
+-- ---- round
+module _ (before now : Outside) (artery certificate plan : List ℕ) where
+  pub round_four : RefusedIsNotAccepted → (c : Cause) → number_of c ≡ 4 → Ends before now (Some (Round artery certificate plan)) c → SaysRejected before artery certificate c
+  round_four apart (cause.Rejected r) e h =
+      let k = found before now (Some (Round artery certificate plan)) (cause.Rejected r) tt (λ s. s) h in
+      record {
+        street = k.answer.values.0;
+        warrant = k.answer.values.1.0;
+        reject = r;
+        description = k.answer.read.0;
+        text = k.answer.read.1.0;
+        first = k.answer.finds.0.first;
+        not_accepted = apart k.answer.values.0 k.answer.values.1.0 r k.answer.finds.0.first k.answer.finds.0.kept;
+        cause_is = refl;
+      }
+  round_four apart (cause.Fails f) e h = absurd ((found before now (Some (Round artery certificate plan)) (cause.Fails f) tt (λ s. s) h).answer.finds)
+  round_four apart (cause.LinkRejected r) e h = absurd ((found before now (Some (Round artery certificate plan)) (cause.LinkRejected r) tt (λ s. s) h).answer.finds)
+  round_four apart c e h = absurd cc
+
+  says_unplanned : (reason : PlanEnd) → Found before now (Some (Round artery certificate plan)) (cause.Unplanned reason) → SaysUnplanned before artery certificate (cause.Unplanned reason)
+  says_unplanned reason k = record {
+    street = k.answer.values.0;
+    warrant = k.answer.values.1.0;
+    reason = reason;
+    description = k.answer.read.0;
+    text = k.answer.read.1.0;
+    accepted = unplanned_accepted k.answer.values.0 k.answer.values.1.0 reason k.answer.finds.first;
+    first = k.answer.finds.first;
+    cause_is = refl;
+  }
+
+  pub round_ten : (c : Cause) → number_of c ≡ 10 → Ends before now (Some (Round artery certificate plan)) c → SaysUnplanned before artery certificate c
+  round_ten c n h = let r = ten_is c n in
+      subst (λ (d : Cause). SaysUnplanned before artery certificate d) (sym r.1)
+      (says_unplanned r.0 (found before now (Some (Round artery certificate plan)) (cause.Unplanned r.0) tt (λ s. s) (subst (λ (d : Cause). Ends before now (Some (Round artery certificate plan)) d) r.1 h)))
+
+-- ---- sweep
+each_row : RowsSay → (a : Street) (limit : Option ℕ) (cycles : List ℚ) (rows : List SweepRow) → AllZip (IsRow a limit) cycles rows → AllZip (SaysCycle a limit) cycles rows
+each_row say a limit [] [] h = tt
+each_row say a limit [] (row ∷ rows) h = absurd h
+each_row say a limit (cycle ∷ cycles) [] h = absurd h
+each_row say a limit (cycle ∷ cycles) (row ∷ rows) h = (record { found = h.0; says = say a limit cycle row h.0 }, each_row say a limit cycles rows h.1)
+
+module _ (say : RowsSay) (before now : Outside) (artery table : List ℕ) (limit : Option ℕ) (words : List (List ℕ)) where
+  puts_table : Found before now (Some (Sweep artery table limit words)) cause.Done → PutsTable before now artery table limit words
+  puts_table f =
+      let a = f.answer.values.0 in
+      let k = f.answer.finds in
+      let held = is_put before now table k.0 f.lines f.put f.answer.bytes f.answer.put_is k.1 f.done in
+      record {
+        street = a;
+        cycles = k.2.cycles;
+        rows = k.2.rows;
+        description = f.answer.read.0;
+        cycles_are = k.2.cycles_are;
+        each = each_row say a limit k.2.cycles k.2.rows k.2.rows_are;
+        put = subst (λ (x : List ℕ). HoldsExactly (now.holds table) x) k.2.table_is held.0;
+        told = subst (λ (l : List ℕ). Appends before.taken now.taken l) k.2.lines_are f.done.written;
+      }
+
+pub sweep_says : RowsSay → SweepSays
+sweep_says say before now artery table limit words c h e =
+    puts_table say before now artery table limit words (found before now (Some (Sweep artery table limit words)) cause.Done tt (λ s. s) (subst (λ (d : Cause). Ends before now (Some (Sweep artery table limit words)) d) (zero_is c e) h))

@@ -1,0 +1,170 @@
+-- What the statuses of `bands`, `half`, `round` and `sweep` say of the model: statements about the definitions of a run, each of which a public call proves.
+use Rattle.std.specs.Prelude.{◌≡◌, ◌≢◌, ◌⊎◌, ℕ, ◌≤◌, List, ◌++◌, length, codes, Option, Some, None, Ok, IsSome, IfSome}
+use Rattle.std.specs.List.{AllZip}
+use Rattle.rational_theory.specs.Rational.{ℚ, ◌+ℚ◌, ◌≤ℚ◌}
+use Rattle.outer_edge.specs.Held.{SameFiles, HoldsExactly}
+use Rattle.outer_edge.specs.Taken.{Appends}
+use Rattle.progression.specs.Street.{Street}
+use Rattle.progression.specs.Plan.{Plan}
+use Rattle.progression.specs.Good.{Good, IsBase}
+use Rattle.progression.specs.Best.{weighted_band}
+use Rattle.progression.specs.declared.parts.Dir.TheVariants.{Outbound, Inbound}
+use Rattle.time_space.specs.Failing.{Fails}
+use Rattle.time_space.specs.declared.failing.Failing.{Failing}
+use Rattle.band_measure.specs.declared.pair.Widest.{Widest}
+use Rattle.mirror_theory.specs.EqualBands.{HasNone, IsHalfCycleBest}
+use Rattle.half_integer.specs.Answers as half
+use Rattle.half_integer.specs.declared.end.HalfEnd.{HalfEnd}
+use Rattle.second_plan.specs.Planned.{IsBestOfOffsets}
+use Rattle.second_plan.specs.declared.answer.PlanEnd.{PlanEnd}
+use Rattle.plan_text.specs.Warrants.{Warrant}
+use Rattle.plan_text.specs.Spelling.{timing_text}
+use Rattle.plan_text.specs.Reading.{timing_of}
+use Rattle.certificate_checker.specs.Accepted.{IsAccepted}
+use Rattle.cycle_sweep.specs.declared.row.SweepRow.{SweepRow}
+use Rattle.cycle_sweep.specs.Rows.{IsRow}
+use Rattle.cycle_sweep.specs.Says.{SaysRow}
+use Rattle.cycle_sweep.specs.Table.{row_fields, sweep_text}
+use Rattle.maxband_run.specs.Cycles.{AreCycles}
+use Rattle.maxband_run.specs.Outside.{Outside}
+use Rattle.maxband_run.specs.Command.{Hold, Bands, Round, Half, Sweep}
+use Rattle.maxband_run.specs.Reading.{most_bytes, Reads, Description, Timing, Certificate}
+use Rattle.maxband_run.specs.Bands.{IsWidestBand, widest_line}
+use Rattle.maxband_run.specs.Half.{half_lines}
+use Rattle.maxband_run.specs.Round.{plan_lines, Unplans}
+use Rattle.maxband_run.specs.Sweep.{rows_line}
+use Rattle.maxband_run.specs.Run.{Ends}
+use Rattle.maxband_run.specs.Laws.{IsReached, SaysRejected}
+use Rattle.maxband_run.specs.Status.{number_of}
+use Rattle.maxband_run.specs.declared.cause.Cause.{Cause}
+use Rattle.maxband_run.specs.declared.cause.Cause.TheVariants as cause
+
+-- ---- bands
+-- `bands` with status 0: the timing of the second file keeps the rules of the artery of the first that speak of no band, and these are the widest bands on its offsets,
+-- over all finer grids
+pub record SaysWidest (before now : Outside) (artery timing : List ℕ) : Type 0 where
+  pub street : Street
+  pub plan : Plan
+  pub outbound : Option Widest
+  pub inbound : Option Widest
+  pub description : Reads Description (before.holds artery) street
+  pub text : Reads Timing (before.holds timing) plan
+  pub base : IsBase street plan
+  pub outbound_is : IsWidestBand street plan Outbound outbound
+  pub inbound_is : IsWidestBand street plan Inbound inbound
+  pub told : Appends before.taken now.taken (widest_line street plan Outbound outbound ++ widest_line street plan Inbound inbound)
+
+-- `bands` and `half` with status 4: this rule that speaks of no band fails
+pub record SaysNoBase (before : Outside) (artery timing : List ℕ) (c : Cause) : Type 0 where
+  pub street : Street
+  pub plan : Plan
+  pub failing : Failing
+  pub description : Reads Description (before.holds artery) street
+  pub text : Reads Timing (before.holds timing) plan
+  pub fails : Fails street plan failing
+  pub not_base : ¬ IsBase street plan
+  pub cause_is : c ≡ cause.Fails failing
+
+abbrev pub BandsSay : Type 0
+BandsSay = (before now : Outside) (artery timing : List ℕ) (c : Cause) → Ends before now (Some (Bands artery timing)) c
+    → (number_of c ≡ 0 → SaysWidest before now artery timing) × (number_of c ≡ 4 → SaysNoBase before artery timing c)
+
+-- ---- half
+-- a timing with the widest equal bands over all offsets on all grids is put and told
+pub record PutsHalf (before now : Outside) (a : Street) (t : Plan) (new : List ℕ) : Type 0 where
+  pub plan : Plan
+  pub best : IsHalfCycleBest a t plan
+  pub put : HoldsExactly (now.holds new) (timing_text plan)
+  pub read_back : timing_of (timing_text plan) ≡ Ok plan
+  pub told : Appends before.taken now.taken (half_lines a plan)
+
+-- no offsets on any grid have equal bands: no file changes
+pub record SaysNoHalf (before now : Outside) (a : Street) (t : Plan) : Type 0 where
+  pub none : HasNone a t
+  pub kept : SameFiles before.holds now.holds
+  pub told : Appends before.taken now.taken (codes "no equal band\n")
+
+-- `half` with status 0: one of the two, of a timing that keeps the rules that speak of no band
+pub record SaysHalf (before now : Outside) (artery timing new : List ℕ) : Type 0 where
+  pub street : Street
+  pub plan : Plan
+  pub description : Reads Description (before.holds artery) street
+  pub text : Reads Timing (before.holds timing) plan
+  pub base : IsBase street plan
+  pub found : SaysNoHalf before now street plan ⊎ PutsHalf before now street plan new
+
+-- `half` with status 11: the timing can have no half-cycle plan, for this first reason
+pub record SaysUnmatched (before : Outside) (artery timing : List ℕ) (c : Cause) : Type 0 where
+  pub street : Street
+  pub plan : Plan
+  pub reason : HalfEnd
+  pub description : Reads Description (before.holds artery) street
+  pub text : Reads Timing (before.holds timing) plan
+  pub base : IsBase street plan
+  pub first : half.Ends street plan reason
+  pub not_ready : ¬ half.IsReady street plan
+  pub cause_is : c ≡ cause.Unmatched reason
+
+abbrev pub HalfSays : Type 0
+HalfSays = (before now : Outside) (artery timing new : List ℕ) (c : Cause) → Ends before now (Some (Half artery timing new)) c
+    → (number_of c ≡ 0 → SaysHalf before now artery timing new) × (number_of c ≡ 4 → SaysNoBase before artery timing c) × (number_of c ≡ 11 → SaysUnmatched before artery timing c)
+
+-- ---- round
+-- `round` with status 0: the file that is put holds, where it is told, the text of a timing that is good on the described artery and is read back. No good timing with its
+-- offsets, patterns, runs and cycle has a greater weighted band on its grid (on a finer one, some may), and none at all has one that is greater by more than the loss.
+pub record PutsPlan (before now : Outside) (artery plan : List ℕ) : Type 0 where
+  pub street : Street
+  pub timing : Plan
+  pub seconds : ℕ
+  pub offsets : List ℕ
+  pub loss : ℚ
+  pub description : Reads Description (before.holds artery) street
+  pub good : Good street timing
+  pub best : IsBestOfOffsets street timing
+  pub lost : (s : Plan) → Good street s → weighted_band street s ≤ℚ (weighted_band street timing +ℚ loss)
+  pub put : HoldsExactly (now.holds plan) (timing_text timing)
+  pub read_back : timing_of (timing_text timing) ≡ Ok timing
+  pub told : Appends before.taken now.taken (plan_lines street seconds offsets timing loss)
+
+-- `round` with status 10: the certificate is accepted, and no plan is made of it, for this first reason
+pub record SaysUnplanned (before : Outside) (artery certificate : List ℕ) (c : Cause) : Type 0 where
+  pub street : Street
+  pub warrant : Warrant
+  pub reason : PlanEnd
+  pub description : Reads Description (before.holds artery) street
+  pub text : Reads Certificate (before.holds certificate) warrant
+  pub accepted : IsAccepted street warrant
+  pub first : Unplans street warrant reason
+  pub cause_is : c ≡ cause.Unplanned reason
+
+abbrev pub RoundSays : Type 0
+RoundSays = (before now : Outside) (artery certificate plan : List ℕ) (c : Cause) → Ends before now (Some (Round artery certificate plan)) c
+    → (number_of c ≡ 0 → PutsPlan before now artery plan) × (number_of c ≡ 4 → SaysRejected before artery certificate c) × (number_of c ≡ 10 → SaysUnplanned before artery certificate c)
+
+-- So a run of `hold` over the same description and the file that was put accepts it, unless a fault or want of memory ends it: where these are two files that tell
+-- their bytes, and the plan isn't too long to be read.
+abbrev pub PlanIsHeld : Type 0
+PlanIsHeld = (before between now : Outside) (artery certificate plan : List ℕ) (c d : Cause)
+    → artery ≢ plan → IsSome (before.holds artery) → IsSome (between.holds plan) → IfSome (between.holds plan) (λ bytes. length bytes ≤ most_bytes Timing)
+    → number_of c ≡ 0 → Ends before between (Some (Round artery certificate plan)) c → IsReached d → Ends between now (Some (Hold artery plan)) d → d ≡ cause.Done
+
+-- ---- sweep
+-- what is found at a cycle, and what its record says of the street
+pub record SaysCycle (a : Street) (limit : Option ℕ) (cycle : ℚ) (row : SweepRow) : Type 0 where
+  pub found : IsRow a limit cycle row
+  pub says : SaysRow a limit cycle row (row_fields a row)
+
+-- `sweep` with status 0: the file that is put holds, where it is told, the table of the cycles that the words spell, a record for each
+pub record PutsTable (before now : Outside) (artery table : List ℕ) (limit : Option ℕ) (words : List (List ℕ)) : Type 0 where
+  pub street : Street
+  pub cycles : List ℚ
+  pub rows : List SweepRow
+  pub description : Reads Description (before.holds artery) street
+  pub cycles_are : AreCycles words cycles
+  pub each : AllZip (SaysCycle street limit) cycles rows
+  pub put : HoldsExactly (now.holds table) (sweep_text street rows)
+  pub told : Appends before.taken now.taken (rows_line (length words))
+
+abbrev pub SweepSays : Type 0
+SweepSays = (before now : Outside) (artery table : List ℕ) (limit : Option ℕ) (words : List (List ℕ)) (c : Cause) → Ends before now (Some (Sweep artery table limit words)) c
+    → number_of c ≡ 0 → PutsTable before now artery table limit words

@@ -1,0 +1,32 @@
+-- The program's last frame: an exit status that is the number of a run's cause, and all that `run` promises of that run.
+use Rattle.std.specs.Prelude.{◌≡◌, ◌⊎◌, ℕ, ◌≤◌, List}
+use Rattle.outer_edge.specs.Counts.{NoneFell}
+use Rattle.outer_edge.specs.declared.files.Files as files
+use Rattle.outer_edge.specs.declared.sink.Sink as sink
+use Rattle.maxband_run.specs.Command.{request_of, shape}
+use Rattle.maxband_run.specs.Outside.{Outside, outside, OthersKept, PutsCounted}
+use Rattle.maxband_run.specs.Run.{Ends, LeavesAlone}
+use Rattle.maxband_run.specs.Status.{number_of}
+use Rattle.maxband_run.specs.declared.cause.Cause.{Cause}
+
+-- what the program sees of files and an output
+abbrev pub seen : {F K : Type 0} → files.Ghosts F → sink.Ghosts K → F → K → Outside
+seen f k files out = outside (f.holds files) (f.read_faults files) (f.put_faults files) (k.taken out) (k.faults out)
+
+-- These words were run, from the files and the output before to those after, and the status is the number of the cause.
+pub record ExitsBy {F K : Type 0} (f : files.Ghosts F) (k : sink.Ghosts K) (before after : F) (old new : K) (words : List (List ℕ)) (status : ℕ) : Type 0 where
+  pub cause : Cause
+  pub status_is : status ≡ number_of cause
+  pub ends : Ends (seen f k before old) (seen f k after new) (request_of words) cause
+  -- in every case
+  pub files : OthersKept (shape (request_of words)).output (f.holds before) (f.holds after)
+  pub reads : NoneFell (f.read_faults before) (f.read_faults after)
+  pub puts : PutsCounted (shape (request_of words)).output (f.put_faults before) (f.put_faults after)
+  pub writes : k.faults old ≤ k.faults new
+  pub alone : LeavesAlone (shape (request_of words)).inputs (shape (request_of words)).output before after
+
+-- there were no words: nothing was done, and the status is 8, or 12 where the system doesn't give them as text
+pub record HasNoWords {F K : Type 0} (before after : F) (old new : K) (status : ℕ) : Type 0 where
+  pub status_is : (status ≡ 8) ⊎ (status ≡ 12)
+  pub files : after ≡ before
+  pub out : new ≡ old

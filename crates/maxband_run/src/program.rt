@@ -1,0 +1,93 @@
+//! The program's last frame: from the system's words to an exit status.
+
+ghost use Rattle.std.specs.Prelude.{◌≡◌, ◌⊎◌, IfErr, IfOk, IsErr, MatchResult, OnErr, drop, map, string_bytes};
+ghost use Rattle.std.specs.Process.{exit_status};
+ghost use Rattle.std.specs.Vec.Iter.{into_iter_items};
+ghost use Rattle.maxband_run.specs.Program.{ExitsBy, HasNoWords};
+
+use crate::cause::Cause;
+use crate::top::run;
+use outer_edge::{Files, RealFiles, RealOut, Sink};
+use std::alloc::{AllocError, Global};
+use std::io::ErrorKind;
+use std::process::ExitCode;
+use std::rt::Env;
+use std::{env, io, rt};
+
+/// The status for words that the system doesn't give as text. `run` never answers it.
+const NO_WORDS: u8 = 12;
+
+/// The status for want of memory, which is that of `run`.
+fn no_memory() -> u8
+    ensures { result ≡ 8 }
+{
+    Cause::Memory.number()
+}
+
+/// All words but the first, which is the program's name, in their order.
+fn after_the_name(alloc: Global, mut args: env::Args) -> Result<Vec<String>, AllocError>
+    ensures { IfOk result (λ words. words.items ≡ drop 1 (into_iter_items args)) }
+{
+    let mut words = Vec::new(alloc);
+    let _name = args.next();
+    while let Some(word) = args.next() {
+        words.push(word)?;
+    }
+    Ok(words)
+}
+
+/// The words after the program's name, or the status to end with.
+fn words(alloc: Global, args: io::Result<env::Args>) -> Result<Vec<String>, u8>
+    ensures all { IfOk args (λ given. IfOk result (λ words. words.items ≡ drop 1 (into_iter_items given))) }
+    ensures none { OnErr args (IsErr result) }
+    ensures numbers { IfErr result (λ number. (number ≡ 8) ⊎ (number ≡ 12)) }
+{
+    match args {
+        Ok(args) => after_the_name(alloc, args).map_err(|_| no_memory()),
+        Err(error) if error.kind() == ErrorKind::OutOfMemory => Err(no_memory()),
+        Err(_) => Err(NO_WORDS),
+    }
+}
+
+/// `run` with these words, and its number as the exit status.
+fn exit_of_run<F: Files, K: Sink>(
+    alloc: Global,
+    words: &[String],
+    files: &mut F,
+    out: &mut K,
+) -> ExitCode
+    ensures { ExitsBy F.Files K.Sink files.old files.new out.old out.new (map string_bytes words.now) (exit_status result) }
+{
+    ExitCode::from(run(alloc, words, files, out).number)
+}
+
+/// The program over any files and any output, from the system's answer to which words it was called with: `run` with all of them but
+/// the first, and its number as the exit status. Where there are no words the status is 8, or 12 where the system doesn't give
+/// them as text, and nothing is done.
+pub fn run_program<F: Files, K: Sink>(
+    alloc: Global,
+    args: io::Result<env::Args>,
+    files: &mut F,
+    out: &mut K,
+) -> ExitCode
+    ensures {
+        MatchResult args
+        (λ given. ExitsBy F.Files K.Sink files.old files.new out.old out.new (map string_bytes (drop 1 (into_iter_items given))) (exit_status result) ⊎ HasNoWords files.old files.new out.old out.new (exit_status result))
+        (λ error. HasNoWords files.old files.new out.old out.new (exit_status result))
+    }
+{
+    match words(alloc, args) {
+        Ok(words) => exit_of_run(alloc, words.as_slice(), files, out),
+        Err(number) => ExitCode::from(number),
+    }
+}
+
+/// The program over the system's words, files and output.
+pub fn maxband_main<R: Env + rt::Files + Print + AllocGlobal + Clone + Drop>(rt: &R) -> ExitCode {
+    let alloc = rt.alloc();
+    let args = env::args(rt);
+    let (Ok(mut files), Ok(mut out)) = (RealFiles::new(rt, alloc), RealOut::new(rt, alloc)) else {
+        return ExitCode::from(no_memory());
+    };
+    run_program(alloc, args, &mut files, &mut out)
+}
