@@ -33,6 +33,8 @@ pub struct Line {
     count: usize,
     bound: Quotient,
     scale: Option<Scale>,
+    /// Over which the numbers of a wide row may be held, 0 where that isn't known: a guess, which is tested.
+    denominator: u64,
 }
 
 impl Model for Line {
@@ -63,6 +65,7 @@ impl Line {
             count: 0,
             bound: Quotient::of_fraction(Frac::whole(0)),
             scale: None,
+            denominator: 0,
         })
     }
 
@@ -141,6 +144,7 @@ impl Line {
         self.count = fill_row(&mut self.cells, from);
         self.bound = Quotient::of_fraction(from.get(Place::Bound).fitting());
         self.scale = None;
+        self.denominator = 0;
     }
 
     /// Takes a row's coefficients and its bound.
@@ -164,6 +168,7 @@ impl Line {
         self.count = fill_goal(&mut self.cells, from);
         self.bound = Quotient::of_fraction(Frac::whole(0));
         self.scale = None;
+        self.denominator = 0;
     }
 
     /// Takes a row's negated coefficients, and the bound 0.
@@ -192,6 +197,7 @@ impl Line {
         self.count = keep_before(&mut self.cells, row, none, width, AS_IT_IS).made;
         self.bound = row.bound.copied();
         self.scale = row.scale;
+        self.denominator = row.denominator;
     }
 
     /// Becomes narrow, where it isn't and can be. The row stays what it is.
@@ -201,7 +207,7 @@ impl Line {
         if self.scale.is_some() {
             return;
         }
-        match find_scale(&self.cells, self.count, &self.bound) {
+        match find_scale(&self.cells, self.count, &self.bound, self.denominator) {
             Some(scale) => {
                 hold_over(&mut self.cells, self.count, scale);
                 self.bound = held_over(&self.bound, scale);
@@ -279,6 +285,7 @@ impl Line {
         self.count = made.count;
         self.bound = Quotient::of_fraction(made.bound);
         self.scale = None;
+        self.denominator = 0;
         made.outcome
     }
 
@@ -300,6 +307,7 @@ impl Line {
         self.count = turn_whole(&mut self.cells, row, &turning);
         self.bound = turning.turned(&row.bound, false);
         self.scale = Some(turning.scale());
+        self.denominator = 0;
         true
     }
 
@@ -362,6 +370,7 @@ impl Line {
         self.count = made.count;
         self.bound = Quotient::of_fraction(made.bound);
         self.scale = None;
+        self.denominator = 0;
         made.outcome
     }
 
@@ -385,6 +394,7 @@ impl Line {
         self.count = join(&mut self.cells, row, turned, &joining);
         self.bound = joined(&joining, &row.bound, false, &turned.bound);
         self.scale = joining.scale();
+        self.denominator = joining.rescaling.to;
         true
     }
 

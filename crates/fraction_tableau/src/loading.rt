@@ -8,19 +8,7 @@ ghost use Rattle.fraction_tableau.specs.KeptCells.{number_in, kept_below};
 
 use crate::kept::{Kept, put};
 use named_row::{Place, Row};
-use narrow_fraction::{Frac, Quotient};
-
-/// A number as a row takes it: a whole one over 1.
-fn loaded(number: Frac) -> Quotient
-    ensures { result ≡ number }
-{
-    if number.is_whole() {
-        if let Ok(whole) = i64::try_from(number.num()) {
-            return Quotient::of_words(whole, 1);
-        }
-    }
-    Quotient::of_fraction(number)
-}
+use narrow_fraction::Quotient;
 
 /// The coefficients that aren't 0. The answer is how many there are.
 pub fn fill_row(cells: &mut [Kept], from: &Row) -> usize
@@ -34,7 +22,7 @@ pub fn fill_row(cells: &mut [Kept], from: &Row) -> usize
     for place in 0..cells.len() {
         let place = place as u32;
         let cell = from.get(Place::Cell(place)).fitting();
-        let cell = loaded(cell);
+        let cell = Quotient::of_fraction(cell);
         made = put(cells, made, Kept { place, cell });
     }
     made
@@ -52,7 +40,7 @@ pub fn fill_goal(cells: &mut [Kept], from: &Row) -> usize
     for place in 0..cells.len() {
         let place = place as u32;
         let cell = from.get(Place::Cell(place)).neg().fitting();
-        let cell = loaded(cell);
+        let cell = Quotient::of_fraction(cell);
         made = put(cells, made, Kept { place, cell });
     }
     made

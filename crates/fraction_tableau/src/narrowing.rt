@@ -72,9 +72,24 @@ fn measured(cells: &[Kept], count: usize, bound: &Quotient, denominator: u64) ->
     Some(Scale { denominator, most })
 }
 
+/// The same for any denominator.
+fn measured_over(cells: &[Kept], count: usize, bound: &Quotient, denominator: u64) -> Option<Scale>
+    requires { count ≤ length cells.now }
+    ensures above { IfSome result (λ scale. 0 < scale.denominator) }
+    ensures least { IfSome result (λ scale. scale.denominator ≤ scale.most) }
+    ensures short { IfSome result (λ scale. scale.most < 2 ^ 42) }
+    ensures bound { IfSome result (λ scale. IsOver scale.denominator scale.most bound.now) }
+    ensures cells { IfSome result (λ scale. (i : ℕ) → i < count → IsOver scale.denominator scale.most (cell_at cells.now i)) }
+{
+    if denominator == 0 || denominator > MOST {
+        return None;
+    }
+    measured(cells, count, bound, denominator)
+}
+
 /// The scale of the first `count` cells and the bound over their least common denominator, where no number has more than 42
 /// bits.
-pub fn find_scale(cells: &[Kept], count: usize, bound: &Quotient) -> Option<Scale>
+fn least_scale(cells: &[Kept], count: usize, bound: &Quotient) -> Option<Scale>
     requires { count ≤ length cells.now }
     ensures above { IfSome result (λ scale. 0 < scale.denominator) }
     ensures least { IfSome result (λ scale. scale.denominator ≤ scale.most) }
@@ -85,6 +100,22 @@ pub fn find_scale(cells: &[Kept], count: usize, bound: &Quotient) -> Option<Scal
     match common_denominator(cells, count, bound) {
         Some(denominator) => measured(cells, count, bound, denominator),
         None => None,
+    }
+}
+
+/// The scale of the first `count` cells and the bound, over the denominator that they may be held over, or else over their
+/// least common one.
+pub fn find_scale(cells: &[Kept], count: usize, bound: &Quotient, denominator: u64) -> Option<Scale>
+    requires { count ≤ length cells.now }
+    ensures above { IfSome result (λ scale. 0 < scale.denominator) }
+    ensures least { IfSome result (λ scale. scale.denominator ≤ scale.most) }
+    ensures short { IfSome result (λ scale. scale.most < 2 ^ 42) }
+    ensures bound { IfSome result (λ scale. IsOver scale.denominator scale.most bound.now) }
+    ensures cells { IfSome result (λ scale. (i : ℕ) → i < count → IsOver scale.denominator scale.most (cell_at cells.now i)) }
+{
+    match measured_over(cells, count, bound, denominator) {
+        Some(scale) => Some(scale),
+        None => least_scale(cells, count, bound),
     }
 }
 

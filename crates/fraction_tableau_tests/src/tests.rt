@@ -226,77 +226,40 @@ fn cells_of_a_pivot(rt: HostRuntime) {
     assert_eq!(rt; variables(&tableau), [1, 3, 0, 2]);
 }
 
-/// A pivot, and the rows after it with the goal row behind them.
-struct Step {
-    row: u32,
-    col: u32,
-    rows: [Numbers; 3],
-}
-
-/// Of rows with numbers of 23 bits, the second one has numbers of 44 bits after the first step and of 46 after the second,
-/// and comes back by the last two (exact fractions by Python).
-static THERE_AND_BACK: [Step; 4] = [
-    Step {
-        row: 0,
-        col: 0,
-        rows: [
-            [(1, 3), (4_194_304, 3), (5, 3)],
-            [(-4_194_304, 3), (-17_592_186_044_395, 3), (-20_971_493, 3)],
-            [(1, 3), (-2_097_152, 3), (5, 3)],
-        ],
-    },
-    Step {
-        row: 1,
-        col: 1,
-        rows: [
-            [
-                (-7, 17_592_186_044_395),
-                (4_194_304, 17_592_186_044_395),
-                (37_748_701, 17_592_186_044_395),
-            ],
-            [
-                (4_194_304, 17_592_186_044_395),
-                (-3, 17_592_186_044_395),
-                (20_971_493, 17_592_186_044_395),
-            ],
-            [
-                (8_796_093_022_201, 17_592_186_044_395),
-                (-2_097_152, 17_592_186_044_395),
-                (43_980_446_236_637, 17_592_186_044_395),
-            ],
-        ],
-    },
-    Step {
-        row: 1,
-        col: 1,
-        rows: [
-            [(1, 3), (4_194_304, 3), (5, 3)],
-            [(-4_194_304, 3), (-17_592_186_044_395, 3), (-20_971_493, 3)],
-            [(1, 3), (-2_097_152, 3), (5, 3)],
-        ],
-    },
-    Step {
-        row: 0,
-        col: 0,
-        rows: [
-            [(3, 1), (4_194_304, 1), (5, 1)],
-            [(4_194_304, 1), (7, 1), (9, 1)],
-            [(-1, 1), (-2_097_152, 1), (0, 1)],
-        ],
-    },
-];
-
+/// Of rows with numbers of 23 bits, the second one has numbers of 44 bits after the first pivot and of 46 after the second, and
+/// the last two pivots lead back (exact fractions by Python).
 #[test]
 fn rows_become_wide_and_narrow_again(rt: HostRuntime) {
-    let rows = [
-        [(3, 1), (4_194_304, 1), (5, 1)],
-        [(4_194_304, 1), (7, 1), (9, 1)],
-    ];
+    let first = [(3, 1), (4_194_304, 1), (5, 1)];
+    let second = [(4_194_304, 1), (7, 1), (9, 1)];
     let goal = [ONE, (2_097_152, 1), ZERO];
-    let mut tableau = loaded(rt.alloc(), &rows, goal).expect(&rt, "a tableau");
-    for step in THERE_AND_BACK.iter() {
-        assert_eq!(rt; pivot(&mut tableau, step.row, step.col), Some(Ok(())));
-        assert_eq!(rt; first_other(&tableau, &step.rows), None);
+    let once = [
+        [(1, 3), (4_194_304, 3), (5, 3)],
+        [(-4_194_304, 3), (-17_592_186_044_395, 3), (-20_971_493, 3)],
+        [(1, 3), (-2_097_152, 3), (5, 3)],
+    ];
+    let twice = [
+        [
+            (-7, 17_592_186_044_395),
+            (4_194_304, 17_592_186_044_395),
+            (37_748_701, 17_592_186_044_395),
+        ],
+        [
+            (4_194_304, 17_592_186_044_395),
+            (-3, 17_592_186_044_395),
+            (20_971_493, 17_592_186_044_395),
+        ],
+        [
+            (8_796_093_022_201, 17_592_186_044_395),
+            (-2_097_152, 17_592_186_044_395),
+            (43_980_446_236_637, 17_592_186_044_395),
+        ],
+    ];
+    let before = [first, second, [(-1, 1), (-2_097_152, 1), ZERO]];
+    let mut tableau = loaded(rt.alloc(), &[first, second], goal).expect(&rt, "a tableau");
+    for (at, rows) in [(0, once), (1, twice), (1, once), (0, before)] {
+        assert_eq!(rt; pivot(&mut tableau, at, at), Some(Ok(())));
+        assert_eq!(rt; first_other(&tableau, &rows), None);
     }
 }
 
