@@ -19,3 +19,4 @@ pub mod NamedCells
 pub mod NamedSites
 pub mod Answering
 mod ArteryEnds
+pub mod GivenTimings

@@ -8,3 +8,4 @@ pub mod FinerLinkGrids
 pub mod Copies
 pub mod LinkRowTests
 pub mod LinkGoalSheets
+pub mod FilledRows

@@ -33,8 +33,9 @@ use Rattle.maxband_run.specs.CheckLines.{accepted_line}
 use Rattle.maxband_run.specs.Lines.{holds_lines}
 use Rattle.maxband_run.specs.Outside.{Outside, NamedBytes}
 use Rattle.maxband_run.specs.Command.{Request, Hold, Check, CheckLinks, Solve, Links, Renew, Round, Make, Trial, Sweep, shape}
-use Rattle.maxband_run.specs.Reading.{Input, Value, most_bytes, IsReadAs, Reads, AreTold, Description, Timing, Certificate, LinkCertificate}
+use Rattle.maxband_run.specs.Reading.{Input, Value, most_bytes, IsReadAs, Reads, Describes, AreTold, Description, Timing, Certificate, LinkCertificate}
 use Rattle.maxband_run.specs.Sought.{Sought, whole_bands, bands_of_links}
+use Rattle.maxband_run.specs.Checked.{Checked, whole_checked, links_checked}
 use Rattle.maxband_run.specs.Run.{Answers, Ends}
 use Rattle.maxband_run.specs.Status.{number_of}
 use Rattle.maxband_run.specs.declared.cause.Cause.{Cause}
@@ -144,32 +145,32 @@ abbrev pub AllNeverStopsByWork : Type 0
 AllNeverStopsByWork = (before now : Outside) (asked : Request) (c : Cause) → IsUnlimited asked → Ends before now (Some asked) c → EndsOtherThanByWork c
 
 -- What a search found, of the artery that the file described, and that the check accepts the file that was put with just the claim of that.
-pub record IsConfirmed (k : Sought) (before between now : Outside) (artery certificate : List ℕ) (limit : Option ℕ) (c d : Cause) : Type 0 where
+pub record IsConfirmed (k : Sought) (s : Checked k) (before between now : Outside) (artery certificate : List ℕ) (limit : Option ℕ) (c d : Cause) : Type 0 where
   pub street : Street
   pub lines : List ℕ
   pub text : List ℕ
   pub warrant : Value k.reader
   pub description : Reads Description (before.holds artery) street
-  pub solves : k.Solves street limit c lines text warrant
+  pub solves : s.Solves street limit c lines text warrant
   pub done : d ≡ cause.Done
   pub certificate_is : Reads k.reader (between.holds certificate) warrant
-  pub accepted : k.Accepted street warrant
-  pub proves : k.ClaimHolds street warrant
+  pub accepted : s.Accepted street warrant
+  pub proves : s.ClaimHolds street warrant
   pub told : Appends between.taken now.taken (accepted_line (k.claim warrant))
 
 -- After a verdict of a search that is asked for so, a run of its check over the same description and the file that was put accepts what was found, unless a fault or
 -- want of memory ends it: where these are two files that tell their bytes, and the certificate isn't too long to be read.
-abbrev pub SearchIsAccepted : Sought → (List ℕ → List ℕ → Option ℕ → Request) → (List ℕ → List ℕ → Request) → Type 0
-SearchIsAccepted k asks checks = (before between now : Outside) (artery certificate : List ℕ) (limit : Option ℕ) (c d : Cause)
+abbrev pub SearchIsAccepted : (k : Sought) → Checked k → (List ℕ → List ℕ → Option ℕ → Request) → (List ℕ → List ℕ → Request) → Type 0
+SearchIsAccepted k s asks checks = (before between now : Outside) (artery certificate : List ℕ) (limit : Option ℕ) (c d : Cause)
     → artery ≢ certificate → IsSome (before.holds artery) → IsSome (between.holds certificate) → IfSome (between.holds certificate) (λ bytes. length bytes ≤ most_bytes k.reader)
     → IsVerdict c → Ends before between (Some (asks artery certificate limit)) c
-    → IsReached d → Ends between now (Some (checks artery certificate)) d → IsConfirmed k before between now artery certificate limit c d
+    → IsReached d → Ends between now (Some (checks artery certificate)) d → IsConfirmed k s before between now artery certificate limit c d
 
 abbrev pub PutIsAccepted : Type 0
-PutIsAccepted = SearchIsAccepted whole_bands Solve Check
+PutIsAccepted = SearchIsAccepted whole_bands whole_checked Solve Check
 
 abbrev pub PutLinksAreAccepted : Type 0
-PutLinksAreAccepted = SearchIsAccepted bands_of_links Links CheckLinks
+PutLinksAreAccepted = SearchIsAccepted bands_of_links links_checked Links CheckLinks
 
 -- ---- what the numbers of the statuses say of the model
 -- the file holds, where it is told, a text that is read as a certificate with this claim and this timing
@@ -181,14 +182,14 @@ HoldsCertificate k held claimed timing =
 pub record PutsBest (k : Sought) (before now : Outside) (artery certificate : List ℕ) : Type 0 where
   pub street : Street
   pub plan : k.Timing
-  pub description : Reads Description (before.holds artery) street
+  pub description : Describes (before.holds artery) street
   pub best : k.Best street plan
   pub put : HoldsCertificate k (now.holds certificate) (claim.Best (k.value street plan)) (Some plan)
 
 -- With status 1: no timing is good on the described artery, and the file that is put claims it.
 pub record PutsNone (k : Sought) (before now : Outside) (artery certificate : List ℕ) : Type 0 where
   pub street : Street
-  pub description : Reads Description (before.holds artery) street
+  pub description : Describes (before.holds artery) street
   pub none : k.NoneGood street
   pub put : HoldsCertificate k (now.holds certificate) claim.NoTiming None
 
@@ -199,7 +200,7 @@ pub record PutsBound (k : Sought) (before now : Outside) (artery certificate : L
   pub bound : ℚ
   pub timing : Option k.Timing
   pub stop : Stop SitePart
-  pub description : Reads Description (before.holds artery) street
+  pub description : Describes (before.holds artery) street
   pub bounded : k.Bounded street bound
   pub good : IfSome timing (λ plan. k.Good street plan × (k.value street plan ≤ℚ bound))
   pub put : HoldsCertificate k (now.holds certificate) (claim.Stopped bound (option_map (k.value street) timing)) timing

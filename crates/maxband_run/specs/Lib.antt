@@ -22,4 +22,5 @@ pub mod Trial
 pub mod Sweep
 pub mod Run
 pub mod Sought
+pub mod Checked
 pub mod Laws

@@ -25,13 +25,35 @@ pub data Reader : Type 0 where
   Certificate : Reader
   LinkCertificate : Reader  -- a certificate of link timings
 
--- what a file is read as, the most bytes of such a file, which value the bytes are read as, and for which cause and with which line they are refused
-pub record Reading : Type 1 where
-  pub Value : Type 0
-  pub most_bytes : ℕ
-  pub IsReadAs : List ℕ → Value → Type 0
-  pub IsRefusedFor : List ℕ → Cause → List ℕ → Type 0
+-- what a file is read as
+abbrev pub Value : Reader → Type 0
+Value Description = Street
+Value Timing = Plan
+Value Certificate = Warrant
+Value LinkCertificate = LinkWarrant
 
+-- the most bytes of a description and of a certificate
+abbrev pub most_described : ℕ
+most_described = 1048576
+
+abbrev pub most_certified : ℕ
+most_certified = 268435456
+
+-- the most bytes of such a file
+abbrev pub most_bytes : Reader → ℕ
+most_bytes Description = most_described
+most_bytes Timing = 1048576
+most_bytes Certificate = most_certified
+most_bytes LinkCertificate = most_certified
+
+-- which value the bytes are read as
+abbrev pub IsReadAs : (r : Reader) → List ℕ → Value r → Type 0
+IsReadAs Description bytes a = Described bytes a
+IsReadAs Timing bytes t = timing_of bytes ≡ Ok t
+IsReadAs Certificate bytes w = certificate_of bytes ≡ Ok w
+IsReadAs LinkCertificate bytes w = links_of bytes ≡ Ok w
+
+-- ---- refusals
 abbrev pub IsNoDescription : List ℕ → Cause → List ℕ → Type 0
 IsNoDescription bytes (cause.Refused r) lines = RefusedAs bytes (fault_of r) × (lines ≡ refused_line r)
 IsNoDescription bytes c lines = ⊥
@@ -40,27 +62,12 @@ abbrev pub IsBadText : {V : Type 0} → (List ℕ → Result V BadText) → List
 IsBadText reads bytes (cause.BadText b) lines = (reads bytes ≡ Err b) × (lines ≡ bad_text_line b)
 IsBadText reads bytes c lines = ⊥
 
--- a text of at most so many bytes, which is read by this
-abbrev pub text_reading : (V : Type 0) → ℕ → (List ℕ → Result V BadText) → Reading
-text_reading V most reads = record { Value = V; most_bytes = most; IsReadAs = λ bytes v. reads bytes ≡ Ok v; IsRefusedFor = IsBadText reads }
-
-abbrev pub reading : Reader → Reading
-reading Description = record { Value = Street; most_bytes = 1048576; IsReadAs = Described; IsRefusedFor = IsNoDescription }
-reading Timing = text_reading Plan 1048576 timing_of
-reading Certificate = text_reading Warrant 268435456 certificate_of
-reading LinkCertificate = text_reading LinkWarrant 268435456 links_of
-
-abbrev pub Value : Reader → Type 0
-Value r = (reading r).Value
-
-abbrev pub most_bytes : Reader → ℕ
-most_bytes r = (reading r).most_bytes
-
-abbrev pub IsReadAs : (r : Reader) → List ℕ → Value r → Type 0
-IsReadAs r bytes v = (reading r).IsReadAs bytes v
-
+-- for which cause and with which line the bytes are refused
 abbrev pub IsRefusedFor : Reader → List ℕ → Cause → List ℕ → Type 0
-IsRefusedFor r bytes c lines = (reading r).IsRefusedFor bytes c lines
+IsRefusedFor Description bytes c lines = IsNoDescription bytes c lines
+IsRefusedFor Timing bytes c lines = IsBadText timing_of bytes c lines
+IsRefusedFor Certificate bytes c lines = IsBadText certificate_of bytes c lines
+IsRefusedFor LinkCertificate bytes c lines = IsBadText links_of bytes c lines
 
 -- ---- one file
 pub record Input : Type 0 where
@@ -78,6 +85,10 @@ pub record IsWithinLimit (most : ℕ) (held : Option (List ℕ)) (bytes : List �
 -- The file has bytes within the limit of which this holds: those that it tells, and also where it tells none there are such bytes.
 abbrev pub HasBytes : ℕ → Option (List ℕ) → (List ℕ → Type 0) → Type 0
 HasBytes most held p = (bytes : List ℕ) × IsWithinLimit most held bytes × p bytes
+
+-- the file is within its limit and describes this artery
+abbrev pub Describes : Option (List ℕ) → Street → Type 0
+Describes held a = HasBytes most_described held (λ bytes. Described bytes a)
 
 -- the file is within its limit and is read as this
 abbrev pub Reads : (r : Reader) → Option (List ℕ) → Value r → Type 0

@@ -1,5 +1,5 @@
--- What a command searches for: a kind of timing, the certificates of it, and what is said of such timings on any grid.
-use Rattle.std.specs.Prelude.{◌≡◌, ℕ, List, Option}
+-- What a command searches for: a kind of timing, the certificates that have one, and what is said of such timings on any grid.
+use Rattle.std.specs.Prelude.{Option}
 use Rattle.rational_theory.specs.Rational.{ℚ}
 use Rattle.progression.specs.Street.{Street}
 use Rattle.progression.specs.Plan.{Plan}
@@ -9,16 +9,7 @@ use Rattle.link_theory.specs.LinkPlan.{LinkPlan}
 use Rattle.link_theory.specs.GoodLinks.{GoodLinks}
 use Rattle.link_theory.specs.BestLinks.{link_value, BestLinks, BoundedLinks, NoLinks}
 use Rattle.plan_text.specs.declared.certificate.Claim.{Claim}
-use Rattle.certificate_checker.specs.Accepted.{IsAccepted}
-use Rattle.certificate_checker.specs.Claims.{ClaimHolds}
-use Rattle.link_proof.specs.LinkAccepted.{IsLinkAccepted}
-use Rattle.link_proof.specs.LinkClaims.{LinkClaimHolds}
-use Rattle.branch_tree.specs.Certified.{warrant_of}
-use Rattle.multi_band.specs.LinkCertified.{link_warrant_of}
 use Rattle.maxband_run.specs.Reading.{Reader, Certificate, LinkCertificate, Value}
-use Rattle.maxband_run.specs.Solve.{IsSolution}
-use Rattle.maxband_run.specs.Links.{IsLinkSolution}
-use Rattle.maxband_run.specs.declared.cause.Cause.{Cause}
 
 pub record Sought : Type 1 where
   pub reader : Reader  -- of its certificates
@@ -30,9 +21,6 @@ pub record Sought : Type 1 where
   pub Best : Street → Timing → Type 0  -- good, and no good one has a greater value
   pub NoneGood : Street → Type 0
   pub Bounded : Street → ℚ → Type 0  -- no good one has a value above this
-  pub Accepted : Street → Value reader → Type 0
-  pub ClaimHolds : Street → Value reader → Type 0
-  pub Solves : Street → Option ℕ → Cause → List ℕ → List ℕ → Value reader → Type 0  -- a search within the limit ends with this cause, these lines, this text and this certificate
 
 -- one band a direction, all the way
 abbrev pub whole_bands : Sought
@@ -46,9 +34,6 @@ whole_bands = record {
   Best = whole_best.Best;
   NoneGood = whole_best.NoTiming;
   Bounded = whole_best.Bounded;
-  Accepted = IsAccepted;
-  ClaimHolds = λ a w. ClaimHolds a w.claim w.timing;
-  Solves = λ a limit c lines text w. (s : IsSolution a limit c lines text) × (w ≡ warrant_of a s.found);
 }
 
 -- a band for each link
@@ -63,7 +48,4 @@ bands_of_links = record {
   Best = BestLinks;
   NoneGood = NoLinks;
   Bounded = BoundedLinks;
-  Accepted = IsLinkAccepted;
-  ClaimHolds = λ a w. LinkClaimHolds a w.claim w.timing;
-  Solves = λ a limit c lines text w. (s : IsLinkSolution a limit c lines text) × (w ≡ link_warrant_of a s.found);
 }
