@@ -1,7 +1,6 @@
 pub mod Walks
 pub mod Matchings
 pub mod Volumes
-pub mod Forests
 pub mod BoxReadings
 pub mod Settling
 pub mod Largest

@@ -11,10 +11,6 @@ use Rattle.branch_and_bound.specs.declared.incumbent.Incumbent.{Incumbent}
 use Rattle.branch_and_bound.specs.declared.node.Node.{Node}
 use Rattle.branch_and_bound.specs.declared.greatest.Greatest.{Greatest}
 
-over_none : (o : Option ℚ) {T : Type 0} (best : Option (Incumbent T)) → IsOverBound None o → IsSettled best o
-over_none None best h = tt
-over_none (Some b) best h = absurd h
-
 over_reached : {T : Type 0} (g : Greatest) (best : Option (Incumbent T)) (o : Option ℚ) → IsReached g.bound best → IsOverBound (Some g) o → IsSettled best o
 over_reached g best None h k = tt
 over_reached g None (Some b) h k = absurd h
@@ -23,10 +19,6 @@ over_reached g (Some best) (Some b) h k = ≤ℚ_trans b g.bound best.value k h
 -- the greatest of all nodes is at least each bound
 pub over_all : {K : Type 0} (nodes : List (Node K)) (g : Option Greatest) → IsGreatest nodes (length nodes) g → All (λ node. IsOverBound g (bound_of node)) nodes
 over_all nodes g h = subst (λ ns. All (λ n. IsOverBound g (bound_of n)) ns) (take_all (length nodes) nodes (omega arith)) h.over
-
--- none waits
-pub none_waits : {T K : Type 0} (nodes : List (Node K)) (best : Option (Incumbent T)) → IsGreatest nodes (length nodes) None → All (λ node. IsSettled best (bound_of node)) nodes
-none_waits nodes best h = All-weaker (λ n. IsOverBound None (bound_of n)) (λ n. IsSettled best (bound_of n)) (λ n k. over_none (bound_of n) best k) nodes (over_all nodes None h)
 
 -- the best value is at least the greatest bound
 pub all_settled : {T K : Type 0} (nodes : List (Node K)) (best : Option (Incumbent T)) (g : Greatest) → IsGreatest nodes (length nodes) (Some g) → IsReached g.bound best → All (λ node. IsSettled best (bound_of node)) nodes

@@ -73,19 +73,6 @@ Finds-new cut P Q place leaf node low high [] (x ∷ front) rest f g s p = absur
 Finds-new cut P Q place leaf node low high (line ∷ lines) (x ∷ front) rest f g s p =
     inr (Finds-new cut P Q place leaf node low high (owed (cut x) line lines) front rest f g s.1 p)
 
--- a fact about each node, where some node is found
-pub Finds-both : {N : Type 0} (cut : N → Option At) (P Q : Line → N → Type 0) (lines : List Line) (nodes : List N) → Fills cut P lines nodes → Finds cut Q lines nodes → Finds cut (λ line node. P line node × Q line node) lines nodes
-Finds-both cut P Q lines [] h k = k
-Finds-both cut P Q [] (node ∷ nodes) h k = k
-Finds-both cut P Q (line ∷ lines) (node ∷ nodes) h (inl k) = inl (h.0, k)
-Finds-both cut P Q (line ∷ lines) (node ∷ nodes) h (inr k) = inr (Finds-both cut P Q (owed (cut node) line lines) nodes h.1 k)
-
-pub Finds-map : {N : Type 0} (cut : N → Option At) (P Q : Line → N → Type 0) → ((line : Line) (node : N) → P line node → Q line node) → (lines : List Line) (nodes : List N) → Finds cut P lines nodes → Finds cut Q lines nodes
-Finds-map cut P Q f lines [] h = h
-Finds-map cut P Q f [] (node ∷ nodes) h = h
-Finds-map cut P Q f (line ∷ lines) (node ∷ nodes) (inl h) = inl (f line node h)
-Finds-map cut P Q f (line ∷ lines) (node ∷ nodes) (inr h) = inr (Finds-map cut P Q f (owed (cut node) line lines) nodes h)
-
 -- what holds of no node isn't found
 pub Finds-none : {N : Type 0} (cut : N → Option At) (P Q : Line → N → Type 0) → ((line : Line) (node : N) → P line node → Q line node → ⊥) → (lines : List Line) (nodes : List N) → Fills cut P lines nodes → Finds cut Q lines nodes → ⊥
 Finds-none cut P Q f lines [] h k = k

@@ -20,3 +20,4 @@ pub mod NamedCells
 pub mod NamedSites
 pub mod Answering
 mod ArteryEnds
+pub mod GivenTimings

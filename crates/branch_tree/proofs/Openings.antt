@@ -13,7 +13,7 @@ use Rattle.dual_leaf.specs.Leaves.{goal_multipliers}
 use Rattle.dual_simplex.specs.declared.outcome.Step.TheVariants as steps
 use Rattle.search_box.specs.declared.span.At.{At}
 use Rattle.branch_and_bound.specs.Lines.{Line}
-use Rattle.branch_and_bound.specs.Lineages.{IsOptimal}
+use Rattle.branch_and_bound.specs.Lineages.{Empty, IsOptimal}
 use Rattle.work_meter.specs.Work.{capped}
 use Rattle.branch_and_bound.specs.declared.opened.Opened.{Opened}
 use Rattle.branch_and_bound.specs.OpenedNodes.{OpensEmpty, HasBound, OpensTimed, OpensCut, OpensStuck}
@@ -22,13 +22,18 @@ use Rattle.branch_tree.specs.declared.program.Read.{Read}
 use Rattle.branch_tree.specs.declared.program.Read.TheVariants as reading
 use Rattle.branch_tree.specs.BoxRuns.{outcome_by, IsCutBy, IsReadEnd}
 use Rattle.branch_tree.specs.Program.{Program, Outcome, Refused, Splits, Gives}
-use Rattle.branch_tree.specs.Ends.{steps_of, end_move, last_table, end_point, end_bound, end_leaf, ending_of, ending_by_outcome}
+use Rattle.branch_tree.specs.Ends.{steps_of, end_move, last_table, end_point, end_bound, end_leaf, ending_by, ending_of, ending_by_outcome}
 use Rattle.branch_tree.specs.Sites.{step_at, IsReached}
 use Rattle.branch_tree.specs.Runs.{IsOptimalRun}
 use Rattle.branch_tree.specs.Meaning.{Meaning, rules_from, EndsProve}
-use Rattle.branch_tree.specs.laws.Endings.{ends_empty, ends_by_outcome}
+use Rattle.branch_tree.specs.laws.Endings.{ends_by_outcome}
 use Rattle.branch_tree.proofs.Runs.{wide_vertex}
 use Rattle.branch_tree.proofs.Reading.{leaf_read, point_read, kept_read}
+
+-- a line whose steps end at an infeasible row ends without a timing
+ends_empty : {T W : Type 0} (p : Program T W) (line : Line) (r : ℕ) → end_move p line ≡ infeasible r → ending_of p line ≡ Empty
+unfolding ending_of
+ends_empty p line r e = ap (ending_by p line) e
 
 module _ {T K : Type 0} (p : Program T SitePart) (m : Meaning K p) (IsFor : Area → Type 0) (q : EndsProve p m IsFor)
     (line : Line) (leaf : Leaf) (read : leaf.multipliers.items ≡ end_leaf p line) (f : p.leaf_fault line.area (end_leaf p line) ≡ None) where

@@ -1,5 +1,5 @@
 -- The sum of the start leaf stays within 128 bits, by the limits of an artery's numbers.
-use Rattle.std.proofs.Common.{◌≡◌, ℕ, zero, suc, pos, Bool, true, false, cond, Option, None, [], ◌∷◌, length, get_or, replicate, ◌*◌, ◌<◌, ◌^◌, refl, sym, ◌∙◌, ap, subst, arith}
+use Rattle.std.proofs.Common.{◌≡◌, ℕ, zero, suc, pos, Bool, true, false, cond, Option, None, List, [], ◌∷◌, length, get_or, replicate, ◌*◌, ◌<◌, ◌^◌, refl, sym, ◌∙◌, ap, subst, arith}
 use Rattle.std.specs.Ordering.{eq_by_cmp}
 use Rattle.rational_theory.specs.Rational.{ℚ, whole, ◌+ℚ◌, ◌*ℚ◌}
 use Rattle.rational_theory.specs.Compare.{cmp_ℚ}
@@ -23,7 +23,8 @@ use Rattle.named_row.specs.declared.names.Place.TheVariants.{Cell, Bound}
 use Rattle.named_row.specs.declared.leaves.Weight.{Weight}
 use Rattle.loop_rows.specs.Writing.{written}
 use Rattle.loop_rows.proofs.Writing.{written_row}
-use Rattle.loop_rows.specs.Weights.{weights_fault, leaf_fault, fault_of, with_weight}
+use Rattle.loop_rows.specs.Weights.{artery_rows, first_fault_with, leaf_fault, fault_of, with_weight}
+use Rattle.loop_rows.specs.declared.fault.SumFault.{SumFault}
 use Rattle.loop_rows.proofs.LeafSums.{fault_free}
 use Rattle.simplex_theory.proofs.Signs.{one_positive}
 use Rattle.simplex_theory.proofs.Lines.{get_or-add, get_or-scale}
@@ -32,6 +33,10 @@ use Rattle.program_builder.proofs.RowKinds.{IsUpTo, small_whole, small_ratio, sm
 use Rattle.program_builder.proofs.Narrowing.{up_to_times, up_to_plus, up_to_times_fits, up_to_sum_fits}
 use Rattle.branch_tree.specs.Starts.{first_out, first_in, start_leaf}
 use Rattle.branch_tree.proofs.StartLaws.{ratio_low}
+
+-- the first fault that ends the adding of an artery's rows
+abbrev pub weights_fault : Street → Area → Sheet → List Weight → Option SumFault
+weights_fault a box = first_fault_with (artery_rows a box)
 
 -- every number of the row is n at most in both its numbers
 record IsSmallSheet (n : ℕ) (s : Sheet) : Type 0 where

@@ -10,7 +10,7 @@ use Rattle.branch_tree.specs.ArteryRules.{rules_of}
 use Rattle.branch_tree.specs.Told.{valued}
 -- what this tells besides, by the names that the crates above know
 pub use Rattle.branch_tree.specs.Told.{Tells, IsCertifiable}
-pub use Rattle.branch_tree.specs.SiteNames.{IsPartOf, IsStopOf, HasSite}
+pub use Rattle.branch_tree.specs.SiteNames.{IsPartOf, HasSite}
 
 -- a timing with its value
 abbrev pub incumbent_of : Street → Option Plan → Option (Incumbent Plan)

@@ -47,17 +47,6 @@ IsPartIn a rows columns Has (part.LeafSum row at) = Has row × IsPlaceIn columns
 IsPartIn a rows columns Has (part.Timing wide) = IsTimingPartIn a columns wide
 
 -- ---- of an artery's
-abbrev pub IsPlaceOf : Street → Place → Type 0
-IsPlaceOf a = IsPlaceIn (width (count a))
-
-abbrev pub IsTimingPart : Street → WideTiming → Type 0
-IsTimingPart a = IsTimingPartIn a (width (count a))
-
-abbrev pub IsRatioOf : Street → WideCell → Type 0
-IsRatioOf a = IsRatioIn (length (rows_of a)) (width (count a))
-
-abbrev pub IsCellOf : Street → WideCell → Type 0
-IsCellOf a = IsCellIn (length (rows_of a)) (width (count a))
 
 abbrev pub IsPartOf : Street → SitePart → Type 0
 IsPartOf a = IsPartIn a (length (rows_of a)) (width (count a)) (λ row. HasRow a (name_of row.family row.index))
@@ -75,9 +64,6 @@ abbrev pub EndsAt : {W : Type 0} → (Site W → Type 0) → Verdict W → Type 
 EndsAt Named Best = Unit {0}
 EndsAt Named NoTiming = Unit {0}
 EndsAt Named (Stopped stop) = StopsAt Named stop
-
-abbrev pub IsStopOf : Street → Stop SitePart → Type 0
-IsStopOf a = StopsAt (IsSiteOf a)
 
 -- where the verdict names a site, its box, its row, its column and its link are ones of the artery
 abbrev pub HasSite : Street → Verdict SitePart → Type 0

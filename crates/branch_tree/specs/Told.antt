@@ -34,8 +34,6 @@ TellsOf value timing bound NoTiming = timing ≡ None
 TellsOf value timing bound (Stopped stop) = IfSome timing (λ t. value t ≤ℚ bound)
 
 -- ---- of an artery's
-abbrev pub HasValue : Street → Option Plan → ℚ → Type 0
-HasValue a = IsValued (weighted_band a)
 
 abbrev pub Tells : Street → Option Plan → ℚ → Verdict SitePart → Type 0
 Tells a = TellsOf (weighted_band a)

@@ -7,7 +7,6 @@ pub mod Acceptance
 pub mod LeafMeaning
 pub mod Meaning
 pub mod Firsts
-pub mod Fronts
 pub mod Preorders
 pub mod Spans
 pub mod Ways

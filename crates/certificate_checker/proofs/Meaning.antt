@@ -27,7 +27,7 @@ use Rattle.plan_text.specs.declared.certificate.Claim.TheVariants.{Best, NoTimin
 use Rattle.plan_text.specs.Warrants.{Warrant, Node, SplitAt, LeafOf}
 use Rattle.certificate_checker.specs.TreeProofs.{ProveAll}
 use Rattle.certificate_checker.specs.Accepted.{IsTimed, Shows, IsProof, AreProofs, IsAccepted, limit_of, value_of}
-use Rattle.certificate_checker.specs.lemmas.Parts.{parts_boxed}
+use Rattle.search_box.proofs.Parts.{parts_boxed}
 use Rattle.certificate_checker.proofs.LeafMeaning.{IsWithin}
 use Rattle.certificate_checker.specs.Claims.{IsBest, ClaimHolds}
 

@@ -57,10 +57,6 @@ module _ (box : Area) (e : Entry) (way : List Entry) (h : AreSplits box (e ∷ w
       ap (λ b. high_part (whole_of box e) e.place ∷ waiting b way) whole_high
       ∙ sym (ap (λ k. with_high k (whole_of box e) e.place (waiting (whole_of box e) way)) low)
 
-  -- or the split is left
-  pub left_owed : e.on_high ≡ true → waiting (whole_of box e) way ≡ waiting box (e ∷ way)
-  left_owed high = sym (ap (λ k. with_high k (whole_of box e) e.place (waiting (whole_of box e) way)) high)
-
 -- a list with a first box
 pub begins : (boxes : List Area) → 0 < length boxes → boxes ≡ first_of boxes ∷ drop 1 boxes
 begins [] n = absurd (omega arith)

@@ -7,4 +7,3 @@ pub mod Claims
 pub mod Laws
 pub mod ProofTrees
 pub mod Owed
-pub mod lemmas

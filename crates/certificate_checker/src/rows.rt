@@ -5,7 +5,7 @@ ghost use Rattle.linear_theory.specs.Boxes.{Area, IsBoxOf};
 ghost use Rattle.loop_rows.specs.Weights.{Source, artery_rows, total_of, fault_of, IsFirstFault};
 ghost use Rattle.search_box.specs.Places.{IsPlace, low_part, high_part};
 ghost use Rattle.search_box.specs.declared.span.At.{At};
-ghost use Rattle.certificate_checker.specs.lemmas.Parts.{parts_boxed};
+ghost use Rattle.search_box.proofs.Parts.{parts_boxed};
 
 use artery_model::Artery;
 use loop_rows::{BoxRows, SumFault, sum_of};

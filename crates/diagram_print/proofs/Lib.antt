@@ -4,4 +4,3 @@ pub mod Pieces
 pub mod RowNames
 pub mod Sizes
 pub mod SomeTicks
-pub mod Spans

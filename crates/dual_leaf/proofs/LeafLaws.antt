@@ -18,7 +18,7 @@ use Rattle.simplex_theory.specs.RowLists.{row_at, coef_at, system_of, vertex_poi
 use Rattle.simplex_theory.proofs.RowLists.{optimal_point}
 use Rattle.named_row.specs.declared.names.RowId.{RowId}
 use Rattle.named_row.specs.declared.leaves.Weight.{Weight}
-use Rattle.fraction_tableau.specs.NamedTableaus.{NamedTableau, IsSpentFrom, unnamed, name_in}
+use Rattle.fraction_tableau.specs.NamedTableaus.{NamedTableau, unnamed, name_in}
 use Rattle.dual_leaf.specs.Leaves.{multiplier, multipliers_below, goal_multipliers, row_multipliers, sum_of, CoversWith, SharesGoal, LeafCovers, LeafRefutes, ReachesOptimum}
 
 -- ---- sums over a list of multipliers
@@ -134,10 +134,6 @@ reaches_optimum t rows goal d s h = optimal_point t rows goal d s h
 pub multipliers_next : (names : List RowId) (f : ℕ → ℚ) (n : ℕ) → multipliers_below names f (n + 1) ≡ multipliers_below names f n ++ multiplier (name_in names n) (f n)
 unfolding multipliers_below
 multipliers_next names f n = rw add-one refl
-
--- after a refused pivot the goal row is still that of the tableau before
-pub spent_shares : (s t : NamedTableau) → IsSpentFrom s t → length s.names ≡ height s.table → SharesGoal t s.table
-spent_shares s t h e = record { goal = sym h.goal; standing = sym h.standing; count = sym e ∙ ap length (sym h.names) }
 
 -- and that of the tableau itself
 pub own_shares : (t : NamedTableau) → length t.names ≡ height t.table → SharesGoal t t.table

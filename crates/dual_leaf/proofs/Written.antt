@@ -1,7 +1,7 @@
 -- Values that are written from the last place to the first, so that the first place of a variable decides.
-use Rattle.std.proofs.Common.{◌≡◌, Result, Ok, Err, IfOk, ℕ, suc, pos, cond, eqb, List, [], ◌∷◌, length, get_or, drop, replicate, ◌+◌, ◌<◌, refl, sym, ◌∙◌, ap, ap₂, arith}
+use Rattle.std.proofs.Common.{◌≡◌, Result, Ok, Err, IfOk, ℕ, suc, pos, cond, eqb, List, [], ◌∷◌, length, get_or, drop, ◌+◌, ◌<◌, refl, sym, ◌∙◌, ap, ap₂, arith}
 use Rattle.std.proofs.Math.Seq.{drop-cons, drop-length}
-use Rattle.std.proofs.lemmas.List.{get_or-replicate, length-replicate, ext_get_or}
+use Rattle.std.proofs.lemmas.List.{ext_get_or}
 use Rattle.std.proofs.lemmas.Bool.{cond-true, cond-false, eq-eqb, ne_eqb}
 use Rattle.rational_theory.specs.Rational.{ℚ, whole, neg_ℚ}
 use Rattle.rational_theory.proofs.Arithmetic.{neg-neg, *ℚ-one}
@@ -31,21 +31,6 @@ slacks_none w c vs d i e h =
     let none : drop i vs ≡ [] = ap (λ n. drop n vs) e ∙ drop-length vs in
     record { count = refl; cells = λ k l. h k l ∙ sym (ap (λ u. cell_of (drop i c) u (w + k)) none ∙ cell_of_nothing (drop i c) (w + k)) }
 
-pub slacks_next : (w : ℕ) (c : List ℚ) (vs : List ℕ) (n : ℕ) (d e : List ℚ) (i j : ℕ) (u : ℕ) (a : ℚ) → Slacks w c vs n d i → i ≡ j + 1 → j < length vs → j < length c → u ≡ get_or vs j 0 → a ≡ get_or c j (whole (pos 0))
-    → length e ≡ length d → ((k : ℕ) → k < length d → get_or e k (whole (pos 0)) ≡ cond (eqb (w + k) u) a (get_or d k (whole (pos 0)))) → Slacks w c vs n e j
-slacks_next w c vs n d e i j u a s q h g p r l f =
-    let step : i ≡ suc j = omega arith in
-    let cs : drop j c ≡ get_or c j (whole (pos 0)) ∷ drop i c = drop-cons c j (whole (pos 0)) g ∙ ap (λ m. get_or c j (whole (pos 0)) ∷ drop m c) (sym step) in
-    let us : drop j vs ≡ get_or vs j 0 ∷ drop i vs = drop-cons vs j 0 h ∙ ap (λ m. get_or vs j 0 ∷ drop m vs) (sym step) in
-    record {
-      count = l ∙ s.count;
-      cells = λ k m.
-          f k (let y = s.count in omega arith)
-          ∙ ap (λ x. cond (eqb (w + k) u) a x) (s.cells k m)
-          ∙ ap₂ (λ x y. cond (eqb (w + k) x) y (cell_of (drop i c) (drop i vs) (w + k))) p r
-          ∙ sym (ap₂ (λ x y. cell_of x y (w + k)) cs us);
-    }
-
 -- ---- bounds of basic columns
 abbrev zero_of : ℕ → ℚ
 zero_of v = whole (pos 0)
@@ -57,14 +42,6 @@ unit_values vs = values zero_of (whole (pos 1)) vs
 pub record Basics (t : Tableau) (n : ℕ) (d : List ℚ) (i : ℕ) : Type 0 where
   pub count : length d ≡ n
   pub cells : (k : ℕ) → k < n → get_or d k (whole (pos 0)) ≡ filled zero_of (unit_values t.standing) (drop i t.basic) (drop i t.rows) k
-
-filled_nothing : (f : ℕ → ℚ) (k : List ℚ) (cs : List (List ℚ)) (u : ℕ) → filled f k [] cs u ≡ f u
-filled_nothing f k cs u = refl
-
-pub basics_none : (t : Tableau) (d : List ℚ) (i : ℕ) → i ≡ length t.basic → ((k : ℕ) → k < length d → get_or d k (whole (pos 0)) ≡ whole (pos 0)) → Basics t (length d) d i
-basics_none t d i e h =
-    let none : drop i t.basic ≡ [] = ap (λ n. drop n t.basic) e ∙ drop-length t.basic in
-    record { count = refl; cells = λ k l. h k l ∙ sym (ap (λ u. filled zero_of (unit_values t.standing) u (drop i t.rows) k) none ∙ filled_nothing zero_of (unit_values t.standing) (drop i t.rows) k) }
 
 row_value : (t : Tableau) (i : ℕ) → IsShaped t → i < height t → neg_ℚ (dot (line t i) (unit_values t.standing)) ≡ bound t i
 row_value t i s h = ap neg_ℚ (dot_zeros (line t i) zero_of (whole (pos 1)) t.standing (s.lines i h) (λ j k. refl)) ∙ neg-neg _ ∙ *ℚ-one _
@@ -95,12 +72,6 @@ unfolding vertex_point
 vertex_list t d e h =
     ext_get_or (whole (pos 0)) d (columns_from (vertex t) 0 (width t)) (e ∙ sym (length-columns_from (vertex t) 0 (width t)))
     (λ k l. let m : k < width t = omega arith in let z : 0 + k ≡ k = omega arith in h k m ∙ sym (columns_from_at (vertex t) 0 (width t) k m ∙ ap (vertex t) z))
-
--- ---- zeros
-pub zero_at : (n k : ℕ) (d : List ℚ) → d ≡ replicate n (whole (pos 0)) → k < length d → get_or d k (whole (pos 0)) ≡ whole (pos 0)
-zero_at n k d e h =
-    let l = ap length e ∙ length-replicate n (whole (pos 0)) in
-    ap (λ (x : List ℚ). get_or x k (whole (pos 0))) e ∙ get_or-replicate n k (whole (pos 0)) (whole (pos 0)) (omega arith)
 
 -- ---- reading
 pub bound_read : (t : Tableau) (r k : ℕ) → r < height t → k ≡ width t → number_at t r k ≡ bound t r

@@ -1,5 +1,5 @@
 -- What opening a box of the tests' relaxation answers.
-use Rattle.std.proofs.Common.{◌≡◌, ℕ, ◌+◌, ◌-◌, ◌≤◌, ℤ, pos, ◌-ℤ◌, ◌≤ℤ◌, ◌<ℤ◌, inl, inr, List, [], ◌∷◌, length, sym, subst, ap, ◌∙◌, arith, refl}
+use Rattle.std.proofs.Common.{◌≡◌, ℕ, ◌+◌, ◌-◌, ℤ, pos, ◌-ℤ◌, ◌≤ℤ◌, ◌<ℤ◌, inl, inr, List, [], ◌∷◌, length, sym, subst, ap, ◌∙◌, arith, refl}
 use Rattle.std.proofs.lemmas.Int.{ints}
 use Rattle.std.proofs.lemmas.List.{length-set}
 use Rattle.rational_theory.specs.Rational.{ℚ, whole, ◌≤ℚ◌}
@@ -12,15 +12,21 @@ use Rattle.search_box.specs.Places.{low_part, high_part}
 use Rattle.named_row.specs.declared.leaves.Leaf.{Leaf}
 use Rattle.named_row.specs.declared.leaves.Point.{Point}
 use Rattle.branch_and_bound.specs.Lines.{Line}
-use Rattle.branch_and_bound.specs.Lineages.{Empty, Reads, Cuts}
+use Rattle.branch_and_bound.specs.Lineages.{Reads, Cuts}
 use Rattle.work_meter.specs.Work.{IsWithin, capped}
-use Rattle.branch_and_bound.specs.OpenedNodes.{IsPart, HasBound, OpensEmpty, OpensTimed, OpensCut, Opens}
+use Rattle.branch_and_bound.specs.OpenedNodes.{IsPart, HasBound, OpensTimed, OpensCut, Opens}
 use Rattle.engine_tests.specs.CappedRules.{capped_rules, EndsAs}
-use Rattle.engine_tests.specs.laws.Capped.{Case, is_empty, is_cut, is_read, case_of, box_of, one_link}
-use Rattle.engine_tests.specs.Capped.{ending_span, ending_of, bound_of, IsNumber, CoversNumbers, HasNone}
+use Rattle.engine_tests.specs.laws.Capped.{Case, is_empty, is_cut, is_read, case_of, box_of}
+use Rattle.engine_tests.specs.Capped.{ending_span, ending_of, bound_of, IsNumber, CoversNumbers}
 use Rattle.work_meter.specs.declared.meter.Meter.{Meter}
 use Rattle.branch_and_bound.specs.declared.opened.Opened.{Opened}
 use Rattle.branch_and_bound.specs.declared.opened.Opened.TheVariants.{Infeasible, Timed, Splits, Unread, WorkOut, Wide}
+
+-- a part has one link too
+one_link : (cap : ℤ) (loops : List Span) (place : At) → ending_of cap loops ≡ Cuts place → length loops ≡ 1
+one_link cap [] place e = cc
+one_link cap (s ∷ t ∷ ss) place e = cc
+one_link cap (s ∷ []) place e = refl
 
 -- the span of the only link tells everything
 pub record IsOnly (cap : ℤ) (loops : List Span) (s : Span) : Type 0 where
@@ -48,17 +54,6 @@ numbers_under cap (t ∷ []) turns s e x p = subst (λ (u : Span). x ≤ℤ u.mo
 -- of any box: a number is at most the greatest of the first span
 pub number_under : (cap : ℤ) (area : Area) (s : Span) → s ≡ loop_span area 1 → (x : ℤ) → IsNumber cap area.loops x → x ≤ℤ s.most
 number_under cap area s e x p = numbers_under cap area.loops area.turns s e x p
-
--- with more links there is none
-loops_empty : (cap : ℤ) (loops : List Span) → (length loops ≡ 1 → ⊥) → (ending_of cap loops ≡ Empty) × HasNone cap loops
-loops_empty cap [] n = (refl, λ x p. absurd p)
-loops_empty cap (t ∷ u ∷ us) n = (refl, λ x p. absurd p)
-loops_empty cap (t ∷ []) n = absurd (n refl)
-
-pub opens_other : (a : Street) (cap : ℤ) (line : Line) (area : Area) (leaf : Leaf) → line.area ≡ area → (length area.loops ≡ 1 → ⊥) → OpensEmpty (capped_rules a cap) line leaf
-opens_other a cap line area leaf e n =
-    let h = loops_empty cap line.area.loops (λ f. n (sym (ap (λ (b : Area). length b.loops) e) ∙ f)) in
-    record { end = h.0; leaf_is = tt; refutes = h.1 }
 
 reads_at : (cap : ℤ) (s : Span) → Case cap s → s.least ≤ℤ s.most → s.most ≤ℤ cap → ending_span cap s ≡ Reads
 reads_at cap s (is_empty (inl h) e) p q = absurd (omega (arith, ints))

@@ -3,7 +3,15 @@ use Rattle.std.proofs.Common.{◌≡◌, ℕ, ◌+◌, ◌<◌, ◌≤◌, ◌�
 use Rattle.std.proofs.lemmas.Bool.{eqb-true}
 use Rattle.std.specs.Prelude.{◌==◌, ◌||◌}
 use Rattle.progression.specs.Street.{Street, count}
-use Rattle.linear_theory.specs.Names.{Name, NoRow, Family, families, last_family, row_among, name_of, lone_among, is_lone, Seat, AtSignal, AtLink, AtChange, ByItself, AtRatio, AtLeast, AtEqual, Nowhere, HasSeat, rule_of, HasRow}
+use Rattle.linear_theory.specs.Names.{Name, NoRow, Family, families, last_family, row_among, name_of, FamilyOf, Seat, AtSignal, AtLink, AtChange, ByItself, AtRatio, AtLeast, AtEqual, Nowhere, HasSeat, rule_of, HasRow}
+
+-- the family has one row alone
+abbrev pub lone_among : {N : Type 0} → ℕ → List (FamilyOf N) → ℕ → Bool
+lone_among n [] family = false
+lone_among n (f ∷ fs) family = if f.lone then (family == n) || lone_among (n + 1) fs family else lone_among (n + 1) fs family
+
+abbrev pub is_lone : ℕ → Bool
+is_lone family = lone_among 1 families family
 
 -- ---- numbers
 record IsWithin (n m g : ℕ) : Type 0 where

@@ -1,6 +1,6 @@
 -- The rows of an artery by name: a family's number, from 1 on, and the number of a signal or link, or 0. The table `families` has all families; what a
 -- family's rows are, and where an artery has them, is its rule.
-use Rattle.std.specs.Prelude.{◌≡◌, ◌≢◌, ℕ, ◌+◌, ◌==◌, ◌||◌, if◌then◌else◌, List, [], ◌∷◌, length, codes, Bool, true, false, Option, None, Some, IsSome}
+use Rattle.std.specs.Prelude.{◌≡◌, ◌≢◌, ℕ, ◌+◌, ◌==◌, if◌then◌else◌, List, [], ◌∷◌, length, codes, Bool, true, false, Option, None, Some, IsSome}
 use Rattle.progression.specs.Street.{Street, HasSignal, HasLink, least_band}
 use Rattle.progression.specs.Speeds.{number, change}
 use Rattle.progression.specs.declared.parts.Pair.{Pair}
@@ -83,14 +83,6 @@ row_among other n (f ∷ fs) family i = if family == n then f.row i else row_amo
 
 abbrev pub name_of : ℕ → ℕ → Name
 name_of family i = row_among NoRow 1 families family i
-
--- the family has one row alone
-abbrev pub lone_among : {N : Type 0} → ℕ → List (FamilyOf N) → ℕ → Bool
-lone_among n [] family = false
-lone_among n (f ∷ fs) family = if f.lone then (family == n) || lone_among (n + 1) fs family else lone_among (n + 1) fs family
-
-abbrev pub is_lone : ℕ → Bool
-is_lone family = lone_among 1 families family
 
 -- ---- the rules of the families
 -- where a row stands: at a signal, at a link, between a link and the next, by itself, or nowhere; by itself also where the ratio is not 1, where a

@@ -48,10 +48,6 @@ abbrev pub places_of : ℕ → List Entry → List Cell
 places_of n [] = []
 places_of n (e ∷ es) = (place n e.0, e.1) ∷ places_of n es
 
--- the entries put into a row of n signals
-abbrev pub filled : ℕ → List ℚ → List Entry → List ℚ
-filled n xs es = placed xs (places_of n es)
-
 -- the row of a form: 0 in all columns that it does not name
 abbrev pub line : Street → Form → maths.Row
 line a f = placed_row (width (count a)) (places_of (count a) f.entries) f.bound

@@ -35,7 +35,7 @@ struct LinkTreeRows<'a> {
 
 impl<'a> TreeRows for LinkTreeRows<'a> {
     ghost use Rattle.linear_theory.specs.Boxes.{IsBoxOf};
-    ghost use Rattle.certificate_checker.specs.lemmas.Parts.{parts_boxed};
+    ghost use Rattle.search_box.proofs.Parts.{parts_boxed};
     ghost use Rattle.link_space.specs.LinkWeights.{link_rows};
 
     ghost rows = { λ source. link_rows source.artery.now };

@@ -32,29 +32,13 @@ one_more P i h here k l m = elim (cases_lt k i) [ inl n ↦ h k l n | inr n ↦ 
 
 -- ---- in travel order, the two signals as they are read
 module _ (a : Street) (t : LinkPlan) (i : ℕ) (has : i < count a) where
-  before_entry : (d : Dir) (s : ℕ) → IsEnd i s → travel_order a d s < travel_order a d (ends d i).0 → ⊥
-  before_entry Outbound s e l = omega (arith, e.least, l)
-  before_entry Inbound s e l = omega (arith, e.most, l)
-
   before_exit : (d : Dir) (s : ℕ) → IsEnd i s → travel_order a d s < travel_order a d (ends d i).1 → s ≡ (ends d i).0
   before_exit Outbound s e l = omega (arith, e.least, l)
   before_exit Inbound s e l = omega (arith, e.most, l)
 
-  pub entry_end : (d : Dir) → IsEnd i (ends d i).0
-  entry_end Outbound = here_end i
-  entry_end Inbound = there_end i
-
-  pub exit_end : (d : Dir) → IsEnd i (ends d i).1
-  exit_end Outbound = there_end i
-  exit_end Inbound = here_end i
-
   both_green : (d : Dir) → IsGreenAround a t d (ends d i).0 (half t d i) → IsGreenAround a t d (ends d i).1 (half t d i) → IsGreenLink a t d i
   both_green Outbound g h = at_ends (λ s. IsGreenAround a t Outbound s (half t Outbound i)) i g h
   both_green Inbound g h = at_ends (λ s. IsGreenAround a t Inbound s (half t Inbound i)) i h g
-
-  -- blocked where it comes in
-  first_at_entry : (d : Dir) (z : ℤ) → IsBlockedEnd a t d i (ends d i).0 z → IsFirstBlockedEnd a t d i (ends d i).0 z
-  first_at_entry d z w = record { here = w; green_before = λ s e l. absurd (before_entry d s e l) }
 
   -- green there and blocked where it leaves
   first_at_exit : (d : Dir) (z : ℤ) → IsGreenAround a t d (ends d i).0 (half t d i) → IsBlockedEnd a t d i (ends d i).1 z → IsFirstBlockedEnd a t d i (ends d i).1 z
@@ -64,9 +48,6 @@ module _ (a : Street) (t : LinkPlan) (i : ℕ) (has : i < count a) where
   }
 
   module _ (d : Dir) (pair : ℕ × ℕ) (is : pair ≡ ends d i) where
-    pub entry_blocked : (z : ℤ) → IsBlockedEnd a t d i pair.0 z → IsFirstBlockedEnd a t d i pair.0 z
-    entry_blocked z w = rw is (first_at_entry d z (rw is at w))
-
     pub exit_blocked : (z : ℤ) → IsGreenAround a t d pair.0 (half t d i) → IsBlockedEnd a t d i pair.1 z → IsFirstBlockedEnd a t d i pair.1 z
     exit_blocked z g w = rw is (first_at_exit d z (rw is at g) (rw is at w))
 

@@ -8,3 +8,4 @@ pub mod AsWide
 pub mod Copies
 pub mod LinkRowTests
 pub mod LinkGoalSheets
+pub mod FilledRows

@@ -1,9 +1,9 @@
 -- The sum of a leaf's rows, row by row.
-use Rattle.std.proofs.Common.{◌≡◌, ℕ, suc, zero, replicate, arith, ◌+◌, drop, get_or, add-one, drop-cons, List, [], ◌∷◌, Bool, true, false, not, Option, Some, None, map, length, refl, sym, ◌∙◌, ap, ap₂, ◌<◌, ◌≤◌}
+use Rattle.std.proofs.Common.{◌≡◌, ℕ, suc, zero, replicate, arith, ◌+◌, drop, get_or, add-one, drop-cons, List, [], ◌∷◌, Bool, true, false, not, Option, Some, None, map, length, refl, sym, ◌∙◌, ap, ap₂, ◌<◌}
 use Rattle.std.specs.Bool.{Decides}
 use Rattle.std.specs.Ordering.{is_lt}
 use Rattle.std.proofs.lemmas.Bool.Decides.{same_from_decides}
-use Rattle.std.proofs.lemmas.List.{drop_all, length-replicate}
+use Rattle.std.proofs.lemmas.List.{length-replicate}
 use Rattle.rational_theory.specs.Rational.{ℚ, ◌+ℚ◌, ◌≤ℚ◌}
 use Rattle.rational_theory.proofs.Arithmetic.{+ℚ_assoc, +ℚ-zero}
 use Rattle.rational_theory.proofs.Order.{<ℚ_not-≤ℚ}
@@ -31,9 +31,13 @@ use Rattle.named_row.specs.declared.wide_at.WideAt.{WideAt}
 use Rattle.loop_rows.specs.laws.Writing.{written_row, written_width}
 use Rattle.loop_rows.specs.RowTests.{has_row}
 use Rattle.loop_rows.proofs.RowTests.{row_decided}
-use Rattle.loop_rows.specs.Weights.{Source, artery_rows, with_name, with_weights, first_fault_with, named, name_at, row_at, after_weight, wide_fault, weight_fault, weights_sum, weights_fault, leaf_total, leaf_fault, IsFirstFault, fault_of, fault_with, total_of, with_weight}
+use Rattle.loop_rows.specs.Weights.{Source, artery_rows, with_name, with_weights, first_fault_with, named, name_at, wide_fault, leaf_total, leaf_fault, IsFirstFault, fault_of, fault_with, total_of, with_weight}
 use Rattle.loop_rows.specs.declared.fault.SumFault.{SumFault}
 use Rattle.loop_rows.specs.declared.fault.SumFault.TheVariants.{NoSuchRow, Negative, Wide, Memory}
+
+-- the first fault that ends the adding of an artery's row
+abbrev pub weight_fault : Street → Area → Sheet → Weight → Option SumFault
+weight_fault a box = fault_with (artery_rows a box)
 
 -- ---- one row
 module _ (rows : Source) (sum : Sheet) (w : Weight) (there : Bool) (d : there ≡ rows.has w.row) where
@@ -222,13 +226,6 @@ first_of_all o (NoSuchRow row) e = e
 first_of_all o (Negative row) e = e
 first_of_all o (Wide row at) e = e
 first_of_all o Memory e = tt
-
--- none is left
-pub whole_total : (rows : Source) (sum : Sheet) (ws : List Weight) (i : ℕ) → length ws ≤ i → total_of rows ws ≡ with_weights rows sum (drop i ws) → sum ≡ total_of rows ws
-whole_total rows sum ws i h e = sym (e ∙ ap (with_weights rows sum) (drop_all i ws h))
-
-pub whole_right : (rows : Source) (sum : Sheet) (ws : List Weight) (i : ℕ) → length ws ≤ i → fault_of rows ws ≡ first_fault_with rows sum (drop i ws) → fault_of rows ws ≡ None
-whole_right rows sum ws i h e = e ∙ ap (first_fault_with rows sum) (drop_all i ws h)
 
 -- ---- of an artery, in its own words
 abbrev pub IsAdded : Street → Area → Sheet → Weight → Type 0

@@ -11,3 +11,11 @@ mod LinkKeptLeaves
 mod LinkSitesNamed
 mod LinkAnswers
 mod LinksSolved
+pub mod LinkEnds
+pub mod LinkStarts
+pub mod FarRows
+pub mod LinkLeaves
+pub mod LinkRecoveries
+pub mod LinkLines
+pub mod LinkOpenings
+pub mod LinkTables

@@ -24,7 +24,7 @@ use Rattle.linear_theory.proofs.RowNumbers.{green_part_is}
 use Rattle.fraction_tableau.specs.Narrow.{IsNarrow, AreNarrow}
 use Rattle.fraction_tableau.specs.NamedTableaus.{name_in}
 use Rattle.program_builder.specs.Loading.{cells_of, goal_cells_of}
-use Rattle.program_builder.specs.StartPivots.{AreReady}
+use Rattle.program_builder.proofs.StartPivots.{AreReady}
 use Rattle.program_builder.specs.declared.pivots.StartPivot.{StartPivot}
 use Rattle.program_builder.proofs.CommonParts.{IsParts, parts_more, parts_plus, parts_neg, parts_finer, zero_parts, one_parts, own_parts, over_parts}
 use Rattle.program_builder.proofs.LineCells.{row_each, cells_at, each_cell, line_width}

@@ -11,8 +11,8 @@ use Rattle.progression.specs.Speeds.{number}
 use Rattle.progression.specs.declared.parts.Dir.{Dir}
 use Rattle.progression.specs.declared.parts.Dir.TheVariants.{Outbound, Inbound}
 use Rattle.artery_model.specs.Valid.{IsValid}
-use Rattle.linear_theory.specs.Names.{FamilyOf, Family, families, last_family, row_among, name_of, lone_among, is_lone}
-use Rattle.linear_theory.proofs.Families.{IsIndex, row_index}
+use Rattle.linear_theory.specs.Names.{FamilyOf, Family, families, last_family, row_among, name_of}
+use Rattle.linear_theory.proofs.Families.{lone_among, is_lone, IsIndex, row_index}
 use Rattle.named_row.specs.declared.names.RowId.{RowId}
 use Rattle.named_row.specs.declared.leaves.Leaf.{Leaf}
 use Rattle.named_row.specs.declared.leaves.Weight.{Weight}
@@ -31,7 +31,7 @@ use Rattle.multi_band.specs.LinkProgram.{link_program}
 use Rattle.multi_band.specs.LinkRelaxed.{IsLinkStartLeaf}
 use Rattle.multi_band.specs.LinkStarts.{far_weights, twice_ratio, inbound_weights, link_start_leaf}
 use Rattle.multi_band.specs.laws.LinkTables.{links_there, links_ascend, links_most}
-use Rattle.multi_band.specs.laws.LinkStarts.{start_links_there}
+use Rattle.multi_band.proofs.LinkStarts.{start_links_there}
 
 -- ---- names
 -- no family past the last of an artery has one row alone

@@ -26,9 +26,10 @@ use Rattle.multi_band.specs.LinkProgram.{link_program}
 use Rattle.multi_band.specs.LinkRelaxed.{IsLinkLeaf}
 use Rattle.multi_band.specs.LinkRules.{link_meaning}
 use Rattle.multi_band.specs.LinkStarts.{link_start_leaf, link_start_bound}
-use Rattle.multi_band.specs.laws.LinkLeaves.{link_covers_total, link_refutes_total}
-use Rattle.multi_band.specs.laws.LinkLines.{link_end_covers, link_end_refutes, link_end_vertex, link_reads_good}
-use Rattle.multi_band.specs.laws.LinkStarts.{start_links_cover}
+use Rattle.multi_band.proofs.LinkLeaves.{link_covers_total, link_refutes_total}
+use Rattle.multi_band.specs.laws.LinkLines.{link_end_vertex}
+use Rattle.multi_band.proofs.LinkLines.{link_end_covers, link_end_refutes, link_reads_good}
+use Rattle.multi_band.proofs.LinkStarts.{start_links_cover}
 use Rattle.multi_band.proofs.LinkStartFits.{start_links_fit}
 
 links_add : (a : Street) (box : Area) → 2 ≤ count a → AddsRight (link_rows a box)

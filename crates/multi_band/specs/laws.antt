@@ -6,7 +6,6 @@ pub mod LinkOpenings
 pub mod IdleBands
 pub mod LinkWeakDuality
 pub mod LinkEnds
-pub mod LinkStarts
 pub mod LinkFirsts
 pub mod LinkLeaves
 pub mod LinkTightening

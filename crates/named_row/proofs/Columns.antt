@@ -1,11 +1,8 @@
 -- The loop over the columns of a row: those below k are done.
-use Rattle.std.proofs.Common.{◌≡◌, ℕ, zero, suc, pos, None, List, [], ◌∷◌, ◌++◌, take, drop, length, get_or, ◌+◌, ◌<◌, ◌≤◌, ◌⊎◌, inl, inr, refl, ◌∙◌, ap₂, arith}
-use Rattle.std.proofs.Math.ListN.{set, length-set}
-use Rattle.std.proofs.lemmas.List.{get_or-set_same, get_or-set_other}
+use Rattle.std.proofs.Common.{◌≡◌, ℕ, zero, suc, pos, None, List, [], ◌∷◌, ◌++◌, take, drop, length, get_or, ◌<◌, ◌≤◌, refl, ap₂, arith}
 use Rattle.rational_theory.specs.Rational.{ℚ, whole, ◌+ℚ◌, ◌*ℚ◌}
 use Rattle.rational_theory.specs.Rows.{add, scale}
 use Rattle.narrow_fraction.specs.Attempt.{first_below}
-use Rattle.narrow_fraction.proofs.Attempt.{first_next}
 use Rattle.named_row.specs.Refusals.{cell_refusal}
 
 -- the row c became d below k, by k times the other row s
@@ -14,25 +11,6 @@ pub record Summed (by : ℚ) (s c d : List ℚ) (k : ℕ) : Type 0 where
   pub kept : length d ≡ length c
   pub done : (m : ℕ) → m < k → get_or d m (whole (pos 0)) ≡ get_or c m (whole (pos 0)) +ℚ by *ℚ get_or s m (whole (pos 0))
   pub rest : (m : ℕ) → k ≤ m → get_or d m (whole (pos 0)) ≡ get_or c m (whole (pos 0))
-
-pub summed_none : (by : ℚ) (s c : List ℚ) → Summed by s c c 0
-summed_none by s c = record { passed = refl; kept = refl; done = λ m h. absurd (omega arith); rest = λ m h. refl }
-
-pub summed_next : (by v : ℚ) (s c d : List ℚ) (k : ℕ) → Summed by s c d k → k < length c → cell_refusal by c s k ≡ None → v ≡ get_or c k (whole (pos 0)) +ℚ by *ℚ get_or s k (whole (pos 0)) → Summed by s c (set d k v) (k + 1)
-summed_next by v s c d k w h p e =
-    record {
-      passed = first_next (cell_refusal by c s) k w.passed p;
-      kept = length-set d k v ∙ w.kept;
-      done = λ m l. cell m (last m l);
-      rest = λ m l. get_or-set_other d k m v (whole (pos 0)) (λ a. absurd (omega arith)) ∙ w.rest m (omega arith);
-    }
-  where
-    last : (m : ℕ) → m < k + 1 → (m ≡ k) ⊎ (m < k)
-    last m l = grind arith
-
-    cell : (m : ℕ) → (m ≡ k) ⊎ (m < k) → get_or (set d k v) m (whole (pos 0)) ≡ get_or c m (whole (pos 0)) +ℚ by *ℚ get_or s m (whole (pos 0))
-    cell m (inl a) = rw a (get_or-set_same d k v (whole (pos 0)) (rw w.kept h) ∙ e)
-    cell m (inr a) = get_or-set_other d k m v (whole (pos 0)) (λ b. absurd (omega arith)) ∙ w.done m a
 
 -- a row that is the sum in each column is the sum
 pub sum_is : (by : ℚ) (s c d : List ℚ) → length s ≡ length c → length d ≡ length c

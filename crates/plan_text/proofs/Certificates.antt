@@ -298,7 +298,3 @@ second_kept line first second x rows ns e g f =
     let r = rows_take ordinary line second rows g in
     let t = tree_takes (Listed rows.0) ordinary rows.1 rows.2 ns (r.ascend, r.rows) f in
     record { timing = (claim_takes one_band one_band_laws first x e).timing; tree = t.trees; nodes = t.kept }
-
-pub second_read : (bytes : List ℕ) (x : Beginning Plan) (rows : List RowId × ℕ × List ℕ) (ns : List Node) → claim_at one_band bytes ≡ Ok x → rows_at ordinary x.2 x.3 ≡ Ok rows → tree_at (Listed rows.0) rows.1 rows.2 ≡ Ok ns → second_of bytes ≡ Ok (record { claim = x.0; timing = x.1; nodes = ns })
-unfolding second_of
-second_read bytes x rows ns e g f = rw (e, g, f) refl

@@ -9,14 +9,6 @@ abbrev pub behind : List ℕ → Option (List ℕ × List ℕ) → Option (List 
 behind front None = None
 behind front (Some p) = Some (front ++ p.0, p.1)
 
-pub behind_none : (o : Option (List ℕ × List ℕ)) → behind [] o ≡ o
-behind_none None = refl
-behind_none (Some p) = refl
-
-pub behind_more : (front : List ℕ) (x : ℕ) (o : Option (List ℕ × List ℕ)) → behind front (option_map (λ (p : List ℕ × List ℕ). (x ∷ p.0, p.1)) o) ≡ behind (front ++ x ∷ []) o
-behind_more front x None = refl
-behind_more front x (Some p) = ap (λ (f : List ℕ). Some (f, p.1)) (sym (append_assoc front (x ∷ []) p.0))
-
 -- a line without a space is one word
 words_by : (x : ℕ) (xs : List ℕ) (o : Option (List ℕ × List ℕ)) (c : Bool)
     → (o ≡ None → words xs ≡ xs ∷ [])

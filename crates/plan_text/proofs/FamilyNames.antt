@@ -1,5 +1,5 @@
 -- Each family has one name, and each name is of one family.
-use Rattle.std.proofs.lemmas.List.{drop_more, drop_all, length-map}
+use Rattle.std.proofs.lemmas.List.{drop_more, length-map}
 use Rattle.std.proofs.lemmas.Bool.{and_parts, eqb-true, true≢false, eq-eqb}
 use Rattle.std.proofs.lemmas.Bool.Decides.{nat_tests}
 use Rattle.std.proofs.Common.{◌≡◌, ℕ, zero, suc, ◌+◌, ◌-◌, ◌<◌, ◌≤◌, ◌⊎◌, inl, inr, Bool, true, false, List, [], ◌∷◌, drop, get_or, length, Option, Some, None, refl, sym, ap, ◌∙◌, subst, ltb, ltb-true, ltb-false, arith}
@@ -114,9 +114,6 @@ goes_on i names w d total lt other so_far = so_far ∙ rw (drop_more names i d l
 pub stops : (i : ℕ) (names : List FamilyName) (w : List ℕ) (d : FamilyName) (total : Option ℕ) → i < length names → is_text (get_or names i d).text.now w ≡ true
     → total ≡ number_in (i + 1) (texts (table_of (drop i names))) w → Some (i + 1) ≡ total
 stops i names w d total lt same so_far = sym (so_far ∙ rw (drop_more names i d lt, same) refl)
-
-pub is_done : (i : ℕ) (names : List FamilyName) (w : List ℕ) (total : Option ℕ) → length names ≤ i → total ≡ number_in (i + 1) (texts (table_of (drop i names))) w → None ≡ total
-is_done i names w total le so_far = sym (so_far ∙ rw (drop_all i names le) refl)
 
 -- the name of a family that is there
 pub at_index : (names : List FamilyName) (i : ℕ) (d : FamilyName) → i < length names → (get_or names i d).text.now ≡ slice_index_or (texts (table_of names)) i []

@@ -30,9 +30,6 @@ pub guard_ok : {A : Type 0} (b : Bool) (line : ℕ) (kind : TextFault) (r : Resu
 guard_ok true line kind r y e = (refl, e)
 guard_ok false line kind r y e = absurd cc
 
-done : {A : Type 0} → A → Result A BadText
-done x = Ok x
-
 pub ok_is : {A : Type 0} (x y : A) → ◌≡◌ {A = Result A BadText} (Ok x) (Ok y) → x ≡ y
 ok_is x y e = cc
 

@@ -113,9 +113,6 @@ abbrev CutOf : List ℕ → List ℕ → Option (List ℕ × List ℕ) → Type 
 CutOf bytes z None = lines_in bytes ≡ 0
 CutOf bytes z (Some p) = (cut 10 (bytes ++ z) ≡ Some (p.0, p.1 ++ z)) × (lines_in bytes ≡ suc (lines_in p.1))
 
-abbrev front : ℕ → List ℕ × List ℕ → List ℕ × List ℕ
-front x p = (x ∷ p.0, p.1)
-
 cut_by : (x : ℕ) (xs z : List ℕ) (c : Bool) (o : Option (List ℕ × List ℕ)) → (x == 10) ≡ c → CutOf xs z o → CutOf (x ∷ xs) z (if◌then◌else◌ {A = Option (List ℕ × List ℕ)} c (Some ([], xs)) (option_map (λ (p : List ℕ × List ℕ). (x ∷ p.0, p.1)) o))
 cut_by x xs z true o is h = (rw is refl, rw is refl)
 cut_by x xs z false None is h = rw is h
@@ -124,10 +121,6 @@ cut_by x xs z false (Some p) is h = (rw (is, h.0) refl, rw is h.1)
 cut_of : (bytes z : List ℕ) → CutOf bytes z (cut 10 bytes)
 cut_of [] z = refl
 cut_of (x ∷ xs) z = cut_by x xs z (x == 10) (cut 10 xs) refl (cut_of xs z)
-
-line_or_reaches : (line : ℕ) (o : Option (List ℕ × List ℕ)) → Reaches (one_and (line + 1)) line (line_or line o)
-line_or_reaches line None = omega arith
-line_or_reaches line (Some p) = omega arith
 
 line_or_later : (last line : ℕ) (o : Option (List ℕ × List ℕ)) → last ≤ line → Reaches (one_and (line + 1)) last (line_or line o)
 line_or_later last line None after = after

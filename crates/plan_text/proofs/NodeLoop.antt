@@ -28,10 +28,6 @@ has_lines names line bytes (Err e) given = tt
 abbrev pub with_nodes : List Node → Result (List Node × ℕ × List ℕ) BadText → Result (List Node × ℕ × List ℕ) BadText
 with_nodes front read = read >>= λ x. Ok (front ++ x.0, x.1, x.2)
 
-without_nodes : (read : Result (List Node × ℕ × List ℕ) BadText) → with_nodes [] read ≡ read
-without_nodes (Ok x) = refl
-without_nodes (Err e) = refl
-
 regroup : (front : List Node) (n : Node) (read : Result (List Node × ℕ × List ℕ) BadText) → with_nodes front (read >>= λ x. Ok (n ∷ x.0, x.1, x.2)) ≡ with_nodes (front ++ n ∷ []) read
 regroup front n (Ok x) = ap (λ (y : List Node). Ok (y, x.1, x.2)) (simp append_assoc)
 regroup front n (Err e) = refl
@@ -52,13 +48,6 @@ none_owed : (names : Naming) (nodes : List CertNode) (owed line first : ℕ) (by
 none_owed names nodes owed line first bytes all none way =
     let e : owed ≡ 0 = omega arith in
     subst (λ (n : ℕ). IsOnTheWay names nodes n line bytes first all) e way
-
-pub begins : (names : Naming) (nodes : List CertNode) (first : ℕ) (all : List ℕ) → nodes ≡ [] → IsOnTheWay names nodes 1 first all first all
-begins names nodes first all e = record {
-  read = ap (λ (y : List CertNode). with_nodes (map node_of y) (nodes_at names (length all) 1 first all)) e ∙ without_nodes (nodes_at names (length all) 1 first all);
-  lines = omega arith;
-  few = omega arith;
-}
 
 few_more : (n : Node) (others rest bytes all : ℕ) → rest < bytes → suc others + bytes ≤ 1 + all → owed_after n others + rest ≤ 1 + all
 few_more (SplitAt at) others rest bytes all p q = omega arith

@@ -1,7 +1,7 @@
 -- Reading rows one after the other, as a loop does.
 use Rattle.std.specs.Prelude.{if◌then◌else◌}
 use Rattle.std.specs.List.{AllByRecursion}
-use Rattle.std.proofs.Common.{true, zero, length, ◌≡◌, ℕ, suc, ◌+◌, ◌-◌, ◌<◌, ◌≤◌, Bor, map, List, [], ◌∷◌, ◌++◌, Option, None, Some, Result, Ok, Err, refl, sym, ap, ◌∙◌, subst, append_assoc, append-nil, arith}
+use Rattle.std.proofs.Common.{true, zero, length, ◌≡◌, ℕ, suc, ◌+◌, ◌-◌, ◌<◌, ◌≤◌, Bor, map, List, [], ◌∷◌, ◌++◌, Option, Some, Result, Ok, Err, refl, sym, ap, ◌∙◌, subst, append_assoc, append-nil, arith}
 use Rattle.named_row.specs.declared.names.RowId.{RowId}
 use Rattle.plan_text.specs.declared.fault.BadText.{BadText}
 use Rattle.plan_text.specs.declared.fault.TextEnd.{TextEnd}
@@ -37,10 +37,6 @@ words_are slice words after read same e = e ∙ ap (λ (v : List (Bor (List ℕ)
 abbrev pub with_front : {A : Type 0} → List A → Result (List A × List ℕ) BadText → Result (List A × List ℕ) BadText
 with_front front read = read >>= λ x. Ok (front ++ x.0, x.1)
 
-without_front : {A : Type 0} (read : Result (List A × List ℕ) BadText) → with_front [] read ≡ read
-without_front (Ok x) = refl
-without_front (Err e) = refl
-
 regroup : {A : Type 0} (front : List A) (w : A) (read : Result (List A × List ℕ) BadText) → with_front front (read >>= λ x. Ok (w ∷ x.0, x.1)) ≡ with_front (front ++ w ∷ []) read
 regroup {A = A} front w (Ok x) = ap (λ (y : List A). Ok (y, x.1)) (simp append_assoc)
 regroup front w (Err e) = refl
@@ -58,12 +54,6 @@ next : {A : Type 0} (row : A → RowId) (read : ℕ → List (List ℕ) → Resu
 next row read count i last line bytes lt =
     let e : count - i ≡ suc (count - (i + 1)) = omega arith in
     ap (λ (n : ℕ). rising_at row read n last (line + i) bytes) e ∙ step row read (count - (i + 1)) last (line + i) bytes
-
-pub begins : {A : Type 0} (row : A → RowId) (read : ℕ → List (List ℕ) → Result A BadText) (count line : ℕ) (bytes : List ℕ) → with_front [] (rising_at row read (count - 0) None (line + 0) bytes) ≡ rising_at row read count None line bytes
-begins row read count line bytes =
-    let n : count - 0 ≡ count = omega arith in
-    let l : line + 0 ≡ line = omega arith in
-    without_front (rising_at row read (count - 0) None (line + 0) bytes) ∙ (λ i. rising_at row read (n i) None (l i) bytes)
 
 pub goes_on : {A : Type 0} (row : A → RowId) (read : ℕ → List (List ℕ) → Result A BadText) (front : List A) (count i : ℕ) (last : Option RowId) (line : ℕ) (bytes : List ℕ) (l : List (List ℕ) × List ℕ) (w : A) (total : Result (List A × List ℕ) BadText) → i < count → words_at (line + i) bytes ≡ Ok l → read_after row read last (line + i) l.0 ≡ Ok w
     → with_front front (rising_at row read (count - i) last (line + i) bytes) ≡ total → with_front (front ++ w ∷ []) (rising_at row read (count - (i + 1)) (Some (row w)) (line + (i + 1)) l.1) ≡ total

@@ -1,6 +1,6 @@
 -- The order of the names of rows, by its test.
-use Rattle.std.proofs.Common.{◌≡◌, ℕ, ◌<◌, true, false, arith}
-use Rattle.std.specs.Prelude.{◌⊎◌, ◌==◌, ◌||◌, ◌&&◌, nat_lt, if◌then◌else◌}
+use Rattle.std.proofs.Common.{◌≡◌, ℕ, true, false, arith}
+use Rattle.std.specs.Prelude.{◌==◌, ◌||◌, ◌&&◌, nat_lt, if◌then◌else◌}
 use Rattle.std.specs.Ordering.{nat_cmp, ordering_then, match_ordering}
 use Rattle.std.specs.declared.cmp.Ordering.{Ordering}
 use Rattle.std.proofs.lemmas.Bool.Decides.{nat_tests}
@@ -21,12 +21,6 @@ row_cases r s x y z = cases_numbers r.family s.family r.index s.index x y z
 same_row : (r s : RowId) → r.family ≡ s.family → r.index ≡ s.index → r ≡ s
 same_row r s e f = λ i. record { family = e i; index = f i }
 
-below_numbers : (a b i j : ℕ) → (nat_lt a b || ((a == b) && nat_lt i j)) ≡ true → (a < b) ⊎ ((a ≡ b) × (i < j))
-below_numbers a b i j h = grind (arith, nat_tests)
-
-numbers_below : (a b i j : ℕ) → (a < b) ⊎ ((a ≡ b) × (i < j)) → (nat_lt a b || ((a == b) && nat_lt i j)) ≡ true
-numbers_below a b i j h = grind (arith, nat_tests)
-
 numbers_apart : (a b i j : ℕ) → (nat_lt a b || ((a == b) && nat_lt i j)) ≡ false → (nat_lt b a || ((b == a) && nat_lt j i)) ≡ false → (a ≡ b) × (i ≡ j)
 numbers_apart a b i j h k = grind (arith, nat_tests)
 
@@ -45,9 +39,3 @@ below_through r s t e f = numbers_through r.family s.family t.family r.index s.i
 
 pub below_itself : (r : RowId) → is_below r r ≡ false
 below_itself r = numbers_not r.family r.index
-
-numbers_back : (a b i j : ℕ) → (nat_lt a b || ((a == b) && nat_lt i j)) ≡ true → (nat_lt b a || ((b == a) && nat_lt j i)) ≡ false
-numbers_back a b i j h = grind (arith, nat_tests)
-
-pub below_back : (r s : RowId) → is_below r s ≡ true → is_below s r ≡ false
-below_back r s e = numbers_back r.family s.family r.index s.index e

@@ -59,9 +59,6 @@ pub record IsNamedIn (table : Table) (row : RowId) : Type 0 where
 unfoldable pub ordinary : Table
 ordinary = names_of rows.families
 
-abbrev pub family_name : ℕ → List ℕ
-family_name family = family_name_in ordinary family
-
 -- the families of one row: the limits of the cycle, the ratio, least bands and equal bands
 abbrev pub is_lone : ℕ → Bool
 is_lone family = is_lone_in ordinary family

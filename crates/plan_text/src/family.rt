@@ -1,7 +1,7 @@
 //! The families of rows by name.
 
 ghost use Rattle.std.specs.Prelude.{◌≡◌, ◌≤◌, ◌<◌, ◌^◌, length, option_map};
-ghost use Rattle.plan_text.specs.Families.{table_of, ordinary, family_in, family_name_in, is_lone_in, family_name, is_lone};
+ghost use Rattle.plan_text.specs.Families.{table_of, ordinary, family_in, family_name_in, is_lone_in, is_lone};
 
 /// A family of rows as texts name it.
 #[derive(Clone, Copy, Debug)]
@@ -135,15 +135,6 @@ pub fn is_lone_in(names: &[FamilyName], family: u8) -> bool
         Some(name) => name.is_lone,
         None => false,
     }
-}
-
-/// The name of a family of rows, by its number from 1 on. The number 0 gives the first name too, and one past the last the
-/// empty name.
-#[tactic(auto, unfolding(crate::specs::Families::ordinary))]
-pub fn family_name(family: u8) -> &'static str
-    ensures { result.now ≡ family_name family }
-{
-    family_name_in(&FAMILIES, family)
 }
 
 /// Whether a family has one row alone, which needs no index: the limits of the cycle, the ratio, least bands and equal bands.

@@ -38,7 +38,7 @@ pub use cert_writing::{push_claim, push_line, push_tree, write_certificate};
 pub use certificate::{CertNode, Certificate, Claim};
 pub use claim::{Beginning, claim_at};
 pub use divisor_law::law_divisor_rule;
-pub use family::{FAMILIES, FamilyName, family_name, family_name_in, is_lone, is_lone_in};
+pub use family::{FAMILIES, FamilyName, family_name_in, is_lone, is_lone_in};
 pub use fault::{BadText, TextEnd, TextFault};
 pub use laws::{law_first_bad, law_one_text, law_reads_back};
 pub use lines::fixed_at;

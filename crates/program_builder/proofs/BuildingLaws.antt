@@ -2,12 +2,11 @@
 use Rattle.std.specs.Prelude.{◌≡◌, ℕ, length}
 use Rattle.std.proofs.Common.{Result, Ok, Err, IfOk, IfErr, sym, ◌∙◌, ap, subst}
 use Rattle.std.proofs.Math.ListN.{length-set}
-use Rattle.std.proofs.lemmas.List.FromFn.{length-range_with_len}
-use Rattle.simplex_theory.specs.Tableau.{IsShaped, width, exchange}
+use Rattle.simplex_theory.specs.Tableau.{IsShaped, exchange}
 use Rattle.simplex_theory.proofs.Tableau.{height-exchange, width-exchange}
 use Rattle.named_row.specs.Sheets.{Sheet}
 use Rattle.named_row.specs.declared.names.RowId.{RowId}
-use Rattle.fraction_tableau.specs.NamedTableaus.{NamedTableau, IsSpentFrom, row_cells, with_row, with_goal}
+use Rattle.fraction_tableau.specs.NamedTableaus.{NamedTableau, IsSpentFrom, row_cells, with_row}
 use Rattle.program_builder.specs.RowTable.{RowTable}
 use Rattle.program_builder.specs.Loading.{HasRoomFor}
 
@@ -30,7 +29,3 @@ made_pivot table r j s t (Err x) m h k e f = made_spent table s t h k f m
 pub made_row : (table : RowTable) (r : ℕ) (name : RowId) (from : Sheet) (t : NamedTableau) → HasRoomFor table t → HasRoomFor table (with_row r name from t)
 unfolding with_row
 made_row table r name from t m = record { rows = length-set t.table.rows r (row_cells from) ∙ m.rows; columns = m.columns }
-
-pub made_goal : (table : RowTable) (from : Sheet) (t : NamedTableau) → HasRoomFor table t → HasRoomFor table (with_goal from t)
-unfolding with_goal
-made_goal table from t m = record { rows = m.rows; columns = length-range_with_len 0 (width t.table) ∙ m.columns }

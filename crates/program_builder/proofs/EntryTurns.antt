@@ -1,5 +1,5 @@
 -- The search for a row, and one turn more.
-use Rattle.std.proofs.Common.{◌≡◌, ℕ, Bool, true, false, Some, None, List, length, add-one, ◌+◌, ◌<◌, ◌⊎◌, inl, inr, refl, sym, ◌∙◌, ap, arith}
+use Rattle.std.proofs.Common.{◌≡◌, ℕ, true, false, Some, None, List, length, add-one, ◌+◌, ◌<◌, refl, sym, ◌∙◌, ap, arith}
 use Rattle.simplex_theory.specs.Tableau.{Tableau, height}
 use Rattle.narrow_fraction.specs.Attempt.{first_below}
 use Rattle.narrow_fraction.proofs.Attempt.{first_next, first_is}
@@ -8,16 +8,6 @@ use Rattle.entry_theory.specs.Entry.{variable_at, can_take, entry_row, entry_tur
 use Rattle.fraction_tableau.specs.NamedTableaus.{NamedTableau}
 use Rattle.fraction_tableau.specs.declared.wide_cell.WideCell.{WideCell}
 use Rattle.program_builder.specs.EntryRefusals.{refusal_at, turn_refusal, entry_refusal}
-
-pub none_more : (f : ℕ → Bool) (n : ℕ) → ((k : ℕ) → k < n → f k ≡ false) → f n ≡ false → (k : ℕ) → k < n + 1 → f k ≡ false
-none_more f n h e k l = pick (cases k l)
-  where
-    cases : (k : ℕ) → k < n + 1 → (k ≡ n) ⊎ (k < n)
-    cases k l = grind arith
-
-    pick : (k ≡ n) ⊎ (k < n) → f k ≡ false
-    pick (inl q) = ap f q ∙ e
-    pick (inr q) = h k q
 
 pub row_found : (vs : List ℕ) (t : Tableau) (j r : ℕ) → r < height t → ((k : ℕ) → k < r → can_take vs t j k ≡ false) → can_take vs t j r ≡ true → r ≡ entry_row vs t j
 unfolding entry_row

@@ -1,8 +1,8 @@
 -- Lemmas on the definitions of `First`: in every line of boxes the first tableau is what a search needs.
-use Rattle.std.proofs.Common.{◌≡◌, Bool, true, false, sym, ℕ, zero, suc, List, [], ◌∷◌, length, refl, ◌∙◌, ap, arith}
-use Rattle.std.specs.Prelude.{is_none, if◌then◌else◌}
+use Rattle.std.proofs.Common.{◌≡◌, sym, ℕ, zero, suc, List, [], ◌∷◌, length, refl, ◌∙◌, ap, arith}
+use Rattle.std.specs.Prelude.{is_none}
 use Rattle.std.proofs.lemmas.List.{length-map}
-use Rattle.std.proofs.lemmas.Bool.{cond_both, cond-true, cond-false}
+use Rattle.std.proofs.lemmas.Bool.{cond_both}
 use Rattle.progression.specs.Street.{Street}
 use Rattle.artery_model.specs.Valid.{IsValid}
 use Rattle.linear_theory.specs.Boxes.{Area}
@@ -22,8 +22,8 @@ use Rattle.program_builder.proofs.OpeningLaws.{opening_dual, opening_stands, wid
 use Rattle.program_builder.proofs.LoadedTables.{width-loaded}
 use Rattle.fraction_tableau.specs.NamedTableaus.{NamedTableau}
 use Rattle.program_builder.specs.BoxRows.{rows_of}
-use Rattle.program_builder.specs.Building.{IsMadeFor, opened_box}
-use Rattle.program_builder.specs.Entry.{IsBasisOf, entered_box}
+use Rattle.program_builder.specs.Building.{IsMadeFor}
+use Rattle.program_builder.specs.Entry.{IsBasisOf}
 use Rattle.program_builder.proofs.Entry.{ready, entered}
 use Rattle.program_builder.specs.First.{last_of, entry_or_opening, first_of, IsFirstFor}
 
@@ -70,12 +70,6 @@ pub either_first : (a : Street) (box : Area) (vs : List ℕ) → IsValid a → I
 unfolding entry_or_opening
 either_first a box vs v b =
     cond_both (is_none (entry_refusal vs (loaded a box))) (entry vs (loaded a box)) (opening a box) (IsFirstFor a box) (λ e. entry_first a box vs b) (λ e. opening_first a box v)
-
--- what `enter` answers and leaves, together
-pub begins : (a : Street) (box : Area) (vs : List ℕ) (b : Bool) (t : NamedTableau) → b ≡ is_none (entry_refusal vs (loaded a box)) → t ≡ (if b then entered_box a box vs else opened_box a box) → t.table ≡ entry_or_opening a box vs
-unfolding entry_or_opening
-begins a box vs true t e h = ap (λ (s : NamedTableau). s.table) h ∙ sym (cond-true _ _ _ (sym e))
-begins a box vs false t e h = ap (λ (s : NamedTableau). s.table) h ∙ sym (cond-false _ _ _ (sym e))
 
 -- in every line of boxes
 pub first_is : (a : Street) (box : Area) (above : List Area) → IsValid a → IsFirstFor a box (first_of a box above)

@@ -7,8 +7,12 @@ use Rattle.rational_theory.specs.Rows as maths
 use Rattle.progression.specs.Street.{Street, count}
 use Rattle.progression.specs.Speeds.{number}
 use Rattle.linear_theory.specs.Places.{place, width}
-use Rattle.linear_theory.specs.Rows.{Cell, Entry, Form, placed, placed_row, places_of, filled, line}
+use Rattle.linear_theory.specs.Rows.{Cell, Entry, Form, placed, placed_row, places_of, line}
 use Rattle.program_builder.specs.Loading.{cells_of}
+
+-- the entries put into a row of n signals
+abbrev pub filled : ℕ → List ℚ → List Entry → List ℚ
+filled n xs es = placed xs (places_of n es)
 
 abbrev pub AllEntries : (Entry → Type 0) → List Entry → Type 0
 AllEntries P [] = Unit {0}

@@ -1,7 +1,6 @@
 -- What the pivots of a start keep, and that pivots on cells of 1 that don't touch one another's rows leave no goal cell below 0.
-use Rattle.std.proofs.Common.{◌≡◌, ℕ, pos, false, List, [], ◌∷◌, get_or, drop, length, add-one, drop-cons, ◌+◌, ◌<◌, ◌≤◌, ◌⊎◌, inl, inr, refl, sym, ◌∙◌, ap, subst}
+use Rattle.std.proofs.Common.{◌≡◌, ℕ, pos, false, None, List, [], ◌∷◌, ◌<◌, ◌⊎◌, inl, inr, refl, sym, ◌∙◌, ap, subst}
 use Rattle.std.proofs.lemmas.Bool.{cases_eq}
-use Rattle.std.proofs.lemmas.List.{drop_all}
 use Rattle.rational_theory.specs.Rational.{whole, neg_ℚ, ◌+ℚ◌, ◌*ℚ◌, ◌≤ℚ◌}
 use Rattle.rational_theory.proofs.Linear.{linear, sum_not_negative, product_not_negative}
 use Rattle.rational_theory.proofs.Ring.{ring, at, lit, minus, ◌⊕◌, ◌⊗◌}
@@ -13,7 +12,8 @@ use Rattle.simplex_theory.specs.Multipliers.{System, StandsFor}
 use Rattle.simplex_theory.proofs.Multipliers.{stands-exchange}
 use Rattle.simplex_theory.proofs.IdleColumns.{IsIdle, idle-exchange}
 use Rattle.fraction_tableau.specs.NamedTableaus.{NamedTableau}
-use Rattle.program_builder.specs.StartPivots.{after_pivots, AreReady}
+use Rattle.fraction_tableau.specs.Refusals.{pivot_refusal}
+use Rattle.program_builder.specs.StartPivots.{after_pivots}
 use Rattle.program_builder.specs.declared.pivots.StartPivot.{StartPivot}
 use Rattle.program_builder.proofs.UnitPivots.{unit_place, unit_goal_at, unit_goal_other, cell_kept}
 
@@ -89,9 +89,6 @@ module _ (t : Tableau) (s : IsShaped t) (p : StartPivot) (u : IsUnitPivot t p) w
 
   pub unit_is_place : IsPlace t p.row p.column
   unit_is_place = unit_place t p.row p.column u.row u.column u.unit
-
-  shaped_once : IsShaped once
-  shaped_once = shaped-exchange p.row p.column t s u.row
 
   -- a row without a cell in its column stays
   pub kept : (q : StartPivot) (k : ℕ) → q.row < height t → IsApart t p q → cell once q.row k ≡ cell t q.row k
@@ -171,6 +168,11 @@ unit_dual ps t s q us g =
     }
 
 -- ---- one pivot after another
+-- each pivot, in its turn, is at a cell that isn't 0, and none of its operations is refused
+abbrev pub AreReady : List StartPivot → Tableau → Type 0
+AreReady [] t = Unit {0}
+AreReady (p ∷ ps) t = IsPlace t p.row p.column × (pivot_refusal p.row p.column t.rows t.goal ≡ None) × AreReady ps (exchange p.row p.column t)
+
 -- some of the pivots were made, and these are left
 pub record IsOnTheWay (ps : List StartPivot) (s t : NamedTableau) (rest : List StartPivot) : Type 0 where
   pub ready : AreReady rest t.table
@@ -187,13 +189,3 @@ way_next ps s t u p rest w e = subst (λ v. IsOnTheWay ps s v rest) (sym e) (rec
 pub way_ends : (ps : List StartPivot) (s t : NamedTableau) → IsOnTheWay ps s t [] → t ≡ record s { table = after_pivots ps s.table }
 unfolding after_pivots
 way_ends ps s t w = sym w.state
-
--- the next one of those that are left
-next_left : (ps : List StartPivot) (i : ℕ) → i < length ps → drop i ps ≡ get_or ps i (record { row = 0; column = 0 }) ∷ drop (i + 1) ps
-next_left ps i h = rw add-one (drop-cons ps i (record { row = 0; column = 0 }) h)
-
-pub way_at : (ps : List StartPivot) (s t : NamedTableau) (i : ℕ) → i < length ps → IsOnTheWay ps s t (drop i ps) → IsOnTheWay ps s t (get_or ps i (record { row = 0; column = 0 }) ∷ drop (i + 1) ps)
-way_at ps s t i h w = subst (IsOnTheWay ps s t) (next_left ps i h) w
-
-pub way_over : (ps : List StartPivot) (s t : NamedTableau) (i : ℕ) → length ps ≤ i → IsOnTheWay ps s t (drop i ps) → t ≡ record s { table = after_pivots ps s.table }
-way_over ps s t i h w = way_ends ps s t (subst (IsOnTheWay ps s t) (drop_all i ps h) w)

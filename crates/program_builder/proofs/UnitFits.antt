@@ -11,13 +11,12 @@ use Rattle.simplex_theory.proofs.Tableau.{height-exchange, shaped-exchange, goal
 use Rattle.fraction_tableau.specs.Narrow.{IsNarrow}
 use Rattle.fraction_tableau.specs.Refusals.{pivot_refusal}
 use Rattle.narrow_fraction.specs.Fraction.{FitsFrac}
-use Rattle.program_builder.specs.StartPivots.{AreReady}
 use Rattle.program_builder.specs.declared.pivots.StartPivot.{StartPivot}
 use Rattle.program_builder.proofs.CommonParts.{IsParts, parts_up_to, parts_more, parts_neg, parts_times, parts_less_times}
 use Rattle.program_builder.proofs.Narrowing.{up_to_fits}
 use Rattle.program_builder.proofs.UnitPivots.{cleared_kept}
 use Rattle.program_builder.proofs.UnitRefusals.{IsEasy, turned_kept, pivot_none}
-use Rattle.program_builder.proofs.StartPivots.{IsUnitPivot, AreApart, AreUnitPivots, unit_is_place, kept, units_once}
+use Rattle.program_builder.proofs.StartPivots.{AreReady, IsUnitPivot, AreApart, AreUnitPivots, unit_is_place, kept, units_once}
 
 -- The pivots' rows have m parts of e at most, the rows that they touch n of d; and after all steps every number and product of them fits.
 pub record Sizes : Type 0 where

@@ -11,7 +11,7 @@
 //! (`specs/First.antt`), with its law.
 //!
 //! What isn't an artery's alone is made for any table of rows, a `TableRows` (`specs/RowTable.antt`): `make_tableau`, `load`
-//! (`specs/Loading.antt`) and `pivot_all`, the pivots of a start (`specs/StartPivots.antt`). `ArteryTable` is an artery's.
+//! (`specs/Loading.antt`) and `pivot`, one of the pivots of a start (`specs/StartPivots.antt`). `ArteryTable` is an artery's.
 #![tactic(auto)]
 
 mod building;
@@ -27,5 +27,5 @@ mod turning;
 pub use building::{reset, start};
 pub use entering::enter;
 pub use loading::{load, make_tableau};
-pub use pivots::{StartPivot, pivot, pivot_all};
+pub use pivots::{StartPivot, pivot};
 pub use table::{ArteryTable, TableRows};

@@ -3,7 +3,6 @@
 ghost use Rattle.std.specs.Prelude.{◌≡◌, None, false};
 ghost use Rattle.simplex_theory.specs.Tableau.{IsPlace, exchange};
 ghost use Rattle.fraction_tableau.specs.Refusals.{pivot_refusal};
-ghost use Rattle.program_builder.specs.StartPivots.{after_pivots, AreReady};
 
 use fraction_tableau::Tableau;
 
@@ -24,16 +23,5 @@ pub fn pivot(tableau: &mut Tableau, row: u32, col: u32)
     match tableau.pivot(row, col) {
         Ok(()) => {}
         Err(_) => unreachable!(),
-    }
-}
-
-/// Makes pivots one after another, of which none is refused. Takes no memory.
-pub fn pivot_all(tableau: &mut Tableau, pivots: &[StartPivot])
-    requires unspent { tableau.old.spent ≡ false }
-    requires ready { AreReady pivots.now tableau.old.table }
-    ensures { tableau.new ≡ record tableau.old { table = after_pivots pivots.now tableau.old.table } }
-{
-    for next in pivots {
-        pivot(tableau, next.row, next.column);
     }
 }

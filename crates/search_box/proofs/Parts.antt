@@ -28,6 +28,10 @@ parts_of a box (Turn i rank) b p = record {
   lists = shared box (Turn i rank) p;
 }
 
+-- both are boxes of the artery
+pub parts_boxed : (a : Street) (box : Area) (place : At) → IsPlace box place → IsBoxOf a box → IsBoxOf a (low_part box place) × IsBoxOf a (high_part box place)
+parts_boxed a box place p b = let parts = parts_of a box place b p in (parts.low_box, parts.high_box)
+
 -- what a split answers are such parts
 pub split_parts : (r : Result (Option (Area × Area)) Memory) (box : Area) (place : At)
     → IfOk r (λ parts. IfSome parts (λ p. IsPlace box place)) → IfOk r (λ parts. IfSome parts (λ p. p.0 ≡ low_part box place)) → IfOk r (λ parts. IfSome parts (λ p. p.1 ≡ high_part box place))

@@ -19,7 +19,6 @@ use Rattle.branch_and_bound.specs.Lines.{Line, low_line, high_line}
 use Rattle.branch_and_bound.specs.Lineages.{NoEnd, Empty, Reads, Cuts, IsOptimal}
 use Rattle.branch_tree.specs.Ends.{end_point, end_bound, end_leaf, ending_of}
 use Rattle.branch_tree.specs.LeafRows.{sum_of}
-use Rattle.branch_tree.specs.Program as program
 use Rattle.branch_tree.specs.Program.{Splits}
 use Rattle.branch_tree.specs.ArteryProgram.{outcome_of, program_of}
 use Rattle.branch_tree.specs.laws.RunLaws.{end_reached}
@@ -35,11 +34,6 @@ module _ {T : Type 0} where
   only_splits (vertices.Refused wide) place e = cc
   only_splits (vertices.Splits other) place e = let f : other ≡ place = cc in ap vertices.Splits f
   only_splits (vertices.Gives other) place e = cc
-
-  pub only_gives : (o : vertices.Outcome T) (timing : T) → outcome_of o ≡ program.Gives timing → o ≡ vertices.Gives timing
-  only_gives (vertices.Refused wide) timing e = cc
-  only_gives (vertices.Splits place) timing e = cc
-  only_gives (vertices.Gives other) timing e = let f : other ≡ timing = cc in ap vertices.Gives f
 
 -- ---- ends
 module _ (a : Street) (line : Line) (v : IsValid a) where

@@ -32,10 +32,6 @@ module _ {T W : Type 0} where
 
 module _ {T W : Type 0} (p : Program T W) (line : Line) where
   -- ---- from the last tableau and the vertex
-  pub ends_empty : (r : ℕ) → end_move p line ≡ infeasible r → ending_of p line ≡ Empty
-  unfolding ending_of
-  ends_empty r e = ap (ending_by p line) e
-
   pub ends_by_outcome : (o : Outcome T W) → end_move p line ≡ optimal → p.outcome line.area (end_point p line) ≡ o → ending_of p line ≡ ending_by_outcome o
   unfolding ending_of
   ends_by_outcome o e f = ap (ending_by p line) e ∙ ap ending_by_outcome f

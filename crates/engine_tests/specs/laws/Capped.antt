@@ -1,5 +1,5 @@
 -- Lemmas on the definitions of `Capped`.
-use Rattle.std.specs.Prelude.{◌≡◌, length, ◌⊎◌, ℤ, pos, ◌-ℤ◌, ◌≤ℤ◌, ◌<ℤ◌, Bool, true, false, List, [], ◌∷◌}
+use Rattle.std.specs.Prelude.{◌≡◌, ◌⊎◌, ℤ, pos, ◌-ℤ◌, ◌≤ℤ◌, ◌<ℤ◌, Bool, true, false, List, [], ◌∷◌}
 use Rattle.std.proofs.Common.{inl, inr, refl, subst, arith}
 use Rattle.std.proofs.lemmas.Int.{ints}
 use lib.Signed.{lt_z}
@@ -80,12 +80,6 @@ high_falls_of cap (s ∷ t ∷ ss) turns place e = cc
 high_falls_of cap (s ∷ []) turns place e =
     let h = cut_span cap s place (case_of cap s) e in
     subst (λ p. bound_of (high_part (box_of (s ∷ []) turns) p).loops ≤ℚ whole s.most) h.place_is (≤ℚ_refl (whole s.most))
-
--- a part has one link too
-pub one_link : (cap : ℤ) (loops : List Span) (place : At) → ending_of cap loops ≡ Cuts place → length loops ≡ 1
-one_link cap [] place e = cc
-one_link cap (s ∷ t ∷ ss) place e = cc
-one_link cap (s ∷ []) place e = refl
 
 pub some_number : (cap : ℤ) (loops : List Span) → IsOptimal (ending_of cap loops) → HasNone cap loops → ⊥
 some_number cap [] o none = absurd o

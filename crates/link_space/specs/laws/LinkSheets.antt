@@ -16,7 +16,7 @@ use Rattle.link_theory.specs.LinkRows.{LinkForm, link_line, near_form, far_form,
 use Rattle.link_theory.specs.LinkNames.{LinkName, OfLines, NearRow, FarRow, LinkRatioRow, HasLinkRow, link_row}
 use Rattle.link_theory.specs.LinkCounts.{IsGoodLinkPoint}
 use Rattle.link_theory.proofs.NamedLinkRows.{link_row_at_point}
-use Rattle.link_space.specs.LinkSheets.{link_written, link_sheet, IsFilledLinks}
+use Rattle.link_space.specs.LinkSheets.{link_written, link_sheet}
 
 link_written_row : (a : Street) (f : LinkForm) → row_of (link_written a f) ≡ link_line a f
 link_written_row a f = written_cells_row (link_width (count a)) f.cells f.bound
@@ -48,6 +48,3 @@ module _ (a : Street) (box : Area) where
   -- the points of good link timings of the box meet it
   pub link_sheet_met : (x : List ℚ) (n : LinkName) → IsGoodLinkPoint a box x → HasLinkRow a n → IsMet x (row_of (link_sheet a box n))
   link_sheet_met x n p h = subst (λ (r : maths.Row). IsMet x r) (sym (link_sheet_row n)) (link_row_at_point a box x p n h)
-
-  pub link_sheet_filled : (n : LinkName) → HasLinkRow a n → IsFilledLinks a box (link_sheet a box n)
-  link_sheet_filled n h = record { unspent = link_sheet_unspent n; met = λ x p. link_sheet_met x n p h }

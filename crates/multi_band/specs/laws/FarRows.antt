@@ -1,11 +1,8 @@
 -- Where the rows stand in which the halves enter the basis, and their cells: 1 at the link's own half, and 0 at all others.
-use Rattle.std.proofs.Common.{◌≡◌, ◌↔◌, ◌≢◌, ℕ, suc, Bool, true, false, List, [], length, get_or, set, replicate, ◌+◌, ◌-◌, ◌*◌, ◌<◌, ◌≤◌, refl, sym, ◌∙◌, ap, arith, length-append}
+use Rattle.std.proofs.Common.{◌≡◌, ◌↔◌, ℕ, suc, Bool, true, List, [], length, get_or, set, replicate, ◌+◌, ◌-◌, ◌*◌, ◌<◌, ◌≤◌, sym, ◌∙◌, ap, arith}
 use Rattle.std.specs.Bool.{Decides}
-use Rattle.std.specs.Ordering.{eq_by_cmp}
 use Rattle.std.proofs.lemmas.List.{length-set, length-replicate, get_or-set_same}
 use Rattle.rational_theory.specs.Rational.{ℚ}
-use Rattle.rational_theory.specs.Compare.{cmp_ℚ}
-use Rattle.rational_theory.proofs.Compare.{eq_true, eq_false}
 use Rattle.progression.specs.Street.{Street, count, HasLink}
 use Rattle.progression.specs.Speeds.{number}
 use Rattle.progression.specs.Columns.{WaitOf}
@@ -17,32 +14,27 @@ use Rattle.linear_theory.specs.Places.{place}
 use Rattle.named_row.specs.declared.names.RowId.{RowId}
 use Rattle.simplex_theory.specs.Tableau.{line}
 use Rattle.fraction_tableau.specs.NamedTableaus.{name_in}
-use Rattle.program_builder.specs.BoxRows.{names_below, names_through}
+use Rattle.program_builder.specs.BoxRows.{names_through}
 use Rattle.program_builder.specs.Loading.{cells_of}
 use Rattle.program_builder.proofs.FirstRows.{HasUpTo, up_to_from, below_all, stands_behind, length-indices_to, at-indices_to}
 use Rattle.program_builder.proofs.LineCells.{row_each, row_other, cells_at, each_cell}
 use Rattle.program_builder.proofs.LoadedTables.{line-loaded}
-use Rattle.link_theory.specs.declared.ends.End.TheVariants.{Here, Next}
+use Rattle.link_theory.specs.declared.ends.End.TheVariants.{Here}
 use Rattle.link_theory.specs.LinkColumns.{link_width, half_place}
 use Rattle.link_theory.specs.LinkRows.{link_line, far_form}
-use Rattle.link_theory.specs.LinkNames.{NearRow, FarRow, LinkRatioRow, last_link_family}
+use Rattle.link_theory.specs.LinkNames.{FarRow, last_link_family}
 use Rattle.link_space.proofs.LinkRowTests.{link_row_decided}
 use Rattle.multi_band.specs.LinkTables.{is_link_there, names_of_links, link_row_for, link_table, link_loaded}
-use Rattle.multi_band.specs.LinkOpening.{far_family, rows_before, half_pivot}
+use Rattle.multi_band.specs.LinkOpening.{far_family, half_pivot}
 use Rattle.multi_band.specs.laws.LinkTables.{link_row_width}
 
 -- ---- places
 -- an index of a link is between 1 and the number of links
-link_to : (a : Street) (i : ℕ) (b : Bool) → Decides b (HasLink a i) → (b ≡ true) ↔ ((1 ≤ i) × (i ≤ count a - 1))
+pub link_to : (a : Street) (i : ℕ) (b : Bool) → Decides b (HasLink a i) → (b ≡ true) ↔ ((1 ≤ i) × (i ≤ count a - 1))
 link_to a i b d = (λ e. let h = d.0 e in (h.0, let l = h.1 in omega arith), λ h. d.1 (h.0, let l = h.0 in let m = h.1 in omega arith))
 
--- the families from that of a direction's far rows to the one before the ratio's
-abbrev pub families_from : Dir → ℕ
-families_from Outbound = 6
-families_from Inbound = 2
-
 module _ (a : Street) where
-  far_rows : (d : Dir) → HasUpTo (is_link_there a) (far_family d) (count a - 1)
+  pub far_rows : (d : Dir) → HasUpTo (is_link_there a) (far_family d) (count a - 1)
   far_rows Outbound = up_to_from (is_link_there a) 24 (count a - 1) (λ i. link_to a i _ (link_row_decided a (FarRow Outbound Here i)))
   far_rows Inbound = up_to_from (is_link_there a) 28 (count a - 1) (λ i. link_to a i _ (link_row_decided a (FarRow Inbound Here i)))
 
@@ -78,61 +70,7 @@ module _ (a : Street) where
   directions_apart i j h k e =
       let f : 24 ≡ 28 = ap (λ (r : RowId). r.family) (sym (far_named Outbound i h) ∙ ap (name_in (names_of_links a)) e ∙ far_named Inbound j k) in
       absurd (omega (arith, f))
-
   -- ---- how many rows there are from a family on
-  abbrev through : ℕ → ℕ
-  through f = length (names_through (is_link_there a) (suc (count a)) f)
-
-  family_rows : (f k : ℕ) → HasUpTo (is_link_there a) (suc f) k → k ≤ count a → through (suc f) ≡ through f + k
-  unfolding names_through
-  family_rows f k u l =
-      let e = below_all (is_link_there a) (suc f) k (count a) u l in
-      let w = length-indices_to (suc f) k in
-      length-append (names_through (is_link_there a) (suc (count a)) f) (names_below (is_link_there a) (suc f) (suc (count a)))
-      ∙ ap (λ xs. through f + length xs) e ∙ ap (λ n. through f + n) w
-
-  ratio_one_rows : a.head.ratio ≡ number 1 → HasUpTo (is_link_there a) 30 0
-  ratio_one_rows e = up_to_from (is_link_there a) 30 0 (λ i. let d = link_row_decided a (LinkRatioRow i) in (λ b. absurd ((d.0 b).1 e), λ h. absurd (let l = h.0 in let m = h.1 in omega arith)))
-
-  ratio_other_rows : a.head.ratio ≢ number 1 → HasUpTo (is_link_there a) 30 (count a - 1)
-  ratio_other_rows n =
-      up_to_from (is_link_there a) 30 (count a - 1) (λ i. let d = link_row_decided a (LinkRatioRow i) in
-      (λ b. let h = (d.0 b).0 in (h.0, let l = h.1 in omega arith), λ h. d.1 ((h.0, let l = h.0 in let m = h.1 in omega arith), n)))
-
-  ends_from : through 29 ≡ through 23 + 6 * (count a - 1)
-  ends_from =
-      let n = count a - 1 in
-      let b = family_rows 23 n (far_rows Outbound) (omega arith) in
-      let c = family_rows 24 n (up_to_from (is_link_there a) 25 n (λ i. link_to a i _ (link_row_decided a (FarRow Outbound Next i)))) (omega arith) in
-      let d = family_rows 25 n (up_to_from (is_link_there a) 26 n (λ i. link_to a i _ (link_row_decided a (NearRow Inbound Here i)))) (omega arith) in
-      let e = family_rows 26 n (up_to_from (is_link_there a) 27 n (λ i. link_to a i _ (link_row_decided a (NearRow Inbound Next i)))) (omega arith) in
-      let f = family_rows 27 n (far_rows Inbound) (omega arith) in
-      let g = family_rows 28 n (up_to_from (is_link_there a) 29 n (λ i. link_to a i _ (link_row_decided a (FarRow Inbound Next i)))) (omega arith) in
-      omega (arith, b, c, d, e, f, g)
-
-  between : through 27 ≡ through 23 + 4 * (count a - 1)
-  between =
-      let n = count a - 1 in
-      let b = family_rows 23 n (far_rows Outbound) (omega arith) in
-      let c = family_rows 24 n (up_to_from (is_link_there a) 25 n (λ i. link_to a i _ (link_row_decided a (FarRow Outbound Next i)))) (omega arith) in
-      let d = family_rows 25 n (up_to_from (is_link_there a) 26 n (λ i. link_to a i _ (link_row_decided a (NearRow Inbound Here i)))) (omega arith) in
-      let e = family_rows 26 n (up_to_from (is_link_there a) 27 n (λ i. link_to a i _ (link_row_decided a (NearRow Inbound Next i)))) (omega arith) in
-      omega (arith, b, c, d, e)
-
-  -- all rows of links, with those of the ratio
-  all_rows : (k : ℕ) → (a.head.ratio ≡ number 1 → k ≡ 0) → (a.head.ratio ≢ number 1 → k ≡ count a - 1) → length (names_of_links a) ≡ through 29 + k
-  unfolding names_of_links
-  all_rows k f g = pick (eq_by_cmp cmp_ℚ a.head.ratio (number 1)) refl
-    where
-      pick : (b : Bool) → eq_by_cmp cmp_ℚ a.head.ratio (number 1) ≡ b → through 30 ≡ through 29 + k
-      pick true e = let q = eq_true a.head.ratio (number 1) (sym e) in family_rows 29 0 (ratio_one_rows q) (omega arith) ∙ ap (λ n. through 29 + n) (sym (f q))
-      pick false e =
-          let q = eq_false a.head.ratio (number 1) (sym e) in
-          family_rows 29 (count a - 1) (ratio_other_rows q) (omega arith) ∙ ap (λ n. through 29 + n) (sym (g q))
-
-  pub rows_from : (d : Dir) (k : ℕ) → (a.head.ratio ≡ number 1 → k ≡ 0) → (a.head.ratio ≢ number 1 → k ≡ count a - 1) → length (names_of_links a) ≡ rows_before a d + (families_from d * (count a - 1) + k)
-  rows_from Outbound k f g = let e = all_rows k f g in let b = ends_from in omega (arith, e, b)
-  rows_from Inbound k f g = let e = all_rows k f g in let b = ends_from in let c = between in omega (arith, e, b, c)
 
 -- ---- columns
 pub half_low : (a : Street) (d : Dir) (i : ℕ) → HasLink a i → 5 * count a < half_place (count a) d i

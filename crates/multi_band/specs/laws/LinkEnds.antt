@@ -1,11 +1,8 @@
 -- What a tableau of links gives at its end: a point that meets the rows of the table is a vertex of links, and multipliers of the table's rows are multipliers of
 -- rows that the artery has.
-use Rattle.std.proofs.Common.{◌≡◌, ℕ, zero, suc, Bool, true, false, cond, List, [], ◌∷◌, ◌++◌, length, map, get_or, ◌<◌, refl, sym, ap, subst, arith}
-use Rattle.std.specs.Ordering.{eq_by_cmp}
-use Rattle.rational_theory.specs.Rational.{ℚ, ◌+ℚ◌, ◌*ℚ◌, ◌≤ℚ◌}
-use Rattle.rational_theory.specs.Compare.{cmp_ℚ}
-use Rattle.rational_theory.specs.Rows as maths
-use Rattle.rational_theory.specs.Rows.{IsMet, AllNonNegative, add, scale}
+use Rattle.std.proofs.Common.{◌≡◌, ℕ, List, length, get_or, ◌<◌, refl, sym, subst}
+use Rattle.rational_theory.specs.Rational.{ℚ}
+use Rattle.rational_theory.specs.Rows.{IsMet, AllNonNegative}
 use Rattle.progression.specs.Street.{Street, count}
 use Rattle.progression.specs.Speeds.{number}
 use Rattle.progression.specs.Columns.{BandOf}
@@ -15,18 +12,14 @@ use Rattle.linear_theory.specs.Boxes.{Area}
 use Rattle.linear_theory.specs.Places.{value_at}
 use Rattle.linear_theory.specs.Names.{Name, WaitRow, FastRow, SlowRow, RiseRow, DropRow, CycleLowRow, CycleHighRow, RatioRow, LoopLowRow, LoopHighRow, TurnLowRow, TurnHighRow, LeastRow, EqualLowRow, EqualHighRow, NoRow}
 use Rattle.named_row.specs.declared.names.RowId.{RowId}
-use Rattle.named_row.specs.declared.leaves.Weight.{Weight}
 use Rattle.fraction_tableau.specs.NamedTableaus.{name_in}
-use Rattle.dual_leaf.specs.Leaves as leaves
-use Rattle.dual_leaf.specs.Leaves.{multiplier, multipliers_below}
 use Rattle.link_theory.specs.declared.ends.End.TheVariants.{Here, Next}
 use Rattle.link_theory.specs.LinkColumns.{link_width}
 use Rattle.link_theory.specs.LinkNames.{LinkName, NamesNoBand, OfLines, NearRow, FarRow, LinkRatioRow, HasLinkRow, link_row}
-use Rattle.link_theory.specs.LinkTrees.{link_sum, AreLinkWeights}
 use Rattle.link_theory.specs.LinkVertices.{IsLinkVertex}
-use Rattle.link_space.specs.LinkWeights.{link_name_at, link_named}
+use Rattle.link_space.specs.LinkWeights.{link_name_at}
 use Rattle.multi_band.specs.LinkTables.{names_of_links, link_row_for}
-use Rattle.multi_band.specs.laws.LinkTables.{links_there, among_links}
+use Rattle.multi_band.specs.laws.LinkTables.{among_links}
 
 -- ---- names
 -- each row of links has a name with a family's number
@@ -85,33 +78,4 @@ module _ (a : Street) (box : Area) where
       bands : (d : Dir) → value_at (count a) x (BandOf d) ≡ number 0
       bands Outbound = out
       bands Inbound = back
-
-  -- ---- leaves
-  -- the sum reads each name as the box's row
-  pub link_sum_read : (ws : List Weight) → leaves.sum_of (link_row_for a box) ws ≡ link_sum a box (map link_named ws)
-  link_sum_read [] = refl
-  link_sum_read (w ∷ ws) =
-      ap (λ (s : maths.Row). record { coefs = add (scale w.by (link_row_for a box w.row).coefs) s.coefs; bound = w.by *ℚ (link_row_for a box w.row).bound +ℚ s.bound }) (link_sum_read ws)
-
--- the artery has the rows, and no multiplier is negative
-pub link_weights_append : (a : Street) (vs ws : List Weight) → AreLinkWeights a (map link_named vs) → AreLinkWeights a (map link_named ws) → AreLinkWeights a (map link_named (vs ++ ws))
-link_weights_append a [] ws h k = k
-link_weights_append a (v ∷ vs) ws h k = (h.0, h.1, link_weights_append a vs ws h.2 k)
-
-link_weight_there : (a : Street) (row : RowId) (by : ℚ) → HasLinkRow a (link_name_at row) → number 0 ≤ℚ by → AreLinkWeights a (map link_named (multiplier row by))
-link_weight_there a row by h low = pick (eq_by_cmp cmp_ℚ by (number 0))
-  where
-    pick : (b : Bool) → AreLinkWeights a (map link_named (cond b [] (record { row = row; by = by } ∷ [])))
-    pick true = tt
-    pick false = (h, low, tt)
-
-weights_below : (a : Street) (f : ℕ → ℚ) → ((v : ℕ) → number 0 ≤ℚ f v) → (n : ℕ) → ((r : ℕ) → r < n → HasLinkRow a (link_name_at (name_in (names_of_links a) r))) → AreLinkWeights a (map link_named (multipliers_below (names_of_links a) f n))
-unfolding multipliers_below
-weights_below a f low zero h = tt
-weights_below a f low (suc n) h =
-    link_weights_append a (multipliers_below (names_of_links a) f n) (multiplier (name_in (names_of_links a) n) (f n)) (weights_below a f low n (λ r l. h r (omega arith)))
-    (link_weight_there a (name_in (names_of_links a) n) (f n) (h n (omega arith)) (low n))
-
--- of all rows of the table
-pub link_weights_there : (a : Street) (f : ℕ → ℚ) → ((v : ℕ) → number 0 ≤ℚ f v) → AreLinkWeights a (map link_named (multipliers_below (names_of_links a) f (length (names_of_links a))))
-link_weights_there a f low = weights_below a f low (length (names_of_links a)) (links_there a)
+      -- ---- leaves

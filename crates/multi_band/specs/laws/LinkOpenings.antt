@@ -1,5 +1,5 @@
 -- What the opening of links is: it stands for the box's rows and the goal, it is dual feasible for each ratio, and the columns of the artery's two bands are 0 in it.
-use Rattle.std.proofs.Common.{◌≡◌, ℕ, pos, length, ◌-◌, ◌<◌, sym, ◌∙◌, subst, arith}
+use Rattle.std.proofs.Common.{◌≡◌, ℕ, pos, ◌-◌, ◌<◌, sym, ◌∙◌, subst, arith}
 use Rattle.std.proofs.lemmas.Int.{ints}
 use Rattle.rational_theory.specs.Rational.{ℚ, whole, over, ◌≤ℚ◌}
 use Rattle.rational_theory.proofs.Lowest.{over-own}
@@ -16,12 +16,12 @@ use Rattle.simplex_theory.specs.Tableau.{height}
 use Rattle.simplex_theory.specs.DualSteps.{IsDual}
 use Rattle.simplex_theory.proofs.Loaded.{placed-loaded, stands-loaded}
 use Rattle.simplex_theory.specs.RowLists.{HasShape, StandsForRows}
-use Rattle.program_builder.proofs.LoadedTables.{height-loaded, width-loaded, shaped-loaded, is_loaded, shape_loaded}
+use Rattle.program_builder.proofs.LoadedTables.{width-loaded, shaped-loaded, is_loaded, shape_loaded}
 use Rattle.program_builder.proofs.RowKinds.{some_green}
 use Rattle.program_builder.proofs.StartPivots.{AreUnitPivots, ArePlaces, unit_places, unit_dual, height-pivots, width-pivots, stands_pivots}
 use Rattle.link_theory.specs.LinkColumns.{link_width}
 use Rattle.link_theory.specs.LinkRows.{link_goal}
-use Rattle.multi_band.specs.LinkTables.{names_of_links, link_table, link_box_rows, link_loaded}
+use Rattle.multi_band.specs.LinkTables.{link_table, link_box_rows, link_loaded}
 use Rattle.multi_band.specs.LinkOpening.{link_pivots, link_opening}
 use Rattle.multi_band.specs.laws.LinkTables.{links_are_table}
 use Rattle.multi_band.specs.laws.LinkPivots.{halves_units, goal_elsewhere}
@@ -47,10 +47,6 @@ module _ (a : Street) (box : Area) (v : IsValid a) where
   pub width-link_opening : tableau.width (link_opening a box) ≡ link_width (count a)
   unfolding link_opening
   width-link_opening = width-pivots (link_pivots a) (link_loaded a box) ∙ width-loaded (link_table a) box
-
-  pub height-link_opening : height (link_opening a box) ≡ length (names_of_links a)
-  unfolding link_opening
-  height-link_opening = height-pivots (link_pivots a) (link_loaded a box) ∙ height-loaded (link_table a) box
 
   -- for each ratio
   pub link_opening_dual : IsDual (link_opening a box)

@@ -1,23 +1,17 @@
 -- What the recovery of a vertex of links promises: a place lies in the box, and a timing is good and has the vertex's goal as its value.
-use Rattle.std.proofs.Common.{◌≡◌, List, ◌∙◌, ap, subst, arith}
+use Rattle.std.proofs.Common.{◌≡◌, List, arith}
 use Rattle.rational_theory.specs.Rational.{ℚ}
-use Rattle.rational_theory.specs.Rows.{dot}
 use Rattle.progression.specs.Street.{Street}
 use Rattle.linear_theory.specs.Boxes.{Area, IsBoxOf}
 use Rattle.linear_theory.specs.Counts.{IsStreet}
 use Rattle.search_box.specs.declared.span.At.{At}
 use Rattle.search_box.specs.Places.{IsPlace}
-use Rattle.link_theory.specs.LinkPlan.{LinkPlan}
-use Rattle.link_theory.specs.GoodLinks.{GoodLinks}
-use Rattle.link_theory.specs.BestLinks.{link_value}
-use Rattle.link_theory.specs.LinkRows.{link_goal}
 use Rattle.link_theory.specs.LinkVertices.{IsLinkVertex}
 use Rattle.link_theory.proofs.PlainVertices.{vertex_loops, vertex_turns}
-use Rattle.link_theory.proofs.Recovered.{links_good, value_is_goal}
 use Rattle.offset_recovery.specs.Inside.{SplitsInside}
-use Rattle.offset_recovery.specs.Outcomes.{Splits, Gives}
+use Rattle.offset_recovery.specs.Outcomes.{Splits}
 use Rattle.offset_recovery.specs.Recovered.{recovered_by}
-use Rattle.offset_recovery.proofs.Whole.{whole_of, place_within, by_gives, by_splits, only_splits, only_gives}
+use Rattle.offset_recovery.proofs.Whole.{place_within, by_splits, only_splits}
 use Rattle.multi_band.specs.LinkRecovered.{link_number_tests, linked, link_recovered}
 
 module _ (a : Street) (box : Area) (x : List ℚ) (h : IsStreet a) (b : IsBoxOf a box) (v : IsLinkVertex a box x) where
@@ -33,11 +27,3 @@ module _ (a : Street) (box : Area) (x : List ℚ) (h : IsStreet a) (b : IsBoxOf 
   splits_inside place e =
       place_within a box x place link_inside
       (by_splits a box x (link_number_tests a x) place (only_splits (linked a x) (recovered_by a box x (link_number_tests a x)) place e))
-
-  pub gives_good : (t : LinkPlan) → link_recovered a box x ≡ Gives t → GoodLinks a t × (link_value a t ≡ dot (link_goal a) x)
-  unfolding link_recovered
-  gives_good t e =
-      let m = only_gives (linked a x) (recovered_by a box x (link_number_tests a x)) t e in
-      let g = by_gives a box x (link_number_tests a x) m.of m.given in
-      let w = whole_of a box x b g.0 in
-      subst (λ s. GoodLinks a s × (link_value a s ≡ dot (link_goal a) x)) (ap (linked a x) g.1 ∙ m.is) (links_good a box x h v w, value_is_goal a box x h v w)

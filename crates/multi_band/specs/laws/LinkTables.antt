@@ -1,5 +1,5 @@
 -- The rows of links of an artery are a table: their names ascend, and each row and the goal is as wide as the table.
-use Rattle.std.proofs.Common.{◌≡◌, ◌↔◌, ◌^◌, ◌+◌, ◌-◌, ◌*◌, ◌<◌, ◌≤◌, ℕ, suc, Option, None, Some, length, replicate, ◌∙◌, subst, arith, length-append}
+use Rattle.std.proofs.Common.{◌≡◌, ◌↔◌, ◌^◌, ◌+◌, ◌-◌, ◌*◌, ◌<◌, ◌≤◌, ℕ, suc, length, replicate, ◌∙◌, subst, arith, length-append}
 use Rattle.std.proofs.lemmas.List.{length-replicate}
 use Rattle.rational_theory.specs.Rational.{◌*ℚ◌}
 use Rattle.progression.specs.Street.{Street, count}
@@ -10,11 +10,10 @@ use Rattle.linear_theory.specs.Places.{width}
 use Rattle.linear_theory.specs.Rows.{line}
 use Rattle.linear_theory.specs.Names.{form_of}
 use Rattle.linear_theory.proofs.PlacedRows.{placed_width}
-use Rattle.loop_rows.specs.Following as following
 use Rattle.named_row.specs.declared.names.RowId.{RowId}
 use Rattle.fraction_tableau.specs.NamedTableaus.{name_in}
 use Rattle.program_builder.specs.BoxRows.{IsAmong}
-use Rattle.program_builder.specs.RowOrder.{IsAscending, IsNextIn}
+use Rattle.program_builder.specs.RowOrder.{IsAscending}
 use Rattle.program_builder.specs.RowTable.{IsTable}
 use Rattle.program_builder.proofs.LineCells.{line_width}
 use Rattle.program_builder.proofs.RowOrder.{names_ascending, names_there, among_names}
@@ -23,7 +22,7 @@ use Rattle.link_theory.specs.LinkColumns.{link_width}
 use Rattle.link_theory.specs.LinkRows.{near_form, far_form, link_ratio_form, link_goal}
 use Rattle.link_theory.specs.LinkNames.{LinkName, OfLines, NearRow, FarRow, LinkRatioRow, HasLinkRow, link_row, last_link_family}
 use Rattle.link_theory.proofs.LinkFamilies.{link_family_least, link_family_most, link_index_most}
-use Rattle.link_space.specs.LinkWeights.{link_name_at, rows_of_links}
+use Rattle.link_space.specs.LinkWeights.{link_name_at}
 use Rattle.link_space.proofs.LinkRowTests.{link_row_decided}
 use Rattle.multi_band.specs.LinkTables.{is_link_there, names_of_links, link_table}
 
@@ -62,15 +61,6 @@ module _ (a : Street) where
   -- a name is in the list exactly where the artery has its row
   pub among_links_is : (r : RowId) → IsAmong (names_of_links a) r ↔ HasLinkRow a (link_name_at r)
   among_links_is r = (λ m. subst (λ (s : RowId). HasLinkRow a (link_name_at s)) m.is (links_there m.place m.within), λ h. among_links r h)
-
-  -- the artery's next row of links is the list's next name
-  pub next_in_links : (after o : Option RowId) → following.IsNextIn (rows_of_links a) after o → IsNextIn (names_of_links a) after o
-  next_in_links after (Some r) f = record {
-    there = among_links r f.there;
-    above = f.above;
-    first = λ s m. f.first s ((among_links_is s).0 m);
-  }
-  next_in_links after None f = λ s m. f s ((among_links_is s).0 m)
 
   pub links_ascend : IsAscending (names_of_links a)
   unfolding names_of_links

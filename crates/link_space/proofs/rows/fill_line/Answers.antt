@@ -4,7 +4,7 @@ use Rattle.linear_theory.specs.Names.{name_of}
 use Rattle.named_row.specs.Sheets.{Sheet}
 use Rattle.link_theory.specs.LinkNames.{OfLines}
 use Rattle.link_space.specs.LinkSheets.{wide_sheet, IsFilledLinks}
-use Rattle.link_space.specs.laws.LinkSheets.{link_sheet_filled}
+use Rattle.link_space.proofs.FilledRows.{link_sheet_filled}
 use Rattle.link_space.proofs.rows.fill_line.Goals as goal
 
 pub returns-clause-met : goal.returns-clause-met

@@ -6,7 +6,8 @@ use Rattle.simplex_theory.specs.Tableau.{IsPlace, exchange}
 use Rattle.fraction_tableau.specs.Narrow.{AreNarrow}
 use Rattle.fraction_tableau.specs.NamedTableaus.{NamedTableau}
 use Rattle.fraction_tableau.specs.Refusals.{pivot_refusal}
-use Rattle.program_builder.specs.StartPivots.{after_pivots, AreReady}
+use Rattle.program_builder.specs.StartPivots.{after_pivots}
+use Rattle.program_builder.proofs.StartPivots.{AreReady}
 use Rattle.program_builder.specs.declared.pivots.StartPivot.{StartPivot}
 use Rattle.program_builder.proofs.StartPivots.{IsOnTheWay, way_begins, way_next, way_ends}
 use Rattle.multi_band.specs.LinkOpening.{half_pivot, half_pivots, link_pivots, link_opening, loaded_links, opened_links}

@@ -1,7 +1,7 @@
 use Rattle.std.proofs.Common.{◌≡◌, ◌+◌, ◌-◌, ◌*◌, sym, ◌∙◌, ap, arith}
 use Rattle.progression.specs.declared.parts.Dir.TheVariants.{Outbound, Inbound}
 use Rattle.multi_band.specs.LinkOpening.{rows_before}
-use Rattle.multi_band.specs.laws.FarRows.{rows_from}
+use Rattle.multi_band.proofs.FarRows.{rows_from}
 use Rattle.multi_band.proofs.building.far_row.Goals as goal
 
 pub overflow_sub-result : goal.overflow_sub-result

@@ -5,7 +5,8 @@ use Rattle.fraction_tableau.specs.NamedTableaus.{NamedTableau}
 use Rattle.link_theory.specs.LinkRows.{link_goal}
 use Rattle.multi_band.specs.LinkTables.{link_box_rows}
 use Rattle.multi_band.specs.LinkOpening.{IsMadeForLinks}
-use Rattle.multi_band.specs.laws.LinkOpenings.{link_opening_dual, link_opening_stands, width-link_opening, height-link_opening}
+use Rattle.multi_band.specs.laws.LinkOpenings.{link_opening_dual, link_opening_stands, width-link_opening}
+use Rattle.multi_band.proofs.LinkOpenings.{height-link_opening}
 use Rattle.multi_band.proofs.building.reset_links.Goals as goal
 
 pub returns-clause-dual : goal.returns-clause-dual

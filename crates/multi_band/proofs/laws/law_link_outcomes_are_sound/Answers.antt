@@ -1,4 +1,5 @@
-use Rattle.multi_band.specs.laws.LinkRecoveries.{splits_inside, gives_good}
+use Rattle.multi_band.specs.laws.LinkRecoveries.{splits_inside}
+use Rattle.multi_band.proofs.LinkRecoveries.{gives_good}
 use Rattle.multi_band.proofs.laws.law_link_outcomes_are_sound.Goals as goal
 
 pub returns-clause-good : goal.returns-clause-good

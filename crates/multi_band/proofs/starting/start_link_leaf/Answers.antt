@@ -7,7 +7,7 @@ use Rattle.loop_rows.specs.Weights.{fault_of}
 use Rattle.link_theory.specs.LinkTrees.{link_sum, AreLinkWeights, CoversLinks}
 use Rattle.link_space.specs.LinkWeights.{link_named, link_rows}
 use Rattle.multi_band.specs.LinkStarts.{link_start_leaf, link_start_bound}
-use Rattle.multi_band.specs.laws.LinkStarts.{start_links_there, start_links_cover}
+use Rattle.multi_band.proofs.LinkStarts.{start_links_there, start_links_cover}
 use Rattle.multi_band.proofs.LinkStartFits.{start_links_fit}
 use Rattle.multi_band.proofs.starting.start_link_leaf.Goals as goal
 

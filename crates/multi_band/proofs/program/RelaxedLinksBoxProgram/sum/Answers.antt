@@ -6,8 +6,9 @@ use Rattle.loop_rows.specs.Weights.{fault_of, IsFirstFault}
 use Rattle.link_theory.specs.LinkTrees.{AreLinkWeights}
 use Rattle.link_space.specs.LinkWeights.{link_named, link_rows}
 use Rattle.branch_tree.proofs.LeafFaults.{rows_only_wide}
-use Rattle.multi_band.specs.laws.LinkEnds.{link_sum_read}
-use Rattle.multi_band.specs.laws.LinkLeaves.{link_rows_there, link_total_bound}
+use Rattle.multi_band.proofs.LinkEnds.{link_sum_read}
+use Rattle.multi_band.specs.laws.LinkLeaves.{link_total_bound}
+use Rattle.multi_band.proofs.LinkLeaves.{link_rows_there}
 use Rattle.multi_band.specs.laws.LinkLines.{link_end_weights}
 use Rattle.multi_band.proofs.program.RelaxedLinksBoxProgram.sum.Goals as goal
 

@@ -1,4 +1,4 @@
-use Rattle.multi_band.specs.laws.LinkTables.{next_in_links}
+use Rattle.multi_band.proofs.LinkTables.{next_in_links}
 use Rattle.multi_band.proofs.table.LinkBandsTableTableRows.next.Goals as goal
 
 pub returns : goal.returns

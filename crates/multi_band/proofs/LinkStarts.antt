@@ -30,11 +30,9 @@ use Rattle.program_builder.proofs.LineCells.{row_each}
 use Rattle.multi_band.specs.LinkTables.{link_row_for}
 use Rattle.multi_band.specs.LinkStarts.{far_weight, far_weights, twice_ratio, inbound_weights, link_start_leaf, link_start_bound}
 use Rattle.multi_band.specs.laws.FarRows.{far_at}
-use Rattle.multi_band.specs.laws.LinkEnds.{link_weights_append}
+use Rattle.multi_band.proofs.LinkEnds.{link_weights_append}
 use Rattle.multi_band.specs.laws.LinkPivots.{one_low, two_low, ratio_not_negative}
 
--- ---- sums of rows
--- a list of rows with a number of at least 0 in a column, each of them with a multiplier of at least 0
 module _ (a : Street) (box : Area) where
   abbrev weighted : List Weight → ℕ → ℚ
   weighted ws j = coef (link_sum a box (map link_named ws)).coefs j
@@ -76,7 +74,6 @@ module _ (a : Street) (box : Area) where
   low_append j [] ws g h = h
   low_append j (v ∷ vs) ws g h = (g.0, g.1, low_append j vs ws g.2 h)
 
-  -- ---- the far rows
   module _ (v : IsValid a) where
     far_number : (d : Dir) (by : ℚ) (i j : ℕ) → number_in (far_weight d by i) j ≡ coef (link_line a (far_form a d Here i)).coefs j
     far_number Outbound by i j = refl

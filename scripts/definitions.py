@@ -1,0 +1,276 @@
+"""Reads the sources of all crates into definitions with the names that each of them uses. `believe` and `unused` go by it."""
+import glob
+import os
+import re
+
+TOP = os.path.dirname(os.path.dirname(os.path.abspath(__file__)))
+CRATES = os.path.join(TOP, "crates")
+
+USE = re.compile(r"^\s*((?:pub )?)(?:ghost )?use (Rattle\.[^\s{;]+?)(?:\.\{(.*)\})?(?: as ([^\s;]+))?;?\s*$")
+WORD = re.compile(r"[^\s(){}\[\];,.]+")
+MARKS = r"(?:abbrev |unfoldable |opaque |pub )*"
+KIND = re.compile(rf"^{MARKS}(data|record|ruleset) {MARKS}([^\s:(){{}}]+)")
+SIGNED = re.compile(rf"^{MARKS}([^\s:(){{}}]+)(?: \{{[^}}]*\}})* ?:(?:\s|$)")
+OUTSIDE = ("use ", "pub use ", "infix", "open ", "syntax", "pub mod ", "mod ")
+# Files in which the goals of one function are answered, by names that the kit makes.
+ANSWERS = {"Answers", "Invariants", "Proof"}
+
+
+def without_comments(text):
+    return re.sub(r"--.*|//.*", "", text)
+
+
+def indent(line):
+    return len(line) - len(line.lstrip())
+
+
+def plain(text):
+    """A definition without comments, projections of fields, and the names of fields."""
+    text = without_comments(text)
+    text = re.sub(r"(?<=[\w)}\]'])\.[a-zA-Z_][\w']*(?:\.[a-zA-Z_][\w']*)*", " ", text)
+    text = re.sub(r"([{;]\s*)([^\s=;{}]+) = ", r"\1 ", text)
+    if text.lstrip().startswith(("record", "pub record")):
+        text = re.sub(r"(?m)^(\s+(?:pub )?)([^\s:]+) : ", r"\1 : ", text)
+    return text
+
+
+def names_it(name, words, text):
+    """Whether the text names it: an operator by all its parts."""
+    if "◌" in name:
+        parts = [part for part in name.split("◌") if part]
+        return name in words or bool(parts) and all(part in words for part in parts)
+    return name in words if WORD.fullmatch(name) else name in text
+
+
+def comment_before(text, at):
+    """The comment lines right above a place of a source."""
+    above = re.search(r"((?:^[ \t]*(?://|#\[).*\n)+)\Z", text[:at], re.M)
+    return "\n".join(line for line in (above.group(1).split("\n") if above else []) if line.startswith("//"))
+
+
+class Definition:
+    """A definition or a plain type as it stands, with the comment above it; `around` are the heads of the modules that it stands in."""
+
+    def __init__(self, module, name, names, comment, text, around, path, kind):
+        self.module, self.name, self.names, self.comment, self.text = module, name, names, comment, text
+        self.around, self.path, self.kind = around, path, kind
+
+    @property
+    def crate(self):
+        return self.module.split(".")[1]
+
+    def lines(self):
+        return sum(1 for line in without_comments(self.text).split("\n") if line.strip())
+
+    def place(self):
+        return os.path.relpath(self.path, CRATES)
+
+
+class File:
+    """The imports of a file, its definitions, and its first lines, which say what it defines."""
+
+    def __init__(self, module, path):
+        self.module, self.path = module, path
+        self.imports, self.aliases, self.handed_on, self.definitions = {}, {}, {}, []
+        self.said = ""
+
+    def note_import(self, line):
+        found = USE.match(line)
+        if not found:
+            return
+        is_public, module, names, alias = found.groups()
+        if names is None:
+            self.aliases[alias or module.split(".")[-1]] = module
+            owner, _, name = module.rpartition(".")
+            self.imports.setdefault(alias or name, (owner, name))
+            return
+        for name in (part.strip() for part in names.split(",")):
+            if name:
+                there, _, here = name.partition(" as ")
+                self.imports[here or there] = (module, there)
+                if is_public:
+                    self.handed_on[here or there] = (module, there)
+
+
+class Book:
+    """All definitions of specs/ and proofs/, the plain types of src/, and what each file imports."""
+
+    def __init__(self, folders=("specs",)):
+        self.files, self.definitions, self.types = {}, {}, {}
+        for folder in folders:
+            for path in sorted(glob.glob(f"{CRATES}/*/{folder}/**/*.antt", recursive=True)):
+                self.read_definitions(path, folder)
+        for path in sorted(glob.glob(f"{CRATES}/*/src/**/*.rt", recursive=True)):
+            self.read_types(path)
+
+    def add(self, definition):
+        self.files[definition.module].definitions.append(definition)
+        for name in definition.names:
+            self.definitions[(definition.module, name)] = definition
+
+    def read_definitions(self, path, folder):
+        crate, _, rest = os.path.relpath(path, CRATES).partition(f"/{folder}/")
+        module = f"Rattle.{crate}.{folder}." + os.path.splitext(rest)[0].replace("/", ".")
+        file = self.files[module] = File(module, path)
+        lines = open(path, encoding="utf-8").read().split("\n")
+        for line in lines:
+            file.note_import(line)
+        said = []
+        for line in lines:
+            if not line.startswith("--"):
+                break
+            said.append(line)
+        file.said = "\n".join(said)
+        self.read_block(file, lines[len(said):], 0, [])
+
+    def read_block(self, file, lines, depth, around):
+        """The definitions that begin at this depth; those of a module within it by the same way, with its head."""
+        block, names, kind, comment, above = [], [], None, [], []
+        at = 0
+
+        def close():
+            nonlocal block, names
+            if names:
+                while block and not block[-1].strip():
+                    block.pop()
+                text = "\n".join(line[depth:] for line in block)
+                self.add(Definition(file.module, names[0], names, "\n".join(comment), text, "\n".join(around), file.path, kind))
+            block, names = [], []
+
+        while at < len(lines):
+            line = lines[at]
+            here = line[depth:] if line[:depth].strip() == "" else line
+            at += 1
+            if not line.strip():
+                above = []
+                if names:
+                    block.append(line)
+                continue
+            if here.startswith("--"):
+                above = [] if here.startswith("-- ----") else above + [here]
+                continue
+            if here[0] in " )}]":
+                if names:
+                    block.append(line)
+                    inner = re.match(rf"^\s+{MARKS}([^\s:(){{}}]+)\s*:\s", here)
+                    if inner and kind == "data":
+                        names.append(inner.group(1))
+                continue
+            if here.startswith(("module ", "abbrev module ", "mutual")):
+                close()
+                head = [here]
+                while not re.search(r"\bwhere\s*$", head[-1]) and not here.startswith("mutual"):
+                    head.append(lines[at])
+                    at += 1
+                deeper = next((indent(each) for each in lines[at:] if each.strip()), 0)
+                inner = []
+                while at < len(lines) and (not lines[at].strip() or indent(lines[at]) >= max(deeper, depth + 1)):
+                    inner.append(lines[at])
+                    at += 1
+                self.read_block(file, inner, deeper, around + head)
+                above = []
+                continue
+            if here.startswith(OUTSIDE):
+                close()
+                above = []
+                continue
+            begun = KIND.match(here)
+            signed = None if begun else SIGNED.match(here)
+            if begun or signed:
+                close()
+                kind, name = (begun.group(1), begun.group(2)) if begun else ("", signed.group(1))
+                block, names, comment = [line], [name], above
+            elif names:
+                block.append(line)
+            above = []
+        close()
+
+    def read_types(self, path):
+        crate, _, rest = os.path.relpath(path, CRATES).partition("/src/")
+        text = open(path, encoding="utf-8").read()
+        source = f"Rattle.{crate}.src." + os.path.splitext(rest)[0].replace("/", ".")
+        file = self.files[source] = File(source, path)
+        for line in text.split("\n"):
+            file.note_import(line.strip())
+        for line in re.findall(r"(?ms)^(?:pub )?use ([^;]+);", text):
+            root = line.split("::")[0].strip()
+            for used in re.findall(r"\b[A-Z]\w*", line):
+                file.imports.setdefault(used, ("type", (crate if root in ("crate", "super", "self") else root, used)))
+        found = list(re.finditer(r"(?ms)^(?:pub(?:\([a-z]+\))? )?(struct|enum|trait) (\w+)[^;{]*(?:;|\{[^\n]*\}$|\{.*?^\})", text))
+        for each in found:
+            file.imports[each.group(2)] = ("type", (crate, each.group(2)))
+        for each in found:
+            self.add_type(file, crate, os.path.splitext(rest)[0].replace("/", "."), text, each)
+        run = re.search(r"(?ms)^pub fn run<.*?^\{", text) if crate == "maxband_run" else None
+        if run:
+            self.add(Definition(source, "run", ["run"], comment_before(text, run.start()), run.group(0).rstrip("{\n"), "", path, "call"))
+
+    def add_type(self, file, crate, place, text, found):
+        """A plain type with what it is in contracts, or a trait with its clauses."""
+        name = found.group(2)
+        module = f"Rattle.{crate}.specs.declared.{place}.{name}"
+        model = re.search(r"(?ms)^impl(?:<[^>]*>)? Model for " + name + r"\b.*?^\}", text)
+        body = found.group(0) + ("\n\n" + model.group(0) if model else "")
+        body = re.sub(r"(?m)^\s*ghost use .*\n", "", body)
+        own = self.files[module] = File(module, file.path)
+        own.imports, own.aliases = file.imports, file.aliases
+        self.types.setdefault(name, {})[crate] = module
+        self.add(Definition(module, name, [name], comment_before(text, found.start()), body, "", file.path, "type"))
+
+    def find(self, module, name):
+        """The definition that an import means, through files that hand it on."""
+        if module == "type":
+            crate, used = name
+            there = self.types.get(used, {})
+            return self.definitions.get((there.get(crate) or next(iter(there.values()), ""), used))
+        if (module, name) in self.definitions:
+            return self.definitions[(module, name)]
+        if module in self.files and name in self.files[module].handed_on:
+            return self.find(*self.files[module].handed_on[name])
+        if ".specs.declared." in module and module.count(".") > 4:
+            owner, _, last = module.rpartition(".")
+            return self.definitions.get((module, last)) or self.find(owner, last)
+        return None
+
+    def is_here(self, module):
+        """Whether the module should stand in this repository: what no definition is found of is then an error."""
+        parts = module.split(".")
+        return len(parts) > 2 and os.path.isdir(os.path.join(CRATES, parts[1])) and parts[2] in ("specs", "proofs")
+
+    def named_in(self, module, text, missing=None):
+        """The definitions that a text of this file names. An imported name of this repository that isn't found is missing."""
+        file = self.files[module]
+        bare = plain(text)
+        words = set(WORD.findall(bare))
+        if file.path.endswith(".rt"):
+            words |= set(re.findall(r"\w+", bare))
+        found = [each for each in file.definitions if any(names_it(name, words, bare) for name in each.names)]
+        wanted = [target for name, target in file.imports.items() if names_it(name, words, bare)]
+        for alias, where in file.aliases.items():
+            used = re.findall(r"(?<![\w.])" + re.escape(alias) + r"\.([^\s(){}\[\];,.]+)", text)
+            wanted += [(where, name) for name in used]
+        for where, name in re.findall(r"(Rattle(?:\.\w+)+)\.([^\s(){}\[\];,.]+)", text):
+            wanted.append((where, name))
+        for where, name in wanted:
+            definition = self.find(where, name)
+            if definition:
+                found.append(definition)
+            elif missing is not None and self.is_here(where) and not self.is_module(where, name):
+                missing.add((module, f"{where}.{name}"))
+        return found
+
+    def is_module(self, module, name):
+        return f"{module}.{name}" in self.files or name == "TheVariants"
+
+    def reached(self, start, missing=None, stops=lambda definition: False):
+        """What the definitions use, short of where it stops."""
+        seen, waiting = {}, list(start)
+        while waiting:
+            definition = waiting.pop(0)
+            if id(definition) not in seen and not stops(definition):
+                seen[id(definition)] = definition
+                waiting += self.used_by(definition, missing)
+        return list(seen.values())
+
+    def used_by(self, definition, missing=None):
+        return self.named_in(definition.module, definition.around + "\n" + definition.text, missing)
