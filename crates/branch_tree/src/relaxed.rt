@@ -32,6 +32,8 @@ pub fn make_room(alloc: Global, artery: &Artery) -> Result<Room, Memory>
 {
     // its contract says that the artery is valid
     artery.known_valid();
+    // its contract says that the root box is one of the artery's
+    let _area = SearchBox::root(alloc, artery)?;
     let tableau = make_tableau(alloc, &ArteryTable { artery })?;
     let row = Row::zero(alloc, column_count(artery))?;
     Ok(Room { tableau, row })

@@ -38,6 +38,8 @@ pub fn make_link_room(alloc: Global, artery: &Artery) -> Result<LinkRoom, Memory
 {
     // its contract says that the artery is valid
     artery.known_valid();
+    // its contract says that the root box is one of the artery's
+    let _area = SearchBox::root(alloc, artery)?;
     let tableau = make_tableau(alloc, &LinkBandsTable { artery })?;
     let spare = Row::zero(alloc, column_count(artery))?;
     let row = Row::zero(alloc, link_column_count(artery))?;
