@@ -1,6 +1,6 @@
 -- Rows that are made of their cells and a bound.
 use Rattle.std.proofs.Common.{◌^◌, ◌≡◌, ℕ, zero, suc, pos, List, [], ◌∷◌, Option, Some, None, length, take, eqb, ◌+◌, ◌<◌, ◌≤◌, ◌⊎◌, inl, inr, sym, ◌∙◌, ap, subst, arith}
-use Rattle.std.specs.Prelude.{IfSome, SomeIff}
+use Rattle.std.specs.Prelude.{SomeIff}
 use Rattle.std.proofs.lemmas.List.{get_or_past}
 use Rattle.std.proofs.lemmas.Bool.{cond_both}
 use Rattle.rational_theory.specs.Rational.{ℚ, whole}
@@ -48,11 +48,6 @@ row_over d b w cs bound p h q k = pick (sides k w)
     pick (inl l) = subst (IsOver d b) (sym (dense_cell w cs bound k l)) (cells_over d b cs k p h)
     pick (inr l) = last (more k w l)
 
--- a scale that was found
-pub has_scale : (o : Option Scale) (row : List ℚ) → IfSome o (λ s. IsScaled s row) → HasScale o row
-has_scale None row h = tt
-has_scale (Some s) row h = h
-
 -- a scale of the first cells and the bound is one of the row
 pub scale_made : (s : Scale) (w count : ℕ) (cells : List Kept) (bound : ℚ) → 0 < s.denominator → s.denominator ≤ s.most → s.most < 2 ^ 42 → IsOver s.denominator s.most bound → ((i : ℕ) → i < count → IsOver s.denominator s.most (cell_at cells i))
     → IsScaled s (dense_row w (take count cells) bound)
@@ -85,5 +80,3 @@ over_fit d b x p l h o =
 pub over_fits : (d b : ℕ) (row : List ℚ) → 0 < d → d ≤ b → b < 2 ^ 62 → ((k : ℕ) → IsOver d b (number_in row k)) → IsNarrow row
 over_fits d b row p l h n = record { fits = λ k. over_fit d b (number_in row k) p l h (n k) }
 
-pub over_more : (d b m : ℕ) (x : ℚ) → b ≤ m → IsOver d b x → IsOver d m x
-over_more d b m x h o = record { same = o.same; size = omega (arith, o.size, h) }

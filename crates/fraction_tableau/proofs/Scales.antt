@@ -18,7 +18,7 @@ use Rattle.narrow_fraction.specs.Numerators.{IsNumerator}
 use Rattle.simplex_theory.specs.Lines.{cleared}
 use Rattle.simplex_theory.proofs.Lines.{cleared_at, cleared_other}
 use Rattle.fraction_tableau.specs.KeptCells.{number_in, kept_at, kept_below}
-use Rattle.fraction_tableau.specs.Scales.{numerator, IsOver, IsScaled, IsRescaled, CanRescale, factor_of, IsJoining, IsJoined}
+use Rattle.fraction_tableau.specs.Scales.{numerator, IsOver, IsScaled, IsRescaled, factor_of, IsJoining, IsJoined}
 use Rattle.fraction_tableau.specs.declared.kept.Kept.{Kept}
 use Rattle.fraction_tableau.proofs.Fitting.{fits_i64}
 use Rattle.fraction_tableau.proofs.KeptCells.{at_most_one, kept_more}
@@ -184,28 +184,11 @@ rescaled_times r x i = let l : 1 ≤ r.from = i.above in let p = mul-le-mul_righ
 pub rescaled_size : (r : Rescaling) (x : ℚ) → IsRescaled r x → unsigned_abs (numerator r.from x) < 2 ^ 62
 rescaled_size r x i = let l : 1 ≤ r.times = i.times in let p = mul-le-mul_right (unsigned_abs (numerator r.from x)) l in omega (arith, p, i.size)
 
--- what rescaling asks, of each number of the row
-pub rescales : (j : Joining) (d : List ℚ) → IsJoining j → IsScaled j.row d → (k : ℕ) → CanRescale j.rescaling (number_in d k)
-rescales j d i p k n =
-    let o = p.numbers k in
-    let s = mul-le-mul_right j.rescaling.times o.size in
-    let l = to_least j i in
-    record {
-      above = rw i.from i.above;
-      times = i.times;
-      to = i.to ∙ ap (λ t. t * j.rescaling.times) (sym i.from);
-      short = omega (arith, l, i.short);
-      same = rw i.from o.same;
-      size = rw i.from (omega (arith, s, i.most, i.short));
-    }
-
 pub first_above : (m g e : ℕ) → m * g ≡ e → 0 < e → 0 < m
 first_above zero g e h k = absurd (omega (arith, h, k))
 first_above (suc m) g e h k = omega arith
 
 -- ---- the walk over the turned row's cells
-pub joined_none : (target d : List ℚ) (cells : List Kept) → IsJoined target d cells (record { below = 0; taken = 0; made = 0 })
-joined_none target d cells = record { inside = omega arith; taken = refl; made = omega arith; joined = refl }
 
 pub joined_next : (target d : List ℚ) (now new : List Kept) (taken made put : ℕ) (k : Kept) → length new ≡ length now → k.place < length now → taken ≡ length (kept_below (number_in d) (k.place + 1)) → made ≤ k.place
     → take made now ≡ kept_below (number_in target) k.place → k.cell ≡ number_in target k.place → put ≡ made + length (kept_at k.place k.cell) → take put new ≡ take made now ++ kept_at k.place k.cell

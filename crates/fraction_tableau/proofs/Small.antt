@@ -12,7 +12,6 @@ use Rattle.narrow_fraction.specs.Attempt.{earlier, first_below}
 use Rattle.narrow_fraction.specs.Fraction.{FitsFrac}
 use Rattle.narrow_fraction.specs.Past128.{SumFits}
 use Rattle.narrow_fraction.specs.declared.wide.Op.TheVariants.{Mul, Div, Sub}
-use Rattle.fraction_tableau.specs.Narrow.{IsNarrow}
 use Rattle.fraction_tableau.specs.Refusals.{refused, turn_at, clear_at, turn_refusal, clear_refusal}
 use Rattle.fraction_tableau.specs.Scales.{IsScaled}
 use Rattle.fraction_tableau.specs.declared.scale.Scale.{Scale}
@@ -119,9 +118,6 @@ clear_free i j e d p h g s n =
     (refused_none Mul (get_or d j (whole (pos 0))) (get_or e k (whole (pos 0))) i k (product_fits _ _ (g.small j) (h.small k)))
     (refused_none Sub (get_or d k (whole (pos 0))) (get_or d j (whole (pos 0)) *ℚ get_or e k (whole (pos 0))) i k (difference_fits _ _ _ (g.small k) (g.small j) (h.small k))))))
     (quotient_free (get_or d j (whole (pos 0))) p i j n (g.small j) s)
-
-pub small_narrow : (c : List ℚ) → AreSmall c → IsNarrow c
-small_narrow c h = record { fits = λ k. let s = h.small k in let a = s.num_small in let b = s.den_small in record { num_fits = omega arith; den_fits = omega arith } }
 
 inverse_twice : (x : ℚ) → (x ≡ whole (pos 0) → ⊥) → inverse_ℚ (inverse_ℚ x) ≡ x
 inverse_twice x n =

@@ -270,9 +270,6 @@ as_wide a t s valid best good = subst (λ v. v ≤ℚ link_value a t) (sym (spre
 abbrev pub only : LinkPlan → Plan
 only t = moved (lines t) (neg_ℤ (pos (half t Outbound 1))) (neg_ℤ (pos (half t Inbound 1))) (half t Outbound 1 * 2) (half t Inbound 1 * 2)
 
-earlier : (x y : ℤ) (h : ℕ) → x ≡ y +ℤ neg_ℤ (pos h) → y -ℤ pos h ≡ x
-earlier x y h e = sym e
-
 one_item : (xs : List ℕ) → length xs ≡ 1 → sum xs ≡ get_or xs 0 0
 one_item [] e = absurd (omega (arith, e))
 one_item (x ∷ []) e = omega arith

@@ -1,6 +1,5 @@
 -- Euclid's steps on two fractions.
-use Rattle.std.proofs.Common.{◌≡◌, ℕ, suc, ℤ, pos, negsuc, neg_ℤ, ◌*ℤ◌, ◌<ℤ◌, ◌+◌, ◌*◌, ◌/◌, ◌%◌, ◌<◌, ◌≤◌, ◌⊎◌, inl, inr, true, false, true≢false, unsigned_abs, sym, ◌∙◌, ap, arith, mul-lt-mul_of_pos_right, mul-le-mul_right, mul-pos, mul-zero, mod-lt, div-add-mod', zero-lt-suc, Ordering, Less, Equal, Greater}
-use Rattle.std.specs.Prelude.{int_lt}
+use Rattle.std.proofs.Common.{◌≡◌, ℕ, ℤ, pos, ◌*ℤ◌, ◌<ℤ◌, ◌+◌, ◌*◌, ◌/◌, ◌%◌, ◌<◌, ◌≤◌, ◌⊎◌, inl, inr, sym, ◌∙◌, ap, arith, mul-lt-mul_of_pos_right, mul-le-mul_right, mul-pos, mul-zero, mod-lt, div-add-mod', Ordering, Less, Equal, Greater}
 use Rattle.std.specs.Ordering.{MatchOrdering}
 use Rattle.std.proofs.lemmas.Int.{ints}
 use Rattle.rational_theory.specs.Rational.{ℚ, ◌<ℚ◌, over}
@@ -53,24 +52,6 @@ pub rest_rank : (o : Ordering) (a b c d : ℕ) → 0 < b → 0 < d → a / b ≡
 rest_rank o a b c d p q e z m = step_rank o a b c d e (rest_of o b d (a % b) (c % d) p q z m)
 
 -- ---- at rational numbers
-pub rank_positive : (o : Ordering) (x y : ℤ) (b d : ℕ) → int_lt x (pos 0) ≡ false → int_lt y (pos 0) ≡ false
-    → MatchOrdering o (unsigned_abs x * d < unsigned_abs y * b) (unsigned_abs x * d ≡ unsigned_abs y * b) (unsigned_abs y * b < unsigned_abs x * d)
-    → MatchOrdering o ((x *ℤ pos d) <ℤ (y *ℤ pos b)) (x *ℤ pos d ≡ y *ℤ pos b) ((y *ℤ pos b) <ℤ (x *ℤ pos d))
-rank_positive o (pos a) (pos c) b d p q m = order_map o (λ h. omega (arith, ints)) (λ h. ap pos h) (λ h. omega (arith, ints)) m
-rank_positive o (pos a) (negsuc c) b d p q m = absurd (true≢false q)
-rank_positive o (negsuc a) y b d p q m = absurd (true≢false p)
-
-pub rank_negative : (o : Ordering) (x y : ℤ) (b d : ℕ) → int_lt x (pos 0) ≡ true → int_lt y (pos 0) ≡ true
-    → MatchOrdering o (unsigned_abs y * b < unsigned_abs x * d) (unsigned_abs y * b ≡ unsigned_abs x * d) (unsigned_abs x * d < unsigned_abs y * b)
-    → MatchOrdering o ((x *ℤ pos d) <ℤ (y *ℤ pos b)) (x *ℤ pos d ≡ y *ℤ pos b) ((y *ℤ pos b) <ℤ (x *ℤ pos d))
-rank_negative o (negsuc a) (negsuc c) b d p q m = order_map o (λ h. omega (arith, ints)) (λ h. ap (λ n. neg_ℤ (pos n)) (sym h)) (λ h. omega (arith, ints)) m
-rank_negative o (pos a) y b d p q m = absurd (omega (arith, ints))
-rank_negative o (negsuc a) (pos c) b d p q m = absurd (omega (arith, ints))
-
-pub rank_apart : (x y : ℤ) (b d : ℕ) → 0 < d → int_lt x (pos 0) ≡ true → int_lt y (pos 0) ≡ false → (x *ℤ pos d) <ℤ (y *ℤ pos b)
-rank_apart (pos a) y b d p q r = absurd (omega (arith, ints))
-rank_apart (negsuc a) (pos c) b d p q r = let t : 0 < suc a * d = mul-pos (zero-lt-suc a) p in omega (arith, ints)
-rank_apart (negsuc a) (negsuc c) b d p q r = absurd (true≢false r)
 
 pub rank_ℚ : (o : Ordering) (x y : ℚ) → MatchOrdering o ((x.num *ℤ pos y.den) <ℤ (y.num *ℤ pos x.den)) (x.num *ℤ pos y.den ≡ y.num *ℤ pos x.den) ((y.num *ℤ pos x.den) <ℤ (x.num *ℤ pos y.den))
     → MatchOrdering o (x <ℚ y) (x ≡ y) (y <ℚ x)
