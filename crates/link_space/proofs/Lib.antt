@@ -5,6 +5,7 @@ pub mod LinkRulesOut
 pub mod LinkOnlyFirst
 pub mod LinkValues
 pub mod FinerLinkGrids
+pub mod AsWide
 pub mod Copies
 pub mod LinkRowTests
 pub mod LinkGoalSheets

@@ -10,7 +10,6 @@ use Rattle.linear_theory.specs.Places.{width}
 use Rattle.named_row.specs.Sheets.{Sheet, blank, with_place}
 use Rattle.named_row.specs.declared.names.Place.TheVariants.{Cell}
 use Rattle.link_theory.specs.LinkColumns.{link_width, half_place}
-use Rattle.link_theory.specs.LinkRows.{link_goal}
 use Rattle.link_space.specs.LinkSheets.{with_run, link_goal_sheet}
 
 -- ---- numbers

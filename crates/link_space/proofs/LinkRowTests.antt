@@ -1,5 +1,5 @@
 -- Lemmas on the definitions of `LinkRowTests` and `LinkWeights`.
-use Rattle.std.proofs.Common.{◌≡◌, ◌≤◌, ◌≢◌, ℕ, not, ◌&&◌, List, length, None, refl, sym, ap, ◌∙◌, map, arith, true≢false, true, false, Bool}
+use Rattle.std.proofs.Common.{◌≡◌, ◌≤◌, ℕ, not, List, None, refl, sym, map, true≢false, Bool}
 use Rattle.std.specs.Prelude.{nat_le, nat_lt}
 use Rattle.std.specs.Bool.{Decides}
 use Rattle.std.proofs.lemmas.Bool.{leb-true, le-leb}

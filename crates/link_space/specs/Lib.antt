@@ -3,6 +3,7 @@ pub mod LinkGreens
 pub mod LinkFailing
 pub mod FirstLinkFailing
 pub mod FinerLinks
+pub mod LinksAsWide
 pub mod LinkSheets
 pub mod LinkRowTests
 pub mod LinkWeights

@@ -1,11 +1,9 @@
 -- The rows of links as a source of rows, for the sums that leaves name.
-use Rattle.std.specs.Prelude.{ℕ}
-use Rattle.rational_theory.specs.Rational.{ℚ}
 use Rattle.progression.specs.Street.{Street, count}
 use Rattle.linear_theory.specs.Boxes.{Area}
 use Rattle.named_row.specs.declared.names.RowId.{RowId}
 use Rattle.named_row.specs.declared.leaves.Weight.{Weight}
-use Rattle.loop_rows.specs.Following.{Rows, IsNextIn}
+use Rattle.loop_rows.specs.Following.{Rows}
 use Rattle.loop_rows.specs.Weights.{Source, with_name}
 use Rattle.link_theory.specs.LinkColumns.{link_width}
 use Rattle.link_theory.specs.LinkNames.{LinkName, HasLinkRow, link_name_of}

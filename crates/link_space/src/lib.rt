@@ -28,7 +28,10 @@ pub use goal::{fill_link_goal, twice};
 pub use problem::LinkBands;
 pub use ratios::LinkRatioRow;
 pub use rows::{LinkTable, fill_link_row, next_link_row};
-pub use rules::{law_finer_link_grids, law_link_fails_rules_out, law_one_first_link, link_holds};
+pub use rules::{
+    law_finer_link_grids, law_link_fails_rules_out, law_links_as_wide, law_one_first_link,
+    link_holds,
+};
 pub use sum::{LinkRows, link_sum};
 pub use timing::LinkTiming;
 pub use weight::link_value;

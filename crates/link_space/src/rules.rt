@@ -9,6 +9,7 @@ ghost use Rattle.link_theory.specs.GoodLinks.{GoodLinks};
 ghost use Rattle.link_space.specs.LinkGreens.{IsGreenLink};
 ghost use Rattle.link_space.specs.LinkFailing.{LinkFailsRulesOut};
 ghost use Rattle.link_space.specs.FinerLinks.{FinerLinkGrids};
+ghost use Rattle.link_space.specs.LinksAsWide.{LinksAsWide};
 ghost use Rattle.link_space.specs.FirstLinkFailing.{band_order, band_failing, IsFirstLinkFailing, NoLinkBefore, OneFirstLink};
 
 use crate::failing::LinkFailing;
@@ -106,4 +107,11 @@ pub fn law_finer_link_grids()
 /// Of a link timing at most one failing is the first.
 pub fn law_one_first_link()
     ensures { OneFirstLink }
+{}
+
+/// A best link timing is worth at least so many times the weighted band of any good timing as the artery has links, and of two
+/// signals just as much as a best timing where neither least bands nor equal bands are asked for.
+#[tactic(auto, using(crate::proofs::AsWide::links_as_wide))]
+pub fn law_links_as_wide()
+    ensures { LinksAsWide }
 {}

@@ -6,7 +6,7 @@ use link_space::{LinkFailing, LinkTiming, link_holds, link_value};
 use narrow_fraction::Frac;
 use progression::Dir;
 use sample_streets::{
-    SampleHead, SampleSignal, plain_head, plain_link, plain_signal, sample_street,
+    SampleHead, SampleLink, SampleSignal, plain_head, plain_link, plain_signal, sample_street,
 };
 use std::alloc::Global;
 use std::test::Fail;
@@ -36,6 +36,14 @@ fn short_artery(alloc: Global, halves: i128) -> Result<Artery, Fail> {
     }
 }
 
+/// The second signal and the link as given, in place of the plain ones.
+fn artery_with(alloc: Global, next: SampleSignal, link: SampleLink) -> Result<Artery, Fail> {
+    match sample_street(alloc, plain_head(), &[signal("A", 50), next], &[link]) {
+        Ok(artery) => Ok(artery),
+        Err(_) => Err("no artery".into()),
+    }
+}
+
 /// The third signal is red for so many parts.
 fn long_artery(alloc: Global, halves: i128, red: u32) -> Result<Artery, Fail> {
     let head = head(halves)?;
@@ -47,10 +55,11 @@ fn long_artery(alloc: Global, halves: i128, red: u32) -> Result<Artery, Fail> {
     }
 }
 
-/// What differs between the timings of two signals. The first red starts at tick 0.
+/// What differs between the timings of two signals: the second one's pattern and red, among others. The first red starts at tick 0.
 #[derive(Clone, Copy)]
 struct Short {
     grid: u128,
+    pattern: u32,
     red: u128,
     runs: [u128; 2],
     firsts: [u128; 2],
@@ -59,6 +68,7 @@ struct Short {
 
 const SHORT: Short = Short {
     grid: 2,
+    pattern: 1,
     red: 100,
     runs: [100, 100],
     firsts: [150, 250],
@@ -69,7 +79,7 @@ fn short_timing(alloc: Global, times: Short) -> Result<LinkTiming, Fail> {
     let made = LinkTiming::new(
         times.grid,
         2,
-        vec![in alloc; 1, 1]?,
+        vec![in alloc; 1, times.pattern]?,
         vec![in alloc; 0, times.red]?,
         vec![in alloc; times.runs[0]]?,
         vec![in alloc; times.runs[1]]?,
@@ -273,6 +283,119 @@ fn rules_of_one_link(rt: HostRuntime) -> Result<(), Fail> {
     let longer = long_artery(alloc, 2, 50)?;
     let timing = short_timing(alloc, good)?;
     assert!(rt; answer(&longer, &timing) == base(Failing::Shape));
+    Ok(())
+}
+
+/// The queue at the second signal wants ten parts to clear before the outbound band comes, so that the line crosses it after 80 ticks.
+#[test]
+fn a_link_with_a_clearance(rt: HostRuntime) -> Result<(), Fail> {
+    let alloc = rt.alloc();
+    let next = SampleSignal {
+        clear_out: 10,
+        ..signal("B", 50)
+    };
+    let good = Short {
+        red: 80,
+        firsts: [150, 240],
+        halves: [50, 40],
+        ..SHORT
+    };
+    let wider = Short {
+        halves: [50, 41],
+        ..good
+    };
+    let cleared = artery_with(alloc, next, plain_link(500))?;
+    let plain = short_artery(alloc, 2)?;
+    assert!(rt; answer(&cleared, &short_timing(alloc, good)?) == Ok([9, 10]));
+    assert!(rt; answer(&cleared, &short_timing(alloc, wider)?) == inbound(1, 2, 281));
+    assert!(rt; answer(&plain, &short_timing(alloc, good)?) == outbound(1, 2, 281));
+    Ok(())
+}
+
+/// Beside 40 parts of common red the second signal has a left turn of 10 parts against the inbound traffic, and one of 20 against the
+/// outbound: inbound it is red for 100 ticks, outbound for 120.
+#[test]
+fn a_link_with_left_turns(rt: HostRuntime) -> Result<(), Fail> {
+    let alloc = rt.alloc();
+    let next = SampleSignal {
+        left_out: 10,
+        left_in: 20,
+        ..signal("B", 40)
+    };
+    let artery = artery_with(alloc, next, plain_link(500))?;
+    let good = Short {
+        red: 130,
+        firsts: [150, 265],
+        halves: [40, 35],
+        ..SHORT
+    };
+    let rows = [
+        // Outbound the red begins before the common one, inbound with it.
+        (good, Ok([3, 4])),
+        (
+            Short {
+                halves: [41, 35],
+                ..good
+            },
+            outbound(1, 2, 209),
+        ),
+        (
+            Short {
+                halves: [40, 36],
+                ..good
+            },
+            inbound(1, 2, 229),
+        ),
+        // The other way round, and both before: the band lies in that green too.
+        (Short { pattern: 2, ..good }, outbound(1, 2, 210)),
+        (Short { pattern: 4, ..good }, Ok([3, 4])),
+    ];
+    for (times, expected) in rows {
+        let timing = short_timing(alloc, times)?;
+        assert!(rt; answer(&artery, &timing) == expected);
+    }
+    Ok(())
+}
+
+/// 500 metres one way, and 600 the other.
+#[test]
+fn a_link_of_unequal_ways(rt: HostRuntime) -> Result<(), Fail> {
+    let alloc = rt.alloc();
+    let link = SampleLink {
+        distance_in: 600,
+        ..plain_link(500)
+    };
+    let artery = artery_with(alloc, signal("B", 50), link)?;
+    let good = Short {
+        runs: [100, 120],
+        firsts: [150, 240],
+        halves: [50, 40],
+        ..SHORT
+    };
+    let rows = [
+        (good, Ok([9, 10])),
+        (
+            Short {
+                halves: [50, 41],
+                ..good
+            },
+            inbound(1, 2, 199),
+        ),
+        (
+            Short {
+                runs: [100, 100],
+                ..good
+            },
+            base(Failing::Fast {
+                dir: Dir::Inbound,
+                link: 1,
+            }),
+        ),
+    ];
+    for (times, expected) in rows {
+        let timing = short_timing(alloc, times)?;
+        assert!(rt; answer(&artery, &timing) == expected);
+    }
     Ok(())
 }
 

@@ -70,11 +70,9 @@ pub fn run_program<F: Files, K: Sink>(
     files: &mut F,
     out: &mut K,
 ) -> ExitCode
-    ensures {
-        MatchResult args
+    ensures { MatchResult args
         (λ given. ExitsBy F.Files K.Sink files.old files.new out.old out.new (map string_bytes (drop 1 (into_iter_items given))) (exit_status result) ⊎ HasNoWords files.old files.new out.old out.new (exit_status result))
-        (λ error. HasNoWords files.old files.new out.old out.new (exit_status result))
-    }
+        (λ error. HasNoWords files.old files.new out.old out.new (exit_status result)) }
 {
     match words(alloc, args) {
         Ok(words) => exit_of_run(alloc, words.as_slice(), files, out),

@@ -7,8 +7,8 @@ ghost use Rattle.artery_model.specs.Bounds.{most_parts};
 ghost use Rattle.band_measure.specs.Pairs.{with_pairs};
 ghost use Rattle.second_plan.specs.Grid.{fineness, in_seconds, too_fine};
 
+use crate::bands::Pairs;
 use artery_model::Artery;
-use band_measure::Widest;
 use narrow_fraction::Memory;
 use std::alloc::Global;
 use time_space::{LIMIT, Timing};
@@ -115,8 +115,7 @@ pub fn timed(
     timing: &Timing,
     seconds: u64,
     offsets: &[u64],
-    outbound: Widest,
-    inbound: Widest,
+    pairs: Pairs,
 ) -> Result<Timing, Memory>
     requires some { 1 ≤ seconds }
     requires small { seconds ≤ 3600 }
@@ -124,11 +123,11 @@ pub fn timed(
     requires shape { length timing.now.patterns ≡ count artery.now }
     requires offsets { length offsets.now ≡ count artery.now }
     requires below { All (λ n. n < seconds) offsets.now }
-    requires first_out { outbound.first < 2 ^ 80 }
-    requires band_out { outbound.band < 2 ^ 80 }
-    requires first_in { inbound.first < 2 ^ 80 }
-    requires band_in { inbound.band < 2 ^ 80 }
-    ensures { IfOk result (λ plan. plan ≡ with_pairs (pos outbound.first) outbound.band (pos inbound.first) inbound.band
+    requires first_out { pairs.outbound.first < 2 ^ 80 }
+    requires band_out { pairs.outbound.band < 2 ^ 80 }
+    requires first_in { pairs.inbound.first < 2 ^ 80 }
+    requires band_in { pairs.inbound.band < 2 ^ 80 }
+    ensures { IfOk result (λ plan. plan ≡ with_pairs (pos pairs.outbound.first) pairs.outbound.band (pos pairs.inbound.first) pairs.inbound.band
         (in_seconds artery.now timing.now seconds offsets.now)) }
 {
     artery.known_valid();
@@ -148,10 +147,10 @@ pub fn timed(
         reds,
         run_out,
         run_in,
-        outbound.first,
-        inbound.first,
-        outbound.band,
-        inbound.band,
+        pairs.outbound.first,
+        pairs.inbound.first,
+        pairs.outbound.band,
+        pairs.inbound.band,
     ) {
         Some(plan) => Ok(plan),
         None => unreachable!(),

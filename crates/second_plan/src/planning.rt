@@ -13,7 +13,7 @@ ghost use Rattle.second_plan.specs.Planned.{AreWhole, IsPlanned, IsAnswer, IsBes
 ghost use Rattle.second_plan.specs.Ends.{Faults};
 
 use crate::answer::{Plan, PlanEnd, PlanFault};
-use crate::bands::{Bands, cut};
+use crate::bands::{Bands, Pairs, cut};
 use crate::grid::{timed, too_fine};
 use crate::seconds::{offsets, whole_cycle};
 use artery_model::Artery;
@@ -30,18 +30,17 @@ fn with_cut_bands(
     timing: &Timing,
     seconds: u64,
     offsets: &[u64],
-    outbound: Widest,
-    inbound: Widest,
+    pairs: Pairs,
 ) -> Result<Timing, PlanFault>
     requires base { IsBase artery.now timing.now }
     requires whole { AreWhole artery.now timing.now seconds offsets.now }
     requires some { 1 ≤ seconds }
     requires small { seconds ≤ 3600 }
     requires below { All (λ n. n < seconds) offsets.now }
-    requires outbound { IsWidest artery.now (in_seconds artery.now timing.now seconds offsets.now) Outbound outbound.first outbound.band }
-    requires inbound { IsWidest artery.now (in_seconds artery.now timing.now seconds offsets.now) Inbound inbound.first inbound.band }
-    requires band_out { outbound.band < cycle artery.now (in_seconds artery.now timing.now seconds offsets.now) }
-    requires band_in { inbound.band < cycle artery.now (in_seconds artery.now timing.now seconds offsets.now) }
+    requires outbound { IsWidest artery.now (in_seconds artery.now timing.now seconds offsets.now) Outbound pairs.outbound.first pairs.outbound.band }
+    requires inbound { IsWidest artery.now (in_seconds artery.now timing.now seconds offsets.now) Inbound pairs.inbound.first pairs.inbound.band }
+    requires band_out { pairs.outbound.band < cycle artery.now (in_seconds artery.now timing.now seconds offsets.now) }
+    requires band_in { pairs.inbound.band < cycle artery.now (in_seconds artery.now timing.now seconds offsets.now) }
     ensures planned { IfOk result (λ plan. IsPlanned artery.now timing.now seconds offsets.now plan) }
     ensures good { IfOk result (λ plan. Good artery.now plan) }
     ensures best { IfOk result (λ plan. IsBestOfOffsets artery.now plan) }
@@ -54,19 +53,21 @@ fn with_cut_bands(
     let bands = cut(
         artery,
         Bands {
-            outbound: outbound.band,
-            inbound: inbound.band,
+            outbound: pairs.outbound.band,
+            inbound: pairs.inbound.band,
         },
     );
-    let there = Widest {
-        first: outbound.first,
-        band: bands.outbound,
+    let kept = Pairs {
+        outbound: Widest {
+            first: pairs.outbound.first,
+            band: bands.outbound,
+        },
+        inbound: Widest {
+            first: pairs.inbound.first,
+            band: bands.inbound,
+        },
     };
-    let back = Widest {
-        first: inbound.first,
-        band: bands.inbound,
-    };
-    let plan = timed(alloc, artery, timing, seconds, offsets, there, back)?;
+    let plan = timed(alloc, artery, timing, seconds, offsets, kept)?;
     match holds(artery, &plan) {
         Ok(()) => Ok(plan),
         Err(failing) => Err(PlanFault::End(PlanEnd::Fails(failing))),
@@ -92,14 +93,19 @@ fn planned(
     ensures faults { IfErr result (λ f. (claim : ℚ) → Faults artery.now claim timing.now f) }
 {
     let line = Widest { first: 0, band: 0 };
-    let frame = timed(alloc, artery, timing, seconds, offsets, line, line)?;
+    let lines = Pairs {
+        outbound: line,
+        inbound: line,
+    };
+    let frame = timed(alloc, artery, timing, seconds, offsets, lines)?;
     let Some(outbound) = widest(artery, &frame, Dir::Outbound) else {
         return Err(PlanFault::End(PlanEnd::NoLine { dir: Dir::Outbound }));
     };
     let Some(inbound) = widest(artery, &frame, Dir::Inbound) else {
         return Err(PlanFault::End(PlanEnd::NoLine { dir: Dir::Inbound }));
     };
-    with_cut_bands(alloc, artery, timing, seconds, offsets, outbound, inbound)
+    let pairs = Pairs { outbound, inbound };
+    with_cut_bands(alloc, artery, timing, seconds, offsets, pairs)
 }
 
 /// The plan in whole seconds of a good timing, and what it loses against a claim.

@@ -1,5 +1,5 @@
 -- Lemmas on the definitions of `LinkSheets`.
-use Rattle.std.proofs.Common.{◌≡◌, ◌≤◌, ℕ, ◌-◌, ◌*◌, List, length, false, refl, subst, sym, ap, ◌∙◌, arith, length-append}
+use Rattle.std.proofs.Common.{◌≡◌, ◌≤◌, ◌-◌, ◌*◌, List, length, false, refl, subst, sym, ap, arith, length-append}
 use Rattle.std.proofs.lemmas.List.{length-replicate}
 use Rattle.rational_theory.specs.Rational.{ℚ}
 use Rattle.rational_theory.specs.Rows as maths
@@ -7,13 +7,10 @@ use Rattle.rational_theory.specs.Rows.{IsMet}
 use Rattle.progression.specs.Street.{Street, count}
 use Rattle.progression.specs.Speeds.{number}
 use Rattle.linear_theory.specs.Boxes.{Area}
-use Rattle.linear_theory.specs.Places.{width}
 use Rattle.linear_theory.specs.Rows.{widened}
 use Rattle.linear_theory.specs.Names.{form_of}
 use Rattle.named_row.specs.Sheets.{row_of}
-use Rattle.loop_rows.specs.Writing.{written}
 use Rattle.loop_rows.proofs.Writing.{written_cells_row, written_cells_unspent, written_cells_width, written_row, written_width}
-use Rattle.link_theory.specs.LinkPlan.{LinkPlan}
 use Rattle.link_theory.specs.LinkColumns.{link_width}
 use Rattle.link_theory.specs.LinkRows.{LinkForm, link_line, near_form, far_form, link_ratio_form}
 use Rattle.link_theory.specs.LinkNames.{LinkName, OfLines, NearRow, FarRow, LinkRatioRow, HasLinkRow, link_row}

@@ -1,11 +1,9 @@
-use Rattle.std.proofs.Common.{◌≡◌, ◌≤◌, ◌-◌, ◌∙◌, ap, arith}
+use Rattle.std.proofs.Common.{◌≡◌, ◌≤◌, ◌∙◌, ap, arith}
 use Rattle.rational_theory.specs.Rational.{◌*ℚ◌}
 use Rattle.progression.specs.Street.{count}
 use Rattle.progression.specs.Speeds.{number}
-use Rattle.progression.specs.declared.parts.Dir.TheVariants.{Outbound, Inbound}
-use Rattle.named_row.specs.Sheets.{Sheet, blank}
-use Rattle.link_theory.specs.LinkColumns.{half_place}
-use Rattle.link_space.specs.LinkSheets.{with_run, link_goal_sheet}
+use Rattle.named_row.specs.Sheets.{Sheet}
+use Rattle.link_space.specs.LinkSheets.{link_goal_sheet}
 use Rattle.link_space.proofs.LinkGoalSheets.{goal_is}
 use Rattle.link_space.proofs.goal.fill_link_goal.Goals as goal
 

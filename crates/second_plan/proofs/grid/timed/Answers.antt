@@ -7,7 +7,7 @@ pub unreachable-requires : goal.unreachable-requires
 unreachable-requires c =
     let a = c.args.artery.now in let t = c.args.timing.now in
     c.in-None.ensures.none
-    (is_timing a t c.args.seconds c.args.offsets.now c.args.outbound.first c.args.outbound.band c.args.inbound.first c.args.inbound.band
+    (is_timing a t c.args.seconds c.args.offsets.now c.args.pairs.outbound.first c.args.pairs.outbound.band c.args.pairs.inbound.first c.args.pairs.inbound.band
     c.known_valid.ensures c.count.ensures.plan c.requires.fine c.requires.some c.requires.shape (subst (λ xs. All (λ p. (1 ≤ p) × (p ≤ 4)) xs) c.in_ok-patterns.ensures.value c.in_ok-patterns.ensures.each)
     c.requires.offsets c.requires.below c.requires.first_out c.requires.band_out c.requires.first_in c.requires.band_in
     _ _ _ _ _ _
@@ -24,7 +24,7 @@ pub returns : goal.returns
 returns c =
     let a = c.args.artery.now in let t = c.args.timing.now in
     c.in-Some.ensures.value
-    ∙ plan_is a t c.args.seconds c.args.offsets.now c.args.outbound.first c.args.outbound.band c.args.inbound.first c.args.inbound.band
+    ∙ plan_is a t c.args.seconds c.args.offsets.now c.args.pairs.outbound.first c.args.pairs.outbound.band c.args.pairs.inbound.first c.args.pairs.inbound.band
     _ _ _ _ _ _
     (record {
       grid_is = c.grid-grid.ensures.value;

@@ -30,7 +30,7 @@ returns-in-Ok-clause-best c =
     best a (in_seconds a t c.args.seconds c.args.offsets.now) c.known_valid.ensures
     (unit_least a t c.known_valid.ensures c.requires.base c.args.seconds c.args.offsets.now c.requires.whole.seconds.allowed c.requires.some c.requires.whole.rounded.each_has)
     c.law_pairs_make_good.ensures c.law_finer_pairs.ensures
-    c.args.outbound.first c.args.inbound.first (record { outbound = c.args.outbound.band; inbound = c.args.inbound.band }) c.cut-bands.result
+    c.args.pairs.outbound.first c.args.pairs.inbound.first (record { outbound = c.args.pairs.outbound.band; inbound = c.args.pairs.inbound.band }) c.cut-bands.result
     (unsigned_abs a.head.ratio.num) (natural a.head.ratio.num (let w = c.known_valid.ensures.ratio.least in omega (arith, ints, w)))
     c.requires.outbound c.requires.inbound c.cut-bands.ensures.cut c.in_ok-plan.plan c.in_ok-plan.ensures
 
@@ -38,8 +38,8 @@ pub returns-in-Err-clause-faults : goal.returns-in-Err-clause-faults
 returns-in-Err-clause-faults c = λ claim.
     let a = c.args.artery.now in let t = c.args.timing.now in
     let least = least_alone a t c.known_valid.ensures c.requires.base c.args.seconds c.args.offsets.now c.requires.whole.seconds.allowed c.requires.some c.requires.whole.rounded.each_has c.law_own_pair.ensures
-    c.args.outbound.first c.cut-bands.result.outbound c.args.inbound.first c.cut-bands.result.inbound
-    (record { outbound = c.args.outbound.band; inbound = c.args.inbound.band }) c.cut-bands.result c.cut-bands.ensures.cut c.cut-bands.ensures.outbound c.cut-bands.ensures.inbound refl refl
+    c.args.pairs.outbound.first c.cut-bands.result.outbound c.args.pairs.inbound.first c.cut-bands.result.inbound
+    (record { outbound = c.args.pairs.outbound.band; inbound = c.args.pairs.inbound.band }) c.cut-bands.result c.cut-bands.ensures.cut c.cut-bands.ensures.outbound c.cut-bands.ensures.inbound refl refl
     c.requires.outbound.runs c.requires.inbound.runs c.in_ok-plan.plan c.in_ok-plan.ensures c.in-Err.failing c.in-Err.ensures.first in
     record {
       k = c.args.seconds;
@@ -47,8 +47,8 @@ returns-in-Err-clause-faults c = λ claim.
       plan = c.in_ok-plan.plan;
       planned = record {
         whole = c.requires.whole;
-        there = c.args.outbound;
-        back = c.args.inbound;
+        there = c.args.pairs.outbound;
+        back = c.args.pairs.inbound;
         bands = c.cut-bands.result;
         widest_out = c.requires.outbound;
         widest_in = c.requires.inbound;
