@@ -1,5 +1,5 @@
 -- What the statuses of `bands`, `half` and `sweep` say of the model, and those of `round` but 0.
-use Rattle.std.proofs.Common.{◌≡◌, ℕ, List, [], ◌∷◌, Option, Some, None, Ok, inl, inr, refl, sym, ◌∙◌, ap, subst}
+use Rattle.std.proofs.Common.{◌≡◌, ℕ, List, [], ◌∷◌, Option, Some, Ok, inl, inr, refl, sym, ◌∙◌, ap, subst}
 use Rattle.std.specs.List.{AllZip}
 use Rattle.rational_theory.specs.Rational.{ℚ}
 use Rattle.outer_edge.specs.Held.{HoldsExactly}
@@ -9,13 +9,11 @@ use Rattle.time_space.specs.declared.failing.Failing.{Failing}
 use Rattle.half_integer.specs.Answers.{OneEnd}
 use Rattle.half_integer.specs.declared.end.HalfEnd.{HalfEnd}
 use Rattle.second_plan.specs.declared.answer.PlanEnd.{PlanEnd}
-use Rattle.plan_text.specs.Spelling.{timing_text}
 use Rattle.plan_text.specs.Reading.{timing_of}
 use Rattle.certificate_checker.specs.Laws.{RefusedIsNotAccepted}
 use Rattle.cycle_sweep.specs.declared.row.SweepRow.{SweepRow}
 use Rattle.cycle_sweep.specs.Rows.{IsRow}
 use Rattle.cycle_sweep.specs.Says.{RowsSay}
-use Rattle.cycle_sweep.specs.Table.{sweep_text}
 use Rattle.maxband_run.specs.Command.{Bands, Round, Half, Sweep}
 use Rattle.maxband_run.specs.Outside.{Outside, put_of, IsPut}
 use Rattle.maxband_run.specs.Half.{HasNoHalfPlan, IsHalfPlan}

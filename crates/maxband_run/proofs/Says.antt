@@ -248,7 +248,7 @@ solve_put before now artery certificate limit c v h =
         claim_is = refl;
         timing_is = refl;
         why = stopped_for (rules_of f.values.0) (enough_of f.values.0) (IsSiteOf f.values.0) limit s.found.bound s.found.nodes.items (incumbent_of f.values.0 s.found.timing) s.found.spent s.found.verdict
-        s.searched.search s.searched.enough s.searched.site;
+            s.searched.search s.searched.enough s.searched.site;
       };
     }
 
@@ -289,7 +289,7 @@ links_put before now artery certificate limit c v h =
         claim_is = refl;
         timing_is = refl;
         why = stopped_for (link_rules f.values.0) (link_enough_of f.values.0) (IsLinkSiteOf f.values.0) limit s.found.bound s.found.nodes.items (link_incumbent_of f.values.0 s.found.timing) s.found.spent s.found.verdict
-        s.searched.search s.searched.enough s.searched.site;
+            s.searched.search s.searched.enough s.searched.site;
       };
     }
 

@@ -30,10 +30,10 @@ answer_rose asked file held before after lines put (inr h) = absurd (finds_reach
 pub faults_are_counted : FaultsAreCounted
 faults_are_counted before now asked c no_read no_put no_write h = (
   (λ e. let f = six_is c e in
-  let k = subst (λ (d : Cause). Ends before now asked d) f.1 h in
-  let r = answer_rose asked f.0 before.holds before.reads now.reads k.0 k.1 k.2 in no_read r.0 r.1),
+      let k = subst (λ (d : Cause). Ends before now asked d) f.1 h in
+      let r = answer_rose asked f.0 before.holds before.reads now.reads k.0 k.1 k.2 in no_read r.0 r.1),
   (λ e. let k = subst (λ (d : Cause). Ends before now asked d) (seven_is c e) h in
-  not_broken before now no_write k.lines k.put (λ p is rises. no_put p.name rises) k.broken),
+      not_broken before now no_write k.lines k.put (λ p is rises. no_put p.name rises) k.broken),
 )
 
 -- ---- words

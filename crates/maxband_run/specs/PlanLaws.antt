@@ -1,5 +1,5 @@
 -- What the statuses of `bands`, `half`, `round` and `sweep` say of the model: statements about the definitions of a run, each of which a public call proves.
-use Rattle.std.specs.Prelude.{◌≡◌, ◌≢◌, ◌⊎◌, ℕ, ◌≤◌, List, ◌++◌, length, codes, Option, Some, None, Ok, IsSome, IfSome}
+use Rattle.std.specs.Prelude.{◌≡◌, ◌≢◌, ◌⊎◌, ℕ, ◌≤◌, List, ◌++◌, length, codes, Option, Some, Ok, IsSome, IfSome}
 use Rattle.std.specs.List.{AllZip}
 use Rattle.rational_theory.specs.Rational.{ℚ, ◌+ℚ◌, ◌≤ℚ◌}
 use Rattle.outer_edge.specs.Held.{SameFiles, HoldsExactly}

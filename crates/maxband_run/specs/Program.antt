@@ -25,6 +25,12 @@ pub record ExitsBy {F K : Type 0} (f : files.Ghosts F) (k : sink.Ghosts K) (befo
   pub writes : k.faults old ≤ k.faults new
   pub alone : LeavesAlone (shape (request_of words)).inputs (shape (request_of words)).output before after
 
+-- memory was wanting for the words: nothing was done
+pub record WantsMemory {F K : Type 0} (before after : F) (old new : K) (status : ℕ) : Type 0 where
+  pub status_is : status ≡ 8
+  pub files : after ≡ before
+  pub out : new ≡ old
+
 -- there were no words: nothing was done, and the status is 8, or 12 where the system doesn't give them as text
 pub record HasNoWords {F K : Type 0} (before after : F) (old new : K) (status : ℕ) : Type 0 where
   pub status_is : (status ≡ 8) ⊎ (status ≡ 12)

@@ -3,7 +3,7 @@
 ghost use Rattle.std.specs.Prelude.{◌≡◌, ◌⊎◌, IfErr, IfOk, IsErr, MatchResult, OnErr, drop, map, string_bytes};
 ghost use Rattle.std.specs.Process.{exit_status};
 ghost use Rattle.std.specs.Vec.Iter.{into_iter_items};
-ghost use Rattle.maxband_run.specs.Program.{ExitsBy, HasNoWords};
+ghost use Rattle.maxband_run.specs.Program.{ExitsBy, WantsMemory, HasNoWords};
 
 use crate::cause::Cause;
 use crate::top::run;
@@ -39,6 +39,7 @@ fn after_the_name(alloc: Global, mut args: env::Args) -> Result<Vec<String>, All
 /// The words after the program's name, or the status to end with.
 fn words(alloc: Global, args: io::Result<env::Args>) -> Result<Vec<String>, u8>
     ensures all { IfOk args (λ given. IfOk result (λ words. words.items ≡ drop 1 (into_iter_items given))) }
+    ensures wanting { IfOk args (λ given. IfErr result (λ number. number ≡ 8)) }
     ensures none { OnErr args (IsErr result) }
     ensures numbers { IfErr result (λ number. (number ≡ 8) ⊎ (number ≡ 12)) }
 {
@@ -70,11 +71,9 @@ pub fn run_program<F: Files, K: Sink>(
     files: &mut F,
     out: &mut K,
 ) -> ExitCode
-    ensures {
-        MatchResult args
-        (λ given. ExitsBy F.Files K.Sink files.old files.new out.old out.new (map string_bytes (drop 1 (into_iter_items given))) (exit_status result) ⊎ HasNoWords files.old files.new out.old out.new (exit_status result))
-        (λ error. HasNoWords files.old files.new out.old out.new (exit_status result))
-    }
+    ensures { MatchResult args
+        (λ given. ExitsBy F.Files K.Sink files.old files.new out.old out.new (map string_bytes (drop 1 (into_iter_items given))) (exit_status result) ⊎ WantsMemory files.old files.new out.old out.new (exit_status result))
+        (λ error. HasNoWords files.old files.new out.old out.new (exit_status result)) }
 {
     match words(alloc, args) {
         Ok(words) => exit_of_run(alloc, words.as_slice(), files, out),
