@@ -20,7 +20,7 @@ use std::alloc::Global;
 use std::marker::Model;
 
 /// A valid artery, seen as a `Street`: its head, signals and links.
-#[derive(Debug, Drop)]
+#[derive(Drop)]
 pub struct Artery {
     head: Head,
     signals: Vec<Signal>,

@@ -2,7 +2,7 @@
 
 /// The widest band of a direction, in ticks and at least 0, and the tick at which its first line crosses the first signal of
 /// its way. Both are below the cycle.
-#[derive(Clone, Copy, Debug, PartialEq, Eq)]
+#[derive(Clone, Copy, PartialEq, Eq)]
 pub struct Widest {
     pub first: u128,
     pub band: u128,

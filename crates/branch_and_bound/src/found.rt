@@ -6,7 +6,7 @@ use narrow_fraction::Frac;
 use search_box::SearchBox;
 
 /// Where an operation was refused: in this box, after so many pivots (at least so many where it is `2^64 - 1`).
-#[derive(Debug, Drop)]
+#[derive(Drop)]
 pub struct Site<W> {
     pub area: SearchBox,
     pub pivots: u64,
@@ -14,7 +14,7 @@ pub struct Site<W> {
 }
 
 /// Why the search stopped.
-#[derive(Debug, Drop)]
+#[derive(Drop)]
 pub enum Stop<W> {
     /// All units were spent.
     Work { spent: u64 },
@@ -23,7 +23,7 @@ pub enum Stop<W> {
 }
 
 /// What is claimed of the timing.
-#[derive(Debug, Drop)]
+#[derive(Drop)]
 pub enum Verdict<W> {
     /// It is a best one.
     Best,

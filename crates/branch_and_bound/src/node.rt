@@ -28,7 +28,7 @@ pub(crate) enum Node<K> {
 }
 
 /// A node of the answered tree.
-#[derive(Debug, Drop)]
+#[derive(Drop)]
 pub enum TreeNode {
     /// Its two parts follow, the low one first. The vertex at which it was split shows the place.
     Split { place: At, point: Point },

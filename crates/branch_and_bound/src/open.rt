@@ -27,7 +27,7 @@ pub(crate) enum Ended<K, W> {
 }
 
 /// One of the two parts of a box.
-#[derive(Clone, Copy, Debug, PartialEq, Eq)]
+#[derive(Clone, Copy, PartialEq, Eq)]
 pub(crate) enum Side {
     Low,
     High,

@@ -1,7 +1,7 @@
 //! What boxes keep for their parts.
 
 /// What a split box keeps of its end for its parts: the basic variables of its last tableau, ascending.
-#[derive(Debug, Drop)]
+#[derive(Drop)]
 pub struct Kept {
     pub basis: Vec<u32>,
 }

@@ -5,7 +5,7 @@ use named_row::{RowId, WideAt};
 use offset_recovery::WideTiming;
 
 /// Which operation of a box left 128 bits.
-#[derive(Debug, Clone, Copy, PartialEq, Eq)]
+#[derive(Clone, Copy, PartialEq, Eq)]
 pub enum SitePart {
     /// A ratio of the dual ratio test.
     Ratio(WideCell),

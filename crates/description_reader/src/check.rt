@@ -96,7 +96,7 @@ fn meets_at(parts: i64, demand: Demand, name: &str, table: &Value) -> bool
 }
 
 /// The check of the values of one table for one kind of fault.
-#[derive(Clone, Copy, Debug)]
+#[derive(Clone, Copy)]
 pub struct TableCheck<'a> {
     alloc: Global,
     kind: Kind,

@@ -10,7 +10,7 @@ use artery_model::{is_name, is_within};
 use toml::Value;
 
 /// What a value of a description must be.
-#[derive(Clone, Copy, Debug)]
+#[derive(Clone, Copy)]
 pub enum Demand {
     Anything,
     Table,

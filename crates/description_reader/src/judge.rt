@@ -21,7 +21,7 @@ use std::alloc::Global;
 use toml::Value;
 
 /// A kind of fault of a value. The kinds stand in the order in which they are looked for.
-#[derive(Clone, Copy, Debug)]
+#[derive(Clone, Copy)]
 pub enum Stage {
     /// Keys that no description has.
     Keys,

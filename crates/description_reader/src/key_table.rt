@@ -13,7 +13,7 @@ use artery_model::bounds::{
 };
 
 /// Whether a key must stand in its table.
-#[derive(Clone, Copy, Debug)]
+#[derive(Clone, Copy)]
 pub enum Presence {
     Needed,
     Optional,
@@ -22,14 +22,14 @@ pub enum Presence {
 }
 
 /// What a value must be, and what each of its items must be, where it is an array.
-#[derive(Clone, Copy, Debug)]
+#[derive(Clone, Copy)]
 pub struct Demands {
     pub value: Demand,
     pub item: Demand,
 }
 
 /// A key, and what its value must be: of which type, and within which limits.
-#[derive(Clone, Copy, Debug)]
+#[derive(Clone, Copy)]
 pub struct Entry {
     pub name: &'static str,
     pub presence: Presence,

@@ -6,7 +6,7 @@ ghost use Rattle.description_reader.specs.Places.{key_place, item_place};
 use std::alloc::{AllocError, Global};
 
 /// A table of a description. Signals and links are counted from 1.
-#[derive(Clone, Copy, Debug, PartialEq, Eq)]
+#[derive(Clone, Copy, PartialEq, Eq)]
 pub enum Section {
     Root,
     Artery,
@@ -15,7 +15,7 @@ pub enum Section {
 }
 
 /// What the tests of one table need of the others.
-#[derive(Clone, Copy, Debug)]
+#[derive(Clone, Copy)]
 pub struct Facts {
     /// How many links are given.
     pub links: usize,

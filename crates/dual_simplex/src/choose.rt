@@ -70,7 +70,7 @@ pub fn chosen_row(tableau: &Tableau) -> Option<u32>
 }
 
 /// A place and its ratio.
-#[derive(Debug, Clone, Copy)]
+#[derive(Clone, Copy)]
 pub struct Chosen {
     pub place: u32,
     pub ratio: Frac,

@@ -16,7 +16,7 @@ use progression::Dir;
 use time_space::{Timing, advance, cycle, red_ticks, since_start};
 
 /// Where an outbound line crosses signal 1, in ticks of the doubled grid, and the width of the band that begins there.
-#[derive(Clone, Copy, Debug)]
+#[derive(Clone, Copy)]
 pub struct Line {
     pub first: i128,
     pub band: u128,

@@ -9,7 +9,7 @@ use std::marker::Model;
 /// A timing stands exactly where the claim has a value. The nodes are one whole tree in preorder. Links and signals of
 /// splits are at least 1. A leaf has at most 10,000 multipliers, and its rows ascend by family and index: families are
 /// those of an artery and those of links, and the index is 0 in those of one row and at least 1 in all others.
-#[derive(Debug, Drop)]
+#[derive(Drop)]
 pub struct LinkCertificate {
     pub claim: Claim,
     pub timing: Option<LinkTiming>,

@@ -8,7 +8,7 @@ use named_row::{Place, RowId, WideAt};
 use narrow_fraction::{Frac, Memory};
 
 /// Why a link certificate is not accepted. Nodes are counted from 1 in their order, and leaves from 1 among the leaves alone.
-#[derive(Clone, Copy, Debug, PartialEq, Eq)]
+#[derive(Clone, Copy, PartialEq, Eq)]
 pub enum LinkReject {
     /// The link timing breaks this rule.
     TimingFails(LinkFailing),

@@ -12,7 +12,7 @@ use time_space::{Timing, are_below_limit};
 /// A timing of an artery's signals with a band for each link in each direction, in ticks of a grid of its own.
 ///
 /// Every number is below `2^80`. There are 2 to 24 signals. A link's band reaches as far to either side of the direction's line.
-#[derive(Debug, Drop)]
+#[derive(Drop)]
 pub struct LinkTiming {
     lines: Timing,
     half_out: Vec<u128>,

@@ -1,7 +1,7 @@
 //! The two ends of a link.
 
 /// An end of a link: link i has one at signal i, and the other at the next signal.
-#[derive(Clone, Copy, Debug, PartialEq, Eq)]
+#[derive(Clone, Copy, PartialEq, Eq)]
 pub enum End {
     Here,
     Next,

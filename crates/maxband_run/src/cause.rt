@@ -14,7 +14,7 @@ use time_space::Failing;
 
 /// Why a run ends with its status. `file` is 1 or 2: the first or the second file that the command
 /// reads.
-#[derive(Debug, Drop)]
+#[derive(Drop)]
 pub enum Cause {
     /// The work was done. For `solve`, `links` and `trial`: the timing that was found is a best one.
     Done,
@@ -49,7 +49,7 @@ pub enum Cause {
 }
 
 /// How a run ends: a number for the system, and the cause.
-#[derive(Debug, Drop)]
+#[derive(Drop)]
 pub struct Status {
     pub number: u8,
     pub cause: Cause,

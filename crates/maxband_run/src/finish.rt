@@ -9,7 +9,7 @@ use narrow_fraction::Memory;
 use outer_edge::{Failed, FileEnd, Files, Sink, write_whole};
 
 /// Why an answer isn't delivered.
-#[derive(Clone, Copy, Debug, PartialEq, Eq)]
+#[derive(Clone, Copy, PartialEq, Eq)]
 pub enum Undelivered {
     /// The put or a write failed, and was counted.
     Broken,

@@ -11,13 +11,13 @@ pub struct Weight {
 }
 
 /// The rows whose sum a leaf shows, each with its multiplier, in the order in which they are added.
-#[derive(Debug, Drop)]
+#[derive(Drop)]
 pub struct Leaf {
     pub multipliers: Vec<Weight>,
 }
 
 /// A value for each column.
-#[derive(Debug, Drop)]
+#[derive(Drop)]
 pub struct Point {
     pub values: Vec<Frac>,
 }

@@ -17,7 +17,7 @@ use named_row::Point;
 use std::alloc::Global;
 
 /// The numbers of a timing that don't speak of its bands' widths, in ticks but for the patterns.
-#[derive(Debug, Drop)]
+#[derive(Drop)]
 pub struct Lines {
     /// Each signal's left turn pattern.
     pub patterns: Vec<u32>,

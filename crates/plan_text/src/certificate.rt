@@ -18,7 +18,7 @@ pub enum Claim {
 }
 
 /// A node of a tree of boxes.
-#[derive(Debug, Drop)]
+#[derive(Drop)]
 pub enum CertNode {
     /// The node's box is split here. The low part's tree follows, and then the high part's.
     Split(At),
@@ -31,7 +31,7 @@ pub enum CertNode {
 /// A timing stands exactly where the claim has a value. The nodes are one whole tree in preorder. Links and signals of
 /// splits are at least 1. A leaf has at most 10,000 multipliers, and its rows ascend by family and index: families are
 /// those of the linear model's table, and the index is 0 in those of one row and at least 1 in all others.
-#[derive(Debug, Drop)]
+#[derive(Drop)]
 pub struct Certificate {
     pub claim: Claim,
     pub timing: Option<Timing>,

@@ -4,7 +4,7 @@ ghost use Rattle.std.specs.Prelude.{◌≡◌, ◌≤◌, ◌<◌, ◌^◌, leng
 ghost use Rattle.plan_text.specs.Families.{table_of, ordinary, family_in, family_name_in, is_lone_in, is_lone};
 
 /// A family of rows as texts name it.
-#[derive(Clone, Copy, Debug)]
+#[derive(Clone, Copy)]
 pub struct FamilyName {
     pub text: &'static str,
     /// It has one row alone, which needs no index.

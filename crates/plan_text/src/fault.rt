@@ -26,7 +26,7 @@ pub struct BadText {
 }
 
 /// Why a text is not read: its first bad line, or want of memory.
-#[derive(Clone, Copy, Debug, PartialEq, Eq)]
+#[derive(Clone, Copy, PartialEq, Eq)]
 pub enum TextEnd {
     Bad(BadText),
     Memory,

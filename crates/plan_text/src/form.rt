@@ -10,7 +10,7 @@ use narrow_fraction::{Frac, common_multiple};
 const MOST: u128 = i128::MAX as u128;
 
 /// How the multipliers of a leaf are written.
-#[derive(Clone, Copy, Debug, PartialEq, Eq)]
+#[derive(Clone, Copy, PartialEq, Eq)]
 pub enum LeafForm {
     /// As whole numbers over this, their least common denominator.
     Over(u128),

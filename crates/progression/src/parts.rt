@@ -18,14 +18,14 @@ pub enum Units {
 }
 
 /// Two limits of one quantity.
-#[derive(Clone, Copy, Debug)]
+#[derive(Clone, Copy)]
 pub struct Pair {
     pub least: Frac,
     pub most: Frac,
 }
 
 /// What holds of the whole artery.
-#[derive(Debug, Drop)]
+#[derive(Drop)]
 pub struct Head {
     /// The street's name, where it has one.
     pub name: Option<Text>,
@@ -47,7 +47,7 @@ pub struct Head {
 }
 
 /// One signal. Its splits and clearances are in parts of the cycle.
-#[derive(Debug, Drop)]
+#[derive(Drop)]
 pub struct Signal {
     pub name: Text,
     /// The common red: the time in which neither direction of the artery goes straight on.
@@ -65,7 +65,7 @@ pub struct Signal {
 }
 
 /// One link. Link i joins signals i and i + 1.
-#[derive(Debug, Drop)]
+#[derive(Drop)]
 pub struct Link {
     /// The length outbound, in metres or feet.
     pub distance_out: u32,

@@ -8,7 +8,7 @@ use crate::digits::{mark_place, run};
 use narrow_fraction::Frac;
 
 /// A text that is no number.
-#[derive(Clone, Copy, Debug, PartialEq, Eq)]
+#[derive(Clone, Copy, PartialEq, Eq)]
 pub struct BadNumber;
 
 /// The quantity that a text writes: `13.50`, `-3` or `27/2`.

@@ -16,7 +16,7 @@ use std::alloc::Global;
 use std::marker::Model;
 
 /// The shift ranks from `least` to `most`.
-#[derive(Clone, Copy, Debug)]
+#[derive(Clone, Copy)]
 pub(crate) struct RankSpan {
     pub(crate) least: u32,
     pub(crate) most: u32,
@@ -37,7 +37,7 @@ impl RankSpan {
 }
 
 /// A box, seen as an `Area`: a span of block sums of each link, and a span of shift ranks of each signal.
-#[derive(Debug, Drop)]
+#[derive(Drop)]
 pub struct SearchBox {
     pub(crate) loops: Vec<Span>,
     pub(crate) turns: Vec<RankSpan>,

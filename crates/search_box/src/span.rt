@@ -1,7 +1,7 @@
 //! Spans, and places where a box is split.
 
 /// The whole numbers from `least` to `most`; none where `least` is above `most`.
-#[derive(Clone, Copy, Debug, PartialEq, Eq)]
+#[derive(Clone, Copy, PartialEq, Eq)]
 pub struct Span {
     pub least: i64,
     pub most: i64,

@@ -7,7 +7,7 @@ use progression::Dir;
 use time_space::{Failing, Timing};
 
 /// A plan in whole seconds.
-#[derive(Debug, Drop)]
+#[derive(Drop)]
 pub struct Plan {
     /// The cycle, in seconds.
     pub seconds: u64,
@@ -20,7 +20,7 @@ pub struct Plan {
 }
 
 /// Why there is no plan.
-#[derive(Clone, Copy, Debug, PartialEq, Eq)]
+#[derive(Clone, Copy, PartialEq, Eq)]
 pub enum PlanEnd {
     /// There is no timing to start from. `plan` never answers this: it is for callers that may have none.
     NoTimingGiven,
@@ -37,7 +37,7 @@ pub enum PlanEnd {
 }
 
 /// Why there is no plan, or want of memory.
-#[derive(Clone, Copy, Debug, PartialEq, Eq)]
+#[derive(Clone, Copy, PartialEq, Eq)]
 pub enum PlanFault {
     End(PlanEnd),
     Memory,

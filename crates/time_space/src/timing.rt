@@ -12,7 +12,7 @@ use std::marker::Model;
 /// A timing of an artery's signals, in ticks of a grid of its own.
 ///
 /// Every number is below `2^80`. There are 2 to 24 signals.
-#[derive(Debug, Drop)]
+#[derive(Drop)]
 pub struct Timing {
     grid: u128,
     unit: u128,

@@ -4,7 +4,7 @@ ghost use Rattle.std.specs.Prelude.{◌≡◌, ◌+◌, true, false};
 ghost use Rattle.work_meter.specs.Work.{is_out, capped, HasWork, IsSpent, IsWithin};
 
 /// The units of work that were spent, and how many may be. A count stays at `2^64 - 1` once it is there.
-#[derive(Clone, Copy, Debug, PartialEq, Eq)]
+#[derive(Clone, Copy, PartialEq, Eq)]
 pub struct Meter {
     pub spent: u64,
     pub limit: Option<u64>,
