@@ -178,7 +178,11 @@ less_one : (m n : ℕ) → m + 1 ≡ n → m ≡ n - 1
 less_one m n e = omega (arith, e)
 
 ticks_above : (a : Street) (s : Plan) → IsValid a → IsPlan s → 0 < cycle a s
-ticks_above a s valid p = let parts : 1 ≤ a.head.parts = let p = valid.least_parts in omega (arith, p) in let q : 1 * 1 ≤ a.head.parts * s.unit = let u : 1 ≤ s.unit = let w = p.unit in omega (arith, w) in mul-le parts u in omega (arith, q)
+ticks_above a s valid p =
+    let parts : 1 ≤ a.head.parts = let p = valid.least_parts in omega (arith, p) in
+    let u : 1 ≤ s.unit = let w = p.unit in omega (arith, w) in
+    let q : 1 * 1 ≤ a.head.parts * s.unit = mul-le parts u in
+    omega (arith, q)
 
 back : (x y : ℤ) (h : ℕ) → x ≡ y +ℤ pos h → x -ℤ pos h ≡ y
 back x y h e = omega (arith, ints, e)
