@@ -2,7 +2,7 @@ use Rattle.std.proofs.Common.{eqb, sym, ◌∙◌, arith}
 use Rattle.std.proofs.lemmas.Bool.{cond-false, ne_eqb}
 use Rattle.rational_theory.proofs.Compare.{eq_false}
 use Rattle.simplex_theory.specs.Tableau.{height}
-use Rattle.fraction_tableau_tests.proofs.tests.pivot.Goals as goal
+use Rattle.engine_tests.proofs.fraction_tableau_tests.pivot.Goals as goal
 
 pub pivot-requires-clause-pivot : goal.pivot-requires-clause-pivot
 pivot-requires-clause-pivot c = λ e.
