@@ -79,4 +79,3 @@ over_fit d b x p l h o =
 
 pub over_fits : (d b : ℕ) (row : List ℚ) → 0 < d → d ≤ b → b < 2 ^ 62 → ((k : ℕ) → IsOver d b (number_in row k)) → IsNarrow row
 over_fits d b row p l h n = record { fits = λ k. over_fit d b (number_in row k) p l h (n k) }
-
