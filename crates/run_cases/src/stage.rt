@@ -1,13 +1,20 @@
 //! Where a case is played: its files, which calls fail, and what the last run came to.
 
 use crate::steps::Lay;
-use maxband_run::run;
+use maxband_run::run_program;
 use narrow_fraction::Memory;
 use outer_edge::{MemFiles, MemSink};
 use std::alloc::Global;
+use std::process::ExitCode;
 
 /// The name of what the last run wrote.
 const OUT: &str = "out";
+
+/// The greatest status: words that the system doesn't give as text.
+const GREATEST_STATUS: u8 = 12;
+
+/// The first of the system's words, which the program leaves out.
+const NAME: &str = "maxband";
 
 /// A file before the first run, as its lines with their ends.
 #[derive(Drop)]
@@ -68,9 +75,20 @@ fn numbers_of(alloc: Global, line: &str) -> Result<Vec<u64>, Memory> {
     Ok(numbers)
 }
 
-/// The number of a run's status. What `run` promises ends here: it says nothing of a case.
-fn number_of(alloc: Global, words: &[String], files: &mut MemFiles, out: &mut MemSink) -> u8 {
-    run(alloc, words, files, out).number
+/// The number of an exit status, which has no other way out.
+fn number_of(code: ExitCode) -> u8 {
+    for number in 0..GREATEST_STATUS {
+        if code == ExitCode::from(number) {
+            return number;
+        }
+    }
+    GREATEST_STATUS
+}
+
+/// A run of the whole program by these words, the first of which is its own name. What it promises ends here: it says nothing of
+/// a case.
+fn played(alloc: Global, words: Vec<String>, files: &mut MemFiles, out: &mut MemSink) -> u8 {
+    number_of(run_program(alloc, Ok(words.into_iter()), files, out))
 }
 
 impl Stage {
@@ -178,6 +196,7 @@ impl Stage {
     pub fn run(&mut self, line: &str, rows: &[u8]) -> Result<(), Memory> {
         let alloc = self.alloc;
         let mut words = Vec::new(alloc);
+        words.push(String::from_str(alloc, NAME)?)?;
         add_words(alloc, &mut words, line)?;
         add_words(alloc, &mut words, std::str::from_utf8(rows).unwrap_or(""))?;
         let mut files = match self.files.take() {
@@ -186,7 +205,7 @@ impl Stage {
         };
         let failing = Vec::from_slice(alloc, self.failing_writes.as_slice())?;
         let mut out = MemSink::new(alloc, self.piece.max(1), failing);
-        self.number = Some(number_of(alloc, words.as_slice(), &mut files, &mut out));
+        self.number = Some(played(alloc, words, &mut files, &mut out));
         self.out = Vec::from_slice(alloc, out.bytes())?;
         self.files = Some(files);
         Ok(())
