@@ -15,7 +15,7 @@ use crate::joining::{Joining, find_joining, join, joined};
 use crate::kept::Kept;
 use crate::loading::{fill_goal, fill_row};
 use crate::merging::{Merged, keep_before};
-use crate::narrowing::{find_scale, have_divisor, held_over, hold_lowest, hold_over};
+use crate::narrowing::{divided_denominator, find_scale, held_over, hold_lowest, hold_over};
 use crate::scale::{AS_IT_IS, Scale, numerator_of};
 use crate::whole_turning::{Turning, turn_whole};
 use crate::wide_cell::WideCell;
@@ -217,20 +217,21 @@ impl Line {
         }
     }
 
-    /// Whether the row is narrow and its numbers have a common divisor with its denominator.
-    fn has_divisor(&self) -> bool {
-        match self.scale {
-            Some(scale) => have_divisor(&self.cells, self.count, &self.bound, scale.denominator),
-            None => false,
-        }
-    }
-
     /// Divides the numbers of a narrow row and its denominator by what they have in common. The row stays what it is.
     fn reduce(&mut self)
         ensures { self.new ≡ self.old }
     {
-        if self.has_divisor() {
-            self.scale = None;
+        if let Some(scale) = self.scale {
+            let divided = divided_denominator(
+                &self.cells,
+                self.count,
+                &self.bound,
+                scale.denominator,
+            );
+            if divided != scale.denominator {
+                self.denominator = divided;
+                self.scale = None;
+            }
         }
         self.narrow();
     }

@@ -103,8 +103,25 @@ fn least_scale(cells: &[Kept], count: usize, bound: &Quotient) -> Option<Scale>
     }
 }
 
-/// The scale of the first `count` cells and the bound, over the denominator that they may be held over, or else over their
-/// least common one.
+/// The scale of the first `count` cells and the bound over the denominator without what it has in common with their
+/// numerators, or else over their least common one.
+fn divided_scale(cells: &[Kept], count: usize, bound: &Quotient, denominator: u64) -> Option<Scale>
+    requires { count ≤ length cells.now }
+    ensures above { IfSome result (λ scale. 0 < scale.denominator) }
+    ensures least { IfSome result (λ scale. scale.denominator ≤ scale.most) }
+    ensures short { IfSome result (λ scale. scale.most < 2 ^ 42) }
+    ensures bound { IfSome result (λ scale. IsOver scale.denominator scale.most bound.now) }
+    ensures cells { IfSome result (λ scale. (i : ℕ) → i < count → IsOver scale.denominator scale.most (cell_at cells.now i)) }
+{
+    let divided = divided_denominator(cells, count, bound, denominator);
+    match measured_over(cells, count, bound, divided) {
+        Some(scale) => Some(scale),
+        None => least_scale(cells, count, bound),
+    }
+}
+
+/// The scale of the first `count` cells and the bound, over the denominator that they may be held over, without what it has in
+/// common with their numerators, or else over their least common one.
 pub fn find_scale(cells: &[Kept], count: usize, bound: &Quotient, denominator: u64) -> Option<Scale>
     requires { count ≤ length cells.now }
     ensures above { IfSome result (λ scale. 0 < scale.denominator) }
@@ -115,7 +132,7 @@ pub fn find_scale(cells: &[Kept], count: usize, bound: &Quotient, denominator: u
 {
     match measured_over(cells, count, bound, denominator) {
         Some(scale) => Some(scale),
-        None => least_scale(cells, count, bound),
+        None => divided_scale(cells, count, bound, denominator),
     }
 }
 
@@ -162,17 +179,29 @@ fn size_over(number: &Quotient, denominator: u64) -> u64
         .unsigned_abs()
 }
 
-/// Whether a denominator and the numerators of the first `count` cells and the bound have a common divisor other than 1.
-pub fn have_divisor(cells: &[Kept], count: usize, bound: &Quotient, denominator: u64) -> bool
+/// What a denominator and the numerators over it, those of the first `count` cells and the bound, have in common.
+fn shared_divisor(cells: &[Kept], count: usize, bound: &Quotient, denominator: u64) -> u64
     requires count { count ≤ length cells.now }
     requires above { 0 < denominator }
 {
     let mut shared = word_divisor(size_over(bound, denominator), denominator);
     for index in 0..count {
         if shared == 1 {
-            return false;
+            return shared;
         }
         shared = word_divisor(size_over(&cells[index].cell, denominator), shared);
     }
-    shared != 1
+    shared
+}
+
+/// A denominator without what it has in common with the numerators over it: a guess, which is tested. 0 stays 0.
+pub fn divided_denominator(cells: &[Kept], count: usize, bound: &Quotient, denominator: u64) -> u64
+    requires { count ≤ length cells.now }
+{
+    if denominator == 0 {
+        return 0;
+    }
+    denominator
+        .checked_div(shared_divisor(cells, count, bound, denominator))
+        .unwrap_or(0)
 }

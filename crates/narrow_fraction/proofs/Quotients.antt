@@ -39,12 +39,16 @@ zero_test (pos (suc a)) d h = (λ e. absurd (not_zero a e), λ e. absurd (over_n
 zero_test (negsuc a) d h = (λ e. absurd (not_zero a e), λ e. absurd (over_not_zero (negsuc a) d h (λ f. absurd (omega (arith, ints))) e))
 
 -- ---- numerators
+spread : (u v q n d : ℕ) → n * q ≡ d → u * q * n + v * d ≡ v * q * n + u * d
+spread u v q n d e = rw (← e) (omega arith)
+
 -- x over a multiple of its denominator
 pub over_multiple : (x : ℚ) (d : ℕ) → 0 < d → x.den * (d / x.den) ≡ d → over (x.num *ℤ pos (d / x.den)) d ≡ x
 over_multiple x d h e = same_ratio _ _ _ _ _ _ _ _ (over_terms (x.num *ℤ pos (d / x.den)) (up x.num * (d / x.den)) (down x.num * (d / x.den)) d h (omega (arith, ints))) (own_ratio x) (spread (up x.num) (down x.num) (d / x.den) x.den d e)
-  where
-    spread : (u v q n d : ℕ) → n * q ≡ d → u * q * n + v * d ≡ v * q * n + u * d
-    spread u v q n d e = rw (← e) (omega arith)
+
+-- both numbers times the same one
+pub over_scaled : (n : ℤ) (k d b : ℕ) → 0 < d → 0 < b → d * k ≡ b → over (n *ℤ pos k) b ≡ over n d
+over_scaled n k d b h g e = same_ratio _ _ _ _ _ _ _ _ (over_terms (n *ℤ pos k) (up n * k) (down n * k) b g (omega (arith, ints))) (over_ratio n d h) (spread (up n) (down n) k d b e)
 
 over_den : (n : ℤ) (d : ℕ) → 0 < d → (over n d).den ∣ d
 over_den n d h =

@@ -1,6 +1,6 @@
 //! A number held as a quotient that may not be in lowest terms.
 
-ghost use Rattle.std.specs.Prelude.{◌≡◌, ◌<◌, ◌↔◌, IsTrue, pos};
+ghost use Rattle.std.specs.Prelude.{◌≡◌, ◌<◌, ◌↔◌, IfSome, IsTrue, pos};
 ghost use Rattle.rational_theory.specs.Rational.{◌<ℚ◌, over, whole};
 ghost use Rattle.rational_theory.specs.Compare.{cmp_ℚ};
 ghost use Rattle.std.specs.Ordering.{MatchOrdering};
@@ -60,6 +60,27 @@ fn numerator_of(fraction: Frac, denominator: u64) -> Option<i64>
     }
 }
 
+/// The n of which `top / below` is `n / denominator`, where it is found by dividing both words by one number.
+fn divided_numerator(top: i64, below: u64, denominator: u64) -> Option<i64>
+    requires above { 0 < below }
+    requires denominator { 0 < denominator }
+    ensures { IfSome result (λ n. over top below ≡ over n denominator) }
+{
+    if below % denominator != 0 {
+        return None;
+    }
+    let Ok(times) = i64::try_from(below / denominator) else {
+        return None;
+    };
+    let Some(numerator) = top.checked_div(times) else {
+        return None;
+    };
+    match numerator.checked_mul(times) {
+        Some(product) if product == top => Some(numerator),
+        _ => None,
+    }
+}
+
 impl Quotient {
     /// The quotient of two words as they are. No common divisor is sought.
     pub fn of_words(numerator: i64, denominator: u64) -> Quotient
@@ -100,7 +121,24 @@ impl Quotient {
         requires { 0 < denominator }
         ensures { IsNumerator self.now denominator result }
     {
-        numerator_of(self.fraction(), denominator)
+        match self.numerator_below(denominator) {
+            Some(numerator) => Some(numerator),
+            None => numerator_of(self.fraction(), denominator),
+        }
+    }
+
+    /// The numerator over a denominator that divides the one it is held over, where a division of words finds it.
+    fn numerator_below(&self, denominator: u64) -> Option<i64>
+        requires { 0 < denominator }
+        ensures { IfSome result (λ n. self.now ≡ over n denominator) }
+    {
+        if self.den > 0 {
+            return None;
+        }
+        match u64::try_from(self.den.unsigned_abs()) {
+            Ok(below) => divided_numerator(self.num as i64, below, denominator),
+            Err(_) => None,
+        }
     }
 
     /// The numerator over a denominator, where it is a number of 64 bits with a sign: at once where the quotient is held
