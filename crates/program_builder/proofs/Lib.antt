@@ -20,3 +20,4 @@ pub mod ArteryTables
 pub mod StartPivots
 pub mod CommonParts
 pub mod UnitFits
+pub mod BoxBounds
