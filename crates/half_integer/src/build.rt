@@ -204,7 +204,12 @@ fn copied(alloc: Global, patterns: &[u32]) -> Result<Vec<u32>, Memory>
 }
 
 /// The timing of a band, with each red centred in its better phase.
-fn built(alloc: Global, artery: &Artery, timing: &Timing, band: OutboundBand) -> Result<Timing, Memory>
+fn built(
+    alloc: Global,
+    artery: &Artery,
+    timing: &Timing,
+    band: OutboundBand,
+) -> Result<Timing, Memory>
     requires shape { length timing.now.patterns ≡ count artery.now }
     requires fits { FitsTwice artery.now timing.now }
     requires near { unsigned_abs band.first ≤ 2 ^ 99 }

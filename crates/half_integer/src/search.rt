@@ -146,7 +146,12 @@ fn room(artery: &Artery, timing: &Timing, first: i128) -> Option<u128>
 }
 
 /// The better of a band and the widest one on another line.
-fn better(artery: &Artery, timing: &Timing, best: Option<OutboundBand>, first: i128) -> Option<OutboundBand>
+fn better(
+    artery: &Artery,
+    timing: &Timing,
+    best: Option<OutboundBand>,
+    first: i128,
+) -> Option<OutboundBand>
     requires shape { length timing.now.patterns ≡ count artery.now }
     requires near { unsigned_abs first ≤ 26 * 2 ^ 94 }
     requires runs { IsRun artery.now timing.now best }

@@ -17,8 +17,8 @@ use crate::certificate::LinkCertificate;
 use artery_model::Artery;
 use certificate_checker::{Aim, Reject, TreeRows, check_claim, check_tree, limit_of};
 use link_space::{
-    LinkFailing, LinkTiming, fill_link_goal, law_link_fails_rules_out, law_one_first_link, link_column_count,
-    link_holds, link_sum, link_value,
+    LinkFailing, LinkTiming, fill_link_goal, law_link_fails_rules_out, law_one_first_link,
+    link_column_count, link_holds, link_sum, link_value,
 };
 use loop_rows::SumFault;
 use named_row::{Leaf, Row};

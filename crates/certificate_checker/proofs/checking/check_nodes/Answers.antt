@@ -1,17 +1,11 @@
-use Rattle.std.proofs.Common.{◌≡◌, [], ◌∷◌, length, map, List, option_map, sym, ◌∙◌, ap, ap₂}
+use Rattle.std.proofs.Common.{length, map, option_map, ◌∙◌, ap}
 use Rattle.std.proofs.lemmas.Result.{err_from_is_err_and}
-use Rattle.progression.specs.Street.{Street}
-use Rattle.linear_theory.specs.Boxes.{Area, root_box}
 use Rattle.linear_theory.specs.Rows.{goal_form}
 use Rattle.named_row.specs.Sheets.{Sheet}
-use Rattle.loop_rows.specs.Weights.{artery_rows}
 use Rattle.loop_rows.proofs.Writing.{written_width}
-use Rattle.loop_rows.specs.Writing.{written}
-use Rattle.plan_text.specs.Warrants.{Node, node_of}
+use Rattle.plan_text.specs.Warrants.{node_of}
 use Rattle.certificate_checker.specs.Checked.{reject_from}
 use Rattle.certificate_checker.specs.Refusals.{one_band}
-use Rattle.certificate_checker.specs.TreeRefusals.{tree_refusal}
-use Rattle.certificate_checker.specs.declared.leaves.Aim.{Aim}
 use Rattle.certificate_checker.proofs.NodeRefusals.{first_from, tree_moved, same_tree}
 use Rattle.certificate_checker.proofs.checking.check_nodes.Goals as goal
 

@@ -1,14 +1,9 @@
-use Rattle.std.proofs.Common.{◌≡◌, [], ◌∷◌, length, map, List, option_map, sym, ◌∙◌, ap, ap₂}
+use Rattle.std.proofs.Common.{length, map, option_map, ◌∙◌, ap}
 use Rattle.std.proofs.lemmas.Result.{err_from_is_err_and}
-use Rattle.progression.specs.Street.{Street}
-use Rattle.linear_theory.specs.Boxes.{Area, root_box}
 use Rattle.named_row.specs.Sheets.{Sheet}
-use Rattle.plan_text.specs.Warrants.{Node, node_of}
+use Rattle.plan_text.specs.Warrants.{node_of}
 use Rattle.certificate_checker.specs.Checked.{reject_from}
-use Rattle.certificate_checker.specs.declared.leaves.Aim.{Aim}
 use Rattle.certificate_checker.proofs.NodeRefusals.{first_from, tree_moved, same_tree}
-use Rattle.link_space.specs.LinkSheets.{link_goal_sheet}
-use Rattle.link_space.specs.LinkWeights.{link_rows}
 use Rattle.link_proof.specs.LinkAccepted.{of_links}
 use Rattle.link_proof.proofs.LinkMeaning.{link_goal_wide}
 use Rattle.link_proof.proofs.checking.check_nodes.Goals as goal
