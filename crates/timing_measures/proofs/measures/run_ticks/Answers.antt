@@ -1,7 +1,7 @@
 use Rattle.std.proofs.Common.{◌≤◌, sym, subst, pos, ◌≤ℤ◌}
 use Rattle.rational_theory.specs.Rational.{ℚ}
-use Rattle.diagram_print.proofs.SomeTicks.{some_ticks}
-use Rattle.diagram_print.proofs.speeds.run_ticks.Goals as goal
+use Rattle.timing_measures.proofs.SomeTicks.{some_ticks}
+use Rattle.timing_measures.proofs.measures.run_ticks.Goals as goal
 
 pub returns-clause-least : goal.returns-clause-least
 returns-clause-least c =
