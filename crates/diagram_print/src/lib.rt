@@ -5,8 +5,8 @@
 //! names of rows and columns, measures, and, with the lines of a timing of any kind, what a verdict says.
 //!
 //! `report` writes exactly the lines of what a search found: the verdict, why an open search stopped with the site and its
-//! operands, the bound, and the whole of a timing, which is the weighted band, both bands and the cycle (`specs/Measures.antt`),
-//! each signal's pattern, offset and name (`specs/Offsets.antt`), each link's two speeds (`specs/Speeds.antt`) and the diagram.
+//! operands, the bound, and the whole of a timing, which is the weighted band, both bands and the cycle, each signal's
+//! pattern, offset and name, each link's two speeds and the diagram.
 //! Each number is the exact quotient of whole numbers, printed in full and then cut after 6 or 3 places. A speed is that of the
 //! band, the distance over the run, so that a clearance doesn't change it; that it divides by no run of 0 follows from the rule of
 //! the greatest speed. `diagram` writes the diagram's lines alone, for any timing of as many signals: each character says by the
