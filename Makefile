@@ -1,22 +1,38 @@
 # make                 builds the program: every function of it is proved first, on JOBS processors
 # make try             runs README's example with nothing proved, in about a minute; STREET=FILE tries another street, of any name
 # make example         builds the program and finds the best timing of a shipped street
+# make tree            prints the tree of the certificate CERT=FILE and adds up its leaves for the street STREET=FILE
 # make test            proves everything and runs every test
 # make check-examples  solves each shipped street, compares what is printed with its report, and checks its certificate
+# make check-docs      runs the commands of the documents, and compares what they print with what stands there
+# make check-pages     sees that what the documents say of the sources is true: tables, counts, names
+# make second          solves the shipped streets by a second program, written from the documents alone, and compares
+# make peers           solves made and shipped streets by cbc, glpsol and z3, and compares
+# make faults          runs the program with one call of the system refused or failed, each in turn (wants a compiler of C)
+# make believe         prints the definitions that a reader must believe to believe a verdict
 # make bench           times the program, and fractions and pivots beside plain Rust
-# make install         puts the program and its manual page under PREFIX (/usr/local)
+# make install         puts the program, its manual page, documents and examples under PREFIX (/usr/local)
+# make uninstall       takes them away
+# make help            prints these lines
 PREFIX ?= /usr/local
 STREET ?= examples/broadway.toml
-# Recipes read the name from the environment, since it may have blanks, quotes and dollars in it.
+CERT ?= broadway-certificate.txt
+# Recipes read the names from the environment, since they may have blanks, quotes and dollars in them.
 export STREET_FILE := $(value STREET)
+export CERT_FILE := $(value CERT)
 # As many proofs at a time as there are processors; one takes 1 to 4 GB of memory, so give fewer where memory is short.
 JOBS ?= $(shell nproc 2>/dev/null || echo 1)
 PROGRAM = crates/maxband/out/maxband
 FRACTIONS = crates/fraction_bench/out/fraction_bench
 PIVOTS = crates/pivot_bench/out/pivot_bench
 SOURCES := crates.txt $(shell find crates \( -name out -o -name must-fail \) -prune -o \( -name '*.rt' -o -name '*.antt' \) -print)
+DOCUMENTS = $(DESTDIR)$(PREFIX)/share/doc/maxband
+MANUAL = $(DESTDIR)$(PREFIX)/share/man/man1/maxband.1
 
 all: $(PROGRAM)
+
+help:
+	@sed -n '/^#/!q; s/^# //p' Makefile
 
 # A program that is there was built of proved crates, so one whose crates have changed since goes where they aren't proved.
 PROVE = scripts/prove --jobs $(JOBS) $(notdir $@) && touch $@ || { rm -f $@; exit 1; }
@@ -34,11 +50,36 @@ try:
 example: $(PROGRAM)
 	$(PROGRAM) solve examples/broadway.toml broadway-certificate.txt
 
+tree:
+	@scripts/tree "$$STREET_FILE" "$$CERT_FILE"
+
 test:
 	rt ci
 
 check-examples: $(PROGRAM)
 	scripts/examples
+
+check-docs: $(PROGRAM)
+	scripts/try-docs
+
+check-pages:
+	scripts/pages
+	scripts/edits
+	scripts/unused
+	scripts/believe --check
+	scripts/cases
+
+second: $(PROGRAM)
+	scripts/second
+
+peers: $(PROGRAM)
+	scripts/peers
+
+faults: $(PROGRAM)
+	scripts/faults
+
+believe:
+	@scripts/believe verdict
 
 bench: $(PROGRAM) $(FRACTIONS) $(PIVOTS)
 	scripts/bench
@@ -46,8 +87,18 @@ bench: $(PROGRAM) $(FRACTIONS) $(PIVOTS)
 $(FRACTIONS) $(PIVOTS): $(SOURCES)
 	@$(PROVE)
 
+# The manual page names files by where they were put. The pages name one another by their places in the repository, which stay.
 install: $(PROGRAM)
 	install -D -m 755 $(PROGRAM) $(DESTDIR)$(PREFIX)/bin/maxband
-	install -D -m 644 docs/maxband.1 $(DESTDIR)$(PREFIX)/share/man/man1/maxband.1
+	install -d $(dir $(MANUAL)) $(DOCUMENTS)/docs $(DOCUMENTS)/examples
+	sed 's,/usr/local,$(PREFIX),' docs/maxband.1 > $(MANUAL)
+	chmod 644 $(MANUAL)
+	install -m 644 README.md CHANGELOG.md VERSION $(DOCUMENTS)
+	install -m 644 docs/*.md docs/*.svg $(DOCUMENTS)/docs
+	install -m 644 examples/* $(DOCUMENTS)/examples
 
-.PHONY: all try example test check-examples bench install
+uninstall:
+	rm -f $(DESTDIR)$(PREFIX)/bin/maxband $(MANUAL)
+	rm -rf $(DOCUMENTS)
+
+.PHONY: all help try example tree test check-examples check-docs check-pages second peers faults believe bench install uninstall

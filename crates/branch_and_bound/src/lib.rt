@@ -15,6 +15,22 @@
 //! - `Answer`: `IsAccepted`, `IsSorted`, `StopCase`, `IsNeeded`, `IsOpenBound`, and the three verdicts.
 //! - `Enough`: how many units are enough.
 //! - `State`, `Volumes` and `Greatest` are what the search keeps true; nothing above rests on them.
+//!
+//! It is Little's (1966), for anything that implements `Relaxation` and keeps its laws: the bound of a part is at most that of its
+//! box, a place to split lies in its box, and the leaf of an optimal end doesn't refute. They are asked of sound problems alone.
+//! `search` answers, in one clause, a tree whose leaves prove the verdict, each split and leaf of which is what the relaxation's
+//! end says, with a timing exactly where a leaf has one; the units of work that it took; and for a search that stopped, by one
+//! witness of where it did, its bound, the undone split and the cause. Of waiting nodes with equal bounds the first in preorder is
+//! split, a timing replaces the best so far only where its value is greater, and nodes whose bound the best value reaches become
+//! closed when the answer is made; the node of an undone split waits all the same.
+//!
+//! The bound from before any step stands only for a root that wasn't finished: steps were left, or the leaf of its end is no proof
+//! (`specs/Unfinished.antt`); a root of which only the vertex couldn't be read has its own leaf and bound. Where the stop fell in a
+//! part of the undone split, that part wasn't finished after the pivots that are named, and a low part before it was read to its
+//! end: it is empty, or its vertex gave a timing or a place to split. Nothing is claimed of a stop but by work with all units
+//! spent, or by a named refused operation. `law_enough`: where each box costs so many units at most, that number for each node of a
+//! tree with a leaf for each choice of block sums and ranks in the root box (an empty span counting 0), or of the root alone where
+//! it has none, is enough; so without a limit no search stops by work.
 #![tactic(auto)]
 
 mod best_first;

@@ -20,6 +20,14 @@
 //!   a box of any; `specs/BoxRuns.antt` has what it answers.
 //! - `specs/Enough.antt`: how many units of work are enough for an artery.
 //! - What is promised of lines of boxes stands in `specs/Promises.antt`, and `law_boxes_end` keeps it. The files of `specs/laws` are lemmas alone, which `program_of` and `rules_of` carry.
+//!
+//! Proved of the runs are the engine's laws (`law_boxes_end`), that along a line no set of basic variables comes twice, wherever it
+//! began, and so that a box takes fewer steps than there are such sets, by which the units of a search are bounded: a stop by work
+//! comes only where there is a limit, and it is less than `enough_of` of the artery, which is a clause of `search`. Also at an
+//! infeasible end the sum of the leaf is made; where it leaves 128 bits, the search stops there, after as many pivots as the box
+//! took. Where an entry is refused, the part begins from its opening tableau, and nothing is told of that. `law_trees_are_proofs`:
+//! the certificate of an answer of `search` is accepted by the checker's definition. So the check that `search_and_check` makes
+//! before it answers never refuses, and the arm of a refusal is unreachable; that it ran, no clause says.
 #![tactic(auto)]
 
 mod artery;

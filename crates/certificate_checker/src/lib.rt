@@ -7,6 +7,14 @@
 //! next box that wants a tree and, for each split on the way down to it, the span that was there before. `check_tree` does
 //! that over any rows (`TreeRows`), for any goal and limit (`specs/TreeProofs.antt`, `specs/TreeRefusals.antt`), and `check_claim` looks
 //! at the numbers of a claim for a timing of any kind (`specs/ClaimRefusals.antt`).
+//!
+//! Accepted is: the timing is good and has the claimed value, the bound is not below it, and each leaf of the tree names rows of
+//! the street, with multipliers of at least 0, whose exact sum rules its box out or bounds the weighted band. What follows of an
+//! accepted one is best, none, or bounded, over all timings on any grid. Memory grows by a place and a span for each split on the
+//! way down (`specs/Owed.antt`). `law_accepted_or_refused` says how acceptance and refusals fit together; want of memory is never a
+//! refusal. `law_proofs_are_trees`: the list of a certificate's nodes, which is read with the boxes that still want a tree, proves
+//! the claim for a box exactly where it is the preorder of a tree that `linear_theory` accepts on that box, each leaf's sum fitting
+//! 128 bits (`specs/ProofTrees.antt`).
 #![tactic(auto)]
 
 mod checking;

@@ -5,6 +5,14 @@
 //! `specs/Described.antt` joins them. Start with `read_artery`. The way back
 //! is `print_artery`: `specs/Canonical.antt` has the table that it prints.
 //!
+//! `read_artery` answers the artery of the bytes where no test fails, and otherwise the first fault, with its kind and place. The
+//! keys are one table, of each its name, in which versions it is known, whether it must stand, and the types and limits of its value
+//! and of that value's items; every test of a value follows from it. `law_one_answer`: no bytes are both described and refused, and there is at
+//! most one artery and one fault for any bytes; `law_some_answer`: there always is one of them. `law_least_key`: of a table's
+//! unknown keys the least by its bytes is named. `law_described_is_valid`: a described artery is valid, which is what laws of other
+//! crates ask of one. What `print_artery` writes is read by `toml` as the canonical table of the artery and described as the same
+//! artery, and it is the one text that `toml` states for that table (`law_one_text`).
+//!
 //! It also reads a plan as people type it, by the same tests (`specs/Typed.antt`): see `read_plan`.
 #![tactic(auto)]
 

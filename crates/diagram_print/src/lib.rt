@@ -3,6 +3,21 @@
 //! Contracts see an `Artery` as a `Street` and a `Timing` as a `Plan`. `specs/Report` has the lines, each a function to
 //! bytes, and `specs/Diagram` those of the diagram. Start with `report`. The other calls are for other lines that print the same:
 //! names of rows and columns, measures, and, with the lines of a timing of any kind, what a verdict says.
+//!
+//! `report` writes exactly the lines of what a search found: the verdict, why an open search stopped with the site and its
+//! operands, the bound, and the whole of a timing, which is the weighted band, both bands and the cycle, each signal's
+//! pattern, offset and name, each link's two speeds and the diagram.
+//! Each number is the exact quotient of whole numbers, printed in full and then cut after 6 or 3 places. A speed is that of the
+//! band, the distance over the run, so that a clearance doesn't change it; that it divides by no run of 0 follows from the rule of
+//! the greatest speed. `diagram` writes the diagram's lines alone, for any timing of as many signals: each character says by the
+//! model's own definitions whether the tick of its place is green in that direction, and whether it lies in the band; a red tick is
+//! `#` also where the band covers it, which in a good timing is nowhere.
+//!
+//! What is told of a verdict is said once for timings of any kind: `verdict_lines` is a function of the table of families by which
+//! rows are named, of the lines of the timing, if there is one, of the bound and of the verdict, and asks only that the box of a
+//! site is one of the artery. `report` is that over the artery's own table and the lines of its timing. `link_lines` asks of a
+//! timing the rules that speak of no band (`IsBase`). `row_text_in` names a row over any table of families, as that of links, and
+//! `column_text` the halves of links behind the columns that every artery has.
 #![tactic(auto)]
 
 mod chart;

@@ -5,6 +5,9 @@
 //! leaf covers the goal with the goal row's bound, or refutes, for all rows and each goal that the tableau stands for
 //! (`StandsForRows` of `simplex_theory`), in whatever way the names are read as rows; and at an optimal end the vertex meets
 //! them with the goal row's bound as its goal. Begin with `leaf_of`.
+//!
+//! No multiplier is negative, those that are 0 are left out, and they come in the order of the rows. At an optimal end no value of
+//! the vertex is negative.
 #![tactic(auto)]
 
 mod leaves;

@@ -4,6 +4,9 @@
 //! (`specs/Ends.antt`): its contract names the number of pivots made, and the tableau afterwards is the function of the first
 //! one and of that number. Both keep the tableau dual feasible. Why the steps end is in `simplex_theory`'s laws. Begin with
 //! `solve_node`.
+//!
+//! After a refused ratio the tableau is the same. Whether all units are spent is looked at when a pivot is due, before the ratios.
+//! The loop of `solve_node` ends by the number of steps to the end, not by the limit, so no call asks that there is one.
 #![tactic(auto, using(rational_theory::proofs::Compare::lt_true, rational_theory::proofs::Compare::lt_false))]
 
 mod choose;

@@ -4,6 +4,13 @@
 //! variables with which a tableau of other bounds ended, and the dual simplex method goes on from there. Begin with `specs/Entry.antt`;
 //! what is promised stands in `specs/Promises.antt`, and the laws keep it.
 //!
+//! The columns come in ascending order, each at the least row that can take it: one with a cell there that no column took before,
+//! and whose own slack isn't listed. What is promised: where the list is that of the basic variables of a dual feasible tableau of
+//! rows with the same coefficients and the same goal, whatever their bounds, each column finds its row; afterwards just the listed
+//! variables are basic, and the tableau is dual feasible and stands for the rows and the goal that were loaded; and there is one
+//! such entry alone (`law_entry_keeps`). The basic variables in ascending order are one list, which a sort of them gives
+//! (`law_basics_are_listed`).
+//!
 //! Definitions:
 //!
 //! - `Entry`: `IsAmong vs v`, `NamesBasics vs t` (the list names the basic variables in ascending order); the rule as a relation,

@@ -3,6 +3,12 @@
 //!
 //! Begin with `specs/Promises.antt`, which `law_nothing_is_lost` keeps. All holds of timings of any size.
 //!
+//! Proved, in a sentence each: a whole band is green exactly where its wait and its width fit into the green, also a band of width
+//! 0 and a line at the first tick of a red; the block sums of a good timing are whole and lie in the root box; the timing's point
+//! meets every row of each box that it lies in, also those of least and equal bands, which look at no box; the two parts of a box
+//! hold together what the box holds, and nothing twice; and a tree whose leaves cover or refute bounds every good timing, or rules
+//! all of them out.
+//!
 //! Definitions, in the order in which they stand on each other (all on `Street`, `Plan`, `Good` and `Columns` of `progression`):
 //!
 //! - `Places`: `place n c`, the number of a column among those of n signals, `width n`, `value_at n x c`.
@@ -31,7 +37,7 @@
 //! - Which numbers and indices do rows have? `Families`: `family_least`, `family_most`, `row_index`.
 //! - What does a split lose? `Splits`, `TurnSplits`: `loop_split`, `loop_joined`, `loop_once`; `PartBoxes`: `low_loop_boxed`.
 //! - What does a sum of rows prove? `Bounds`: `covered`, `refuted`, `covers_law`, `refutes_law`; `TreeLaws`: `tree_law`, `sum_met`, `bounded`, `no_timing`.
-//! - How is it computed? `Quotients` and `Spans`: `root_least_is` and `root_most_is`, one integer division each, `seconds_is`; `ShiftSizes`;
+//! - How is it computed? `Spans`: `least_sum_is` and `greatest_sum_is`; `Quotients`: `floor_over` and `ceil_over`, one integer division each; `ShiftSizes`;
 //!   `RowNumbers`: each number of a row as one fraction (`Shares.number_over` for plain quotients).
 #![tactic(auto)]
 

@@ -6,6 +6,13 @@
 //!
 //! `link_check` answers Ok exactly for the accepted ones (`specs/LinkAccepted`) and else the first refusal (`specs/LinkRefusals`). Where
 //! it answers Ok, what is claimed holds of the artery (`specs/LinkClaims`), on any grid.
+//!
+//! `read_links` answers a certificate exactly where the bytes are its one text (`found`, `only`), and otherwise the first bad line
+//! with the first fault that applies to it (`exact`); what `write_links` writes is read back as that very certificate
+//! (`read_back`). `law_one_links_text`, `law_links_read_back` and `law_first_bad_of_links` say of its text what `plan_text` says of
+//! the others. The refusals come in their order: the link timing, its value, the bound, and then the nodes in theirs.
+//! `law_link_accepted_or_refused` says how acceptance and refusals fit together. It stands on the readers of trees and texts of
+//! `plan_text` and `certificate_checker`, and on no tableau and no search.
 #![tactic(auto)]
 
 mod certificate;

@@ -6,6 +6,14 @@
 //! speeds, changes of pace, cycle, block sums and shifts are the artery's, in a wider row; `NearRow`, `FarRow` and `LinkRatioRow` are
 //! families of their own, for the problem `LinkBands`. `fill_link_goal` makes the value and `link_sum` adds up a leaf's rows. What the
 //! rows are is defined in `link_theory`, and each row is met by the point of every good link timing of the box.
+//!
+//! `LinkTiming::new` answers a link timing exactly where all numbers are in their ranges. `link_holds` is Ok exactly for good link
+//! timings, and otherwise names the first failing rule: by rule, then by link, then by the signal in the direction's order of
+//! travel, then by tick; `link_value` is their value exactly. Neither takes memory. `link_sum` names the first operation past 128
+//! bits, by the same code as `leaf_sum` of `loop_rows`. A link timing is judged as if its street asked for no least and no equal
+//! bands: these are promises for the whole way, which no band of a link could keep. `law_links_as_wide` holds link timings to the
+//! good timings from outside: a best one is worth at least so many times the weighted band of any good timing as there are links,
+//! and of two signals just as much as a best timing, where neither least bands nor equal bands are asked for.
 #![tactic(auto)]
 
 mod bands;

@@ -25,6 +25,14 @@
 //! - Which numbers and indices do rows have? `LinkFamilies`: `link_family_least`, `link_family_most`, `link_index_most`.
 //! - What does a sum of rows prove? `LinkGoals`, `LinkTreeLaws`: `bounded`, `no_timing`.
 //! - What is a vertex? `LinesOfVertices`: a vertex of the plain artery; `PlainVertices`; `Recovered`: `point_is`, `links_good`, `value_is_goal`.
+//!
+//! What is promised: the two lines of a good link timing are a good timing, with bands of no width, of the same street without
+//! least bands and equal bands, so their block sums are whole and lie in the root box with the shifts; the timing's point meets
+//! every row, the goal there is its value, and a tree whose leaves cover the goal or refute bounds every good link timing on every
+//! grid. A link's band is green at an end exactly where the point meets the two rows of that end, and keeps the ratio exactly where
+//! it meets the row of the ratio; so a vertex of these rows with whole block sums and ranked shifts is the point of a good link
+//! timing of its value, and each other one names a place inside its box. `law_worked_links` decides link timings and rows that were
+//! worked by hand. The idea is that of MULTIBAND (Gartner, Assmann, Lasaga and Hou 1991).
 #![tactic(auto)]
 
 mod ends;

@@ -12,6 +12,10 @@
 //! For the rows of another linear program: families of another `Problem`, filled by `fill_by`; a `RowTable`, whose rows `next_in`
 //! names in their order; a `RowSource`, whose rows `sum_of` adds up. Those of an artery are the instances `Progression`,
 //! `ArteryTable` and `BoxRows`.
+//!
+//! `fill_row` clears the row first and makes it exactly, unspent; it is false, and the row stays as it was, exactly where the
+//! artery has no such row. `block_sum` adds its twelve terms in order or names the first operation past 128 bits, and `leaf_sum`
+//! names the first row that can't be added. In `rows.rt` it is said once which number is which family.
 #![tactic(auto)]
 
 mod bands;

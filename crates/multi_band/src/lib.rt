@@ -15,6 +15,15 @@
 //!   `LinkEnough.antt` and `LinkCertified.antt`.
 //! - The report: `link_report` writes the lines of what was found, each a function to bytes (`specs/LinkReport.antt`); what they share
 //!   with the report of whole bands is `diagram_print`'s.
+//!
+//! Each box begins from its own opening tableau, after two pivots for each link, which bring its halves into the basis, and keeps
+//! nothing for its parts; it is dual feasible for each ratio, and no operation of the start leaves 128 bits. No step takes the
+//! columns of the artery's own two bands (`specs/laws/IdleBands.antt`). The answer is pinned as that of `search` of `branch_tree`
+//! is: tree, units and stop are those of the stated rule, and a stop by work comes only under a limit that is less than enough.
+//! `law_link_outcomes_mean` says in the model's words when each outcome of a vertex comes, and `law_link_outcomes_are_sound` what
+//! follows; two laws decide vertices and outcomes that were worked by hand. That the check of `search_links_and_check` never
+//! refuses is proved, and that it ran no clause says. `link_report` asks that a link timing that stands is good, and that a site
+//! that the verdict names has a box of the artery, and a row, a column or a link of its links.
 #![tactic(auto)]
 
 mod band_lines;

@@ -8,6 +8,22 @@
 //!
 //! For certificates with another kind of timing or with other rows: `TimingKind` is such a kind, `claim_at` and `push_claim`
 //! read and write a claim with its timing, and `tree_at` and `push_tree` a tree with its rows over a table of families.
+//!
+//! `read_timing` answers a timing exactly where the bytes are its text (`found`, `only`), and otherwise the first bad line with the
+//! first fault that applies to it (`exact`). `write_timing` writes that text, and what it writes is read back as that very timing
+//! (`read_back`). `write_certificate` writes the first text of a certificate, and `write_second` the second, in which the rows that
+//! the leaves name are listed once and a leaf has whole numbers over their least common denominator. `read_certificate` reads both,
+//! by the first line (`certificate_of`). The reader of the second takes a leaf's multipliers, asks the function by which the writer
+//! chooses a leaf's form, and compares; so the rule on the common divisor stands in one place. The type `Certificate` keeps that a
+//! timing stands exactly where the claim has a value, that the nodes are one whole tree in preorder, and that the rows of each leaf
+//! have names and ascend (`IsCertificate`). What a certificate shows of an artery is said by `certificate_checker`.
+//!
+//! Laws over the definitions. `law_one_text`: reading and writing are one notion, bytes being read as a timing exactly where the
+//! program can hold it and they are its text, and as a certificate exactly where they are one of its two; `law_reads_back` is the
+//! half of it that starts from the text. `law_first_bad`, what a named line means: a missing line is the one after all whole lines,
+//! any other is one of the text's, counted from 1; a text cut before it is whole or misses only its next line; and whatever follows
+//! it the answer is the same, so the text of no timing or certificate begins with these lines. `law_divisor_rule`: the denominator
+//! of a leaf is the least common one exactly where it and all the whole numbers have no common divisor.
 #![tactic(auto)]
 
 mod cert_reading;

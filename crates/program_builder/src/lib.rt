@@ -15,6 +15,14 @@
 //!
 //! What isn't an artery's alone is made for any table of rows, a `TableRows` (`specs/RowTable.antt`): `make_tableau`, `load`
 //! (`specs/Loading.antt`) and `pivot`, one of the pivots of a start (`specs/StartPivots.antt`). `ArteryTable` is an artery's.
+//!
+//! `rows_of`, which `law_rows_are_all` says is the list that `next_row` walks, has the rows. Least and equal bands only add rows,
+//! and the goal row comes from the rows of the two start pivots alone. `reset` takes no memory and works on a spent tableau too.
+//! `enter` is false exactly where an operation of the entry's pivots is past 128 bits, and then the state is that of `reset`; at a
+//! slack of the list it does nothing. Whatever the boxes above a box are, the tableau that it begins from is dual feasible and
+//! stands for the box's rows and the weighted band (`law_first`). Of the start no operation is ever refused: `StartPivots` and
+//! `UnitFits` of `proofs/` say of pivots on cells of 1 that don't touch one another's rows that they leave no goal cell below 0 and
+//! are never refused.
 #![tactic(auto)]
 
 mod building;

@@ -7,6 +7,17 @@
 //! (remainders, reds and greens), `Lines` (where the progression lines cross), `Good` (the rules of
 //! a good timing), `Best` (the weighted band and what 'best' means), `Columns` (a timing as a point
 //! of linear programming).
+//!
+//! The rules of a good timing that speak of no band, up to the changes of pace, are one record, `IsBase`, which whatever follows
+//! from a timing's runs and cycle cites; `Good` has it, the ratio, the least bands, their equality and the two green ways. A good
+//! timing includes that its record is well formed: `grid` at least 1, `unit` at least 2, as many reds as patterns and one fewer of
+//! each run; "best" ranges over these records, with numbers of any size. `docs/MODEL.md` says the same in prose.
+//! `law_worked_timings` is the check from outside: timings that were worked by hand (bands that fill the greens, one a tick too
+//! wide, a line at the first tick of a red, a clearance, lagging and leading left turns, and each of the four patterns with unequal
+//! ones) are decided by the definitions alone.
+//!
+//! `proofs/` has the lemmas that crates above share: on remainders by the cycle, on bands that fit between reds, and on the
+//! crossings of a line.
 #![tactic(auto)]
 
 mod parts;

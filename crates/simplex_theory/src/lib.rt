@@ -4,6 +4,13 @@
 //! variable of each row and the variable that stands at each place. Column `j` is variable `j`, and the slack of row `r` is
 //! variable `width + r`. Begin with `specs/Tableau.antt`; what is promised stands in `specs/Promises.antt`, and the laws keep it.
 //!
+//! What is promised (Bland 1977 for the rule, Farkas for the multipliers): an exchange keeps which assignments of all variables
+//! meet the rows, both ways, and the goal on them, also where the bounds are taken 0 times; a step of Bland's dual rule keeps dual
+//! feasibility, and the goal row's bound doesn't rise; on the way to the end no set of basic variables comes twice, so that it
+//! takes fewer than 2^(rows + columns) steps; the multipliers of the goal row cover the goal with its bound, those of a row with a
+//! negative bound and no negative cell refute the rows; and the vertex of an optimal end meets the rows with the goal row's bound
+//! as its goal.
+//!
 //! Definitions:
 //!
 //! - `Tableau`: `Tableau`, `line t i`, `cell t i k` (the bound at `k = width t`), `goal_cell`, `basic_at`, `standing_at`; `exchange r j t`;

@@ -3,6 +3,20 @@
 //!
 //! Contracts see a `Timing` as the `Plan` of the model and an `Artery` as its `Street`. Start with
 //! `Timing::new`, then `holds`.
+//!
+//! `Timing::new` keeps the limits of a timing's numbers. `holds` is Ok exactly for good timings, for all four patterns, left turns,
+//! clearances, speed ranges, changes of pace, ratios, least and equal bands, and otherwise names the first failing rule, signal and
+//! tick: by rule, then outbound before inbound, then by number, the signals of an inbound band alone in its order of travel.
+//! `value` is the weighted band, at least 0 and with a denominator of at most 2^120. `base_holds` is the first half of `holds`, the
+//! rules that speak of no band; where the red of a direction starts, how long it is and where a line crosses the next signal are
+//! calls too.
+//!
+//! Laws over the definitions: a failing rule rules a good timing out (`law_fails_rules_out`), at most one failing is the first
+//! (`law_one_first`), and a timing is good exactly where it is good with every tick number, `grid` and `unit` multiplied by any m
+//! of at least 1 (`law_finer_grids`), so that whole ticks decide for all lines between them. And what red means, over all ticks,
+//! negative ones too: a tick isn't green exactly where it lies strictly between the start and the end of the red of some cycle
+//! (`law_reds_are_intervals`, for reds no longer than the cycle), and the ticks since the last start are what is left of whole
+//! cycles (`law_since_last_start`).
 #![tactic(auto)]
 
 mod diagram;
