@@ -1,5 +1,5 @@
 -- Rows that are made of their cells and a bound.
-use Rattle.std.proofs.Common.{◌^◌, ◌≡◌, ℕ, zero, suc, pos, List, [], ◌∷◌, Option, Some, None, length, take, eqb, ◌+◌, ◌<◌, ◌≤◌, ◌⊎◌, inl, inr, refl, sym, ◌∙◌, ap, subst, arith}
+use Rattle.std.proofs.Common.{◌^◌, ◌≡◌, ℕ, zero, suc, pos, List, [], ◌∷◌, Option, Some, None, length, take, eqb, ◌+◌, ◌<◌, ◌≤◌, ◌⊎◌, inl, inr, sym, ◌∙◌, ap, subst, arith}
 use Rattle.std.specs.Prelude.{SomeIff}
 use Rattle.std.proofs.lemmas.List.{get_or_past}
 use Rattle.std.proofs.lemmas.Bool.{cond_both}
@@ -25,16 +25,6 @@ line_in items new w count e h l = subst (λ t. IsLine (length t) count (take cou
 
 pub row_in : (items new : List Kept) (w count : ℕ) (b : ℚ) → items ≡ new → length new ≡ w → dense_row (length items) (take count items) b ≡ dense_row w (take count new) b
 row_in items new w count b e h = ap (λ t. dense_row (length t) (take count t) b) e ∙ ap (λ m. dense_row m (take count new) b) h
-
--- what a row is once its first cells and its bound are written
-pub record IsWritten (items : List Kept) (count : ℕ) (bound : ℚ) (target : List ℚ) : Type 0 where
-  pub line : IsLine (length items) count (take count items)
-  pub row : dense_row (length items) (take count items) bound ≡ target
-
-pub row_written : (items new : List Kept) (w count : ℕ) (b : ℚ) (target : List ℚ) → items ≡ new → length new ≡ w → length target ≡ w + 1 → count ≤ w → take count new ≡ kept_below (number_in target) w → b ≡ number_in target w → IsWritten items count b target
-row_written items new w count b target e h l n k q =
-    let m = row_made target w count (number_in target) new b l n k (λ _ _. refl) q in
-    record { line = line_in items new w count e h m.0; row = row_in items new w count b e h ∙ m.1 }
 
 -- ---- the numbers of a row by those of its cells
 pub cells_over : (d b : ℕ) (cs : List Kept) (k : ℕ) → 0 < d → ((i : ℕ) → IsOver d b (cell_at cs i)) → IsOver d b (cell_in cs k)

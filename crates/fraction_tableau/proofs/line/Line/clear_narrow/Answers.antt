@@ -1,13 +1,13 @@
-use Rattle.std.proofs.Common.{◌≡◌, ℕ, List, length, ◌+◌, ◌<◌, ◌≤◌, sym, ◌∙◌, ap, subst, arith}
+use Rattle.std.proofs.Common.{◌≡◌, ℕ, List, length, take, ◌+◌, ◌<◌, ◌≤◌, refl, sym, ◌∙◌, ap, subst, arith}
 use Rattle.std.proofs.lemmas.List.{with_items_is}
 use Rattle.simplex_theory.specs.Lines.{cleared}
 use Rattle.simplex_theory.proofs.Lines.{length-cleared}
 use Rattle.fraction_tableau.specs.Narrow.{IsNarrow}
-use Rattle.fraction_tableau.specs.KeptCells.{number_in, kept_below}
+use Rattle.fraction_tableau.specs.KeptCells.{number_in, kept_below, dense_row, IsLine}
 use Rattle.fraction_tableau.specs.Scales.{IsOver, HasScale, factor_of}
 use Rattle.fraction_tableau.specs.declared.kept.Kept.{Kept}
-use Rattle.fraction_tableau.proofs.KeptCells.{open_row, length-dense}
-use Rattle.fraction_tableau.proofs.Making.{IsWritten, row_written, scale_joined, over_fits}
+use Rattle.fraction_tableau.proofs.KeptCells.{open_row, length-dense, line_new}
+use Rattle.fraction_tableau.proofs.Making.{scale_joined, over_fits}
 use Rattle.fraction_tableau.proofs.Merges.{cleared_last}
 use Rattle.fraction_tableau.proofs.Scales.{cleared_scaled, to_above, to_least}
 use Rattle.fraction_tableau.proofs.Small.{scaled_small, clear_free_own}
@@ -49,7 +49,7 @@ joined-self-inside-requires-clause-turned c =
 
 -- the row that is made
 made : (c : After-joined-self-inside) (items : List Kept) → (length c.args.row.now ≡ length c.self.inside.cells.items + 1) × ((c.in-Some.joining.place < length c.self.inside.cells.items) × (factor_of c.in-Some.joining ≡ number_in c.args.row.now c.in-Some.joining.place)) → length c.join-self-inside.new.cells ≡ length c.self.inside.cells.items → items ≡ c.join-self-inside.new.cells
-    → IsWritten items c.join-self-inside.result c.joined-self-inside.result (cleared c.in-Some.joining.place c.args.turned.now c.args.row.now)
+    → IsLine (length items) c.join-self-inside.result (take c.join-self-inside.result items) × (dense_row (length items) (take c.join-self-inside.result items) c.joined-self-inside.result ≡ cleared c.in-Some.joining.place c.args.turned.now c.args.row.now)
 made c items g len same =
     let j = c.in-Some.joining in
     let d = c.args.row.now in
@@ -62,7 +62,7 @@ made c items g len same =
     let high : c.join-self-inside.result ≤ w = omega (arith, c.join-self-inside.ensures.count, ap length c.deref_mut.ensures.value) in
     let k = c.join-self-inside.ensures.cells ∙ ap (λ (u : List Kept). kept_below (number_in (cleared j.place e d)) (length u)) c.deref_mut.ensures.value in
     let b = cleared_last j.place w e d c.joined-self-inside.result (factor_of j) c.row.inside.bound c.turned.inside.bound g.1.0 g.1.1 x y c.joined-self-inside.ensures in
-    row_written items c.join-self-inside.new.cells w c.join-self-inside.result c.joined-self-inside.result _ same len (length-cleared j.place e d (sym c.requires.widths) ∙ g.0) high k b
+    line_new (cleared j.place e d) items c.join-self-inside.new.cells w c.join-self-inside.result (number_in (cleared j.place e d)) c.joined-self-inside.result same len (length-cleared j.place e d (sym c.requires.widths) ∙ g.0) high k (λ _ _. refl) b
 
 -- its numbers stand over the new denominator
 scaled : (c : After-deref_mut) → (k : ℕ) → IsOver c.in-Some.joining.rescaling.to c.in-Some.joining.most (number_in (cleared c.in-Some.joining.place c.args.turned.now c.args.row.now) k)
@@ -77,7 +77,7 @@ invariant_of-self c =
     let j = c.in-Some.joining in
     let len = written at.After-join-self-inside in
     let m = made at.After-joined-self-inside _ (wide at.After-deref_mut) len (with_items_is c.self.inside.cells c.join-self-inside.new.cells (len ∙ sym c.self.inside.cells.ok.0)) in
-    (m.line, subst (HasScale c.scale-self-inside.result) (sym m.row) (scale_joined c.scale-self-inside.result j _ c.scale-self-inside.ensures c.in-Some.ensures.joining (scaled at.After-deref_mut)))
+    (m.0, subst (HasScale c.scale-self-inside.result) (sym m.1) (scale_joined c.scale-self-inside.result j _ c.scale-self-inside.ensures c.in-Some.ensures.joining (scaled at.After-deref_mut)))
 
 pub returns-clause-passed : goal.returns-clause-passed
 returns-clause-passed c =
@@ -91,7 +91,7 @@ returns-clause-cleared c =
     let at = goal.at.returns-clause-cleared c in
     let len = written at.After-join-self-inside in
     let m = made at.After-joined-self-inside _ (wide at.After-deref_mut) len (with_items_is c.self.inside.cells c.join-self-inside.new.cells (len ∙ sym c.self.inside.cells.ok.0)) in
-    λ _. m.row ∙ ap (λ a. cleared a c.args.turned.now c.args.row.now) c.in-Some.ensures.place
+    λ _. m.1 ∙ ap (λ a. cleared a c.args.turned.now c.args.row.now) c.in-Some.ensures.place
 
 pub returns-clause-width : goal.returns-clause-width
 returns-clause-width c =
@@ -106,4 +106,4 @@ returns-clause-narrow c =
     let f = c.in-Some.ensures in
     let len = written at.After-join-self-inside in
     let m = made at.After-joined-self-inside _ (wide at.After-deref_mut) len (with_items_is c.self.inside.cells c.join-self-inside.new.cells (len ∙ sym c.self.inside.cells.ok.0)) in
-    λ _. subst IsNarrow (sym m.row) (over_fits j.rescaling.to j.most _ (to_above j f.joining) (to_least j f.joining) f.joining.short (scaled at.After-deref_mut))
+    λ _. subst IsNarrow (sym m.1) (over_fits j.rescaling.to j.most _ (to_above j f.joining) (to_least j f.joining) f.joining.short (scaled at.After-deref_mut))
