@@ -6,7 +6,7 @@ use Rattle.std.specs.List.{All}
 use Rattle.std.proofs.lemmas.Bool.Decides.{nat_tests, Decides-int_eq}
 use Rattle.std.proofs.lemmas.Bool.{le-leb}
 use Rattle.std.proofs.lemmas.List.{length-map}
-use Rattle.toml.specs.Data.{Data, get, string, boolean, array, table, no_items, Members}
+use Rattle.toml.specs.Data.{get, string, boolean, array, table, no_items, Members}
 use Rattle.progression.specs.Street.{Street}
 use Rattle.progression.specs.declared.parts.Head.{Head}
 use Rattle.progression.specs.declared.parts.Signal.{Signal}
@@ -21,7 +21,7 @@ use Rattle.description_reader.specs.Canonical.{number_data, quantity_data, pair_
 use Rattle.description_reader.specs.Checks.{meets}
 use Rattle.description_reader.specs.Judgement.{key_fault, in_table, stage_tests, facts_of, value_tests}
 use Rattle.description_reader.specs.Keys.{unknown_key}
-use Rattle.description_reader.specs.KeyTable.{key, alone, items, tables, two_quantities, key_when, keys_of, is_in}
+use Rattle.description_reader.specs.KeyTable.{key, alone, items, tables, two_quantities, key_when, keys_of}
 use Rattle.description_reader.specs.Quantity.{integer_in}
 use Rattle.description_reader.specs.Values.{items_in}
 use Rattle.toml.specs.View.{items_of}

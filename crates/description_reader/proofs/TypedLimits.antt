@@ -1,16 +1,14 @@
 -- The numbers of a plan without a fault are within their limits.
-use Rattle.std.proofs.Common.{◌≡◌, ◌≤◌, ℕ, ◌+◌, ℤ, pos, negsuc, List, [], ◌∷◌, map, Bool, true, false, not, Option, None, Some, is_some, ◌&&◌, refl, sym, ◌∙◌, ap, subst, arith}
+use Rattle.std.proofs.Common.{◌≡◌, ◌≤◌, ℕ, ◌+◌, ℤ, pos, negsuc, List, [], ◌∷◌, map, Bool, true, false, not, Option, None, Some, is_some, ◌&&◌, sym, ◌∙◌, ap, subst, arith}
 use Rattle.std.specs.Prelude.{codes, unwrap_or, option_map, nat_le, int_le, if◌then◌else◌}
 use Rattle.std.specs.List.{All}
 use Rattle.std.proofs.lemmas.Bool.{true≢false}
 use Rattle.std.proofs.lemmas.Bool.Decides.{nat_tests}
 use Rattle.std.proofs.lemmas.List.Elements.{All-nil, All-cons}
 use Rattle.std.proofs.lemmas.Option.{none-some}
-use Rattle.toml.specs.Data.{Data, Members, array, no_items, table, get, as_table}
-use Rattle.rational_theory.specs.Rational.{ℚ, whole}
+use Rattle.toml.specs.Data.{Data, array, no_items, get, as_table}
 use Rattle.artery_model.specs.Bounds.{least_cycle, most_cycle, least_speed, most_speed}
 use Rattle.artery_model.specs.Faults.{Fault, first_fault, unless, each_numbered}
-use Rattle.artery_model.specs.Limits.{within}
 use Rattle.artery_model.specs.Valid.{IsQuantity}
 use Rattle.artery_model.specs.declared.kind.Kind.{Kind}
 use Rattle.artery_model.specs.declared.kind.Kind.TheVariants.{WrongType, OutOfRange}
@@ -18,19 +16,18 @@ use Rattle.artery_model.proofs.Validity.{quantity_of}
 use Rattle.description_reader.specs.Quantity.{number_in, integer_in}
 use Rattle.description_reader.specs.Values.{at_key, items_in}
 use Rattle.description_reader.specs.Checks.{meets, value_fault, item_fault, items_fault, demands_fault}
-use Rattle.description_reader.specs.Judgement.{in_table, table_fault, key_fault, stage_tests, facts_of, value_tests}
+use Rattle.description_reader.specs.Judgement.{in_table, key_fault, stage_tests, facts_of, value_tests}
 use Rattle.description_reader.specs.KeyTable.{alone, items, most_travel, keys_of}
 use Rattle.description_reader.specs.Streets.{u32_or_zero}
 use Rattle.description_reader.specs.Typed.{IsMeasured, measure_of, numbers_at, patterns_at, plan_in, typed_in, IsTyped, plan_fault}
 use Rattle.description_reader.specs.declared.demand.Demand.TheVariants.{Anything, Table, Between, Within}
 use Rattle.description_reader.specs.declared.judge.Form.TheVariants as form
-use Rattle.description_reader.specs.declared.judge.Stage.{Stage}
-use Rattle.description_reader.specs.declared.judge.Stage.TheVariants.{Keys, Needed, Types, Numbers, Ranges}
+use Rattle.description_reader.specs.declared.judge.Stage.TheVariants.{Needed, Types, Ranges}
 use Rattle.description_reader.specs.declared.place.Facts.{Facts}
 use Rattle.description_reader.specs.declared.place.Section.{Section}
 use Rattle.description_reader.specs.declared.place.Section.TheVariants.{Plan, PlanRoot}
 use Rattle.description_reader.proofs.CanonicalValues.{u32_back}
-use Rattle.description_reader.proofs.CanonicalTests.{AllNone, each_none, none_of, passed, both_of}
+use Rattle.description_reader.proofs.CanonicalTests.{each_none, none_of, passed, both_of}
 
 none_some : (f : Fault) → Some f ≡ None → ⊥
 none_some f e = none-some f (sym e)

@@ -13,7 +13,7 @@ use Rattle.description_reader.specs.Values.{at_key, items_in, text_in}
 use Rattle.description_reader.specs.KeyTable.{most_travel}
 use Rattle.description_reader.specs.Judgement.{facts_of, value_tests}
 use Rattle.description_reader.specs.Streets.{u32_or_zero}
-use Rattle.description_reader.specs.Described.{IsReadBy, IsRefusedBy, RefusesBy}
+use Rattle.description_reader.specs.Described.{IsReadBy, IsRefusedBy}
 use Rattle.description_reader.specs.declared.judge.Form.TheVariants as form
 use Rattle.description_reader.specs.declared.measure.Reference.{Reference}
 use Rattle.description_reader.specs.declared.measure.Reference.TheVariants.{Red, Green}
