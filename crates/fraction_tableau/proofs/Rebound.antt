@@ -1,5 +1,5 @@
 -- A row with another bound.
-use Rattle.std.proofs.Common.{◌≡◌, ℕ, List, [], ◌∷◌, ◌++◌, map, length, ◌+◌, ◌-◌, ◌<◌, ◌≤◌, ◌^◌, ◌⊎◌, inl, inr, pos, refl, sym, ◌∙◌, ap, subst, arith}
+use Rattle.std.proofs.Common.{◌≡◌, ℕ, List, [], ◌∷◌, ◌++◌, map, length, ◌-◌, ◌<◌, ◌≤◌, ◌^◌, ◌⊎◌, inl, inr, pos, refl, sym, ◌∙◌, ap, subst, arith}
 use Rattle.std.proofs.Math.ListN.{set}
 use Rattle.std.specs.List.{range_with_len}
 use Rattle.std.proofs.lemmas.List.{get_or-set_same, get_or-set_other, length_push}
@@ -8,7 +8,7 @@ use Rattle.rational_theory.specs.Rational.{ℚ, whole}
 use Rattle.narrow_fraction.specs.Fraction.{FitsFrac}
 use Rattle.fraction_tableau.specs.Narrow.{IsNarrow}
 use Rattle.fraction_tableau.specs.KeptCells.{number_in, cell_in, dense_row}
-use Rattle.fraction_tableau.specs.Scales.{numerator, IsOver, IsScaled}
+use Rattle.fraction_tableau.specs.Scales.{IsOver, IsScaled}
 use Rattle.fraction_tableau.specs.NamedTableaus.{rebound}
 use Rattle.fraction_tableau.specs.declared.kept.Kept.{Kept}
 use Rattle.fraction_tableau.specs.declared.scale.Scale.{Scale}

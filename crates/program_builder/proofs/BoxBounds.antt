@@ -1,20 +1,19 @@
 -- A tableau while the bounds of a box are put into the loaded rows of another one, row after row.
-use Rattle.std.proofs.Common.{◌≡◌, ℕ, pos, false, List, [], ◌∷◌, ◌++◌, map, get_or, length, set, ◌+◌, ◌-◌, ◌<◌, ◌≤◌, ◌⊎◌, inl, inr, refl, sym, ◌∙◌, ap, ap₂, subst, arith}
+use Rattle.std.proofs.Common.{◌≡◌, ℕ, [], ◌∷◌, ◌++◌, map, length, set, ◌+◌, ◌<◌, ◌≤◌, ◌⊎◌, inl, inr, refl, sym, ◌∙◌, ap, ap₂, subst, arith}
 use Rattle.std.proofs.Math.ListN.{length-set}
-use Rattle.std.specs.List.{range_with_len}
 use Rattle.std.proofs.lemmas.List.{get_or-set_same, get_or-set_other, length-map, ext_get_or}
 use Rattle.rational_theory.specs.Rational.{ℚ}
 use Rattle.progression.specs.Street.{Street}
 use Rattle.linear_theory.specs.Boxes.{Area}
 use Rattle.linear_theory.specs.Rows as rows
-use Rattle.linear_theory.specs.Names.{Name, form_of, name_of, HasRow}
+use Rattle.linear_theory.specs.Names.{form_of, name_of, HasRow}
 use Rattle.named_row.specs.declared.names.RowId.{RowId}
 use Rattle.simplex_theory.specs.Tableau.{line, height}
 use Rattle.fraction_tableau.proofs.Rebound.{push_last}
 use Rattle.fraction_tableau.specs.NamedTableaus.{NamedTableau, name_in, rebound, with_bound}
 use Rattle.program_builder.specs.BoxRows.{rows_of}
-use Rattle.program_builder.specs.Loading.{cells_of, goal_cells_of, loaded_table}
-use Rattle.program_builder.specs.Opening.{artery_table, row_for, goal_of, box_rows, loaded}
+use Rattle.program_builder.specs.Loading.{cells_of, loaded_table}
+use Rattle.program_builder.specs.Opening.{artery_table, row_for, box_rows, loaded}
 use Rattle.program_builder.specs.Building.{IsLoadedFor, loaded_box}
 use Rattle.program_builder.proofs.LoadedTables.{height-loaded, line-loaded}
 use Rattle.program_builder.proofs.Entry.{form_coefs}

@@ -1,5 +1,3 @@
-use Rattle.std.proofs.Common.{◌≡◌}
-use Rattle.simplex_theory.specs.Tableau.{height}
 use Rattle.program_builder.proofs.BoxBounds.{IsBounding}
 use Rattle.program_builder.proofs.loaded.load_from.Given as goal
 

@@ -1,10 +1,7 @@
-use Rattle.std.proofs.Common.{length, ◌<◌, sym, ◌∙◌, ap, subst, arith}
-use Rattle.rational_theory.specs.Rational.{ℚ}
+use Rattle.std.proofs.Common.{sym, ◌∙◌, subst, arith}
 use Rattle.narrow_fraction.specs.Fraction.{FitsFrac}
 use Rattle.fraction_tableau.specs.Narrow.{IsNarrow}
 use Rattle.fraction_tableau.specs.Scales.{IsScaled}
-use Rattle.fraction_tableau.specs.KeptCells.{dense_row}
-use Rattle.fraction_tableau.specs.NamedTableaus.{rebound}
 use Rattle.fraction_tableau.proofs.KeptCells.{open_row}
 use Rattle.fraction_tableau.proofs.Rebound.{bound_taken, narrow_rebound}
 use Rattle.fraction_tableau.proofs.line.Line.take_bound.Goals as goal
