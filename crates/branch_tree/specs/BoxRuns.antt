@@ -5,6 +5,7 @@ use Rattle.linear_theory.specs.Places.{width}
 use Rattle.linear_theory.specs.Boxes.{Area}
 use Rattle.fraction_tableau.specs.NamedTableaus.{NamedTableau}
 use Rattle.program_builder.specs.Building.{IsMadeFor, IsLoadedFor}
+use Rattle.program_builder.specs.Remembering.{IsMemoryOf}
 use Rattle.loop_rows.specs.declared.fault.SumFault.TheVariants as fault
 use Rattle.named_row.specs.declared.leaves.Leaf.{Leaf}
 use Rattle.named_row.specs.declared.leaves.Point.{Point}
@@ -34,12 +35,13 @@ use Rattle.branch_tree.specs.Ends.{leaf_row}
 abbrev pub table_of : {T W : Type 0} → Program T W → RowTable
 table_of p = record { columns = p.columns; names = p.names; row = p.row; goal = p.goal }
 
--- the tableau was made for the artery, the rows of one of its boxes are loaded, and the spare row has its width
+-- the tableau and the memory were made for the artery, the rows of one of its boxes are loaded, and the spare row has its width
 pub record IsRoomFor (a : Street) (room : Room) : Type 0 where
   pub sound : IsSearchable a
   pub made : IsMadeFor a room.tableau
   pub loaded : IsLoadedFor a room.loaded
   pub row : length room.row.coefs ≡ width (count a)
+  pub memory : IsMemoryOf a room.memory
 
 -- ---- the sum of a leaf
 -- its bound, where no operation of it is refused, or the first one that is

@@ -14,18 +14,21 @@ use fraction_tableau::Tableau;
 use loop_rows::column_count;
 use named_row::{Leaf, Row};
 use narrow_fraction::{Frac, Memory};
-use program_builder::{ArteryTable, enter_from, make_loaded, make_tableau, reset_from};
+use program_builder::{
+    ArteryTable, EntryMemory, enter_remembering, make_loaded, make_tableau, reset_from,
+};
 use search_box::SearchBox;
 use std::alloc::Global;
 use time_space::Timing;
 
 /// Where the boxes of an artery are opened: a tableau with its rows and columns, another one in which its rows stay as they are
-/// loaded, and a spare row.
+/// loaded, a spare row, and the entry of one part, which serves the other part of its split.
 #[derive(Drop)]
 pub struct Room {
     pub tableau: Tableau,
     pub loaded: Tableau,
     pub row: Row,
+    pub memory: EntryMemory,
 }
 
 /// Room for the boxes of an artery.
@@ -39,10 +42,12 @@ pub fn make_room(alloc: Global, artery: &Artery) -> Result<Room, Memory>
     let tableau = make_tableau(alloc, &ArteryTable { artery })?;
     let mut row = Row::zero(alloc, column_count(artery))?;
     let loaded = make_loaded(alloc, artery, &area, &mut row)?;
+    let memory = EntryMemory::new(alloc, artery)?;
     Ok(Room {
         tableau,
         loaded,
         row,
+        memory,
     })
 }
 
@@ -96,7 +101,14 @@ impl<'a> Relaxation for Relaxed<'a> {
     ) -> Result<Opened<Timing, Kept, SitePart>, Memory> {
         let basis = kept.basis.as_slice();
         // false says that an operation left 128 bits, and then it is the opening tableau
-        let _entered = enter_from(&mut room.tableau, &room.loaded, self.artery, area, basis);
+        let _entered = enter_remembering(
+            &mut room.tableau,
+            &room.loaded,
+            self.artery,
+            area,
+            basis,
+            &mut room.memory,
+        )?;
         open(alloc, self, &mut room.tableau, area, meter)
     }
 }

@@ -12,7 +12,7 @@ use Rattle.named_row.specs.declared.names.RowId.{RowId}
 use Rattle.narrow_fraction.proofs.Zeros.{zero_fits}
 use Rattle.fraction_tableau.specs.Narrow.{IsNarrow, AreNarrow}
 use Rattle.fraction_tableau.specs.Refusals.{exchanged_rows}
-use Rattle.fraction_tableau.specs.NamedTableaus.{NamedTableau, IsSound, unnamed, blank_table, blank_tableau, row_cells, with_row, goal_cells, with_goal, rebound, with_bound}
+use Rattle.fraction_tableau.specs.NamedTableaus.{NamedTableau, IsSound, unnamed, blank_table, blank_tableau, row_cells, with_row, goal_cells, with_goal, rebound, with_bound, with_goal_bound}
 
 -- ---- a new tableau
 pub blank_is : (m w : ℕ) (rows : List (List ℚ)) (goal : List ℚ) (basic standing : List ℕ) (names : List RowId) → rows ≡ replicate m (replicate (w + 1) (whole (pos 0))) → goal ≡ replicate (w + 1) (whole (pos 0))
@@ -85,6 +85,11 @@ bound_is t r x rows e = λ i. record { table = record { rows = e i; goal = t.tab
 pub copy_is : (t : NamedTableau) (rows : List (List ℚ)) (goal : List ℚ) (basic standing : List ℕ) (names : List RowId) → rows ≡ t.table.rows → goal ≡ t.table.goal → basic ≡ t.table.basic → standing ≡ t.table.standing → names ≡ t.names
     → record { table = record { rows = rows; goal = goal; basic = basic; standing = standing }; names = names; spent = t.spent } ≡ t
 copy_is t rows goal basic standing names a b c d e = λ i. record { table = record { rows = a i; goal = b i; basic = c i; standing = d i }; names = e i; spent = t.spent }
+
+-- ---- another bound of the goal row
+pub goal_bound_is : (t : NamedTableau) (x : ℚ) (goal : List ℚ) → goal ≡ rebound x t.table.goal → record { table = record { rows = t.table.rows; goal = goal; basic = t.table.basic; standing = t.table.standing }; names = t.names; spent = t.spent } ≡ with_goal_bound x t
+unfolding with_goal_bound
+goal_bound_is t x goal e = λ i. record { table = record { rows = t.table.rows; goal = e i; basic = t.table.basic; standing = t.table.standing }; names = t.names; spent = t.spent }
 
 -- ---- a pivot
 pub new_table : (t : Tableau) (r j : ℕ) (rows : List (List ℚ)) (goal : List ℚ) (basic standing : List ℕ) → rows ≡ exchanged_rows r j t.rows → goal ≡ cleared j (turned j (get_or t.rows r [])) t.goal

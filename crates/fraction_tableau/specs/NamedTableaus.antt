@@ -68,6 +68,14 @@ with_bound r x t = record {
   spent = t.spent;
 }
 
+-- the goal row with another bound
+unfoldable pub with_goal_bound : ℚ → NamedTableau → NamedTableau
+with_goal_bound x t = record {
+  table = record { rows = t.table.rows; goal = rebound x t.table.goal; basic = t.table.basic; standing = t.table.standing };
+  names = t.names;
+  spent = t.spent;
+}
+
 -- the goal row of a goal: its coefficients negated, the bound 0
 abbrev pub goal_cells : Sheet → List ℚ
 goal_cells s = map neg_ℚ s.coefs ++ whole (pos 0) ∷ []

@@ -6,7 +6,7 @@ ghost use Rattle.simplex_theory.specs.Tableau.{cell, basic_at, standing_at, heig
 ghost use Rattle.narrow_fraction.specs.Attempt.{attempt};
 ghost use Rattle.fraction_tableau.specs.Refusals.{pivot_refusal};
 ghost use Rattle.fraction_tableau.specs.KeptCells.{kept_below};
-ghost use Rattle.fraction_tableau.specs.NamedTableaus.{IsNamed, IsSpentFrom, blank_tableau, number_at, name_at, with_row, with_bound, with_goal};
+ghost use Rattle.fraction_tableau.specs.NamedTableaus.{IsNamed, IsSpentFrom, blank_tableau, number_at, name_at, with_row, with_bound, with_goal_bound, with_goal};
 
 use crate::fresh::{blank_names, numbers, zero_lines};
 use crate::kept::Kept;
@@ -186,6 +186,13 @@ impl Tableau {
         ensures { self.new ≡ with_bound row bound self.old }
     {
         self.lines[row as usize].set_bound(bound);
+    }
+
+    /// Gives the goal row another bound. All else stays.
+    pub fn set_goal_bound(&mut self, bound: Frac)
+        ensures { self.new ≡ with_goal_bound bound self.old }
+    {
+        self.goal.set_bound(bound);
     }
 
     /// Becomes the same as another tableau with as many rows and columns. Takes no memory.

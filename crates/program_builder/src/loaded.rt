@@ -91,7 +91,7 @@ pub fn enter_from(
     ensures made { IsMadeFor artery.now tableau.new }
 {
     load_from(tableau, from, artery, area);
-    match enter_columns(tableau, basis) {
+    match enter_columns(tableau, basis, &mut []) {
         Ok(()) => true,
         Err(_) => {
             tableau.known_named();

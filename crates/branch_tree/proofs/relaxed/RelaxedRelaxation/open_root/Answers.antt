@@ -11,4 +11,4 @@ returns-clause-opens c =
     ok_map c.open.result _ _ (λ o h. h (top_line c.args.area.now) refl (c.reset_from.ensures.opened ∙ root_first c.args.self.now.artery.now c.args.area.now)) c.open.ensures.opens
 
 pub returns-clause-ready : goal.returns-clause-ready
-returns-clause-ready c = record { sound = c.requires.ready.sound; made = c.open.ensures.made; loaded = c.requires.ready.loaded; row = c.requires.ready.row }
+returns-clause-ready c = record { sound = c.requires.ready.sound; made = c.open.ensures.made; loaded = c.requires.ready.loaded; row = c.requires.ready.row; memory = c.requires.ready.memory }
