@@ -1,5 +1,5 @@
 -- The answer of a search that stops: one case for each place at which it can.
-use Rattle.std.proofs.Common.{◌≡◌, ℕ, ◌+◌, ◌⊎◌, inl, inr, List, Option, Some, None, refl, sym, subst, ap, ◌∙◌, arith, length}
+use Rattle.std.proofs.Common.{◌≡◌, ℕ, ◌+◌, ◌⊎◌, inl, inr, List, Option, Some, None, sym, subst, ap, ◌∙◌, arith, length}
 use Rattle.rational_theory.specs.Rational.{ℚ, ◌≤ℚ◌}
 use Rattle.search_box.specs.declared.span.At.{At}
 use Rattle.branch_and_bound.specs.Lines.{Line, low_line}
