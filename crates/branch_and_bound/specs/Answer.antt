@@ -20,6 +20,7 @@ use Rattle.branch_and_bound.specs.declared.node.TreeNode.TheVariants.{Split, Clo
 use Rattle.branch_and_bound.specs.declared.found.Site.{Site}
 use Rattle.branch_and_bound.specs.declared.found.Stop.{Stop}
 use Rattle.branch_and_bound.specs.declared.found.Stop.TheVariants.{Work, Wide}
+use Rattle.branch_and_bound.specs.declared.found.Found.{Found}
 use Rattle.branch_and_bound.specs.declared.found.Verdict.{Verdict}
 use Rattle.branch_and_bound.specs.declared.found.Verdict.TheVariants.{Best, NoTiming, Stopped}
 
@@ -302,3 +303,15 @@ abbrev pub IsAnswer : {T K W : Type 0} → Rules T K W → Option ℕ → List T
 IsAnswer r limit nodes best bound spent Best = IsBestAnswer r limit nodes best bound spent
 IsAnswer r limit nodes best bound spent NoTiming = IsNoneAnswer r limit nodes best bound spent
 IsAnswer r limit nodes best bound spent (Stopped stop) = IsStoppedAnswer r limit nodes best bound spent stop
+
+-- ---- what is found
+-- the timing without its value
+abbrev pub timing_of : {T : Type 0} → Option (Incumbent T) → Option T
+timing_of None = None
+timing_of (Some best) = Some best.timing
+
+-- the timing has a value with which this answers the search
+pub record IsFound {T K W : Type 0} (r : Rules T K W) (limit : Option ℕ) (found : Found T W) : Type 0 where
+  pub best : Option (Incumbent T)
+  pub timing : found.timing ≡ timing_of best
+  pub answer : IsAnswer r limit found.nodes.items best found.bound found.spent found.verdict

@@ -3,7 +3,7 @@
 //!
 //! Start with `Relaxation`, which says what is asked of a problem, and `search`. Everything that `search` needs to know
 //! of the problem stands in one record of numbers, facts and laws, `specs/Rules.antt`; what it answers is one clause,
-//! `IsAnswer` of `specs/Answer.antt`: the tree proves the verdict, every split and leaf of it was needed, the units of
+//! `IsFound` of `specs/Answer.antt`: the tree proves the verdict, every split and leaf of it was needed, the units of
 //! work are those of its boxes and at most the limit, and a stop has one cause at one place.
 //!
 //! - `Lines`: a tree is the list of its nodes in preorder, read with the list of the lines that still want a tree, a line
@@ -42,6 +42,7 @@ mod laws;
 mod node;
 mod open;
 mod opened;
+mod progress;
 mod relaxation;
 mod settle;
 mod shown;

@@ -24,11 +24,11 @@ use Rattle.branch_and_bound.specs.declared.node.TreeNode.{TreeNode}
 use Rattle.branch_and_bound.specs.declared.node.TreeNode.TheVariants.{Split, Closed, Waiting}
 use Rattle.branch_and_bound.specs.declared.found.Site.{Site}
 use Rattle.branch_and_bound.specs.declared.found.Stop.TheVariants.{Work, Wide}
+use Rattle.branch_and_bound.specs.declared.found.Found as engine
 use Rattle.branch_and_bound.specs.declared.found.Verdict.{Verdict}
 use Rattle.branch_and_bound.specs.declared.found.Verdict.TheVariants.{Best, NoTiming, Stopped}
-use Rattle.branch_and_bound.specs.Answer.{IsAnswer, cut_of, lines_of, line_at, IsAcceptedNode, IsNeededNode, IsStart, IsNeededStop, StopCase, RootLeft, RootUnread, BeforeLow, InLow, BeforeHigh, InHigh, Spot, IsSpot, HasSpot, IsSite, IsWideStop}
+use Rattle.branch_and_bound.specs.Answer.{IsAnswer, IsFound, timing_of, cut_of, lines_of, line_at, IsAcceptedNode, IsNeededNode, IsStart, IsNeededStop, StopCase, RootLeft, RootUnread, BeforeLow, InLow, BeforeHigh, InHigh, Spot, IsSpot, HasSpot, IsSite, IsWideStop}
 use Rattle.branch_tree.specs.declared.site.SitePart.{SitePart}
-use Rattle.branch_tree.specs.declared.found.Found.{Found}
 use Rattle.branch_tree.specs.ArteryProgram.{program_of}
 use Rattle.branch_tree.specs.Ends.{end_leaf}
 use Rattle.branch_tree.specs.Lineage.{IsSearchable}
@@ -37,7 +37,7 @@ use Rattle.branch_tree.specs.ArteryRules.{rules_of}
 use Rattle.branch_tree.specs.Relaxed.{IsStartLeaf, IsTiming}
 use Rattle.branch_tree.specs.Trees.{node_of}
 use Rattle.branch_tree.specs.Searches.{incumbent_of, IsSearch}
-use Rattle.branch_tree.specs.Told.{plan_of, valued, TellsOf, Tells, IsTimed, IsCertifiable}
+use Rattle.branch_tree.specs.Told.{Found, valued, TellsOf, Tells, IsTimed, IsCertifiable}
 use Rattle.branch_tree.specs.SiteNames.{IsSiteOf, EndsAt, HasSite}
 use Rattle.branch_tree.proofs.KeptLeaves.{end_kept, start_kept}
 use Rattle.branch_tree.proofs.Certificates.{certified, proven_trees}
@@ -49,7 +49,7 @@ some_value x y e = cc
 
 -- of rules whose good timings have a value of their own
 module _ {T K W : Type 0} (r : Rules T K W) (value : T → ℚ) (own : (t : T) (v : ℚ) → r.IsGood t v → value t ≡ v) where
-  known : (best : Option (Incumbent T)) → IfSome best (λ b. r.IsGood b.timing b.value) → best ≡ valued value (plan_of best)
+  known : (best : Option (Incumbent T)) → IfSome best (λ b. r.IsGood b.timing b.value) → best ≡ valued value (timing_of best)
   known None h = refl
   known (Some b) h = ap (λ v. Some (record { value = v; timing = b.timing })) (sym (own b.timing b.value h))
 
@@ -62,7 +62,7 @@ module _ {T K W : Type 0} (r : Rules T K W) (value : T → ℚ) (own : (t : T) (
     best_good (Some b) (Stopped stop) h = h.good.0
 
     -- so the value need not be told
-    pub answer_valued : (best : Option (Incumbent T)) (verdict : Verdict W) → IsAnswer r limit nodes best bound spent verdict → IsAnswer r limit nodes (valued value (plan_of best)) bound spent verdict
+    pub answer_valued : (best : Option (Incumbent T)) (verdict : Verdict W) → IsAnswer r limit nodes best bound spent verdict → IsAnswer r limit nodes (valued value (timing_of best)) bound spent verdict
     answer_valued best verdict h = subst (λ b. IsAnswer r limit nodes b bound spent verdict) (known best (best_good best verdict h)) h
 
     pub timing_good : (timing : Option T) (verdict : Verdict W) → IsAnswer r limit nodes (valued value timing) bound spent verdict → IfSome timing (λ t. r.IsGood t (value t))
@@ -77,6 +77,13 @@ module _ {T K W : Type 0} (r : Rules T K W) (value : T → ℚ) (own : (t : T) (
     tells None (Stopped stop) h = tt
     tells (Some t) (Stopped stop) h = h.good.1
 
+-- and of what an engine's search found
+pub found_valued : {T K W : Type 0} (r : Rules T K W) (value : T → ℚ) → ((t : T) (v : ℚ) → r.IsGood t v → value t ≡ v) → (limit : Option ℕ) (found : engine.Found T W)
+    → IsFound r limit found → IsAnswer r limit found.nodes.items (valued value found.timing) found.bound found.spent found.verdict
+found_valued r value own limit found h =
+    subst (λ t. IsAnswer r limit found.nodes.items (valued value t) found.bound found.spent found.verdict) (sym h.timing)
+    (answer_valued r value own limit found.nodes.items found.bound found.spent h.best found.verdict h.answer)
+
 pub timed : {T W : Type 0} (value : T → ℚ) (timing : Option T) (bound : ℚ) (verdict : Verdict W) → TellsOf value timing bound verdict → IsTimed timing verdict
 timed value None bound Best h = absurd h
 timed value (Some t) bound Best h = refl
@@ -87,11 +94,10 @@ timed value timing bound (Stopped stop) h = tt
 own_value : (a : Street) (plan : Plan) (v : ℚ) → IsTiming a plan v → weighted_band a plan ≡ v
 own_value a plan v h = h.1
 
-module _ (a : Street) (limit : Option ℕ) (nodes : List TreeNode) (bound : ℚ) (spent : ℕ) where
-  pub answer_known : (best : Option (Incumbent Plan)) (verdict : Verdict SitePart) → IsAnswer (rules_of a) limit nodes best bound spent verdict
-      → IsAnswer (rules_of a) limit nodes (incumbent_of a (plan_of best)) bound spent verdict
-  answer_known best verdict h = answer_valued (rules_of a) (weighted_band a) (own_value a) limit nodes bound spent best verdict h
+pub answer_known : (a : Street) (limit : Option ℕ) (found : Found) → IsFound (rules_of a) limit found → IsSearch a limit found
+answer_known a limit found h = found_valued (rules_of a) (weighted_band a) (own_value a) limit found h
 
+module _ (a : Street) (limit : Option ℕ) (nodes : List TreeNode) (bound : ℚ) (spent : ℕ) where
   pub plan_good : (timing : Option Plan) (verdict : Verdict SitePart) → IsAnswer (rules_of a) limit nodes (incumbent_of a timing) bound spent verdict → IfSome timing (λ plan. Good a plan)
   plan_good None verdict h = tt
   plan_good (Some plan) verdict h = (timing_good (rules_of a) (weighted_band a) (own_value a) limit nodes bound spent (Some plan) verdict h).0
