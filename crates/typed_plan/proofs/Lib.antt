@@ -10,3 +10,4 @@ pub mod Framed
 pub mod Forward
 pub mod Timed
 pub mod OneTiming
+pub mod SpeedsBack

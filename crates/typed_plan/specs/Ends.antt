@@ -1,13 +1,16 @@
 -- The timing of a plan, and why there is none.
-use Rattle.std.specs.Prelude.{◌≡◌, ◌⊎◌, ◌<◌, ℕ, None, Some, pos}
-use Rattle.progression.specs.Street.{Street, HasSignal}
-use Rattle.progression.specs.Plan.{Plan, cycle, common_red, first, band}
+use Rattle.std.specs.Prelude.{◌≡◌, ◌⊎◌, ◌<◌, ◌-◌, ℕ, None, Some, pos, slice_index_or}
+use Rattle.rational_theory.specs.Rational.{whole}
+use Rattle.progression.specs.Speeds.{seconds}
+use Rattle.progression.specs.Street.{Street, HasSignal, HasLink, distance}
+use Rattle.progression.specs.Plan.{Plan, cycle, common_red, run, first, band}
 use Rattle.progression.specs.declared.parts.Dir.{Dir}
 use Rattle.artery_model.specs.Faults.{fault_of}
 use Rattle.artery_model.specs.Valid.{IsValid}
 use Rattle.band_measure.specs.Widest.{IsWidest, NoneRuns}
-use Rattle.description_reader.specs.Typed.{Typed}
-use Rattle.typed_plan.specs.Asked.{IsLeast}
+use Rattle.description_reader.specs.Typed.{Typed, IsTyped, measure, measured}
+use Rattle.description_reader.specs.declared.measure.Measure.TheVariants.{Speed}
+use Rattle.typed_plan.specs.Asked.{in_seconds, IsLeast}
 use Rattle.typed_plan.specs.Counts.{count_fault}
 use Rattle.typed_plan.specs.Grid.{too_fine}
 use Rattle.typed_plan.specs.declared.timing.TypedFault.{TypedFault}
@@ -43,3 +46,8 @@ Refuses a p fault.Memory = Unit {0}
 -- a plan has at most one timing on an artery
 abbrev pub OneTiming : Type 0
 OneTiming = (a : Street) (p : Typed) (t s : Plan) → IsValid a → IsTimingOf a p t → IsTimingOf a p s → t ≡ s
+
+-- A typed speed is that at which the timing's run takes the link: a length over a time is a speed just as a length over a speed is a time.
+abbrev pub SpeedsComeBack : Type 0
+SpeedsComeBack = (a : Street) (p : Typed) (t : Plan) (d : Dir) (i : ℕ) → IsValid a → IsTyped p → IsTimingOf a p t → HasLink a i → measure p d ≡ Speed
+    → seconds a.head.units (distance a d i) (in_seconds t (pos (run t d i))) ≡ slice_index_or (measured p d) (i - 1) (whole (pos 0))

@@ -5,7 +5,7 @@
 //! none. Start with `timing_of`.
 #![tactic(auto)]
 
-ghost use Rattle.typed_plan.specs.Ends.{OneTiming};
+ghost use Rattle.typed_plan.specs.Ends.{OneTiming, SpeedsComeBack};
 
 mod counts;
 mod frame;
@@ -19,4 +19,9 @@ pub use timing::{TypedFault, timing_of};
 /// A plan has at most one timing on an artery.
 pub fn law_one_timing()
     ensures { OneTiming }
+{}
+
+/// A typed speed is that at which the timing's run takes the link.
+pub fn law_speeds_come_back()
+    ensures { SpeedsComeBack }
 {}
