@@ -114,7 +114,7 @@ fn unplanned_line(alloc: Global, end: PlanEnd) -> Result<String, AllocError>
 }
 
 /// The answer where no plan is made: nothing is put.
-fn unplanned(alloc: Global, end: PlanEnd) -> Result<Answer<'static>, Memory>
+pub fn unplanned(alloc: Global, end: PlanEnd) -> Result<Answer<'static>, Memory>
     ensures cause { IfOk result (λ a. a.cause ≡ Cause.Unplanned end) }
     ensures lines { IfOk result (λ a. a.lines.items ≡ unplanned_line end) }
     ensures no_put { IfOk result (λ a. a.put ≡ None) }
