@@ -7,7 +7,7 @@ use Rattle.linear_theory.specs.Boxes.{Area}
 use Rattle.search_box.specs.declared.span.At.{At}
 use Rattle.named_row.specs.declared.leaves.Leaf.{Leaf}
 use Rattle.named_row.specs.declared.leaves.Point.{Point}
-use Rattle.branch_and_bound.specs.Lines.{Line, low_line, high_line, line_after, Fills, Finds}
+use Rattle.branch_and_bound.specs.Lines.{BoxLine, low_line, high_line, line_after, Fills, Finds}
 use Rattle.branch_and_bound.proofs.Walks.{Fills-map, Fills-at, Fills-split, Fills-each, Finds-split, Finds-new, total-split}
 use Rattle.branch_and_bound.specs.Lineages.{Reads, Cuts, IsOptimal, at_low, at_high}
 use Rattle.branch_and_bound.specs.Rules.{Rules}
@@ -23,16 +23,16 @@ use Rattle.branch_and_bound.specs.declared.greatest.Greatest.{Greatest}
 
 -- ---- a better timing
 -- what is reached stays so
-pub reached_still : {T K W : Type 0} (r : Rules T K W) (line : Line) (old new : Option (Incumbent T)) (v : ℚ) → IsBetter r line old new → IsReached v old → IsReached v new
+pub reached_still : {T K W : Type 0} (r : Rules T K W) (line : BoxLine) (old new : Option (Incumbent T)) (v : ℚ) → IsBetter r line old new → IsReached v old → IsReached v new
 reached_still r line old new v (inl h) k = subst (λ (b : Option (Incumbent _)). IsReached v b) (sym h.same) k
 reached_still r line None new v (inr h) k = absurd k
 reached_still r line (Some b) new v (inr h) k = subst (λ (b : Option (Incumbent _)). IsReached v b) (sym h.new_is) (≤ℚ_trans v b.value h.best.value k (<ℚ-≤ℚ b.value h.best.value h.more))
 
-pub good_still : {T K W : Type 0} (r : Rules T K W) (line : Line) (old new : Option (Incumbent T)) → IsBetter r line old new → IfSome old (λ b. r.IsGood b.timing b.value) → IfSome new (λ b. r.IsGood b.timing b.value)
+pub good_still : {T K W : Type 0} (r : Rules T K W) (line : BoxLine) (old new : Option (Incumbent T)) → IsBetter r line old new → IfSome old (λ b. r.IsGood b.timing b.value) → IfSome new (λ b. r.IsGood b.timing b.value)
 good_still r line old new (inl h) k = subst (λ b. IfSome b (λ b. r.IsGood b.timing b.value)) (sym h.same) k
 good_still r line old new (inr h) k = subst (λ b. IfSome b (λ b. r.IsGood b.timing b.value)) (sym h.new_is) h.good
 
-pub under_still : {T K W : Type 0} (r : Rules T K W) (line : Line) (old new : Option (Incumbent T)) (top : ℚ) → IsBetter r line old new → (r.ending line ≡ Reads → r.bound line ≤ℚ top) → IsUnder old top → IsUnder new top
+pub under_still : {T K W : Type 0} (r : Rules T K W) (line : BoxLine) (old new : Option (Incumbent T)) (top : ℚ) → IsBetter r line old new → (r.ending line ≡ Reads → r.bound line ≤ℚ top) → IsUnder old top → IsUnder new top
 under_still r line old new top (inl h) f k = subst (λ (b : Option (Incumbent _)). IsUnder b top) (sym h.same) k
 under_still r line old new top (inr h) f k =
     let e : h.best.value ≤ℚ top = subst (λ v. v ≤ℚ top) (sym h.value) (f h.end) in
@@ -40,7 +40,7 @@ under_still r line old new top (inr h) f k =
 
 -- ---- the other nodes
 closed_still : {T K W : Type 0} (r : Rules T K W) (old new : Option (Incumbent T)) → ((v : ℚ) → IsReached v old → IsReached v new)
-    → (line : Line) (leaf : Leaf) → IsClosed r old line leaf → IsClosed r new line leaf
+    → (line : BoxLine) (leaf : Leaf) → IsClosed r old line leaf → IsClosed r new line leaf
 closed_still r old new f line leaf h = record {
   lineage = h.lineage;
   leaf_is = h.leaf_is;
@@ -50,7 +50,7 @@ closed_still r old new f line leaf h = record {
 -- a node under a better timing, where `top` falls no lower than the bounds that wait
 node_still : {T K W : Type 0} (r : Rules T K W) (old new : Option (Incumbent T)) (top low : ℚ)
     → ((v : ℚ) → IsReached v old → IsReached v new) → low ≤ℚ top
-    → (line : Line) (node : Node K) → IsNode r old top line node → ((bound : ℚ) → bound_of node ≡ Some bound → bound ≤ℚ low) → IsNode r new low line node
+    → (line : BoxLine) (node : Node K) → IsNode r old top line node → ((bound : ℚ) → bound_of node ≡ Some bound → bound ≤ℚ low) → IsNode r new low line node
 node_still r old new top low f g line (Split place point) h b =
     record { lineage = h.lineage; end = h.end; vertex_is = h.vertex_is; over = ≤ℚ_trans low top (r.bound line) g h.over }
 node_still r old new top low f g line (Closed leaf) h b = closed_still r old new f line leaf h
@@ -67,15 +67,15 @@ node_still r old new top low f g line (Waiting area leaf bound place point kept)
 over_bound : (g : Greatest) (other : Option ℚ) (bound : ℚ) → other ≡ Some bound → IsOverBound (Some g) other → bound ≤ℚ g.bound
 over_bound g other bound e h = subst (λ o. IsOverBound (Some g) o) e h
 
-pub optimal_reads : {T K W : Type 0} (r : Rules T K W) (line : Line) → r.ending line ≡ Reads → IsOptimal (r.ending line)
+pub optimal_reads : {T K W : Type 0} (r : Rules T K W) (line : BoxLine) → r.ending line ≡ Reads → IsOptimal (r.ending line)
 optimal_reads r line e = subst IsOptimal (sym e) tt
 
-reads_not_cuts : {T K W : Type 0} (r : Rules T K W) (line : Line) (place : At) → r.ending line ≡ Cuts place → r.ending line ≡ Reads → ⊥
+reads_not_cuts : {T K W : Type 0} (r : Rules T K W) (line : BoxLine) (place : At) → r.ending line ≡ Cuts place → r.ending line ≡ Reads → ⊥
 reads_not_cuts r line place e f = cc
 
 -- ---- the best timing's leaf
 -- a leaf of this value, with its line
-abbrev Gives : {T K W : Type 0} → Rules T K W → ℚ → Line → Node K → Type 0
+abbrev Gives : {T K W : Type 0} → Rules T K W → ℚ → BoxLine → Node K → Type 0
 Gives r value line node = IsBestLeaf r value line (place_of node)
 
 -- it is in the new tree
@@ -140,7 +140,7 @@ grown r front rest area leaf bound place point kept index old new top low high h
       units = omega (arith, h.units, both.low_cost.spent, both.high_cost.spent, units);
     }
   where
-    low_now : {T K W : Type 0} (r : Rules T K W) (old new : Option (Incumbent T)) (top : ℚ) (line : Line) (node : Node K) → ((v : ℚ) → IsReached v old → IsReached v new) → IsNode r old top line node → IsNode r new top line node
+    low_now : {T K W : Type 0} (r : Rules T K W) (old new : Option (Incumbent T)) (top : ℚ) (line : BoxLine) (node : Node K) → ((v : ℚ) → IsReached v old → IsReached v new) → IsNode r old top line node → IsNode r new top line node
     low_now r old new top line (Split place point) f h = h
     low_now r old new top line (Closed leaf) f h = closed_still r old new f line leaf h
     low_now r old new top line (Waiting area leaf bound place point kept) f h = h

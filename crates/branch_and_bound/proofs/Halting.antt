@@ -2,7 +2,7 @@
 use Rattle.std.proofs.Common.{◌≡◌, ℕ, ◌+◌, ◌⊎◌, inl, inr, List, Option, Some, None, sym, subst, ap, ◌∙◌, arith, length}
 use Rattle.rational_theory.specs.Rational.{ℚ, ◌≤ℚ◌}
 use Rattle.search_box.specs.declared.span.At.{At}
-use Rattle.branch_and_bound.specs.Lines.{Line, low_line}
+use Rattle.branch_and_bound.specs.Lines.{BoxLine, low_line}
 use Rattle.branch_and_bound.specs.Matchings.{Matches}
 use Rattle.branch_and_bound.proofs.Matchings.{line_after-match, total-match}
 use Rattle.branch_and_bound.specs.Lineages.{WasRead, Cuts}
@@ -27,11 +27,11 @@ use Rattle.branch_and_bound.proofs.Answering.{shown_cut}
 use Rattle.branch_and_bound.proofs.Stopping.{stopped, IsHalt, IsPartUnder}
 
 -- a node that waits was met, and has the bound that was found
-record WaitsThere {T K W : Type 0} (r : Rules T K W) (line : Line) (bound : ℚ) : Type 0 where
+record WaitsThere {T K W : Type 0} (r : Rules T K W) (line : BoxLine) (bound : ℚ) : Type 0 where
   lineage : IsMet r line
   bound_is : r.bound line ≡ bound
 
-waits_there : {T K W : Type 0} (r : Rules T K W) (line : Line) (g : Greatest) (node : Node K) (old : Option (Incumbent T)) (top : ℚ)
+waits_there : {T K W : Type 0} (r : Rules T K W) (line : BoxLine) (g : Greatest) (node : Node K) (old : Option (Incumbent T)) (top : ℚ)
     → IsNode r old top line node → bound_of node ≡ Some g.bound → WaitsThere r line g.bound
 waits_there r line g (Split place point) old top h e = cc
 waits_there r line g (Closed leaf) old top h e = cc
@@ -46,7 +46,7 @@ unopened_limit : (before after : Meter) (limit : Option ℕ) → IsUnopened befo
 unopened_limit before after limit s e = sym e ∙ ap (λ (m : Meter). m.limit) s.same ∙ s.spent ∙ ap (λ (m : Meter). Some m.spent) (sym s.same)
 
 -- the answer that stopped at a place
-answer_at : {T K W : Type 0} (r : Rules T K W) (limit : Option ℕ) (shown : List TreeNode) (bound : ℚ) (new : Option (Incumbent T)) (spent : ℕ) (spot : Spot) (part : Option Line) (stop : Stop W) (case : StopCase)
+answer_at : {T K W : Type 0} (r : Rules T K W) (limit : Option ℕ) (shown : List TreeNode) (bound : ℚ) (new : Option (Incumbent T)) (spent : ℕ) (spot : Spot) (part : Option BoxLine) (stop : Stop W) (case : StopCase)
     → IsHalt r shown new bound spot part → HasSpot r shown case → HasLeft r shown case → IsReadPart r (finished_part r shown case) → IsNeededStop r shown new bound case → IsSorted r shown new (undone_of case)
     → spent ≡ capped (spends r shown case) → IsWithin spent limit → IsStop r shown case limit spent stop → IsStoppedAnswer r limit shown new bound spent stop
 answer_at r limit shown bound new spent spot part stop case k spot_is left read needed sorted units within cause = record {

@@ -5,7 +5,7 @@ use Rattle.std.specs.List.{slice_get}
 use Rattle.rational_theory.specs.Rational.{ℚ, ◌≤ℚ◌}
 use Rattle.rational_theory.proofs.Order.{≤ℚ_refl}
 use Rattle.named_row.specs.declared.leaves.Leaf.{Leaf}
-use Rattle.branch_and_bound.specs.Lines.{Line, top_line, owed, Fills, Finds, total}
+use Rattle.branch_and_bound.specs.Lines.{BoxLine, top_line, owed, Fills, Finds, total}
 use Rattle.branch_and_bound.specs.Lineages.{IsOptimal, at_top}
 use Rattle.branch_and_bound.specs.Rules.{Rules}
 use Rattle.work_meter.specs.Work.{IsWithin}
@@ -31,10 +31,10 @@ root_found r new node e (inr h) =
     subst (λ (o : Option (Incumbent _)). IfSome o (λ b. Finds place_of (λ line node. IsBestLeaf r b.value line (place_of node)) (lines_of r) (node ∷ []))) (sym h.new_is) here
 
 -- a tree of the root alone
-one_node : {T K W : Type 0} (r : Rules T K W) (P : Line → Node K → Type 0) (node : Node K) → place_of node ≡ None → P (top_line r.root) node → Fills place_of P (lines_of r) (node ∷ [])
+one_node : {T K W : Type 0} (r : Rules T K W) (P : BoxLine → Node K → Type 0) (node : Node K) → place_of node ≡ None → P (top_line r.root) node → Fills place_of P (lines_of r) (node ∷ [])
 one_node r P node e p = (p, nothing_owed r P node e)
   where
-    nothing_owed : {T K W : Type 0} (r : Rules T K W) (P : Line → Node K → Type 0) (node : Node K) → place_of node ≡ None → Fills place_of P (owed (place_of node) (top_line r.root) []) []
+    nothing_owed : {T K W : Type 0} (r : Rules T K W) (P : BoxLine → Node K → Type 0) (node : Node K) → place_of node ≡ None → Fills place_of P (owed (place_of node) (top_line r.root) []) []
     nothing_owed r P (Split place point) e = cc
     nothing_owed r P (Closed leaf) e = tt
     nothing_owed r P (Waiting area leaf bound place point kept) e = tt

@@ -6,7 +6,7 @@ use Rattle.rational_theory.proofs.Order.{≤ℚ_refl}
 use Rattle.search_box.specs.declared.span.At.{At}
 use Rattle.search_box.specs.Places.{low_part, high_part}
 use Rattle.named_row.specs.declared.leaves.Leaf.{Leaf}
-use Rattle.branch_and_bound.specs.Lines.{Line, low_line, high_line}
+use Rattle.branch_and_bound.specs.Lines.{BoxLine, low_line, high_line}
 use Rattle.narrow_fraction.proofs.Attempt.{some_not_none}
 use Rattle.branch_and_bound.specs.Lineages.{Cuts, WasRead}
 use Rattle.branch_and_bound.specs.Rules.{Rules, IsMet}
@@ -27,7 +27,7 @@ use Rattle.branch_and_bound.specs.declared.settle.Settled.{Settled}
 use Rattle.branch_and_bound.specs.declared.settle.Settled.TheVariants.{Done, Stuck, Left}
 
 -- a box whose vertex is a timing
-pub timed_settles : {T K W : Type 0} (r : Rules T K W) (line : Line) (old new : Option (Incumbent T)) (leaf : Leaf) (bound : ℚ) (timing : T)
+pub timed_settles : {T K W : Type 0} (r : Rules T K W) (line : BoxLine) (old new : Option (Incumbent T)) (leaf : Leaf) (bound : ℚ) (timing : T)
     → OpensTimed r line leaf bound timing
     → ((new ≡ old) × IsReached bound old) ⊎ ((new ≡ Some (record { value = bound; timing = timing })) × IsBeaten old bound)
     → IsLeafNow r line old new (Closed leaf)
@@ -57,7 +57,7 @@ timed_settles r line old new leaf bound timing h (inr k) =
     }
 
 -- a box that is a leaf was read to its end
-pub leaf_read : {T K W : Type 0} (r : Rules T K W) (line : Line) (old new : Option (Incumbent T)) (node : Node K) → IsMet r line → IsLeafNow r line old new node → WasRead (r.ending line)
+pub leaf_read : {T K W : Type 0} (r : Rules T K W) (line : BoxLine) (old new : Option (Incumbent T)) (node : Node K) → IsMet r line → IsLeafNow r line old new node → WasRead (r.ending line)
 leaf_read r line old new (Split place point) met l = some_not_none l.whole
 leaf_read r line old new (Closed leaf) met l = by_case (l.is (r.bound line) met (λ _. ≤ℚ_refl (r.bound line))).shows
   where
@@ -68,18 +68,18 @@ leaf_read r line old new (Waiting area leaf bound place point kept) met l =
     subst WasRead (sym (l.is (r.bound line) met (λ _. ≤ℚ_refl (r.bound line))).end) tt
 
 -- the parts of a box that waits
-pub low_is : {T K W : Type 0} (r : Rules T K W) (line : Line) (area part : Area) (place : At) (kept : K)
+pub low_is : {T K W : Type 0} (r : Rules T K W) (line : BoxLine) (area part : Area) (place : At) (kept : K)
     → IsCut r line area place kept → part ≡ low_part area place → IsPart r line place (low_line place line) kept part
 low_is r line area part place kept h e =
     record { lineage = h.lineage; cut = h.end; kept_is = h.kept_is; side = inl refl; area_is = e ∙ ap (λ a. low_part a place) h.area_is }
 
-pub high_is : {T K W : Type 0} (r : Rules T K W) (line : Line) (area part : Area) (place : At) (kept : K)
+pub high_is : {T K W : Type 0} (r : Rules T K W) (line : BoxLine) (area part : Area) (place : At) (kept : K)
     → IsCut r line area place kept → part ≡ high_part area place → IsPart r line place (high_line place line) kept part
 high_is r line area part place kept h e =
     record { lineage = h.lineage; cut = h.end; kept_is = h.kept_is; side = inr refl; area_is = e ∙ ap (λ a. high_part a place) h.area_is }
 
 -- where a vertex couldn't be read, its pivots were made
-stuck_stops : {T K W : Type 0} (r : Rules T K W) (line : Line) (before after : Meter) (leaf : Leaf) (bound : ℚ) (site : Site W)
+stuck_stops : {T K W : Type 0} (r : Rules T K W) (line : BoxLine) (before after : Meter) (leaf : Leaf) (bound : ℚ) (site : Site W)
     → IsStuck r line before after leaf bound site → Stops r line before after (Wide site)
 stuck_stops r line before after leaf bound site h = (
   r.steps line,
@@ -91,23 +91,23 @@ stuck_stops r line before after leaf bound site h = (
 )
 
 -- and where the box wasn't finished, so many of them
-left_stops : {T K W : Type 0} (r : Rules T K W) (line : Line) (before after : Meter) (stop : Stop W) → IsLeftBy r line before after stop → Stops r line before after stop
+left_stops : {T K W : Type 0} (r : Rules T K W) (line : BoxLine) (before after : Meter) (stop : Stop W) → IsLeftBy r line before after stop → Stops r line before after stop
 left_stops r line before after (Work units) (same, k, unfinished, out) = (same, inr (k, inl unfinished, out))
 left_stops r line before after (Wide site) (k, unfinished, refused) = (k, inl unfinished, refused)
 
-pub ends : {T K W : Type 0} (r : Rules T K W) (line : Line) (old new : Progress T) (settled : Settled K W)
+pub ends : {T K W : Type 0} (r : Rules T K W) (line : BoxLine) (old new : Progress T) (settled : Settled K W)
     → Settles r line old.incumbent new.incumbent old.meter new.meter settled → Ends r line old new (ended settled)
 ends r line old new (Done node) h = h
 ends r line old new (Stuck leaf bound site) h = (h.0, stuck_stops r line old.meter new.meter leaf bound site h.1)
 ends r line old new (Left stop) h = (h.0, left_stops r line old.meter new.meter stop h.1)
 
 -- ---- two parts
-pub low_halted : {T K W : Type 0} (r : Rules T K W) (line : Line) (place : At) (old new : Progress T) (halt : Halt W)
+pub low_halted : {T K W : Type 0} (r : Rules T K W) (line : BoxLine) (place : At) (old new : Progress T) (halt : Halt W)
     → Ends {K = K} r (low_line place line) old new (Err halt) → EndsBoth {K = K} r line place old new (Err halt)
 low_halted r line place old new (Stopped stop) h = inl (record { same = h.0; stops = h.1 })
 low_halted r line place old new Memory h = tt
 
-pub high_halted : {T K W : Type 0} (r : Rules T K W) (line : Line) (place : At) (old middle new : Progress T) (low : Node K) (halt : Halt W) → IsMet r (low_line place line)
+pub high_halted : {T K W : Type 0} (r : Rules T K W) (line : BoxLine) (place : At) (old middle new : Progress T) (low : Node K) (halt : Halt W) → IsMet r (low_line place line)
     → IsLeafNow r (low_line place line) old.incumbent middle.incumbent low → Finishes r (low_line place line) old.meter middle.meter
     → Ends {K = K} r (high_line place line) middle new (Err halt) → EndsBoth {K = K} r line place old new (Err halt)
 high_halted r line place old middle new low (Stopped stop) met is cost h = inr (record {

@@ -9,7 +9,7 @@ use Rattle.search_box.specs.declared.span.At.{At}
 use Rattle.search_box.specs.Places.{IsPlace}
 use Rattle.named_row.specs.declared.leaves.Leaf.{Leaf}
 use Rattle.named_row.specs.declared.leaves.Point.{Point}
-use Rattle.branch_and_bound.specs.Lines.{Line, low_line, high_line, Fills}
+use Rattle.branch_and_bound.specs.Lines.{BoxLine, low_line, high_line, Fills}
 use Rattle.branch_and_bound.proofs.Walks.{Fills-at}
 use Rattle.branch_and_bound.specs.Volumes.{volume}
 use Rattle.branch_and_bound.proofs.Volumes.{volume_split, volume_positive}
@@ -51,11 +51,11 @@ node_at r nodes best top index node h e =
     Fills-at place_of (IsNode r best top) (lines_of r) (take index nodes) node (drop (index + 1) nodes)
     (subst (λ ns. Fills place_of (IsNode r best top) (lines_of r) ns) (sym (cut_here nodes index node e)) h)
 
-pub is_cut : {T K W : Type 0} (r : Rules T K W) (top : ℚ) (line : Line) (area : Area) (leaf : Leaf) (bound : ℚ) (place : At) (point : Point) (kept : K)
+pub is_cut : {T K W : Type 0} (r : Rules T K W) (top : ℚ) (line : BoxLine) (area : Area) (leaf : Leaf) (bound : ℚ) (place : At) (point : Point) (kept : K)
     → IsWaiting r top line area leaf bound place point kept → IsCut r line area place kept
 is_cut r top line area leaf bound place point kept h = record { lineage = h.lineage; area_is = h.area_is; end = h.end; kept_is = h.kept_is }
 
-pub is_inside : {T K W : Type 0} (r : Rules T K W) (line : Line) (area : Area) (place : At) (kept : K) → IsCut r line area place kept → IsPlace area place
+pub is_inside : {T K W : Type 0} (r : Rules T K W) (line : BoxLine) (area : Area) (place : At) (kept : K) → IsCut r line area place kept → IsPlace area place
 is_inside r line area place kept h = subst (λ a. IsPlace a place) (sym h.area_is) (r.inside line place h.lineage h.end)
 
 -- the node that waits is no other
@@ -91,7 +91,7 @@ taken r nodes index bound best top spent node area leaf b place point kept h wai
     let w = waiting_node nodes index bound node area leaf b place point kept waits read is in
     record { at = w.0; same = w.1; waits = node_at r nodes best top index (Waiting area leaf b place point kept) h.tree w.0 }
 
-weight_of : {T K W : Type 0} (r : Rules T K W) (best : Option (Incumbent T)) (top : ℚ) (line : Line) (node : Node K) → IsNode r best top line node → weight node ≤ 2 * volume line.area - 1
+weight_of : {T K W : Type 0} (r : Rules T K W) (best : Option (Incumbent T)) (top : ℚ) (line : BoxLine) (node : Node K) → IsNode r best top line node → weight node ≤ 2 * volume line.area - 1
 weight_of r best top line (Split place point) h = omega arith
 weight_of r best top line (Closed leaf) h = omega arith
 weight_of r best top line (Waiting area leaf bound place point kept) h = omega (arith, ap volume h.area_is)

@@ -6,7 +6,7 @@ use Rattle.linear_theory.specs.Boxes.{Area}
 use Rattle.search_box.specs.declared.span.At.{At}
 use Rattle.named_row.specs.declared.leaves.Leaf.{Leaf}
 use Rattle.named_row.specs.declared.leaves.Point.{Point}
-use Rattle.branch_and_bound.specs.Lines.{Line, low_line, high_line, Fills, Finds, total, line_after}
+use Rattle.branch_and_bound.specs.Lines.{BoxLine, low_line, high_line, Fills, Finds, total, line_after}
 use Rattle.branch_and_bound.specs.Volumes.{volume}
 use Rattle.branch_and_bound.specs.Lineages.{Empty, Reads, Cuts, IsOptimal, WasRead}
 use Rattle.work_meter.specs.Work.{capped, IsWithin, IsSpent}
@@ -38,27 +38,27 @@ place_of (Split place point) = Some place
 place_of (Closed leaf) = None
 place_of (Waiting area leaf bound place point kept) = None
 
-pub record IsSplit {T K W : Type 0} (r : Rules T K W) (top : ℚ) (line : Line) (place : At) (point : Point) : Type 0 where
+pub record IsSplit {T K W : Type 0} (r : Rules T K W) (top : ℚ) (line : BoxLine) (place : At) (point : Point) : Type 0 where
   pub lineage : IsMet r line
   pub end : r.ending line ≡ Cuts place
   pub vertex_is : r.IsVertex line point
   pub over : top ≤ℚ r.bound line
 
-pub record IsRead {T K W : Type 0} (r : Rules T K W) (best : Option (Incumbent T)) (line : Line) (leaf : Leaf) : Type 0 where
+pub record IsRead {T K W : Type 0} (r : Rules T K W) (best : Option (Incumbent T)) (line : BoxLine) (leaf : Leaf) : Type 0 where
   pub end : r.ending line ≡ Reads
   pub covers : r.Covers line.area leaf (r.bound line)
   pub reached : IsReached (r.bound line) best
 
-pub record IsRefuted {T K W : Type 0} (r : Rules T K W) (line : Line) (leaf : Leaf) : Type 0 where
+pub record IsRefuted {T K W : Type 0} (r : Rules T K W) (line : BoxLine) (leaf : Leaf) : Type 0 where
   pub end : r.ending line ≡ Empty
   pub refutes : r.Refutes line.area leaf
 
-pub record IsClosed {T K W : Type 0} (r : Rules T K W) (best : Option (Incumbent T)) (line : Line) (leaf : Leaf) : Type 0 where
+pub record IsClosed {T K W : Type 0} (r : Rules T K W) (best : Option (Incumbent T)) (line : BoxLine) (leaf : Leaf) : Type 0 where
   pub lineage : IsMet r line
   pub leaf_is : r.IsLeaf line leaf
   pub shows : IsRefuted r line leaf ⊎ IsRead r best line leaf
 
-pub record IsWaiting {T K W : Type 0} (r : Rules T K W) (top : ℚ) (line : Line) (area : Area) (leaf : Leaf) (bound : ℚ) (place : At) (point : Point) (kept : K) : Type 0 where
+pub record IsWaiting {T K W : Type 0} (r : Rules T K W) (top : ℚ) (line : BoxLine) (area : Area) (leaf : Leaf) (bound : ℚ) (place : At) (point : Point) (kept : K) : Type 0 where
   pub lineage : IsMet r line
   pub area_is : area ≡ line.area
   pub end : r.ending line ≡ Cuts place
@@ -68,19 +68,19 @@ pub record IsWaiting {T K W : Type 0} (r : Rules T K W) (top : ℚ) (line : Line
   pub under : r.bound line ≤ℚ top
 
 -- what is known of a node: `top` parts the bounds of the splits from those of the leaves
-abbrev pub IsNode : {T K W : Type 0} → Rules T K W → Option (Incumbent T) → ℚ → Line → Node K → Type 0
+abbrev pub IsNode : {T K W : Type 0} → Rules T K W → Option (Incumbent T) → ℚ → BoxLine → Node K → Type 0
 IsNode r best top line (Split place point) = IsSplit r top line place point
 IsNode r best top line (Closed leaf) = IsClosed r best line leaf
 IsNode r best top line (Waiting area leaf bound place point kept) = IsWaiting r top line area leaf bound place point kept
 
 -- ---- the best timing
 -- a box didn't change it
-pub record IsKeptBest {T K W : Type 0} (r : Rules T K W) (line : Line) (old new : Option (Incumbent T)) : Type 0 where
+pub record IsKeptBest {T K W : Type 0} (r : Rules T K W) (line : BoxLine) (old new : Option (Incumbent T)) : Type 0 where
   pub same : new ≡ old
   pub reached : r.ending line ≡ Reads → IsReached (r.bound line) old
 
 -- it is that of this box, and better than the one before
-pub record IsRaised {T K W : Type 0} (r : Rules T K W) (line : Line) (old new : Option (Incumbent T)) : Type 0 where
+pub record IsRaised {T K W : Type 0} (r : Rules T K W) (line : BoxLine) (old new : Option (Incumbent T)) : Type 0 where
   pub best : Incumbent T
   pub new_is : new ≡ Some best
   pub end : r.ending line ≡ Reads
@@ -88,12 +88,12 @@ pub record IsRaised {T K W : Type 0} (r : Rules T K W) (line : Line) (old new : 
   pub good : r.IsGood best.timing best.value
   pub more : IsBeaten old best.value
 
-abbrev pub IsBetter : {T K W : Type 0} → Rules T K W → Line → Option (Incumbent T) → Option (Incumbent T) → Type 0
+abbrev pub IsBetter : {T K W : Type 0} → Rules T K W → BoxLine → Option (Incumbent T) → Option (Incumbent T) → Type 0
 IsBetter r line old new = IsKeptBest r line old new ⊎ IsRaised r line old new
 
 -- ---- one box
 -- a box that is a leaf now
-pub record IsLeafNow {T K W : Type 0} (r : Rules T K W) (line : Line) (old new : Option (Incumbent T)) (node : Node K) : Type 0 where
+pub record IsLeafNow {T K W : Type 0} (r : Rules T K W) (line : BoxLine) (old new : Option (Incumbent T)) (node : Node K) : Type 0 where
   pub whole : place_of node ≡ None
   pub is : (top : ℚ) → IsMet r line → (IsOptimal (r.ending line) → r.bound line ≤ℚ top) → IsNode r new top line node
   pub better : IsBetter r line old new
@@ -104,41 +104,41 @@ pub record IsUnopened (before after : Meter) : Type 0 where
   pub spent : IsSpent before
 
 -- a pivot was due, and all units were spent
-pub record IsOutOfWork {T K W : Type 0} (r : Rules T K W) (line : Line) (before after : Meter) (k : ℕ) : Type 0 where
+pub record IsOutOfWork {T K W : Type 0} (r : Rules T K W) (line : BoxLine) (before after : Meter) (k : ℕ) : Type 0 where
   pub due : r.IsDue line k
   pub leaves : Leaves before after k
   pub spent : IsSpent after
 
 -- an operation was refused
-pub record IsRefused {T K W : Type 0} (r : Rules T K W) (line : Line) (before after : Meter) (site : Site W) (k : ℕ) : Type 0 where
+pub record IsRefused {T K W : Type 0} (r : Rules T K W) (line : BoxLine) (before after : Meter) (site : Site W) (k : ℕ) : Type 0 where
   pub is : IsSite r line k site
   pub leaves : Leaves before after k
 
 -- why the opening of a part stopped
-abbrev pub Stops : {T K W : Type 0} → Rules T K W → Line → Meter → Meter → Stop W → Type 0
+abbrev pub Stops : {T K W : Type 0} → Rules T K W → BoxLine → Meter → Meter → Stop W → Type 0
 Stops r line before after (Work units) = (units ≡ after.spent) × (IsUnopened before after ⊎ ((k : ℕ) × IsLeft r line k × IsOutOfWork r line before after k))
 Stops r line before after (Wide site) = (k : ℕ) × IsLeft r line k × IsRefused r line before after site k
 
 -- why a box wasn't finished, once it was opened
-abbrev pub IsLeftBy : {T K W : Type 0} → Rules T K W → Line → Meter → Meter → Stop W → Type 0
+abbrev pub IsLeftBy : {T K W : Type 0} → Rules T K W → BoxLine → Meter → Meter → Stop W → Type 0
 IsLeftBy r line before after (Work units) = (units ≡ after.spent) × (k : ℕ) × IsUnfinished r line k × IsOutOfWork r line before after k
 IsLeftBy r line before after (Wide site) = (k : ℕ) × IsUnfinished r line k × IsRefused r line before after site k
 
 -- the vertex was found, and an operation of its reading was refused
-pub record IsStuck {T K W : Type 0} (r : Rules T K W) (line : Line) (before after : Meter) (leaf : Leaf) (bound : ℚ) (site : Site W) : Type 0 where
+pub record IsStuck {T K W : Type 0} (r : Rules T K W) (line : BoxLine) (before after : Meter) (leaf : Leaf) (bound : ℚ) (site : Site W) : Type 0 where
   pub opens : OpensStuck r line leaf bound site.pivots site.part
   pub cost : Finishes r line before after
   pub area_is : site.area ≡ line.area
 
 -- what became of a box
-abbrev pub Settles : {T K W : Type 0} → Rules T K W → Line → Option (Incumbent T) → Option (Incumbent T) → Meter → Meter → Settled K W → Type 0
+abbrev pub Settles : {T K W : Type 0} → Rules T K W → BoxLine → Option (Incumbent T) → Option (Incumbent T) → Meter → Meter → Settled K W → Type 0
 Settles r line old new before after (Done node) = IsLeafNow r line old new node × Finishes r line before after
 Settles r line old new before after (Stuck leaf bound site) = (new ≡ old) × IsStuck r line before after leaf bound site
 Settles r line old new before after (Left stop) = (new ≡ old) × IsLeftBy r line before after stop
 
 -- the same of each line to it
 abbrev pub SettlesAt : {T K W : Type 0} → Rules T K W → Area → Opened T K W → Option (Incumbent T) → Option (Incumbent T) → Meter → Settled K W → Type 0
-SettlesAt r area opened old new after settled = (line : Line) (before : Meter) → area ≡ line.area → Opens r line before after opened → Settles r line old new before after settled
+SettlesAt r area opened old new after settled = (line : BoxLine) (before : Meter) → area ≡ line.area → Opens r line before after opened → Settles r line old new before after settled
 
 -- ---- two parts
 -- the end of a part
@@ -148,24 +148,24 @@ ended (Stuck leaf bound site) = Err (Stopped (Wide site))
 ended (Left stop) = Err (Stopped stop)
 
 -- what became of a part
-abbrev pub Ends : {T K W : Type 0} → Rules T K W → Line → Progress T → Progress T → Result (Node K) (Halt W) → Type 0
+abbrev pub Ends : {T K W : Type 0} → Rules T K W → BoxLine → Progress T → Progress T → Result (Node K) (Halt W) → Type 0
 Ends r line old new (Ok node) = IsLeafNow r line old.incumbent new.incumbent node × Finishes r line old.meter new.meter
 Ends r line old new (Err (Stopped stop)) = (new.incumbent ≡ old.incumbent) × Stops r line old.meter new.meter stop
 Ends r line old new (Err Memory) = Unit {0}
 
 -- the same of each line to its box
 abbrev pub EndsAt : {T K W : Type 0} → Rules T K W → Area → K → Progress T → Progress T → Result (Node K) (Halt W) → Type 0
-EndsAt r area kept old new end = (parent line : Line) (place : At) → IsPart r parent place line kept area → Ends r line old new end
+EndsAt r area kept old new end = (parent line : BoxLine) (place : At) → IsPart r parent place line kept area → Ends r line old new end
 
 -- a box with the place at which it is split and what it keeps for its parts
-pub record IsCut {T K W : Type 0} (r : Rules T K W) (line : Line) (area : Area) (place : At) (kept : K) : Type 0 where
+pub record IsCut {T K W : Type 0} (r : Rules T K W) (line : BoxLine) (area : Area) (place : At) (kept : K) : Type 0 where
   pub lineage : IsMet r line
   pub area_is : area ≡ line.area
   pub end : r.ending line ≡ Cuts place
   pub kept_is : r.IsKept line kept
 
 -- both parts are leaves
-pub record IsBoth {T K W : Type 0} (r : Rules T K W) (line : Line) (place : At) (old new : Progress T) (low high : Node K) : Type 0 where
+pub record IsBoth {T K W : Type 0} (r : Rules T K W) (line : BoxLine) (place : At) (old new : Progress T) (low high : Node K) : Type 0 where
   pub middle : Progress T
   pub low_is : IsLeafNow r (low_line place line) old.incumbent middle.incumbent low
   pub low_cost : Finishes r (low_line place line) old.meter middle.meter
@@ -173,12 +173,12 @@ pub record IsBoth {T K W : Type 0} (r : Rules T K W) (line : Line) (place : At) 
   pub high_cost : Finishes r (high_line place line) middle.meter new.meter
 
 -- the low part wasn't finished
-pub record IsLowHalted {T K W : Type 0} (r : Rules T K W) (line : Line) (place : At) (old new : Progress T) (stop : Stop W) : Type 0 where
+pub record IsLowHalted {T K W : Type 0} (r : Rules T K W) (line : BoxLine) (place : At) (old new : Progress T) (stop : Stop W) : Type 0 where
   pub same : new.incumbent ≡ old.incumbent
   pub stops : Stops r (low_line place line) old.meter new.meter stop
 
 -- the low part was finished, and the high part wasn't
-pub record IsHighHalted {T K W : Type 0} (r : Rules T K W) (line : Line) (place : At) (old new : Progress T) (stop : Stop W) : Type 0 where
+pub record IsHighHalted {T K W : Type 0} (r : Rules T K W) (line : BoxLine) (place : At) (old new : Progress T) (stop : Stop W) : Type 0 where
   pub between : Meter
   pub better : IsBetter r (low_line place line) old.incumbent new.incumbent
   pub read : WasRead (r.ending (low_line place line))
@@ -186,14 +186,14 @@ pub record IsHighHalted {T K W : Type 0} (r : Rules T K W) (line : Line) (place 
   pub stops : Stops r (high_line place line) between new.meter stop
 
 -- what became of the two parts
-abbrev pub EndsBoth : {T K W : Type 0} → Rules T K W → Line → At → Progress T → Progress T → Result (Node K × Node K) (Halt W) → Type 0
+abbrev pub EndsBoth : {T K W : Type 0} → Rules T K W → BoxLine → At → Progress T → Progress T → Result (Node K × Node K) (Halt W) → Type 0
 EndsBoth r line place old new (Ok parts) = IsBoth r line place old new parts.0 parts.1
 EndsBoth r line place old new (Err (Stopped stop)) = IsLowHalted r line place old new stop ⊎ IsHighHalted r line place old new stop
 EndsBoth r line place old new (Err Memory) = Unit {0}
 
 -- the same of each line to the box
 abbrev pub EndsBothAt : {T K W : Type 0} → Rules T K W → Area → At → K → Progress T → Progress T → Result (Node K × Node K) (Halt W) → Type 0
-EndsBothAt r area place kept old new end = (line : Line) → IsCut r line area place kept → EndsBoth r line place old new end
+EndsBothAt r area place kept old new end = (line : BoxLine) → IsCut r line area place kept → EndsBoth r line place old new end
 
 -- ---- all nodes
 -- what the search keeps true between two splits
@@ -205,7 +205,7 @@ pub record IsSearchState {T K W : Type 0} (r : Rules T K W) (nodes : List (Node 
   pub units : spent ≡ capped (total place_of (cost_of r) (lines_of r) nodes)
 
 -- the line of the node at an index
-abbrev pub line_there : {T K W : Type 0} → Rules T K W → List (Node K) → ℕ → Line
+abbrev pub line_there : {T K W : Type 0} → Rules T K W → List (Node K) → ℕ → BoxLine
 line_there r nodes index = line_after place_of (lines_of r) (take index nodes)
 
 -- how often a node can still be split, counted with its parts

@@ -3,7 +3,7 @@
 ghost use Rattle.std.specs.Prelude.{◌≡◌, true, false, IfOk};
 ghost use Rattle.search_box.specs.Places.{IsPlace, low_part, high_part};
 ghost use Rattle.search_box.specs.declared.span.At.{At};
-ghost use Rattle.branch_and_bound.specs.Lines.{Line};
+ghost use Rattle.branch_and_bound.specs.Lines.{BoxLine};
 ghost use Rattle.work_meter.specs.Work.{IsWithin};
 ghost use Rattle.branch_and_bound.specs.OpenedNodes.{IsPart};
 ghost use Rattle.branch_and_bound.specs.State.{IsCut, EndsAt, EndsBothAt, ended};
@@ -78,7 +78,7 @@ fn open_side<P: Relaxation>(
 ) -> Result<Node<P::Kept>, Halt<P::Part>>
     requires ready { P.Ready relaxation.now room.old }
     requires within { IsWithin progress.old.meter.spent progress.old.meter.limit }
-    requires part { (parent line : Line) × (place : At) × IsPart (P.rules relaxation.now) parent place line kept.now area }
+    requires part { (parent line : BoxLine) × (place : At) × IsPart (P.rules relaxation.now) parent place line kept.now area }
     ensures ready { P.Ready relaxation.now room.new }
     ensures limit { progress.new.meter.limit ≡ progress.old.meter.limit }
     ensures ends { EndsAt (P.rules relaxation.now) area kept.now progress.old progress.new result }
@@ -102,7 +102,7 @@ pub(crate) fn open_parts<P: Relaxation>(
 ) -> Result<(Node<P::Kept>, Node<P::Kept>), Halt<P::Part>>
     requires ready { P.Ready relaxation.now room.old }
     requires within { IsWithin progress.old.meter.spent progress.old.meter.limit }
-    requires cut { (line : Line) × IsCut (P.rules relaxation.now) line cut.now.area.now cut.now.place cut.now.kept.now }
+    requires cut { (line : BoxLine) × IsCut (P.rules relaxation.now) line cut.now.area.now cut.now.place cut.now.kept.now }
     requires inside { IsPlace cut.now.area.now cut.now.place }
     ensures ready { P.Ready relaxation.now room.new }
     ensures limit { progress.new.meter.limit ≡ progress.old.meter.limit }

@@ -3,7 +3,7 @@
 ghost use Rattle.std.specs.Prelude.{◌≡◌, IfOk, None};
 ghost use Rattle.simplex_theory.specs.Tableau.{goal_bound};
 ghost use Rattle.dual_leaf.specs.Leaves.{goal_multipliers};
-ghost use Rattle.branch_and_bound.specs.Lines.{Line};
+ghost use Rattle.branch_and_bound.specs.Lines.{BoxLine};
 ghost use Rattle.program_builder.specs.Loading.{HasRoomFor};
 ghost use Rattle.work_meter.specs.Work.{HasWork};
 ghost use Rattle.branch_tree.specs.Ends.{named_first};
@@ -31,11 +31,11 @@ struct Run {
 
 /// The steps from a line's first tableau to their end: a unit for the box, and one for each pivot.
 fn make_steps<P: BoxProgram>(program: &P, tableau: &mut Tableau, meter: &mut Meter) -> Run
-    requires first { (line : Line) × (tableau.old ≡ named_first (P.program program.now) line) }
+    requires first { (line : BoxLine) × (tableau.old ≡ named_first (P.program program.now) line) }
     requires work { HasWork meter.old }
     ensures made { HasRoomFor (table_of (P.program program.now)) tableau.new }
     ensures limit { meter.new.limit ≡ meter.old.limit }
-    ensures run { (line : Line) → tableau.old ≡ named_first (P.program program.now) line → IsRun (P.program program.now) line tableau.new meter.old meter.new result.end result.pivots }
+    ensures run { (line : BoxLine) → tableau.old ≡ named_first (P.program program.now) line → IsRun (P.program program.now) line tableau.new meter.old meter.new result.end result.pivots }
 {
     // its contract says that the program is sound
     program.known_program();

@@ -10,7 +10,7 @@ use Rattle.link_proof.specs.LinkAccepted.{IsLinkAccepted}
 use Rattle.link_proof.specs.LinkClaims.{LinkClaimHolds}
 use Rattle.link_proof.specs.LinkRefusals.{IsFirstLinkRefusal}
 use Rattle.link_proof.specs.declared.reject.LinkReject as links
-use Rattle.link_proof.specs.declared.reject.LinkReject.TheVariants as link_reject
+use Rattle.certificate_checker.specs.declared.reject.Reject.TheVariants as link_reject
 use Rattle.maxband_run.specs.Reading.{Value}
 use Rattle.maxband_run.specs.Sought.{Sought, whole_bands, bands_of_links}
 use Rattle.maxband_run.specs.CheckLines.{rejected_line, link_rejected_line}

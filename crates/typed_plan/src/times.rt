@@ -6,8 +6,8 @@ ghost use Rattle.typed_plan.specs.Asked.{after, travel};
 ghost use Rattle.typed_plan.specs.Counts.{HasCounts};
 ghost use Rattle.typed_plan.specs.Grid.{time, how_many};
 
-use crate::seconds::{later_by, over_whole, seconds};
-use artery_model::{Artery, Dir};
+use crate::seconds::{later_by, over_whole};
+use artery_model::{Artery, Dir, seconds};
 use description_reader::{Measure, TypedPlan};
 use narrow_fraction::Frac;
 
