@@ -1,12 +1,12 @@
 -- A typed speed comes back from the time that it makes.
-use Rattle.std.proofs.Common.{◌≡◌, ℕ, ◌+◌, ◌*◌, ◌-◌, ◌<◌, ◌≤◌, pos, ℤ, refl, sym, ◌∙◌, ap, subst, arith, unsigned_abs, mul-pos}
+use Rattle.std.proofs.Common.{◌≡◌, ℕ, ◌*◌, ◌-◌, ◌<◌, pos, sym, ◌∙◌, ap, subst, arith, unsigned_abs, mul-pos}
 use Rattle.std.specs.Prelude.{◌≤ℤ◌, slice_index_or}
 use Rattle.std.proofs.lemmas.Int.{ints}
 use Rattle.rational_theory.specs.Rational.{ℚ, whole, over, ◌/ℚ◌, ◌*ℚ◌}
 use Rattle.rational_theory.proofs.Arithmetic.{IsRatio, same_ratio}
 use Rattle.progression.specs.Speeds.{number, seconds}
-use Rattle.progression.specs.Plan.{Plan, run}
-use Rattle.progression.specs.Street.{Street, count, HasLink, distance, no_link}
+use Rattle.progression.specs.Plan.{run}
+use Rattle.progression.specs.Street.{Street, HasLink, distance, no_link}
 use Rattle.progression.specs.declared.parts.Dir.{Dir}
 use Rattle.progression.specs.declared.parts.Dir.TheVariants.{Outbound, Inbound}
 use Rattle.progression.specs.declared.parts.Units.{Units}
