@@ -43,8 +43,8 @@ cycles_back f ticks = min 60 ((ticks + f.cycle - 1) / f.cycle)
 -- a piece that leaves the one signal at a moment and reaches the other a run later, as wide as the band at both
 abbrev pub piece : Frame → Paint → ℤ → ℤ → ℤ → ℕ → ℕ → Shape
 piece f p from to ticks run band =
-    shape.Slant p (x_at f ticks) (x_at f (ticks +ℤ pos band)) from
-    (x_at f (ticks +ℤ pos run)) (x_at f (ticks +ℤ pos (run + band))) to
+    shape.Slant p (record { left = x_at f ticks; right = x_at f (ticks +ℤ pos band); level = from })
+    (record { left = x_at f (ticks +ℤ pos run); right = x_at f (ticks +ℤ pos (run + band)); level = to })
 
 -- such a piece in each cycle, so many of them
 abbrev pub some_pieces : Frame → Paint → ℤ → ℤ → ℤ → ℕ → ℕ → ℕ → List Shape

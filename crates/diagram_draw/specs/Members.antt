@@ -55,5 +55,5 @@ is_red_paint p = false
 
 abbrev pub is_red : Shape → Bool
 is_red (shape.Rect p left top right bottom) = is_red_paint p
-is_red (shape.Slant p left right level next_left next_right next_level) = is_red_paint p
+is_red (shape.Slant p from to) = is_red_paint p
 is_red (shape.Line p x y next_x next_y) = is_red_paint p

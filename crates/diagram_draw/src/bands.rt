@@ -8,7 +8,7 @@ ghost use Rattle.diagram_draw.specs.Bands.{tail, leaving_level, entering_level, 
 
 use crate::frame::{BAR_HEIGHT, Frame, earlier, later, level, moment_after, x_at};
 use crate::paint::Paint;
-use crate::shape::Shape;
+use crate::shape::{Shape, Side};
 use artery_model::{Artery, Dir};
 use narrow_fraction::Memory;
 use std::alloc::{AllocError, Global};
@@ -108,12 +108,16 @@ fn piece(frame: Frame, part: BandPart) -> Shape
     let last_arrival = moment_after(part.begin, part.run + part.band);
     Shape::Slant {
         paint: part.paint,
-        left: x_at(frame, part.begin),
-        right: x_at(frame, end),
-        level: part.from,
-        next_left: x_at(frame, arrival),
-        next_right: x_at(frame, last_arrival),
-        next_level: part.to,
+        from: Side {
+            left: x_at(frame, part.begin),
+            right: x_at(frame, end),
+            level: part.from,
+        },
+        to: Side {
+            left: x_at(frame, arrival),
+            right: x_at(frame, last_arrival),
+            level: part.to,
+        },
     }
 }
 
