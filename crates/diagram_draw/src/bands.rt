@@ -101,7 +101,7 @@ fn piece(frame: Frame, part: BandPart) -> Shape
     requires begin { unsigned_abs part.begin < 2 ^ 100 }
     requires run { part.run < 2 ^ 80 }
     requires band { part.band < 2 ^ 80 }
-    ensures { result ≡ piece frame part.paint part.from part.to part.begin part.run part.band }
+    ensures { result ≡ piece frame part }
 {
     let end = moment_after(part.begin, part.band);
     let arrival = moment_after(part.begin, part.run);
@@ -134,7 +134,7 @@ fn some_pieces(
     requires run { part.run < 2 ^ 80 }
     requires band { part.band < 2 ^ 80 }
     requires cycles { cycles ≤ 72 }
-    ensures { IfOk result (λ shapes. shapes.items ≡ some_pieces frame part.paint part.from part.to part.begin part.run part.band cycles) }
+    ensures { IfOk result (λ shapes. shapes.items ≡ some_pieces frame part cycles) }
 {
     let mut shapes = Vec::new(alloc);
     for cycle in 0..cycles {

@@ -49,7 +49,7 @@ fn block(frame: Frame, part: BarPart) -> Shape
     requires top { unsigned_abs part.top < 30000 }
     requires begin { unsigned_abs part.begin < 2 ^ 100 }
     requires ticks { part.ticks < 2 ^ 100 }
-    ensures { result ≡ block frame part.paint part.top part.begin part.ticks }
+    ensures { result ≡ block frame part }
 {
     let end = moment_after(part.begin, part.ticks);
     Shape::Rect {
@@ -74,7 +74,7 @@ fn some_blocks(
     requires begin { unsigned_abs part.begin < 2 ^ 99 }
     requires ticks { part.ticks < 2 ^ 100 }
     requires cycles { cycles ≤ 72 }
-    ensures { IfOk result (λ shapes. shapes.items ≡ some_blocks frame part.paint part.top part.begin part.ticks cycles) }
+    ensures { IfOk result (λ shapes. shapes.items ≡ some_blocks frame part cycles) }
 {
     let mut shapes = Vec::new(alloc);
     for cycle in 0..cycles {
@@ -90,7 +90,7 @@ fn blocks(alloc: Global, frame: Frame, part: BarPart) -> Result<Vec<Shape>, Allo
     requires top { unsigned_abs part.top < 30000 }
     requires begin { unsigned_abs part.begin < 2 ^ 99 }
     requires ticks { part.ticks < 2 ^ 100 }
-    ensures { IfOk result (λ shapes. shapes.items ≡ blocks frame part.paint part.top part.begin part.ticks) }
+    ensures { IfOk result (λ shapes. shapes.items ≡ blocks frame part) }
 {
     some_blocks(alloc, frame, part, frame.cycles + 1)
 }

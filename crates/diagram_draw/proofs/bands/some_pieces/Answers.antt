@@ -1,8 +1,7 @@
 use Rattle.std.proofs.Common.{rules, ◌≡◌, FitsSigned}
 use Rattle.std.specs.Int.{w128}
 use Rattle.std.proofs.lemmas.Int.{to_z-of_z}
-use Rattle.diagram_draw.specs.Frames.{later}
-use Rattle.diagram_draw.specs.Bands.{piece}
+use Rattle.diagram_draw.specs.Bands.{piece, band_in_cycle}
 use Rattle.timing_measures.proofs.Pieces.{map_on, extended_one}
 use Rattle.diagram_draw.proofs.bands.some_pieces.Goals as goal
 
@@ -19,6 +18,6 @@ loop-cycle-preserved c =
     let begin = to_z-of_z w128 c.args.part.begin begin_fits in
     let piece_is = c.piece.ensures in
     let moment_is = c.later-begin.ensures.value in
-    let one : c.piece.result ≡ piece c.args.frame c.args.part.paint c.args.part.from c.args.part.to (later c.args.frame c.args.part.begin k) c.args.part.run c.args.part.band = cc in
-    let next = map_on (λ m. piece c.args.frame c.args.part.paint c.args.part.from c.args.part.to (later c.args.frame c.args.part.begin m) c.args.part.run c.args.part.band) k in
+    let one : c.piece.result ≡ piece c.args.frame (band_in_cycle c.args.frame c.args.part k) = cc in
+    let next = map_on (λ m. piece c.args.frame (band_in_cycle c.args.frame c.args.part m)) k in
     extended_one _ _ _ _ _ _ c.in_ok-push.ensures.items one c.loop-cycle.invariant next

@@ -1,8 +1,7 @@
 use Rattle.std.proofs.Common.{rules, ◌≡◌, FitsSigned}
 use Rattle.std.specs.Int.{w128}
 use Rattle.std.proofs.lemmas.Int.{to_z-of_z}
-use Rattle.diagram_draw.specs.Frames.{later}
-use Rattle.diagram_draw.specs.Bars.{block}
+use Rattle.diagram_draw.specs.Bars.{block, bar_in_cycle}
 use Rattle.timing_measures.proofs.Pieces.{map_on, extended_one}
 use Rattle.diagram_draw.proofs.bars.some_blocks.Goals as goal
 
@@ -17,6 +16,6 @@ loop-cycle-preserved c =
     let begin = to_z-of_z w128 c.args.part.begin begin_fits in
     let block_is = c.block.ensures in
     let moment_is = c.later-begin.ensures.value in
-    let one : c.block.result ≡ block c.args.frame c.args.part.paint c.args.part.top (later c.args.frame c.args.part.begin k) c.args.part.ticks = cc in
-    let next = map_on (λ m. block c.args.frame c.args.part.paint c.args.part.top (later c.args.frame c.args.part.begin m) c.args.part.ticks) k in
+    let one : c.block.result ≡ block c.args.frame (bar_in_cycle c.args.frame c.args.part k) = cc in
+    let next = map_on (λ m. block c.args.frame (bar_in_cycle c.args.frame c.args.part m)) k in
     extended_one _ _ _ _ _ _ c.in_ok-push.ensures.items one c.loop-cycle.invariant next
