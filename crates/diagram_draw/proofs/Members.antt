@@ -1,21 +1,19 @@
 -- Which shapes are seen through the field of a drawing: the members of lists that are made piece by piece.
 use Rattle.std.proofs.Common.{◌≡◌, ℕ, zero, suc, ◌+◌, ◌-◌, ◌<◌, ◌≤◌, ◌==◌, if◌then◌else◌, true, false, List, [], ◌∷◌, ◌++◌, map, flat_map, sym, ap, subst, ◌∙◌, arith, inl, inr}
-use Rattle.std.specs.Prelude.{◌⊎◌, Contains, ℤ, pos, ◌+ℤ◌, slice_index_or}
+use Rattle.std.specs.Prelude.{◌⊎◌, Contains, slice_index_or}
 use Rattle.std.specs.List.{range_with_len}
 use Rattle.std.proofs.lemmas.Bool.{cases_lt}
 use Rattle.std.proofs.lemmas.Bool.Decides.{eqb_tells}
 use Rattle.std.proofs.lemmas.List.Elements.{Contains-append_left, Contains-append_right, Contains-append_cases}
 use Rattle.progression.specs.Street.{Street, count, left_against, HasSignal, HasLink}
-use Rattle.progression.specs.Plan.{Plan, run, band}
+use Rattle.progression.specs.Plan.{Plan}
 use Rattle.progression.specs.declared.parts.Dir.{Dir}
 use Rattle.progression.specs.declared.parts.Dir.TheVariants.{Outbound, Inbound}
-use Rattle.diagram_draw.specs.declared.paint.Paint.{Paint}
-use Rattle.diagram_draw.specs.declared.paint.Paint.TheVariants as paint
 use Rattle.diagram_draw.specs.declared.shape.Shape.{Shape}
 use Rattle.diagram_draw.specs.declared.frame.Frame.{Frame}
-use Rattle.diagram_draw.specs.Frames.{later}
-use Rattle.diagram_draw.specs.Bands.{band_paint, leaving_level, entering_level, first_leaving, piece, pieces, link_pieces, all_pieces}
-use Rattle.diagram_draw.specs.Bars.{bar_top, block, blocks, first_red, first_window, common_wait, turn_wait, common_ticks, turn_ticks, window_paint, ground, windows, common_reds, turn_reds, bar, signal_bars, all_bars}
+use Rattle.diagram_draw.specs.declared.bars.BarPart.{BarPart}
+use Rattle.diagram_draw.specs.Bands.{piece, band_in_cycle, band_part, pieces, link_pieces, all_pieces}
+use Rattle.diagram_draw.specs.Bars.{block, blocks, bar_in_cycle, window_part, common_part, turn_part, ground, windows, common_reds, turn_reds, bar, signal_bars, all_bars}
 use Rattle.diagram_draw.specs.Members.{IsBlock, IsRed, IsPiece, IsFieldShape, Piece, Ground, Window, Red, is_red}
 use Rattle.diagram_draw.specs.Pages.{field_shapes, drawn}
 use Rattle.diagram_draw.specs.Laws.{FieldIsExact, RedsAreReds}
@@ -95,29 +93,29 @@ module _ {A : Type 0} where
   ]
 
 -- ---- blocks and pieces
-module _ (f : Frame) (p : Paint) (top first : ℤ) (long : ℕ) (s : Shape) where
-  in_blocks : Contains (blocks f p top first long) s → IsBlock f p top first long s
+module _ (f : Frame) (part : BarPart) (s : Shape) where
+  in_blocks : Contains (blocks f part) s → IsBlock f part s
   in_blocks h =
-      let q = in_each (λ m. block f p top (later f first m) long) 0 (f.cycles + 1) s h in
+      let q = in_each (λ m. block f (bar_in_cycle f part m)) 0 (f.cycles + 1) s h in
       let l = q.1.1 in
       record { cycle = q.0; shown = omega (arith, l); is = q.2 }
 
-  blocks_in : IsBlock f p top first long s → Contains (blocks f p top first long) s
+  blocks_in : IsBlock f part s → Contains (blocks f part) s
   blocks_in h =
       let l = h.shown in
-      each_in (λ m. block f p top (later f first m) long) 0 (f.cycles + 1) h.cycle s (omega arith) (omega (arith, l)) h.is
+      each_in (λ m. block f (bar_in_cycle f part m)) 0 (f.cycles + 1) h.cycle s (omega arith) (omega (arith, l)) h.is
 
 module _ (f : Frame) (a : Street) (t : Plan) (s : Shape) where
   in_link : (d : Dir) (l : ℕ) → Contains (pieces f a t d l) s → IsPiece f a t d l s
   in_link d l h =
-      let q = in_each (λ m. piece f (band_paint d) (leaving_level f a d l) (entering_level f a d l) (later f (first_leaving f a t d l) m) (run t d l) (band t d)) 0 _ s h in
+      let q = in_each (λ m. piece f (band_in_cycle f (band_part f a t d l) m)) 0 _ s h in
       let m = q.1.1 in
       record { cycle = q.0; shown = omega (arith, m); is = q.2 }
 
   link_in : (d : Dir) (l : ℕ) → IsPiece f a t d l s → Contains (pieces f a t d l) s
   link_in d l h =
       let m = h.shown in
-      each_in (λ m. piece f (band_paint d) (leaving_level f a d l) (entering_level f a d l) (later f (first_leaving f a t d l) m) (run t d l) (band t d)) 0 _ h.cycle s
+      each_in (λ m. piece f (band_in_cycle f (band_part f a t d l) m)) 0 _ h.cycle s
       (omega arith) (omega (arith, m)) h.is
 
   -- ---- from the list to what it shows
@@ -125,11 +123,11 @@ module _ (f : Frame) (a : Street) (t : Plan) (s : Shape) where
   in_bar d i here h = elim (in_cons (ground f a d i) (windows f a t d i ++ (common_reds f a t d i ++ turn_reds f a t d i)) s h) [
     | inl p ↦ Ground d i here p
     | inr p ↦ elim (Contains-append_cases (windows f a t d i) (common_reds f a t d i ++ turn_reds f a t d i) s p) [
-      | inl q ↦ Window d i here (in_blocks f (window_paint d) (bar_top f a d i) (first_window f a t d i) (band t d) s q)
+      | inl q ↦ Window d i here (in_blocks f (window_part f a t d i) s q)
       | inr q ↦ elim (Contains-append_cases (common_reds f a t d i) (turn_reds f a t d i) s q) [
-        | inl r ↦ Red d i here (inl (in_blocks f paint.CommonRed (bar_top f a d i) (first_red f a t d i +ℤ pos (common_wait a t d i)) (common_ticks a t i) s r))
-        | inr r ↦ (let some = in_some (left_against a d i) (blocks f paint.TurnRed (bar_top f a d i) (first_red f a t d i +ℤ pos (turn_wait a t d i)) (turn_ticks a t d i)) s r in
-            Red d i here (inr (some.0, in_blocks f paint.TurnRed (bar_top f a d i) (first_red f a t d i +ℤ pos (turn_wait a t d i)) (turn_ticks a t d i) s some.1)))
+        | inl r ↦ Red d i here (inl (in_blocks f (common_part f a t d i) s r))
+        | inr r ↦ (let some = in_some (left_against a d i) (blocks f (turn_part f a t d i)) s r in
+            Red d i here (inr (some.0, in_blocks f (turn_part f a t d i) s some.1)))
       ]
     ]
   ]
@@ -160,11 +158,11 @@ module _ (f : Frame) (a : Street) (t : Plan) (s : Shape) where
   red_in : (d : Dir) (i : ℕ) → IsRed f a t d i s → Contains (common_reds f a t d i ++ turn_reds f a t d i) s
   red_in d i (inl h) =
       Contains-append_left (common_reds f a t d i) (turn_reds f a t d i) s
-      (blocks_in f paint.CommonRed (bar_top f a d i) (first_red f a t d i +ℤ pos (common_wait a t d i)) (common_ticks a t i) s h)
+      (blocks_in f (common_part f a t d i) s h)
   red_in d i (inr h) =
       Contains-append_right (common_reds f a t d i) (turn_reds f a t d i) s
       (some_in (left_against a d i) _ s h.0
-      (blocks_in f paint.TurnRed (bar_top f a d i) (first_red f a t d i +ℤ pos (turn_wait a t d i)) (turn_ticks a t d i) s h.1))
+      (blocks_in f (turn_part f a t d i) s h.1))
 
   signal_in : (d : Dir) (i : ℕ) → Contains (bar f a t d i) s → Contains (signal_bars f a t i) s
   signal_in Outbound i h = Contains-append_left (bar f a t Outbound i) (bar f a t Inbound i) s h
@@ -186,7 +184,7 @@ module _ (f : Frame) (a : Street) (t : Plan) (s : Shape) where
   shape_in (Window d i here h) =
       inr (bar_in d i here (cons_in (ground f a d i) (windows f a t d i ++ (common_reds f a t d i ++ turn_reds f a t d i)) s
       (inr (Contains-append_left (windows f a t d i) (common_reds f a t d i ++ turn_reds f a t d i) s
-      (blocks_in f (window_paint d) (bar_top f a d i) (first_window f a t d i) (band t d) s h)))))
+      (blocks_in f (window_part f a t d i) s h)))))
   shape_in (Red d i here h) =
       inr (bar_in d i here (cons_in (ground f a d i) (windows f a t d i ++ (common_reds f a t d i ++ turn_reds f a t d i)) s
       (inr (Contains-append_right (windows f a t d i) (common_reds f a t d i ++ turn_reds f a t d i) s (red_in d i h)))))

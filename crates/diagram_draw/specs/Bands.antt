@@ -11,6 +11,7 @@ use Rattle.diagram_draw.specs.declared.paint.Paint.TheVariants as paint
 use Rattle.diagram_draw.specs.declared.shape.Shape.{Shape}
 use Rattle.diagram_draw.specs.declared.shape.Shape.TheVariants as shape
 use Rattle.diagram_draw.specs.declared.frame.Frame.{Frame}
+use Rattle.diagram_draw.specs.declared.bands.BandPart.{BandPart}
 use Rattle.timing_measures.specs.Measures.{after_start}
 use Rattle.diagram_draw.specs.Frames.{bar_height, x_at, level, earlier, later}
 
@@ -41,23 +42,36 @@ abbrev pub cycles_back : Frame → ℕ → ℕ
 cycles_back f ticks = min 60 ((ticks + f.cycle - 1) / f.cycle)
 
 -- a piece that leaves the one signal at a moment and reaches the other a run later, as wide as the band at both
-abbrev pub piece : Frame → Paint → ℤ → ℤ → ℤ → ℕ → ℕ → Shape
-piece f p from to ticks run band =
-    shape.Slant p (x_at f ticks) (x_at f (ticks +ℤ pos band)) from
-    (x_at f (ticks +ℤ pos run)) (x_at f (ticks +ℤ pos (run + band))) to
+abbrev pub piece : Frame → BandPart → Shape
+piece f part =
+    shape.Slant part.paint (record { left = x_at f part.begin; right = x_at f (part.begin +ℤ pos part.band); level = part.from })
+    (record { left = x_at f (part.begin +ℤ pos part.run); right = x_at f (part.begin +ℤ pos (part.run + part.band)); level = part.to })
+
+-- the same so many cycles later
+abbrev pub band_in_cycle : Frame → BandPart → ℕ → BandPart
+band_in_cycle f part m = record part { begin = later f part.begin m }
 
 -- such a piece in each cycle, so many of them
-abbrev pub some_pieces : Frame → Paint → ℤ → ℤ → ℤ → ℕ → ℕ → ℕ → List Shape
-some_pieces f p from to ticks run band cycles = map (λ m. piece f p from to (later f ticks m) run band) (range_with_len 0 cycles)
+abbrev pub some_pieces : Frame → BandPart → ℕ → List Shape
+some_pieces f part cycles = map (λ m. piece f (band_in_cycle f part m)) (range_with_len 0 cycles)
 
 -- when the band leaves the link's first signal in the first of these cycles
 abbrev pub first_leaving : Frame → Street → Plan → Dir → ℕ → ℤ
 first_leaving f a t d l = earlier f (cycles_back f (run t d l + band t d)) (after_start a t (line_at a t d (tail d l)))
 
+-- a direction's band on a link in the first of these cycles
+abbrev pub band_part : Frame → Street → Plan → Dir → ℕ → BandPart
+band_part f a t d l = record {
+  paint = band_paint d;
+  from = leaving_level f a d l;
+  to = entering_level f a d l;
+  begin = first_leaving f a t d l;
+  run = run t d l;
+  band = band t d;
+}
+
 abbrev pub pieces : Frame → Street → Plan → Dir → ℕ → List Shape
-pieces f a t d l =
-    some_pieces f (band_paint d) (leaving_level f a d l) (entering_level f a d l) (first_leaving f a t d l) (run t d l) (band t d)
-    (f.cycles + cycles_back f (run t d l + band t d))
+pieces f a t d l = some_pieces f (band_part f a t d l) (f.cycles + cycles_back f (run t d l + band t d))
 
 -- on a link, outbound and inbound
 abbrev pub link_pieces : Frame → Street → Plan → ℕ → List Shape

@@ -13,6 +13,7 @@ use Rattle.diagram_draw.specs.declared.paint.Paint.TheVariants as paint
 use Rattle.diagram_draw.specs.declared.shape.Shape.{Shape}
 use Rattle.diagram_draw.specs.declared.shape.Shape.TheVariants as shape
 use Rattle.diagram_draw.specs.declared.frame.Frame.{Frame}
+use Rattle.diagram_draw.specs.declared.bars.BarPart.{BarPart}
 use Rattle.timing_measures.specs.Measures.{after_start}
 use Rattle.diagram_draw.specs.Frames.{bar_height, x_at, level, plot_right, earlier, later}
 
@@ -23,16 +24,20 @@ bar_top f a Inbound i = pos (level f a i) -ℤ pos bar_height
 
 -- ---- blocks
 -- a block of a bar, from a moment on and so many ticks long
-abbrev pub block : Frame → Paint → ℤ → ℤ → ℕ → Shape
-block f p top ticks long = shape.Rect p (x_at f ticks) top (x_at f (ticks +ℤ pos long)) (top +ℤ pos bar_height)
+abbrev pub block : Frame → BarPart → Shape
+block f part = shape.Rect part.paint (x_at f part.begin) part.top (x_at f (part.begin +ℤ pos part.ticks)) (part.top +ℤ pos bar_height)
+
+-- the same so many cycles later
+abbrev pub bar_in_cycle : Frame → BarPart → ℕ → BarPart
+bar_in_cycle f part m = record part { begin = later f part.begin m }
 
 -- such a block in each cycle, so many of them
-abbrev pub some_blocks : Frame → Paint → ℤ → ℤ → ℕ → ℕ → List Shape
-some_blocks f p top ticks long cycles = map (λ m. block f p top (later f ticks m) long) (range_with_len 0 cycles)
+abbrev pub some_blocks : Frame → BarPart → ℕ → List Shape
+some_blocks f part cycles = map (λ m. block f (bar_in_cycle f part m)) (range_with_len 0 cycles)
 
 -- in the cycle before the first that is shown, which may reach into it, and in each that is shown
-abbrev pub blocks : Frame → Paint → ℤ → ℤ → ℕ → List Shape
-blocks f p top ticks long = some_blocks f p top ticks long (f.cycles + 1)
+abbrev pub blocks : Frame → BarPart → List Shape
+blocks f part = some_blocks f part (f.cycles + 1)
 
 -- ---- what they show
 -- where the direction's red and its band begin in the cycle before the first
@@ -60,21 +65,39 @@ abbrev pub window_paint : Dir → Paint
 window_paint Outbound = paint.OutWindow
 window_paint Inbound = paint.InWindow
 
+-- the direction's band and the two parts of its red in the cycle before the first
+abbrev pub window_part : Frame → Street → Plan → Dir → ℕ → BarPart
+window_part f a t d i = record { paint = window_paint d; top = bar_top f a d i; begin = first_window f a t d i; ticks = band t d }
+
+abbrev pub common_part : Frame → Street → Plan → Dir → ℕ → BarPart
+common_part f a t d i = record {
+  paint = paint.CommonRed;
+  top = bar_top f a d i;
+  begin = first_red f a t d i +ℤ pos (common_wait a t d i);
+  ticks = common_ticks a t i;
+}
+
+abbrev pub turn_part : Frame → Street → Plan → Dir → ℕ → BarPart
+turn_part f a t d i = record {
+  paint = paint.TurnRed;
+  top = bar_top f a d i;
+  begin = first_red f a t d i +ℤ pos (turn_wait a t d i);
+  ticks = turn_ticks a t d i;
+}
+
 -- ---- a bar
 abbrev pub ground : Frame → Street → Dir → ℕ → Shape
 ground f a d i = shape.Rect paint.Ground (pos f.left) (bar_top f a d i) (pos (plot_right f)) (bar_top f a d i +ℤ pos bar_height)
 
 abbrev pub windows : Frame → Street → Plan → Dir → ℕ → List Shape
-windows f a t d i = blocks f (window_paint d) (bar_top f a d i) (first_window f a t d i) (band t d)
+windows f a t d i = blocks f (window_part f a t d i)
 
 abbrev pub common_reds : Frame → Street → Plan → Dir → ℕ → List Shape
-common_reds f a t d i = blocks f paint.CommonRed (bar_top f a d i) (first_red f a t d i +ℤ pos (common_wait a t d i)) (common_ticks a t i)
+common_reds f a t d i = blocks f (common_part f a t d i)
 
 -- none where no left turn is against the direction
 abbrev pub turn_reds : Frame → Street → Plan → Dir → ℕ → List Shape
-turn_reds f a t d i =
-    if left_against a d i == 0 then []
-    else blocks f paint.TurnRed (bar_top f a d i) (first_red f a t d i +ℤ pos (turn_wait a t d i)) (turn_ticks a t d i)
+turn_reds f a t d i = if left_against a d i == 0 then [] else blocks f (turn_part f a t d i)
 
 abbrev pub bar : Frame → Street → Plan → Dir → ℕ → List Shape
 bar f a t d i = ground f a d i ∷ (windows f a t d i ++ (common_reds f a t d i ++ turn_reds f a t d i))

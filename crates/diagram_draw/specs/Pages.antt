@@ -40,7 +40,9 @@ key_bar f x p =
 
 -- a piece of a band, from this level to that
 abbrev pub key_piece : Frame → ℕ → Paint → ℕ → ℕ → Shape
-key_piece f x p from to = shape.Slant p (pos (f.left + x)) (pos (f.left + x + 220)) (pos from) (pos (f.left + x + 200)) (pos (f.left + x + 420)) (pos to)
+key_piece f x p from to =
+    shape.Slant p (record { left = pos (f.left + x); right = pos (f.left + x + 220); level = pos from })
+    (record { left = pos (f.left + x + 200); right = pos (f.left + x + 420); level = pos to })
 
 unfoldable pub key_shapes : Frame → List Shape
 key_shapes f =

@@ -8,12 +8,29 @@ ghost use Rattle.diagram_draw.specs.Bands.{tail, leaving_level, entering_level, 
 
 use crate::frame::{BAR_HEIGHT, Frame, earlier, later, level, moment_after, x_at};
 use crate::paint::Paint;
-use crate::shape::Shape;
+use crate::shape::{Shape, Side};
 use artery_model::{Artery, Dir};
 use narrow_fraction::Memory;
 use std::alloc::{AllocError, Global};
 use time_space::{Timing, line_at};
 use timing_measures::after_start;
+
+/// A part of a band: from the edge of the bars at one signal to that of those at the next.
+#[derive(Clone, Copy)]
+struct BandPart {
+    /// Whose band it is.
+    paint: Paint,
+    /// The level at which it begins.
+    from: i128,
+    /// The level at which it ends.
+    to: i128,
+    /// The moment at which the band leaves the one signal, in ticks.
+    begin: i128,
+    /// How many ticks later it reaches the other.
+    run: u128,
+    /// How many ticks wide it is.
+    band: u128,
+}
 
 /// The signal at which a direction's traffic enters a link.
 fn tail(dir: Dir, link: u32) -> u32
@@ -79,32 +96,28 @@ fn cycles_back(frame: Frame, ticks: u128) -> u32
 }
 
 /// A piece of a band: from one signal to the next.
-fn piece(
-    frame: Frame,
-    paint: Paint,
-    from: i128,
-    to: i128,
-    ticks: i128,
-    run: u128,
-    band: u128,
-) -> Shape
+fn piece(frame: Frame, part: BandPart) -> Shape
     requires frame { IsFrame frame }
-    requires ticks { unsigned_abs ticks < 2 ^ 100 }
-    requires run { run < 2 ^ 80 }
-    requires band { band < 2 ^ 80 }
-    ensures { result ≡ piece frame paint from to ticks run band }
+    requires begin { unsigned_abs part.begin < 2 ^ 100 }
+    requires run { part.run < 2 ^ 80 }
+    requires band { part.band < 2 ^ 80 }
+    ensures { result ≡ piece frame part }
 {
-    let end = moment_after(ticks, band);
-    let arrival = moment_after(ticks, run);
-    let last_arrival = moment_after(ticks, run + band);
+    let end = moment_after(part.begin, part.band);
+    let arrival = moment_after(part.begin, part.run);
+    let last_arrival = moment_after(part.begin, part.run + part.band);
     Shape::Slant {
-        paint,
-        left: x_at(frame, ticks),
-        right: x_at(frame, end),
-        level: from,
-        next_left: x_at(frame, arrival),
-        next_right: x_at(frame, last_arrival),
-        next_level: to,
+        paint: part.paint,
+        from: Side {
+            left: x_at(frame, part.begin),
+            right: x_at(frame, end),
+            level: part.from,
+        },
+        to: Side {
+            left: x_at(frame, arrival),
+            right: x_at(frame, last_arrival),
+            level: part.to,
+        },
     }
 }
 
@@ -113,25 +126,20 @@ fn piece(
 fn some_pieces(
     alloc: Global,
     frame: Frame,
-    paint: Paint,
-    from: i128,
-    to: i128,
-    ticks: i128,
-    run: u128,
-    band: u128,
+    part: BandPart,
     cycles: u32,
 ) -> Result<Vec<Shape>, AllocError>
     requires frame { IsFrame frame }
-    requires ticks { unsigned_abs ticks < 2 ^ 99 }
-    requires run { run < 2 ^ 80 }
-    requires band { band < 2 ^ 80 }
+    requires begin { unsigned_abs part.begin < 2 ^ 99 }
+    requires run { part.run < 2 ^ 80 }
+    requires band { part.band < 2 ^ 80 }
     requires cycles { cycles ≤ 72 }
-    ensures { IfOk result (λ shapes. shapes.items ≡ some_pieces frame paint from to ticks run band cycles) }
+    ensures { IfOk result (λ shapes. shapes.items ≡ some_pieces frame part cycles) }
 {
     let mut shapes = Vec::new(alloc);
     for cycle in 0..cycles {
-        let begin = later(frame, ticks, cycle);
-        shapes.push(piece(frame, paint, from, to, begin, run, band))?;
+        let begin = later(frame, part.begin, cycle);
+        shapes.push(piece(frame, BandPart { begin, ..part }))?;
     }
     Ok(shapes)
 }
@@ -169,21 +177,16 @@ fn pieces(
 {
     let run = timing.run(dir, link);
     let band = timing.band(dir);
-    let from = leaving_level(frame, artery, dir, link);
-    let to = entering_level(frame, artery, dir, link);
-    let first = first_leaving(frame, artery, timing, dir, link);
-    let cycles = frame.cycles + cycles_back(frame, run + band);
-    some_pieces(
-        alloc,
-        frame,
-        band_paint(dir),
-        from,
-        to,
-        first,
+    let part = BandPart {
+        paint: band_paint(dir),
+        from: leaving_level(frame, artery, dir, link),
+        to: entering_level(frame, artery, dir, link),
+        begin: first_leaving(frame, artery, timing, dir, link),
         run,
         band,
-        cycles,
-    )
+    };
+    let cycles = frame.cycles + cycles_back(frame, run + band);
+    some_pieces(alloc, frame, part, cycles)
 }
 
 /// The pieces of both bands on a link.

@@ -15,6 +15,19 @@ use std::alloc::{AllocError, Global};
 use time_space::{Timing, is_early, line_at, red_start};
 use timing_measures::after_start;
 
+/// A part of a bar.
+#[derive(Clone, Copy)]
+struct BarPart {
+    /// What it shows.
+    paint: Paint,
+    /// The level at which the bar begins.
+    top: i128,
+    /// The moment at which the part begins, in ticks.
+    begin: i128,
+    /// How many ticks long it is.
+    ticks: u128,
+}
+
 /// Where a direction's bar begins.
 pub fn bar_top(frame: Frame, artery: &Artery, dir: Dir, signal: u32) -> i128
     requires frame { IsFrame frame }
@@ -31,20 +44,20 @@ pub fn bar_top(frame: Frame, artery: &Artery, dir: Dir, signal: u32) -> i128
 }
 
 /// A block of a bar, from a moment on and so many ticks long.
-fn block(frame: Frame, paint: Paint, top: i128, ticks: i128, long: u128) -> Shape
+fn block(frame: Frame, part: BarPart) -> Shape
     requires frame { IsFrame frame }
-    requires top { unsigned_abs top < 30000 }
-    requires ticks { unsigned_abs ticks < 2 ^ 100 }
-    requires long { long < 2 ^ 100 }
-    ensures { result ≡ block frame paint top ticks long }
+    requires top { unsigned_abs part.top < 30000 }
+    requires begin { unsigned_abs part.begin < 2 ^ 100 }
+    requires ticks { part.ticks < 2 ^ 100 }
+    ensures { result ≡ block frame part }
 {
-    let end = moment_after(ticks, long);
+    let end = moment_after(part.begin, part.ticks);
     Shape::Rect {
-        paint,
-        left: x_at(frame, ticks),
-        top,
+        paint: part.paint,
+        left: x_at(frame, part.begin),
+        top: part.top,
         right: x_at(frame, end),
-        bottom: top + i128::from(BAR_HEIGHT),
+        bottom: part.top + i128::from(BAR_HEIGHT),
     }
 }
 
@@ -53,43 +66,33 @@ fn block(frame: Frame, paint: Paint, top: i128, ticks: i128, long: u128) -> Shap
 fn some_blocks(
     alloc: Global,
     frame: Frame,
-    paint: Paint,
-    top: i128,
-    ticks: i128,
-    long: u128,
+    part: BarPart,
     cycles: u32,
 ) -> Result<Vec<Shape>, AllocError>
     requires frame { IsFrame frame }
-    requires top { unsigned_abs top < 30000 }
-    requires ticks { unsigned_abs ticks < 2 ^ 99 }
-    requires long { long < 2 ^ 100 }
+    requires top { unsigned_abs part.top < 30000 }
+    requires begin { unsigned_abs part.begin < 2 ^ 99 }
+    requires ticks { part.ticks < 2 ^ 100 }
     requires cycles { cycles ≤ 72 }
-    ensures { IfOk result (λ shapes. shapes.items ≡ some_blocks frame paint top ticks long cycles) }
+    ensures { IfOk result (λ shapes. shapes.items ≡ some_blocks frame part cycles) }
 {
     let mut shapes = Vec::new(alloc);
     for cycle in 0..cycles {
-        let begin = later(frame, ticks, cycle);
-        shapes.push(block(frame, paint, top, begin, long))?;
+        let begin = later(frame, part.begin, cycle);
+        shapes.push(block(frame, BarPart { begin, ..part }))?;
     }
     Ok(shapes)
 }
 
 /// Such a block in the cycle before the first that is shown, and in each that is shown.
-fn blocks(
-    alloc: Global,
-    frame: Frame,
-    paint: Paint,
-    top: i128,
-    ticks: i128,
-    long: u128,
-) -> Result<Vec<Shape>, AllocError>
+fn blocks(alloc: Global, frame: Frame, part: BarPart) -> Result<Vec<Shape>, AllocError>
     requires frame { IsFrame frame }
-    requires top { unsigned_abs top < 30000 }
-    requires ticks { unsigned_abs ticks < 2 ^ 99 }
-    requires long { long < 2 ^ 100 }
-    ensures { IfOk result (λ shapes. shapes.items ≡ blocks frame paint top ticks long) }
+    requires top { unsigned_abs part.top < 30000 }
+    requires begin { unsigned_abs part.begin < 2 ^ 99 }
+    requires ticks { part.ticks < 2 ^ 100 }
+    ensures { IfOk result (λ shapes. shapes.items ≡ blocks frame part) }
 {
-    some_blocks(alloc, frame, paint, top, ticks, long, frame.cycles + 1)
+    some_blocks(alloc, frame, part, frame.cycles + 1)
 }
 
 /// Where a direction's red begins in the cycle before the first that is shown.
@@ -220,15 +223,13 @@ fn windows(
     ensures { IfOk result (λ shapes. shapes.items ≡ windows frame artery.now timing.now dir signal) }
 {
     let top = bar_top(frame, artery, dir, signal);
-    let first = first_window(frame, artery, timing, dir, signal);
-    blocks(
-        alloc,
-        frame,
-        window_paint(dir),
+    let part = BarPart {
+        paint: window_paint(dir),
         top,
-        first,
-        timing.band(dir),
-    )
+        begin: first_window(frame, artery, timing, dir, signal),
+        ticks: timing.band(dir),
+    };
+    blocks(alloc, frame, part)
 }
 
 /// The common reds of a direction at a signal.
@@ -249,8 +250,13 @@ fn common_reds(
     let top = bar_top(frame, artery, dir, signal);
     let first = first_red(frame, artery, timing, dir, signal);
     let begin = after(first, common_wait(artery, timing, dir, signal));
-    let long = common_ticks(artery, timing, signal);
-    blocks(alloc, frame, Paint::CommonRed, top, begin, long)
+    let part = BarPart {
+        paint: Paint::CommonRed,
+        top,
+        begin,
+        ticks: common_ticks(artery, timing, signal),
+    };
+    blocks(alloc, frame, part)
 }
 
 /// The rests of a direction's reds at a signal.
@@ -274,8 +280,13 @@ fn turn_reds(
     let top = bar_top(frame, artery, dir, signal);
     let first = first_red(frame, artery, timing, dir, signal);
     let begin = after(first, turn_wait(artery, timing, dir, signal));
-    let long = turn_ticks(artery, timing, dir, signal);
-    blocks(alloc, frame, Paint::TurnRed, top, begin, long)
+    let part = BarPart {
+        paint: Paint::TurnRed,
+        top,
+        begin,
+        ticks: turn_ticks(artery, timing, dir, signal),
+    };
+    blocks(alloc, frame, part)
 }
 
 /// A direction's bar at a signal.

@@ -17,7 +17,7 @@ use crate::captions::{captions, facts_text, names, offset_text, title_text};
 use crate::escape::escaped;
 use crate::frame::{BAR_HEIGHT, Frame, PLOT_WIDTH, frame_of, name_room, plot_bottom};
 use crate::paint::Paint;
-use crate::shape::{Shape, shapes_text};
+use crate::shape::{Shape, Side, shapes_text};
 use crate::style::{style_text, tile_text};
 use artery_model::Artery;
 use narrow_fraction::Memory;
@@ -61,12 +61,16 @@ fn key_piece(frame: Frame, x: u32, paint: Paint, from: u32, to: u32) -> Shape
     let left = i128::from(frame.left + x);
     Shape::Slant {
         paint,
-        left,
-        right: left + 220,
-        level: i128::from(from),
-        next_left: left + 200,
-        next_right: left + 420,
-        next_level: i128::from(to),
+        from: Side {
+            left,
+            right: left + 220,
+            level: i128::from(from),
+        },
+        to: Side {
+            left: left + 200,
+            right: left + 420,
+            level: i128::from(to),
+        },
     }
 }
 
