@@ -1,7 +1,9 @@
 //! The run of the program `maxband`: it finds best timings of the signals of one artery (`solve`), or best ones with a band for
-//! each link (`links`), with certificates of what is claimed of all its good timings (`check`, `check-links`), tests timings against its time-space diagram (`hold`), writes the canonical
-//! description of an artery (`show`), writes certificates in the second format (`renew`), makes arteries from a seed, to be described (`make`) or searched (`trial`), and
-//! tells its usages (`--help`) and what it reads (`--version`).
+//! each link (`links`), with certificates of what is claimed of all its good timings (`check`, `check-links`), tests timings against
+//! its time-space diagram (`hold`), measures and plans them (`bands`, `round`, `half`), draws them (`draw`), writes the canonical
+//! description of an artery (`show`), writes certificates in the second format (`renew`), searches at several cycles (`sweep`), makes
+//! arteries from a seed, to be described (`make`) or searched (`trial`), and tells its usages (`--help`) and what it reads
+//! (`--version`).
 //!
 //! Start with `run`, which is the program over any files and any output. Its contract is the program's theorem: each status
 //! has its cause, and the output grows by exactly that answer's lines.
@@ -46,6 +48,7 @@ pub use top::{
     law_half_says, law_help_says, law_hold_says, law_links_are_complete, law_links_say,
     law_links_stop_says, law_make_is_complete, law_one_answer, law_plan_is_held,
     law_put_is_accepted, law_put_links_are_accepted, law_renew_is_complete, law_renew_says,
-    law_round_says, law_solve_is_complete, law_solve_says, law_solve_stop_says,
-    law_sweep_is_complete, law_sweep_says, law_trial_is_complete, law_words_are_told, run,
+    law_round_from_is_complete, law_round_from_says, law_round_says, law_solve_is_complete,
+    law_solve_says, law_solve_stop_says, law_sweep_is_complete, law_sweep_says,
+    law_trial_is_complete, law_words_are_told, run,
 };
