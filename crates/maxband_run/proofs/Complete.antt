@@ -4,12 +4,14 @@ use Rattle.std.specs.Prelude.{IsSome}
 use Rattle.description_reader.specs.Described as described
 use Rattle.outer_edge.specs.Counts.{next_count, Rose, SameCounts}
 use Rattle.workload_maker.specs.Made.{made_street}
-use Rattle.maxband_run.specs.Command.{Request, Solve, Links, Renew, Draw, Make, Trial, Sweep, shape}
+use Rattle.maxband_run.specs.Command.{Request, Solve, Links, Renew, RoundFrom, Draw, Make, Trial, Sweep, shape}
 use Rattle.maxband_run.specs.Outside.{Outside, NamedBytes, named, put_of, IsDone, IsBroken}
 use Rattle.progression.specs.Street.{Street}
 use Rattle.progression.specs.Plan.{Plan}
+use Rattle.plan_text.specs.Warrants.{Warrant}
+use Rattle.maxband_run.specs.Round.{RoundFromFinds}
 use Rattle.maxband_run.specs.Draw.{DrawFinds}
-use Rattle.maxband_run.specs.PlanLaws.{IsDrawingEnd, DrawIsComplete}
+use Rattle.maxband_run.specs.PlanLaws.{IsDrawingEnd, DrawIsComplete, IsRoundingEnd, RoundFromIsComplete}
 use Rattle.maxband_run.specs.Reading.{Input, Values, AreRead, AreTold, StopsReading}
 use Rattle.maxband_run.specs.Run.{Answers, Answered, Ends}
 use Rattle.maxband_run.specs.Laws.{IsFault, IsVerdict, FaultsAreTold, SolveIsComplete, LinksAreComplete, MakeIsComplete, TrialIsComplete, SweepIsComplete, RenewIsComplete}
@@ -119,6 +121,18 @@ sweep_complete reader before now artery table limit cycles a c told r no_read no
 pub renew_complete : described.OneAnswer → RenewIsComplete
 renew_complete reader before now certificate new w c told r no_read no_put no_write h =
     ends_so reader before now (Some (Renew certificate new)) new refl (w, tt) (told, tt) (r, tt) (no_read, tt) (λ c. c ≡ cause.Done) (λ c lines put k. k.finds.2.cause_is) c no_put no_write h
+
+rounding_end : (a : Street) (w : Warrant) (o : Option Plan) (c : Cause) (l : List ℕ) (bytes : Option (List ℕ)) → RoundFromFinds a w o c l bytes → IsRoundingEnd c
+rounding_end a w o cause.Done l bytes h = tt
+rounding_end a w o (cause.Rejected r) l bytes h = tt
+rounding_end a w o (cause.Fails f) l bytes h = tt
+rounding_end a w o (cause.Unplanned e) l bytes h = tt
+rounding_end a w o c l bytes h = absurd h
+
+pub round_from_complete : described.OneAnswer → RoundFromIsComplete
+round_from_complete reader before now artery certificate other plan a w o c told told_too told_last r q p no_read no_certificate no_other no_put no_write h =
+    ends_so reader before now (Some (RoundFrom artery certificate other plan)) plan refl (a, (w, (o, tt))) (told, (told_too, (told_last, tt))) (r, (q, (p, tt))) (no_read, (no_certificate, (no_other, tt))) IsRoundingEnd
+    (λ c lines put k. rounding_end k.values.0 k.values.1.0 k.values.1.1.0 c lines k.bytes k.finds) c no_put no_write h
 
 drawing_end : (a : Street) (o : Option Plan) (c : Cause) (l : List ℕ) (bytes : Option (List ℕ)) → DrawFinds a o c l bytes → IsDrawingEnd c
 drawing_end a None c l bytes h = subst (λ (d : Cause). IsDrawingEnd d) (sym h.0) tt

@@ -13,7 +13,7 @@ use Rattle.band_measure.specs.declared.pair.Widest.{Widest}
 use Rattle.half_integer.specs.Answers.{OneEnd}
 use Rattle.plan_text.specs.Warrants.{Warrant}
 use Rattle.time_space.specs.Failing.{FailsRulesOut}
-use Rattle.time_space.specs.FirstFailing.{OneFirst}
+use Rattle.time_space.specs.FirstFailing.{IsFirstFailing, OneFirst}
 use Rattle.certificate_checker.specs.Laws.{RefusedIsNotAccepted, OneFirstRefusal}
 use Rattle.link_proof.specs.LinkLaws.{LinkRefusedIsNotAccepted, OneFirstLinkRefusal}
 use Rattle.branch_and_bound.specs.declared.found.Verdict.{Verdict}
@@ -21,7 +21,7 @@ use Rattle.branch_and_bound.specs.declared.found.Verdict.TheVariants.{Best, NoTi
 use Rattle.branch_tree.specs.declared.site.SitePart.{SitePart}
 use Rattle.workload_maker.specs.Made.{made_street}
 use Rattle.maxband_run.specs.Lines.{fails_line}
-use Rattle.maxband_run.specs.Command.{Request, Hold, Show, Check, CheckLinks, Solve, Links, Renew, Bands, Round, Half, Draw, Help, Version, Make, Trial, Sweep, shape}
+use Rattle.maxband_run.specs.Command.{Request, Hold, Show, Check, CheckLinks, Solve, Links, Renew, Bands, Round, RoundFrom, Half, Draw, Help, Version, Make, Trial, Sweep, shape}
 use Rattle.maxband_run.specs.Reading.{Input, Value, Values}
 use Rattle.maxband_run.specs.Searched.{cause_of}
 use Rattle.maxband_run.specs.Hold.{HoldFinds}
@@ -36,10 +36,10 @@ use Rattle.second_plan.specs.Ends as second
 use Rattle.second_plan.specs.Ends.{Ends, PlanOrEnd, OnePlan}
 use Rattle.second_plan.specs.declared.answer.PlanEnd.{PlanEnd}
 use Rattle.second_plan.specs.declared.answer.PlanEnd.TheVariants as end
-use Rattle.certificate_checker.specs.Accepted.{value_of, limit_of, IsTimed, IsAccepted}
+use Rattle.certificate_checker.specs.Accepted.{limit_of, IsAccepted}
 use Rattle.progression.specs.Good.{Good}
 use Rattle.rational_theory.specs.Rational.{ℚ}
-use Rattle.maxband_run.specs.Round.{plan_lines, unplanned_line, IsCertified, IsRounded, Unplans, RoundFinds}
+use Rattle.maxband_run.specs.Round.{plan_lines, unplanned_line, IsCertified, IsRounded, IsUnfit, Unplans, RoundFinds, RoundFromFinds}
 use Rattle.maxband_run.specs.Half.{end_line, HalfFinds}
 use Rattle.maxband_run.specs.Draw.{DrawFinds}
 use Rattle.maxband_run.specs.Run.{Finds}
@@ -93,6 +93,13 @@ bands_reached a t cause.Done l h = tt
 bands_reached a t (cause.Fails f) l h = tt
 bands_reached a t c l h = absurd h
 
+from_reached : (a : Street) (w : Warrant) (o : Option Plan) (c : Cause) (l : List ℕ) (bytes : Option (List ℕ)) → RoundFromFinds a w o c l bytes → IsReached c
+from_reached a w o cause.Done l bytes h = tt
+from_reached a w o (cause.Rejected r) l bytes h = tt
+from_reached a w o (cause.Fails f) l bytes h = tt
+from_reached a w o (cause.Unplanned e) l bytes h = tt
+from_reached a w o c l bytes h = absurd h
+
 round_reached : (a : Street) (w : Warrant) (c : Cause) (l : List ℕ) (bytes : Option (List ℕ)) → RoundFinds a w c l bytes → IsReached c
 round_reached a w cause.Done l bytes h = tt
 round_reached a w (cause.Rejected r) l bytes h = tt
@@ -122,6 +129,7 @@ finds_reached (Some (Links artery certificate limit)) v c l bytes h = verdict_re
 finds_reached (Some (Renew certificate new)) v c l bytes h = subst (λ (d : Cause). IsReached d) (sym h.2.cause_is) tt
 finds_reached (Some (Bands artery timing)) v c l bytes h = bands_reached v.0 v.1.0 c l h
 finds_reached (Some (Round artery certificate plan)) v c l bytes h = round_reached v.0 v.1.0 c l bytes h
+finds_reached (Some (RoundFrom artery certificate other plan)) v c l bytes h = from_reached v.0 v.1.0 v.1.1.0 c l bytes h
 finds_reached (Some (Half artery timing new)) v c l bytes h = half_reached v.0 v.1.0 c l bytes h
 finds_reached (Some (Draw artery timed drawing)) v c l bytes h = draw_reached v.0 v.1.0 c l bytes h
 finds_reached (Some Help) v c l bytes h = subst (λ (d : Cause). IsReached d) (sym h.0) tt
@@ -197,63 +205,82 @@ same_claim o x y e f = cc
 no_timing_apart : (o : Option Plan) (t : Plan) → o ≡ Some t → o ≡ None → ⊥
 no_timing_apart o t e f = absurd cc
 
-good_of : (a : Street) (o : Option Plan) (v : Option ℚ) (t : Plan) → o ≡ Some t → IsTimed a o v → Good a t
-good_of a None v t e h = absurd cc
-good_of a (Some u) None t e h = absurd h
-good_of a (Some u) (Some v) t e h = let same : u ≡ t = cc in subst (λ p. Good a p) same h.0
-
 same_lines : (a : Street) (k m : ℕ) (ns os : List ℕ) (t u : Plan) (x y : ℚ) → k ≡ m → ns ≡ os → t ≡ u → x ≡ y → plan_lines a k ns t x ≡ plan_lines a m os u y
 same_lines a k m ns os t u x y e f g h = ap₂ (λ n ms. plan_lines a n ms t x) e f ∙ ap₂ (λ p z. plan_lines a m os p z) g h
 
-pub unplanned_accepted : (a : Street) (w : Warrant) (e : PlanEnd) → Unplans a w e → IsAccepted a w
-unplanned_accepted a w end.NoTimingGiven h = h.0
-unplanned_accepted a w e h = h.2.accepted
+module _ (a : Street) (w : Warrant) (o : Option Plan) where
+  pub unplanned_accepted : (e : PlanEnd) → Unplans a w o e → IsAccepted a w
+  unplanned_accepted end.NoTimingGiven h = h.0
+  unplanned_accepted e h = h.2.accepted
 
-good_timing : (a : Street) (w : Warrant) (t : Plan) (x : ℚ) → IsCertified a w t x → Good a t
-good_timing a w t x c = good_of a w.timing (value_of w.claim) t c.timing_is c.accepted.timing
+  fails_apart : FailsRulesOut → (t u : Plan) (f : Failing) → o ≡ Some t → o ≡ Some u → Good a t → IsFirstFailing a u f → ⊥
+  fails_apart rules t u f e g good h = rules a u f h.fails (subst (λ p. Good a p) (sym (same_timing o t u e g)) good)
 
-module _ (ends : second.OneEnd) (apart : PlanOrEnd) (one : OnePlan) (a : Street) (w : Warrant) where
-  plans_once : (x y s u : List ℕ) → IsRounded a w x s → IsRounded a w y u → x ≡ y
+  unplans_unfit : FailsRulesOut → (e : PlanEnd) (u : Plan) (f : Failing) → Unplans a w o e → o ≡ Some u → IsFirstFailing a u f → ⊥
+  unplans_unfit rules end.NoTimingGiven u f h g k = no_timing_apart o u g h.1
+  unplans_unfit rules e u f h g k = fails_apart rules h.0 u f h.2.timing_is g h.2.good k
+
+module _ (ends : second.OneEnd) (apart : PlanOrEnd) (one : OnePlan) (a : Street) (w : Warrant) (o : Option Plan) where
+  plans_once : (x y s u : List ℕ) → IsRounded a w o x s → IsRounded a w o y u → x ≡ y
   plans_once x y s u h k =
-      let t = same_timing w.timing h.timing k.timing h.certified.timing_is k.certified.timing_is in
+      let t = same_timing o h.timing k.timing h.certified.timing_is k.certified.timing_is in
       let q = same_claim (limit_of w.claim) h.claim k.claim h.certified.claim_is k.certified.claim_is in
       let other = subst (λ c. IsAnswer a c h.timing k.plan) q (subst (λ p. IsAnswer a k.claim p k.plan) t k.answer) in
-      let e = one a h.claim h.timing h.plan k.plan h.certified.valid (good_timing a w h.timing h.claim h.certified) h.answer other in
+      let e = one a h.claim h.timing h.plan k.plan h.certified.valid h.certified.good h.answer other in
       h.lines_are ∙ same_lines a h.plan.seconds k.plan.seconds h.plan.offsets.items k.plan.offsets.items h.plan.timing k.plan.timing h.plan.loss k.plan.loss e.0 e.1 e.2 e.3 ∙ sym k.lines_are
 
   -- the timing and the number of another certificate's end
-  ends_here : (t u : Plan) (x y : ℚ) (e : PlanEnd) → IsCertified a w t x → IsCertified a w u y → Ends a y u e → Ends a x t e
+  ends_here : (t u : Plan) (x y : ℚ) (e : PlanEnd) → IsCertified a w o t x → IsCertified a w o u y → Ends a y u e → Ends a x t e
   ends_here t u x y e c d h =
-      subst (λ p. Ends a x p e) (same_timing w.timing t u c.timing_is d.timing_is) (subst (λ q. Ends a q u e) (same_claim (limit_of w.claim) x y c.claim_is d.claim_is) h)
+      subst (λ p. Ends a x p e) (same_timing o t u c.timing_is d.timing_is) (subst (λ q. Ends a q u e) (same_claim (limit_of w.claim) x y c.claim_is d.claim_is) h)
 
-  plan_apart : (e : PlanEnd) (x s : List ℕ) → IsRounded a w x s → Unplans a w e → ⊥
-  plan_apart end.NoTimingGiven x s h k = no_timing_apart w.timing h.timing h.certified.timing_is k.1
-  plan_apart e x s h k =
-      apart a h.claim h.timing h.plan e h.certified.valid (good_timing a w h.timing h.claim h.certified) h.answer (ends_here h.timing k.0 h.claim k.1 e h.certified k.2 k.3)
+  plan_apart : (e : PlanEnd) (x s : List ℕ) → IsRounded a w o x s → Unplans a w o e → ⊥
+  plan_apart end.NoTimingGiven x s h k = no_timing_apart o h.timing h.certified.timing_is k.1
+  plan_apart e x s h k = apart a h.claim h.timing h.plan e h.certified.valid h.certified.good h.answer (ends_here h.timing k.0 h.claim k.1 e h.certified k.2 k.3)
 
-  unplans_once : (e f : PlanEnd) → Unplans a w e → Unplans a w f → e ≡ f
+  unplans_once : (e f : PlanEnd) → Unplans a w o e → Unplans a w o f → e ≡ f
   unplans_once end.NoTimingGiven end.NoTimingGiven h k = refl
-  unplans_once end.NoTimingGiven f h k = absurd (no_timing_apart w.timing k.0 k.2.timing_is h.1)
-  unplans_once e end.NoTimingGiven h k = absurd (no_timing_apart w.timing h.0 h.2.timing_is k.1)
-  unplans_once e f h k = ends a h.1 h.0 e f h.2.valid (good_timing a w h.0 h.1 h.2) h.3 (ends_here h.0 k.0 h.1 k.1 f h.2 k.2 k.3)
+  unplans_once end.NoTimingGiven f h k = absurd (no_timing_apart o k.0 k.2.timing_is h.1)
+  unplans_once e end.NoTimingGiven h k = absurd (no_timing_apart o h.0 h.2.timing_is k.1)
+  unplans_once e f h k = ends a h.1 h.0 e f h.2.valid h.2.good h.3 (ends_here h.0 k.0 h.1 k.1 f h.2 k.2 k.3)
 
-round_once : RefusedIsNotAccepted → OneFirstRefusal → second.OneEnd → PlanOrEnd → OnePlan
-    → (a : Street) (w : Warrant) (c d : Cause) (x y : List ℕ) (s u : Option (List ℕ)) → RoundFinds a w c x s → RoundFinds a w d y u → (c ≡ d) × (x ≡ y)
-round_once refused once ends apart one a w cause.Done cause.Done x y s u h k = (refl, plans_once ends apart one a w x y h.0 k.0 h.2 k.2)
-round_once refused once ends apart one a w cause.Done (cause.Rejected r) x y s u h k = absurd (refused a w k.0.reject k.0.first k.0.kept h.2.certified.accepted)
-round_once refused once ends apart one a w cause.Done (cause.Unplanned e) x y s u h k = absurd (plan_apart ends apart one a w e x h.0 h.2 k.first)
-round_once refused once ends apart one a w cause.Done d x y s u h k = absurd k
-round_once refused once ends apart one a w (cause.Rejected r) cause.Done x y s u h k = absurd (refused a w h.0.reject h.0.first h.0.kept k.2.certified.accepted)
-round_once refused once ends apart one a w (cause.Rejected r) (cause.Rejected q) x y s u h k = rejects_once whole_bands whole_checked once a w (cause.Rejected r) (cause.Rejected q) x y h.0 k.0
-round_once refused once ends apart one a w (cause.Rejected r) (cause.Unplanned e) x y s u h k = absurd (refused a w h.0.reject h.0.first h.0.kept (unplanned_accepted a w e k.first))
-round_once refused once ends apart one a w (cause.Rejected r) d x y s u h k = absurd k
-round_once refused once ends apart one a w (cause.Unplanned e) cause.Done x y s u h k = absurd (plan_apart ends apart one a w e y k.0 k.2 h.first)
-round_once refused once ends apart one a w (cause.Unplanned e) (cause.Rejected r) x y s u h k = absurd (refused a w k.0.reject k.0.first k.0.kept (unplanned_accepted a w e h.first))
-round_once refused once ends apart one a w (cause.Unplanned e) (cause.Unplanned f) x y s u h k =
-    let same = unplans_once ends apart one a w e f h.first k.first in
-    (ap cause.Unplanned same, h.lines_are ∙ ap unplanned_line same ∙ sym k.lines_are)
-round_once refused once ends apart one a w (cause.Unplanned e) d x y s u h k = absurd k
-round_once refused once ends apart one a w c d x y s u h k = absurd h
+  module _ (one_first : OneFirst) (rules : FailsRulesOut) (refused : RefusedIsNotAccepted) (once : OneFirstRefusal) where
+    unfit_once : (f g : Failing) (x y : List ℕ) (s u : Option (List ℕ)) → IsUnfit a w o f x s → IsUnfit a w o g y u → (cause.Fails f ≡ cause.Fails g) × (x ≡ y)
+    unfit_once f g x y s u h k =
+        let first = subst (λ p. IsFirstFailing a p g) (same_timing o h.timing k.timing h.timing_is k.timing_is) k.first in
+        let e = one_first a h.timing f g h.first first in
+        (ap cause.Fails e, h.lines_are ∙ ap fails_line e ∙ sym k.lines_are)
+
+    from_once : (c d : Cause) (x y : List ℕ) (s u : Option (List ℕ)) → RoundFromFinds a w o c x s → RoundFromFinds a w o d y u → (c ≡ d) × (x ≡ y)
+    from_once cause.Done cause.Done x y s u h k = (refl, plans_once x y h.0 k.0 h.2 k.2)
+    from_once cause.Done (cause.Rejected r) x y s u h k = absurd (refused a w k.0.reject k.0.first k.0.kept h.2.certified.accepted)
+    from_once cause.Done (cause.Fails f) x y s u h k = absurd (fails_apart a w o rules h.2.timing k.timing f h.2.certified.timing_is k.timing_is h.2.certified.good k.first)
+    from_once cause.Done (cause.Unplanned e) x y s u h k = absurd (plan_apart e x h.0 h.2 k.first)
+    from_once cause.Done d x y s u h k = absurd k
+    from_once (cause.Rejected r) cause.Done x y s u h k = absurd (refused a w h.0.reject h.0.first h.0.kept k.2.certified.accepted)
+    from_once (cause.Rejected r) (cause.Rejected q) x y s u h k = rejects_once whole_bands whole_checked once a w (cause.Rejected r) (cause.Rejected q) x y h.0 k.0
+    from_once (cause.Rejected r) (cause.Fails f) x y s u h k = absurd (refused a w h.0.reject h.0.first h.0.kept k.accepted)
+    from_once (cause.Rejected r) (cause.Unplanned e) x y s u h k = absurd (refused a w h.0.reject h.0.first h.0.kept (unplanned_accepted a w o e k.first))
+    from_once (cause.Rejected r) d x y s u h k = absurd k
+    from_once (cause.Fails f) cause.Done x y s u h k = absurd (fails_apart a w o rules k.2.timing h.timing f k.2.certified.timing_is h.timing_is k.2.certified.good h.first)
+    from_once (cause.Fails f) (cause.Rejected r) x y s u h k = absurd (refused a w k.0.reject k.0.first k.0.kept h.accepted)
+    from_once (cause.Fails f) (cause.Fails g) x y s u h k = unfit_once f g x y s u h k
+    from_once (cause.Fails f) (cause.Unplanned e) x y s u h k = absurd (unplans_unfit a w o rules e h.timing f k.first h.timing_is h.first)
+    from_once (cause.Fails f) d x y s u h k = absurd k
+    from_once (cause.Unplanned e) cause.Done x y s u h k = absurd (plan_apart e y k.0 k.2 h.first)
+    from_once (cause.Unplanned e) (cause.Rejected r) x y s u h k = absurd (refused a w k.0.reject k.0.first k.0.kept (unplanned_accepted a w o e h.first))
+    from_once (cause.Unplanned e) (cause.Fails f) x y s u h k = absurd (unplans_unfit a w o rules e k.timing f h.first k.timing_is k.first)
+    from_once (cause.Unplanned e) (cause.Unplanned f) x y s u h k = let same = unplans_once e f h.first k.first in
+        (ap cause.Unplanned same, h.lines_are ∙ ap unplanned_line same ∙ sym k.lines_are)
+    from_once (cause.Unplanned e) d x y s u h k = absurd k
+    from_once c d x y s u h k = absurd h
+
+-- what is found of the certificate's own timing is found of it as of any
+own_from : (a : Street) (w : Warrant) (c : Cause) (l : List ℕ) (bytes : Option (List ℕ)) → RoundFinds a w c l bytes → RoundFromFinds a w w.timing c l bytes
+own_from a w cause.Done l bytes h = h
+own_from a w (cause.Rejected r) l bytes h = h
+own_from a w (cause.Unplanned e) l bytes h = h
+own_from a w c l bytes h = absurd h
 
 -- of several half-cycle plans that are as wide any may be told
 half_once : OneFirst → OneEnd → (a : Street) (t : Plan) (c d : Cause) (x y : List ℕ) (s u : Option (List ℕ)) → HalfFinds a t c x s → HalfFinds a t d y u → ((c ≡ d) × (x ≡ y)) ⊎ (IsVerdict c × IsVerdict d)
@@ -299,7 +326,9 @@ module _ (one_text : OneText) (one_first : OneFirst) (rules : FailsRulesOut) (ap
       inr (verdict_cause c h.2.found.verdict h.2.cause_is, verdict_cause d k.2.found.verdict k.2.cause_is)
   finds_once (Some (Renew certificate new)) v c d x y s t h k = (h.2.cause_is ∙ sym k.2.cause_is, h.2.lines_are ∙ sym k.2.lines_are)
   finds_once (Some (Bands artery timing)) v c d x y s t h k = bands_once one_first widest finer v.0 v.1.0 c d x y h k
-  finds_once (Some (Round artery certificate plan)) v c d x y s t h k = round_once apart once plan_ends plan_or one_plan v.0 v.1.0 c d x y s t h k
+  finds_once (Some (Round artery certificate plan)) v c d x y s t h k =
+      from_once plan_ends plan_or one_plan v.0 v.1.0 v.1.0.timing one_first rules apart once c d x y s t (own_from v.0 v.1.0 c x s h) (own_from v.0 v.1.0 d y t k)
+  finds_once (Some (RoundFrom artery certificate other plan)) v c d x y s t h k = from_once plan_ends plan_or one_plan v.0 v.1.0 v.1.1.0 one_first rules apart once c d x y s t h k
   finds_once (Some (Half artery timing new)) v c d x y s t h k = half_once one_first ends v.0 v.1.0 c d x y s t h k
   finds_once (Some (Draw artery timed drawing)) v c d x y s t h k = draw_once one_first rules v.0 v.1.0 c d x y s t h k
   finds_once (Some Help) v c d x y s t h k = (h.0 ∙ sym k.0, h.1 ∙ sym k.1)

@@ -1,5 +1,5 @@
 -- The plan that `round` puts is good, and `hold` accepts it.
-use Rattle.std.proofs.Common.{◌≡◌, ℕ, List, [], ◌∷◌, Some, Ok, refl, sym, ◌∙◌, ap, subst}
+use Rattle.std.proofs.Common.{◌≡◌, ℕ, List, [], ◌∷◌, Option, Some, Ok, refl, sym, ◌∙◌, ap, subst}
 use Rattle.std.specs.Prelude.{IsSome}
 use Rattle.description_reader.specs.Described as described
 use Rattle.outer_edge.specs.Held.{HoldsExactly}
@@ -17,48 +17,52 @@ use Rattle.certificate_checker.specs.Laws.{RefusedIsNotAccepted}
 use Rattle.certificate_checker.proofs.Meaning.{accepted_holds}
 use Rattle.plan_text.specs.Spelling.{timing_text}
 use Rattle.plan_text.specs.Reading.{timing_of}
-use Rattle.maxband_run.specs.Command.{Hold, Round}
+use Rattle.maxband_run.specs.Command.{Hold, Round, RoundFrom}
 use Rattle.maxband_run.specs.Outside.{Outside}
 use Rattle.maxband_run.specs.Reading.{Reads, Description, Timing}
 use Rattle.maxband_run.specs.Hold.{HoldFinds}
 use Rattle.maxband_run.specs.Run.{Ends}
-use Rattle.maxband_run.specs.PlanLaws.{PutsPlan, RoundSays, PlanIsHeld}
-use Rattle.maxband_run.specs.Round.{IsCertified}
+use Rattle.maxband_run.specs.PlanLaws.{PutsPlan, RoundSays, RoundFromSays, PlanIsHeld}
+use Rattle.maxband_run.specs.Round.{IsCertified, IsRounded}
 use Rattle.maxband_run.specs.declared.cause.Cause.{Cause}
 use Rattle.maxband_run.specs.declared.cause.Cause.TheVariants as cause
 use Rattle.maxband_run.proofs.Complete.{Completes}
 use Rattle.maxband_run.proofs.PutRead.{verdict_found, is_put, reads_put, finds_of}
-use Rattle.maxband_run.proofs.Found.{zero_is, found_four}
+use Rattle.maxband_run.proofs.Found.{zero_is, found_done, found_four}
 use Rattle.maxband_run.proofs.Planning.{claim_bounds}
-use Rattle.maxband_run.proofs.PlansSay.{round_four, round_ten}
+use Rattle.maxband_run.proofs.PlansSay.{round_four, round_ten, from_four, from_ten}
 
 -- no good timing exceeds what an accepted certificate claims
-lost : (a : Street) (w : Warrant) (timing : Plan) (claim band loss : ℚ) → IsCertified a w timing claim → loss ≡ claim -ℚ band → (s : Plan) → Good a s → weighted_band a s ≤ℚ (band +ℚ loss)
-lost a w timing claim band loss c e s good =
+lost : (a : Street) (w : Warrant) (o : Option Plan) (timing : Plan) (claim band loss : ℚ) → IsCertified a w o timing claim → loss ≡ claim -ℚ band → (s : Plan) → Good a s → weighted_band a s ≤ℚ (band +ℚ loss)
+lost a w o timing claim band loss c e s good =
     let below : weighted_band a s ≤ℚ claim = claim_bounds a w.claim w.timing claim c.claim_is (accepted_holds a w (street_of a c.valid) c.accepted) s good in
     let whole : claim ≡ band +ℚ loss = ring (at 0) (at 1 ⊕ (at 0 ⊕ minus (at 1))) (claim ∷ band ∷ []) refl ∙ ap (λ l. band +ℚ l) (sym e) in
     subst (λ x. weighted_band a s ≤ℚ x) whole below
+
+-- what is found of a rounded timing, and put
+rounded_put : (before now : Outside) (artery plan : List ℕ) (a : Street) (w : Warrant) (o : Option Plan) (lines text : List ℕ) → Reads Description (before.holds artery) a
+    → IsRounded a w o lines text → HoldsExactly (now.holds plan) text → Appends before.taken now.taken lines → PutsPlan before now artery plan
+rounded_put before now artery plan a w o lines text description r held told = record {
+  street = a;
+  timing = r.plan.timing;
+  seconds = r.plan.seconds;
+  offsets = r.plan.offsets.items;
+  loss = r.plan.loss;
+  description = description;
+  good = r.answer.good;
+  best = r.best;
+  lost = lost a w o r.timing r.claim (weighted_band a r.plan.timing) r.plan.loss r.certified r.answer.loss;
+  put = subst (λ (x : List ℕ). HoldsExactly (now.holds plan) x) r.written held;
+  read_back = subst (λ (x : List ℕ). timing_of x ≡ Ok r.plan.timing) r.written r.read_back;
+  told = subst (λ (l : List ℕ). Appends before.taken now.taken l) r.lines_are told;
+}
 
 module _ (before now : Outside) (artery certificate plan : List ℕ) where
   puts_plan : Completes before now (Some (Round artery certificate plan)) cause.Done → PutsPlan before now artery plan
   puts_plan h =
       let f = verdict_found before.holds before.reads now.reads (Some (Round artery certificate plan)) cause.Done h.0 h.1 tt h.2 in
       let held = is_put before now plan f.finds.0 h.0 h.1 f.bytes f.put_is f.finds.1 h.3 in
-      let found = f.finds.2 in
-      record {
-        street = f.values.0;
-        timing = found.plan.timing;
-        seconds = found.plan.seconds;
-        offsets = found.plan.offsets.items;
-        loss = found.plan.loss;
-        description = f.read.0;
-        good = found.answer.good;
-        best = found.best;
-        lost = lost f.values.0 f.values.1.0 found.timing found.claim (weighted_band f.values.0 found.plan.timing) found.plan.loss found.certified found.answer.loss;
-        put = subst (λ (x : List ℕ). HoldsExactly (now.holds plan) x) found.written held.0;
-        read_back = subst (λ (x : List ℕ). timing_of x ≡ Ok found.plan.timing) found.written found.read_back;
-        told = subst (λ (l : List ℕ). Appends before.taken now.taken l) found.lines_are h.3.written;
-      }
+      rounded_put before now artery plan f.values.0 f.values.1.0 f.values.1.0.timing h.0 f.finds.0 f.read.0 f.finds.2 held.0 h.3.written
 
   -- and the description is as it was, where it is another file
   kept_artery : (artery ≡ plan → ⊥) → Completes before now (Some (Round artery certificate plan)) cause.Done → now.holds artery ≡ before.holds artery
@@ -71,6 +75,16 @@ round_says apart before now artery certificate plan c h = (
   (λ e. puts_plan before now artery certificate plan (subst (λ (d : Cause). Ends before now (Some (Round artery certificate plan)) d) (zero_is c e) h)),
   (λ e. round_four before now artery certificate plan apart c e (found_four before now (Some (Round artery certificate plan)) c e h)),
   (λ e. round_ten before now artery certificate plan c e h),
+)
+
+pub round_from_says : RefusedIsNotAccepted → FailsRulesOut → RoundFromSays
+round_from_says apart rules before now artery certificate other plan c h = (
+  (λ e. let f = found_done before now (Some (RoundFrom artery certificate other plan)) c e h in
+      let k = f.answer.finds in
+      rounded_put before now artery plan f.answer.values.0 f.answer.values.1.0 f.answer.values.1.1.0 f.lines k.0 f.answer.read.0 k.2
+      (is_put before now plan k.0 f.lines f.put f.answer.bytes f.answer.put_is k.1 f.done).0 f.done.written),
+  (λ e. from_four before now artery certificate other plan apart rules c e (found_four before now (Some (RoundFrom artery certificate other plan)) c e h)),
+  (λ e. from_ten before now artery certificate other plan c e h),
 )
 
 good_done : FailsRulesOut → (a : Street) (t : Plan) (c : Cause) (lines : List ℕ) → Good a t → HoldFinds a t c lines → c ≡ cause.Done

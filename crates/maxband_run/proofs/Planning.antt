@@ -5,7 +5,7 @@ use Rattle.std.specs.Prelude.{IfOk, option_map}
 use Rattle.narrow_fraction.specs.declared.memory.Memory.{Memory}
 use Rattle.progression.specs.Street.{Street}
 use Rattle.progression.specs.Plan.{Plan}
-use Rattle.progression.specs.Good.{IsBase}
+use Rattle.progression.specs.Good.{Good, IsBase}
 use Rattle.plan_text.specs.Spelling.{timing_text}
 use Rattle.mirror_theory.specs.EqualBands.{IsHalfCycleBest}
 use Rattle.half_integer.specs.Answers.{IsReady}
@@ -14,14 +14,14 @@ use Rattle.progression.specs.Speeds.{number}
 use Rattle.plan_text.specs.Warrants.{Warrant}
 use Rattle.plan_text.specs.declared.certificate.Claim.{Claim}
 use Rattle.plan_text.specs.declared.certificate.Claim.TheVariants.{Best, NoTiming, Stopped}
-use Rattle.certificate_checker.specs.Accepted.{limit_of}
+use Rattle.certificate_checker.specs.Accepted.{value_of, limit_of, IsTimed, IsAccepted}
 use Rattle.certificate_checker.specs.Claims.{IsBest, ClaimHolds}
 use Rattle.second_plan.specs.Planned.{IsAnswer, IsBestOfOffsets}
 use Rattle.second_plan.specs.Ends.{Ends}
 use Rattle.second_plan.specs.declared.answer.Plan.{Plan as Rounded}
 use Rattle.second_plan.specs.declared.answer.PlanEnd.{PlanEnd}
 use Rattle.second_plan.specs.declared.answer.PlanEnd.TheVariants as end
-use Rattle.maxband_run.specs.Round.{unplanned_line, IsCertified, Unplans, TellsRounded, RoundFinds}
+use Rattle.maxband_run.specs.Round.{unplanned_line, IsCertified, IsRounded, Unplans, TellsRounded, RoundFinds, RoundFromFinds}
 use Rattle.maxband_run.specs.declared.cause.Cause.TheVariants as cause
 use Rattle.maxband_run.specs.Outside.{put_of, view}
 use Rattle.maxband_run.specs.Half.{TellsPlan, HalfFinds}
@@ -55,44 +55,81 @@ claim_bounds a (Best value) timing x e h = best_bounds a timing value x e h
 claim_bounds a NoTiming timing x e h = absurd cc
 claim_bounds a (Stopped bound value) timing x e h = let same : bound ≡ x = cc in subst (λ (y : ℚ). Bounded a y) same h.0
 
-round_found : (a : Street) (w : Warrant) (timing : Plan) (claim : ℚ) (plan : Rounded) (name : List ℕ) (x : Answer) → IsCertified a w timing claim → IsAnswer a claim timing plan → IsBestOfOffsets a plan.timing
-    → number 0 ≤ℚ plan.loss → TellsRounded a plan name x.cause x.lines.items (option_map view x.put) → RoundFinds a w x.cause x.lines.items (Some (timing_text plan.timing))
-round_found a w timing claim plan name x certified answer best loss h =
-    subst (λ (c : Cause). RoundFinds a w c x.lines.items (Some (timing_text plan.timing))) (sym h.cause_is) (
-      timing_text plan.timing,
-      refl,
-      record {
-        timing = timing;
-        claim = claim;
-        certified = certified;
-        plan = plan;
-        answer = answer;
-        best = best;
-        loss = loss;
-        lines_are = h.lines_are;
-        written = refl;
-        read_back = h.read_back;
-      },
-    )
+-- an accepted certificate's timing is good
+good_of : (a : Street) (o : Option Plan) (v : Option ℚ) (t : Plan) → o ≡ Some t → IsTimed a o v → Good a t
+good_of a None v t e h = absurd cc
+good_of a (Some u) None t e h = absurd h
+good_of a (Some u) (Some v) t e h = let same : u ≡ t = cc in subst (λ p. Good a p) same h.0
 
-pub round_told : (a : Street) (w : Warrant) (timing : Plan) (claim : ℚ) (plan : Rounded) (name : List ℕ) (r : Result Answer Memory) → IsCertified a w timing claim → IsAnswer a claim timing plan → IsBestOfOffsets a plan.timing
-    → number 0 ≤ℚ plan.loss → IfOk r (λ x. TellsRounded a plan name x.cause x.lines.items (option_map view x.put))
-    → IfOk r (λ x. (bytes : Option (List ℕ)) × RoundFinds a w x.cause x.lines.items bytes × (option_map view x.put ≡ put_of (Some name) bytes))
-round_told a w timing claim plan name (Ok x) certified answer best loss h = (Some (timing_text plan.timing), round_found a w timing claim plan name x certified answer best loss h, h.put_is)
-round_told a w timing claim plan name (Err m) certified answer best loss h = tt
+pub good_timing : (a : Street) (w : Warrant) (t : Plan) → w.timing ≡ Some t → IsAccepted a w → Good a t
+good_timing a w t e h = good_of a w.timing (value_of w.claim) t e h.timing
 
-unplans_of : (a : Street) (w : Warrant) (timing : Plan) (claim : ℚ) (e : PlanEnd) → IsCertified a w timing claim → Ends a claim timing e → Unplans a w e
-unplans_of a w timing claim end.NoTimingGiven certified h = absurd h
-unplans_of a w timing claim e certified h = (timing, claim, certified, h)
+-- one that claims that no timing is good leaves none
+pub some_claim : (a : Street) (claim : Claim) (timing : Option Plan) (t : Plan) → ClaimHolds a claim timing → Good a t → limit_of claim ≡ None → ⊥
+some_claim a (Best value) timing t h good e = absurd cc
+some_claim a NoTiming timing t h good e = h t good
+some_claim a (Stopped bound value) timing t h good e = absurd cc
 
-unplanned_found : (a : Street) (w : Warrant) (e : PlanEnd) (x : Answer) → Unplans a w e → x.cause ≡ cause.Unplanned e → x.lines.items ≡ unplanned_line e → RoundFinds a w x.cause x.lines.items None
-unplanned_found a w e x h c l = subst (λ (d : Cause). RoundFinds a w d x.lines.items None) (sym c) (record { first = h; lines_are = l; no_put = refl })
+module _ (a : Street) (w : Warrant) (given : Option Plan) (timing : Plan) (claim : ℚ) (certified : IsCertified a w given timing claim) where
+  rounded : (plan : Rounded) (name : List ℕ) (x : Answer) → IsAnswer a claim timing plan → IsBestOfOffsets a plan.timing → number 0 ≤ℚ plan.loss
+      → TellsRounded a plan name x.cause x.lines.items (option_map view x.put) → IsRounded a w given x.lines.items (timing_text plan.timing)
+  rounded plan name x answer best loss h = record {
+    timing = timing;
+    claim = claim;
+    certified = certified;
+    plan = plan;
+    answer = answer;
+    best = best;
+    loss = loss;
+    lines_are = h.lines_are;
+    written = refl;
+    read_back = h.read_back;
+  }
 
-nothing_put : (name : List ℕ) (x : Answer) → x.put ≡ None → option_map view x.put ≡ put_of (Some name) None
-nothing_put name x e = ap (option_map view) e
+  unplans_of : (e : PlanEnd) → Ends a claim timing e → Unplans a w given e
+  unplans_of end.NoTimingGiven h = absurd h
+  unplans_of e h = (timing, claim, certified, h)
 
-pub unplanned_told : (a : Street) (w : Warrant) (timing : Plan) (claim : ℚ) (e : PlanEnd) (name : List ℕ) (r : Result Answer Memory) → IsCertified a w timing claim → Ends a claim timing e
-    → IfOk r (λ x. x.cause ≡ cause.Unplanned e) → IfOk r (λ x. x.lines.items ≡ unplanned_line e) → IfOk r (λ x. x.put ≡ None)
-    → IfOk r (λ x. (bytes : Option (List ℕ)) × RoundFinds a w x.cause x.lines.items bytes × (option_map view x.put ≡ put_of (Some name) bytes))
-unplanned_told a w timing claim e name (Ok x) certified h c l n = (None, unplanned_found a w e x (unplans_of a w timing claim e certified h) c l, nothing_put name x n)
-unplanned_told a w timing claim e name (Err m) certified h c l n = tt
+  -- what is found of a plan
+  pub from_told : (plan : Rounded) (name : List ℕ) (r : Result Answer Memory) → IsAnswer a claim timing plan → IsBestOfOffsets a plan.timing → number 0 ≤ℚ plan.loss
+      → IfOk r (λ x. TellsRounded a plan name x.cause x.lines.items (option_map view x.put))
+      → IfOk r (λ x. (bytes : Option (List ℕ)) × RoundFromFinds a w given x.cause x.lines.items bytes × (option_map view x.put ≡ put_of (Some name) bytes))
+  from_told plan name (Ok x) answer best loss h = (
+    Some (timing_text plan.timing),
+    subst (λ (c : Cause). RoundFromFinds a w given c x.lines.items (Some (timing_text plan.timing))) (sym h.cause_is) (timing_text plan.timing, refl, rounded plan name x answer best loss h),
+    h.put_is,
+  )
+  from_told plan name (Err m) answer best loss h = tt
+
+  -- and of a timing that has none
+  pub from_unplanned : (e : PlanEnd) (name : List ℕ) (r : Result Answer Memory) → Ends a claim timing e
+      → IfOk r (λ x. x.cause ≡ cause.Unplanned e) → IfOk r (λ x. x.lines.items ≡ unplanned_line e) → IfOk r (λ x. x.put ≡ None)
+      → IfOk r (λ x. (bytes : Option (List ℕ)) × RoundFromFinds a w given x.cause x.lines.items bytes × (option_map view x.put ≡ put_of (Some name) bytes))
+  from_unplanned e name (Ok x) h c l n = (
+    None,
+    subst (λ (d : Cause). RoundFromFinds a w given d x.lines.items None) (sym c) (record { first = unplans_of e h; lines_are = l; no_put = refl }),
+    ap (option_map view) n,
+  )
+  from_unplanned e name (Err m) h c l n = tt
+
+-- of the certificate's own timing the same is found, but that it never breaks a rule
+own_round : (a : Street) (w : Warrant) (x : Answer) (bytes : Option (List ℕ)) (c : Cause) → x.cause ≡ c → RoundFinds a w c x.lines.items bytes → RoundFinds a w x.cause x.lines.items bytes
+own_round a w x bytes c e h = subst (λ (d : Cause). RoundFinds a w d x.lines.items bytes) (sym e) h
+
+module _ (a : Street) (w : Warrant) (timing : Plan) (claim : ℚ) (certified : IsCertified a w w.timing timing claim) where
+  pub round_told : (plan : Rounded) (name : List ℕ) (r : Result Answer Memory) → IsAnswer a claim timing plan → IsBestOfOffsets a plan.timing → number 0 ≤ℚ plan.loss
+      → IfOk r (λ x. TellsRounded a plan name x.cause x.lines.items (option_map view x.put))
+      → IfOk r (λ x. (bytes : Option (List ℕ)) × RoundFinds a w x.cause x.lines.items bytes × (option_map view x.put ≡ put_of (Some name) bytes))
+  round_told plan name (Ok x) answer best loss h = (
+    Some (timing_text plan.timing),
+    own_round a w x (Some (timing_text plan.timing)) cause.Done h.cause_is (timing_text plan.timing, refl, rounded a w w.timing timing claim certified plan name x answer best loss h),
+    h.put_is,
+  )
+  round_told plan name (Err m) answer best loss h = tt
+
+  pub unplanned_told : (e : PlanEnd) (name : List ℕ) (r : Result Answer Memory) → Ends a claim timing e
+      → IfOk r (λ x. x.cause ≡ cause.Unplanned e) → IfOk r (λ x. x.lines.items ≡ unplanned_line e) → IfOk r (λ x. x.put ≡ None)
+      → IfOk r (λ x. (bytes : Option (List ℕ)) × RoundFinds a w x.cause x.lines.items bytes × (option_map view x.put ≡ put_of (Some name) bytes))
+  unplanned_told e name (Ok x) h c l n =
+      (None, own_round a w x None (cause.Unplanned e) c (record { first = unplans_of a w w.timing timing claim certified e h; lines_are = l; no_put = refl }), ap (option_map view) n)
+  unplanned_told e name (Err m) h c l n = tt

@@ -1,5 +1,5 @@
 -- What the statuses of `bands`, `half`, `draw` and `sweep` say of the model, and those of `round` but 0.
-use Rattle.std.proofs.Common.{◌≡◌, ℕ, List, [], ◌∷◌, Option, Some, None, Ok, inl, inr, refl, sym, ◌∙◌, ap, subst, arith}
+use Rattle.std.proofs.Common.{◌≡◌, ◌⊎◌, ℕ, List, [], ◌∷◌, Option, Some, None, Ok, inl, inr, refl, sym, ◌∙◌, ap, subst, arith}
 use Rattle.std.specs.List.{AllZip}
 use Rattle.rational_theory.specs.Rational.{ℚ}
 use Rattle.outer_edge.specs.Held.{HoldsExactly}
@@ -16,7 +16,7 @@ use Rattle.certificate_checker.specs.Laws.{RefusedIsNotAccepted}
 use Rattle.cycle_sweep.specs.declared.row.SweepRow.{SweepRow}
 use Rattle.cycle_sweep.specs.Rows.{IsRow}
 use Rattle.cycle_sweep.specs.Says.{RowsSay}
-use Rattle.maxband_run.specs.Command.{Bands, Round, Half, Draw, Sweep}
+use Rattle.maxband_run.specs.Command.{Bands, Round, RoundFrom, Half, Draw, Sweep}
 use Rattle.maxband_run.specs.Outside.{Outside, put_of, IsPut}
 use Rattle.maxband_run.specs.Half.{HasNoHalfPlan, IsHalfPlan}
 use Rattle.maxband_run.specs.Draw.{DrawFinds}
@@ -25,7 +25,7 @@ use Rattle.maxband_run.specs.Run.{Ends}
 use Rattle.maxband_run.specs.Sought.{whole_bands}
 use Rattle.maxband_run.specs.Checked.{whole_checked}
 use Rattle.maxband_run.specs.Laws.{SaysRejected}
-use Rattle.maxband_run.specs.PlanLaws.{SaysWidest, SaysNoBase, BandsSay, PutsHalf, SaysNoHalf, SaysHalf, SaysUnmatched, HalfSays, SaysUnplanned, PutsPicture, SaysUndrawn, SaysUntimed, DrawSays, SaysCycle, PutsTable, SweepSays}
+use Rattle.maxband_run.specs.PlanLaws.{SaysWidest, SaysNoBase, BandsSay, PutsHalf, SaysNoHalf, SaysHalf, SaysUnmatched, HalfSays, SaysUnplanned, SaysUnplannedFrom, PutsPicture, SaysFailing, SaysUntimed, DrawSays, SaysCycle, PutsTable, SweepSays}
 use Rattle.maxband_run.specs.Status.{number_of}
 use Rattle.maxband_run.specs.declared.cause.Cause.{Cause}
 use Rattle.maxband_run.specs.declared.cause.Cause.TheVariants as cause
@@ -171,7 +171,7 @@ module _ (before now : Outside) (artery certificate plan : List ℕ) where
     reason = reason;
     description = k.answer.read.0;
     text = k.answer.read.1.0;
-    accepted = unplanned_accepted k.answer.values.0 k.answer.values.1.0 reason k.answer.finds.first;
+    accepted = unplanned_accepted k.answer.values.0 k.answer.values.1.0 k.answer.values.1.0.timing reason k.answer.finds.first;
     first = k.answer.finds.first;
     cause_is = refl;
   }
@@ -180,6 +180,58 @@ module _ (before now : Outside) (artery certificate plan : List ℕ) where
   round_ten c n h = let r = ten_is c n in
       subst (λ (d : Cause). SaysUnplanned before artery certificate d) (sym r.1)
       (says_unplanned r.0 (found before now (Some (Round artery certificate plan)) (cause.Unplanned r.0) tt (λ s. s) (subst (λ (d : Cause). Ends before now (Some (Round artery certificate plan)) d) r.1 h)))
+
+-- ---- round-from
+module _ (before now : Outside) (artery certificate other plan : List ℕ) where
+  pub from_four : RefusedIsNotAccepted → FailsRulesOut → (c : Cause) → number_of c ≡ 4 → Found before now (Some (RoundFrom artery certificate other plan)) c
+      → SaysRejected whole_bands whole_checked before artery certificate c ⊎ SaysFailing before artery other c
+  from_four apart rules (cause.Rejected r) e k =
+      let h = k.answer.finds.0 in
+      inl (record {
+        street = k.answer.values.0;
+        warrant = k.answer.values.1.0;
+        reject = h.reject;
+        description = k.answer.read.0;
+        text = k.answer.read.1.0;
+        first = h.first;
+        not_accepted = apart k.answer.values.0 k.answer.values.1.0 h.reject h.first h.kept;
+        cause_is = h.cause_is;
+      })
+  from_four apart rules (cause.Fails f) e k =
+      let h = k.answer.finds in
+      inr (record {
+        street = k.answer.values.0;
+        timing = h.timing;
+        failing = f;
+        description = k.answer.read.0;
+        text = subst (λ (o : Option Plan). Reads Timed (before.holds other) o) h.timing_is k.answer.read.1.1.0;
+        fails = h.first.fails;
+        not_good = rules k.answer.values.0 h.timing f h.first.fails;
+        cause_is = refl;
+      })
+  from_four apart rules (cause.LinkRejected r) e k = absurd k.answer.finds
+  from_four apart rules c e k = absurd cc
+
+  says_from_unplanned : (reason : PlanEnd) → Found before now (Some (RoundFrom artery certificate other plan)) (cause.Unplanned reason)
+      → SaysUnplannedFrom before artery certificate other (cause.Unplanned reason)
+  says_from_unplanned reason k = record {
+    street = k.answer.values.0;
+    warrant = k.answer.values.1.0;
+    given = k.answer.values.1.1.0;
+    reason = reason;
+    description = k.answer.read.0;
+    text = k.answer.read.1.0;
+    given_is = k.answer.read.1.1.0;
+    accepted = unplanned_accepted k.answer.values.0 k.answer.values.1.0 k.answer.values.1.1.0 reason k.answer.finds.first;
+    first = k.answer.finds.first;
+    cause_is = refl;
+  }
+
+  pub from_ten : (c : Cause) → number_of c ≡ 10 → Ends before now (Some (RoundFrom artery certificate other plan)) c → SaysUnplannedFrom before artery certificate other c
+  from_ten c n h = let r = ten_is c n in
+      subst (λ (d : Cause). SaysUnplannedFrom before artery certificate other d) (sym r.1)
+      (says_from_unplanned r.0 (found before now (Some (RoundFrom artery certificate other plan)) (cause.Unplanned r.0) tt (λ s. s)
+      (subst (λ (d : Cause). Ends before now (Some (RoundFrom artery certificate other plan)) d) r.1 h)))
 
 -- ---- draw
 ten_apart : ◌≡◌ {A = ℕ} 10 4 → ⊥
@@ -201,7 +253,7 @@ module _ (rules : FailsRulesOut) (before now : Outside) (artery timed picture : 
   }
 
   undrawn_of : (a : Street) (o : Option Plan) (c : Cause) (l : List ℕ) (bytes : Option (List ℕ)) → Reads Description (before.holds artery) a → Reads Timed (before.holds timed) o → number_of c ≡ 4
-      → DrawFinds a o c l bytes → SaysUndrawn before artery timed c
+      → DrawFinds a o c l bytes → SaysFailing before artery timed c
   undrawn_of a None c l bytes d r e h = absurd (ten_apart (sym (ap number_of h.0) ∙ e))
   undrawn_of a (Some t) (cause.Fails f) l bytes d r e h = record {
     street = a;

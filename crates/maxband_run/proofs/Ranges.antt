@@ -4,7 +4,7 @@ use Rattle.std.specs.Prelude.{option_map, option_and_then, if◌then◌else◌}
 use Rattle.std.specs.Str.{bytes_eq}
 use Rattle.work_meter.specs.Work.{IsBelow}
 use Rattle.maxband_run.specs.Numbers.{usual_work, number_within, signals_of, seed_of, limit_of}
-use Rattle.maxband_run.specs.Command.{Request, Solve, Links, Make, Trial, Sweep, Usage, asked, no_more, one_more, two_more, three_more, any_more, request_of, InLimits}
+use Rattle.maxband_run.specs.Command.{Request, Solve, Links, Make, Trial, Sweep, Usage, round_from_of, asked, no_more, one_more, two_more, three_more, any_more, request_of, InLimits}
 use Rattle.maxband_run.specs.Cycles.{are_cycles, SpellCycles}
 use Rattle.maxband_run.proofs.Spelled.{in_limits}
 use Rattle.maxband_run.proofs.Cycling.{cycles_spelled}
@@ -54,6 +54,11 @@ sweep_limits artery table cycles false w h k = tt
 sweep_limits artery table cycles true None h k = tt
 sweep_limits artery table cycles true (Some limit) h k = (k limit refl, h refl)
 
+from_limits : (artery certificate other : List ℕ) (words : List (List ℕ)) → InLimits (round_from_of artery certificate other words)
+from_limits artery certificate other [] = tt
+from_limits artery certificate other (plan ∷ []) = tt
+from_limits artery certificate other (plan ∷ next ∷ more) = tt
+
 -- ---- the words
 -- each of the usages asks for what is in its limits
 abbrev AreInLimits : List Usage → Type 0
@@ -77,4 +82,4 @@ command_limits (word ∷ first ∷ second ∷ third ∷ []) =
     )
 command_limits (word ∷ first ∷ second ∷ third ∷ fourth ∷ more) =
     usage_limits word (any_more first second third (fourth ∷ more))
-    (sweep_limits first second (fourth ∷ more) (are_cycles (fourth ∷ more)) (limit_of third) (cycles_spelled (fourth ∷ more)) (some_limit third), tt)
+    (sweep_limits first second (fourth ∷ more) (are_cycles (fourth ∷ more)) (limit_of third) (cycles_spelled (fourth ∷ more)) (some_limit third), (from_limits first second third (fourth ∷ more), tt))

@@ -1,7 +1,7 @@
 -- When the statuses of words and of faults come.
 use Rattle.std.proofs.Common.{◌≡◌, ℕ, ◌+◌, List, [], ◌∷◌, Option, Some, None, inl, inr, refl, ◌∙◌, ap, subst, arith}
 use Rattle.outer_edge.specs.Counts.{Rose}
-use Rattle.maxband_run.specs.Command.{Request, Hold, Show, Check, CheckLinks, Solve, Links, Renew, Bands, Round, Half, Draw, Help, Version, Make, Trial, Sweep, shape}
+use Rattle.maxband_run.specs.Command.{Request, Hold, Show, Check, CheckLinks, Solve, Links, Renew, Bands, Round, RoundFrom, Half, Draw, Help, Version, Make, Trial, Sweep, shape}
 use Rattle.maxband_run.specs.Outside.{Outside, NamedBytes}
 use Rattle.progression.specs.Street.{Street}
 use Rattle.progression.specs.Plan.{Plan}
@@ -70,6 +70,7 @@ no_words (Links artery certificate limit) v lines bytes h = verdict_cause cause.
 no_words (Renew certificate new) v lines bytes h = let e = h.2.cause_is in absurd cc
 no_words (Bands artery timing) v lines bytes h = h
 no_words (Round artery certificate plan) v lines bytes h = h
+no_words (RoundFrom artery certificate other plan) v lines bytes h = h
 no_words (Half artery timing new) v lines bytes h = h
 no_words (Draw artery timed drawing) v lines bytes h = draw_told v.0 v.1.0 lines bytes h
 no_words Help v lines bytes h = let e = h.0 in absurd cc

@@ -19,6 +19,7 @@ pub data Request : Type 0 where
   Renew : List ℕ → List ℕ → Request  -- the names of a certificate and of the file for its second text
   Bands : List ℕ → List ℕ → Request  -- the names of a description and of a timing
   Round : List ℕ → List ℕ → List ℕ → Request  -- the names of a description and of a certificate, and of the file for a plan in whole seconds
+  RoundFrom : List ℕ → List ℕ → List ℕ → List ℕ → Request  -- the names of a description, of a certificate and of another timing or certificate, and of the file for such a plan
   Half : List ℕ → List ℕ → List ℕ → Request  -- the names of a description and of a timing, and of the file for a half-cycle plan
   Draw : List ℕ → List ℕ → List ℕ → Request  -- the names of a description and of a timing or certificate, and of the file for a picture
   Help : Request
@@ -37,6 +38,7 @@ view (command.Links artery certificate limit) = Links artery.now certificate.now
 view (command.Renew certificate new) = Renew certificate.now new.now
 view (command.Bands artery timing) = Bands artery.now timing.now
 view (command.Round artery certificate plan) = Round artery.now certificate.now plan.now
+view (command.RoundFrom artery certificate other plan) = RoundFrom artery.now certificate.now other.now plan.now
 view (command.Half artery timing new) = Half artery.now timing.now new.now
 view (command.Draw artery timed drawing) = Draw artery.now timed.now drawing.now
 view command.Help = Help
@@ -64,6 +66,7 @@ shape (Some (Links artery certificate limit)) = record { inputs = input Descript
 shape (Some (Renew certificate new)) = record { inputs = input Certificate certificate ∷ []; output = Some new; chooses = false }
 shape (Some (Bands artery timing)) = record { inputs = input Description artery ∷ input Timing timing ∷ []; output = None; chooses = false }
 shape (Some (Round artery certificate plan)) = record { inputs = input Description artery ∷ input Certificate certificate ∷ []; output = Some plan; chooses = false }
+shape (Some (RoundFrom artery certificate other plan)) = record { inputs = input Description artery ∷ input Certificate certificate ∷ input Timed other ∷ []; output = Some plan; chooses = false }
 shape (Some (Half artery timing new)) = record { inputs = input Description artery ∷ input Timing timing ∷ []; output = Some new; chooses = true }
 shape (Some (Draw artery timed drawing)) = record { inputs = input Description artery ∷ input Timed timed ∷ []; output = Some drawing; chooses = false }
 shape (Some Help) = record { inputs = []; output = None; chooses = false }
@@ -136,9 +139,14 @@ three_more first second third =
 abbrev pub sweep_of : List ℕ → List ℕ → List ℕ → List (List ℕ) → Option Request
 sweep_of artery table limit cycles = if are_cycles cycles then option_map (λ units. Sweep artery table units cycles) (limit_of limit) else None
 
+-- the one word that is left, for the plan
+abbrev pub round_from_of : List ℕ → List ℕ → List ℕ → List (List ℕ) → Option Request
+round_from_of artery certificate other (plan ∷ []) = Some (RoundFrom artery certificate other plan)
+round_from_of artery certificate other words = None
+
 -- the usages with three words more and any number besides
 abbrev pub any_more : List ℕ → List ℕ → List ℕ → List (List ℕ) → List Usage
-any_more first second third more = usage (codes "sweep") (sweep_of first second third more) ∷ []
+any_more first second third more = usage (codes "sweep") (sweep_of first second third more) ∷ usage (codes "round-from") (round_from_of first second third more) ∷ []
 
 abbrev pub request_of : List (List ℕ) → Option Request
 request_of (word ∷ []) = asked word no_more

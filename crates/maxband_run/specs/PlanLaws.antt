@@ -30,7 +30,7 @@ use Rattle.cycle_sweep.specs.Says.{SaysRow}
 use Rattle.cycle_sweep.specs.Table.{row_fields, sweep_text}
 use Rattle.maxband_run.specs.Cycles.{AreCycles}
 use Rattle.maxband_run.specs.Outside.{Outside}
-use Rattle.maxband_run.specs.Command.{Hold, Bands, Round, Half, Draw, Sweep}
+use Rattle.maxband_run.specs.Command.{Hold, Bands, Round, RoundFrom, Half, Draw, Sweep}
 use Rattle.maxband_run.specs.Reading.{most_bytes, Reads, Description, Timing, Certificate, Timed}
 use Rattle.maxband_run.specs.Bands.{IsWidestBand, widest_line}
 use Rattle.maxband_run.specs.Half.{half_lines}
@@ -139,12 +139,60 @@ pub record SaysUnplanned (before : Outside) (artery certificate : List ℕ) (c :
   pub description : Reads Description (before.holds artery) street
   pub text : Reads Certificate (before.holds certificate) warrant
   pub accepted : IsAccepted street warrant
-  pub first : Unplans street warrant reason
+  pub first : Unplans street warrant warrant.timing reason
   pub cause_is : c ≡ cause.Unplanned reason
 
 abbrev pub RoundSays : Type 0
 RoundSays = (before now : Outside) (artery certificate plan : List ℕ) (c : Cause) → Ends before now (Some (Round artery certificate plan)) c
     → (number_of c ≡ 0 → PutsPlan before now artery plan) × (number_of c ≡ 4 → SaysRejected whole_bands whole_checked before artery certificate c) × (number_of c ≡ 10 → SaysUnplanned before artery certificate c)
+
+-- `draw` and `round-from` with status 4: this rule fails, so that the timing isn't good
+pub record SaysFailing (before : Outside) (artery timed : List ℕ) (c : Cause) : Type 0 where
+  pub street : Street
+  pub timing : Plan
+  pub failing : Failing
+  pub description : Reads Description (before.holds artery) street
+  pub text : Reads Timed (before.holds timed) (Some timing)
+  pub fails : Fails street timing failing
+  pub not_good : ¬ Good street timing
+  pub cause_is : c ≡ cause.Fails failing
+
+-- `round-from` with status 10: the certificate is accepted, and no plan is made of the other timing, for this first reason
+pub record SaysUnplannedFrom (before : Outside) (artery certificate other : List ℕ) (c : Cause) : Type 0 where
+  pub street : Street
+  pub warrant : Warrant
+  pub given : Option Plan
+  pub reason : PlanEnd
+  pub description : Reads Description (before.holds artery) street
+  pub text : Reads Certificate (before.holds certificate) warrant
+  pub given_is : Reads Timed (before.holds other) given
+  pub accepted : IsAccepted street warrant
+  pub first : Unplans street warrant given reason
+  pub cause_is : c ≡ cause.Unplanned reason
+
+abbrev pub RoundFromSays : Type 0
+RoundFromSays = (before now : Outside) (artery certificate other plan : List ℕ) (c : Cause) → Ends before now (Some (RoundFrom artery certificate other plan)) c
+    → (number_of c ≡ 0 → PutsPlan before now artery plan)
+    × (number_of c ≡ 4 → SaysRejected whole_bands whole_checked before artery certificate c ⊎ SaysFailing before artery other c)
+    × (number_of c ≡ 10 → SaysUnplannedFrom before artery certificate other c)
+
+-- a plan is made, the certificate is rejected, the other timing breaks a rule, or no plan is made of it
+abbrev pub IsRoundingEnd : Cause → Type 0
+IsRoundingEnd cause.Done = Unit {0}
+IsRoundingEnd (cause.Rejected r) = Unit {0}
+IsRoundingEnd (cause.Fails f) = Unit {0}
+IsRoundingEnd (cause.Unplanned e) = Unit {0}
+IsRoundingEnd c = ⊥
+
+-- Where the files tell bytes that describe an artery, are a certificate, and are a timing or a certificate, and no read of them, no put of the plan and no write failed, the
+-- run ends so, or by want of memory.
+abbrev pub RoundFromIsComplete : Type 0
+RoundFromIsComplete = (before now : Outside) (artery certificate other plan : List ℕ) (a : Street) (w : Warrant) (o : Option Plan) (c : Cause)
+    → IsSome (before.holds artery) → IsSome (before.holds certificate) → IsSome (before.holds other)
+    → Reads Description (before.holds artery) a → Reads Certificate (before.holds certificate) w → Reads Timed (before.holds other) o
+    → ¬ Rose (before.reads artery) (now.reads artery) → ¬ Rose (before.reads certificate) (now.reads certificate) → ¬ Rose (before.reads other) (now.reads other)
+    → ¬ Rose (before.puts plan) (now.puts plan) → ¬ Rose before.writes now.writes
+    → Ends before now (Some (RoundFrom artery certificate other plan)) c → IsRoundingEnd c ⊎ (c ≡ cause.Memory)
 
 -- So a run of `hold` over the same description and the file that was put accepts it, unless a fault or want of memory ends it: where these are two files that tell
 -- their bytes, and the plan isn't too long to be read.
@@ -164,17 +212,6 @@ pub record PutsPicture (before now : Outside) (artery timed picture : List ℕ) 
   pub put : HoldsExactly (now.holds picture) (svg_text (drawing street timing))
   pub told : Appends before.taken now.taken (codes "drawn\n")
 
--- with status 4: this rule fails, so that the timing isn't good
-pub record SaysUndrawn (before : Outside) (artery timed : List ℕ) (c : Cause) : Type 0 where
-  pub street : Street
-  pub timing : Plan
-  pub failing : Failing
-  pub description : Reads Description (before.holds artery) street
-  pub text : Reads Timed (before.holds timed) (Some timing)
-  pub fails : Fails street timing failing
-  pub not_good : ¬ Good street timing
-  pub cause_is : c ≡ cause.Fails failing
-
 -- with status 10: the second file is a certificate without a timing
 pub record SaysUntimed (before : Outside) (artery timed : List ℕ) (c : Cause) : Type 0 where
   pub street : Street
@@ -184,7 +221,7 @@ pub record SaysUntimed (before : Outside) (artery timed : List ℕ) (c : Cause) 
 
 abbrev pub DrawSays : Type 0
 DrawSays = (before now : Outside) (artery timed picture : List ℕ) (c : Cause) → Ends before now (Some (Draw artery timed picture)) c
-    → (number_of c ≡ 0 → PutsPicture before now artery timed picture) × (number_of c ≡ 4 → SaysUndrawn before artery timed c) × (number_of c ≡ 10 → SaysUntimed before artery timed c)
+    → (number_of c ≡ 0 → PutsPicture before now artery timed picture) × (number_of c ≡ 4 → SaysFailing before artery timed c) × (number_of c ≡ 10 → SaysUntimed before artery timed c)
 
 -- the timing is drawn, it breaks a rule, or there is none
 abbrev pub IsDrawingEnd : Cause → Type 0

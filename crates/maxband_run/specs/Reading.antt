@@ -85,6 +85,10 @@ pub record Input : Type 0 where
 abbrev pub input : Reader → List ℕ → Input
 input r n = record { reader = r; name = n }
 
+-- three files, in this order
+abbrev pub three_inputs : Reader → Reader → Reader → List ℕ → List ℕ → List ℕ → List Input
+three_inputs r s t one other last = input r one ∷ input s other ∷ input t last ∷ []
+
 -- these are the file's bytes, where it tells them, and no more than the limit
 pub record IsWithinLimit (most : ℕ) (held : Option (List ℕ)) (bytes : List ℕ) : Type 0 where
   pub few : length bytes ≤ most

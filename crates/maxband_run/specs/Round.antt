@@ -1,4 +1,4 @@
--- What `round` finds of an artery and a certificate, what it writes, and what it puts.
+-- What `round` finds of an artery and a certificate, what `round-from` finds of these and another timing, what they write, and what they put.
 use Rattle.std.specs.Prelude.{◌≡◌, ℕ, ◌-◌, List, ◌++◌, codes, slice_index, Option, Some, None, Ok}
 use Rattle.std.specs.List.{flat_map, range_with_len}
 use Rattle.std.specs.Fmt.{decimal}
@@ -9,6 +9,9 @@ use Rattle.progression.specs.Street.{Street, count, signal_of}
 use Rattle.progression.specs.Speeds.{number}
 use Rattle.progression.specs.Plan.{Plan}
 use Rattle.progression.specs.declared.parts.Dir.TheVariants.{Outbound, Inbound}
+use Rattle.progression.specs.Good.{Good}
+use Rattle.time_space.specs.FirstFailing.{IsFirstFailing}
+use Rattle.time_space.specs.declared.failing.Failing.{Failing}
 use Rattle.artery_model.specs.Valid.{IsValid}
 use Rattle.plan_text.specs.Warrants.{Warrant}
 use Rattle.plan_text.specs.Spelling.{timing_text}
@@ -21,7 +24,7 @@ use Rattle.second_plan.specs.declared.answer.Plan.{Plan as Rounded}
 use Rattle.second_plan.specs.declared.answer.PlanEnd.{PlanEnd}
 use Rattle.second_plan.specs.declared.answer.PlanEnd.TheVariants as end
 use Rattle.maxband_run.specs.Outside.{NamedBytes, named, With}
-use Rattle.maxband_run.specs.Lines.{failing_text}
+use Rattle.maxband_run.specs.Lines.{failing_text, fails_line}
 use Rattle.maxband_run.specs.Sought.{whole_bands}
 use Rattle.maxband_run.specs.Checked.{whole_checked}
 use Rattle.maxband_run.specs.Check.{Rejects}
@@ -58,18 +61,19 @@ unplanned_line (end.Fails f) = codes "no plan " ++ (failing_text f ++ codes "\n"
 unplanned_line (end.Wide w) = wide_line w
 
 -- ---- the answer
--- the certificate is accepted, and these are its timing and the number that no weighted band exceeds
-pub record IsCertified (a : Street) (w : Warrant) (timing : Plan) (claim : ℚ) : Type 0 where
+-- the certificate is accepted, this is the number that no weighted band exceeds, and the timing that is given is good
+pub record IsCertified (a : Street) (w : Warrant) (given : Option Plan) (timing : Plan) (claim : ℚ) : Type 0 where
   pub valid : IsValid a
   pub accepted : IsAccepted a w
-  pub timing_is : w.timing ≡ Some timing
+  pub timing_is : given ≡ Some timing
+  pub good : Good a timing
   pub claim_is : limit_of w.claim ≡ Some claim
 
--- the plan in whole seconds of the certified timing, what it loses at most against every timing, and its text, which is read back
-pub record IsRounded (a : Street) (w : Warrant) (lines text : List ℕ) : Type 0 where
+-- the plan in whole seconds of the given timing, what it loses at most against every timing, and its text, which is read back
+pub record IsRounded (a : Street) (w : Warrant) (given : Option Plan) (lines text : List ℕ) : Type 0 where
   pub timing : Plan
   pub claim : ℚ
-  pub certified : IsCertified a w timing claim
+  pub certified : IsCertified a w given timing claim
   pub plan : Rounded
   pub answer : IsAnswer a claim timing plan
   pub best : IsBestOfOffsets a plan.timing
@@ -78,21 +82,39 @@ pub record IsRounded (a : Street) (w : Warrant) (lines text : List ℕ) : Type 0
   pub written : text ≡ timing_text plan.timing
   pub read_back : timing_of text ≡ Ok plan.timing
 
--- the accepted certificate has no timing, or its timing has no plan, for this first reason
-abbrev pub Unplans : Street → Warrant → PlanEnd → Type 0
-Unplans a w end.NoTimingGiven = IsAccepted a w × (w.timing ≡ None)
-Unplans a w e = (timing : Plan) × (claim : ℚ) × IsCertified a w timing claim × Ends a claim timing e
+-- the certificate is accepted, and no timing is given, or the one that is has no plan, for this first reason
+abbrev pub Unplans : Street → Warrant → Option Plan → PlanEnd → Type 0
+Unplans a w given end.NoTimingGiven = IsAccepted a w × (given ≡ None)
+Unplans a w given e = (timing : Plan) × (claim : ℚ) × IsCertified a w given timing claim × Ends a claim timing e
 
-pub record IsUnplanned (a : Street) (w : Warrant) (e : PlanEnd) (lines : List ℕ) (put : Option (List ℕ)) : Type 0 where
-  pub first : Unplans a w e
+pub record IsUnplanned (a : Street) (w : Warrant) (given : Option Plan) (e : PlanEnd) (lines : List ℕ) (put : Option (List ℕ)) : Type 0 where
+  pub first : Unplans a w given e
   pub lines_are : lines ≡ unplanned_line e
   pub no_put : put ≡ None
 
+-- of the certificate's own timing, which is good where it is accepted
 abbrev pub RoundFinds : Street → Warrant → Cause → List ℕ → Option (List ℕ) → Type 0
-RoundFinds a w cause.Done lines put = With (IsRounded a w lines) put
+RoundFinds a w cause.Done lines put = With (IsRounded a w w.timing lines) put
 RoundFinds a w (cause.Rejected reject) lines put = Rejects whole_bands whole_checked a w (cause.Rejected reject) lines × (put ≡ None)
-RoundFinds a w (cause.Unplanned e) lines put = IsUnplanned a w e lines put
+RoundFinds a w (cause.Unplanned e) lines put = IsUnplanned a w w.timing e lines put
 RoundFinds a w c lines put = ⊥
+
+-- the certificate is accepted, and the given timing breaks a rule, this first
+pub record IsUnfit (a : Street) (w : Warrant) (given : Option Plan) (f : Failing) (lines : List ℕ) (put : Option (List ℕ)) : Type 0 where
+  pub accepted : IsAccepted a w
+  pub timing : Plan
+  pub timing_is : given ≡ Some timing
+  pub first : IsFirstFailing a timing f
+  pub lines_are : lines ≡ fails_line f
+  pub no_put : put ≡ None
+
+-- of another timing
+abbrev pub RoundFromFinds : Street → Warrant → Option Plan → Cause → List ℕ → Option (List ℕ) → Type 0
+RoundFromFinds a w given cause.Done lines put = With (IsRounded a w given lines) put
+RoundFromFinds a w given (cause.Rejected reject) lines put = Rejects whole_bands whole_checked a w (cause.Rejected reject) lines × (put ≡ None)
+RoundFromFinds a w given (cause.Fails f) lines put = IsUnfit a w given f lines put
+RoundFromFinds a w given (cause.Unplanned e) lines put = IsUnplanned a w given e lines put
+RoundFromFinds a w given c lines put = ⊥
 
 -- the lines of a plan, and its text for the file of this name
 pub record TellsRounded (a : Street) (plan : Rounded) (name : List ℕ) (c : Cause) (lines : List ℕ) (put : Option NamedBytes) : Type 0 where

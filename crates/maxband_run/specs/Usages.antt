@@ -10,6 +10,7 @@ usage_line usage.Solve = codes "maxband solve ARTERY CERT [WORK]              se
 usage_line usage.Check = codes "maxband check ARTERY CERT                     check what a certificate claims\n"
 usage_line usage.Bands = codes "maxband bands ARTERY TIMING                   measure the widest bands on a timing's offsets\n"
 usage_line usage.Round = codes "maxband round ARTERY CERT PLAN                put a plan in whole seconds of a certified timing\n"
+usage_line usage.RoundFrom = codes "maxband round-from ARTERY CERT OTHER PLAN     put such a plan of another timing, held against a certificate\n"
 usage_line usage.Half = codes "maxband half ARTERY TIMING NEW                put the half-cycle plan with the widest equal bands\n"
 usage_line usage.Draw = codes "maxband draw ARTERY FILE SVG                  put a picture of the timing of a timing or certificate\n"
 usage_line usage.Renew = codes "maxband renew CERT NEW                        put a certificate in the second format\n"
@@ -30,6 +31,7 @@ usages =
     ∷ usage.Check
     ∷ usage.Bands
     ∷ usage.Round
+    ∷ usage.RoundFrom
     ∷ usage.Half
     ∷ usage.Draw
     ∷ usage.Renew
@@ -55,6 +57,7 @@ usage_of (request.Links artery certificate limit) = usage.Links
 usage_of (request.Renew certificate new) = usage.Renew
 usage_of (request.Bands artery timing) = usage.Bands
 usage_of (request.Round artery certificate plan) = usage.Round
+usage_of (request.RoundFrom artery certificate other plan) = usage.RoundFrom
 usage_of (request.Half artery timing new) = usage.Half
 usage_of (request.Make signals seed) = usage.Make
 usage_of (request.Trial signals seed limit) = usage.Trial

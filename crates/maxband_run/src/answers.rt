@@ -16,12 +16,12 @@ use crate::draw::draw_timing;
 use crate::half::half_cycle;
 use crate::help::{help, version};
 use crate::hold::hold;
-use crate::inputs::{read_both, read_one};
+use crate::inputs::{read_both, read_one, read_three};
 use crate::lines::words_line;
 use crate::links::links;
 use crate::make::make;
 use crate::renew::renew;
-use crate::round::round;
+use crate::round::{round, round_from};
 use crate::show::show;
 use crate::solve::solve;
 use crate::sweep::sweep;
@@ -87,6 +87,10 @@ fn found<'a, F: Files>(
         Some(Command::Round(artery, certificate, plan)) => {
             let (street, warrant) = read_both(alloc, files, artery, certificate)?;
             Ok(round(alloc, &street, &warrant, plan)?)
+        }
+        Some(Command::RoundFrom(artery, certificate, file, plan)) => {
+            let (street, warrant, timed) = read_three(alloc, files, artery, certificate, file)?;
+            Ok(round_from(alloc, &street, &warrant, &timed, plan)?)
         }
         Some(Command::Half(artery, timing, new)) => {
             let (street, plan) = read_both(alloc, files, artery, timing)?;

@@ -2,7 +2,7 @@
 
 ghost use Rattle.std.specs.Prelude.{◌≡◌, map, option_map, string_bytes};
 ghost use Rattle.maxband_run.specs.Numbers.{limit_of};
-ghost use Rattle.maxband_run.specs.Command.{Solve, Links, request_of, make_of, trial_of, sweep_of, asked, no_more, one_more, two_more, three_more, any_more, view, shape};
+ghost use Rattle.maxband_run.specs.Command.{Solve, Links, request_of, make_of, trial_of, sweep_of, round_from_of, asked, no_more, one_more, two_more, three_more, any_more, view, shape};
 ghost use Rattle.maxband_run.specs.Reading.{IsRoomForFaults};
 
 use crate::cycles::are_cycles;
@@ -31,6 +31,9 @@ pub enum Command<'a> {
     Bands(&'a str, &'a str),
     /// Make a plan in whole seconds of the certificate of the second file, for the artery of the first, and put it in the third.
     Round(&'a str, &'a str, &'a str),
+    /// Make such a plan of the timing of the third file, a timing or a certificate, and put it in the fourth; what it loses is counted from
+    /// the certificate of the second.
+    RoundFrom(&'a str, &'a str, &'a str, &'a str),
     /// Find the widest equal bands over all offsets of the timing of the second file, and put the plan that has them in the third.
     Half(&'a str, &'a str, &'a str),
     /// Draw the timing of the second file, a timing or a certificate, on the artery of the first, and put the picture in the third.
@@ -178,18 +181,34 @@ fn sweep_of<'a>(
     })
 }
 
+/// The command `round-from` with these words, of which one is left for the plan.
+fn round_from_of<'a>(
+    artery: &'a str,
+    certificate: &'a str,
+    other: &'a str,
+    words: &'a [String],
+) -> Option<Command<'a>>
+    ensures { option_map view result ≡ round_from_of artery.now certificate.now other.now (map string_bytes words.now) }
+{
+    match words {
+        [plan] => Some(Command::RoundFrom(artery, certificate, other, plan.as_str())),
+        _ => None,
+    }
+}
+
 /// The command of a word with three more and any number besides.
 fn with_more<'a>(
     word: &str,
     first: &'a str,
     second: &'a str,
-    third: &str,
+    third: &'a str,
     more: &'a [String],
 ) -> Option<Command<'a>>
     ensures { option_map view result ≡ asked word.now (any_more first.now second.now third.now (map string_bytes more.now)) }
 {
     match word {
         "sweep" => sweep_of(first, second, third, more),
+        "round-from" => round_from_of(first, second, third, more),
         _ => None,
     }
 }
@@ -240,6 +259,9 @@ pub fn room_for_faults(command: Option<Command<'_>>) -> u64
             | Command::Half(first, second, _)
             | Command::Draw(first, second, _),
         ) => cannot_read_bytes(first).max(cannot_read_bytes(second)),
+        Some(Command::RoundFrom(first, second, third, _)) => cannot_read_bytes(first)
+            .max(cannot_read_bytes(second))
+            .max(cannot_read_bytes(third)),
         Some(Command::Help | Command::Version | Command::Make { .. } | Command::Trial { .. })
         | None => 0,
     }

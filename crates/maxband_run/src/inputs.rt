@@ -2,7 +2,7 @@
 
 ghost use Rattle.std.specs.Prelude.{◌≡◌, [], ◌∷◌, None, IfOk, IfErr, OnOk};
 ghost use Rattle.outer_edge.specs.Counts.{SameCounts};
-ghost use Rattle.maxband_run.specs.Reading.{input, most_bytes, end_of, IsWithinLimit, LeavesFiles, WereRead, WasUnread};
+ghost use Rattle.maxband_run.specs.Reading.{input, most_bytes, end_of, three_inputs, IsWithinLimit, LeavesFiles, WereRead, WasUnread};
 ghost use Rattle.maxband_run.specs.Lines.{too_long_line};
 
 use crate::answer::{Unread, told};
@@ -16,6 +16,8 @@ use std::alloc::Global;
 const FIRST: u8 = 1;
 
 const SECOND: u8 = 2;
+
+const THIRD: u8 = 3;
 
 /// What is told of a file with more bytes than its limit.
 fn too_long(alloc: Global, name: &str, place: u8) -> Unread
@@ -98,4 +100,21 @@ pub fn read_both<T: Readable, U: Readable, F: Files>(
     let one = read_at(alloc, files, first, FIRST)?;
     let other = read_at(alloc, files, second, SECOND)?;
     Ok((one, other))
+}
+
+/// What the three files are read as, or why one of them isn't read.
+pub fn read_three<T: Readable, U: Readable, V: Readable, F: Files>(
+    alloc: Global,
+    files: &mut F,
+    first: &str,
+    second: &str,
+    third: &str,
+) -> Result<(T, U, V), Unread>
+    ensures read { IfOk result (λ v. WereRead F.Files files.old files.new (three_inputs T.reader U.reader V.reader first.now second.now third.now) (T.value v.0, (U.value v.1, (V.value v.2, tt)))) }
+    ensures unread { IfErr result (WasUnread F.Files files.old files.new (three_inputs T.reader U.reader V.reader first.now second.now third.now) 1) }
+    ensures kept { LeavesFiles F.Files files.old files.new }
+{
+    let (one, other) = read_both(alloc, files, first, second)?;
+    let last = read_at(alloc, files, third, THIRD)?;
+    Ok((one, other, last))
 }

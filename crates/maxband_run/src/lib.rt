@@ -2,7 +2,7 @@
 //! Commands find best timings of the signals of one artery (`solve`), also at each of several cycles (`sweep`), or best ones with a
 //! band for each link (`links`), with certificates of what is claimed of all its good timings (`check`, `check-links`); test
 //! timings against its time-space diagram (`hold`), measure their bands (`bands`) and draw them (`draw`); make plans in whole
-//! seconds (`round`) and of half cycles (`half`); write the canonical description of an artery (`show`) and certificates in the
+//! seconds (`round`, `round-from`) and of half cycles (`half`); write the canonical description of an artery (`show`) and certificates in the
 //! second format (`renew`); make arteries from a seed, to be described (`make`) or searched (`trial`); and tell the program's usages
 //! (`--help`) and what it reads (`--version`).
 //!
@@ -105,6 +105,7 @@ pub use top::{
     law_half_says, law_help_says, law_hold_says, law_links_are_complete, law_links_say,
     law_links_stop_says, law_make_is_complete, law_one_answer, law_plan_is_held,
     law_put_is_accepted, law_put_links_are_accepted, law_renew_is_complete, law_renew_says,
-    law_round_says, law_solve_is_complete, law_solve_says, law_solve_stop_says,
-    law_sweep_is_complete, law_sweep_says, law_trial_is_complete, law_words_are_told, run,
+    law_round_from_is_complete, law_round_from_says, law_round_says, law_solve_is_complete,
+    law_solve_says, law_solve_stop_says, law_sweep_is_complete, law_sweep_says,
+    law_trial_is_complete, law_words_are_told, run,
 };

@@ -1,15 +1,18 @@
-//! The command `round`.
+//! The commands `round` and `round-from`.
 
-ghost use Rattle.std.specs.Prelude.{◌≡◌, ◌≤◌, None, IfOk, length, option_map, string_bytes};
+ghost use Rattle.std.specs.Prelude.{◌≡◌, ◌≤◌, None, Some, IfOk, length, option_map, string_bytes};
 ghost use Rattle.progression.specs.Street.{count};
 ghost use Rattle.progression.specs.Good.{Good};
+ghost use Rattle.certificate_checker.specs.Accepted.{IsAccepted};
+ghost use Rattle.certificate_checker.specs.Claims.{ClaimHolds};
 ghost use Rattle.maxband_run.specs.Outside.{MayPut, view};
-ghost use Rattle.maxband_run.specs.Round.{whole_cycle_line, offset_line, offset_lines, loss_line, plan_lines, wide_line, unplanned_line, TellsRounded, RoundFinds};
+ghost use Rattle.maxband_run.specs.Round.{whole_cycle_line, offset_line, offset_lines, loss_line, plan_lines, wide_line, unplanned_line, TellsRounded, RoundFinds, RoundFromFinds};
 
 use crate::answer::{Answer, Put, told};
 use crate::cause::Cause;
 use crate::check::rejected;
-use crate::lines::failing_text;
+use crate::lines::{failing_text, fails_line};
+use crate::readable::Timed;
 use artery_model::{Artery, Dir};
 use certificate_checker::{check, limit_of};
 use diagram_print::{band_line, dir_name, weighted_line};
@@ -18,7 +21,7 @@ use plan_text::{Certificate, write_timing};
 use quantity_text::exact_string;
 use second_plan::{Plan, PlanEnd, PlanFault, plan};
 use std::alloc::{AllocError, Global};
-use time_space::Timing;
+use time_space::{Timing, holds};
 use timing_measures::signal_name;
 
 fn whole_cycle_line(alloc: Global, seconds: u64) -> Result<String, AllocError>
@@ -142,8 +145,8 @@ fn tell_plan<'a>(
     })
 }
 
-/// Makes a plan in whole seconds of the certificate's timing where it is accepted, with what it loses at most against every timing. Its text is
-/// to be put into the file of this name; nothing is put where the certificate is rejected, or where no plan is made.
+/// Makes a plan in whole seconds of the certificate's timing where it is accepted, with what it loses at most against every timing. Its
+/// text is to be put into the file of this name; nothing is put where the certificate is rejected, or where no plan is made.
 pub fn round<'a>(
     alloc: Global,
     artery: &Artery,
@@ -164,4 +167,52 @@ pub fn round<'a>(
         Err(PlanFault::End(end)) => unplanned(alloc, end),
         Err(PlanFault::Memory) => Err(Memory),
     }
+}
+
+/// Tells the plan of a good timing, and what it loses against the claim of an accepted certificate.
+fn plan_good<'a>(
+    alloc: Global,
+    artery: &Artery,
+    certificate: &Certificate,
+    timing: &Timing,
+    name: &'a str,
+) -> Result<Answer<'a>, Memory>
+    requires accepted { IsAccepted artery.now certificate.now }
+    requires claim { ClaimHolds artery.now certificate.now.claim certificate.now.timing }
+    requires good { Good artery.now timing.now }
+    ensures finds { MayPut name.now (RoundFromFinds artery.now certificate.now (Some timing.now)) result }
+{
+    let Some(claim) = limit_of(&certificate.claim) else {
+        unreachable!()
+    };
+    artery.known_valid();
+    match plan(alloc, artery, claim, timing) {
+        Ok(plan) => tell_plan(alloc, artery, &plan, name),
+        Err(PlanFault::End(end)) => unplanned(alloc, end),
+        Err(PlanFault::Memory) => Err(Memory),
+    }
+}
+
+/// Makes such a plan of another timing that is good on the artery; what it loses is counted from what the certificate claims, where that is
+/// accepted. Nothing is put either where the timing breaks a rule, or where there is none.
+pub fn round_from<'a>(
+    alloc: Global,
+    artery: &Artery,
+    certificate: &Certificate,
+    timed: &Timed,
+    name: &'a str,
+) -> Result<Answer<'a>, Memory>
+    ensures finds { MayPut name.now (RoundFromFinds artery.now certificate.now timed.now.timing) result }
+{
+    if let Err(reject) = check(alloc, artery, certificate) {
+        return rejected(alloc, artery, reject);
+    }
+    let Some(timing) = &timed.timing else {
+        return unplanned(alloc, PlanEnd::NoTimingGiven);
+    };
+    if let Err(failing) = holds(artery, timing) {
+        let lines = fails_line(alloc, failing)?.into_bytes();
+        return Ok(told(Cause::Fails(failing), lines));
+    }
+    plan_good(alloc, artery, certificate, timing, name)
 }

@@ -7,7 +7,7 @@ ghost use Rattle.maxband_run.specs.Command.{request_of, shape};
 ghost use Rattle.maxband_run.specs.Outside.{seen, OthersKept, PutsCounted};
 ghost use Rattle.maxband_run.specs.Run.{Ends, LeavesAlone};
 ghost use Rattle.maxband_run.specs.Laws.{OneAnswer, FaultsAreTold, SolveIsComplete, LinksAreComplete, MakeIsComplete, TrialIsComplete, SweepIsComplete, RenewIsComplete, PutIsAccepted, PutLinksAreAccepted, SolveSays, LinksSay, HelpSays, HoldSays, CheckSays, CheckLinksSays, RenewSays};
-ghost use Rattle.maxband_run.specs.PlanLaws.{BandsSay, DrawIsComplete, DrawSays, HalfSays, RoundSays, PlanIsHeld, SweepSays};
+ghost use Rattle.maxband_run.specs.PlanLaws.{BandsSay, DrawIsComplete, DrawSays, HalfSays, RoundFromIsComplete, RoundFromSays, RoundSays, PlanIsHeld, SweepSays};
 ghost use Rattle.maxband_run.specs.StopLaws.{SolveStopSays, LinksStopSays, AllNeverStopsByWork, WordsAreTold, FaultsAreCounted};
 
 use crate::answers::answer_to;
@@ -222,6 +222,25 @@ pub fn law_round_says()
     ensures { RoundSays }
 {
     certificate_checker::law_accepted_or_refused();
+}
+
+/// A law over the definitions: after status 0 of `round-from` the file that it put holds the text of a timing that is good on the described
+/// artery and, on its grid, the best with its offsets, and no good timing is better by more than the printed loss; after 4 the certificate
+/// isn't accepted, or the rule that the cause names fails, and after 10 no plan is made of the other timing.
+pub fn law_round_from_says()
+    ensures { RoundFromSays }
+{
+    certificate_checker::law_accepted_or_refused();
+    time_space::law_fails_rules_out();
+}
+
+/// A law over the definitions: where the files of `round-from` are a description of an artery, a certificate, and a timing or a certificate,
+/// and no fault is counted, a plan is put, the certificate is rejected, the timing breaks a rule, no plan is made of it, or memory is
+/// wanting.
+pub fn law_round_from_is_complete()
+    ensures { RoundFromIsComplete }
+{
+    description_reader::law_one_answer();
 }
 
 /// A law over the definitions: after status 0 of `draw` the file that it put holds the picture of the timing of its second file, which is

@@ -12,6 +12,7 @@ pub enum Usage {
     Check,
     Bands,
     Round,
+    RoundFrom,
     Half,
     Draw,
     Renew,
@@ -27,11 +28,12 @@ pub enum Usage {
 }
 
 /// All usages, in the order of the help.
-pub const USAGES: [Usage; 16] = [
+pub const USAGES: [Usage; 17] = [
     Usage::Solve,
     Usage::Check,
     Usage::Bands,
     Usage::Round,
+    Usage::RoundFrom,
     Usage::Half,
     Usage::Draw,
     Usage::Renew,
@@ -60,6 +62,9 @@ fn usage_line(usage: Usage) -> &'static str
             "maxband bands ARTERY TIMING                   measure the widest bands on a timing's offsets\n",
         Usage::Round =>
             "maxband round ARTERY CERT PLAN                put a plan in whole seconds of a certified timing\n",
+        Usage::RoundFrom => {
+            "maxband round-from ARTERY CERT OTHER PLAN     put such a plan of another timing, held against a certificate\n"
+        }
         Usage::Half =>
             "maxband half ARTERY TIMING NEW                put the half-cycle plan with the widest equal bands\n",
         Usage::Draw =>

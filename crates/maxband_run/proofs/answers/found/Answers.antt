@@ -1,6 +1,6 @@
 use Rattle.std.proofs.Common.{rules, Some, Ok, map, refl}
 use Rattle.std.specs.Prelude.{string_bytes}
-use Rattle.maxband_run.specs.Command.{Hold, Show, Check, CheckLinks, Solve, Links, Renew, Bands, Round, Half, Draw, Sweep}
+use Rattle.maxband_run.specs.Command.{Hold, Show, Check, CheckLinks, Solve, Links, Renew, Bands, Round, RoundFrom, Half, Draw, Sweep}
 use Rattle.maxband_run.specs.Solve.{IsSolution}
 use Rattle.maxband_run.specs.Links.{IsLinkSolution}
 use Rattle.maxband_run.specs.Renew.{IsRenewal}
@@ -95,3 +95,12 @@ returns-in_err-street-in-Some-Draw-clause-answered g c =
 pub returns-in_ok-draw_timing-in-Some-Draw-clause-answered : goal.returns-in_ok-draw_timing-in-Some-Draw-clause-answered
 returns-in_ok-draw_timing-in-Some-Draw-clause-answered g c =
     let told = may_put {asked = Some (Draw c.in-Some-Draw.artery.now c.in-Some-Draw.file.now c.in-Some-Draw.drawing.now)} (Ok c.in_ok-draw_timing-in-Some-Draw.field-0) c.in_ok-street-in-Some-Draw.ensures.read refl c.in_ok-draw_timing-in-Some-Draw.ensures.finds in search (rules, told)
+
+-- round-from
+pub returns-in_err-street-in-Some-RoundFrom-clause-answered : goal.returns-in_err-street-in-Some-RoundFrom-clause-answered
+returns-in_err-street-in-Some-RoundFrom-clause-answered g c =
+    let told = unread {asked = Some (RoundFrom c.in-Some-RoundFrom.artery.now c.in-Some-RoundFrom.certificate.now c.in-Some-RoundFrom.file.now c.in-Some-RoundFrom.plan.now)} _ c.in_err-street-in-Some-RoundFrom.ensures.unread in search (rules, told)
+
+pub returns-in_ok-round_from-in-Some-RoundFrom-clause-answered : goal.returns-in_ok-round_from-in-Some-RoundFrom-clause-answered
+returns-in_ok-round_from-in-Some-RoundFrom-clause-answered g c =
+    let told = may_put {asked = Some (RoundFrom c.in-Some-RoundFrom.artery.now c.in-Some-RoundFrom.certificate.now c.in-Some-RoundFrom.file.now c.in-Some-RoundFrom.plan.now)} (Ok c.in_ok-round_from-in-Some-RoundFrom.field-0) c.in_ok-street-in-Some-RoundFrom.ensures.read refl c.in_ok-round_from-in-Some-RoundFrom.ensures.finds in search (rules, told)
