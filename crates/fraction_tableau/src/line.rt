@@ -15,7 +15,7 @@ use crate::joining::{Joining, find_joining, join, joined};
 use crate::kept::Kept;
 use crate::loading::{fill_goal, fill_row};
 use crate::merging::{Merged, keep_before};
-use crate::narrowing::{divided_denominator, find_scale, grown, held_over, hold_lowest, hold_over};
+use crate::narrowing::{divided_denominator, grown, held_over, hold_narrow};
 use crate::scale::{AS_IT_IS, Scale, numerator_of};
 use crate::whole_turning::{Turning, turn_whole};
 use crate::wide_cell::WideCell;
@@ -254,13 +254,10 @@ impl Line {
         if self.scale.is_some() {
             return;
         }
-        match find_scale(&self.cells, self.count, &self.bound, self.denominator) {
-            Some(scale) => {
-                hold_over(&mut self.cells, self.count, scale);
-                self.bound = held_over(&self.bound, scale);
-                self.scale = Some(scale);
-            }
-            None => hold_lowest(&mut self.cells, self.count),
+        let scale = hold_narrow(&mut self.cells, self.count, &self.bound, self.denominator);
+        if let Some(scale) = scale {
+            self.bound = held_over(&self.bound, scale);
+            self.scale = Some(scale);
         }
     }
 

@@ -103,17 +103,49 @@ fn least_scale(cells: &[Kept], count: usize, bound: &Quotient) -> Option<Scale>
     }
 }
 
+/// A number held over a denominator, where it has a numerator there; else as it is. The same number.
+fn held_where(number: &Quotient, denominator: u64) -> Quotient
+    requires { 0 < denominator }
+    ensures { result ≡ number.now }
+{
+    match number.numerator_over(denominator) {
+        Some(numerator) => Quotient::of_words(numerator, denominator),
+        None => number.copied(),
+    }
+}
+
+/// The first `count` cells, each held over a denominator where it has a numerator there: the same numbers. So they are
+/// divided once, and then measured and read without a division.
+fn hold_where(cells: &mut [Kept], count: usize, denominator: u64)
+    requires { count ≤ length cells.old }
+    ensures { cells.new ≡ cells.old }
+{
+    if denominator == 0 {
+        return;
+    }
+    for index in 0..count {
+        cells[index].cell = held_where(&cells[index].cell, denominator);
+    }
+}
+
 /// The scale of the first `count` cells and the bound over the denominator without what it has in common with their
-/// numerators, or else over their least common one.
-fn divided_scale(cells: &[Kept], count: usize, bound: &Quotient, denominator: u64) -> Option<Scale>
-    requires { count ≤ length cells.now }
+/// numerators, over which the cells are held then, or else over their least common one.
+fn divided_scale(
+    cells: &mut [Kept],
+    count: usize,
+    bound: &Quotient,
+    denominator: u64,
+) -> Option<Scale>
+    requires { count ≤ length cells.old }
+    ensures same { cells.new ≡ cells.old }
     ensures above { IfSome result (λ scale. 0 < scale.denominator) }
     ensures least { IfSome result (λ scale. scale.denominator ≤ scale.most) }
     ensures short { IfSome result (λ scale. scale.most < 2 ^ 42) }
     ensures bound { IfSome result (λ scale. IsOver scale.denominator scale.most bound.now) }
-    ensures cells { IfSome result (λ scale. (i : ℕ) → i < count → IsOver scale.denominator scale.most (cell_at cells.now i)) }
+    ensures cells { IfSome result (λ scale. (i : ℕ) → i < count → IsOver scale.denominator scale.most (cell_at cells.old i)) }
 {
     let divided = divided_denominator(cells, count, bound, denominator);
+    hold_where(cells, count, divided);
     match measured_over(cells, count, bound, divided) {
         Some(scale) => Some(scale),
         None => least_scale(cells, count, bound),
@@ -122,13 +154,14 @@ fn divided_scale(cells: &[Kept], count: usize, bound: &Quotient, denominator: u6
 
 /// The scale of the first `count` cells and the bound, over the denominator that they may be held over, without what it has in
 /// common with their numerators, or else over their least common one.
-pub fn find_scale(cells: &[Kept], count: usize, bound: &Quotient, denominator: u64) -> Option<Scale>
-    requires { count ≤ length cells.now }
+fn find_scale(cells: &mut [Kept], count: usize, bound: &Quotient, denominator: u64) -> Option<Scale>
+    requires { count ≤ length cells.old }
+    ensures same { cells.new ≡ cells.old }
     ensures above { IfSome result (λ scale. 0 < scale.denominator) }
     ensures least { IfSome result (λ scale. scale.denominator ≤ scale.most) }
     ensures short { IfSome result (λ scale. scale.most < 2 ^ 42) }
     ensures bound { IfSome result (λ scale. IsOver scale.denominator scale.most bound.now) }
-    ensures cells { IfSome result (λ scale. (i : ℕ) → i < count → IsOver scale.denominator scale.most (cell_at cells.now i)) }
+    ensures cells { IfSome result (λ scale. (i : ℕ) → i < count → IsOver scale.denominator scale.most (cell_at cells.old i)) }
 {
     match measured_over(cells, count, bound, denominator) {
         Some(scale) => Some(scale),
@@ -147,7 +180,7 @@ pub fn held_over(number: &Quotient, scale: Scale) -> Quotient
 }
 
 /// The first `count` cells, held over the scale's denominator: the same numbers.
-pub fn hold_over(cells: &mut [Kept], count: usize, scale: Scale)
+fn hold_over(cells: &mut [Kept], count: usize, scale: Scale)
     requires count { count ≤ length cells.old }
     requires above { 0 < scale.denominator }
     requires short { scale.most < 2 ^ 42 }
@@ -160,12 +193,40 @@ pub fn hold_over(cells: &mut [Kept], count: usize, scale: Scale)
 }
 
 /// The first `count` cells, held in lowest terms: the same numbers.
-pub fn hold_lowest(cells: &mut [Kept], count: usize)
+fn hold_lowest(cells: &mut [Kept], count: usize)
     requires { count ≤ length cells.old }
     ensures { cells.new ≡ cells.old }
 {
     for index in 0..count {
         cells[index].cell = Quotient::of_fraction(cells[index].cell.fraction());
+    }
+}
+
+/// The first `count` cells, held over the scale that they and the bound have, where they have one, and else in lowest terms:
+/// the same numbers. `denominator` is one over which they may be held.
+pub fn hold_narrow(
+    cells: &mut [Kept],
+    count: usize,
+    bound: &Quotient,
+    denominator: u64,
+) -> Option<Scale>
+    requires { count ≤ length cells.old }
+    ensures same { cells.new ≡ cells.old }
+    ensures above { IfSome result (λ scale. 0 < scale.denominator) }
+    ensures least { IfSome result (λ scale. scale.denominator ≤ scale.most) }
+    ensures short { IfSome result (λ scale. scale.most < 2 ^ 42) }
+    ensures bound { IfSome result (λ scale. IsOver scale.denominator scale.most bound.now) }
+    ensures cells { IfSome result (λ scale. (i : ℕ) → i < count → IsOver scale.denominator scale.most (cell_at cells.old i)) }
+{
+    match find_scale(cells, count, bound, denominator) {
+        Some(scale) => {
+            hold_over(cells, count, scale);
+            Some(scale)
+        }
+        None => {
+            hold_lowest(cells, count);
+            None
+        }
     }
 }
 

@@ -12,9 +12,9 @@ invariant_of-self c =
     let i = c.self.inside in
     let s = c.in-Some.scale in
     let f = c.in-Some.ensures in
-    let e = c.hold_over.ensures ∙ c.deref_mut.ensures.value in
-    let same = with_items_is i.cells c.hold_over.new.cells (ap length e ∙ sym i.cells.ok.0) ∙ e in
-    let cells = subst (λ (t : List Kept). (k : ℕ) → k < i.count → IsOver s.denominator s.most (cell_at t k)) c.deref.ensures.value f.cells in
+    let e = c.hold_narrow-scale.ensures.same ∙ c.deref_mut.ensures.value in
+    let same = with_items_is i.cells c.hold_narrow-scale.new.cells (ap length e ∙ sym i.cells.ok.0) ∙ e in
+    let cells = subst (λ (t : List Kept). (k : ℕ) → k < i.count → IsOver s.denominator s.most (cell_at t k)) c.deref_mut.ensures.value f.cells in
     let made = scale_made s (length i.cells.items) i.count i.cells.items i.bound f.above f.least f.short f.bound cells in (
       subst (λ (t : List Kept). IsLine (length t) i.count (take i.count t)) (sym same) c.self.invariant.0,
       subst (λ (t : List Kept). IsScaled s (dense_row (length t) (take i.count t) c.held_over-self-inside.result)) (sym same)
