@@ -27,3 +27,4 @@ pub use kind::{Flaw, Kind, Refusal};
 pub use laws::law_no_fault_is_valid;
 pub use progression::{Dir, Head, Link, Pair, Signal, Text, Units};
 pub use ranges::{is_name, is_within};
+pub use runs::seconds;

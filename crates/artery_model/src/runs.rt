@@ -28,8 +28,8 @@ fn run(top: u32, bottom: u32, distance: u32, speed: Frac) -> Frac
     Frac::reduced(i128::from(top), bottom)
 }
 
-/// The seconds that a distance takes at a speed.
-pub(crate) fn seconds(units: Units, distance: u32, speed: Frac) -> Frac
+/// The seconds that a distance takes at a speed: the distance in metres or feet, the speed in km/h or miles an hour.
+pub fn seconds(units: Units, distance: u32, speed: Frac) -> Frac
     requires least { least_distance ≤ distance }
     requires most { distance ≤ most_distance }
     requires speed { IsQuantity least_speed most_speed speed }

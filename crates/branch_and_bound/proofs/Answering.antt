@@ -6,7 +6,7 @@ use Rattle.rational_theory.specs.Rational.{ℚ, ◌≤ℚ◌}
 use Rattle.rational_theory.proofs.Order.{≤ℚ_trans, <ℚ-≤ℚ, <ℚ_not-≤ℚ}
 use Rattle.search_box.specs.declared.span.At.{At}
 use Rattle.named_row.specs.declared.leaves.Leaf.{Leaf}
-use Rattle.branch_and_bound.specs.Lines.{Line, Fills, line_after}
+use Rattle.branch_and_bound.specs.Lines.{BoxLine, Fills, line_after}
 use Rattle.branch_and_bound.proofs.Walks.{Fills-at}
 use Rattle.branch_and_bound.specs.Lineages.{Cuts}
 use Rattle.branch_and_bound.specs.Rules.{Rules, IsMet}
@@ -40,13 +40,13 @@ under_trans (Some best) low v h k = ≤ℚ_trans best.value low v h k
 
 -- ---- nodes
 -- the node at an index, with its line
-pub there : {N : Type 0} (cut : N → Option At) (P : Line → N → Type 0) (lines : List Line) (nodes : List N) (index : ℕ) (node : N)
+pub there : {N : Type 0} (cut : N → Option At) (P : BoxLine → N → Type 0) (lines : List BoxLine) (nodes : List N) (index : ℕ) (node : N)
     → Fills cut P lines nodes → slice_get nodes index ≡ Some node → P (line_after cut lines (take index nodes)) node
 there cut P lines nodes index node h e =
     Fills-at cut P lines (take index nodes) node (drop (index + 1) nodes) (subst (λ ns. Fills cut P lines ns) (sym (cut_here nodes index node e)) h)
 
 -- a waiting leaf that was closed, since the best value is at least its bound
-pub record IsPassed {T K W : Type 0} (r : Rules T K W) (new : Option (Incumbent T)) (low : ℚ) (line : Line) (leaf : Leaf) : Type 0 where
+pub record IsPassed {T K W : Type 0} (r : Rules T K W) (new : Option (Incumbent T)) (low : ℚ) (line : BoxLine) (leaf : Leaf) : Type 0 where
   pub place : At
   pub end : r.ending line ≡ Cuts place
   pub covers : r.Covers line.area leaf (r.bound line)
@@ -54,12 +54,12 @@ pub record IsPassed {T K W : Type 0} (r : Rules T K W) (new : Option (Incumbent 
   pub under : r.bound line ≤ℚ low
 
 -- a closed leaf, under the best timing before the last parts and after them
-pub record IsDone {T K W : Type 0} (r : Rules T K W) (old new : Option (Incumbent T)) (low : ℚ) (line : Line) (leaf : Leaf) : Type 0 where
+pub record IsDone {T K W : Type 0} (r : Rules T K W) (old new : Option (Incumbent T)) (low : ℚ) (line : BoxLine) (leaf : Leaf) : Type 0 where
   pub lineage : IsMet r line
   pub leaf_is : r.IsLeaf line leaf
   pub shows : IsRefuted r line leaf ⊎ (IsRead r old line leaf ⊎ IsPassed r new low line leaf)
 
-pub record StillWaits {T K W : Type 0} (r : Rules T K W) (low : ℚ) (line : Line) (leaf : Leaf) : Type 0 where
+pub record StillWaits {T K W : Type 0} (r : Rules T K W) (low : ℚ) (line : BoxLine) (leaf : Leaf) : Type 0 where
   pub lineage : IsMet r line
   pub leaf_is : r.IsLeaf line leaf
   pub place : At
@@ -67,7 +67,7 @@ pub record StillWaits {T K W : Type 0} (r : Rules T K W) (low : ℚ) (line : Lin
   pub covers : r.Covers line.area leaf (r.bound line)
   pub under : r.bound line ≤ℚ low
 
-abbrev pub IsTreeNode : {T K W : Type 0} → Rules T K W → Option (Incumbent T) → Option (Incumbent T) → ℚ → Line → TreeNode → Type 0
+abbrev pub IsTreeNode : {T K W : Type 0} → Rules T K W → Option (Incumbent T) → Option (Incumbent T) → ℚ → BoxLine → TreeNode → Type 0
 IsTreeNode r old new low line (tree.Split place point) = IsSplit r low line place point
 IsTreeNode r old new low line (tree.Closed leaf) = IsDone r old new low line leaf
 IsTreeNode r old new low line (tree.Waiting leaf) = StillWaits r low line leaf
@@ -85,7 +85,7 @@ shown_cut new spared i (Waiting area leaf bound place point kept) (tree.Waiting 
 
 -- a node as it is answered
 pub node_shown : {T K W : Type 0} (r : Rules T K W) (old new : Option (Incumbent T)) (top low : ℚ) (spared : Option ℕ) → low ≤ℚ top
-    → (i : ℕ) (line : Line) (node : Node K) (other : TreeNode) → IsShown new spared i node other
+    → (i : ℕ) (line : BoxLine) (node : Node K) (other : TreeNode) → IsShown new spared i node other
     → IsNode r old top line node × ((bound : ℚ) → bound_of node ≡ Some bound → bound ≤ℚ low) → IsTreeNode r old new low line other
 node_shown r old new top low spared l i line (Split place point) (tree.Split at vertex) s (h, b) = record {
   lineage = h.lineage;
@@ -126,14 +126,14 @@ node_shown r old new top low spared l i line (Waiting area leaf bound place poin
       under = subst (λ q. q ≤ℚ low) h.bounds.bound_is (b bound refl);
     } in subst (λ m. StillWaits r low line m) (sym s.0) here
 
-pub best_shown : {T K W : Type 0} (r : Rules T K W) (new : Option (Incumbent T)) (spared : Option ℕ) (value : ℚ) (i : ℕ) (line : Line) (node : Node K) (other : TreeNode)
+pub best_shown : {T K W : Type 0} (r : Rules T K W) (new : Option (Incumbent T)) (spared : Option ℕ) (value : ℚ) (i : ℕ) (line : BoxLine) (node : Node K) (other : TreeNode)
     → IsShown new spared i node other → IsBestLeaf r value line (place_of node) → IsBestLeaf r value line (cut_of other)
 best_shown r new spared value i line node other s h = subst (λ c. IsBestLeaf r value line c) (sym (shown_cut new spared i node other s)) h
 
 -- ---- what the nodes of an answer must be
 -- a split falls where its end shows, and a leaf is that of its end
 pub needed_node : {T K W : Type 0} (r : Rules T K W) (old new : Option (Incumbent T)) (low : ℚ) → ((v : ℚ) → IsReached v old → IsReached v new) → IsUnder new low
-    → (line : Line) (node : TreeNode) → IsTreeNode r old new low line node → IsNeededNode r new line node
+    → (line : BoxLine) (node : TreeNode) → IsTreeNode r old new low line node → IsNeededNode r new line node
 needed_node r old new low f under line (tree.Split place point) h = record { end = h.end; vertex_is = h.vertex_is; worth = under_trans new low (r.bound line) under h.over }
 needed_node r old new low f under line (tree.Closed leaf) h = record {
   leaf_is = h.leaf_is;
@@ -145,7 +145,7 @@ needed_node r old new low f under line (tree.Closed leaf) h = record {
 needed_node r old new low f under line (tree.Waiting leaf) h = record { leaf_is = h.leaf_is; reached = λ reads. let e = h.end in cc }
 
 -- a closed leaf is over
-pub closed_over : {T K W : Type 0} (r : Rules T K W) (old new : Option (Incumbent T)) (low : ℚ) (line : Line) (leaf : Leaf) → IsDone r old new low line leaf → IsOver r new line
+pub closed_over : {T K W : Type 0} (r : Rules T K W) (old new : Option (Incumbent T)) (low : ℚ) (line : BoxLine) (leaf : Leaf) → IsDone r old new low line leaf → IsOver r new line
 closed_over r old new low line leaf h = elim (h.shows) [
   | inl k ↦ inl k.end
   | inr k ↦ elim k [ inl m ↦ inr (inl m.end) | inr m ↦ inr (inr m.reached) ]

@@ -8,7 +8,7 @@ use Rattle.rational_theory.specs.Rational.{ℚ}
 use Rattle.search_box.specs.declared.span.At.{At}
 use Rattle.search_box.specs.Places.{IsPlace}
 use Rattle.named_row.specs.declared.leaves.Leaf.{Leaf}
-use Rattle.branch_and_bound.specs.Lines.{Line, top_line, low_line, high_line, Fills, total, line_after}
+use Rattle.branch_and_bound.specs.Lines.{BoxLine, top_line, low_line, high_line, Fills, total, line_after}
 use Rattle.branch_and_bound.specs.Volumes.{volume}
 use Rattle.branch_and_bound.specs.Choices.{choices}
 use Rattle.branch_and_bound.proofs.Volumes.{volume_split, volume_positive, volume_same}
@@ -41,12 +41,12 @@ cuts_match i [] = tt
 cuts_match i (node ∷ nodes) = (refl, cuts_match _ nodes)
 
 -- the nodes that trees of these lines can have
-abbrev room : List Line → ℕ
+abbrev room : List BoxLine → ℕ
 room [] = 0
 room (line ∷ lines) = (2 * volume line.area - 1) + room lines
 
 -- what is asked of a node to count it
-record IsCounted {T K W : Type 0} (r : Rules T K W) (most : ℕ) (line : Line) (cut : Option At) : Type 0 where
+record IsCounted {T K W : Type 0} (r : Rules T K W) (most : ℕ) (line : BoxLine) (cut : Option At) : Type 0 where
   cost : 1 + r.steps line ≤ most
   inside : (place : At) → cut ≡ Some place → IsPlace line.area place
 
@@ -60,7 +60,7 @@ one_room c t p q most a e b =
     let f : 1 + q ≤ (2 * p - 1) + q = omega arith in
     omega (arith, mul-le-mul_right most f)
 
-total_under : {T K W : Type 0} (r : Rules T K W) (most : ℕ) (lines : List Line) (cs : List (Option At)) → Fills own (IsCounted r most) lines cs → total own (cost_of r) lines cs ≤ room lines * most
+total_under : {T K W : Type 0} (r : Rules T K W) (most : ℕ) (lines : List BoxLine) (cs : List (Option At)) → Fills own (IsCounted r most) lines cs → total own (cost_of r) lines cs ≤ room lines * most
 total_under r most lines [] h = omega arith
 total_under r most [] (c ∷ cs) h = omega arith
 total_under r most (line ∷ lines) (Some place ∷ cs) h =
@@ -71,14 +71,14 @@ total_under r most (line ∷ lines) (None ∷ cs) h =
     one_room (1 + r.steps line) (total own (cost_of r) lines cs) (volume line.area) (room lines) most h.0.cost (volume_positive line.area) (total_under r most lines cs h.1)
 
 -- ---- the lines of a needed tree are met
-abbrev AllMet : {T K W : Type 0} → Rules T K W → List Line → Type 0
+abbrev AllMet : {T K W : Type 0} → Rules T K W → List BoxLine → Type 0
 AllMet r [] = Unit {0}
 AllMet r (line ∷ lines) = IsMet r line × AllMet r lines
 
-abbrev IsMetNode : {T K W : Type 0} → Rules T K W → Option (Incumbent T) → Line → TreeNode → Type 0
+abbrev IsMetNode : {T K W : Type 0} → Rules T K W → Option (Incumbent T) → BoxLine → TreeNode → Type 0
 IsMetNode r best line node = IsNeededNode r best line node × IsMet r line
 
-lineages : {T K W : Type 0} (r : Rules T K W) (best : Option (Incumbent T)) (lines : List Line) (nodes : List TreeNode) → AllMet r lines → Fills cut_of (IsNeededNode r best) lines nodes → Fills cut_of (IsMetNode r best) lines nodes
+lineages : {T K W : Type 0} (r : Rules T K W) (best : Option (Incumbent T)) (lines : List BoxLine) (nodes : List TreeNode) → AllMet r lines → Fills cut_of (IsNeededNode r best) lines nodes → Fills cut_of (IsMetNode r best) lines nodes
 lineages r best lines [] a h = h
 lineages r best [] (node ∷ nodes) a h = h
 lineages r best (line ∷ lines) (Split place point ∷ nodes) a h =
@@ -86,7 +86,7 @@ lineages r best (line ∷ lines) (Split place point ∷ nodes) a h =
 lineages r best (line ∷ lines) (Closed leaf ∷ nodes) a h = ((h.0, a.0), lineages r best lines nodes a.1 h.1)
 lineages r best (line ∷ lines) (Waiting leaf ∷ nodes) a h = ((h.0, a.0), lineages r best lines nodes a.1 h.1)
 
-counted : {T K W : Type 0} (r : Rules T K W) (best : Option (Incumbent T)) (most : ℕ) → IsShort r most → (i : ℕ) (line : Line) (node : TreeNode) (cut : Option At) → cut ≡ cut_of node → IsMetNode r best line node → IsCounted r most line cut
+counted : {T K W : Type 0} (r : Rules T K W) (best : Option (Incumbent T)) (most : ℕ) → IsShort r most → (i : ℕ) (line : BoxLine) (node : TreeNode) (cut : Option At) → cut ≡ cut_of node → IsMetNode r best line node → IsCounted r most line cut
 counted r best most s i line (Split p point) cut e h =
     record { cost = s.cost line h.1; inside = λ place f. let q : p ≡ place = cc in subst (λ x. IsPlace line.area x) q (r.inside line p h.1 h.0.end) }
 counted r best most s i line (Closed leaf) cut e h = record { cost = s.cost line h.1; inside = λ place f. cc }
@@ -126,7 +126,7 @@ record IsRoomy {T K W : Type 0} (r : Rules T K W) (nodes : List TreeNode) (spot 
   low : IsMet r (low_of r nodes spot)
   high : IsMet r (high_of r nodes spot)
 
-undone_under : {T K W : Type 0} (r : Rules T K W) → r.IsSound → (best : Option (Incumbent T)) (nodes : List TreeNode) (part : Option Line) (spot : Spot) (most : ℕ)
+undone_under : {T K W : Type 0} (r : Rules T K W) → r.IsSound → (best : Option (Incumbent T)) (nodes : List TreeNode) (part : Option BoxLine) (spot : Spot) (most : ℕ)
     → IsNeeded r nodes best part → IsSpot r nodes spot → IsShort r most → IsRoomy r nodes spot most
 undone_under r sound best nodes part spot most h s short =
     let lines = lines_of r in

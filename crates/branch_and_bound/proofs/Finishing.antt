@@ -7,7 +7,7 @@ use Rattle.rational_theory.proofs.Order.{≤ℚ_refl}
 use Rattle.progression.specs.Speeds.{number}
 use Rattle.linear_theory.specs.Boxes.{Area}
 use Rattle.named_row.specs.declared.leaves.Leaf.{Leaf}
-use Rattle.branch_and_bound.specs.Lines.{Line, Fills, Finds}
+use Rattle.branch_and_bound.specs.Lines.{BoxLine, Fills, Finds}
 use Rattle.branch_and_bound.proofs.Walks.{Fills-map, Fills-each}
 use Rattle.branch_and_bound.specs.Matchings.{Matches}
 use Rattle.branch_and_bound.proofs.Matchings.{Fills-match, Finds-match, total-match}
@@ -40,7 +40,7 @@ settled_not best i (Waiting area leaf bound place point kept) (tree.Waiting show
   | inr k ↦ cc
 ]
 
-own_bounds : {T K W : Type 0} (r : Rules T K W) (best : Option (Incumbent T)) (top : ℚ) (line : Line) (node : Node K) → IsNode r best top line node → (bound : ℚ) → bound_of node ≡ Some bound → bound ≤ℚ top
+own_bounds : {T K W : Type 0} (r : Rules T K W) (best : Option (Incumbent T)) (top : ℚ) (line : BoxLine) (node : Node K) → IsNode r best top line node → (bound : ℚ) → bound_of node ≡ Some bound → bound ≤ℚ top
 own_bounds r best top line (Split place point) h bound e = cc
 own_bounds r best top line (Closed leaf) h bound e = cc
 own_bounds r best top line (Waiting area leaf b place point kept) h bound e =
@@ -61,7 +61,7 @@ refuted : {T K W : Type 0} (r : Rules T K W) (best : Option (Incumbent T)) (area
 refuted r None area leaf h = h
 refuted r (Some best) area leaf h = inl h
 
-accepted_node : {T K W : Type 0} (r : Rules T K W) (best : Option (Incumbent T)) (top : ℚ) (line : Line) (node : TreeNode) → IsTreeNode r best best top line node × IsNotWaiting node → IsAcceptedNode r (value_of best) line node
+accepted_node : {T K W : Type 0} (r : Rules T K W) (best : Option (Incumbent T)) (top : ℚ) (line : BoxLine) (node : TreeNode) → IsTreeNode r best best top line node × IsNotWaiting node → IsAcceptedNode r (value_of best) line node
 accepted_node r best top line (tree.Split place point) (h, n) = r.inside line place h.lineage h.end
 accepted_node r best top line (tree.Closed leaf) (h, n) = elim (h.shows) [
   | inl k ↦ refuted r best line.area leaf k.refutes

@@ -2,7 +2,7 @@
 use Rattle.std.proofs.Common.{◌≡◌, ℕ, zero, suc, ◌+◌, inl, inr, List, [], ◌∷◌, ◌++◌, Option, Some, refl, sym, subst, ap, ◌∙◌, take, length, arith}
 use Rattle.std.specs.List.{slice_get}
 use Rattle.search_box.specs.declared.span.At.{At}
-use Rattle.branch_and_bound.specs.Lines.{Line, owed, Fills, Finds, total, line_after}
+use Rattle.branch_and_bound.specs.Lines.{BoxLine, owed, Fills, Finds, total, line_after}
 use Rattle.branch_and_bound.specs.Matchings.{Matches}
 
 -- one more of each
@@ -51,8 +51,8 @@ Matches-back R i nodes others index node h e = Matches-at (λ j other this. R j 
 
 module _ {N M : Type 0} (cut : N → Option At) (cut_other : M → Option At) (R : ℕ → N → M → Type 0) (same : (i : ℕ) (node : N) (other : M) → R i node other → cut_other other ≡ cut node) where
   -- what the nodes tell of their lines, the others tell too
-  pub Fills-match : (P : Line → N → Type 0) (Q : Line → M → Type 0) → ((i : ℕ) (line : Line) (node : N) (other : M) → R i node other → P line node → Q line other)
-      → (i : ℕ) (lines : List Line) (nodes : List N) (others : List M) → Matches R i nodes others → Fills cut P lines nodes → Fills cut_other Q lines others
+  pub Fills-match : (P : BoxLine → N → Type 0) (Q : BoxLine → M → Type 0) → ((i : ℕ) (line : BoxLine) (node : N) (other : M) → R i node other → P line node → Q line other)
+      → (i : ℕ) (lines : List BoxLine) (nodes : List N) (others : List M) → Matches R i nodes others → Fills cut P lines nodes → Fills cut_other Q lines others
   Fills-match P Q f i lines [] [] m h = h
   Fills-match P Q f i lines [] (o ∷ others) m h = absurd m
   Fills-match P Q f i lines (n ∷ nodes) [] m h = absurd m
@@ -60,8 +60,8 @@ module _ {N M : Type 0} (cut : N → Option At) (cut_other : M → Option At) (R
   Fills-match P Q f i (line ∷ lines) (n ∷ nodes) (o ∷ others) m h =
       (f i line n o m.0 h.0, subst (λ c. Fills cut_other Q (owed c line lines) others) (sym (same i n o m.0)) (Fills-match P Q f (suc i) (owed (cut n) line lines) nodes others m.1 h.1))
 
-  pub Finds-match : (P : Line → N → Type 0) (Q : Line → M → Type 0) → ((i : ℕ) (line : Line) (node : N) (other : M) → R i node other → P line node → Q line other)
-      → (i : ℕ) (lines : List Line) (nodes : List N) (others : List M) → Matches R i nodes others → Finds cut P lines nodes → Finds cut_other Q lines others
+  pub Finds-match : (P : BoxLine → N → Type 0) (Q : BoxLine → M → Type 0) → ((i : ℕ) (line : BoxLine) (node : N) (other : M) → R i node other → P line node → Q line other)
+      → (i : ℕ) (lines : List BoxLine) (nodes : List N) (others : List M) → Matches R i nodes others → Finds cut P lines nodes → Finds cut_other Q lines others
   Finds-match P Q f i lines [] [] m h = h
   Finds-match P Q f i lines [] (o ∷ others) m h = absurd m
   Finds-match P Q f i lines (n ∷ nodes) [] m h = absurd m
@@ -71,7 +71,7 @@ module _ {N M : Type 0} (cut : N → Option At) (cut_other : M → Option At) (R
       inr (subst (λ c. Finds cut_other Q (owed c line lines) others) (sym (same i n o m.0)) (Finds-match P Q f (suc i) (owed (cut n) line lines) nodes others m.1 h))
 
   -- both cost the same
-  pub total-match : (cost : Line → ℕ) (i : ℕ) (lines : List Line) (nodes : List N) (others : List M) → Matches R i nodes others
+  pub total-match : (cost : BoxLine → ℕ) (i : ℕ) (lines : List BoxLine) (nodes : List N) (others : List M) → Matches R i nodes others
       → total cut cost lines nodes ≡ total cut_other cost lines others
   total-match cost i lines [] [] m = refl
   total-match cost i lines [] (o ∷ others) m = absurd m
@@ -83,7 +83,7 @@ module _ {N M : Type 0} (cut : N → Option At) (cut_other : M → Option At) (R
       omega (arith, e, f)
 
   -- nodes at the same index have the same line
-  pub line_after-match : (i : ℕ) (index : ℕ) (lines : List Line) (nodes : List N) (others : List M) → Matches R i nodes others
+  pub line_after-match : (i : ℕ) (index : ℕ) (lines : List BoxLine) (nodes : List N) (others : List M) → Matches R i nodes others
       → line_after cut lines (take index nodes) ≡ line_after cut_other lines (take index others)
   line_after-match i zero [] nodes others m = refl
   line_after-match i zero (line ∷ lines) nodes others m = refl

@@ -6,7 +6,7 @@ use Rattle.search_box.specs.declared.span.At.{At}
 use Rattle.search_box.specs.Places.{IsPlace, low_part, high_part}
 use Rattle.named_row.specs.declared.leaves.Leaf.{Leaf}
 use Rattle.named_row.specs.declared.leaves.Point.{Point}
-use Rattle.branch_and_bound.specs.Lines.{Line}
+use Rattle.branch_and_bound.specs.Lines.{BoxLine}
 use Rattle.branch_and_bound.proofs.BoxReadings.{Fills-read}
 use Rattle.branch_and_bound.specs.Rules.{Rules}
 use Rattle.branch_and_bound.specs.Answer.{cut_of, lines_of, IsProof, IsAcceptedNode, IsAccepted}
@@ -21,13 +21,13 @@ pub record ReadsAnswers {T K W : Type 0} (r : Rules T K W) (claim : Option ℚ) 
   pub waiting : (box : Area) (boxes : List Area) (leaf : Leaf) (nodes : List TreeNode) → IsProof r claim box leaf → Q boxes nodes → Q (box ∷ boxes) (Waiting leaf ∷ nodes)
 
 read_leaf : {T K W : Type 0} (r : Rules T K W) (claim : Option ℚ) (Q : List Area → List TreeNode → Type 0) → ReadsAnswers r claim Q
-    → (line : Line) (boxes : List Area) (node : TreeNode) (nodes : List TreeNode) → cut_of node ≡ None → IsAcceptedNode r claim line node → Q boxes nodes → Q (line.area ∷ boxes) (node ∷ nodes)
+    → (line : BoxLine) (boxes : List Area) (node : TreeNode) (nodes : List TreeNode) → cut_of node ≡ None → IsAcceptedNode r claim line node → Q boxes nodes → Q (line.area ∷ boxes) (node ∷ nodes)
 read_leaf r claim Q h line boxes (Split place point) nodes e p q = cc
 read_leaf r claim Q h line boxes (Closed leaf) nodes e p q = h.closed line.area boxes leaf nodes p q
 read_leaf r claim Q h line boxes (Waiting leaf) nodes e p q = h.waiting line.area boxes leaf nodes p q
 
 read_split : {T K W : Type 0} (r : Rules T K W) (claim : Option ℚ) (Q : List Area → List TreeNode → Type 0) → ReadsAnswers r claim Q
-    → (line : Line) (boxes : List Area) (place : At) (node : TreeNode) (nodes : List TreeNode) → cut_of node ≡ Some place → IsAcceptedNode r claim line node
+    → (line : BoxLine) (boxes : List Area) (place : At) (node : TreeNode) (nodes : List TreeNode) → cut_of node ≡ Some place → IsAcceptedNode r claim line node
     → Q (low_part line.area place ∷ high_part line.area place ∷ boxes) nodes → Q (line.area ∷ boxes) (node ∷ nodes)
 read_split r claim Q h line boxes place (Split at point) nodes e p q =
     let same : at ≡ place = cc in

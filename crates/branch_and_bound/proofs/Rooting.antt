@@ -5,22 +5,21 @@ use Rattle.std.specs.List.{slice_get}
 use Rattle.rational_theory.specs.Rational.{ℚ, ◌≤ℚ◌}
 use Rattle.rational_theory.proofs.Order.{≤ℚ_refl}
 use Rattle.named_row.specs.declared.leaves.Leaf.{Leaf}
-use Rattle.branch_and_bound.specs.Lines.{Line, top_line, owed, Fills, Finds, total}
+use Rattle.branch_and_bound.specs.Lines.{BoxLine, top_line, owed, Fills, Finds, total}
 use Rattle.branch_and_bound.specs.Lineages.{IsOptimal, at_top}
 use Rattle.branch_and_bound.specs.Rules.{Rules}
 use Rattle.work_meter.specs.Work.{IsWithin}
 use Rattle.branch_and_bound.specs.OpenedNodes.{Finishes}
 use Rattle.branch_and_bound.specs.Answer.{lines_of, cost_of, IsBestLeaf, IsSorted, RootLeft, RootUnread, IsStoppedAnswer}
-use Rattle.branch_and_bound.specs.State.{place_of, IsNode, IsBetter, IsLeafNow, IsStuck, IsLeftBy, IsSearchState, stop_of}
+use Rattle.branch_and_bound.specs.State.{place_of, IsNode, IsBetter, IsLeafNow, IsStuck, IsLeftBy, IsSearchState}
 use Rattle.work_meter.specs.declared.meter.Meter.{Meter}
 use Rattle.branch_and_bound.specs.declared.incumbent.Incumbent.{Incumbent}
 use Rattle.branch_and_bound.specs.declared.node.Node.{Node}
 use Rattle.branch_and_bound.specs.declared.node.Node.TheVariants.{Split, Closed, Waiting}
 use Rattle.branch_and_bound.specs.declared.node.TreeNode.TheVariants as tree
 use Rattle.branch_and_bound.specs.declared.found.Site.{Site}
-use Rattle.branch_and_bound.specs.declared.found.Stop.TheVariants.{Wide}
-use Rattle.branch_and_bound.specs.declared.settle.Cause.{Cause}
-use Rattle.branch_and_bound.specs.declared.settle.Cause.TheVariants.{NoWork, WorkOut, Refused}
+use Rattle.branch_and_bound.specs.declared.found.Stop.{Stop}
+use Rattle.branch_and_bound.specs.declared.found.Stop.TheVariants.{Work, Wide}
 use Rattle.branch_and_bound.proofs.Growing.{good_still, under_still}
 
 -- ---- a root that was finished
@@ -32,10 +31,10 @@ root_found r new node e (inr h) =
     subst (λ (o : Option (Incumbent _)). IfSome o (λ b. Finds place_of (λ line node. IsBestLeaf r b.value line (place_of node)) (lines_of r) (node ∷ []))) (sym h.new_is) here
 
 -- a tree of the root alone
-one_node : {T K W : Type 0} (r : Rules T K W) (P : Line → Node K → Type 0) (node : Node K) → place_of node ≡ None → P (top_line r.root) node → Fills place_of P (lines_of r) (node ∷ [])
+one_node : {T K W : Type 0} (r : Rules T K W) (P : BoxLine → Node K → Type 0) (node : Node K) → place_of node ≡ None → P (top_line r.root) node → Fills place_of P (lines_of r) (node ∷ [])
 one_node r P node e p = (p, nothing_owed r P node e)
   where
-    nothing_owed : {T K W : Type 0} (r : Rules T K W) (P : Line → Node K → Type 0) (node : Node K) → place_of node ≡ None → Fills place_of P (owed (place_of node) (top_line r.root) []) []
+    nothing_owed : {T K W : Type 0} (r : Rules T K W) (P : BoxLine → Node K → Type 0) (node : Node K) → place_of node ≡ None → Fills place_of P (owed (place_of node) (top_line r.root) []) []
     nothing_owed r P (Split place point) e = cc
     nothing_owed r P (Closed leaf) e = tt
     nothing_owed r P (Waiting area leaf bound place point kept) e = tt
@@ -96,27 +95,26 @@ root_stuck r limit None before after leaf bound site sound e l f h =
       cause = record { area_is = h.area_is; pivots_is = h.opens.pivots_is; part_is = h.opens.part_is };
     }
 
-pub root_left : {T K W : Type 0} (r : Rules T K W) (limit : Option ℕ) (new : Option (Incumbent T)) (before after : Meter) (leaf : Leaf) (bound : ℚ) (cause : Cause W)
+pub root_left : {T K W : Type 0} (r : Rules T K W) (limit : Option ℕ) (new : Option (Incumbent T)) (before after : Meter) (leaf : Leaf) (bound : ℚ) (stop : Stop W)
     → before.spent ≡ 0 → after.limit ≡ limit → new ≡ None
     → r.IsStart leaf → bound ≡ r.start_bound → r.Covers r.root leaf bound
-    → IsLeftBy r (top_line r.root) before after cause
-    → IsStoppedAnswer r limit (tree.Waiting leaf ∷ []) new bound after.spent (stop_of cause after.spent)
-root_left r limit (Some best) before after leaf bound cause e l f start bound_is covers h = cc
-root_left r limit None before after leaf bound NoWork e l f start bound_is covers h = absurd h
-root_left r limit None before after leaf bound WorkOut e l f start bound_is covers h = record {
-  case = RootLeft h.0;
+    → IsLeftBy r (top_line r.root) before after stop
+    → IsStoppedAnswer r limit (tree.Waiting leaf ∷ []) new bound after.spent stop
+root_left r limit (Some best) before after leaf bound stop e l f start bound_is covers h = cc
+root_left r limit None before after leaf bound (Work units) e l f start bound_is covers (same, k, unfinished, out) = record {
+  case = RootLeft k;
   accepted = (inr covers, tt);
   good = tt;
-  spot = h.1;
+  spot = unfinished;
   left = tt;
   read = tt;
   needed = record { leaf = leaf; nodes_are = refl; leaf_is = start; bound_is = bound_is; best_is = refl };
   sorted = one_waits r leaf None;
-  units = let s = h.3.spent in omega (arith, s, e);
-  within = subst (IsWithin after.spent) l h.3.within;
-  cause = (refl, sym l ∙ h.4, h.2);
+  units = let s = out.leaves.spent in omega (arith, s, e);
+  within = subst (IsWithin after.spent) l out.leaves.within;
+  cause = (same, sym l ∙ out.spent, out.due);
 }
-root_left r limit None before after leaf bound (Refused site) e l f start bound_is covers h = record {
+root_left r limit None before after leaf bound (Wide site) e l f start bound_is covers h = record {
   case = RootLeft h.0;
   accepted = (inr covers, tt);
   good = tt;
@@ -125,7 +123,7 @@ root_left r limit None before after leaf bound (Refused site) e l f start bound_
   read = tt;
   needed = record { leaf = leaf; nodes_are = refl; leaf_is = start; bound_is = bound_is; best_is = refl };
   sorted = one_waits r leaf None;
-  units = let s = h.3.spent in omega (arith, s, e);
-  within = subst (IsWithin after.spent) l h.3.within;
-  cause = h.2;
+  units = let s = h.2.leaves.spent in omega (arith, s, e);
+  within = subst (IsWithin after.spent) l h.2.leaves.within;
+  cause = h.2.is;
 }

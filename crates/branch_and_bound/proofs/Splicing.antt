@@ -9,7 +9,7 @@ use Rattle.search_box.specs.declared.span.At.{At}
 use Rattle.search_box.specs.Places.{IsPlace}
 use Rattle.named_row.specs.declared.leaves.Leaf.{Leaf}
 use Rattle.named_row.specs.declared.leaves.Point.{Point}
-use Rattle.branch_and_bound.specs.Lines.{Line, low_line, high_line, Fills}
+use Rattle.branch_and_bound.specs.Lines.{BoxLine, low_line, high_line, Fills}
 use Rattle.branch_and_bound.proofs.Walks.{Fills-at}
 use Rattle.branch_and_bound.specs.Volumes.{volume}
 use Rattle.branch_and_bound.proofs.Volumes.{volume_split, volume_positive}
@@ -19,7 +19,7 @@ use Rattle.branch_and_bound.specs.Incumbents.{IsUnder}
 use Rattle.branch_and_bound.specs.Greatest.{IsOverBound, bound_of, Waits}
 use Rattle.branch_and_bound.specs.Answer.{lines_of}
 use Rattle.branch_and_bound.specs.State.{place_of, IsNode, IsWaiting, IsCut, IsBoth, IsSearchState, IsGrown, line_there, spliced, split_from, weight, weights}
-use Rattle.work_meter.specs.declared.meter.Meter.{Meter}
+use Rattle.branch_and_bound.specs.declared.progress.Progress.{Progress}
 use Rattle.branch_and_bound.specs.declared.incumbent.Incumbent.{Incumbent}
 use Rattle.branch_and_bound.specs.declared.node.Node.{Node}
 use Rattle.branch_and_bound.specs.declared.node.Node.TheVariants.{Split, Closed, Waiting}
@@ -51,11 +51,11 @@ node_at r nodes best top index node h e =
     Fills-at place_of (IsNode r best top) (lines_of r) (take index nodes) node (drop (index + 1) nodes)
     (subst (λ ns. Fills place_of (IsNode r best top) (lines_of r) ns) (sym (cut_here nodes index node e)) h)
 
-pub is_cut : {T K W : Type 0} (r : Rules T K W) (top : ℚ) (line : Line) (area : Area) (leaf : Leaf) (bound : ℚ) (place : At) (point : Point) (kept : K)
+pub is_cut : {T K W : Type 0} (r : Rules T K W) (top : ℚ) (line : BoxLine) (area : Area) (leaf : Leaf) (bound : ℚ) (place : At) (point : Point) (kept : K)
     → IsWaiting r top line area leaf bound place point kept → IsCut r line area place kept
 is_cut r top line area leaf bound place point kept h = record { lineage = h.lineage; area_is = h.area_is; end = h.end; kept_is = h.kept_is }
 
-pub is_inside : {T K W : Type 0} (r : Rules T K W) (line : Line) (area : Area) (place : At) (kept : K) → IsCut r line area place kept → IsPlace area place
+pub is_inside : {T K W : Type 0} (r : Rules T K W) (line : BoxLine) (area : Area) (place : At) (kept : K) → IsCut r line area place kept → IsPlace area place
 is_inside r line area place kept h = subst (λ a. IsPlace a place) (sym h.area_is) (r.inside line place h.lineage h.end)
 
 -- the node that waits is no other
@@ -77,7 +77,21 @@ weights_append : {K : Type 0} (xs ys : List (Node K)) → weights (xs ++ ys) ≡
 weights_append [] ys = omega arith
 weights_append (x ∷ xs) ys = omega (arith, weights_append xs ys)
 
-weight_of : {T K W : Type 0} (r : Rules T K W) (best : Option (Incumbent T)) (top : ℚ) (line : Line) (node : Node K) → IsNode r best top line node → weight node ≤ 2 * volume line.area - 1
+-- a node that was taken as the one with the greatest bound, and waits
+pub record IsTaken {T K W : Type 0} (r : Rules T K W) (nodes : List (Node K)) (index : ℕ) (bound top : ℚ) (area : Area) (leaf : Leaf) (b : ℚ) (place : At) (point : Point) (kept : K) : Type 0 where
+  pub at : slice_get nodes index ≡ Some (Waiting area leaf b place point kept)
+  pub same : b ≡ bound
+  pub waits : IsWaiting r top (line_there r nodes index) area leaf b place point kept
+
+pub taken : {T K W : Type 0} (r : Rules T K W) (nodes : List (Node K)) (index : ℕ) (bound : ℚ) (best : Option (Incumbent T)) (top : ℚ) (spent : ℕ)
+    (node : Node K) (area : Area) (leaf : Leaf) (b : ℚ) (place : At) (point : Point) (kept : K)
+    → IsSearchState r nodes best top spent → Waits nodes index bound → node ≡ get_or nodes index node → node ≡ Waiting area leaf b place point kept
+    → IsTaken r nodes index bound top area leaf b place point kept
+taken r nodes index bound best top spent node area leaf b place point kept h waits read is =
+    let w = waiting_node nodes index bound node area leaf b place point kept waits read is in
+    record { at = w.0; same = w.1; waits = node_at r nodes best top index (Waiting area leaf b place point kept) h.tree w.0 }
+
+weight_of : {T K W : Type 0} (r : Rules T K W) (best : Option (Incumbent T)) (top : ℚ) (line : BoxLine) (node : Node K) → IsNode r best top line node → weight node ≤ 2 * volume line.area - 1
 weight_of r best top line (Split place point) h = omega arith
 weight_of r best top line (Closed leaf) h = omega arith
 weight_of r best top line (Waiting area leaf bound place point kept) h = omega (arith, ap volume h.area_is)
@@ -87,27 +101,27 @@ lighter_by a b p e h k = omega arith
 
 -- ---- the split
 is_grown : {T K W : Type 0} (r : Rules T K W) (nodes : List (Node K)) (index : ℕ) (area : Area) (leaf : Leaf) (bound : ℚ) (place : At) (point : Point) (kept : K)
-    (best new : Option (Incumbent T)) (top : ℚ) (before after : Meter) (low high : Node K)
-    → IsSearchState r nodes best top before.spent
+    (old new : Progress T) (top : ℚ) (low high : Node K)
+    → IsSearchState r nodes old.incumbent top old.meter.spent
     → slice_get nodes index ≡ Some (Waiting area leaf bound place point kept)
     → All (λ node. IsOverBound (Some (record { index = index; bound = bound })) (bound_of node)) nodes
-    → IsUnder best bound
-    → IsBoth r (line_there r nodes index) place best new before after low high
-    → IsGrown r nodes (spliced nodes index place point low high) new after
-is_grown r nodes index area leaf bound place point kept best new top before after low high h e over under both =
+    → IsUnder old.incumbent bound
+    → IsBoth r (line_there r nodes index) place old new low high
+    → IsGrown r nodes (spliced nodes index place point low high) new
+is_grown r nodes index area leaf bound place point kept old new top low high h e over under both =
     let node = Waiting area leaf bound place point kept in
     let whole = cut_here nodes index node e in
     let line = line_there r nodes index in
-    let w : IsWaiting r top line area leaf bound place point kept = node_at r nodes best top index node h.tree e in
-    let again : IsSearchState r (take index nodes ++ node ∷ drop (index + 1) nodes) best top before.spent = subst (λ ns. IsSearchState r ns best top before.spent) (sym whole) h in
+    let w : IsWaiting r top line area leaf bound place point kept = node_at r nodes old.incumbent top index node h.tree e in
+    let again : IsSearchState r (take index nodes ++ node ∷ drop (index + 1) nodes) old.incumbent top old.meter.spent = subst (λ ns. IsSearchState r ns old.incumbent top old.meter.spent) (sym whole) h in
     let over_again : All (λ n. IsOverBound (Some (record { index = index; bound = bound })) (bound_of n)) (take index nodes ++ node ∷ drop (index + 1) nodes) =
     subst (λ ns. All (λ n. IsOverBound (Some (record { index = index; bound = bound })) (bound_of n)) ns) (sym whole) over in
-    let low_weight = weight_of r both.middle bound (low_line place line) low (both.low_is.is bound (at_low line place w.lineage w.end) (λ o. subst (λ b. r.bound (low_line place line) ≤ℚ b) (sym w.bounds.bound_is) (r.low_falls line place w.lineage w.end o))) in
-    let high_weight = weight_of r new bound (high_line place line) high (both.high_is.is bound (at_high line place w.lineage w.end) (λ o. subst (λ b. r.bound (high_line place line) ≤ℚ b) (sym w.bounds.bound_is) (r.high_falls line place w.lineage w.end o))) in
+    let low_weight = weight_of r both.middle.incumbent bound (low_line place line) low (both.low_is.is bound (at_low line place w.lineage w.end) (λ o. subst (λ b. r.bound (low_line place line) ≤ℚ b) (sym w.bounds.bound_is) (r.low_falls line place w.lineage w.end o))) in
+    let high_weight = weight_of r new.incumbent bound (high_line place line) high (both.high_is.is bound (at_high line place w.lineage w.end) (λ o. subst (λ b. r.bound (high_line place line) ≤ℚ b) (sym w.bounds.bound_is) (r.high_falls line place w.lineage w.end o))) in
     let parts = lighter_by _ _ _ (volume_split line.area place (r.inside line place w.lineage w.end)) (volume_positive (low_line place line).area) (volume_positive (high_line place line).area) in
     record {
       top = bound;
-      holds = grown r (take index nodes) (drop (index + 1) nodes) area leaf bound place point kept index best new top before after low high again over_again under both;
+      holds = grown r (take index nodes) (drop (index + 1) nodes) area leaf bound place point kept index old new top low high again over_again under both;
       within = both.high_cost.within;
       lighter = omega (
         arith,
@@ -123,18 +137,18 @@ is_grown r nodes index area leaf bound place point kept best new top before afte
 
 -- the nodes after the code's splice, with the greatest bound as it was found
 pub now_grown : {T K W : Type 0} (r : Rules T K W) (nodes new_nodes : List (Node K)) (index : ℕ) (area : Area) (leaf : Leaf) (b bound : ℚ) (place : At) (point : Point) (kept : K)
-    (best new : Option (Incumbent T)) (top : ℚ) (before after : Meter) (low high : Node K)
-    → IsSearchState r nodes best top before.spent
+    (old new : Progress T) (top : ℚ) (low high : Node K)
+    → IsSearchState r nodes old.incumbent top old.meter.spent
     → slice_get nodes index ≡ Some (Waiting area leaf b place point kept) → b ≡ bound
     → All (λ node. IsOverBound (Some (record { index = index; bound = bound })) (bound_of node)) nodes
-    → IsUnder best bound
-    → IsBoth r (line_there r nodes index) place best new before after low high
+    → IsUnder old.incumbent bound
+    → IsBoth r (line_there r nodes index) place old new low high
     → new_nodes ≡ spliced nodes index place point low high
-    → IsGrown r nodes new_nodes new after
-now_grown r nodes new_nodes index area leaf b bound place point kept best new top before after low high h e f over under both same =
+    → IsGrown r nodes new_nodes new
+now_grown r nodes new_nodes index area leaf b bound place point kept old new top low high h e f over under both same =
     let over_b = subst (λ q. All (λ node. IsOverBound (Some (record { index = index; bound = q })) (bound_of node)) nodes) (sym f) over in
-    let under_b = subst (λ q. IsUnder best q) (sym f) under in
-    subst (λ ns. IsGrown r nodes ns new after) (sym same) (is_grown r nodes index area leaf b place point kept best new top before after low high h e over_b under_b both)
+    let under_b = subst (λ q. IsUnder old.incumbent q) (sym f) under in
+    subst (λ ns. IsGrown r nodes ns new) (sym same) (is_grown r nodes index area leaf b place point kept old new top low high h e over_b under_b both)
 
 -- ---- the code's splice
 inserted : {X : Type 0} (xs : List X) (i : ℕ) (split low high : X) → i < length xs

@@ -11,7 +11,7 @@ use Rattle.linear_theory.specs.Boxes.{Area}
 use Rattle.search_box.specs.declared.span.At.{At}
 use Rattle.named_row.specs.declared.leaves.Leaf.{Leaf}
 use Rattle.named_row.specs.declared.leaves.Point.{Point}
-use Rattle.branch_and_bound.specs.Lines.{Line, Fills, Finds}
+use Rattle.branch_and_bound.specs.Lines.{BoxLine, Fills, Finds}
 use Rattle.branch_and_bound.proofs.Walks.{Fills-map, Fills-each, Finds-at, Finds-none}
 use Rattle.branch_and_bound.specs.Matchings.{Matches}
 use Rattle.branch_and_bound.proofs.Matchings.{HasMatch, HasOther, Matches-at, Matches-back, Fills-match, line_after-match}
@@ -34,27 +34,27 @@ use Rattle.branch_and_bound.proofs.Finishing.{found_shown}
 
 -- ---- the part of an undone split that was finished
 -- how it changed the best timing
-abbrev pub IsBetterPart : {T K W : Type 0} → Rules T K W → Option Line → Option (Incumbent T) → Option (Incumbent T) → Type 0
+abbrev pub IsBetterPart : {T K W : Type 0} → Rules T K W → Option BoxLine → Option (Incumbent T) → Option (Incumbent T) → Type 0
 IsBetterPart r None old new = new ≡ old
 IsBetterPart r (Some line) old new = IsBetter r line old new
 
-abbrev pub IsPartUnder : {T K W : Type 0} → Rules T K W → Option Line → ℚ → Type 0
+abbrev pub IsPartUnder : {T K W : Type 0} → Rules T K W → Option BoxLine → ℚ → Type 0
 IsPartUnder r None bound = Unit {0}
 IsPartUnder r (Some line) bound = IsOptimal (r.ending line) → r.bound line ≤ℚ bound
 
-part_still : {T K W : Type 0} (r : Rules T K W) (part : Option Line) (old new : Option (Incumbent T)) (v : ℚ) → IsBetterPart r part old new → IsReached v old → IsReached v new
+part_still : {T K W : Type 0} (r : Rules T K W) (part : Option BoxLine) (old new : Option (Incumbent T)) (v : ℚ) → IsBetterPart r part old new → IsReached v old → IsReached v new
 part_still r None old new v h k = subst (λ (b : Option (Incumbent _)). IsReached v b) (sym h) k
 part_still r (Some line) old new v h k = reached_still r line old new v h k
 
-part_good : {T K W : Type 0} (r : Rules T K W) (part : Option Line) (old new : Option (Incumbent T)) → IsBetterPart r part old new → IfSome old (λ b. r.IsGood b.timing b.value) → IfSome new (λ b. r.IsGood b.timing b.value)
+part_good : {T K W : Type 0} (r : Rules T K W) (part : Option BoxLine) (old new : Option (Incumbent T)) → IsBetterPart r part old new → IfSome old (λ b. r.IsGood b.timing b.value) → IfSome new (λ b. r.IsGood b.timing b.value)
 part_good r None old new h k = subst (λ b. IfSome b (λ b. r.IsGood b.timing b.value)) (sym h) k
 part_good r (Some line) old new h k = good_still r line old new h k
 
-part_under : {T K W : Type 0} (r : Rules T K W) (part : Option Line) (old new : Option (Incumbent T)) (bound : ℚ) → IsBetterPart r part old new → IsPartUnder r part bound → IsUnder old bound → IsUnder new bound
+part_under : {T K W : Type 0} (r : Rules T K W) (part : Option BoxLine) (old new : Option (Incumbent T)) (bound : ℚ) → IsBetterPart r part old new → IsPartUnder r part bound → IsUnder old bound → IsUnder new bound
 part_under r None old new bound h p k = subst (λ (b : Option (Incumbent _)). IsUnder b bound) (sym h) k
 part_under r (Some line) old new bound h p k = under_still r line old new bound h (λ e. p (optimal_reads r line e)) k
 
-part_reached : {T K W : Type 0} (r : Rules T K W) (part : Option Line) (old new : Option (Incumbent T)) → IsBetterPart r part old new → IsReachedPart r new part
+part_reached : {T K W : Type 0} (r : Rules T K W) (part : Option BoxLine) (old new : Option (Incumbent T)) → IsBetterPart r part old new → IsReachedPart r new part
 part_reached r None old new h = tt
 part_reached r (Some line) old new (inl h) = λ e. subst (λ (b : Option (Incumbent _)). IsReached (r.bound line) b) (sym h.same) (h.reached e)
 part_reached r (Some line) old new (inr h) = λ e. subst (λ (b : Option (Incumbent _)). IsReached (r.bound line) b) (sym h.new_is) (subst (λ v. r.bound line ≤ℚ v) (sym h.value) (≤ℚ_refl (r.bound line)))
@@ -63,7 +63,7 @@ left_some : {X : Type 0} (P Q : X → Type 0) (o : Option X) → IfSome o P → 
 left_some P Q None h = tt
 left_some P Q (Some x) h = inl h
 
-part_found : {T K W : Type 0} (r : Rules T K W) (nodes : List TreeNode) (part : Option Line) (old new : Option (Incumbent T)) → IsBetterPart r part old new
+part_found : {T K W : Type 0} (r : Rules T K W) (nodes : List TreeNode) (part : Option BoxLine) (old new : Option (Incumbent T)) → IsBetterPart r part old new
     → IfSome old (λ b. GivesValue r nodes b.value)
     → IfSome new (λ b. GivesValue r nodes b.value ⊎ IsPartValue r b.value part)
 part_found r nodes None old new h k =
@@ -83,14 +83,14 @@ less_or_same x y h = by_order x y (cmp_ℚ x y) h (ranked_ℚ x y (cmp_ℚ x y) 
     by_order x y Greater h k = absurd (<ℚ_not-≤ℚ y x k h)
 
 -- the bound is more than the value, or only the part has the value
-abbrev IsMore : {T K W : Type 0} → Rules T K W → List TreeNode → ℚ → Option Line → Option (Incumbent T) → Type 0
+abbrev IsMore : {T K W : Type 0} → Rules T K W → List TreeNode → ℚ → Option BoxLine → Option (Incumbent T) → Type 0
 IsMore r nodes bound part best = IfSome best (λ b. (b.value <ℚ bound) ⊎ IsPartAlone r nodes b.value bound part)
 
-more_still : {T K W : Type 0} (r : Rules T K W) (nodes : List TreeNode) (bound : ℚ) (part : Option Line) (best : Option (Incumbent T)) → IsBeaten best bound → IsMore r nodes bound part best
+more_still : {T K W : Type 0} (r : Rules T K W) (nodes : List TreeNode) (bound : ℚ) (part : Option BoxLine) (best : Option (Incumbent T)) → IsBeaten best bound → IsMore r nodes bound part best
 more_still r nodes bound part None h = tt
 more_still r nodes bound part (Some b) h = inl h
 
-part_more : {T K W : Type 0} (r : Rules T K W) (nodes : List TreeNode) (part : Option Line) (old new : Option (Incumbent T)) (bound : ℚ)
+part_more : {T K W : Type 0} (r : Rules T K W) (nodes : List TreeNode) (part : Option BoxLine) (old new : Option (Incumbent T)) (bound : ℚ)
     → IsBetterPart r part old new → IsPartUnder r part bound → IsBeaten old bound → (GivesValue r nodes bound → ⊥) → IsMore r nodes bound part new
 part_more r nodes None old new bound h p beaten none = subst (λ o. IsMore r nodes bound None o) (sym h) (more_still r nodes bound None old beaten)
 part_more r nodes (Some line) old new bound (inl h) p beaten none = subst (λ o. IsMore r nodes bound (Some line) o) (sym h.same) (more_still r nodes bound (Some line) old beaten)
@@ -110,7 +110,7 @@ both_good P (Some b) bound h k = (h, k)
 -- ---- the nodes
 -- the bound is at least that of each leaf that doesn't refute
 leaf_under : {T K W : Type 0} (r : Rules T K W) (old new : Option (Incumbent T)) (bound : ℚ) → IsUnder old bound
-    → (line : Line) (node : TreeNode) → IsTreeNode r old new bound line node → IsNodeUnder r bound line node
+    → (line : BoxLine) (node : TreeNode) → IsTreeNode r old new bound line node → IsNodeUnder r bound line node
 leaf_under r old new bound under line (tree.Split place point) h = tt
 leaf_under r old new bound under line (tree.Closed leaf) h = λ no. elim (h.shows) [
   | inl k ↦ absurd (no k.refutes)
@@ -120,7 +120,7 @@ leaf_under r old new bound under line (tree.Waiting leaf) h = λ no. h.under
 
 -- each leaf is a proof with the bound
 stop_accepted : {T K W : Type 0} (r : Rules T K W) (old new : Option (Incumbent T)) (bound : ℚ) → IsUnder old bound
-    → (line : Line) (node : TreeNode) → IsTreeNode r old new bound line node → IsAcceptedNode r (Some bound) line node
+    → (line : BoxLine) (node : TreeNode) → IsTreeNode r old new bound line node → IsAcceptedNode r (Some bound) line node
 stop_accepted r old new bound under line (tree.Split place point) h = r.inside line place h.lineage h.end
 stop_accepted r old new bound under line (tree.Closed leaf) h = elim (h.shows) [
   | inl k ↦ inl k.refutes
@@ -133,7 +133,7 @@ stop_accepted r old new bound under line (tree.Waiting leaf) h = inr (r.covers_m
 
 -- no leaf has the bound as its timing's value
 none_gives : {T K W : Type 0} (r : Rules T K W) (old new : Option (Incumbent T)) (low v : ℚ) → IsBeaten old v
-    → (line : Line) (node : TreeNode) → IsTreeNode r old new low line node → IsBestLeaf r v line (cut_of node) → ⊥
+    → (line : BoxLine) (node : TreeNode) → IsTreeNode r old new low line node → IsBestLeaf r v line (cut_of node) → ⊥
 none_gives r old new low v beaten line (tree.Split place point) h k = let e = k.whole in cc
 none_gives r old new low v beaten line (tree.Closed leaf) h k = elim (h.shows) [
   | inl m ↦ let e = m.end in let f = k.end in cc
@@ -159,7 +159,7 @@ waits_again new index shown area leaf bound place point kept (tree.Closed other)
 waits_again new index shown area leaf bound place point kept (tree.Waiting other) e s = record { leaf = other; at = e }
 
 -- a node that waits in the answer has a bound of more than the best value, or its split was undone
-still_open : {T K W : Type 0} (r : Rules T K W) (old new : Option (Incumbent T)) (top : ℚ) (spared : Option ℕ) (i : ℕ) (line : Line) (node : Node K) (leaf : Leaf)
+still_open : {T K W : Type 0} (r : Rules T K W) (old new : Option (Incumbent T)) (top : ℚ) (spared : Option ℕ) (i : ℕ) (line : BoxLine) (node : Node K) (leaf : Leaf)
     → IsShown new spared i node (tree.Waiting leaf) → IsNode r old top line node → IsBeaten new (r.bound line) ⊎ (spared ≡ Some i)
 still_open r old new top spared i line (Split place point) leaf s h = absurd s
 still_open r old new top spared i line (Closed other) leaf s h = absurd s
@@ -169,7 +169,7 @@ still_open r old new top spared i line (Waiting area other bound place point kep
 ]
 
 -- ---- all nodes
-pub record IsHalt {T K W : Type 0} (r : Rules T K W) (nodes : List TreeNode) (new : Option (Incumbent T)) (bound : ℚ) (spot : Spot) (part : Option Line) : Type 0 where
+pub record IsHalt {T K W : Type 0} (r : Rules T K W) (nodes : List TreeNode) (new : Option (Incumbent T)) (bound : ℚ) (spot : Spot) (part : Option BoxLine) : Type 0 where
   pub accepted : IsAccepted r (Some bound) nodes
   pub good : IfSome new (λ b. r.IsGood b.timing b.value × (b.value ≤ℚ bound))
   pub spot_is : IsSpot r nodes spot
@@ -178,7 +178,7 @@ pub record IsHalt {T K W : Type 0} (r : Rules T K W) (nodes : List TreeNode) (ne
   pub sorted : IsSorted r nodes new (Some spot.index)
 
 -- the nodes as they are answered, with the best timing that the finished part may have changed
-pub stopped : {T K W : Type 0} (r : Rules T K W) (nodes : List (Node K)) (shown : List TreeNode) (g : Greatest) (node : Node K) (old new : Option (Incumbent T)) (top : ℚ) (spent : ℕ) (part : Option Line) (place : At)
+pub stopped : {T K W : Type 0} (r : Rules T K W) (nodes : List (Node K)) (shown : List TreeNode) (g : Greatest) (node : Node K) (old new : Option (Incumbent T)) (top : ℚ) (spent : ℕ) (part : Option BoxLine) (place : At)
     → IsSearchState r nodes old top spent
     → Matches (IsShown new (Some g.index)) 0 nodes shown
     → slice_get nodes g.index ≡ Some node → bound_of node ≡ Some g.bound

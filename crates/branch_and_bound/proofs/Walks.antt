@@ -3,27 +3,27 @@ use Rattle.std.proofs.Common.{◌≡◌, ℕ, ◌+◌, ◌⊎◌, inl, inr, List
 use Rattle.std.specs.Prelude.{All}
 use Rattle.std.proofs.lemmas.List.Elements.{All-head, All-tail}
 use Rattle.search_box.specs.declared.span.At.{At}
-use Rattle.branch_and_bound.specs.Lines.{Line, low_line, high_line, owed, Fills, Finds, total, line_after}
+use Rattle.branch_and_bound.specs.Lines.{BoxLine, low_line, high_line, owed, Fills, Finds, total, line_after}
 
-pub Fills-map : {N : Type 0} (cut : N → Option At) (P Q : Line → N → Type 0) → ((line : Line) (node : N) → P line node → Q line node) → (lines : List Line) (nodes : List N) → Fills cut P lines nodes → Fills cut Q lines nodes
+pub Fills-map : {N : Type 0} (cut : N → Option At) (P Q : BoxLine → N → Type 0) → ((line : BoxLine) (node : N) → P line node → Q line node) → (lines : List BoxLine) (nodes : List N) → Fills cut P lines nodes → Fills cut Q lines nodes
 Fills-map cut P Q f lines [] h = h
 Fills-map cut P Q f [] (node ∷ nodes) h = h
 Fills-map cut P Q f (line ∷ lines) (node ∷ nodes) h = (f line node h.0, Fills-map cut P Q f (owed (cut node) line lines) nodes h.1)
 
 -- of two facts about each node both
-pub Fills-both : {N : Type 0} (cut : N → Option At) (P Q : Line → N → Type 0) (lines : List Line) (nodes : List N) → Fills cut P lines nodes → Fills cut Q lines nodes → Fills cut (λ line node. P line node × Q line node) lines nodes
+pub Fills-both : {N : Type 0} (cut : N → Option At) (P Q : BoxLine → N → Type 0) (lines : List BoxLine) (nodes : List N) → Fills cut P lines nodes → Fills cut Q lines nodes → Fills cut (λ line node. P line node × Q line node) lines nodes
 Fills-both cut P Q lines [] h k = h
 Fills-both cut P Q [] (node ∷ nodes) h k = h
 Fills-both cut P Q (line ∷ lines) (node ∷ nodes) h k = ((h.0, k.0), Fills-both cut P Q (owed (cut node) line lines) nodes h.1 k.1)
 
-pub Fills-at : {N : Type 0} (cut : N → Option At) (P : Line → N → Type 0) (lines : List Line) (front : List N) (node : N) (rest : List N) → Fills cut P lines (front ++ node ∷ rest) → P (line_after cut lines front) node
+pub Fills-at : {N : Type 0} (cut : N → Option At) (P : BoxLine → N → Type 0) (lines : List BoxLine) (front : List N) (node : N) (rest : List N) → Fills cut P lines (front ++ node ∷ rest) → P (line_after cut lines front) node
 Fills-at cut P [] [] node rest h = absurd h
 Fills-at cut P (line ∷ lines) [] node rest h = h.0
 Fills-at cut P [] (x ∷ front) node rest h = absurd h
 Fills-at cut P (line ∷ lines) (x ∷ front) node rest h = Fills-at cut P (owed (cut x) line lines) front node rest h.1
 
 -- a leaf becomes a split with two leaves
-pub Fills-split : {N : Type 0} (cut : N → Option At) (P : Line → N → Type 0) (place : At) (leaf node low high : N) (lines : List Line) (front rest : List N)
+pub Fills-split : {N : Type 0} (cut : N → Option At) (P : BoxLine → N → Type 0) (place : At) (leaf node low high : N) (lines : List BoxLine) (front rest : List N)
     → cut leaf ≡ None → cut node ≡ Some place → cut low ≡ None → cut high ≡ None
     → P (line_after cut lines front) node → P (low_line place (line_after cut lines front)) low → P (high_line place (line_after cut lines front)) high
     → Fills cut P lines (front ++ leaf ∷ rest) → Fills cut P lines (front ++ node ∷ low ∷ high ∷ rest)
@@ -39,7 +39,7 @@ Fills-split cut P place leaf node low high (line ∷ lines) (x ∷ front) rest e
     (s.0, Fills-split cut P place leaf node low high (owed (cut x) line lines) front rest e f g h p q r s.1)
 
 -- a node that was found stays, unless it is the leaf that is split
-pub Finds-split : {N : Type 0} (cut : N → Option At) (P : Line → N → Type 0) (place : At) (leaf node low high : N) (lines : List Line) (front rest : List N)
+pub Finds-split : {N : Type 0} (cut : N → Option At) (P : BoxLine → N → Type 0) (place : At) (leaf node low high : N) (lines : List BoxLine) (front rest : List N)
     → cut leaf ≡ None → cut node ≡ Some place → cut low ≡ None → cut high ≡ None
     → (P (line_after cut lines front) leaf → ⊥)
     → Finds cut P lines (front ++ leaf ∷ rest) → Finds cut P lines (front ++ node ∷ low ∷ high ∷ rest)
@@ -57,7 +57,7 @@ Finds-split cut P place leaf node low high (line ∷ lines) (x ∷ front) rest e
     inr (Finds-split cut P place leaf node low high (owed (cut x) line lines) front rest e f g h not s)
 
 -- the new leaves are found
-pub Finds-new : {N : Type 0} (cut : N → Option At) (P Q : Line → N → Type 0) (place : At) (leaf node low high : N) (lines : List Line) (front rest : List N)
+pub Finds-new : {N : Type 0} (cut : N → Option At) (P Q : BoxLine → N → Type 0) (place : At) (leaf node low high : N) (lines : List BoxLine) (front rest : List N)
     → cut node ≡ Some place → cut low ≡ None → Fills cut Q lines (front ++ leaf ∷ rest)
     → P (low_line place (line_after cut lines front)) low ⊎ P (high_line place (line_after cut lines front)) high
     → Finds cut P lines (front ++ node ∷ low ∷ high ∷ rest)
@@ -74,14 +74,14 @@ Finds-new cut P Q place leaf node low high (line ∷ lines) (x ∷ front) rest f
     inr (Finds-new cut P Q place leaf node low high (owed (cut x) line lines) front rest f g s.1 p)
 
 -- what holds of no node isn't found
-pub Finds-none : {N : Type 0} (cut : N → Option At) (P Q : Line → N → Type 0) → ((line : Line) (node : N) → P line node → Q line node → ⊥) → (lines : List Line) (nodes : List N) → Fills cut P lines nodes → Finds cut Q lines nodes → ⊥
+pub Finds-none : {N : Type 0} (cut : N → Option At) (P Q : BoxLine → N → Type 0) → ((line : BoxLine) (node : N) → P line node → Q line node → ⊥) → (lines : List BoxLine) (nodes : List N) → Fills cut P lines nodes → Finds cut Q lines nodes → ⊥
 Finds-none cut P Q f lines [] h k = k
 Finds-none cut P Q f [] (node ∷ nodes) h k = k
 Finds-none cut P Q f (line ∷ lines) (node ∷ nodes) h (inl k) = f line node h.0 k
 Finds-none cut P Q f (line ∷ lines) (node ∷ nodes) h (inr k) = Finds-none cut P Q f (owed (cut node) line lines) nodes h.1 k
 
 -- the cost of a tree grows by that of the two parts
-pub total-split : {N : Type 0} (cut : N → Option At) (cost : Line → ℕ) (P : Line → N → Type 0) (place : At) (leaf node low high : N) (lines : List Line) (front rest : List N)
+pub total-split : {N : Type 0} (cut : N → Option At) (cost : BoxLine → ℕ) (P : BoxLine → N → Type 0) (place : At) (leaf node low high : N) (lines : List BoxLine) (front rest : List N)
     → cut leaf ≡ None → cut node ≡ Some place → cut low ≡ None → cut high ≡ None
     → Fills cut P lines (front ++ leaf ∷ rest)
     → total cut cost lines (front ++ node ∷ low ∷ high ∷ rest) ≡ total cut cost lines (front ++ leaf ∷ rest) + (cost (low_line place (line_after cut lines front)) + cost (high_line place (line_after cut lines front)))
@@ -98,14 +98,14 @@ total-split cut cost P place leaf node low high (line ∷ lines) (x ∷ front) r
     omega (arith, t)
 
 -- a fact about each node alone
-pub Fills-each : {N : Type 0} (cut : N → Option At) (P : Line → N → Type 0) (Q : N → Type 0) (lines : List Line) (nodes : List N) → All Q nodes → Fills cut P lines nodes → Fills cut (λ line node. P line node × Q node) lines nodes
+pub Fills-each : {N : Type 0} (cut : N → Option At) (P : BoxLine → N → Type 0) (Q : N → Type 0) (lines : List BoxLine) (nodes : List N) → All Q nodes → Fills cut P lines nodes → Fills cut (λ line node. P line node × Q node) lines nodes
 Fills-each cut P Q lines [] q h = h
 Fills-each cut P Q [] (node ∷ nodes) q h = h
 Fills-each cut P Q (line ∷ lines) (node ∷ nodes) q h =
     ((h.0, All-head Q node nodes q), Fills-each cut P Q (owed (cut node) line lines) nodes (All-tail Q node nodes q) h.1)
 
 -- the node after the front is found
-pub Finds-at : {N : Type 0} (cut : N → Option At) (P Q : Line → N → Type 0) (lines : List Line) (front : List N) (node : N) (rest : List N) → Fills cut Q lines (front ++ node ∷ rest) → P (line_after cut lines front) node → Finds cut P lines (front ++ node ∷ rest)
+pub Finds-at : {N : Type 0} (cut : N → Option At) (P Q : BoxLine → N → Type 0) (lines : List BoxLine) (front : List N) (node : N) (rest : List N) → Fills cut Q lines (front ++ node ∷ rest) → P (line_after cut lines front) node → Finds cut P lines (front ++ node ∷ rest)
 Finds-at cut P Q [] [] node rest h p = absurd h
 Finds-at cut P Q (line ∷ lines) [] node rest h p = inl p
 Finds-at cut P Q [] (x ∷ front) node rest h p = absurd h

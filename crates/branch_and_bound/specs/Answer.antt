@@ -8,7 +8,7 @@ use Rattle.search_box.specs.declared.span.At.{At}
 use Rattle.search_box.specs.Places.{IsPlace}
 use Rattle.named_row.specs.declared.leaves.Leaf.{Leaf}
 use Rattle.named_row.specs.declared.leaves.Point.{Point}
-use Rattle.branch_and_bound.specs.Lines.{Line, top_line, low_line, high_line, Fills, Finds, total, line_after}
+use Rattle.branch_and_bound.specs.Lines.{BoxLine, top_line, low_line, high_line, Fills, Finds, total, line_after}
 use Rattle.branch_and_bound.specs.Lineages.{Empty, Reads, Cuts, Stuck, WasRead}
 use Rattle.work_meter.specs.Work.{capped, IsWithin}
 use Rattle.branch_and_bound.specs.Rules.{Rules}
@@ -20,6 +20,7 @@ use Rattle.branch_and_bound.specs.declared.node.TreeNode.TheVariants.{Split, Clo
 use Rattle.branch_and_bound.specs.declared.found.Site.{Site}
 use Rattle.branch_and_bound.specs.declared.found.Stop.{Stop}
 use Rattle.branch_and_bound.specs.declared.found.Stop.TheVariants.{Work, Wide}
+use Rattle.branch_and_bound.specs.declared.found.Found.{Found}
 use Rattle.branch_and_bound.specs.declared.found.Verdict.{Verdict}
 use Rattle.branch_and_bound.specs.declared.found.Verdict.TheVariants.{Best, NoTiming, Stopped}
 
@@ -31,15 +32,15 @@ cut_of (Closed leaf) = None
 cut_of (Waiting leaf) = None
 
 -- the root's line, which wants a tree
-abbrev pub lines_of : {T K W : Type 0} → Rules T K W → List Line
+abbrev pub lines_of : {T K W : Type 0} → Rules T K W → List BoxLine
 lines_of r = top_line r.root ∷ []
 
 -- the line of the node at an index
-abbrev pub line_at : {T K W : Type 0} → Rules T K W → List TreeNode → ℕ → Line
+abbrev pub line_at : {T K W : Type 0} → Rules T K W → List TreeNode → ℕ → BoxLine
 line_at r nodes index = line_after cut_of (lines_of r) (take index nodes)
 
 -- what each finished box costs, and all nodes together
-abbrev pub cost_of : {T K W : Type 0} → Rules T K W → Line → ℕ
+abbrev pub cost_of : {T K W : Type 0} → Rules T K W → BoxLine → ℕ
 cost_of r line = 1 + r.steps line
 
 abbrev pub units_of : {T K W : Type 0} → Rules T K W → List TreeNode → ℕ
@@ -52,7 +53,7 @@ IsProof r None area leaf = r.Refutes area leaf
 IsProof r (Some value) area leaf = r.Refutes area leaf ⊎ r.Covers area leaf value
 
 -- a split lies in its box, and a leaf is a proof
-abbrev pub IsAcceptedNode : {T K W : Type 0} → Rules T K W → Option ℚ → Line → TreeNode → Type 0
+abbrev pub IsAcceptedNode : {T K W : Type 0} → Rules T K W → Option ℚ → BoxLine → TreeNode → Type 0
 IsAcceptedNode r claim line (Split place point) = IsPlace line.area place
 IsAcceptedNode r claim line (Closed leaf) = IsProof r claim line.area leaf
 IsAcceptedNode r claim line (Waiting leaf) = IsProof r claim line.area leaf
@@ -62,7 +63,7 @@ IsAccepted r claim nodes = Fills cut_of (IsAcceptedNode r claim) (lines_of r) no
 
 -- ---- which leaves wait
 -- the box is empty, its vertex gave a timing, or its bound is at most the best value
-abbrev pub IsOver : {T K W : Type 0} → Rules T K W → Option (Incumbent T) → Line → Type 0
+abbrev pub IsOver : {T K W : Type 0} → Rules T K W → Option (Incumbent T) → BoxLine → Type 0
 IsOver r best line = (r.ending line ≡ Empty) ⊎ (r.ending line ≡ Reads) ⊎ IsReached (r.bound line) best
 
 -- a closed leaf is over, and a waiting one has a bound of more than the best value, or its split was undone
@@ -90,20 +91,20 @@ pub data StopCase : Type 0 where
   -- in the high part, after so many pivots
   InHigh : Spot → ℕ → StopCase
 
-abbrev pub low_of : {T K W : Type 0} → Rules T K W → List TreeNode → Spot → Line
+abbrev pub low_of : {T K W : Type 0} → Rules T K W → List TreeNode → Spot → BoxLine
 low_of r nodes spot = low_line spot.place (line_at r nodes spot.index)
 
-abbrev pub high_of : {T K W : Type 0} → Rules T K W → List TreeNode → Spot → Line
+abbrev pub high_of : {T K W : Type 0} → Rules T K W → List TreeNode → Spot → BoxLine
 high_of r nodes spot = high_line spot.place (line_at r nodes spot.index)
 
 -- the part of the undone split that was finished
-abbrev pub finished_part : {T K W : Type 0} → Rules T K W → List TreeNode → StopCase → Option Line
+abbrev pub finished_part : {T K W : Type 0} → Rules T K W → List TreeNode → StopCase → Option BoxLine
 finished_part r nodes (BeforeHigh spot) = Some (low_of r nodes spot)
 finished_part r nodes (InHigh spot k) = Some (low_of r nodes spot)
 finished_part r nodes _ = None
 
 -- the finished part was read to its end
-abbrev pub IsReadPart : {T K W : Type 0} → Rules T K W → Option Line → Type 0
+abbrev pub IsReadPart : {T K W : Type 0} → Rules T K W → Option BoxLine → Type 0
 IsReadPart r None = Unit {0}
 IsReadPart r (Some line) = WasRead (r.ending line)
 
@@ -126,10 +127,10 @@ spends r nodes (BeforeHigh spot) = units_of r nodes + cost_of r (low_of r nodes 
 spends r nodes (InHigh spot k) = units_of r nodes + cost_of r (low_of r nodes spot) + (1 + k)
 
 -- a leaf that doesn't refute has a bound of at most this
-abbrev pub IsLeafUnder : {T K W : Type 0} → Rules T K W → ℚ → Line → Leaf → Type 0
+abbrev pub IsLeafUnder : {T K W : Type 0} → Rules T K W → ℚ → BoxLine → Leaf → Type 0
 IsLeafUnder r bound line leaf = (r.Refutes line.area leaf → ⊥) → r.bound line ≤ℚ bound
 
-abbrev pub IsNodeUnder : {T K W : Type 0} → Rules T K W → ℚ → Line → TreeNode → Type 0
+abbrev pub IsNodeUnder : {T K W : Type 0} → Rules T K W → ℚ → BoxLine → TreeNode → Type 0
 IsNodeUnder r bound line (Split place point) = Unit {0}
 IsNodeUnder r bound line (Closed leaf) = IsLeafUnder r bound line leaf
 IsNodeUnder r bound line (Waiting leaf) = IsLeafUnder r bound line leaf
@@ -170,7 +171,7 @@ IsWorkStop r nodes (BeforeHigh spot) = Unit {0}
 IsWorkStop r nodes (InHigh spot k) = r.IsDue (high_of r nodes spot) k
 
 -- the site of a refused operation, in a line's box after so many pivots
-pub record IsSite {T K W : Type 0} (r : Rules T K W) (line : Line) (k : ℕ) (site : Site W) : Type 0 where
+pub record IsSite {T K W : Type 0} (r : Rules T K W) (line : BoxLine) (k : ℕ) (site : Site W) : Type 0 where
   pub area_is : site.area ≡ line.area
   pub pivots_is : site.pivots ≡ capped k
   pub part_is : r.IsWide line k site.part
@@ -190,23 +191,23 @@ IsStop r nodes case limit spent (Wide site) = IsWideStop r nodes case site
 
 -- ---- the tree was needed
 -- a split falls where its end shows, at its vertex, and its bound is at least the best value
-pub record IsNeededSplit {T K W : Type 0} (r : Rules T K W) (best : Option (Incumbent T)) (line : Line) (place : At) (point : Point) : Type 0 where
+pub record IsNeededSplit {T K W : Type 0} (r : Rules T K W) (best : Option (Incumbent T)) (line : BoxLine) (place : At) (point : Point) : Type 0 where
   pub end : r.ending line ≡ Cuts place
   pub vertex_is : r.IsVertex line point
   pub worth : IfSome best (λ b. b.value ≤ℚ r.bound line)
 
 -- a leaf is that of its end; where its vertex gives a timing, the best timing is at least as good
-pub record IsNeededLeaf {T K W : Type 0} (r : Rules T K W) (best : Option (Incumbent T)) (line : Line) (leaf : Leaf) : Type 0 where
+pub record IsNeededLeaf {T K W : Type 0} (r : Rules T K W) (best : Option (Incumbent T)) (line : BoxLine) (leaf : Leaf) : Type 0 where
   pub leaf_is : r.IsLeaf line leaf
   pub reached : r.ending line ≡ Reads → IsReached (r.bound line) best
 
-abbrev pub IsNeededNode : {T K W : Type 0} → Rules T K W → Option (Incumbent T) → Line → TreeNode → Type 0
+abbrev pub IsNeededNode : {T K W : Type 0} → Rules T K W → Option (Incumbent T) → BoxLine → TreeNode → Type 0
 IsNeededNode r best line (Split place point) = IsNeededSplit r best line place point
 IsNeededNode r best line (Closed leaf) = IsNeededLeaf r best line leaf
 IsNeededNode r best line (Waiting leaf) = IsNeededLeaf r best line leaf
 
 -- a leaf whose vertex is a timing of this value
-pub record IsBestLeaf {T K W : Type 0} (r : Rules T K W) (value : ℚ) (line : Line) (cut : Option At) : Type 0 where
+pub record IsBestLeaf {T K W : Type 0} (r : Rules T K W) (value : ℚ) (line : BoxLine) (cut : Option At) : Type 0 where
   pub whole : cut ≡ None
   pub end : r.ending line ≡ Reads
   pub value_is : r.bound line ≡ value
@@ -215,39 +216,39 @@ pub record IsBestLeaf {T K W : Type 0} (r : Rules T K W) (value : ℚ) (line : L
 abbrev pub GivesValue : {T K W : Type 0} → Rules T K W → List TreeNode → ℚ → Type 0
 GivesValue r nodes value = Finds cut_of (λ line node. IsBestLeaf r value line (cut_of node)) (lines_of r) nodes
 
-abbrev pub IsReachedPart : {T K W : Type 0} → Rules T K W → Option (Incumbent T) → Option Line → Type 0
+abbrev pub IsReachedPart : {T K W : Type 0} → Rules T K W → Option (Incumbent T) → Option BoxLine → Type 0
 IsReachedPart r best None = Unit {0}
 IsReachedPart r best (Some line) = r.ending line ≡ Reads → IsReached (r.bound line) best
 
 -- the finished part of an undone split gave this value
-abbrev pub IsPartValue : {T K W : Type 0} → Rules T K W → ℚ → Option Line → Type 0
+abbrev pub IsPartValue : {T K W : Type 0} → Rules T K W → ℚ → Option BoxLine → Type 0
 IsPartValue r value None = ⊥
 IsPartValue r value (Some line) = (r.ending line ≡ Reads) × (r.bound line ≡ value)
 
 -- the timing is the best that the leaves and the finished part of an undone split have, and stands where one of them has one
-pub record IsNeeded {T K W : Type 0} (r : Rules T K W) (nodes : List TreeNode) (best : Option (Incumbent T)) (part : Option Line) : Type 0 where
+pub record IsNeeded {T K W : Type 0} (r : Rules T K W) (nodes : List TreeNode) (best : Option (Incumbent T)) (part : Option BoxLine) : Type 0 where
   pub tree : Fills cut_of (IsNeededNode r best) (lines_of r) nodes
   pub part_reached : IsReachedPart r best part
   pub found : IfSome best (λ b. GivesValue r nodes b.value ⊎ IsPartValue r b.value part)
 
 -- a value that only the finished part has
-pub record IsPartAlone {T K W : Type 0} (r : Rules T K W) (nodes : List TreeNode) (value bound : ℚ) (part : Option Line) : Type 0 where
+pub record IsPartAlone {T K W : Type 0} (r : Rules T K W) (nodes : List TreeNode) (value bound : ℚ) (part : Option BoxLine) : Type 0 where
   pub same : value ≡ bound
   pub gives : IsPartValue r value part
   pub alone : GivesValue r nodes value → ⊥
 
 -- a leaf that doesn't refute, of this bound
-pub record IsOpenLeaf {T K W : Type 0} (r : Rules T K W) (bound : ℚ) (line : Line) (leaf : Leaf) : Type 0 where
+pub record IsOpenLeaf {T K W : Type 0} (r : Rules T K W) (bound : ℚ) (line : BoxLine) (leaf : Leaf) : Type 0 where
   pub not_refuted : r.Refutes line.area leaf → ⊥
   pub bound_is : r.bound line ≡ bound
 
-abbrev pub IsOpenNode : {T K W : Type 0} → Rules T K W → ℚ → Line → TreeNode → Type 0
+abbrev pub IsOpenNode : {T K W : Type 0} → Rules T K W → ℚ → BoxLine → TreeNode → Type 0
 IsOpenNode r bound line (Split place point) = ⊥
 IsOpenNode r bound line (Closed leaf) = IsOpenLeaf r bound line leaf
 IsOpenNode r bound line (Waiting leaf) = IsOpenLeaf r bound line leaf
 
 -- the bound of a stopped search is the greatest of the leaves that don't refute, and more than the value
-pub record IsOpenBound {T K W : Type 0} (r : Rules T K W) (nodes : List TreeNode) (best : Option (Incumbent T)) (bound : ℚ) (part : Option Line) : Type 0 where
+pub record IsOpenBound {T K W : Type 0} (r : Rules T K W) (nodes : List TreeNode) (best : Option (Incumbent T)) (bound : ℚ) (part : Option BoxLine) : Type 0 where
   pub over : Fills cut_of (IsNodeUnder r bound) (lines_of r) nodes
   pub found : Finds cut_of (IsOpenNode r bound) (lines_of r) nodes
   pub more : IfSome best (λ b. (b.value <ℚ bound) ⊎ IsPartAlone r nodes b.value bound part)
@@ -302,3 +303,15 @@ abbrev pub IsAnswer : {T K W : Type 0} → Rules T K W → Option ℕ → List T
 IsAnswer r limit nodes best bound spent Best = IsBestAnswer r limit nodes best bound spent
 IsAnswer r limit nodes best bound spent NoTiming = IsNoneAnswer r limit nodes best bound spent
 IsAnswer r limit nodes best bound spent (Stopped stop) = IsStoppedAnswer r limit nodes best bound spent stop
+
+-- ---- what is found
+-- the timing without its value
+abbrev pub timing_of : {T : Type 0} → Option (Incumbent T) → Option T
+timing_of None = None
+timing_of (Some best) = Some best.timing
+
+-- the timing has a value with which this answers the search
+pub record IsFound {T K W : Type 0} (r : Rules T K W) (limit : Option ℕ) (found : Found T W) : Type 0 where
+  pub best : Option (Incumbent T)
+  pub timing : found.timing ≡ timing_of best
+  pub answer : IsAnswer r limit found.nodes.items best found.bound found.spent found.verdict

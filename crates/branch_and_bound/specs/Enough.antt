@@ -1,7 +1,7 @@
 -- How many units are enough.
 use Rattle.std.specs.Prelude.{ℕ, ◌+◌, ◌-◌, ◌*◌, ◌<◌, ◌≤◌, max, List, Option, IfSome}
 use Rattle.rational_theory.specs.Rational.{ℚ}
-use Rattle.branch_and_bound.specs.Lines.{Line}
+use Rattle.branch_and_bound.specs.Lines.{BoxLine}
 use Rattle.branch_and_bound.specs.Choices.{choices}
 use Rattle.branch_and_bound.specs.Rules.{Rules, IsMet}
 use Rattle.branch_and_bound.specs.Answer.{IsStoppedAnswer}
@@ -11,8 +11,8 @@ use Rattle.branch_and_bound.specs.declared.found.Stop.TheVariants.{Work}
 
 -- every box that a search meets is finished within these units, and a pivot is due only before its end
 pub record IsShort {T K W : Type 0} (r : Rules T K W) (most : ℕ) : Type 0 where
-  pub cost : (line : Line) → IsMet r line → 1 + r.steps line ≤ most
-  pub due : (line : Line) (k : ℕ) → IsMet r line → r.IsDue line k → k < r.steps line
+  pub cost : (line : BoxLine) → IsMet r line → 1 + r.steps line ≤ most
+  pub due : (line : BoxLine) (k : ℕ) → IsMet r line → r.IsDue line k → k < r.steps line
 
 -- a search of a sound problem that was stopped by work had a lower limit than the cost of the greatest tree: its root alone where the
 -- root box has no choice, and a leaf for each choice otherwise

@@ -2,7 +2,7 @@
 use Rattle.std.specs.Prelude.{◌≡◌}
 use Rattle.linear_theory.specs.Boxes.{Area}
 use Rattle.search_box.specs.declared.span.At.{At}
-use Rattle.branch_and_bound.specs.Lines.{Line, top_line, low_line, high_line}
+use Rattle.branch_and_bound.specs.Lines.{BoxLine, top_line, low_line, high_line}
 
 pub data Ending : Type 0 where
   -- no end is known
@@ -33,7 +33,7 @@ WasRead (Cuts place) = Unit {0}
 WasRead Stuck = ⊥
 
 -- the root box on top, and the parts of a line's box at the place that the line's end shows; all of it of a sound problem
-pub data IsLineage (Sound : Type 0) (root : Area) (ending : Line → Ending) : Line → Type 0 where
+pub data IsLineage (Sound : Type 0) (root : Area) (ending : BoxLine → Ending) : BoxLine → Type 0 where
   at_top : Sound → IsLineage Sound root ending (top_line root)
-  at_low : (line : Line) (place : At) → IsLineage Sound root ending line → ending line ≡ Cuts place → IsLineage Sound root ending (low_line place line)
-  at_high : (line : Line) (place : At) → IsLineage Sound root ending line → ending line ≡ Cuts place → IsLineage Sound root ending (high_line place line)
+  at_low : (line : BoxLine) (place : At) → IsLineage Sound root ending line → ending line ≡ Cuts place → IsLineage Sound root ending (low_line place line)
+  at_high : (line : BoxLine) (place : At) → IsLineage Sound root ending line → ending line ≡ Cuts place → IsLineage Sound root ending (high_line place line)

@@ -7,7 +7,7 @@ use Rattle.search_box.specs.Places.{IsPlace}
 use Rattle.named_row.specs.declared.leaves.Leaf.{Leaf}
 use Rattle.named_row.specs.declared.leaves.Point.{Point}
 use Rattle.branch_and_bound.specs.Choices.{HasNumbers}
-use Rattle.branch_and_bound.specs.Lines.{Line, low_line, high_line}
+use Rattle.branch_and_bound.specs.Lines.{BoxLine, low_line, high_line}
 use Rattle.branch_and_bound.specs.Lineages.{Ending, Cuts, IsOptimal, IsLineage}
 
 pub record Rules (T K W : Type 0) : Type 1 where
@@ -16,36 +16,36 @@ pub record Rules (T K W : Type 0) : Type 1 where
   -- the box at the top
   pub root : Area
   -- of a line: how many pivots lead to its end, what the end is, and the bound of the end's leaf
-  pub steps : Line → ℕ
-  pub ending : Line → Ending
-  pub bound : Line → ℚ
+  pub steps : BoxLine → ℕ
+  pub ending : BoxLine → Ending
+  pub bound : BoxLine → ℚ
   -- the leaf of a line's end, its vertex, and what the end keeps for the parts
-  pub IsLeaf : Line → Leaf → Type 0
-  pub IsVertex : Line → Point → Type 0
-  pub IsKept : Line → K → Type 0
+  pub IsLeaf : BoxLine → Leaf → Type 0
+  pub IsVertex : BoxLine → Point → Type 0
+  pub IsKept : BoxLine → K → Type 0
   -- the leaf before any step at the root, and its bound
   pub IsStart : Leaf → Type 0
   pub start_bound : ℚ
   -- the timing is good and has this value
   pub IsGood : T → ℚ → Type 0
   -- after so many pivots of a line another one is due; or this operation is refused
-  pub IsDue : Line → ℕ → Type 0
-  pub IsWide : Line → ℕ → W → Type 0
+  pub IsDue : BoxLine → ℕ → Type 0
+  pub IsWide : BoxLine → ℕ → W → Type 0
   -- a leaf shows that its box holds no timing; or none of a greater value than this
   pub Refutes : Area → Leaf → Type 0
   pub Covers : Area → Leaf → ℚ → Type 0
   -- ---- laws
   pub covers_more : (area : Area) (leaf : Leaf) (value more : ℚ) → Covers area leaf value → value ≤ℚ more → Covers area leaf more
   -- the leaf of a last vertex doesn't refute
-  pub not_refuted : (line : Line) (leaf : Leaf) → IsLineage IsSound root ending line → IsOptimal (ending line) → IsLeaf line leaf → Refutes line.area leaf → ⊥
+  pub not_refuted : (line : BoxLine) (leaf : Leaf) → IsLineage IsSound root ending line → IsOptimal (ending line) → IsLeaf line leaf → Refutes line.area leaf → ⊥
   -- the place of an end lies in the box
-  pub inside : (line : Line) (place : At) → IsLineage IsSound root ending line → ending line ≡ Cuts place → IsPlace line.area place
+  pub inside : (line : BoxLine) (place : At) → IsLineage IsSound root ending line → ending line ≡ Cuts place → IsPlace line.area place
   -- only a box with a choice of block sums is split
-  pub has_numbers : (line : Line) (place : At) → IsLineage IsSound root ending line → ending line ≡ Cuts place → HasNumbers line.area
+  pub has_numbers : (line : BoxLine) (place : At) → IsLineage IsSound root ending line → ending line ≡ Cuts place → HasNumbers line.area
   -- no part has a greater bound
-  pub low_falls : (line : Line) (place : At) → IsLineage IsSound root ending line → ending line ≡ Cuts place → IsOptimal (ending (low_line place line)) → bound (low_line place line) ≤ℚ bound line
-  pub high_falls : (line : Line) (place : At) → IsLineage IsSound root ending line → ending line ≡ Cuts place → IsOptimal (ending (high_line place line)) → bound (high_line place line) ≤ℚ bound line
+  pub low_falls : (line : BoxLine) (place : At) → IsLineage IsSound root ending line → ending line ≡ Cuts place → IsOptimal (ending (low_line place line)) → bound (low_line place line) ≤ℚ bound line
+  pub high_falls : (line : BoxLine) (place : At) → IsLineage IsSound root ending line → ending line ≡ Cuts place → IsOptimal (ending (high_line place line)) → bound (high_line place line) ≤ℚ bound line
 
 -- a line that a search of a sound problem can meet
-abbrev pub IsMet : {T K W : Type 0} → Rules T K W → Line → Type 0
+abbrev pub IsMet : {T K W : Type 0} → Rules T K W → BoxLine → Type 0
 IsMet r line = IsLineage r.IsSound r.root r.ending line

@@ -4,31 +4,22 @@ ghost use Rattle.std.specs.Prelude.{◌≡◌, ℕ, List, [], ◌∷◌, All, If
 ghost use Rattle.rational_theory.specs.Rational.{ℚ};
 ghost use Rattle.work_meter.specs.Work.{IsBelow, IsWithin};
 ghost use Rattle.branch_and_bound.specs.Greatest.{IsSettled, bound_of};
-ghost use Rattle.branch_and_bound.specs.State.{IsSearchState, stop_of};
-ghost use Rattle.branch_and_bound.specs.Answer.{IsAnswer};
+ghost use Rattle.branch_and_bound.specs.State.{IsSearchState};
+ghost use Rattle.branch_and_bound.specs.Answer.{IsFound, timing_of};
 
 use crate::found::{Found, Stop, Verdict};
 use crate::greatest::next_waiting;
-use crate::grow::{Growth, grow};
+use crate::grow::grow;
 use crate::incumbent::Incumbent;
 use crate::node::{Node, TreeNode};
+use crate::open::Halt;
+use crate::progress::Progress;
 use crate::relaxation::Relaxation;
-use crate::settle::{Cause, Settled, settle};
+use crate::settle::{Settled, settle};
 use crate::shown::shown;
 use narrow_fraction::{Frac, Memory};
 use std::alloc::{AllocError, Global};
 use work_meter::Meter;
-
-/// Why the search stopped, by why a box wasn't finished.
-fn stop_by<W: Drop>(cause: Cause<W>, spent: u64) -> Stop<W>
-    ensures { result ≡ stop_of cause spent }
-{
-    match cause {
-        Cause::NoWork => Stop::Work { spent },
-        Cause::WorkOut => Stop::Work { spent },
-        Cause::Refused { site } => Stop::Wide(site),
-    }
-}
 
 /// The answer where no node is left to split.
 fn finish<P: Relaxation>(
@@ -41,7 +32,7 @@ fn finish<P: Relaxation>(
     requires within { IsWithin meter.spent meter.limit }
     requires settled { All (λ node. IsSettled incumbent (bound_of node)) nodes.items }
     requires holds { (top : ℚ) × IsSearchState (P.rules _relaxation.now) nodes.items incumbent top meter.spent }
-    ensures { IfOk result (λ found. IsAnswer (P.rules _relaxation.now) meter.limit found.nodes.items found.incumbent found.bound found.spent found.verdict) }
+    ensures { IfOk result (IsFound (P.rules _relaxation.now) meter.limit) }
 {
     let tree = shown(alloc, nodes, &incumbent, None)?;
     match incumbent {
@@ -49,39 +40,48 @@ fn finish<P: Relaxation>(
             verdict: Verdict::Best,
             nodes: tree,
             bound: best.value,
-            incumbent: Some(best),
+            timing: Some(best.timing),
             spent: meter.spent,
         }),
         None => Ok(Found {
             verdict: Verdict::NoTiming,
             nodes: tree,
             bound: Frac::whole(0),
-            incumbent: None,
+            timing: None,
             spent: meter.spent,
         }),
+    }
+}
+
+/// The timing without its value.
+fn timing_of<T: Drop>(incumbent: Option<Incumbent<T>>) -> Option<T>
+    ensures { result ≡ timing_of incumbent }
+{
+    match incumbent {
+        Some(best) => Some(best.timing),
+        None => None,
     }
 }
 
 /// The answer where the search stops.
 fn halt<P: Relaxation>(
     nodes: Vec<TreeNode>,
-    incumbent: Option<Incumbent<P::Timing>>,
+    progress: Progress<P::Timing>,
     bound: Frac,
-    meter: Meter,
-    cause: Cause<P::Part>,
+    stop: Stop<P::Part>,
 ) -> Found<P::Timing, P::Part>
     ensures nodes { result.nodes ≡ nodes }
-    ensures incumbent { result.incumbent ≡ incumbent }
+    ensures timing { result.timing ≡ timing_of progress.incumbent }
     ensures bound { result.bound ≡ bound }
-    ensures spent { result.spent ≡ meter.spent }
-    ensures verdict { result.verdict ≡ Verdict.Stopped (stop_of cause meter.spent) }
+    ensures spent { result.spent ≡ progress.meter.spent }
+    ensures verdict { result.verdict ≡ Verdict.Stopped stop }
 {
     Found {
-        verdict: Verdict::Stopped(stop_by(cause, meter.spent)),
+        verdict: Verdict::Stopped(stop),
         nodes,
-        incumbent,
+        timing: timing_of(progress.incumbent),
         bound,
-        spent: meter.spent,
+        spent: progress.meter.spent,
     }
 }
 
@@ -91,46 +91,35 @@ fn run<P: Relaxation>(
     relaxation: &P,
     room: &mut P::Room,
     mut nodes: Vec<Node<P::Kept>>,
-    mut incumbent: Option<Incumbent<P::Timing>>,
-    mut meter: Meter,
+    mut progress: Progress<P::Timing>,
 ) -> Result<Found<P::Timing, P::Part>, Memory>
     requires ready { P.Ready relaxation.now room.old }
-    requires within { IsWithin meter.spent meter.limit }
-    requires holds { (top : ℚ) × IsSearchState (P.rules relaxation.now) nodes.items incumbent top meter.spent }
-    ensures { IfOk result (λ found. IsAnswer (P.rules relaxation.now) meter.limit found.nodes.items found.incumbent found.bound found.spent found.verdict) }
+    requires within { IsWithin progress.meter.spent progress.meter.limit }
+    requires holds { (top : ℚ) × IsSearchState (P.rules relaxation.now) nodes.items progress.incumbent top progress.meter.spent }
+    ensures { IfOk result (IsFound (P.rules relaxation.now) progress.meter.limit) }
 {
-    'splits: while let Some(greatest) = next_waiting(nodes.as_slice(), &incumbent) {
-        let growth = grow(
+    'splits: while let Some(greatest) = next_waiting(nodes.as_slice(), &progress.incumbent) {
+        match grow(
             alloc,
             relaxation,
             room,
             &mut nodes,
             &greatest,
-            &mut incumbent,
-            &mut meter,
-        )?;
-        match growth {
-            Growth::Grown => {}
-            Growth::Undone { side: _, cause } => {
-                let tree = shown(alloc, nodes, &incumbent, Some(greatest.index))?;
-                return Ok(halt::<P>(tree, incumbent, greatest.bound, meter, cause));
+            &mut progress,
+        ) {
+            Ok(()) => {}
+            Err(Halt::Stopped(stop)) => {
+                let tree = shown(alloc, nodes, &progress.incumbent, Some(greatest.index))?;
+                return Ok(halt::<P>(tree, progress, greatest.bound, stop));
             }
+            Err(Halt::Memory) => return Err(Memory),
         }
     }
-    finish(alloc, relaxation, nodes, incumbent, meter)
+    finish(alloc, relaxation, nodes, progress.incumbent, progress.meter)
 }
 
-/// A tree of the root alone, while the search runs.
-fn single<K: Drop>(alloc: Global, node: Node<K>) -> Result<Vec<Node<K>>, AllocError>
-    ensures { IfOk result (λ nodes. nodes.items ≡ node ∷ []) }
-{
-    let mut nodes = Vec::new(alloc);
-    nodes.push(node)?;
-    Ok(nodes)
-}
-
-/// A tree of the root alone, as it is answered.
-fn alone(alloc: Global, node: TreeNode) -> Result<Vec<TreeNode>, AllocError>
+/// A tree of the root alone.
+fn single<N: Drop>(alloc: Global, node: N) -> Result<Vec<N>, AllocError>
     ensures { IfOk result (λ nodes. nodes.items ≡ node ∷ []) }
 {
     let mut nodes = Vec::new(alloc);
@@ -152,25 +141,27 @@ pub fn search<P: Relaxation>(
     requires ready { P.Ready relaxation.now room.old }
     requires sound { (P.rules relaxation.now).IsSound }
     requires limit { IsBelow 0 limit }
-    ensures { IfOk result (λ found. IsAnswer (P.rules relaxation.now) limit found.nodes.items found.incumbent found.bound found.spent found.verdict) }
+    ensures { IfOk result (IsFound (P.rules relaxation.now) limit) }
 {
     let area = relaxation.root(alloc)?;
-    let mut meter = Meter { spent: 0, limit };
-    let mut incumbent = None;
-    let opened = relaxation.open_root(alloc, room, &area, &mut meter)?;
-    match settle(relaxation, opened, area, &mut incumbent) {
+    let mut progress = Progress {
+        incumbent: None,
+        meter: Meter { spent: 0, limit },
+    };
+    let opened = relaxation.open_root(alloc, room, &area, &mut progress.meter)?;
+    match settle(relaxation, opened, area, &mut progress) {
         Settled::Done { node } => {
             let nodes = single(alloc, node)?;
-            run(alloc, relaxation, room, nodes, incumbent, meter)
+            run(alloc, relaxation, room, nodes, progress)
         }
         Settled::Stuck { leaf, bound, site } => {
-            let tree = alone(alloc, TreeNode::Waiting { leaf })?;
-            Ok(halt::<P>(tree, incumbent, bound, meter, Cause::Refused { site }))
+            let tree = single(alloc, TreeNode::Waiting { leaf })?;
+            Ok(halt::<P>(tree, progress, bound, Stop::Wide(site)))
         }
-        Settled::Left { cause } => {
+        Settled::Left { stop } => {
             let (leaf, bound) = relaxation.start_leaf(alloc)?;
-            let tree = alone(alloc, TreeNode::Waiting { leaf })?;
-            Ok(halt::<P>(tree, incumbent, bound, meter, cause))
+            let tree = single(alloc, TreeNode::Waiting { leaf })?;
+            Ok(halt::<P>(tree, progress, bound, stop))
         }
     }
 }

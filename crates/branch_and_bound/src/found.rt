@@ -1,6 +1,5 @@
 //! What the search answers.
 
-use crate::incumbent::Incumbent;
 use crate::node::TreeNode;
 use narrow_fraction::Frac;
 use search_box::SearchBox;
@@ -40,7 +39,7 @@ pub enum Verdict<W> {
 pub struct Found<T, W> {
     pub verdict: Verdict<W>,
     pub nodes: Vec<TreeNode>,
-    pub incumbent: Option<Incumbent<T>>,
+    pub timing: Option<T>,
     pub bound: Frac,
     pub spent: u64,
 }

@@ -3,11 +3,11 @@
 //!
 //! Start with `Relaxation`, which says what is asked of a problem, and `search`. Everything that `search` needs to know
 //! of the problem stands in one record of numbers, facts and laws, `specs/Rules.antt`; what it answers is one clause,
-//! `IsAnswer` of `specs/Answer.antt`: the tree proves the verdict, every split and leaf of it was needed, the units of
+//! `IsFound` of `specs/Answer.antt`: the tree proves the verdict, every split and leaf of it was needed, the units of
 //! work are those of its boxes and at most the limit, and a stop has one cause at one place.
 //!
 //! - `Lines`: a tree is the list of its nodes in preorder, read with the list of the lines that still want a tree, a line
-//!   being a box with the boxes above it: `Line`, `Fills`, `Finds`, `total`, `line_after`. `Matchings`: trees whose nodes correspond.
+//!   being a box with the boxes above it: `BoxLine`, `Fills`, `Finds`, `total`, `line_after`. `Matchings`: trees whose nodes correspond.
 //! - `Choices`: how many choices of block sums and ranks a box has; each split shares them out.
 //! - `Lineages`: how the pivots of a box end, and `IsLineage`, the lines of boxes that a search can meet.
 //! - `Rules`: the record, with its six laws. `Unfinished`: boxes whose steps didn't come to a leaf. `Opening`: what opening
@@ -42,6 +42,7 @@ mod laws;
 mod node;
 mod open;
 mod opened;
+mod progress;
 mod relaxation;
 mod settle;
 mod shown;

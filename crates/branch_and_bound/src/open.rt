@@ -3,43 +3,45 @@
 ghost use Rattle.std.specs.Prelude.{◌≡◌, true, false, IfOk};
 ghost use Rattle.search_box.specs.Places.{IsPlace, low_part, high_part};
 ghost use Rattle.search_box.specs.declared.span.At.{At};
-ghost use Rattle.branch_and_bound.specs.Lines.{Line};
+ghost use Rattle.branch_and_bound.specs.Lines.{BoxLine};
 ghost use Rattle.work_meter.specs.Work.{IsWithin};
 ghost use Rattle.branch_and_bound.specs.OpenedNodes.{IsPart};
-ghost use Rattle.branch_and_bound.specs.State.{IsCut, Ends, SettlesBoth, ended};
+ghost use Rattle.branch_and_bound.specs.State.{IsCut, EndsAt, EndsBothAt, ended};
 
-use crate::incumbent::Incumbent;
+use crate::found::Stop;
 use crate::node::Node;
+use crate::progress::Progress;
 use crate::relaxation::Relaxation;
-use crate::settle::{Cause, Settled, settle};
+use crate::settle::{Settled, settle};
 use narrow_fraction::Memory;
 use search_box::{At, SearchBox};
 use std::alloc::Global;
-use work_meter::Meter;
 
-/// What became of a part of a box.
+/// Why a split was undone.
 #[derive(Drop)]
-pub(crate) enum Ended<K, W> {
-    /// It is a leaf.
-    Whole { node: Node<K> },
-    /// It wasn't finished.
-    Part { cause: Cause<W> },
+pub(crate) enum Halt<W> {
+    /// A part wasn't finished, and the search stops.
+    Stopped(Stop<W>),
+    /// Want of memory.
+    Memory,
 }
 
-/// One of the two parts of a box.
-#[derive(Clone, Copy, PartialEq, Eq)]
-pub(crate) enum Side {
-    Low,
-    High,
+impl<W: Drop> From<Memory> for Halt<W> {
+    ghost use Rattle.branch_and_bound.specs.declared.open.Halt.TheVariants as halt;
+
+    ghost from_gives = { λ _ made. made ≡ halt.Memory };
+
+    fn from(_memory: Memory) -> Halt<W> {
+        Halt::Memory
+    }
 }
 
-/// What became of the two parts of a box.
+/// A box with the place at which it is split, and what it kept for its parts.
 #[derive(Drop)]
-pub(crate) enum Parts<K, W> {
-    /// Both are leaves.
-    Both { low: Node<K>, high: Node<K> },
-    /// This part wasn't finished.
-    Halted { side: Side, cause: Cause<W> },
+pub(crate) struct Cut<'a, K> {
+    pub(crate) area: &'a SearchBox,
+    pub(crate) place: At,
+    pub(crate) kept: &'a K,
 }
 
 /// The two parts of a box at a place that lies in it.
@@ -55,15 +57,13 @@ fn halves(alloc: Global, area: &SearchBox, place: At) -> Result<(SearchBox, Sear
 }
 
 /// The end of a part, which isn't finished where its vertex couldn't be read.
-fn end_of<K: Drop, W: Drop>(settled: Settled<K, W>) -> Ended<K, W>
+fn end_of<K: Drop, W: Drop>(settled: Settled<K, W>) -> Result<Node<K>, Halt<W>>
     ensures { result ≡ ended settled }
 {
     match settled {
-        Settled::Done { node } => Ended::Whole { node },
-        Settled::Stuck { site, .. } => Ended::Part {
-            cause: Cause::Refused { site },
-        },
-        Settled::Left { cause } => Ended::Part { cause },
+        Settled::Done { node } => Ok(node),
+        Settled::Stuck { site, .. } => Err(Halt::Stopped(Stop::Wide(site))),
+        Settled::Left { stop } => Err(Halt::Stopped(stop)),
     }
 }
 
@@ -74,24 +74,22 @@ fn open_side<P: Relaxation>(
     room: &mut P::Room,
     area: SearchBox,
     kept: &P::Kept,
-    incumbent: &mut Option<Incumbent<P::Timing>>,
-    meter: &mut Meter,
-) -> Result<Ended<P::Kept, P::Part>, Memory>
+    progress: &mut Progress<P::Timing>,
+) -> Result<Node<P::Kept>, Halt<P::Part>>
     requires ready { P.Ready relaxation.now room.old }
-    requires within { IsWithin meter.old.spent meter.old.limit }
-    requires part { (parent line : Line) × (place : At) × IsPart (P.rules relaxation.now) parent place line kept.now area }
+    requires within { IsWithin progress.old.meter.spent progress.old.meter.limit }
+    requires part { (parent line : BoxLine) × (place : At) × IsPart (P.rules relaxation.now) parent place line kept.now area }
     ensures ready { P.Ready relaxation.now room.new }
-    ensures limit { meter.new.limit ≡ meter.old.limit }
-    ensures ends { IfOk result (λ ended. (parent line : Line) (place : At) → IsPart (P.rules relaxation.now) parent place line kept.now area
-        → Ends (P.rules relaxation.now) line incumbent.old incumbent.new meter.old meter.new ended) }
+    ensures limit { progress.new.meter.limit ≡ progress.old.meter.limit }
+    ensures ends { EndsAt (P.rules relaxation.now) area kept.now progress.old progress.new result }
 {
-    if meter.is_out() {
-        return Ok(Ended::Part {
-            cause: Cause::NoWork,
-        });
+    if progress.meter.is_out() {
+        return Err(Halt::Stopped(Stop::Work {
+            spent: progress.meter.spent,
+        }));
     }
-    let opened = relaxation.open_part(alloc, room, kept, &area, meter)?;
-    Ok(end_of(settle(relaxation, opened, area, incumbent)))
+    let opened = relaxation.open_part(alloc, room, kept, &area, &mut progress.meter)?;
+    end_of(settle(relaxation, opened, area, progress))
 }
 
 /// Opens the low part and then the high part of a box.
@@ -99,36 +97,19 @@ pub(crate) fn open_parts<P: Relaxation>(
     alloc: Global,
     relaxation: &P,
     room: &mut P::Room,
-    area: &SearchBox,
-    place: At,
-    kept: &P::Kept,
-    incumbent: &mut Option<Incumbent<P::Timing>>,
-    meter: &mut Meter,
-) -> Result<Parts<P::Kept, P::Part>, Memory>
+    cut: &Cut<'_, P::Kept>,
+    progress: &mut Progress<P::Timing>,
+) -> Result<(Node<P::Kept>, Node<P::Kept>), Halt<P::Part>>
     requires ready { P.Ready relaxation.now room.old }
-    requires within { IsWithin meter.old.spent meter.old.limit }
-    requires cut { (line : Line) × IsCut (P.rules relaxation.now) line area.now place kept.now }
-    requires inside { IsPlace area.now place }
+    requires within { IsWithin progress.old.meter.spent progress.old.meter.limit }
+    requires cut { (line : BoxLine) × IsCut (P.rules relaxation.now) line cut.now.area.now cut.now.place cut.now.kept.now }
+    requires inside { IsPlace cut.now.area.now cut.now.place }
     ensures ready { P.Ready relaxation.now room.new }
-    ensures limit { meter.new.limit ≡ meter.old.limit }
-    ensures settles { IfOk result (λ parts. (line : Line) → IsCut (P.rules relaxation.now) line area.now place kept.now
-        → SettlesBoth (P.rules relaxation.now) line place incumbent.old incumbent.new meter.old meter.new parts) }
+    ensures limit { progress.new.meter.limit ≡ progress.old.meter.limit }
+    ensures ends { EndsBothAt (P.rules relaxation.now) cut.now.area.now cut.now.place cut.now.kept.now progress.old progress.new result }
 {
-    let (low_box, high_box) = halves(alloc, area, place)?;
-    let low = match open_side(alloc, relaxation, room, low_box, kept, incumbent, meter)? {
-        Ended::Whole { node } => node,
-        Ended::Part { cause } => {
-            return Ok(Parts::Halted {
-                side: Side::Low,
-                cause,
-            });
-        }
-    };
-    match open_side(alloc, relaxation, room, high_box, kept, incumbent, meter)? {
-        Ended::Whole { node } => Ok(Parts::Both { low, high: node }),
-        Ended::Part { cause } => Ok(Parts::Halted {
-            side: Side::High,
-            cause,
-        }),
-    }
+    let (low_box, high_box) = halves(alloc, cut.area, cut.place)?;
+    let low = open_side(alloc, relaxation, room, low_box, cut.kept, progress)?;
+    let high = open_side(alloc, relaxation, room, high_box, cut.kept, progress)?;
+    Ok((low, high))
 }

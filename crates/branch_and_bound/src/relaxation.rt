@@ -2,7 +2,7 @@
 
 ghost use Rattle.std.specs.Prelude.{◌≡◌, IfOk};
 ghost use Rattle.search_box.specs.declared.span.At.{At};
-ghost use Rattle.branch_and_bound.specs.Lines.{Line, top_line};
+ghost use Rattle.branch_and_bound.specs.Lines.{BoxLine, top_line};
 ghost use Rattle.branch_and_bound.specs.Rules.{Rules};
 ghost use Rattle.work_meter.specs.Work.{HasWork};
 ghost use Rattle.branch_and_bound.specs.OpenedNodes.{Opens, IsPart};
@@ -66,9 +66,9 @@ pub trait Relaxation {
     ) -> Result<Opened<Self::Timing, Self::Kept, Self::Part>, Memory>
         requires ready { Ready self.now room.old }
         requires work { HasWork meter.old }
-        requires part { (parent line : Line) × (place : At) × IsPart (rules self.now) parent place line kept.now area.now }
+        requires part { (parent line : BoxLine) × (place : At) × IsPart (rules self.now) parent place line kept.now area.now }
         ensures ready { Ready self.now room.new }
         ensures limit { meter.new.limit ≡ meter.old.limit }
-        ensures opens { IfOk result (λ opened. (parent line : Line) (place : At) → IsPart (rules self.now) parent place line kept.now area.now
+        ensures opens { IfOk result (λ opened. (parent line : BoxLine) (place : At) → IsPart (rules self.now) parent place line kept.now area.now
             → Opens (rules self.now) line meter.old meter.new opened) };
 }

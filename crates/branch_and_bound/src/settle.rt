@@ -1,30 +1,17 @@
 //! What becomes of a box that was opened.
 
 ghost use Rattle.std.specs.Prelude.{◌≡◌};
-ghost use Rattle.branch_and_bound.specs.Lines.{Line};
-ghost use Rattle.work_meter.specs.declared.meter.Meter.{Meter};
-ghost use Rattle.branch_and_bound.specs.OpenedNodes.{Opens};
-ghost use Rattle.branch_and_bound.specs.State.{Settles};
+ghost use Rattle.branch_and_bound.specs.State.{SettlesAt};
 
-use crate::found::Site;
-use crate::incumbent::{Incumbent, improve};
+use crate::found::{Site, Stop};
+use crate::incumbent::improve;
 use crate::node::Node;
 use crate::opened::Opened;
+use crate::progress::Progress;
 use crate::relaxation::Relaxation;
 use named_row::Leaf;
 use narrow_fraction::Frac;
 use search_box::SearchBox;
-
-/// Why a box wasn't finished.
-#[derive(Drop)]
-pub(crate) enum Cause<W> {
-    /// All units were spent before it was opened.
-    NoWork,
-    /// A pivot was due, and all units were spent.
-    WorkOut,
-    /// An operation was refused.
-    Refused { site: Site<W> },
-}
 
 /// What became of a box.
 #[derive(Drop)]
@@ -41,7 +28,7 @@ pub(crate) enum Settled<K, W> {
     },
     /// It wasn't finished.
     Left {
-        cause: Cause<W>,
+        stop: Stop<W>,
     },
 }
 
@@ -57,10 +44,10 @@ pub(crate) fn settle<P: Relaxation>(
     _relaxation: &P,
     opened: Opened<P::Timing, P::Kept, P::Part>,
     area: SearchBox,
-    incumbent: &mut Option<Incumbent<P::Timing>>,
+    progress: &mut Progress<P::Timing>,
 ) -> Settled<P::Kept, P::Part>
-    ensures { (line : Line) (before after : Meter) → area ≡ line.area → Opens (P.rules _relaxation.now) line before after opened
-        → Settles (P.rules _relaxation.now) line incumbent.old incumbent.new before after result }
+    ensures meter { progress.new.meter ≡ progress.old.meter }
+    ensures settles { SettlesAt (P.rules _relaxation.now) area opened progress.old.incumbent progress.new.incumbent progress.old.meter result }
 {
     match opened {
         Opened::Infeasible { leaf } => Settled::Done {
@@ -71,7 +58,7 @@ pub(crate) fn settle<P: Relaxation>(
             bound,
             timing,
         } => {
-            improve(incumbent, bound, timing);
+            improve(&mut progress.incumbent, bound, timing);
             Settled::Done {
                 node: Node::Closed { leaf },
             }
@@ -99,12 +86,12 @@ pub(crate) fn settle<P: Relaxation>(
             part,
         } => unread(leaf, bound, Site { area, pivots, part }),
         Opened::WorkOut => Settled::Left {
-            cause: Cause::WorkOut,
+            stop: Stop::Work {
+                spent: progress.meter.spent,
+            },
         },
         Opened::Wide { pivots, part } => Settled::Left {
-            cause: Cause::Refused {
-                site: Site { area, pivots, part },
-            },
+            stop: Stop::Wide(Site { area, pivots, part }),
         },
     }
 }

@@ -13,7 +13,7 @@ use Rattle.search_box.specs.declared.span.At.{At}
 use Rattle.search_box.specs.declared.span.At.TheVariants.{Loop, Turn}
 use Rattle.search_box.specs.Places.{IsPlace}
 use Rattle.named_row.specs.declared.leaves.Leaf.{Leaf}
-use Rattle.branch_and_bound.specs.Lines.{Line, top_line, low_line, high_line, owed, Fills, line_after}
+use Rattle.branch_and_bound.specs.Lines.{BoxLine, top_line, low_line, high_line, owed, Fills, line_after}
 use Rattle.branch_and_bound.proofs.Walks.{Fills-both}
 use Rattle.plan_text.specs.Families.{Table, ordinary}
 use Rattle.plan_text.specs.Warrants.{IsNodeIn, IsNode, SplitAt, LeafOf}
@@ -24,11 +24,11 @@ use Rattle.branch_and_bound.specs.declared.node.TreeNode.{TreeNode}
 use Rattle.branch_and_bound.specs.declared.node.TreeNode.TheVariants.{Split, Closed, Waiting}
 use Rattle.branch_and_bound.specs.declared.found.Site.{Site}
 use Rattle.branch_and_bound.specs.declared.found.Stop.TheVariants.{Work, Wide}
+use Rattle.branch_and_bound.specs.declared.found.Found as engine
 use Rattle.branch_and_bound.specs.declared.found.Verdict.{Verdict}
 use Rattle.branch_and_bound.specs.declared.found.Verdict.TheVariants.{Best, NoTiming, Stopped}
-use Rattle.branch_and_bound.specs.Answer.{IsAnswer, cut_of, lines_of, line_at, IsAcceptedNode, IsNeededNode, IsStart, IsNeededStop, StopCase, RootLeft, RootUnread, BeforeLow, InLow, BeforeHigh, InHigh, Spot, IsSpot, HasSpot, IsSite, IsWideStop}
+use Rattle.branch_and_bound.specs.Answer.{IsAnswer, IsFound, timing_of, cut_of, lines_of, line_at, IsAcceptedNode, IsNeededNode, IsStart, IsNeededStop, StopCase, RootLeft, RootUnread, BeforeLow, InLow, BeforeHigh, InHigh, Spot, IsSpot, HasSpot, IsSite, IsWideStop}
 use Rattle.branch_tree.specs.declared.site.SitePart.{SitePart}
-use Rattle.branch_tree.specs.declared.found.Found.{Found}
 use Rattle.branch_tree.specs.ArteryProgram.{program_of}
 use Rattle.branch_tree.specs.Ends.{end_leaf}
 use Rattle.branch_tree.specs.Lineage.{IsSearchable}
@@ -37,7 +37,7 @@ use Rattle.branch_tree.specs.ArteryRules.{rules_of}
 use Rattle.branch_tree.specs.Relaxed.{IsStartLeaf, IsTiming}
 use Rattle.branch_tree.specs.Trees.{node_of}
 use Rattle.branch_tree.specs.Searches.{incumbent_of, IsSearch}
-use Rattle.branch_tree.specs.Told.{plan_of, valued, TellsOf, Tells, IsTimed, IsCertifiable}
+use Rattle.branch_tree.specs.Told.{Found, valued, TellsOf, Tells, IsTimed, IsCertifiable}
 use Rattle.branch_tree.specs.SiteNames.{IsSiteOf, EndsAt, HasSite}
 use Rattle.branch_tree.proofs.KeptLeaves.{end_kept, start_kept}
 use Rattle.branch_tree.proofs.Certificates.{certified, proven_trees}
@@ -49,7 +49,7 @@ some_value x y e = cc
 
 -- of rules whose good timings have a value of their own
 module _ {T K W : Type 0} (r : Rules T K W) (value : T → ℚ) (own : (t : T) (v : ℚ) → r.IsGood t v → value t ≡ v) where
-  known : (best : Option (Incumbent T)) → IfSome best (λ b. r.IsGood b.timing b.value) → best ≡ valued value (plan_of best)
+  known : (best : Option (Incumbent T)) → IfSome best (λ b. r.IsGood b.timing b.value) → best ≡ valued value (timing_of best)
   known None h = refl
   known (Some b) h = ap (λ v. Some (record { value = v; timing = b.timing })) (sym (own b.timing b.value h))
 
@@ -62,7 +62,7 @@ module _ {T K W : Type 0} (r : Rules T K W) (value : T → ℚ) (own : (t : T) (
     best_good (Some b) (Stopped stop) h = h.good.0
 
     -- so the value need not be told
-    pub answer_valued : (best : Option (Incumbent T)) (verdict : Verdict W) → IsAnswer r limit nodes best bound spent verdict → IsAnswer r limit nodes (valued value (plan_of best)) bound spent verdict
+    pub answer_valued : (best : Option (Incumbent T)) (verdict : Verdict W) → IsAnswer r limit nodes best bound spent verdict → IsAnswer r limit nodes (valued value (timing_of best)) bound spent verdict
     answer_valued best verdict h = subst (λ b. IsAnswer r limit nodes b bound spent verdict) (known best (best_good best verdict h)) h
 
     pub timing_good : (timing : Option T) (verdict : Verdict W) → IsAnswer r limit nodes (valued value timing) bound spent verdict → IfSome timing (λ t. r.IsGood t (value t))
@@ -77,6 +77,13 @@ module _ {T K W : Type 0} (r : Rules T K W) (value : T → ℚ) (own : (t : T) (
     tells None (Stopped stop) h = tt
     tells (Some t) (Stopped stop) h = h.good.1
 
+-- and of what an engine's search found
+pub found_valued : {T K W : Type 0} (r : Rules T K W) (value : T → ℚ) → ((t : T) (v : ℚ) → r.IsGood t v → value t ≡ v) → (limit : Option ℕ) (found : engine.Found T W)
+    → IsFound r limit found → IsAnswer r limit found.nodes.items (valued value found.timing) found.bound found.spent found.verdict
+found_valued r value own limit found h =
+    subst (λ t. IsAnswer r limit found.nodes.items (valued value t) found.bound found.spent found.verdict) (sym h.timing)
+    (answer_valued r value own limit found.nodes.items found.bound found.spent h.best found.verdict h.answer)
+
 pub timed : {T W : Type 0} (value : T → ℚ) (timing : Option T) (bound : ℚ) (verdict : Verdict W) → TellsOf value timing bound verdict → IsTimed timing verdict
 timed value None bound Best h = absurd h
 timed value (Some t) bound Best h = refl
@@ -87,11 +94,10 @@ timed value timing bound (Stopped stop) h = tt
 own_value : (a : Street) (plan : Plan) (v : ℚ) → IsTiming a plan v → weighted_band a plan ≡ v
 own_value a plan v h = h.1
 
-module _ (a : Street) (limit : Option ℕ) (nodes : List TreeNode) (bound : ℚ) (spent : ℕ) where
-  pub answer_known : (best : Option (Incumbent Plan)) (verdict : Verdict SitePart) → IsAnswer (rules_of a) limit nodes best bound spent verdict
-      → IsAnswer (rules_of a) limit nodes (incumbent_of a (plan_of best)) bound spent verdict
-  answer_known best verdict h = answer_valued (rules_of a) (weighted_band a) (own_value a) limit nodes bound spent best verdict h
+pub answer_known : (a : Street) (limit : Option ℕ) (found : Found) → IsFound (rules_of a) limit found → IsSearch a limit found
+answer_known a limit found h = found_valued (rules_of a) (weighted_band a) (own_value a) limit found h
 
+module _ (a : Street) (limit : Option ℕ) (nodes : List TreeNode) (bound : ℚ) (spent : ℕ) where
   pub plan_good : (timing : Option Plan) (verdict : Verdict SitePart) → IsAnswer (rules_of a) limit nodes (incumbent_of a timing) bound spent verdict → IfSome timing (λ plan. Good a plan)
   plan_good None verdict h = tt
   plan_good (Some plan) verdict h = (timing_good (rules_of a) (weighted_band a) (own_value a) limit nodes bound spent (Some plan) verdict h).0
@@ -101,19 +107,19 @@ module _ (a : Street) (limit : Option ℕ) (nodes : List TreeNode) (bound : ℚ)
 
 -- ---- the tree
 -- of any rules whose ends and whose start have leaves that a certificate keeps, by the names of a table
-module _ {T K W : Type 0} (r : Rules T K W) (table : Table) (ends : (line : Line) (leaf : Leaf) → r.IsLeaf line leaf → IsNodeIn table (LeafOf leaf.multipliers.items))
+module _ {T K W : Type 0} (r : Rules T K W) (table : Table) (ends : (line : BoxLine) (leaf : Leaf) → r.IsLeaf line leaf → IsNodeIn table (LeafOf leaf.multipliers.items))
     (starts : (leaf : Leaf) → r.IsStart leaf → IsNodeIn table (LeafOf leaf.multipliers.items)) where
   place_kept : (box : Area) (place : At) → IsPlace box place → IsNodeIn table (SplitAt place)
   place_kept box (Loop link at) h = h.0
   place_kept box (Turn signal rank) h = h.0
 
   module _ (claim : Option ℚ) (best : Option (Incumbent T)) where
-    node_kept : (line : Line) (node : TreeNode) → IsAcceptedNode r claim line node × IsNeededNode r best line node → IsNodeIn table (node_of node)
+    node_kept : (line : BoxLine) (node : TreeNode) → IsAcceptedNode r claim line node × IsNeededNode r best line node → IsNodeIn table (node_of node)
     node_kept line (Split place point) h = place_kept line.area place h.0
     node_kept line (Closed leaf) h = ends line leaf h.1.leaf_is
     node_kept line (Waiting leaf) h = ends line leaf h.1.leaf_is
 
-    nodes_kept : (lines : List Line) (nodes : List TreeNode) → Fills cut_of (λ line node. IsAcceptedNode r claim line node × IsNeededNode r best line node) lines nodes → All (λ node. IsNodeIn table (node_of node)) nodes
+    nodes_kept : (lines : List BoxLine) (nodes : List TreeNode) → Fills cut_of (λ line node. IsAcceptedNode r claim line node × IsNeededNode r best line node) lines nodes → All (λ node. IsNodeIn table (node_of node)) nodes
     nodes_kept lines [] h = All-nil (λ node. IsNodeIn table (node_of node))
     nodes_kept [] (node ∷ nodes) h = absurd h
     nodes_kept (line ∷ lines) (node ∷ nodes) h = All-cons (λ n. IsNodeIn table (node_of n)) node nodes (node_kept line node h.0) (nodes_kept (owed (cut_of node) line lines) nodes h.1)
@@ -145,7 +151,7 @@ module _ {T K W : Type 0} (r : Rules T K W) (table : Table) (ends : (line : Line
       pick (inr t) = tree_kept (Some bound) best nodes h.accepted t
 
 -- of an artery's
-leaf_kept : (a : Street) → IsValid a → (line : Line) (leaf : Leaf) → leaf.multipliers.items ≡ end_leaf (program_of a) line → IsNode (LeafOf leaf.multipliers.items)
+leaf_kept : (a : Street) → IsValid a → (line : BoxLine) (leaf : Leaf) → leaf.multipliers.items ≡ end_leaf (program_of a) line → IsNode (LeafOf leaf.multipliers.items)
 leaf_kept a v line leaf e = subst (λ us. IsNode (LeafOf us)) (sym e) (end_kept a v line)
 
 first_kept : (a : Street) → IsValid a → (leaf : Leaf) → IsStartLeaf a leaf → IsNode (LeafOf leaf.multipliers.items)
@@ -160,18 +166,18 @@ certifiable a v limit found h = record {
 
 -- ---- the site
 -- of any rules: what is true of each site on a line that a search can meet
-module _ {T K W : Type 0} (r : Rules T K W) (sound : r.IsSound) (Named : Site W → Type 0) (site_on : (line : Line) (k : ℕ) (site : Site W) → IsMet r line → IsSite r line k site → Named site) where
-  abbrev AreMet : List Line → Type 0
+module _ {T K W : Type 0} (r : Rules T K W) (sound : r.IsSound) (Named : Site W → Type 0) (site_on : (line : BoxLine) (k : ℕ) (site : Site W) → IsMet r line → IsSite r line k site → Named site) where
+  abbrev AreMet : List BoxLine → Type 0
   AreMet [] = Unit {0}
   AreMet (line ∷ lines) = IsMet r line × AreMet lines
 
-  owed_met : (best : Option (Incumbent T)) (line : Line) (lines : List Line) (node : TreeNode) → IsMet r line → AreMet lines → IsNeededNode r best line node → AreMet (owed (cut_of node) line lines)
+  owed_met : (best : Option (Incumbent T)) (line : BoxLine) (lines : List BoxLine) (node : TreeNode) → IsMet r line → AreMet lines → IsNeededNode r best line node → AreMet (owed (cut_of node) line lines)
   owed_met best line lines (Split place point) l m h = (at_low line place l h.end, (at_high line place l h.end, m))
   owed_met best line lines (Closed leaf) l m h = m
   owed_met best line lines (Waiting leaf) l m h = m
 
   -- the line of a node of a needed tree is one that a search can meet
-  line_met : (best : Option (Incumbent T)) (index : ℕ) (lines : List Line) (nodes : List TreeNode) (node : TreeNode) → AreMet lines → Fills cut_of (IsNeededNode r best) lines nodes
+  line_met : (best : Option (Incumbent T)) (index : ℕ) (lines : List BoxLine) (nodes : List TreeNode) (node : TreeNode) → AreMet lines → Fills cut_of (IsNeededNode r best) lines nodes
       → slice_get nodes index ≡ Some node → IsMet r (line_after cut_of lines (take index nodes))
   line_met best index lines [] node m h e = absurd (let f = e in cc)
   line_met best index [] (n ∷ nodes) node m h e = absurd h
@@ -204,7 +210,7 @@ module _ {T K W : Type 0} (r : Rules T K W) (sound : r.IsSound) (Named : Site W 
 
 -- of an artery's
 module _ (a : Street) (sound : IsSearchable a) where
-  site_of : (line : Line) (k : ℕ) (site : Site SitePart) → IsMet (rules_of a) line → IsSite (rules_of a) line k site → IsSiteOf a site
+  site_of : (line : BoxLine) (k : ℕ) (site : Site SitePart) → IsMet (rules_of a) line → IsSite (rules_of a) line k site → IsSiteOf a site
   site_of line k site m h = record {
     boxed = subst (IsBoxOf a) (sym h.area_is) (boxed a line m);
     part = part_named a line sound.valid k site.part h.part_is.refused;

@@ -7,7 +7,7 @@ use Rattle.recovery_theory.specs.Vertices.{IsVertex}
 use Rattle.rational_theory.specs.Rational.{ℚ}
 use Rattle.simplex_theory.specs.BlandRule.{optimal}
 use Rattle.offset_recovery.specs.Recovered.{recovered}
-use Rattle.branch_and_bound.specs.Lines.{Line}
+use Rattle.branch_and_bound.specs.Lines.{BoxLine}
 use Rattle.branch_tree.specs.ArteryProgram.{program_of}
 use Rattle.branch_tree.specs.ArteryRules.{meaning_of}
 use Rattle.branch_tree.specs.Ends.{end_move, end_point}
@@ -31,5 +31,5 @@ artery_ends_prove a v = record {
 }
 
 -- the vertex of an optimal end is a point of the box
-pub end_vertex : (a : Street) (line : Line) → IsValid a → (box : Area) (xs : List ℚ) → line.area ≡ box → end_move (program_of a) line ≡ optimal → xs ≡ end_point (program_of a) line → IsVertex a box xs
+pub end_vertex : (a : Street) (line : BoxLine) → IsValid a → (box : Area) (xs : List ℚ) → line.area ≡ box → end_move (program_of a) line ≡ optimal → xs ≡ end_point (program_of a) line → IsVertex a box xs
 end_vertex a line v box xs e o x = subst (λ b. IsVertex a b xs) e (subst (IsVertex a line.area) (sym x) (optimal_end a line v o).vertex)

@@ -6,7 +6,7 @@ use Rattle.artery_model.specs.Valid.{IsValid}
 use Rattle.linear_theory.specs.Boxes.{root_box}
 use Rattle.loop_rows.specs.Weights.{leaf_fault}
 use Rattle.certificate_checker.specs.Accepted.{IsProof}
-use Rattle.branch_and_bound.specs.Lines.{Line}
+use Rattle.branch_and_bound.specs.Lines.{BoxLine}
 use Rattle.branch_and_bound.specs.Lineages.{Empty, IsOptimal}
 use Rattle.branch_tree.specs.ArteryProgram.{program_of}
 use Rattle.branch_tree.specs.Ends.{end_bound, end_leaf, ending_of}
@@ -16,7 +16,7 @@ use Rattle.branch_tree.proofs.StartFits.{start_fits}
 use Rattle.branch_tree.specs.laws.BoxLaws.{ends_optimal, ends_infeasible}
 use Rattle.branch_tree.proofs.LeafFaults.{proof_of}
 
-module _ (a : Street) (line : Line) (v : IsValid a) (f : leaf_fault a line.area (end_leaf (program_of a) line) ≡ None) where
+module _ (a : Street) (line : BoxLine) (v : IsValid a) (f : leaf_fault a line.area (end_leaf (program_of a) line) ≡ None) where
   pub end_covers : IsOptimal (ending_of (program_of a) line) → IsProof a (Some (end_bound (program_of a) line)) line.area (end_leaf (program_of a) line)
   end_covers o = proof_of a (Some (end_bound (program_of a) line)) line.area (end_leaf (program_of a) line) f (inl (ends_optimal a line v o).covers)
 

@@ -21,7 +21,7 @@ use Rattle.branch_and_bound.specs.declared.found.Verdict.{Verdict}
 use Rattle.branch_and_bound.specs.declared.found.Verdict.TheVariants.{Best, NoTiming, Stopped}
 use Rattle.branch_and_bound.specs.Answer.{IsAnswer}
 use Rattle.branch_tree.specs.declared.site.SitePart.{SitePart}
-use Rattle.branch_tree.specs.declared.found.Found.{Found}
+use Rattle.branch_tree.specs.Told.{Found}
 use Rattle.branch_tree.specs.ArteryRules.{rules_of}
 use Rattle.branch_tree.specs.Told.{valued}
 use Rattle.branch_tree.specs.Trees.{node_of}

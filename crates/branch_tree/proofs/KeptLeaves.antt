@@ -11,7 +11,7 @@ use Rattle.progression.specs.Street.{Street}
 use Rattle.progression.specs.Speeds.{number}
 use Rattle.artery_model.specs.Valid.{IsValid}
 use Rattle.linear_theory.specs.Names.{HasRow, name_of}
-use Rattle.branch_and_bound.specs.Lines.{Line}
+use Rattle.branch_and_bound.specs.Lines.{BoxLine}
 use Rattle.linear_theory.proofs.Families.{row_index, family_least, family_most}
 use Rattle.named_row.specs.Order.{IsBelow, is_below}
 use Rattle.named_row.specs.declared.names.RowId.{RowId}
@@ -122,7 +122,7 @@ module _ (table : Table) (names : List RowId) (f : ℕ → ℚ) where
       )
 
 -- so is the leaf of each end of a program whose names are those of a table
-pub program_kept : {T W : Type 0} (table : Table) (p : Program T W) (line : Line) → length p.names ≤ 10000 → IsAscending p.names → ((k : ℕ) → k < length p.names → IsNamedIn table (name_in p.names k))
+pub program_kept : {T W : Type 0} (table : Table) (p : Program T W) (line : BoxLine) → length p.names ≤ 10000 → IsAscending p.names → ((k : ℕ) → k < length p.names → IsNamedIn table (name_in p.names k))
     → IsNodeIn table (LeafOf (end_leaf p line))
 unfolding end_leaf
 program_kept table p line most ascending named = pick (end_move p line)
@@ -138,7 +138,7 @@ program_kept table p line most ascending named = pick (end_move p line)
 -- ---- leaves
 module _ (a : Street) (v : IsValid a) where
   -- the leaf of a line's end
-  pub end_kept : (line : Line) → IsNode (LeafOf (end_leaf (program_of a) line))
+  pub end_kept : (line : BoxLine) → IsNode (LeafOf (end_leaf (program_of a) line))
   end_kept line =
       let most = rows_most a v.many in
       program_kept ordinary (program_of a) line (omega arith) (rows_ascending a) (λ k l. named_row a _ _ (rows_there a k l))

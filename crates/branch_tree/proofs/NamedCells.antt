@@ -17,7 +17,7 @@ use Rattle.dual_simplex.specs.Ratios.{ratio_at, ratio_refusal}
 use Rattle.dual_simplex.specs.Steps.{step_pivot, step_place, step_ratio, step_row, step_of}
 use Rattle.dual_simplex.specs.declared.outcome.Step.{Step}
 use Rattle.dual_simplex.specs.declared.outcome.Step.TheVariants as steps
-use Rattle.branch_and_bound.specs.Lines.{Line}
+use Rattle.branch_and_bound.specs.Lines.{BoxLine}
 use Rattle.branch_tree.specs.Program.{Program}
 use Rattle.branch_tree.specs.Ends.{table_after}
 use Rattle.branch_tree.specs.laws.RunLaws.{run_dual, run_height, run_width}
@@ -118,7 +118,7 @@ module _ (rows columns : ℕ) (t : Tableau) (shaped : IsShaped t) (height_is : h
   step_of_program (steps.Wide true w) h = (subst (λ n. w.row < n) height_is h.0, subst (λ n. w.col < n) width_is h.1)
   step_of_program (steps.Wide false w) h = (subst (λ n. w.row ≤ n) height_is h.0, subst (λ n. w.col ≤ n) width_is h.1)
 
-pub step_named : {T W : Type 0} (p : Program T W) (line : Line) → p.IsSound → (k : ℕ) → IsNamedStep (length p.names) p.columns (step_at p line k)
+pub step_named : {T W : Type 0} (p : Program T W) (line : BoxLine) → p.IsSound → (k : ℕ) → IsNamedStep (length p.names) p.columns (step_at p line k)
 step_named p line v k =
     let t = table_after p line k in
     let shaped = (run_dual p line v k).shaped in

@@ -48,7 +48,7 @@ use Rattle.program_builder.specs.BoxRows.{rows_of}
 use Rattle.branch_tree.specs.declared.site.SitePart.{SitePart}
 use Rattle.branch_tree.specs.declared.site.SitePart.TheVariants as part
 use Rattle.branch_tree.specs.Program.{Program}
-use Rattle.branch_and_bound.specs.Lines.{Line}
+use Rattle.branch_and_bound.specs.Lines.{BoxLine}
 use Rattle.branch_tree.specs.ArteryProgram.{outcome_of, program_of}
 use Rattle.branch_tree.specs.Ends.{end_leaf, end_point}
 use Rattle.branch_tree.specs.Sites.{step_at, sum_refusal, vertex_refusal, leaf_refusal, refusal_by, refusal_at}
@@ -229,7 +229,7 @@ module _ (a : Street) (rows columns : ℕ) (Has : RowId → Type 0) where
   vertex_named (Gives t) h = each_none IsPart
 
 -- the refused operation of a run of a program, where those of a leaf's sum and of a vertex are named so
-pub refusal_named : {T : Type 0} (a : Street) (Has : RowId → Type 0) (p : Program T SitePart) (line : Line) → p.IsSound
+pub refusal_named : {T : Type 0} (a : Street) (Has : RowId → Type 0) (p : Program T SitePart) (line : BoxLine) → p.IsSound
     → ((w : WideCell) → p.ratio_part w ≡ part.Ratio w) → ((w : WideCell) → p.pivot_part w ≡ part.Cell w) → ((row : RowId) (at : WideAt) → p.sum_part row at ≡ part.LeafSum row at)
     → Each (IsNamedFault Has p.columns) (p.leaf_fault line.area (end_leaf p line)) → Each (IsPartIn a (length p.names) p.columns Has) (vertex_refusal (p.outcome line.area (end_point p line)))
     → (k : ℕ) → Each (IsPartIn a (length p.names) p.columns Has) (refusal_at p line k)
@@ -247,7 +247,7 @@ refusal_named a Has p line v ratios cells sums faults vertex k = pick (step_at p
     pick (steps.Wide false w) h = each_some (IsPartIn a (length p.names) p.columns Has) (p.pivot_part w) (subst (IsPartIn a (length p.names) p.columns Has) (sym (cells w)) h)
 
 -- of an artery
-pub part_named : (a : Street) (line : Line) → IsValid a → (k : ℕ) → Each (IsPartOf a) (refusal_at (program_of a) line k)
+pub part_named : (a : Street) (line : BoxLine) → IsValid a → (k : ℕ) → Each (IsPartOf a) (refusal_at (program_of a) line k)
 part_named a line v k =
     refusal_named a (λ row. HasRow a (name_of row.family row.index)) (program_of a) line v (λ w. refl) (λ w. refl) (λ row at. refl)
     (fault_named (artery_rows a line.area) (λ row. HasRow a (name_at row)) (λ row h. (row_decided a (name_at row)).0 h) (λ row. written_width a (form_of a line.area (name_at row))) (end_leaf (program_of a) line))

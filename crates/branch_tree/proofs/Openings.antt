@@ -12,7 +12,7 @@ use Rattle.fraction_tableau.specs.NamedTableaus.{NamedTableau}
 use Rattle.dual_leaf.specs.Leaves.{goal_multipliers}
 use Rattle.dual_simplex.specs.declared.outcome.Step.TheVariants as steps
 use Rattle.search_box.specs.declared.span.At.{At}
-use Rattle.branch_and_bound.specs.Lines.{Line}
+use Rattle.branch_and_bound.specs.Lines.{BoxLine}
 use Rattle.branch_and_bound.specs.Lineages.{Empty, IsOptimal}
 use Rattle.work_meter.specs.Work.{capped}
 use Rattle.branch_and_bound.specs.declared.opened.Opened.{Opened}
@@ -31,12 +31,12 @@ use Rattle.branch_tree.proofs.Runs.{wide_vertex}
 use Rattle.branch_tree.proofs.Reading.{leaf_read, point_read, kept_read}
 
 -- a line whose steps end at an infeasible row ends without a timing
-ends_empty : {T W : Type 0} (p : Program T W) (line : Line) (r : ℕ) → end_move p line ≡ infeasible r → ending_of p line ≡ Empty
+ends_empty : {T W : Type 0} (p : Program T W) (line : BoxLine) (r : ℕ) → end_move p line ≡ infeasible r → ending_of p line ≡ Empty
 unfolding ending_of
 ends_empty p line r e = ap (ending_by p line) e
 
 module _ {T K : Type 0} (p : Program T SitePart) (m : Meaning K p) (IsFor : Area → Type 0) (q : EndsProve p m IsFor)
-    (line : Line) (leaf : Leaf) (read : leaf.multipliers.items ≡ end_leaf p line) (f : p.leaf_fault line.area (end_leaf p line) ≡ None) where
+    (line : BoxLine) (leaf : Leaf) (read : leaf.multipliers.items ≡ end_leaf p line) (f : p.leaf_fault line.area (end_leaf p line) ≡ None) where
   pub opens_empty : (i : ℕ) → end_move p line ≡ infeasible i → OpensEmpty (rules_from p m) line leaf
   opens_empty i e =
       let empty = ends_empty p line i e in
@@ -73,7 +73,7 @@ module _ {T K : Type 0} (p : Program T SitePart) (m : Meaning K p) (IsFor : Area
 
 -- the same of an optimal end, from what was read off its tableau
 module _ {T K : Type 0} (p : Program T SitePart) (m : Meaning K p) (IsFor : Area → Type 0) (q : EndsProve p m IsFor)
-    (line : Line) (area : Area) (e : line.area ≡ area) (tableau : NamedTableau) (r : IsOptimalRun p line tableau)
+    (line : BoxLine) (area : Area) (e : line.area ≡ area) (tableau : NamedTableau) (r : IsOptimalRun p line tableau)
     (leaf : Leaf) (l : leaf.multipliers.items ≡ goal_multipliers tableau) (f : p.leaf_fault area leaf.multipliers.items ≡ None)
     (bound : ℚ) (b : bound ≡ goal_bound tableau.table) (point : Point) (x : point.values.items ≡ vertex_point tableau.table) where
   read : leaf.multipliers.items ≡ end_leaf p line

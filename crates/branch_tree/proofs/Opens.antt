@@ -15,7 +15,7 @@ use Rattle.program_builder.specs.Entry.{IsBasisOf, entered_box}
 use Rattle.program_builder.specs.EntryRefusals.{entry_refusal}
 use Rattle.program_builder.specs.First.{entry_or_opening, first_of}
 use Rattle.program_builder.proofs.First.{basis_of_end, first_is}
-use Rattle.branch_and_bound.specs.Lines.{Line, top_line, low_line, high_line}
+use Rattle.branch_and_bound.specs.Lines.{BoxLine, top_line, low_line, high_line}
 use Rattle.branch_and_bound.specs.Lineages.{at_low, at_high}
 use Rattle.work_meter.specs.declared.meter.Meter.{Meter}
 use Rattle.work_meter.specs.Work.{capped}
@@ -36,7 +36,7 @@ ok_map (Ok x) P Q f h = f x h
 ok_map (Err e) P Q f h = tt
 
 -- ---- the units of an end
-module _ {T K W : Type 0} (r : Rules T K W) (line : Line) (before after : Meter) (k : ℕ) (e : k ≡ r.steps line) (l : Leaves before after k) (pivots : ℕ) (q : pivots ≡ capped k) where
+module _ {T K W : Type 0} (r : Rules T K W) (line : BoxLine) (before after : Meter) (k : ℕ) (e : k ≡ r.steps line) (l : Leaves before after k) (pivots : ℕ) (q : pivots ≡ capped k) where
   finished : Finishes r line before after
   finished = record { spent = l.spent ∙ ap (λ n. capped (before.spent + (1 + n))) e; within = l.within }
 
@@ -61,14 +61,14 @@ module _ {T K W : Type 0} (r : Rules T K W) (line : Line) (before after : Meter)
 
 -- ---- boxes
 -- a part's box is of the kind that every box on a line is of
-pub part_is_for : {T K W : Type 0} (r : Rules T K W) (IsFor : Area → Type 0) → ((line : Line) → IsMet r line → IsFor line.area) → (kept : K) (area : Area) (parent line : Line) (place : At) → IsPart r parent place line kept area → IsFor area
+pub part_is_for : {T K W : Type 0} (r : Rules T K W) (IsFor : Area → Type 0) → ((line : BoxLine) → IsMet r line → IsFor line.area) → (kept : K) (area : Area) (parent line : BoxLine) (place : At) → IsPart r parent place line kept area → IsFor area
 part_is_for r IsFor boxes kept area parent line place p = pick p.side
   where
     pick : (line ≡ low_line place parent) ⊎ (line ≡ high_line place parent) → IsFor area
-    pick (inl e) = subst IsFor (sym (p.area_is ∙ ap (λ (l : Line). l.area) e)) (boxes (low_line place parent) (at_low parent place p.lineage p.cut))
-    pick (inr e) = subst IsFor (sym (p.area_is ∙ ap (λ (l : Line). l.area) e)) (boxes (high_line place parent) (at_high parent place p.lineage p.cut))
+    pick (inl e) = subst IsFor (sym (p.area_is ∙ ap (λ (l : BoxLine). l.area) e)) (boxes (low_line place parent) (at_low parent place p.lineage p.cut))
+    pick (inr e) = subst IsFor (sym (p.area_is ∙ ap (λ (l : BoxLine). l.area) e)) (boxes (high_line place parent) (at_high parent place p.lineage p.cut))
 
-pub part_boxed : (a : Street) (kept : Kept) (area : Area) (parent line : Line) (place : At) → IsPart (rules_of a) parent place line kept area → IsBoxOf a area
+pub part_boxed : (a : Street) (kept : Kept) (area : Area) (parent line : BoxLine) (place : At) → IsPart (rules_of a) parent place line kept area → IsBoxOf a area
 part_boxed a kept area parent line place p = part_is_for (rules_of a) (IsBoxOf a) (boxed a) kept area parent line place p
 
 -- ---- what a line begins from
@@ -78,12 +78,12 @@ unfolding first_of
 root_first a box = refl
 
 -- the list that a split node kept serves its parts
-pub part_basis : (a : Street) (kept : Kept) (area : Area) (parent line : Line) (place : At) → IsValid a → IsPart (rules_of a) parent place line kept area → IsBasisOf a kept.basis.items
+pub part_basis : (a : Street) (kept : Kept) (area : Area) (parent line : BoxLine) (place : At) → IsValid a → IsPart (rules_of a) parent place line kept area → IsBasisOf a kept.basis.items
 unfolding table_after steps_of
 part_basis a kept area parent line place v p = subst (IsBasisOf a) (sym p.kept_is) (basis_of_end a parent.area (first_of a parent.area parent.above) (first_is a parent.area parent.above v))
 
 -- and what it gives is the first tableau of the part's line
-pub part_first : (a : Street) (kept : Kept) (area : Area) (parent line : Line) (place : At) → IsPart (rules_of a) parent place line kept area → entry_or_opening a area kept.basis.items ≡ first_of a line.area line.above
+pub part_first : (a : Street) (kept : Kept) (area : Area) (parent line : BoxLine) (place : At) → IsPart (rules_of a) parent place line kept area → entry_or_opening a area kept.basis.items ≡ first_of a line.area line.above
 unfolding first_of table_after steps_of
 part_first a kept area parent line place p = pick p.side
   where
@@ -91,8 +91,8 @@ part_first a kept area parent line place p = pick p.side
     below part e = ap₂ (entry_or_opening a) e p.kept_is
 
     pick : (line ≡ low_line place parent) ⊎ (line ≡ high_line place parent) → entry_or_opening a area kept.basis.items ≡ first_of a line.area line.above
-    pick (inl e) = below (low_part parent.area place) (p.area_is ∙ ap (λ (l : Line). l.area) e) ∙ ap (λ (l : Line). first_of a l.area l.above) (sym e)
-    pick (inr e) = below (high_part parent.area place) (p.area_is ∙ ap (λ (l : Line). l.area) e) ∙ ap (λ (l : Line). first_of a l.area l.above) (sym e)
+    pick (inl e) = below (low_part parent.area place) (p.area_is ∙ ap (λ (l : BoxLine). l.area) e) ∙ ap (λ (l : BoxLine). first_of a l.area l.above) (sym e)
+    pick (inr e) = below (high_part parent.area place) (p.area_is ∙ ap (λ (l : BoxLine). l.area) e) ∙ ap (λ (l : BoxLine). first_of a l.area l.above) (sym e)
 
 -- the state after an entry, refused or not
 entered_by : (a : Street) (box : Area) (vs : List ℕ) (b : Bool) → (if b then entered_box a box vs else opened_box a box) ≡ record { table = cond b (entry vs (loaded a box)) (opening a box); names = rows_of a; spent = false }
@@ -104,7 +104,7 @@ entered_named : (a : Street) (box : Area) (vs : List ℕ) (b : Bool) → b ≡ i
 unfolding entry_or_opening
 entered_named a box vs b e = entered_by a box vs b ∙ ap (λ c. record { table = cond c (entry vs (loaded a box)) (opening a box); names = rows_of a; spent = false }) e
 
-pub part_begins : (a : Street) (kept : Kept) (area : Area) (parent line : Line) (place : At) (t : NamedTableau) (b : Bool) (vs : List ℕ) → IsPart (rules_of a) parent place line kept area → vs ≡ kept.basis.items
+pub part_begins : (a : Street) (kept : Kept) (area : Area) (parent line : BoxLine) (place : At) (t : NamedTableau) (b : Bool) (vs : List ℕ) → IsPart (rules_of a) parent place line kept area → vs ≡ kept.basis.items
     → b ≡ is_none (entry_refusal vs (loaded a area)) → t ≡ (if b then entered_box a area vs else opened_box a area) → t ≡ named_first (program_of a) line
 part_begins a kept area parent line place t b vs p h e f =
     f ∙ entered_named a area vs b e ∙ ap (λ u. record { table = u; names = rows_of a; spent = false }) (ap (entry_or_opening a area) h ∙ part_first a kept area parent line place p)

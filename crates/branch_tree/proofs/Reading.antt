@@ -9,13 +9,13 @@ use Rattle.simplex_theory.specs.BlandRule.{infeasible, Says}
 use Rattle.simplex_theory.proofs.BlandRule.{says}
 use Rattle.fraction_tableau.specs.NamedTableaus.{NamedTableau}
 use Rattle.dual_leaf.specs.Leaves.{goal_multipliers, row_multipliers}
-use Rattle.branch_and_bound.specs.Lines.{Line}
+use Rattle.branch_and_bound.specs.Lines.{BoxLine}
 use Rattle.branch_tree.specs.Program.{Program}
 use Rattle.branch_tree.specs.Ends.{steps_of, named_last, last_table, end_point, end_leaf, leaf_by}
 use Rattle.branch_tree.specs.laws.RunLaws.{run_dual}
 use Rattle.branch_tree.specs.Runs.{IsOptimalRun, IsInfeasibleRun}
 
-module _ {T W : Type 0} (p : Program T W) (line : Line) (t : NamedTableau) where
+module _ {T W : Type 0} (p : Program T W) (line : BoxLine) (t : NamedTableau) where
   -- ---- at an optimal end
   pub leaf_read : (ws : List Weight) → IsOptimalRun p line t → ws ≡ goal_multipliers t → ws ≡ end_leaf p line
   unfolding end_leaf

@@ -14,7 +14,7 @@ use Rattle.dual_simplex.specs.Ends.{Solved, stepped}
 use Rattle.dual_simplex.proofs.Ends.{end_says}
 use Rattle.program_builder.specs.Loading.{HasRoomFor}
 use Rattle.program_builder.proofs.BuildingLaws.{made_spent}
-use Rattle.branch_and_bound.specs.Lines.{Line}
+use Rattle.branch_and_bound.specs.Lines.{BoxLine}
 use Rattle.branch_tree.specs.Program.{Program}
 use Rattle.branch_tree.specs.BoxRuns.{table_of}
 use Rattle.branch_tree.specs.Ends.{table_after, named_after, named_first, steps_of}
@@ -25,7 +25,7 @@ use Rattle.branch_tree.specs.Runs.{IsOptimalRun, IsInfeasibleRun, IsRunTo, IsRun
 use Rattle.branch_tree.proofs.Leaving.{wide_before}
 use Rattle.std.proofs.lemmas.Bool.{eqb-true}
 
-module _ {T W : Type 0} (p : Program T W) (line : Line) (v : p.IsSound) (s t : NamedTableau) (m n : Meter) (old new k : ℕ) (o : s ≡ named_first p line) where
+module _ {T W : Type 0} (p : Program T W) (line : BoxLine) (v : p.IsSound) (s t : NamedTableau) (m n : Meter) (old new k : ℕ) (o : s ≡ named_first p line) where
   here : after s.table k ≡ table_after p line k
   here = table_by p line s k (ap (λ u. u.table) o)
 
@@ -94,7 +94,7 @@ module _ {T W : Type 0} (p : Program T W) (line : Line) (v : p.IsSound) (s t : N
   }
 
 -- the tableau keeps room for the program's rows
-module _ {T W : Type 0} (p : Program T W) (line : Line) (v : p.IsSound) (s t : NamedTableau) (m n : Meter) (old new k : ℕ) (o : s ≡ named_first p line) where
+module _ {T W : Type 0} (p : Program T W) (line : BoxLine) (v : p.IsSound) (s t : NamedTableau) (m n : Meter) (old new k : ℕ) (o : s ≡ named_first p line) where
   made_at : HasRoomFor (table_of p) (named_after p line k)
   made_at = record { rows = run_height p line v k; columns = run_width p line v k }
 

@@ -21,7 +21,7 @@ use Rattle.dual_simplex.proofs.Ends.{goes_on}
 use Rattle.loop_rows.specs.declared.fault.SumFault.TheVariants as fault
 use Rattle.named_row.specs.declared.names.RowId.{RowId}
 use Rattle.named_row.specs.declared.wide_at.WideAt.{WideAt}
-use Rattle.branch_and_bound.specs.Lines.{Line}
+use Rattle.branch_and_bound.specs.Lines.{BoxLine}
 use Rattle.branch_tree.specs.Program.{Program, Refused}
 use Rattle.branch_tree.specs.Ends.{table_after, steps_of, end_leaf, end_point}
 use Rattle.branch_tree.specs.Sites.{step_at, is_made, sum_refusal, vertex_refusal, leaf_refusal, refusal_by, refusal_at, IsReached, IsDue, IsWide}
@@ -57,7 +57,7 @@ made_pivots (steps.Wide b w) m a e = absurd (true≢false (sym e))
 order : (k n : ℕ) → (k < n) ⊎ ((n < k) ⊎ (k ≡ n))
 order k n = grind arith
 
-module _ {T W : Type 0} (p : Program T W) (line : Line) where
+module _ {T W : Type 0} (p : Program T W) (line : BoxLine) where
   -- ---- what was reached
   pub reached_by : (e : NodeEnd) (s t : NamedTableau) (m n : Meter) (old new k : ℕ) → s.table ≡ p.first line → Solved e s t m n old new k → IsReached p line k
   unfolding table_after

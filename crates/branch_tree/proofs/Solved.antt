@@ -10,7 +10,7 @@ use Rattle.certificate_checker.specs.Claims.{ClaimHolds}
 use Rattle.branch_and_bound.specs.declared.found.Verdict.{Verdict}
 use Rattle.branch_and_bound.specs.declared.found.Verdict.TheVariants.{Best, NoTiming, Stopped}
 use Rattle.branch_tree.specs.declared.site.SitePart.{SitePart}
-use Rattle.branch_tree.specs.declared.found.Found.{Found}
+use Rattle.branch_tree.specs.Told.{Found}
 use Rattle.branch_tree.specs.Searches.{Tells}
 use Rattle.branch_tree.specs.Certified.{value_of, claim_by, warrant_of}
 use Rattle.branch_tree.specs.Searched.{Proves}

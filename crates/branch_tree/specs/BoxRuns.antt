@@ -4,7 +4,8 @@ use Rattle.progression.specs.Street.{Street, count}
 use Rattle.linear_theory.specs.Places.{width}
 use Rattle.linear_theory.specs.Boxes.{Area}
 use Rattle.fraction_tableau.specs.NamedTableaus.{NamedTableau}
-use Rattle.program_builder.specs.Building.{IsMadeFor}
+use Rattle.program_builder.specs.Building.{IsMadeFor, IsLoadedFor}
+use Rattle.program_builder.specs.Remembering.{IsMemoryOf}
 use Rattle.loop_rows.specs.declared.fault.SumFault.TheVariants as fault
 use Rattle.named_row.specs.declared.leaves.Leaf.{Leaf}
 use Rattle.named_row.specs.declared.leaves.Point.{Point}
@@ -14,7 +15,7 @@ use Rattle.search_box.specs.declared.span.At.{At}
 use Rattle.simplex_theory.specs.Tableau.{Tableau}
 use Rattle.simplex_theory.specs.DualSteps.{IsPlaced}
 use Rattle.program_builder.specs.RowTable.{RowTable}
-use Rattle.branch_and_bound.specs.Lines.{Line}
+use Rattle.branch_and_bound.specs.Lines.{BoxLine}
 use Rattle.branch_and_bound.specs.Rules.{Rules}
 use Rattle.branch_and_bound.specs.declared.opened.Opened.{Opened}
 use Rattle.branch_and_bound.specs.declared.opened.Opened.TheVariants as opened
@@ -34,11 +35,13 @@ use Rattle.branch_tree.specs.Ends.{leaf_row}
 abbrev pub table_of : {T W : Type 0} → Program T W → RowTable
 table_of p = record { columns = p.columns; names = p.names; row = p.row; goal = p.goal }
 
--- the tableau was made for the artery, and the spare row has its width
+-- the tableau and the memory were made for the artery, the rows of one of its boxes are loaded, and the spare row has its width
 pub record IsRoomFor (a : Street) (room : Room) : Type 0 where
   pub sound : IsSearchable a
   pub made : IsMadeFor a room.tableau
+  pub loaded : IsLoadedFor a room.loaded
   pub row : length room.row.coefs ≡ width (count a)
+  pub memory : IsMemoryOf a room.memory
 
 -- ---- the sum of a leaf
 -- its bound, where no operation of it is refused, or the first one that is
@@ -58,11 +61,11 @@ abbrev pub IsCutBy : {T K W : Type 0} → (Tableau → K → Type 0) → NamedTa
 IsCutBy {K = K} keeps tableau leaf bound place point answer = (kept : K) × (answer ≡ opened.Splits leaf bound place point kept) × (IsPlaced tableau.table → keeps tableau.table kept)
 
 -- the line was left after k steps at a refused operation
-abbrev pub IsWideAt : {T K W : Type 0} → Rules T K W → Line → ℕ → ℕ → ℕ → W → Type 0
+abbrev pub IsWideAt : {T K W : Type 0} → Rules T K W → BoxLine → ℕ → ℕ → ℕ → W → Type 0
 IsWideAt r line k pivots told part = IsUnfinished r line k × r.IsWide line k part × (told ≡ pivots)
 
 -- at a last vertex; a refused operation of the vertex alone isn't told as one of the leaf's sum
-abbrev pub IsReadEnd : {T K W : Type 0} → Rules T K W → Line → ℕ → Opened T K W → Type 0
+abbrev pub IsReadEnd : {T K W : Type 0} → Rules T K W → BoxLine → ℕ → Opened T K W → Type 0
 IsReadEnd r line pivots (opened.Infeasible leaf) = ⊥
 IsReadEnd r line pivots (opened.Timed leaf bound timing) = OpensTimed r line leaf bound timing
 IsReadEnd r line pivots (opened.Splits leaf bound place point kept) = OpensCut r line leaf bound place point kept
@@ -71,7 +74,7 @@ IsReadEnd r line pivots opened.WorkOut = ⊥
 IsReadEnd r line pivots (opened.Wide told part) = IsWideAt r line (r.steps line) pivots told part
 
 -- where the box is empty
-abbrev pub IsEmptyEnd : {T K W : Type 0} → Rules T K W → Line → ℕ → Opened T K W → Type 0
+abbrev pub IsEmptyEnd : {T K W : Type 0} → Rules T K W → BoxLine → ℕ → Opened T K W → Type 0
 IsEmptyEnd r line pivots (opened.Infeasible leaf) = OpensEmpty r line leaf
 IsEmptyEnd r line pivots (opened.Timed leaf bound timing) = ⊥
 IsEmptyEnd r line pivots (opened.Splits leaf bound place point kept) = ⊥
@@ -80,6 +83,6 @@ IsEmptyEnd r line pivots opened.WorkOut = ⊥
 IsEmptyEnd r line pivots (opened.Wide told part) = IsWideAt r line (r.steps line) pivots told part
 
 -- where a step's operation was refused
-abbrev pub IsWideStep : {T K W : Type 0} → Rules T K W → Line → ℕ → ℕ → Opened T K W → Type 0
+abbrev pub IsWideStep : {T K W : Type 0} → Rules T K W → BoxLine → ℕ → ℕ → Opened T K W → Type 0
 IsWideStep r line k pivots (opened.Wide told part) = IsWideAt r line k pivots told part
 IsWideStep r line k pivots _ = ⊥

@@ -10,7 +10,7 @@ use Rattle.plan_text.specs.declared.certificate.Claim.TheVariants as claim
 use Rattle.branch_and_bound.specs.declared.found.Verdict.{Verdict}
 use Rattle.branch_and_bound.specs.declared.found.Verdict.TheVariants.{Best, NoTiming, Stopped}
 use Rattle.branch_tree.specs.declared.site.SitePart.{SitePart}
-use Rattle.branch_tree.specs.declared.found.Found.{Found}
+use Rattle.branch_tree.specs.Told.{Found}
 use Rattle.branch_tree.specs.Trees.{node_of}
 
 abbrev pub value_of : Street → Option Plan → Option ℚ

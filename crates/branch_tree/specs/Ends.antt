@@ -11,41 +11,41 @@ use Rattle.simplex_theory.specs.StepCounts.{after, steps_to_end}
 use Rattle.simplex_theory.specs.RowLists.{vertex_point}
 use Rattle.fraction_tableau.specs.NamedTableaus.{NamedTableau}
 use Rattle.dual_leaf.specs.Leaves.{goal_multipliers, row_multipliers, sum_of}
-use Rattle.branch_and_bound.specs.Lines.{Line}
+use Rattle.branch_and_bound.specs.Lines.{BoxLine}
 use Rattle.branch_and_bound.specs.Lineages.{Ending, NoEnd, Empty, Reads, Cuts, Stuck}
 use Rattle.branch_tree.specs.Program.{Program, Outcome, Refused, Splits, Gives}
 
 -- the tableau of a line after so many steps
-unfoldable pub table_after : {T W : Type 0} → Program T W → Line → ℕ → Tableau
+unfoldable pub table_after : {T W : Type 0} → Program T W → BoxLine → ℕ → Tableau
 table_after p line k = after (p.first line) k
 
 -- how many steps lead to the end, and the tableau there
-unfoldable pub steps_of : {T W : Type 0} → Program T W → Line → ℕ
+unfoldable pub steps_of : {T W : Type 0} → Program T W → BoxLine → ℕ
 steps_of p line = steps_to_end (p.first line)
 
-abbrev pub last_table : {T W : Type 0} → Program T W → Line → Tableau
+abbrev pub last_table : {T W : Type 0} → Program T W → BoxLine → Tableau
 last_table p line = table_after p line (steps_of p line)
 
 -- with the names of its rows
-abbrev pub named_after : {T W : Type 0} → Program T W → Line → ℕ → NamedTableau
+abbrev pub named_after : {T W : Type 0} → Program T W → BoxLine → ℕ → NamedTableau
 named_after p line k = record { table = table_after p line k; names = p.names; spent = false }
 
-abbrev pub named_last : {T W : Type 0} → Program T W → Line → NamedTableau
+abbrev pub named_last : {T W : Type 0} → Program T W → BoxLine → NamedTableau
 named_last p line = named_after p line (steps_of p line)
 
 -- the tableau that the steps begin from
-abbrev pub named_first : {T W : Type 0} → Program T W → Line → NamedTableau
+abbrev pub named_first : {T W : Type 0} → Program T W → BoxLine → NamedTableau
 named_first p line = record { table = p.first line; names = p.names; spent = false }
 
 -- the end is optimal, or infeasible at a row
-abbrev pub end_move : {T W : Type 0} → Program T W → Line → Move
+abbrev pub end_move : {T W : Type 0} → Program T W → BoxLine → Move
 end_move p line = move (last_table p line)
 
 -- the values of the columns at an optimal end, and the goal's value there, which is the goal row's bound
-abbrev pub end_point : {T W : Type 0} → Program T W → Line → List ℚ
+abbrev pub end_point : {T W : Type 0} → Program T W → BoxLine → List ℚ
 end_point p line = vertex_point (last_table p line)
 
-abbrev pub end_bound : {T W : Type 0} → Program T W → Line → ℚ
+abbrev pub end_bound : {T W : Type 0} → Program T W → BoxLine → ℚ
 end_bound p line = goal_bound (last_table p line)
 
 -- the leaf of an end: the goal row's multipliers where it is optimal, and those of the row where it is infeasible
@@ -54,7 +54,7 @@ leaf_by t optimal = goal_multipliers t
 leaf_by t (infeasible r) = row_multipliers t r
 leaf_by t (pivoted r j) = []
 
-unfoldable pub end_leaf : {T W : Type 0} → Program T W → Line → List Weight
+unfoldable pub end_leaf : {T W : Type 0} → Program T W → BoxLine → List Weight
 end_leaf p line = leaf_by (named_last p line) (end_move p line)
 
 -- the sum of a leaf over the rows of a box
@@ -67,10 +67,10 @@ ending_by_outcome (Refused wide) = Stuck
 ending_by_outcome (Splits place) = Cuts place
 ending_by_outcome (Gives timing) = Reads
 
-abbrev pub ending_by : {T W : Type 0} → Program T W → Line → Move → Ending
+abbrev pub ending_by : {T W : Type 0} → Program T W → BoxLine → Move → Ending
 ending_by p line optimal = ending_by_outcome (p.outcome line.area (end_point p line))
 ending_by p line (infeasible r) = Empty
 ending_by p line (pivoted r j) = NoEnd
 
-unfoldable pub ending_of : {T W : Type 0} → Program T W → Line → Ending
+unfoldable pub ending_of : {T W : Type 0} → Program T W → BoxLine → Ending
 ending_of p line = ending_by p line (end_move p line)

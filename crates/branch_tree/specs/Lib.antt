@@ -17,5 +17,6 @@ pub mod Searches
 pub mod Certified
 pub mod Searched
 pub mod BoxRuns
+pub mod OpenedBoxes
 pub mod ArteryRules
 pub mod laws

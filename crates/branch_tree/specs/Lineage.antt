@@ -2,7 +2,7 @@
 use Rattle.progression.specs.Street.{Street}
 use Rattle.artery_model.specs.Valid.{IsValid}
 use Rattle.linear_theory.specs.Boxes.{IsBoxOf, root_box}
-use Rattle.branch_and_bound.specs.Lines.{Line}
+use Rattle.branch_and_bound.specs.Lines.{BoxLine}
 use Rattle.branch_and_bound.specs.Lineages.{Ending}
 use Rattle.branch_tree.specs.ArteryProgram.{program_of}
 use Rattle.branch_tree.specs.Ends.{ending_of}
@@ -12,5 +12,5 @@ pub record IsSearchable (a : Street) : Type 0 where
   pub valid : IsValid a
   pub root : IsBoxOf a (root_box a)
 
-abbrev pub line_ending : Street → Line → Ending
+abbrev pub line_ending : Street → BoxLine → Ending
 line_ending a line = ending_of (program_of a) line

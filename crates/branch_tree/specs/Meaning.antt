@@ -11,7 +11,7 @@ use Rattle.named_row.specs.declared.wide_at.WideAt.{WideAt}
 use Rattle.simplex_theory.specs.Tableau.{Tableau}
 use Rattle.fraction_tableau.specs.declared.wide_cell.WideCell.{WideCell}
 use Rattle.branch_and_bound.specs.Choices.{HasNumbers}
-use Rattle.branch_and_bound.specs.Lines.{Line, low_line, high_line}
+use Rattle.branch_and_bound.specs.Lines.{BoxLine, low_line, high_line}
 use Rattle.branch_and_bound.specs.Lineages.{Empty, Reads, Cuts, IsOptimal, IsLineage}
 use Rattle.branch_and_bound.specs.Rules.{Rules}
 use Rattle.branch_tree.specs.declared.site.SitePart.{SitePart}
@@ -38,11 +38,11 @@ pub record Meaning {T W : Type 0} (K : Type 0) (p : Program T W) : Type 1 where
   pub Covers : Area → Leaf → ℚ → Type 0
   -- ---- laws
   pub covers_more : (area : Area) (leaf : Leaf) (value more : ℚ) → Covers area leaf value → value ≤ℚ more → Covers area leaf more
-  pub not_refuted : (line : Line) (leaf : Leaf) → IsLineage IsSound root (ending_of p) line → IsOptimal (ending_of p line) → IsEndLeaf p line leaf → Refutes line.area leaf → ⊥
-  pub inside : (line : Line) (place : At) → IsLineage IsSound root (ending_of p) line → ending_of p line ≡ Cuts place → IsPlace line.area place
-  pub has_numbers : (line : Line) (place : At) → IsLineage IsSound root (ending_of p) line → ending_of p line ≡ Cuts place → HasNumbers line.area
-  pub low_falls : (line : Line) (place : At) → IsLineage IsSound root (ending_of p) line → ending_of p line ≡ Cuts place → IsOptimal (ending_of p (low_line place line)) → end_bound p (low_line place line) ≤ℚ end_bound p line
-  pub high_falls : (line : Line) (place : At) → IsLineage IsSound root (ending_of p) line → ending_of p line ≡ Cuts place → IsOptimal (ending_of p (high_line place line)) → end_bound p (high_line place line) ≤ℚ end_bound p line
+  pub not_refuted : (line : BoxLine) (leaf : Leaf) → IsLineage IsSound root (ending_of p) line → IsOptimal (ending_of p line) → IsEndLeaf p line leaf → Refutes line.area leaf → ⊥
+  pub inside : (line : BoxLine) (place : At) → IsLineage IsSound root (ending_of p) line → ending_of p line ≡ Cuts place → IsPlace line.area place
+  pub has_numbers : (line : BoxLine) (place : At) → IsLineage IsSound root (ending_of p) line → ending_of p line ≡ Cuts place → HasNumbers line.area
+  pub low_falls : (line : BoxLine) (place : At) → IsLineage IsSound root (ending_of p) line → ending_of p line ≡ Cuts place → IsOptimal (ending_of p (low_line place line)) → end_bound p (low_line place line) ≤ℚ end_bound p line
+  pub high_falls : (line : BoxLine) (place : At) → IsLineage IsSound root (ending_of p) line → ending_of p line ≡ Cuts place → IsOptimal (ending_of p (high_line place line)) → end_bound p (high_line place line) ≤ℚ end_bound p line
 
 -- the relaxation, searched along lines of boxes
 abbrev pub rules_from : {T K W : Type 0} (p : Program T W) → Meaning K p → Rules T K W
@@ -73,11 +73,11 @@ rules_from p m = record {
 -- What the end of a line proves, where no operation of its leaf's sum is refused, and that no operation of a proof's sum is; what a timing
 -- that is read off a vertex of some box of these is; and that refused operations are named by their kind.
 pub record EndsProve {T K : Type 0} (p : Program T SitePart) (m : Meaning K p) (IsFor : Area → Type 0) : Type 0 where
-  pub covers : (line : Line) (leaf : Leaf) → IsEndLeaf p line leaf → p.leaf_fault line.area (end_leaf p line) ≡ None → IsOptimal (ending_of p line) → m.Covers line.area leaf (end_bound p line)
-  pub refutes : (line : Line) (leaf : Leaf) → IsEndLeaf p line leaf → p.leaf_fault line.area (end_leaf p line) ≡ None → ending_of p line ≡ Empty → m.Refutes line.area leaf
+  pub covers : (line : BoxLine) (leaf : Leaf) → IsEndLeaf p line leaf → p.leaf_fault line.area (end_leaf p line) ≡ None → IsOptimal (ending_of p line) → m.Covers line.area leaf (end_bound p line)
+  pub refutes : (line : BoxLine) (leaf : Leaf) → IsEndLeaf p line leaf → p.leaf_fault line.area (end_leaf p line) ≡ None → ending_of p line ≡ Empty → m.Refutes line.area leaf
   pub covering_free : (box : Area) (leaf : Leaf) (value : ℚ) → m.Covers box leaf value → p.leaf_fault box leaf.multipliers.items ≡ None
   pub refuting_free : (box : Area) (leaf : Leaf) → m.Refutes box leaf → p.leaf_fault box leaf.multipliers.items ≡ None
-  pub reads_good : (line : Line) (timing : T) → IsFor line.area → ending_of p line ≡ Reads → p.outcome line.area (end_point p line) ≡ Gives timing → m.IsGood timing (end_bound p line)
+  pub reads_good : (line : BoxLine) (timing : T) → IsFor line.area → ending_of p line ≡ Reads → p.outcome line.area (end_point p line) ≡ Gives timing → m.IsGood timing (end_bound p line)
   pub ratios_named : (cell : WideCell) → p.ratio_part cell ≡ Ratio cell
   pub pivots_named : (cell : WideCell) → p.pivot_part cell ≡ Cell cell
   pub sums_named : (row : RowId) (at : WideAt) → p.sum_part row at ≡ LeafSum row at

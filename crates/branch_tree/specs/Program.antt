@@ -13,7 +13,7 @@ use Rattle.simplex_theory.specs.DualSteps.{IsDual}
 use Rattle.simplex_theory.specs.RowLists.{StandsForRows}
 use Rattle.fraction_tableau.specs.declared.wide_cell.WideCell.{WideCell}
 use Rattle.loop_rows.specs.declared.fault.SumFault.{SumFault}
-use Rattle.branch_and_bound.specs.Lines.{Line}
+use Rattle.branch_and_bound.specs.Lines.{BoxLine}
 
 -- what becomes of a vertex: an operation of its reading is refused, it shows where its box is split, or it gives a timing
 pub data Outcome (T W : Type 0) : Type 0 where
@@ -38,7 +38,7 @@ pub record Program (T W : Type 0) : Type 1 where
   pub goal : List ℚ
   pub columns : ℕ
   -- the tableau that the steps of a line begin from
-  pub first : Line → Tableau
+  pub first : BoxLine → Tableau
   -- the first fault of a leaf's sum over the rows of a box, and what becomes of a vertex of it
   pub leaf_fault : Area → List Weight → Option SumFault
   pub outcome : Area → List ℚ → Outcome T W
@@ -47,7 +47,7 @@ pub record Program (T W : Type 0) : Type 1 where
   pub pivot_part : WideCell → W
   pub sum_part : RowId → WideAt → W
   -- ---- facts
-  pub first_is : IsSound → (line : Line) → IsFirst (map (row line.area) names) goal columns (first line)
+  pub first_is : IsSound → (line : BoxLine) → IsFirst (map (row line.area) names) goal columns (first line)
 
 -- the rows of a box in the order of their names
 abbrev pub rows_for : {T W : Type 0} → Program T W → Area → List maths.Row

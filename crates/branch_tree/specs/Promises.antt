@@ -22,7 +22,7 @@ use Rattle.offset_recovery.specs.Outcomes.{Refused, Gives}
 use Rattle.offset_recovery.specs.Recovered.{recovered}
 use Rattle.certificate_checker.specs.Accepted.{IsProof}
 use Rattle.simplex_theory.specs.Paths.{HaveSameBasics}
-use Rattle.branch_and_bound.specs.Lines.{Line, low_line, high_line}
+use Rattle.branch_and_bound.specs.Lines.{BoxLine, low_line, high_line}
 use Rattle.branch_and_bound.specs.Enough.{IsShort}
 use Rattle.branch_and_bound.specs.Lineages.{NoEnd, Empty, Reads, Cuts, IsOptimal}
 use Rattle.branch_tree.specs.ArteryProgram.{program_of}
@@ -35,18 +35,18 @@ use Rattle.branch_tree.specs.ArteryRules.{rules_of}
 use Rattle.branch_tree.specs.Enough.{sets_of}
 
 -- the run of each line comes to an end, before it could have met every set of basic variables
-pub record ComesToAnEnd (a : Street) (line : Line) : Type 0 where
+pub record ComesToAnEnd (a : Street) (line : BoxLine) : Type 0 where
   pub few : steps_of (program_of a) line < sets_of a
   pub ends : ending_of (program_of a) line ≡ NoEnd → ⊥
 
 -- an empty box: the leaf names rows of the artery with multipliers of at least 0, and their sum refutes
-pub record IsRefuted (a : Street) (line : Line) : Type 0 where
+pub record IsRefuted (a : Street) (line : BoxLine) : Type 0 where
   pub rows : AreWeights a (map named (end_leaf (program_of a) line))
   pub refutes : RefutesAll a (leaf_sum a line.area (map named (end_leaf (program_of a) line)))
 
 -- any other box: the vertex is a point of it, with the bound as its weighted band; no point of the box has a greater one, since
 -- the leaf covers the goal, and its sum has just this bound
-pub record IsBounded (a : Street) (line : Line) : Type 0 where
+pub record IsBounded (a : Street) (line : BoxLine) : Type 0 where
   pub vertex : IsVertex a line.area (end_point (program_of a) line)
   pub goal : goal_at a (end_point (program_of a) line) ≡ end_bound (program_of a) line
   pub rows : AreWeights a (map named (end_leaf (program_of a) line))
@@ -55,27 +55,27 @@ pub record IsBounded (a : Street) (line : Line) : Type 0 where
   pub greatest : (x : List ℚ) → IsVertex a line.area x → goal_at a x ≤ℚ end_bound (program_of a) line
 
 -- a split: its place lies in the box, the parts are boxes that share its timings out, and no part has a greater bound
-pub record IsShared (a : Street) (line : Line) (place : At) : Type 0 where
+pub record IsShared (a : Street) (line : BoxLine) (place : At) : Type 0 where
   pub inside : IsPlace line.area place
   pub parts : AreParts a line.area (low_part line.area place) (high_part line.area place)
   pub low : IsOptimal (ending_of (program_of a) (low_line place line)) → end_bound (program_of a) (low_line place line) ≤ℚ end_bound (program_of a) line
   pub high : IsOptimal (ending_of (program_of a) (high_line place line)) → end_bound (program_of a) (high_line place line) ≤ℚ end_bound (program_of a) line
 
 pub record BoxesEnd : Type 0 where
-  pub comes : (a : Street) (line : Line) → IsValid a → ComesToAnEnd a line
-  pub empty : (a : Street) (line : Line) → IsValid a → ending_of (program_of a) line ≡ Empty → IsRefuted a line
-  pub bounded : (a : Street) (line : Line) → IsValid a → IsOptimal (ending_of (program_of a) line) → IsBounded a line
-  pub reads : (a : Street) (line : Line) (t : Plan) → IsValid a → IsBoxOf a line.area → ending_of (program_of a) line ≡ Reads → recovered a line.area (end_point (program_of a) line) ≡ Gives t → Good a t × (weighted_band a t ≡ end_bound (program_of a) line)
-  pub cuts : (a : Street) (line : Line) (place : At) → IsValid a → IsBoxOf a line.area → ending_of (program_of a) line ≡ Cuts place → IsShared a line place
+  pub comes : (a : Street) (line : BoxLine) → IsValid a → ComesToAnEnd a line
+  pub empty : (a : Street) (line : BoxLine) → IsValid a → ending_of (program_of a) line ≡ Empty → IsRefuted a line
+  pub bounded : (a : Street) (line : BoxLine) → IsValid a → IsOptimal (ending_of (program_of a) line) → IsBounded a line
+  pub reads : (a : Street) (line : BoxLine) (t : Plan) → IsValid a → IsBoxOf a line.area → ending_of (program_of a) line ≡ Reads → recovered a line.area (end_point (program_of a) line) ≡ Gives t → Good a t × (weighted_band a t ≡ end_bound (program_of a) line)
+  pub cuts : (a : Street) (line : BoxLine) (place : At) → IsValid a → IsBoxOf a line.area → ending_of (program_of a) line ≡ Cuts place → IsShared a line place
   -- before the end and at it no set of basic variables comes twice
-  pub no_basis_twice : (a : Street) (line : Line) (i k : ℕ) → IsValid a → i < k → k ≤ steps_of (program_of a) line → HaveSameBasics (table_after (program_of a) line i) (table_after (program_of a) line k) → ⊥
+  pub no_basis_twice : (a : Street) (line : BoxLine) (i k : ℕ) → IsValid a → i < k → k ≤ steps_of (program_of a) line → HaveSameBasics (table_after (program_of a) line i) (table_after (program_of a) line k) → ⊥
   -- a run stops before its end where a step is due, and at one first refused operation at most
-  pub due : (a : Street) (line : Line) (k : ℕ) → IsValid a → IsDue (program_of a) line k → k < steps_of (program_of a) line
-  pub stops : (a : Street) (line : Line) (k m : ℕ) (p q : SitePart) → IsWide (program_of a) line k p → IsWide (program_of a) line m q → (k ≡ m) × (p ≡ q)
+  pub due : (a : Street) (line : BoxLine) (k : ℕ) → IsValid a → IsDue (program_of a) line k → k < steps_of (program_of a) line
+  pub stops : (a : Street) (line : BoxLine) (k m : ℕ) (p q : SitePart) → IsWide (program_of a) line k p → IsWide (program_of a) line m q → (k ≡ m) × (p ≡ q)
   -- at a last vertex the leaf is summed before the vertex is read: where both leave 128 bits the sum is the site
-  pub sum : (a : Street) (line : Line) (k : ℕ) (row : RowId) (at : WideAt) → IsReached (program_of a) line k → step_at (program_of a) line k ≡ steps.Optimal
+  pub sum : (a : Street) (line : BoxLine) (k : ℕ) (row : RowId) (at : WideAt) → IsReached (program_of a) line k → step_at (program_of a) line k ≡ steps.Optimal
       → leaf_fault a line.area (end_leaf (program_of a) line) ≡ Some (fault.Wide row at) → IsWide (program_of a) line k (LeafSum row at)
-  pub vertex : (a : Street) (line : Line) (k : ℕ) (wide : WideTiming) → IsReached (program_of a) line k → step_at (program_of a) line k ≡ steps.Optimal
+  pub vertex : (a : Street) (line : BoxLine) (k : ℕ) (wide : WideTiming) → IsReached (program_of a) line k → step_at (program_of a) line k ≡ steps.Optimal
       → leaf_fault a line.area (end_leaf (program_of a) line) ≡ None → recovered a line.area (end_point (program_of a) line) ≡ Refused wide → IsWide (program_of a) line k (Timing wide)
   -- so the units that a search of the artery needs are bounded, as `IsEnough` of the engine says
   pub short : (a : Street) → IsShort (rules_of a) (sets_of a)

@@ -11,7 +11,7 @@ use Rattle.certificate_checker.specs.Claims.{IsBest}
 use Rattle.branch_and_bound.specs.declared.found.Verdict.{Verdict}
 use Rattle.branch_and_bound.specs.declared.found.Verdict.TheVariants.{Best, NoTiming, Stopped}
 use Rattle.branch_tree.specs.declared.site.SitePart.{SitePart}
-use Rattle.branch_tree.specs.declared.found.Found.{Found}
+use Rattle.branch_tree.specs.Told.{Found}
 use Rattle.branch_tree.specs.Searches.{IsSearch, HasSite}
 use Rattle.branch_tree.specs.Enough.{IsWithinEnough}
 use Rattle.branch_tree.specs.Certified.{warrant_of}

@@ -6,16 +6,15 @@ use Rattle.progression.specs.Plan.{Plan}
 use Rattle.progression.specs.Best.{weighted_band}
 use Rattle.plan_text.specs.Warrants.{AreTrees, IsNode}
 use Rattle.branch_and_bound.specs.declared.incumbent.Incumbent.{Incumbent}
+use Rattle.branch_and_bound.specs.declared.found.Found as engine
 use Rattle.branch_and_bound.specs.declared.found.Verdict.{Verdict}
 use Rattle.branch_and_bound.specs.declared.found.Verdict.TheVariants.{Best, NoTiming, Stopped}
 use Rattle.branch_tree.specs.declared.site.SitePart.{SitePart}
-use Rattle.branch_tree.specs.declared.found.Found.{Found}
 use Rattle.branch_tree.specs.Trees.{node_of}
 
--- the timing alone
-abbrev pub plan_of : {T : Type 0} → Option (Incumbent T) → Option T
-plan_of None = None
-plan_of (Some best) = Some best.timing
+-- what a search of an artery finds
+abbrev pub Found : Type 0
+Found = engine.Found Plan SitePart
 
 -- ---- of timings of any type, by their values
 -- a timing with its value

@@ -3,7 +3,6 @@
 use crate::site::SitePart;
 use branch_and_bound as engine;
 pub use branch_and_bound::TreeNode;
-use narrow_fraction::Frac;
 use time_space::Timing;
 
 /// Where an operation left 128 bits: in this box, after so many pivots (at least so many where it is `2^64 - 1`).
@@ -19,11 +18,4 @@ pub type Verdict = engine::Verdict<SitePart>;
 ///
 /// Under `Best` the bound is the timing's weighted band. Under `NoTiming` it is 0 and means nothing. Under `Stopped` no
 /// timing of the artery has a greater weighted band.
-#[derive(Drop)]
-pub struct Found {
-    pub verdict: Verdict,
-    pub nodes: Vec<TreeNode>,
-    pub timing: Option<Timing>,
-    pub bound: Frac,
-    pub spent: u64,
-}
+pub type Found = engine::Found<Timing, SitePart>;

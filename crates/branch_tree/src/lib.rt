@@ -52,5 +52,5 @@ pub use kept::Kept;
 pub use laws::{law_boxes_end, law_trees_are_proofs};
 pub use opening::open;
 pub use program::{BoxProgram, Read, Summed};
-pub use searching::{search, timing_of};
+pub use searching::search;
 pub use site::SitePart;

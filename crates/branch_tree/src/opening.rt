@@ -1,19 +1,15 @@
 //! Opens one line's box: the steps from its first tableau to the end, and what is read off there.
 
-ghost use Rattle.std.specs.Prelude.{◌≡◌, ℕ, ◌<◌, IfOk, None};
+ghost use Rattle.std.specs.Prelude.{◌≡◌, IfOk, None};
 ghost use Rattle.simplex_theory.specs.Tableau.{goal_bound};
 ghost use Rattle.dual_leaf.specs.Leaves.{goal_multipliers};
-ghost use Rattle.branch_and_bound.specs.Lines.{Line};
+ghost use Rattle.branch_and_bound.specs.Lines.{BoxLine};
 ghost use Rattle.program_builder.specs.Loading.{HasRoomFor};
-ghost use Rattle.dual_simplex.specs.declared.outcome.Step.TheVariants as steps;
-ghost use Rattle.work_meter.specs.declared.meter.Meter.{Meter};
-ghost use Rattle.work_meter.specs.Work.{capped, HasWork};
-ghost use Rattle.branch_and_bound.specs.OpenedNodes.{Opens};
-ghost use Rattle.branch_tree.specs.Ends.{steps_of, named_first};
-ghost use Rattle.branch_tree.specs.Sites.{IsReached, step_at};
-ghost use Rattle.branch_tree.specs.Runs.{IsOptimalRun, IsInfeasibleRun, IsRun, HasFirst, HasRun, HasOptimalRun, HasInfeasibleRun};
-ghost use Rattle.branch_tree.specs.Meaning.{rules_from};
-ghost use Rattle.branch_tree.specs.BoxRuns.{table_of, IsCutBy, IsReadEnd, IsEmptyEnd, IsWideStep};
+ghost use Rattle.work_meter.specs.Work.{HasWork};
+ghost use Rattle.branch_tree.specs.Ends.{named_first};
+ghost use Rattle.branch_tree.specs.Runs.{IsRun, HasFirst, HasRun, HasOptimalRun, HasInfeasibleRun};
+ghost use Rattle.branch_tree.specs.BoxRuns.{table_of, IsCutBy};
+ghost use Rattle.branch_tree.specs.OpenedBoxes.{IsReadOff, IsEmptyOff, IsWideOff, IsOpenedBy, IsOpened};
 
 use crate::program::{BoxProgram, Read, Summed};
 use crate::site::SitePart;
@@ -35,11 +31,11 @@ struct Run {
 
 /// The steps from a line's first tableau to their end: a unit for the box, and one for each pivot.
 fn make_steps<P: BoxProgram>(program: &P, tableau: &mut Tableau, meter: &mut Meter) -> Run
-    requires first { (line : Line) × (tableau.old ≡ named_first (P.program program.now) line) }
+    requires first { (line : BoxLine) × (tableau.old ≡ named_first (P.program program.now) line) }
     requires work { HasWork meter.old }
     ensures made { HasRoomFor (table_of (P.program program.now)) tableau.new }
     ensures limit { meter.new.limit ≡ meter.old.limit }
-    ensures run { (line : Line) → tableau.old ≡ named_first (P.program program.now) line → IsRun (P.program program.now) line tableau.new meter.old meter.new result.end result.pivots }
+    ensures run { (line : BoxLine) → tableau.old ≡ named_first (P.program program.now) line → IsRun (P.program program.now) line tableau.new meter.old meter.new result.end result.pivots }
 {
     // its contract says that the program is sound
     program.known_program();
@@ -51,22 +47,28 @@ fn make_steps<P: BoxProgram>(program: &P, tableau: &mut Tableau, meter: &mut Met
     Run { end, pivots }
 }
 
+/// The leaf of an optimal end, with its bound.
+#[derive(Drop)]
+struct Covering {
+    leaf: Leaf,
+    bound: Frac,
+}
+
 /// The answer at a vertex that shows where its box is split.
 fn split_end<P: BoxProgram>(
     alloc: Global,
     program: &P,
     tableau: &Tableau,
-    leaf: Leaf,
-    bound: Frac,
+    covering: Covering,
     place: At,
     point: Point,
 ) -> Result<Opened<P::Timing, P::Kept, SitePart>, Memory>
-    ensures { IfOk result (λ opened. IsCutBy (P.meaning program.now).Keeps tableau.now leaf bound place point opened) }
+    ensures { IfOk result (λ opened. IsCutBy (P.meaning program.now).Keeps tableau.now covering.leaf covering.bound place point opened) }
 {
     let kept = program.keep(alloc, tableau)?;
     Ok(Opened::Splits {
-        leaf,
-        bound,
+        leaf: covering.leaf,
+        bound: covering.bound,
         place,
         point,
         kept,
@@ -79,31 +81,29 @@ fn read_end<P: BoxProgram>(
     program: &P,
     area: &SearchBox,
     tableau: &Tableau,
-    leaf: Leaf,
-    bound: Frac,
+    covering: Covering,
     pivots: u64,
 ) -> Result<Opened<P::Timing, P::Kept, SitePart>, Memory>
     requires boxed { P.IsFor program.now area.now }
     requires run { HasOptimalRun (P.program program.now) area.now tableau.now }
-    requires leaf { leaf.multipliers.items ≡ goal_multipliers tableau.now }
-    requires fits { (P.program program.now).leaf_fault area.now leaf.multipliers.items ≡ None }
-    requires bound { bound ≡ goal_bound tableau.now.table }
-    ensures { IfOk result (λ opened. (line : Line) → line.area ≡ area.now → IsOptimalRun (P.program program.now) line tableau.now
-        → pivots ≡ capped (steps_of (P.program program.now) line) → IsReadEnd (rules_from (P.program program.now) (P.meaning program.now)) line pivots opened) }
+    requires leaf { covering.leaf.multipliers.items ≡ goal_multipliers tableau.now }
+    requires fits { (P.program program.now).leaf_fault area.now covering.leaf.multipliers.items ≡ None }
+    requires bound { covering.bound ≡ goal_bound tableau.now.table }
+    ensures { IfOk result (IsReadOff (P.program program.now) (P.meaning program.now) area.now tableau.now pivots) }
 {
     // its contract says that the program is sound
     program.known_program();
     let point = point_of(alloc, tableau)?;
     match program.read(alloc, area, &point)? {
         Read::Timing(timing) => Ok(Opened::Timed {
-            leaf,
-            bound,
+            leaf: covering.leaf,
+            bound: covering.bound,
             timing,
         }),
-        Read::SplitAt(place) => split_end(alloc, program, tableau, leaf, bound, place, point),
+        Read::SplitAt(place) => split_end(alloc, program, tableau, covering, place, point),
         Read::Wide(part) => Ok(Opened::Unread {
-            leaf,
-            bound,
+            leaf: covering.leaf,
+            bound: covering.bound,
             pivots,
             part,
         }),
@@ -120,14 +120,16 @@ fn optimal_end<P: BoxProgram>(
 ) -> Result<Opened<P::Timing, P::Kept, SitePart>, Memory>
     requires boxed { P.IsFor program.now area.now }
     requires run { HasOptimalRun (P.program program.now) area.now tableau.now }
-    ensures { IfOk result (λ opened. (line : Line) → line.area ≡ area.now → IsOptimalRun (P.program program.now) line tableau.now
-        → pivots ≡ capped (steps_of (P.program program.now) line) → IsReadEnd (rules_from (P.program program.now) (P.meaning program.now)) line pivots opened) }
+    ensures { IfOk result (IsReadOff (P.program program.now) (P.meaning program.now) area.now tableau.now pivots) }
 {
     // its contract says that the program is sound
     program.known_program();
     let leaf = leaf_of(alloc, tableau)?;
     match program.sum(alloc, area, &leaf)? {
-        Summed::Bound(bound) => read_end(alloc, program, area, tableau, leaf, bound, pivots),
+        Summed::Bound(bound) => {
+            let covering = Covering { leaf, bound };
+            read_end(alloc, program, area, tableau, covering, pivots)
+        }
         Summed::Wide { row, at } => Ok(Opened::Wide {
             pivots,
             part: SitePart::LeafSum { row, at },
@@ -146,8 +148,7 @@ fn infeasible_end<P: BoxProgram>(
 ) -> Result<Opened<P::Timing, P::Kept, SitePart>, Memory>
     requires boxed { P.IsFor program.now area.now }
     requires run { HasInfeasibleRun (P.program program.now) area.now tableau.now row }
-    ensures { IfOk result (λ opened. (line : Line) → line.area ≡ area.now → IsInfeasibleRun (P.program program.now) line tableau.now row
-        → IsEmptyEnd (rules_from (P.program program.now) (P.meaning program.now)) line pivots opened) }
+    ensures { IfOk result (IsEmptyOff (P.program program.now) (P.meaning program.now) area.now tableau.now row pivots) }
 {
     // its contract says that the program is sound
     program.known_program();
@@ -168,8 +169,7 @@ fn wide_step<P: BoxProgram>(
     cell: WideCell,
     pivots: u64,
 ) -> Opened<P::Timing, P::Kept, SitePart>
-    ensures { (line : Line) (k : ℕ) → k < steps_of (P.program program.now) line → IsReached (P.program program.now) line k → step_at (P.program program.now) line k ≡ steps.Wide ratio cell
-        → IsWideStep (rules_from (P.program program.now) (P.meaning program.now)) line k pivots result }
+    ensures { IsWideOff (P.program program.now) (P.meaning program.now) ratio cell pivots result }
 {
     // its contract says how refused operations are named
     program.known_program();
@@ -196,8 +196,7 @@ fn ended<P: BoxProgram>(
 ) -> Result<Opened<P::Timing, P::Kept, SitePart>, Memory>
     requires boxed { P.IsFor program.now area.now }
     requires run { HasRun (P.program program.now) area.now tableau.now run.now.end run.now.pivots }
-    ensures { IfOk result (λ opened. (line : Line) (before after : Meter) → line.area ≡ area.now → IsRun (P.program program.now) line tableau.now before after run.now.end run.now.pivots
-        → Opens (rules_from (P.program program.now) (P.meaning program.now)) line before after opened) }
+    ensures { IfOk result (IsOpenedBy (P.program program.now) (P.meaning program.now) area.now tableau.now run.now.end run.now.pivots) }
 {
     let pivots = run.pivots;
     match run.end {
@@ -223,8 +222,7 @@ pub fn open<P: BoxProgram>(
     requires work { HasWork meter.old }
     ensures made { HasRoomFor (table_of (P.program program.now)) tableau.new }
     ensures limit { meter.new.limit ≡ meter.old.limit }
-    ensures opens { IfOk result (λ opened. (line : Line) → line.area ≡ area.now → tableau.old ≡ named_first (P.program program.now) line
-        → Opens (rules_from (P.program program.now) (P.meaning program.now)) line meter.old meter.new opened) }
+    ensures opens { IfOk result (IsOpened (P.program program.now) (P.meaning program.now) area.now tableau.old meter.old meter.new) }
 {
     let run = make_steps(program, tableau, meter);
     ended(alloc, program, area, tableau, &run)

@@ -4,7 +4,7 @@ ghost use Rattle.std.specs.Prelude.{◌≡◌, ℕ, ◌<◌, IfOk};
 ghost use Rattle.linear_theory.specs.Boxes.{Area};
 ghost use Rattle.simplex_theory.specs.BlandRule.{optimal};
 ghost use Rattle.simplex_theory.specs.DualSteps.{IsPlaced};
-ghost use Rattle.branch_and_bound.specs.Lines.{Line};
+ghost use Rattle.branch_and_bound.specs.Lines.{BoxLine};
 ghost use Rattle.branch_tree.specs.declared.site.SitePart.{SitePart};
 ghost use Rattle.branch_tree.specs.Program.{Program};
 ghost use Rattle.branch_tree.specs.Ends.{end_leaf, end_move, end_point};
@@ -58,7 +58,7 @@ pub trait BoxProgram {
     /// The sum of the leaf of a line's end over the rows of the line's box.
     fn sum(&self, alloc: Global, area: &SearchBox, leaf: &Leaf) -> Result<Summed, Memory>
         requires boxed { IsFor self.now area.now }
-        requires leaf { (line : Line) × (line.area ≡ area.now) × (leaf.now.multipliers.items ≡ end_leaf (program self.now) line) }
+        requires leaf { (line : BoxLine) × (line.area ≡ area.now) × (leaf.now.multipliers.items ≡ end_leaf (program self.now) line) }
         ensures { IfOk result (λ summed. IsSummed (program self.now) area.now leaf.now.multipliers.items summed) };
 
     /// What the last vertex of a line is.
@@ -69,7 +69,7 @@ pub trait BoxProgram {
         point: &Point,
     ) -> Result<Read<Self::Timing>, Memory>
         requires boxed { IsFor self.now area.now }
-        requires vertex { (line : Line) × (line.area ≡ area.now) × (end_move (program self.now) line ≡ optimal) × (point.now.values.items ≡ end_point (program self.now) line) }
+        requires vertex { (line : BoxLine) × (line.area ≡ area.now) × (end_move (program self.now) line ≡ optimal) × (point.now.values.items ≡ end_point (program self.now) line) }
         ensures { IfOk result (λ read. (program self.now).outcome area.now point.now.values.items ≡ outcome_by read) };
 
     /// What a box that is split keeps of its last tableau for its parts.

@@ -14,16 +14,21 @@ use fraction_tableau::Tableau;
 use loop_rows::column_count;
 use named_row::{Leaf, Row};
 use narrow_fraction::{Frac, Memory};
-use program_builder::{ArteryTable, enter, make_tableau, reset};
+use program_builder::{
+    ArteryTable, EntryMemory, enter_remembering, make_loaded, make_tableau, reset_from,
+};
 use search_box::SearchBox;
 use std::alloc::Global;
 use time_space::Timing;
 
-/// Where the boxes of an artery are opened: a tableau with its rows and columns, and a spare row.
+/// Where the boxes of an artery are opened: a tableau with its rows and columns, another one in which its rows stay as they are
+/// loaded, a spare row, and the entry of one part, which serves the other part of its split.
 #[derive(Drop)]
 pub struct Room {
     pub tableau: Tableau,
+    pub loaded: Tableau,
     pub row: Row,
+    pub memory: EntryMemory,
 }
 
 /// Room for the boxes of an artery.
@@ -33,10 +38,17 @@ pub fn make_room(alloc: Global, artery: &Artery) -> Result<Room, Memory>
     // its contract says that the artery is valid
     artery.known_valid();
     // its contract says that the root box is one of the artery's
-    let _area = SearchBox::root(alloc, artery)?;
+    let area = SearchBox::root(alloc, artery)?;
     let tableau = make_tableau(alloc, &ArteryTable { artery })?;
-    let row = Row::zero(alloc, column_count(artery))?;
-    Ok(Room { tableau, row })
+    let mut row = Row::zero(alloc, column_count(artery))?;
+    let loaded = make_loaded(alloc, artery, &area, &mut row)?;
+    let memory = EntryMemory::new(alloc, artery)?;
+    Ok(Room {
+        tableau,
+        loaded,
+        row,
+        memory,
+    })
 }
 
 /// An artery whose boxes are opened one at a time.
@@ -75,7 +87,7 @@ impl<'a> Relaxation for Relaxed<'a> {
         area: &SearchBox,
         meter: &mut Meter,
     ) -> Result<Opened<Timing, Kept, SitePart>, Memory> {
-        reset(&mut room.tableau, self.artery, area, &mut room.row);
+        reset_from(&mut room.tableau, &room.loaded, self.artery, area);
         open(alloc, self, &mut room.tableau, area, meter)
     }
 
@@ -89,7 +101,14 @@ impl<'a> Relaxation for Relaxed<'a> {
     ) -> Result<Opened<Timing, Kept, SitePart>, Memory> {
         let basis = kept.basis.as_slice();
         // false says that an operation left 128 bits, and then it is the opening tableau
-        let _entered = enter(&mut room.tableau, self.artery, area, basis, &mut room.row);
+        let _entered = enter_remembering(
+            &mut room.tableau,
+            &room.loaded,
+            self.artery,
+            area,
+            basis,
+            &mut room.memory,
+        )?;
         open(alloc, self, &mut room.tableau, area, meter)
     }
 }

@@ -1,44 +1,19 @@
 //! The search of an artery's best timing.
 
-ghost use Rattle.std.specs.Prelude.{◌≡◌, IfOk, IfSome};
+ghost use Rattle.std.specs.Prelude.{IfOk, IfSome};
 ghost use Rattle.progression.specs.Good.{Good};
 ghost use Rattle.work_meter.specs.Work.{IsBelow};
 ghost use Rattle.branch_tree.specs.Searches.{IsSearch};
-ghost use Rattle.branch_tree.specs.Told.{Tells, IsCertifiable, plan_of};
+ghost use Rattle.branch_tree.specs.Told.{Tells, IsCertifiable};
 ghost use Rattle.branch_tree.specs.SiteNames.{HasSite};
 ghost use Rattle.branch_tree.specs.Enough.{IsWithinEnough};
 
 use crate::found::Found;
 use crate::relaxed::{Relaxed, make_room};
-use crate::site::SitePart;
 use artery_model::Artery;
 use branch_and_bound as engine;
 use narrow_fraction::Memory;
 use std::alloc::Global;
-use time_space::Timing;
-
-/// The timing without its value.
-pub fn timing_of<T: Drop>(incumbent: Option<engine::Incumbent<T>>) -> Option<T>
-    ensures { result ≡ plan_of incumbent }
-{
-    match incumbent {
-        Some(best) => Some(best.timing),
-        None => None,
-    }
-}
-
-/// The engine's answer, as an artery's.
-fn found_of(found: engine::Found<Timing, SitePart>) -> Found
-    ensures { result ≡ record { verdict = found.verdict; nodes = found.nodes; timing = plan_of found.incumbent; bound = found.bound; spent = found.spent } }
-{
-    Found {
-        verdict: found.verdict,
-        nodes: found.nodes,
-        timing: timing_of(found.incumbent),
-        bound: found.bound,
-        spent: found.spent,
-    }
-}
 
 /// Searches for the artery's best timing: the root box is opened first, and then, while a waiting box has a bound of more
 /// than the best weighted band, the one with the greatest bound is split and its two parts are opened.
@@ -58,6 +33,5 @@ pub fn search(alloc: Global, artery: &Artery, limit: Option<u64>) -> Result<Foun
     let relaxed = Relaxed { artery };
     engine::law_enough(&relaxed);
     let mut room = make_room(alloc, artery)?;
-    let found = engine::search(alloc, &relaxed, &mut room, limit)?;
-    Ok(found_of(found))
+    engine::search(alloc, &relaxed, &mut room, limit)
 }

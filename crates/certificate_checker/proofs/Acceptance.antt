@@ -1,25 +1,27 @@
 -- A certificate is accepted exactly where nothing is refused.
-use Rattle.std.proofs.Common.{◌≡◌, not, Option, None, Some, option_map, Ok, Err, [], ◌∷◌, refl, sym, ap, ap₂}
+use Rattle.std.proofs.Common.{◌≡◌, not, inr, Option, None, Some, option_map, Result, Ok, Err, OnOk, [], ◌∷◌, refl, sym, ◌∙◌, ap, ap₂}
+use Rattle.std.specs.Prelude.{IfErr}
 use Rattle.std.specs.Ordering.{eq_by_cmp}
 use Rattle.rational_theory.specs.Rational.{ℚ}
 use Rattle.rational_theory.specs.Compare.{cmp_ℚ}
 use Rattle.rational_theory.proofs.Compare.{lt_false, ne_false, eq_says}
 use Rattle.progression.specs.Street.{Street}
-use Rattle.progression.specs.Good.{Good}
-use Rattle.progression.specs.Best.{weighted_band}
 use Rattle.linear_theory.specs.Boxes.{root_box}
 use Rattle.narrow_fraction.specs.Attempt.{earlier, attempt}
 use Rattle.narrow_fraction.proofs.Attempt.{neither, not_refused}
 use Rattle.plan_text.specs.declared.certificate.Claim.{Claim}
 use Rattle.plan_text.specs.declared.certificate.Claim.TheVariants.{Best, NoTiming, Stopped}
-use Rattle.plan_text.specs.Warrants.{Warrant, HasTiming, IsCertificate}
+use Rattle.plan_text.specs.Families.{Table}
+use Rattle.plan_text.specs.Warrants.{WarrantWith, Warrant, HasTiming, IsCertificateIn}
 use Rattle.loop_rows.proofs.LeafSums.{not_below}
 use Rattle.certificate_checker.specs.Accepted.{value_of, limit_of, IsTimedBy, IsBoundAbove, IsAccepted}
 use Rattle.certificate_checker.specs.ClaimRefusals.{IfThere, kept_refusal, bound_refusal, claim_refusal}
-use Rattle.certificate_checker.specs.Refusals.{reject_claim, numbers_refusal, nodes_refusal, refusal_of, IsGoodIfThere, IsFirst}
+use Rattle.certificate_checker.specs.TreeRefusals.{tree_refusal}
+use Rattle.certificate_checker.specs.Checked.{Checked, aim_at, IsAcceptedOf, reject_claim, reject_from, numbers_refusal_of, nodes_refusal_of, first_refusal, IsFirst, IsFirstRefusalOf}
+use Rattle.certificate_checker.specs.Refusals.{one_band}
 use Rattle.certificate_checker.specs.declared.reject.Reject.{Reject}
 use Rattle.certificate_checker.proofs.LeafRefusals.{map_none}
-use Rattle.certificate_checker.proofs.NodeRefusals.{proofs_in, proofs_out, is_first}
+use Rattle.certificate_checker.proofs.NodeRefusals.{tree_in, tree_out, tree_proofs, proofs_tree, is_first, first_moved}
 
 -- ---- what is refused under one name is refused under another
 pub allowed_as : {A E F : Type 0} (f : E → F) (o : Option E) (v : A) → Ok v ≡ attempt o v → Ok v ≡ attempt (option_map f o) v
@@ -69,29 +71,44 @@ module _ {T : Type 0} (good : T → Type 0) (worth : T → ℚ) where
   claim_out claim timing h k = ap₂ earlier (kept_out timing (value_of claim) h) (bound_out claim k)
 
 -- ---- the whole
-pub accepted_in : (a : Street) (c : Warrant) → IsCertificate c → IsGoodIfThere a c.timing → refusal_of a c ≡ None → IsAccepted a c
-accepted_in a c h g e =
-    let p = neither _ _ e in
-    let q = neither _ _ (map_none reject_claim (claim_refusal (option_map (weighted_band a) c.timing) c.claim) p.0) in
-    record {
-      timing = timed_in (Good a) (weighted_band a) c.claim c.timing h.timing g q.0;
-      bound = bound_in c.claim q.1;
-      tree = proofs_in a (limit_of c.claim) 0 0 (root_box a ∷ []) c.nodes h.tree p.1;
-    }
+module _ {T F : Type 0} (k : Checked T F) (c : WarrantWith T) where
+  pub accepted_in : {table : Table} → IsCertificateIn table c → IfThere k.IsGood c.timing → first_refusal k c ≡ None → IsAcceptedOf k c
+  accepted_in h g e =
+      let p = neither _ _ e in
+      let q = neither _ _ (map_none reject_claim (claim_refusal (option_map k.worth c.timing) c.claim) p.0) in
+      let nodes = map_none reject_from (tree_refusal k.rows (aim_at k (limit_of c.claim)) 0 0 (k.root ∷ []) c.nodes) p.1 in
+      record {
+        timing = timed_in k.IsGood k.worth c.claim c.timing h.timing g q.0;
+        bound = bound_in c.claim q.1;
+        tree = tree_in k.rows (aim_at k (limit_of c.claim)) 0 0 (k.root ∷ []) c.nodes h.tree nodes;
+      }
 
-pub accepted_good : (a : Street) (c : Warrant) → IsAccepted a c → IsGoodIfThere a c.timing
-accepted_good a c k = good_out (Good a) (weighted_band a) c.timing (value_of c.claim) k.timing
+  pub accepted_good : IsAcceptedOf k c → IfThere k.IsGood c.timing
+  accepted_good h = good_out k.IsGood k.worth c.timing (value_of c.claim) h.timing
 
-pub accepted_out : (a : Street) (c : Warrant) → IsAccepted a c → refusal_of a c ≡ None
-accepted_out a c k =
-    ap₂ earlier (ap (option_map reject_claim) (claim_out (Good a) (weighted_band a) c.claim c.timing k.timing k.bound))
-    (proofs_out a (limit_of c.claim) 0 0 (root_box a ∷ []) c.nodes k.tree)
+  pub accepted_out : IsAcceptedOf k c → first_refusal k c ≡ None
+  accepted_out h =
+      ap₂ earlier (ap (option_map reject_claim) (claim_out k.IsGood k.worth c.claim c.timing h.timing h.bound))
+      (ap (option_map reject_from) (tree_out k.rows (aim_at k (limit_of c.claim)) 0 0 (k.root ∷ []) c.nodes h.tree))
 
--- where the claim's numbers are not refused, the nodes are left
-pub nodes_alone : (a : Street) (c : Warrant) → numbers_refusal a c.claim c.timing ≡ None → refusal_of a c ≡ nodes_refusal a (limit_of c.claim) 0 0 (root_box a ∷ []) c.nodes
-nodes_alone a c e = ap (λ o. earlier o (nodes_refusal a (limit_of c.claim) 0 0 (root_box a ∷ []) c.nodes)) e
+  -- where the claim's numbers are not refused, the nodes are left
+  pub nodes_alone : numbers_refusal_of k c.claim c.timing ≡ None → first_refusal k c ≡ nodes_refusal_of k (limit_of c.claim) c.nodes
+  nodes_alone e = ap (λ o. earlier o (nodes_refusal_of k (limit_of c.claim) c.nodes)) e
 
--- a number of the claim that is refused
-pub numbers_first : (a : Street) (c : Warrant) (r : Reject) → numbers_refusal a c.claim c.timing ≡ Some r → IsFirst (refusal_of a c) r
-numbers_first a c r e =
-    is_first (refusal_of a c) r (ap (λ o. earlier o (nodes_refusal a (limit_of c.claim) 0 0 (root_box a ∷ []) c.nodes)) e)
+  -- a number of the claim that is refused
+  pub numbers_first : (r : Reject F) → numbers_refusal_of k c.claim c.timing ≡ Some r → IsFirst (first_refusal k c) r
+  numbers_first r e = is_first (first_refusal k c) r (ap (λ o. earlier o (nodes_refusal_of k (limit_of c.claim) c.nodes)) e)
+
+  -- what the check of the nodes says of the whole, where all else is right
+  pub checked : {table : Table} → IsCertificateIn table c → IfThere k.IsGood c.timing → numbers_refusal_of k c.claim c.timing ≡ None → (r : Result (Unit {0}) (Reject F))
+      → OnOk r (nodes_refusal_of k (limit_of c.claim) c.nodes ≡ None) → IfErr r (λ x. IsFirst (nodes_refusal_of k (limit_of c.claim) c.nodes) x)
+      → OnOk r (IsAcceptedOf k c) × IfErr r (λ x. IsFirstRefusalOf k c x)
+  checked h g e (Ok x) n f = (accepted_in h g (nodes_alone e ∙ n), tt)
+  checked h g e (Err x) n f = (tt, inr (g, first_moved (nodes_refusal_of k (limit_of c.claim) c.nodes) (first_refusal k c) x (nodes_alone e) f))
+
+-- ---- an ordinary certificate, whose leaves prove what the linear model asks of them
+pub accepted_of : (a : Street) (c : Warrant) → IsAcceptedOf (one_band a) c → IsAccepted a c
+accepted_of a c h = record { timing = h.timing; bound = h.bound; tree = tree_proofs a (limit_of c.claim) (root_box a ∷ []) c.nodes h.tree }
+
+pub of_accepted : (a : Street) (c : Warrant) → IsAccepted a c → IsAcceptedOf (one_band a) c
+of_accepted a c h = record { timing = h.timing; bound = h.bound; tree = proofs_tree a (limit_of c.claim) (root_box a ∷ []) c.nodes h.tree }

@@ -1,50 +1,52 @@
 -- A first refusal leaves no acceptance and no other first refusal.
-use Rattle.std.proofs.Common.{◌≡◌, ◌≢◌, inl, inr, Option, None, Some, refl, sym, ◌∙◌, ap}
+use Rattle.std.proofs.Common.{◌≡◌, ◌≢◌, inl, inr, Option, None, Some, sym, ◌∙◌, ap}
 use Rattle.narrow_fraction.proofs.Attempt.{some_not_none}
-use Rattle.progression.specs.Street.{Street}
-use Rattle.progression.specs.Plan.{Plan}
 use Rattle.time_space.specs.Failing.{FailsRulesOut}
 use Rattle.time_space.specs.FirstFailing.{OneFirst}
-use Rattle.certificate_checker.specs.Refusals.{FailsFirst, IsGoodIfThere, IsFirst, refusal_of}
+use Rattle.plan_text.specs.Warrants.{WarrantWith}
+use Rattle.certificate_checker.specs.ClaimRefusals.{IfThere}
+use Rattle.certificate_checker.specs.Checked.{Checked, IsAcceptedOf, first_refusal, TimingFailsFirst, IsFirstRefusalOf}
+use Rattle.certificate_checker.specs.Refusals.{one_band}
 use Rattle.certificate_checker.specs.Laws.{AcceptedExactly, RefusedIsNotAccepted, OneFirstRefusal}
 use Rattle.certificate_checker.specs.declared.reject.Reject.{Reject}
-use Rattle.certificate_checker.specs.declared.reject.Reject.TheVariants.{TimingFails, ValueDiffers, BoundBelow, SplitOutside, NoSuchRow, Negative, Wide, LeafTooWeak, Memory}
-use Rattle.certificate_checker.proofs.Acceptance.{accepted_in, accepted_out, accepted_good}
+use Rattle.certificate_checker.specs.declared.reject.Reject.TheVariants.{TimingFails, Memory}
+use Rattle.certificate_checker.proofs.NodeRefusals.{told}
+use Rattle.certificate_checker.proofs.Acceptance.{accepted_in, accepted_out, accepted_good, accepted_of, of_accepted}
 
+-- a failing that is the first rules out that the timing is good
+module _ {T F : Type 0} (k : Checked T F) (out : (t : T) (f : F) → k.FailsFirst t f → ¬ k.IsGood t) where
+  not_good : (timing : Option T) (r : Reject F) → TimingFailsFirst k timing r → IfThere k.IsGood timing → ⊥
+  not_good None r h g = h
+  not_good (Some t) (TimingFails f) h g = out t f h g
+  not_good (Some t) r h g = h
+
+  pub refused_by : (c : WarrantWith T) (r : Reject F) → IsFirstRefusalOf k c r → r ≢ Memory → IsAcceptedOf k c → ⊥
+  refused_by c r (inl h) n m = not_good c.timing r h (accepted_good k c m)
+  refused_by c r (inr h) n m = some_not_none (sym (told (first_refusal k c) r h.1 n) ∙ accepted_out k c m)
+
+  -- and two that are the first are one
+  module _ (once : (t : T) (f g : F) → k.FailsFirst t f → k.FailsFirst t g → f ≡ g) where
+    same_failing : (timing : Option T) (r s : Reject F) → TimingFailsFirst k timing r → TimingFailsFirst k timing s → r ≡ s
+    same_failing None r s h m = absurd h
+    same_failing (Some t) (TimingFails f) (TimingFails g) h m = ap TimingFails (once t f g h m)
+    same_failing (Some t) (TimingFails f) s h m = absurd m
+    same_failing (Some t) r s h m = absurd h
+
+    pub one_refused : (c : WarrantWith T) (r s : Reject F) → IsFirstRefusalOf k c r → IsFirstRefusalOf k c s → r ≢ Memory → s ≢ Memory → r ≡ s
+    one_refused c r s (inl h) (inl m) n p = same_failing c.timing r s h m
+    one_refused c r s (inl h) (inr m) n p = absurd (not_good c.timing r h m.0)
+    one_refused c r s (inr h) (inl m) n p = absurd (not_good c.timing s m h.0)
+    one_refused c r s (inr h) (inr m) n p = let e = told (first_refusal k c) r h.1 n in let f = told (first_refusal k c) s m.1 p in cc
+
+-- ---- an ordinary certificate
 pub accepted_exactly : AcceptedExactly
-accepted_exactly a c h = (λ k. (accepted_good a c k, accepted_out a c k), λ p. accepted_in a c h p.0 p.1)
-
--- the first but for want of memory
-told : (o : Option Reject) (r : Reject) → IsFirst o r → r ≢ Memory → o ≡ Some r
-told o (TimingFails f) h n = h
-told o (ValueDiffers kept claimed) h n = h
-told o (BoundBelow bound value) h n = h
-told o (SplitOutside node) h n = h
-told o (NoSuchRow leaf row) h n = h
-told o (Negative leaf row) h n = h
-told o (Wide leaf row at) h n = h
-told o (LeafTooWeak leaf place) h n = h
-told o Memory h n = absurd (n refl)
-
--- a timing that breaks a rule is not good
-not_good : FailsRulesOut → (a : Street) (timing : Option Plan) (r : Reject) → FailsFirst a timing r → IsGoodIfThere a timing → ⊥
-not_good out a None r h g = h
-not_good out a (Some t) (TimingFails f) h g = out a t f h.fails g
-not_good out a (Some t) r h g = h
-
--- two failings that are the first are one
-same_failing : OneFirst → (a : Street) (timing : Option Plan) (r s : Reject) → FailsFirst a timing r → FailsFirst a timing s → r ≡ s
-same_failing once a None r s h k = absurd h
-same_failing once a (Some t) (TimingFails f) (TimingFails g) h k = ap TimingFails (once a t f g h k)
-same_failing once a (Some t) (TimingFails f) s h k = absurd k
-same_failing once a (Some t) r s h k = absurd h
+accepted_exactly a c h = (
+  (λ m. let by = of_accepted a c m in (accepted_good (one_band a) c by, accepted_out (one_band a) c by)),
+  (λ p. accepted_of a c (accepted_in (one_band a) c h p.0 p.1)),
+)
 
 pub refused_only : FailsRulesOut → RefusedIsNotAccepted
-refused_only out a c r (inl h) n k = not_good out a c.timing r h (accepted_good a c k)
-refused_only out a c r (inr h) n k = some_not_none (sym (told (refusal_of a c) r h.1 n) ∙ accepted_out a c k)
+refused_only out a c r h n m = refused_by (one_band a) (λ t f e. out a t f e.fails) c r h n (of_accepted a c m)
 
 pub one_refusal : FailsRulesOut → OneFirst → OneFirstRefusal
-one_refusal out once a c r s (inl h) (inl k) n m = same_failing once a c.timing r s h k
-one_refusal out once a c r s (inl h) (inr k) n m = absurd (not_good out a c.timing r h k.0)
-one_refusal out once a c r s (inr h) (inl k) n m = absurd (not_good out a c.timing s k h.0)
-one_refusal out once a c r s (inr h) (inr k) n m = let e = told (refusal_of a c) r h.1 n in let f = told (refusal_of a c) s k.1 m in cc
+one_refusal out once a c r s h m n p = one_refused (one_band a) (λ t f e. out a t f e.fails) (λ t f g e q. once a t f g e q) c r s h m n p

@@ -1,5 +1,5 @@
 -- The nodes, one after another.
-use Rattle.std.proofs.Common.{◌≡◌, ℕ, ◌+◌, ◌<◌, Option, None, Some, option_map, List, [], ◌∷◌, length, map, drop, get_or, refl, sym, ap, ap₂, subst}
+use Rattle.std.proofs.Common.{◌≡◌, ◌≢◌, ℕ, ◌+◌, ◌<◌, Option, None, Some, option_map, List, [], ◌∷◌, length, map, drop, get_or, refl, sym, ap, ap₂, subst}
 use Rattle.rational_theory.specs.Rational.{ℚ}
 use Rattle.progression.specs.Street.{Street}
 use Rattle.linear_theory.specs.Boxes.{Area}
@@ -12,7 +12,8 @@ use Rattle.plan_text.specs.Warrants.{Node, SplitAt, LeafOf, node_of, AreTrees}
 use Rattle.loop_rows.specs.Weights.{Source, artery_rows}
 use Rattle.loop_rows.proofs.LeafSums.{at_left}
 use Rattle.certificate_checker.specs.Accepted.{IsProof, AreProofs}
-use Rattle.certificate_checker.specs.Refusals.{nodes_refusal, aim_of, reject_from, IsFirst}
+use Rattle.certificate_checker.specs.Refusals.{aim_of}
+use Rattle.certificate_checker.specs.Checked.{Checked, aim_at, reject_from, IsFirst}
 use Rattle.certificate_checker.specs.TreeProofs.{ProveAll, IsLeafProof, IsTreeProof}
 use Rattle.certificate_checker.specs.TreeRefusals.{tree_refusal, IsFirstOf}
 use Rattle.certificate_checker.specs.declared.leaves.Aim.{Aim}
@@ -21,7 +22,7 @@ use Rattle.certificate_checker.specs.declared.reject.TreeReject.TheVariants as t
 use Rattle.certificate_checker.specs.declared.reject.Reject.{Reject}
 use Rattle.certificate_checker.specs.declared.reject.Reject.TheVariants.{TimingFails, ValueDiffers, BoundBelow, SplitOutside, NoSuchRow, Negative, Wide, LeafTooWeak, Memory}
 use Rattle.certificate_checker.proofs.PlaceTests.{place_in, place_out}
-use Rattle.certificate_checker.proofs.LeafRefusals.{proof_in, proof_out, map_none}
+use Rattle.certificate_checker.proofs.LeafRefusals.{proof_in, proof_out}
 use Rattle.certificate_checker.proofs.ArteryLeaves.{leaf_in, leaf_out}
 
 -- ---- nodes that are not refused, as many trees as boxes, are proofs, and back
@@ -55,44 +56,59 @@ more_proved P Q f (box ∷ boxes) (SplitAt at ∷ ns) h = (h.0, more_proved P Q 
 more_proved P Q f (box ∷ boxes) (LeafOf ws ∷ ns) h = (f box ws h.0, more_proved P Q f boxes ns h.1)
 
 -- of an artery
-pub proofs_in : (a : Street) (limit : Option ℚ) (nodes leaves : ℕ) (boxes : List Area) (ns : List Node) → AreTrees (length boxes) ns → nodes_refusal a limit nodes leaves boxes ns ≡ None → AreProofs a limit boxes ns
-proofs_in a limit nodes leaves boxes ns t e =
-    more_proved (λ box ws. IsLeafProof (artery_rows a box) (aim_of a limit) ws) (IsProof a limit) (leaf_in a limit) boxes ns
-    (tree_in (artery_rows a) (aim_of a limit) nodes leaves boxes ns t (map_none reject_from (tree_refusal (artery_rows a) (aim_of a limit) nodes leaves boxes ns) e))
+pub tree_proofs : (a : Street) (limit : Option ℚ) (boxes : List Area) (ns : List Node) → IsTreeProof (artery_rows a) (aim_of a limit) boxes ns → AreProofs a limit boxes ns
+tree_proofs a limit = more_proved (λ box ws. IsLeafProof (artery_rows a box) (aim_of a limit) ws) (IsProof a limit) (leaf_in a limit)
 
-pub proofs_out : (a : Street) (limit : Option ℚ) (nodes leaves : ℕ) (boxes : List Area) (ns : List Node) → AreProofs a limit boxes ns → nodes_refusal a limit nodes leaves boxes ns ≡ None
-proofs_out a limit nodes leaves boxes ns h =
-    ap (option_map reject_from)
-    (tree_out (artery_rows a) (aim_of a limit) nodes leaves boxes ns
-    (more_proved (IsProof a limit) (λ box ws. IsLeafProof (artery_rows a box) (aim_of a limit) ws) (leaf_out a limit) boxes ns h))
+pub proofs_tree : (a : Street) (limit : Option ℚ) (boxes : List Area) (ns : List Node) → AreProofs a limit boxes ns → IsTreeProof (artery_rows a) (aim_of a limit) boxes ns
+proofs_tree a limit = more_proved (IsProof a limit) (λ box ws. IsLeafProof (artery_rows a box) (aim_of a limit) ws) (leaf_out a limit)
 
 -- ---- the first refusal
-pub is_first : (o : Option Reject) (r : Reject) → o ≡ Some r → IsFirst o r
-is_first o (TimingFails f) e = e
-is_first o (ValueDiffers kept claimed) e = e
-is_first o (BoundBelow bound value) e = e
-is_first o (SplitOutside node) e = e
-is_first o (NoSuchRow leaf row) e = e
-is_first o (Negative leaf row) e = e
-is_first o (Wide leaf row at) e = e
-is_first o (LeafTooWeak leaf place) e = e
-is_first o Memory e = tt
+-- the tree that is refused is that of the timings of a kind
+pub same_tree : {T F : Type 0} (k : Checked T F) (aim : Aim) (root : Area) (ns : List Node) → aim.goal ≡ k.goal → root ≡ k.root
+    → tree_refusal k.rows (aim_at k aim.limit) 0 0 (k.root ∷ []) ns ≡ tree_refusal k.rows aim 0 0 (root ∷ []) ns
+same_tree k aim root ns e f =
+    let same : aim_at k aim.limit ≡ aim = λ i. record { goal = sym e i; limit = aim.limit } in
+    ap₂ (λ (m : Aim) box. tree_refusal k.rows m 0 0 (box ∷ []) ns) same (sym f)
 
--- of an equal one
-pub first_moved : (o p : Option Reject) (r : Reject) → p ≡ o → IsFirst o r → IsFirst p r
-first_moved o p r e h = subst (λ q. IsFirst q r) (sym e) h
-
--- of a tree
+-- of a tree that is the same
 pub tree_moved : (o p : Option TreeReject) (r : TreeReject) → p ≡ o → IsFirstOf o r → IsFirstOf p r
 tree_moved o p r e h = subst (λ q. IsFirstOf q r) (sym e) h
 
-pub first_from : (o : Option TreeReject) (r : TreeReject) → IsFirstOf o r → IsFirst (option_map reject_from o) (reject_from r)
-first_from o (tree.SplitOutside node) h = ap (option_map reject_from) h
-first_from o (tree.NoSuchRow leaf row) h = ap (option_map reject_from) h
-first_from o (tree.Negative leaf row) h = ap (option_map reject_from) h
-first_from o (tree.Wide leaf row at) h = ap (option_map reject_from) h
-first_from o (tree.LeafTooWeak leaf place) h = ap (option_map reject_from) h
-first_from o tree.Memory h = tt
+module _ {F : Type 0} where
+  pub is_first : (o : Option (Reject F)) (r : Reject F) → o ≡ Some r → IsFirst o r
+  is_first o (TimingFails f) e = e
+  is_first o (ValueDiffers kept claimed) e = e
+  is_first o (BoundBelow bound value) e = e
+  is_first o (SplitOutside node) e = e
+  is_first o (NoSuchRow leaf row) e = e
+  is_first o (Negative leaf row) e = e
+  is_first o (Wide leaf row at) e = e
+  is_first o (LeafTooWeak leaf place) e = e
+  is_first o Memory e = tt
+
+  -- the first but for want of memory
+  pub told : (o : Option (Reject F)) (r : Reject F) → IsFirst o r → r ≢ Memory → o ≡ Some r
+  told o (TimingFails f) h n = h
+  told o (ValueDiffers kept claimed) h n = h
+  told o (BoundBelow bound value) h n = h
+  told o (SplitOutside node) h n = h
+  told o (NoSuchRow leaf row) h n = h
+  told o (Negative leaf row) h n = h
+  told o (Wide leaf row at) h n = h
+  told o (LeafTooWeak leaf place) h n = h
+  told o Memory h n = absurd (n refl)
+
+  -- of an equal one
+  pub first_moved : (o p : Option (Reject F)) (r : Reject F) → p ≡ o → IsFirst o r → IsFirst p r
+  first_moved o p r e h = subst (λ q. IsFirst q r) (sym e) h
+
+pub first_from : (F : Type 0) (o : Option TreeReject) (r : TreeReject) → IsFirstOf o r → IsFirst {F = F} (option_map reject_from o) (reject_from r)
+first_from F o (tree.SplitOutside node) h = ap (option_map reject_from) h
+first_from F o (tree.NoSuchRow leaf row) h = ap (option_map reject_from) h
+first_from F o (tree.Negative leaf row) h = ap (option_map reject_from) h
+first_from F o (tree.Wide leaf row at) h = ap (option_map reject_from) h
+first_from F o (tree.LeafTooWeak leaf place) h = ap (option_map reject_from) h
+first_from F o tree.Memory h = tt
 
 -- ---- reading
 -- the next node is read

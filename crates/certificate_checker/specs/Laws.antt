@@ -3,8 +3,7 @@ use Rattle.std.specs.Prelude.{◌≡◌, ◌≢◌, ◌↔◌, None}
 use Rattle.progression.specs.Street.{Street}
 use Rattle.plan_text.specs.Warrants.{Warrant, IsCertificate}
 use Rattle.certificate_checker.specs.Accepted.{IsAccepted}
-use Rattle.certificate_checker.specs.Refusals.{refusal_of, IsGoodIfThere, IsFirstRefusal}
-use Rattle.certificate_checker.specs.declared.reject.Reject.{Reject}
+use Rattle.certificate_checker.specs.Refusals.{Reject, refusal_of, IsGoodIfThere, IsFirstRefusal}
 use Rattle.certificate_checker.specs.declared.reject.Reject.TheVariants.{Memory}
 
 -- a certificate is accepted exactly where nothing of it is refused

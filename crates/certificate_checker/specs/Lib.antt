@@ -2,6 +2,7 @@ pub mod TreeProofs
 pub mod TreeRefusals
 pub mod Accepted
 pub mod ClaimRefusals
+pub mod Checked
 pub mod Refusals
 pub mod Claims
 pub mod Laws

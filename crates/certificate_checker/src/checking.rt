@@ -1,14 +1,13 @@
 //! The check of a whole certificate.
 
-ghost use Rattle.std.specs.Prelude.{◌≡◌, [], ◌∷◌, length, map, None, IfOk, IfErr, OnOk};
-ghost use Rattle.progression.specs.Street.{count};
-ghost use Rattle.linear_theory.specs.Boxes.{root_box};
+ghost use Rattle.std.specs.Prelude.{◌≡◌, map, None, IfOk, IfErr, OnOk};
 ghost use Rattle.linear_theory.specs.Counts.{IsStreet};
 ghost use Rattle.linear_theory.specs.Rows.{goal_form};
 ghost use Rattle.loop_rows.specs.Writing.{written};
 ghost use Rattle.certificate_checker.specs.Accepted.{IsAccepted};
 ghost use Rattle.plan_text.specs.Warrants.{node_of, AreTrees};
-ghost use Rattle.certificate_checker.specs.Refusals.{nodes_refusal, IsFirst, IsFirstRefusal};
+ghost use Rattle.certificate_checker.specs.Refusals.{nodes_refusal, IsFirstRefusal};
+ghost use Rattle.certificate_checker.specs.Checked.{IsFirst};
 ghost use Rattle.certificate_checker.specs.Claims.{ClaimHolds};
 
 use crate::claims::{check_numbers, check_timing, limit_of};
@@ -37,8 +36,8 @@ fn goal_row(alloc: Global, artery: &Artery) -> Result<Row, Memory>
 fn check_nodes(alloc: Global, artery: &Artery, aim: &Aim, nodes: &[CertNode]) -> Result<(), Reject>
     requires goal { aim.now.goal ≡ written artery.now (goal_form artery.now) }
     requires tree { AreTrees 1 (map node_of nodes.now) }
-    ensures none { OnOk result (nodes_refusal artery.now aim.now.limit 0 0 (root_box artery.now ∷ []) (map node_of nodes.now) ≡ None) }
-    ensures first { IfErr result (λ reject. IsFirst (nodes_refusal artery.now aim.now.limit 0 0 (root_box artery.now ∷ []) (map node_of nodes.now)) reject) }
+    ensures none { OnOk result (nodes_refusal artery.now aim.now.limit (map node_of nodes.now) ≡ None) }
+    ensures first { IfErr result (λ reject. IsFirst (nodes_refusal artery.now aim.now.limit (map node_of nodes.now)) reject) }
     ensures street { IsStreet artery.now }
 {
     let root = SearchBox::root(alloc, artery)?;

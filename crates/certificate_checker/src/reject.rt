@@ -1,30 +1,30 @@
 //! Why a certificate is refused.
 
 ghost use Rattle.std.specs.Prelude.{◌≡◌, ◌↔◌, IsTrue};
-ghost use Rattle.certificate_checker.specs.declared.reject.Reject.TheVariants.{Memory};
 
 use named_row::{Place, RowId, WideAt};
 use narrow_fraction::{Frac, Memory};
 use time_space::Failing;
 
-/// Why a certificate is not accepted. Nodes are counted from 1 in their order, and leaves from 1 among the leaves alone.
+/// Why a certificate is not accepted whose timing fails in the ways of `F`. Nodes are counted from 1 in their order, and leaves from 1
+/// among the leaves alone.
 #[derive(Clone, Copy, Debug, PartialEq, Eq)]
-pub enum Reject {
+pub enum Reject<F = Failing> {
     /// The timing breaks this rule.
-    TimingFails(Failing),
-    /// The timing's weighted band is `kept` and not what is claimed.
+    TimingFails(F),
+    /// The timing's value is `kept` and not what is claimed.
     ValueDiffers { kept: Frac, claimed: Frac },
     /// The claimed bound is less than the claimed value.
     BoundBelow { bound: Frac, value: Frac },
     /// The node's box can't be split at its place.
     SplitOutside { node: u64 },
-    /// The leaf names a row that the artery doesn't have.
+    /// The leaf names a row that isn't there.
     NoSuchRow { leaf: u64, row: RowId },
     /// The leaf's multiplier of this row is below 0.
     Negative { leaf: u64, row: RowId },
     /// The leaf's sum with this row leaves 128 bits, first at this place.
     Wide { leaf: u64, row: RowId, at: WideAt },
-    /// The leaf's sum doesn't rule out its box and, where a value or a bound is claimed, doesn't keep the weighted band
+    /// The leaf's sum doesn't rule out its box and, where a value or a bound is claimed, doesn't keep the value of every timing
     /// down to it. This is the first place where it fails to: without a value or bound, where it fails to rule out.
     LeafTooWeak { leaf: u64, place: Place },
     /// Want of memory.
@@ -40,12 +40,12 @@ pub enum ClaimReject {
     BoundBelow { bound: Frac, value: Frac },
 }
 
-impl From<ClaimReject> for Reject {
-    ghost use Rattle.certificate_checker.specs.Refusals.{reject_claim};
+impl<F> From<ClaimReject> for Reject<F> {
+    ghost use Rattle.certificate_checker.specs.Checked.{reject_claim};
 
     ghost from_gives = { λ refused reject. reject ≡ reject_claim refused };
 
-    fn from(refused: ClaimReject) -> Reject {
+    fn from(refused: ClaimReject) -> Reject<F> {
         match refused {
             ClaimReject::ValueDiffers { kept, claimed } => Reject::ValueDiffers { kept, claimed },
             ClaimReject::BoundBelow { bound, value } => Reject::BoundBelow { bound, value },
@@ -81,12 +81,12 @@ impl From<Memory> for TreeReject {
     }
 }
 
-impl From<TreeReject> for Reject {
-    ghost use Rattle.certificate_checker.specs.Refusals.{reject_from};
+impl<F> From<TreeReject> for Reject<F> {
+    ghost use Rattle.certificate_checker.specs.Checked.{reject_from};
 
     ghost from_gives = { λ refused reject. reject ≡ reject_from refused };
 
-    fn from(refused: TreeReject) -> Reject {
+    fn from(refused: TreeReject) -> Reject<F> {
         match refused {
             TreeReject::SplitOutside { node } => Reject::SplitOutside { node },
             TreeReject::NoSuchRow { leaf, row } => Reject::NoSuchRow { leaf, row },
@@ -98,15 +98,17 @@ impl From<TreeReject> for Reject {
     }
 }
 
-impl From<Memory> for Reject {
-    ghost from_gives = { λ _ reject. reject ≡ Memory };
+impl<F> From<Memory> for Reject<F> {
+    ghost use Rattle.certificate_checker.specs.declared.reject.Reject.TheVariants as whole;
 
-    fn from(_: Memory) -> Reject {
+    ghost from_gives = { λ _ reject. reject ≡ whole.Memory };
+
+    fn from(_: Memory) -> Reject<F> {
         Reject::Memory
     }
 }
 
-impl Reject {
+impl<F> Reject<F> {
     /// Whether memory was wanting, so that nothing is said of the certificate.
     pub fn is_memory(&self) -> bool
         ensures { IsTrue result ↔ self.now ≡ Reject.Memory }

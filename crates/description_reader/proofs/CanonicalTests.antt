@@ -1,6 +1,6 @@
 -- Tests of a table's values that pass.
 use Rattle.std.proofs.Common.{◌≡◌, ℕ, ◌+◌, ℤ, List, [], ◌∷◌, map, Bool, true, false, Option, None, Some, is_some, ◌&&◌, refl, sym, ◌∙◌, ap}
-use Rattle.std.specs.Prelude.{unwrap_or, option_map}
+use Rattle.std.specs.Prelude.{unwrap_or, option_map, if◌then◌else◌}
 use Rattle.std.specs.List.{All, list_all}
 use Rattle.std.proofs.lemmas.Bool.{true≢false}
 use Rattle.std.proofs.lemmas.List.Elements.{All-head, All-tail}
@@ -10,9 +10,9 @@ use Rattle.artery_model.specs.Faults.{Fault, first_fault, unless, each_numbered}
 use Rattle.artery_model.specs.declared.kind.Kind.{Kind}
 use Rattle.artery_model.specs.declared.kind.Kind.TheVariants.{Missing, WrongType, BadNumber, OutOfRange}
 use Rattle.description_reader.specs.Checks.{meets, numbers_of, missing, value_fault, item_fault, items_fault, demands_fault}
-use Rattle.description_reader.specs.Judgement.{key_fault, in_table}
+use Rattle.description_reader.specs.Judgement.{kind_fault, key_fault, in_table}
 use Rattle.description_reader.specs.Keys.{unknown_key}
-use Rattle.description_reader.specs.KeyTable.{Key, keys_of}
+use Rattle.description_reader.specs.KeyTable.{Key, key, key_when, keys_of, is_in}
 use Rattle.description_reader.specs.Places.{key_place, item_place}
 use Rattle.description_reader.specs.Values.{items_in}
 use Rattle.description_reader.specs.declared.demand.Demand.{Demand}
@@ -20,6 +20,7 @@ use Rattle.description_reader.specs.declared.place.Facts.{Facts}
 use Rattle.description_reader.specs.declared.judge.Stage.{Stage}
 use Rattle.description_reader.specs.declared.judge.Stage.TheVariants.{Keys, Needed as NeededKeys, Types, Numbers, Ranges}
 use Rattle.description_reader.specs.declared.key_table.Demands.{Demands}
+use Rattle.description_reader.specs.declared.key_table.When.{When}
 use Rattle.description_reader.specs.declared.key_table.Presence.{Presence}
 use Rattle.description_reader.specs.declared.key_table.Presence.TheVariants.{Needed, Optional, NotLast}
 use Rattle.description_reader.specs.declared.place.Section.{Section}
@@ -105,16 +106,34 @@ module _ (parts : ℤ) (section : Section) (d : Data) (name : List ℕ) (o : Opt
   is_there Optional s = refl
   is_there NotLast s = refl
 
-pub key_passes : (stage : Stage) (parts : ℤ) (section : Section) (d : Data) (k : Key) (o : Option Data) → Passes parts k o → get k.name d ≡ o → key_fault stage parts section d k ≡ None
-key_passes Keys parts section d k o p is = refl
-key_passes NeededKeys parts section d k o p is = is_there parts section d k.name o is k.presence p.stands
-key_passes Types parts section d k o p is = demands_pass parts section d k.name o is WrongType k.types p.types
-key_passes Numbers parts section d k o p is = demands_pass parts section d k.name o is BadNumber (numbers_of k.types) p.numbers
-key_passes Ranges parts section d k o p is = demands_pass parts section d k.name o is OutOfRange k.ranges p.ranges
+kind_passes : (stage : Stage) (parts : ℤ) (section : Section) (d : Data) (k : Key) (o : Option Data) → Passes parts k o → get k.name d ≡ o → kind_fault stage parts section d k ≡ None
+kind_passes Keys parts section d k o p is = refl
+kind_passes NeededKeys parts section d k o p is = is_there parts section d k.name o is k.presence p.stands
+kind_passes Types parts section d k o p is = demands_pass parts section d k.name o is WrongType k.types p.types
+kind_passes Numbers parts section d k o p is = demands_pass parts section d k.name o is BadNumber (numbers_of k.types) p.numbers
+kind_passes Ranges parts section d k o p is = demands_pass parts section d k.name o is OutOfRange k.ranges p.ranges
+
+where_in : (b : Bool) (f : Option Fault) → (b ≡ true → f ≡ None) → (if b then f else None) ≡ None
+where_in true f h = h refl
+where_in false f h = refl
+
+-- a key passes whose value passes where such a file has the key
+pub key_passes_in : (stage : Stage) (facts : Facts) (section : Section) (d : Data) (k : Key) (o : Option Data) → (is_in facts k.when ≡ true → Passes facts.parts k o) → get k.name d ≡ o
+    → key_fault stage facts section d k ≡ None
+key_passes_in stage facts section d k o p is = where_in (is_in facts k.when) _ (λ e. kind_passes stage facts.parts section d k o (p e) is)
+
+pub key_passes : (stage : Stage) (facts : Facts) (section : Section) (d : Data) (k : Key) (o : Option Data) → Passes facts.parts k o → get k.name d ≡ o
+    → key_fault stage facts section d k ≡ None
+key_passes stage facts section d k o p is = key_passes_in stage facts section d k o (λ e. p) is
+
+-- in whichever files there is a key, its value passes the same tests
+pub passes_when : (parts : ℤ) (w : When) (name : List ℕ) (presence : Presence) (types ranges : Demands) (o : Option Data) → Passes parts (key name presence types ranges) o
+    → Passes parts (key_when w name presence types ranges) o
+passes_when parts w name presence types ranges o p = record { stands = p.stands; types = p.types; numbers = p.numbers; ranges = p.ranges }
 
 -- a table passes where its keys are known and the tests of each key pass
 pub table_passes : (facts : Facts) (section : Section) (ms : Members) → unknown_key facts section (table ms) ≡ None
-    → ((stage : Stage) → first_fault (map (key_fault stage facts.parts section (table ms)) (keys_of facts.second section)) ≡ None)
+    → ((stage : Stage) → first_fault (map (key_fault stage facts section (table ms)) (keys_of section)) ≡ None)
     → (stage : Stage) → in_table stage facts section (table ms) ≡ None
 table_passes facts section ms known each Keys = known
 table_passes facts section ms known each NeededKeys = each NeededKeys

@@ -12,5 +12,6 @@ pub mod CanonicalTests
 pub mod CanonicalTexts
 pub mod CanonicalValues
 pub mod LeastKeys
+pub mod TypedLimits
 pub mod Views
 pub mod Validity

@@ -29,6 +29,7 @@ meets parts demand.Text d = is_some (as_str d)
 meets parts demand.Quantity d = is_some (as_integer d) || is_some (as_str d)
 meets parts demand.Number d = is_some (quantity_in d)
 meets parts demand.Units d = is_text (text_in d) (codes "metric") || is_text (text_in d) (codes "english")
+meets parts demand.Reference d = is_text (text_in d) (codes "red") || is_text (text_in d) (codes "green")
 meets parts demand.Name d = is_name (text_in d)
 meets parts (demand.Between least most) d = int_le least (integer_in d) && int_le (integer_in d) most
 meets parts (demand.BelowParts least) d = int_le least (integer_in d) && int_lt (integer_in d) parts

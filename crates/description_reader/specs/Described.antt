@@ -1,5 +1,5 @@
 -- Which bytes describe which artery, and for which fault all others are refused.
-use Rattle.std.specs.Prelude.{◌≡◌, ◌⊎◌, ℕ, List, None, Some, IsUtf8, codes}
+use Rattle.std.specs.Prelude.{◌≡◌, ◌⊎◌, ℕ, List, Option, None, Some, IsUtf8, codes}
 use Rattle.toml.specs.Data.{Data, Members, table}
 use Rattle.toml.specs.Parse.{parse_document}
 use Rattle.progression.specs.Street.{Street}
@@ -16,25 +16,40 @@ pub record ReadsAs (x : List ℕ) (d : Data) : Type 0 where
   pub document : parse_document x ≡ Some root
   pub is : d ≡ table root
 
--- the bytes are a TOML document without a fault, and this is the artery that its values make
-pub record Described (x : List ℕ) (a : Street) : Type 0 where
+-- the bytes are a TOML document whose values have no fault, and this is what they make
+pub record IsReadBy {V : Type 0} (fault_in : Data → Option Fault) (made_of : Data → V) (x : List ℕ) (v : V) : Type 0 where
   pub text : IsUtf8 x
   pub root : Members
   pub document : parse_document x ≡ Some root
-  pub no_fault : description_fault (table root) ≡ None
-  pub is : a ≡ street_in (table root)
+  pub no_fault : fault_in (table root) ≡ None
+  pub is : v ≡ made_of (table root)
 
 -- the first fault of the bytes: they aren't UTF-8, or no document, or the document has it
-abbrev pub RefusedAs : List ℕ → Fault → Type 0
-RefusedAs x f =
+abbrev pub IsRefusedBy : (Data → Option Fault) → List ℕ → Fault → Type 0
+IsRefusedBy fault_in x f =
     (¬ IsUtf8 x × (f ≡ record { kind = NotUtf8; place = codes "file" }))
     ⊎ (IsUtf8 x × (parse_document x ≡ None) × (f ≡ record { kind = NotToml; place = codes "file" }))
-    ⊎ (IsUtf8 x × (root : Members) × (parse_document x ≡ Some root) × (description_fault (table root) ≡ Some f))
+    ⊎ (IsUtf8 x × (root : Members) × (parse_document x ≡ Some root) × (fault_in (table root) ≡ Some f))
 
 -- a refusal is the first fault of the bytes; want of memory may come in its place
+abbrev pub RefusesBy : (Data → Option Fault) → List ℕ → Flaw → Type 0
+RefusesBy fault_in x Memory = Unit {0}
+RefusesBy fault_in x (Refused r) = IsRefusedBy fault_in x (fault_of r)
+
+-- the bytes are refused, whatever the faults of values are
+abbrev pub IsNoDocument : List ℕ → Flaw → Type 0
+IsNoDocument x flaw = RefusesBy (λ d. None) x flaw
+
+-- the bytes describe the artery
+abbrev pub Described : List ℕ → Street → Type 0
+Described x a = IsReadBy description_fault street_in x a
+
+-- and this is the fault of bytes that describe none
+abbrev pub RefusedAs : List ℕ → Fault → Type 0
+RefusedAs x f = IsRefusedBy description_fault x f
+
 abbrev pub Refuses : List ℕ → Flaw → Type 0
-Refuses x Memory = Unit {0}
-Refuses x (Refused r) = RefusedAs x (fault_of r)
+Refuses x flaw = RefusesBy description_fault x flaw
 
 -- no bytes are both described and refused, and for any bytes there is at most one artery and at most one fault
 pub record OneAnswer : Type 0 where

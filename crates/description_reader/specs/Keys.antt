@@ -6,7 +6,7 @@ use Rattle.toml.specs.Data.{Data}
 use Rattle.artery_model.specs.Faults.{Fault, first_fault, unless}
 use Rattle.artery_model.specs.Limits.{in_range, is_text}
 use Rattle.artery_model.specs.declared.kind.Kind.TheVariants as kind
-use Rattle.description_reader.specs.KeyTable.{keys_of}
+use Rattle.description_reader.specs.KeyTable.{keys_of, is_in}
 use Rattle.description_reader.specs.Values.{keys_in}
 use Rattle.description_reader.specs.Places.{key_place}
 use Rattle.description_reader.specs.declared.key_table.Presence.{Presence}
@@ -22,7 +22,7 @@ may_stand links section presence = true
 
 -- the keys of a table
 abbrev pub is_known : Facts → Section → List ℕ → Bool
-is_known facts section name = list_any (λ k. is_text name k.name && may_stand facts.links section k.presence) (keys_of facts.second section)
+is_known facts section name = list_any (λ k. is_text name k.name && is_in facts k.when && may_stand facts.links section k.presence) (keys_of section)
 
 -- letters, digits, `_` and `-`
 abbrev pub is_key_character : ℕ → Bool

@@ -11,4 +11,5 @@ pub mod Printed
 pub mod Promises
 pub mod Quantity
 pub mod Streets
+pub mod Typed
 pub mod Values

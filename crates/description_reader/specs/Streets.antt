@@ -16,6 +16,7 @@ use Rattle.artery_model.specs.Limits.{artery_fault, is_text}
 use Rattle.description_reader.specs.Quantity.{number_in, integer_in}
 use Rattle.description_reader.specs.Values.{at_key, items_in, text_in, flag_in}
 use Rattle.description_reader.specs.Judgement.{value_tests}
+use Rattle.description_reader.specs.declared.judge.Form.TheVariants.{Description}
 
 -- a number of 32 bits, 0 for any other, which is a fault of the description
 abbrev pub u32_or_zero : ℤ → ℕ
@@ -98,4 +99,4 @@ street_in root = record {
 
 -- the first fault of a description: of its values, and then of the artery that they make
 abbrev pub description_fault : Data → Option Fault
-description_fault root = first_fault (first_fault (value_tests root) ∷ artery_fault (street_in root) ∷ [])
+description_fault root = first_fault (first_fault (value_tests Description root) ∷ artery_fault (street_in root) ∷ [])

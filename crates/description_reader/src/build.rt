@@ -17,7 +17,7 @@ use std::alloc::{AllocError, Global};
 use toml::Value;
 
 /// A number of 32 bits, 0 for any other.
-fn u32_or_zero(number: i64) -> u32
+pub fn u32_or_zero(number: i64) -> u32
     ensures { result ≡ u32_or_zero number }
 {
     if 0 <= number && number < 4_294_967_296 {
@@ -101,7 +101,7 @@ fn patterns_of(table: &Value) -> [bool; 4]
 }
 
 /// The number at a key, 0 where there is none.
-fn number_of(table: &Value, key: &str) -> Frac
+pub fn number_of(table: &Value, key: &str) -> Frac
     ensures { result ≡ number_in (at_key (view table.now) key.now) }
 {
     match value_at(table, key) {

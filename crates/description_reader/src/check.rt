@@ -35,7 +35,7 @@ pub fn refused_file(alloc: Global, kind: Kind) -> Flaw
 }
 
 /// Refuses a key where the test fails.
-pub fn check(
+pub fn check_at(
     alloc: Global,
     passes: bool,
     kind: Kind,
@@ -80,7 +80,7 @@ pub fn check_needed(
     ensures { Judges result (missing presence section name.now (view table.now)) }
 {
     match presence {
-        Presence::Needed => check(alloc, has(table, name), Kind::Missing, section, name),
+        Presence::Needed => check_at(alloc, has(table, name), Kind::Missing, section, name),
         Presence::Optional | Presence::NotLast => Ok(()),
     }
 }
@@ -128,7 +128,7 @@ impl<'a> TableCheck<'a> {
         ensures { Judges result (value_fault self.entry.kind self.entry.parts self.entry.section demand name.now (view self.entry.table.now)) }
     {
         let passes = meets_at(self.parts, demand, name, self.table);
-        check(self.alloc, passes, self.kind, self.section, name)
+        check_at(self.alloc, passes, self.kind, self.section, name)
     }
 
     /// Refuses the first item of the array at a key that is not what it must be.

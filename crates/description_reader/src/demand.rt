@@ -26,6 +26,8 @@ pub enum Demand {
     Number,
     /// `metric` or `english`.
     Units,
+    /// `red` or `green`.
+    Reference,
     /// A text that is neither empty nor long, without control characters.
     Name,
     /// An integer from the first to the second.
@@ -54,6 +56,7 @@ pub fn meets(parts: i64, demand: Demand, value: &Value) -> bool
         Demand::Quantity => is_quantity(value),
         Demand::Number => quantity_in(value).is_some(),
         Demand::Units => text_in(value) == "metric" || text_in(value) == "english",
+        Demand::Reference => text_in(value) == "red" || text_in(value) == "green",
         Demand::Name => is_name(text_in(value)),
         Demand::Between(least, most) => least <= integer_in(value) && integer_in(value) <= most,
         Demand::BelowParts(least) => least <= integer_in(value) && integer_in(value) < parts,

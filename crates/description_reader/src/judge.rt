@@ -1,29 +1,36 @@
-//! The values of a description, judged by one kind of fault after the other.
+//! The values of a description or of a plan, judged by one kind of fault after the other.
 
 ghost use Rattle.std.specs.Prelude.{◌≡◌, map, codes};
 ghost use Rattle.toml.specs.View.{view};
 ghost use Rattle.artery_model.specs.Faults.{Judges, first_fault, each_numbered};
 ghost use Rattle.description_reader.specs.Checks.{number_of, numbers_of};
-ghost use Rattle.description_reader.specs.Judgement.{key_fault, table_fault, in_table, stage_tests, facts_of, value_tests};
+ghost use Rattle.description_reader.specs.Judgement.{kind_fault, key_fault, table_fault, in_table, stage_tests, is_timed, facts_of, value_tests};
 ghost use Rattle.description_reader.specs.KeyTable.{key_of, keys_of};
 ghost use Rattle.description_reader.specs.Quantity.{integer_in};
 ghost use Rattle.description_reader.specs.Values.{at_key};
 
 use crate::check::{TableCheck, check_needed};
 use crate::demand::Demand;
-use crate::key_table::{Demands, Entry, entries};
+use crate::key_table::{Demands, Entry, entries, is_in};
 use crate::keys::check_keys;
 use crate::place::{Facts, Section};
-use crate::values::{items_at, number_at, value_at};
+use crate::values::{has, items_at, number_at, value_at};
 use artery_model::bounds::SECOND_VERSION;
 use artery_model::{Flaw, Kind};
 use std::alloc::Global;
 use toml::Value;
 
+/// What a file is to be: the description of an artery, or a plan.
+#[derive(Clone, Copy)]
+pub enum Form {
+    Description,
+    Plan,
+}
+
 /// A kind of fault of a value. The kinds stand in the order in which they are looked for.
 #[derive(Clone, Copy)]
 pub enum Stage {
-    /// Keys that no description has.
+    /// Keys that no such file has.
     Keys,
     /// Needed keys that are absent.
     Needed,
@@ -55,7 +62,7 @@ fn numbers_of(types: Demands) -> Demands
 }
 
 /// Refuses a table for one kind of fault of the value at a key.
-fn check_key(
+fn check_kind(
     alloc: Global,
     stage: Stage,
     parts: i64,
@@ -63,7 +70,7 @@ fn check_key(
     entry: &Entry,
     table: &Value,
 ) -> Result<(), Flaw>
-    ensures { Judges result (key_fault stage parts section (view table.now) (key_of entry.now)) }
+    ensures { Judges result (kind_fault stage parts section (view table.now) (key_of entry.now)) }
 {
     match stage {
         Stage::Keys => Ok(()),
@@ -83,6 +90,24 @@ fn check_key(
     }
 }
 
+/// Refuses a table for one kind of fault of the value at a key that such a file has.
+fn check_key(
+    alloc: Global,
+    stage: Stage,
+    facts: Facts,
+    section: Section,
+    entry: &Entry,
+    table: &Value,
+) -> Result<(), Flaw>
+    ensures { Judges result (key_fault stage facts section (view table.now) (key_of entry.now)) }
+{
+    if is_in(facts, entry.when) {
+        check_kind(alloc, stage, facts.parts, section, entry, table)
+    } else {
+        Ok(())
+    }
+}
+
 fn check_each_key(
     alloc: Global,
     stage: Stage,
@@ -90,10 +115,10 @@ fn check_each_key(
     section: Section,
     table: &Value,
 ) -> Result<(), Flaw>
-    ensures { Judges result (first_fault (map (key_fault stage facts.parts section (view table.now)) (keys_of facts.second section))) }
+    ensures { Judges result (first_fault (map (key_fault stage facts section (view table.now)) (keys_of section))) }
 {
-    for entry in entries(facts.second, section) {
-        check_key(alloc, stage, facts.parts, section, entry, table)?;
+    for entry in entries(section) {
+        check_key(alloc, stage, facts, section, entry, table)?;
     }
     Ok(())
 }
@@ -130,11 +155,19 @@ fn look_into(
     }
 }
 
-fn look_into_artery(alloc: Global, stage: Stage, facts: Facts, root: &Value) -> Result<(), Flaw>
-    ensures { Judges result (in_table stage facts Section.Artery (at_key (view root.now) (codes "artery"))) }
+/// Looks into the table at a key of the root, where there is one.
+fn look_into_part(
+    alloc: Global,
+    stage: Stage,
+    facts: Facts,
+    section: Section,
+    root: &Value,
+    key: &str,
+) -> Result<(), Flaw>
+    ensures { Judges result (in_table stage facts section (at_key (view root.now) key.now)) }
 {
-    match value_at(root, "artery") {
-        Some(artery) => look_into(alloc, stage, facts, Section::Artery, artery),
+    match value_at(root, key) {
+        Some(part) => look_into(alloc, stage, facts, section, part),
         None => Ok(()),
     }
 }
@@ -163,13 +196,36 @@ fn look_into_links(alloc: Global, stage: Stage, facts: Facts, links: &[Value]) -
 }
 
 /// Refuses a description with a fault of one kind, at its first place.
-fn check_stage(alloc: Global, stage: Stage, facts: Facts, root: &Value) -> Result<(), Flaw>
-    ensures { Judges result (first_fault (stage_tests stage facts (view root.now))) }
+fn check_description(alloc: Global, stage: Stage, facts: Facts, root: &Value) -> Result<(), Flaw>
+    ensures { Judges result (first_fault (stage_tests Form.Description stage facts (view root.now))) }
 {
     look_into(alloc, stage, facts, Section::Root, root)?;
-    look_into_artery(alloc, stage, facts, root)?;
+    look_into_part(alloc, stage, facts, Section::Artery, root, "artery")?;
     look_into_signals(alloc, stage, facts, items_at(root, "signal"))?;
     look_into_links(alloc, stage, facts, items_at(root, "link"))
+}
+
+/// The same of a plan.
+fn check_plan(alloc: Global, stage: Stage, facts: Facts, root: &Value) -> Result<(), Flaw>
+    ensures { Judges result (first_fault (stage_tests Form.Plan stage facts (view root.now))) }
+{
+    look_into(alloc, stage, facts, Section::PlanRoot, root)?;
+    look_into_part(alloc, stage, facts, Section::Plan, root, "plan")
+}
+
+fn check_stage(
+    alloc: Global,
+    form: Form,
+    stage: Stage,
+    facts: Facts,
+    root: &Value,
+) -> Result<(), Flaw>
+    ensures { Judges result (first_fault (stage_tests form stage facts (view root.now))) }
+{
+    match form {
+        Form::Description => check_description(alloc, stage, facts, root),
+        Form::Plan => check_plan(alloc, stage, facts, root),
+    }
 }
 
 fn parts_of(root: &Value) -> i64
@@ -181,24 +237,36 @@ fn parts_of(root: &Value) -> i64
     }
 }
 
-fn facts_of(root: &Value) -> Facts
+/// Whether a plan gives times of travel, and no speeds.
+fn is_timed(root: &Value, travel: &str, speed: &str) -> bool
+    ensures { result ≡ is_timed travel.now speed.now (at_key (view root.now) (codes "plan")) }
+{
+    match value_at(root, "plan") {
+        Some(plan) => has(plan, travel) && !has(plan, speed),
+        None => false,
+    }
+}
+
+pub fn facts_of(root: &Value) -> Facts
     ensures { result ≡ facts_of (view root.now) }
 {
     Facts {
         links: items_at(root, "link").len(),
         parts: parts_of(root),
         second: number_at(root, "version") == i64::from(SECOND_VERSION),
+        timed_out: is_timed(root, "travel_out", "speed_out"),
+        timed_in: is_timed(root, "travel_in", "speed_in"),
     }
 }
 
-/// Refuses the first fault of the values of a description.
-pub fn check_values(alloc: Global, root: &Value) -> Result<(), Flaw>
-    ensures { Judges result (first_fault (value_tests (view root.now))) }
+/// Refuses the first fault of the values of a file.
+pub fn check_values(alloc: Global, form: Form, root: &Value) -> Result<(), Flaw>
+    ensures { Judges result (first_fault (value_tests form (view root.now))) }
 {
     let facts = facts_of(root);
-    check_stage(alloc, Stage::Keys, facts, root)?;
-    check_stage(alloc, Stage::Needed, facts, root)?;
-    check_stage(alloc, Stage::Types, facts, root)?;
-    check_stage(alloc, Stage::Numbers, facts, root)?;
-    check_stage(alloc, Stage::Ranges, facts, root)
+    check_stage(alloc, form, Stage::Keys, facts, root)?;
+    check_stage(alloc, form, Stage::Needed, facts, root)?;
+    check_stage(alloc, form, Stage::Types, facts, root)?;
+    check_stage(alloc, form, Stage::Numbers, facts, root)?;
+    check_stage(alloc, form, Stage::Ranges, facts, root)
 }

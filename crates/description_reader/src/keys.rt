@@ -7,8 +7,8 @@ ghost use Rattle.artery_model.specs.Faults.{Judges, first_fault};
 ghost use Rattle.description_reader.specs.Keys.{may_stand, is_known, is_key_character, printed, unknown_fault, unknown_key};
 ghost use Rattle.description_reader.specs.Values.{keys_of_members};
 
-use crate::check::check;
-use crate::key_table::{Presence, entries};
+use crate::check::check_at;
+use crate::key_table::{Presence, entries, is_in};
 use crate::place::{Facts, Section};
 use artery_model::{Flaw, Kind};
 use std::alloc::Global;
@@ -25,12 +25,15 @@ fn may_stand(links: usize, section: Section, presence: Presence) -> bool
     }
 }
 
-/// Whether a table of a description may have the key.
+/// Whether a table of such a file may have the key.
 fn is_known(facts: Facts, section: Section, name: &str) -> bool
     ensures { result ≡ is_known facts section name.now }
 {
-    for entry in entries(facts.second, section) {
-        if name == entry.name && may_stand(facts.links, section, entry.presence) {
+    for entry in entries(section) {
+        if name == entry.name
+            && is_in(facts, entry.when)
+            && may_stand(facts.links, section, entry.presence)
+        {
             return true;
         }
     }
@@ -60,7 +63,7 @@ fn check_key(alloc: Global, facts: Facts, section: Section, name: &str) -> Resul
     ensures { Judges result (unknown_fault facts section name.now) }
 {
     let known = is_known(facts, section, name);
-    check(alloc, known, Kind::UnknownKey, section, printed(name))
+    check_at(alloc, known, Kind::UnknownKey, section, printed(name))
 }
 
 /// Refuses the first key of a table that no description has.

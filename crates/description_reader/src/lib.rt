@@ -6,17 +6,20 @@
 //! is `print_artery`: `specs/Canonical.antt` has the table that it prints.
 //!
 //! `read_artery` answers the artery of the bytes where no test fails, and otherwise the first fault, with its kind and place. The
-//! keys are one table for each version, of each its name, whether it must stand, and the types and limits of its value and of that
-//! value's items; every test of a value follows from it. `law_one_answer`: no bytes are both described and refused, and there is at
+//! keys are one table, of each its name, in which versions it is known, whether it must stand, and the types and limits of its value
+//! and of that value's items; every test of a value follows from it. `law_one_answer`: no bytes are both described and refused, and there is at
 //! most one artery and one fault for any bytes; `law_some_answer`: there always is one of them. `law_least_key`: of a table's
 //! unknown keys the least by its bytes is named. `law_described_is_valid`: a described artery is valid, which is what laws of other
 //! crates ask of one. What `print_artery` writes is read by `toml` as the canonical table of the artery and described as the same
 //! artery, and it is the one text that `toml` states for that table (`law_one_text`).
+//!
+//! It also reads a plan as people type it, by the same tests (`specs/Typed.antt`): see `read_plan`.
 #![tactic(auto)]
 
 ghost use Rattle.description_reader.specs.Described.{OneAnswer};
 ghost use Rattle.description_reader.specs.LeastKey.{KeysAreJudged};
 ghost use Rattle.description_reader.specs.Promises.{SomeAnswer, DescribedIsValid};
+ghost use Rattle.description_reader.specs.Typed.{OneTyped, SomeTyped};
 
 mod build;
 mod check;
@@ -24,15 +27,21 @@ mod demand;
 mod judge;
 mod key_table;
 mod keys;
+mod measure;
 mod place;
 mod print;
 mod quantity;
 mod read;
+mod typed;
 mod values;
 
 pub use artery_model::{Artery, Flaw, Kind, Refusal};
+pub use check::check_at;
+pub use measure::{Measure, Reference};
+pub use place::Section;
 pub use print::{law_one_text, print_artery};
 pub use read::read_artery;
+pub use typed::{TypedPlan, read_plan};
 
 /// For any bytes there is at most one answer: one artery, or one fault.
 pub fn law_one_answer()
@@ -42,6 +51,16 @@ pub fn law_one_answer()
 /// For any bytes there is an answer: an artery, or a fault.
 pub fn law_some_answer()
     ensures { SomeAnswer }
+{}
+
+/// For any bytes there is at most one plan, or one fault.
+pub fn law_one_typed()
+    ensures { OneTyped }
+{}
+
+/// For any bytes there is a plan, or a fault.
+pub fn law_some_typed()
+    ensures { SomeTyped }
 {}
 
 /// A described artery is valid.

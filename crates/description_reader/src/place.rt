@@ -1,17 +1,20 @@
-//! The tables of a description, and the paths of places in them.
+//! The tables of a description and of a plan, and the paths of places in them.
 
 ghost use Rattle.std.specs.Prelude.{◌≡◌, IfOk, string_bytes};
 ghost use Rattle.description_reader.specs.Places.{key_place, item_place};
 
 use std::alloc::{AllocError, Global};
 
-/// A table of a description. Signals and links are counted from 1.
+/// A table of a description or of a plan. Signals and links are counted from 1.
 #[derive(Clone, Copy, PartialEq, Eq)]
 pub enum Section {
     Root,
     Artery,
     Signal(usize),
     Link(usize),
+    /// The root of a plan.
+    PlanRoot,
+    Plan,
 }
 
 /// What the tests of one table need of the others.
@@ -23,6 +26,10 @@ pub struct Facts {
     pub parts: i64,
     /// Whether the description is of the second version.
     pub second: bool,
+    /// Whether a plan gives the outbound times of travel, and no outbound speeds.
+    pub timed_out: bool,
+    /// The same inbound.
+    pub timed_in: bool,
 }
 
 /// The path of a key, as `artery.parts` or `signal[3].red`.
@@ -30,10 +37,11 @@ pub fn key_place(alloc: Global, section: Section, key: &str) -> Result<String, A
     ensures { IfOk result (λ s. string_bytes s ≡ key_place section key.now) }
 {
     match section {
-        Section::Root => String::from_str(alloc, key),
+        Section::Root | Section::PlanRoot => String::from_str(alloc, key),
         Section::Artery => format!(in alloc; "artery.{key}"),
         Section::Signal(number) => format!(in alloc; "signal[{number}].{key}"),
         Section::Link(number) => format!(in alloc; "link[{number}].{key}"),
+        Section::Plan => format!(in alloc; "plan.{key}"),
     }
 }
 

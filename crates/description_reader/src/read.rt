@@ -5,11 +5,11 @@ ghost use Rattle.toml.specs.View.{view};
 ghost use Rattle.artery_model.specs.Faults.{Judges};
 ghost use Rattle.artery_model.specs.Limits.{artery_fault};
 ghost use Rattle.description_reader.specs.Streets.{street_in, description_fault};
-ghost use Rattle.description_reader.specs.Described.{ReadsAs, Described, Refuses};
+ghost use Rattle.description_reader.specs.Described.{ReadsAs, IsNoDocument, Described, Refuses};
 
 use crate::build::{head_in, links_in, signals_in};
 use crate::check::refused_file;
-use crate::judge::check_values;
+use crate::judge::{Form, check_values};
 use crate::values::items_at;
 use artery_model::{Artery, Flaw, Kind};
 use std::alloc::Global;
@@ -17,9 +17,9 @@ use toml::Value;
 
 /// The root of the document that the bytes are, or why they are none.
 #[tactic(auto, using(crate::proofs::Views::view_of_table))]
-fn read_root(alloc: Global, bytes: &[u8]) -> Result<Value, Flaw>
+pub fn read_root(alloc: Global, bytes: &[u8]) -> Result<Value, Flaw>
     ensures read { IfOk result (λ v. ReadsAs bytes.now (view v)) }
-    ensures refused { IfErr result (λ e. Refuses bytes.now e) }
+    ensures refused { IfErr result (λ e. IsNoDocument bytes.now e) }
 {
     let text = match std::str::from_utf8(bytes) {
         Ok(text) => text,
@@ -52,7 +52,7 @@ fn judge(alloc: Global, root: &Value) -> Result<Artery, Flaw>
     ensures made { IfOk result (λ a. a ≡ street_in (view root.now)) }
     ensures judged { Judges result (description_fault (view root.now)) }
 {
-    check_values(alloc, root)?;
+    check_values(alloc, Form::Description, root)?;
     build(alloc, root)
 }
 
@@ -63,6 +63,8 @@ pub fn read_artery(alloc: Global, bytes: &[u8]) -> Result<Artery, Flaw>
     ensures described { IfOk result (λ a. Described bytes.now a) }
     ensures refused { IfErr result (λ e. Refuses bytes.now e) }
 {
-    let root = read_root(alloc, bytes)?;
-    judge(alloc, &root)
+    match read_root(alloc, bytes) {
+        Ok(root) => judge(alloc, &root),
+        Err(flaw) => Err(flaw),
+    }
 }

@@ -1,13 +1,14 @@
 -- The lines of a timing's bands and cycle.
-use Rattle.std.specs.Prelude.{ℕ, pos, List, ◌++◌, codes}
-use Rattle.rational_theory.specs.Rational.{ℚ, over}
+use Rattle.std.specs.Prelude.{ℕ, List, ◌++◌, codes}
+use Rattle.rational_theory.specs.Rational.{ℚ}
 use Rattle.quantity_text.specs.Exact.{exact_spelling}
 use Rattle.quantity_text.specs.Decimal.{decimal_spelling}
 use Rattle.progression.specs.Street.{Street}
-use Rattle.progression.specs.Plan.{Plan, cycle, band}
+use Rattle.progression.specs.Plan.{Plan}
 use Rattle.progression.specs.Best.{weighted_band}
 use Rattle.progression.specs.declared.parts.Dir.{Dir}
 use Rattle.progression.specs.declared.parts.Dir.TheVariants.{Outbound, Inbound}
+use Rattle.timing_measures.specs.Measures.{band_share, cycle_seconds}
 
 abbrev pub dir_name : Dir → List ℕ
 dir_name Outbound = codes "out"
@@ -23,16 +24,8 @@ measure_line name x places = measure_text name x places ++ codes "\n"
 abbrev pub weighted_line : Street → Plan → List ℕ
 weighted_line a t = measure_line (codes "weighted") (weighted_band a t) 6
 
--- a band as a fraction of the cycle
-abbrev pub band_share : Street → Plan → Dir → ℚ
-band_share a t d = over (pos (band t d)) (cycle a t)
-
 abbrev pub band_line : Street → Plan → Dir → List ℕ
 band_line a t d = measure_line (codes "band " ++ dir_name d) (band_share a t d) 6
-
--- the cycle in seconds
-abbrev pub cycle_seconds : Street → Plan → ℚ
-cycle_seconds a t = over (pos (cycle a t)) t.grid
 
 abbrev pub cycle_line : Street → Plan → List ℕ
 cycle_line a t = measure_line (codes "cycle") (cycle_seconds a t) 3

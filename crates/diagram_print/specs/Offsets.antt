@@ -1,16 +1,11 @@
 -- The lines of a timing's signals: the left turn pattern, and the offset from the first signal.
-use Rattle.std.specs.Prelude.{ℕ, pos, ◌-ℤ◌, List, ◌++◌, codes}
+use Rattle.std.specs.Prelude.{ℕ, List, ◌++◌, codes}
 use Rattle.std.specs.List.{flat_map, range_with_len}
 use Rattle.std.specs.Fmt.{decimal}
-use Rattle.rational_theory.specs.Rational.{ℚ, over}
 use Rattle.progression.specs.Street.{Street, count, signal_of}
-use Rattle.progression.specs.Plan.{Plan, cycle, pattern_of, common_red}
-use Rattle.progression.specs.Green.{mod_ℤ}
+use Rattle.progression.specs.Plan.{Plan, pattern_of}
+use Rattle.timing_measures.specs.Measures.{offset}
 use Rattle.diagram_print.specs.Measures.{measure_text}
-
--- how many seconds after the common red of signal 1 that of signal i starts, from 0 up to a cycle
-abbrev pub offset : Street → Plan → ℕ → ℚ
-offset a t i = over (pos (mod_ℤ (common_red t i -ℤ common_red t 1) (cycle a t))) t.grid
 
 abbrev pub offset_name : Plan → ℕ → List ℕ
 offset_name t i = codes "signal " ++ (decimal i ++ (codes " pattern " ++ (decimal (pattern_of t i) ++ codes " offset")))

@@ -13,7 +13,7 @@ use Rattle.branch_and_bound.specs.declared.found.Stop.TheVariants.{Work, Wide}
 use Rattle.branch_and_bound.specs.declared.found.Verdict.{Verdict}
 use Rattle.branch_and_bound.specs.declared.found.Verdict.TheVariants.{Best, NoTiming, Stopped}
 use Rattle.branch_tree.specs.declared.site.SitePart.{SitePart}
-use Rattle.branch_tree.specs.declared.found.Found.{Found}
+use Rattle.branch_tree.specs.Told.{Found}
 use Rattle.diagram_print.specs.Sites.{site_line, operands_line}
 use Rattle.diagram_print.specs.Measures.{measure_lines}
 use Rattle.diagram_print.specs.Offsets.{signal_lines}

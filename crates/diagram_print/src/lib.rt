@@ -35,5 +35,5 @@ pub use measures::{
     band_line, cycle_line, dir_name, measure_line, quotient_line, quotient_text, weighted_line,
 };
 pub use names::{column_text, place_text, row_text, row_text_in};
-pub use offsets::{signal_lines, signal_name};
+pub use offsets::signal_lines;
 pub use speeds::link_lines;

@@ -8,7 +8,8 @@ use artery_model::{Artery, Dir};
 use narrow_fraction::{Frac, Memory};
 use quantity_text::{decimal_text, exact_string};
 use std::alloc::Global;
-use time_space::{Timing, cycle, value};
+use time_space::{Timing, value};
+use timing_measures::{band_share, cycle_seconds, quotient};
 
 /// The printed name of a direction.
 pub fn dir_name(dir: Dir) -> &'static str
@@ -21,7 +22,7 @@ pub fn dir_name(dir: Dir) -> &'static str
 }
 
 /// A name, a fraction, and the same fraction cut after so many decimal places.
-fn measure_text(alloc: Global, name: &str, value: Frac, places: u32) -> Result<Vec<u8>, Memory>
+pub fn measure_text(alloc: Global, name: &str, value: Frac, places: u32) -> Result<Vec<u8>, Memory>
     requires least { pos 0 ≤ℤ value.num }
     requires denominator { value.den ≤ 2 ^ 120 }
     requires some_places { 1 ≤ places }
@@ -57,7 +58,6 @@ pub fn measure_line(alloc: Global, name: &str, value: Frac, places: u32) -> Resu
 }
 
 /// The quotient of two whole numbers, as a measure.
-#[tactic(auto, using(crate::proofs::Sizes::over_least))]
 pub fn quotient_text(
     alloc: Global,
     name: &str,
@@ -72,7 +72,7 @@ pub fn quotient_text(
     requires most_places { places ≤ 9 }
     ensures { IfOk result (λ text. text.items ≡ measure_text name.now (over (pos top) bottom) places) }
 {
-    measure_text(alloc, name, Frac::reduced(top as i128, bottom), places)
+    measure_text(alloc, name, quotient(top, bottom), places)
 }
 
 /// The same as a line.
@@ -112,20 +112,14 @@ pub fn band_line(
 {
     let dir_name = dir_name(dir);
     let name = format!(in alloc; "band {dir_name}")?;
-    quotient_line(
-        alloc,
-        name.as_str(),
-        timing.band(dir),
-        cycle(artery, timing),
-        6,
-    )
+    measure_line(alloc, name.as_str(), band_share(artery, timing, dir), 6)
 }
 
 /// The line of the cycle, in seconds.
 pub fn cycle_line(alloc: Global, artery: &Artery, timing: &Timing) -> Result<Vec<u8>, Memory>
     ensures { IfOk result (λ line. line.items ≡ cycle_line artery.now timing.now) }
 {
-    quotient_line(alloc, "cycle", cycle(artery, timing), timing.grid(), 3)
+    measure_line(alloc, "cycle", cycle_seconds(artery, timing), 3)
 }
 
 /// The lines of the bands and of the cycle.

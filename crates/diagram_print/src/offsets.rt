@@ -1,30 +1,15 @@
 //! The lines of a timing's signals.
 
-ghost use Rattle.std.specs.Prelude.{◌≡◌, ◌<◌, ◌≤◌, ◌^◌, ◌-ℤ◌, length, IfOk, string_bytes};
-ghost use Rattle.progression.specs.Street.{count, signal_of};
-ghost use Rattle.progression.specs.Plan.{cycle, common_red};
-ghost use Rattle.progression.specs.Green.{mod_ℤ};
+ghost use Rattle.std.specs.Prelude.{◌≡◌, ◌≤◌, length, IfOk, string_bytes};
+ghost use Rattle.progression.specs.Street.{count};
 ghost use Rattle.diagram_print.specs.Offsets.{offset_name, signal_line, signal_lines};
 
-use crate::measures::quotient_text;
+use crate::measures::measure_text;
 use artery_model::Artery;
 use narrow_fraction::Memory;
 use std::alloc::Global;
-use time_space::{Timing, cycle, since_start};
-
-/// How many ticks after the common red of signal 1 that of a signal starts.
-fn offset_ticks(artery: &Artery, timing: &Timing, signal: u32) -> u128
-    requires first { 1 ≤ signal }
-    requires last { signal ≤ length timing.now.patterns }
-    ensures value { result ≡ mod_ℤ (common_red timing.now signal -ℤ common_red timing.now 1) (cycle artery.now timing.now) }
-    ensures most { result < 2 ^ 92 }
-{
-    since_start(
-        cycle(artery, timing),
-        timing.common_red(1),
-        timing.common_red(signal),
-    )
-}
+use time_space::Timing;
+use timing_measures::{offset, signal_name};
 
 /// What stands before a signal's offset.
 fn offset_name(alloc: Global, timing: &Timing, signal: u32) -> Result<String, Memory>
@@ -34,15 +19,6 @@ fn offset_name(alloc: Global, timing: &Timing, signal: u32) -> Result<String, Me
 {
     let pattern = timing.pattern(signal);
     Ok(format!(in alloc; "signal {signal} pattern {pattern} offset")?)
-}
-
-/// The name of a signal.
-pub fn signal_name(artery: &Artery, signal: u32) -> &str
-    requires first { 1 ≤ signal }
-    requires last { signal ≤ count artery.now }
-    ensures { result.now ≡ (signal_of artery.now signal).name }
-{
-    artery.signals()[signal as usize - 1].name.as_str()
 }
 
 /// The line of a signal: its pattern, its offset in seconds and its name.
@@ -58,8 +34,8 @@ fn signal_line(
     ensures { IfOk result (λ line. line.items ≡ signal_line artery.now timing.now signal) }
 {
     let name = offset_name(alloc, timing, signal)?;
-    let ticks = offset_ticks(artery, timing, signal);
-    let mut line = quotient_text(alloc, name.as_str(), ticks, timing.grid(), 3)?;
+    let offset = offset(artery, timing, signal);
+    let mut line = measure_text(alloc, name.as_str(), offset, 3)?;
     line.extend_from_slice(b" ")?;
     line.extend_from_slice(signal_name(artery, signal).as_bytes())?;
     line.extend_from_slice(b"\n")?;
@@ -67,7 +43,7 @@ fn signal_line(
 }
 
 /// The lines of the signals, from the first on.
-#[tactic(auto, using(crate::proofs::Pieces::piece_up))]
+#[tactic(auto, using(timing_measures::proofs::Pieces::piece_up))]
 pub fn signal_lines(alloc: Global, artery: &Artery, timing: &Timing) -> Result<Vec<u8>, Memory>
     requires { length timing.now.patterns ≡ count artery.now }
     ensures { IfOk result (λ lines. lines.items ≡ signal_lines artery.now timing.now) }

@@ -1,30 +1,16 @@
 //! The lines of a timing's links.
 
-ghost use Rattle.std.specs.Prelude.{◌≡◌, ◌<◌, ◌≤◌, ◌^◌, IfOk, string_bytes};
+ghost use Rattle.std.specs.Prelude.{◌≡◌, ◌<◌, ◌≤◌, IfOk, string_bytes};
 ghost use Rattle.progression.specs.Street.{count};
-ghost use Rattle.progression.specs.Plan.{run};
 ghost use Rattle.progression.specs.Good.{IsBase};
 ghost use Rattle.diagram_print.specs.Speeds.{link_name, speed_line, speed_lines, link_lines};
 
-use crate::measures::{dir_name, quotient_line};
-use artery_model::{Artery, Dir, Units};
+use crate::measures::{dir_name, measure_line};
+use artery_model::{Artery, Dir};
 use narrow_fraction::Memory;
 use std::alloc::Global;
 use time_space::Timing;
-
-/// The ticks that a direction's band takes on a link. There are some, since no speed limit allows none.
-fn run_ticks(artery: &Artery, timing: &Timing, dir: Dir, link: u32) -> u128
-    requires base { IsBase artery.now timing.now }
-    requires first { 1 ≤ link }
-    requires last { link < count artery.now }
-    ensures value { result ≡ run timing.now dir link }
-    ensures least { 1 ≤ result }
-    ensures most { result < 2 ^ 80 }
-{
-    // at the greatest speed the link takes some time
-    prove!(1 <= artery.run_low(dir, link).num());
-    timing.run(dir, link)
-}
+use timing_measures::link_speed;
 
 /// What stands before a link's speed.
 fn link_name(alloc: Global, dir: Dir, link: u32) -> Result<String, Memory>
@@ -48,15 +34,8 @@ fn speed_line(
     ensures { IfOk result (λ line. line.items ≡ speed_line artery.now timing.now dir link) }
 {
     let name = link_name(alloc, dir, link)?;
-    let distance = u128::from(artery.distance(dir, link));
-    let grid = timing.grid();
-    let ticks = run_ticks(artery, timing, dir, link);
-    match artery.head().units {
-        Units::Metric => { quotient_line(alloc, name.as_str(), 18 * distance * grid, 5 * ticks, 3) }
-        Units::English => {
-            quotient_line(alloc, name.as_str(), 15 * distance * grid, 22 * ticks, 3)
-        }
-    }
+    let speed = link_speed(artery, timing, dir, link);
+    measure_line(alloc, name.as_str(), speed, 3)
 }
 
 /// The lines of both speeds on a link.

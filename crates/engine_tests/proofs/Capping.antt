@@ -11,7 +11,7 @@ use Rattle.search_box.specs.declared.span.At.TheVariants.{Loop, Turn}
 use Rattle.search_box.specs.Places.{low_part, high_part}
 use Rattle.named_row.specs.declared.leaves.Leaf.{Leaf}
 use Rattle.named_row.specs.declared.leaves.Point.{Point}
-use Rattle.branch_and_bound.specs.Lines.{Line}
+use Rattle.branch_and_bound.specs.Lines.{BoxLine}
 use Rattle.branch_and_bound.specs.Lineages.{Reads, Cuts}
 use Rattle.work_meter.specs.Work.{IsWithin, capped}
 use Rattle.branch_and_bound.specs.OpenedNodes.{IsPart, HasBound, OpensTimed, OpensCut, Opens}
@@ -67,7 +67,7 @@ cuts_at cap s (is_empty (inr h) e) p q = absurd (omega (arith, ints))
 cuts_at cap s (is_cut h k e) p q = e
 cuts_at cap s (is_read h k e) p q = absurd (omega (arith, ints))
 
-has_bound : (a : Street) (cap : ℤ) (line : Line) (area : Area) (s : Span) (leaf : Leaf) (bound : ℚ) → line.area ≡ area → IsOnly cap area.loops s → bound ≡ whole s.most → HasBound (capped_rules a cap) line leaf bound
+has_bound : (a : Street) (cap : ℤ) (line : BoxLine) (area : Area) (s : Span) (leaf : Leaf) (bound : ℚ) → line.area ≡ area → IsOnly cap area.loops s → bound ≡ whole s.most → HasBound (capped_rules a cap) line leaf bound
 has_bound a cap line area s leaf bound e f g =
     let here : CoversNumbers cap area.loops bound = λ x p. subst (λ v. whole x ≤ℚ v) (sym g) (whole-≤ℤ x s.most (f.number x p)) in
     record {
@@ -76,7 +76,7 @@ has_bound a cap line area s leaf bound e f g =
       covers = subst (λ (b : Area). CoversNumbers cap b.loops bound) (sym e) here;
     }
 
-pub opens_timed : (a : Street) (cap : ℤ) (line : Line) (area : Area) (s : Span) (leaf : Leaf) (bound : ℚ) (timing : ℤ)
+pub opens_timed : (a : Street) (cap : ℤ) (line : BoxLine) (area : Area) (s : Span) (leaf : Leaf) (bound : ℚ) (timing : ℤ)
     → line.area ≡ area → IsOnly cap area.loops s → s.least ≤ℤ s.most → s.most ≤ℤ cap → bound ≡ whole s.most → timing ≡ s.most
     → OpensTimed (capped_rules a cap) line leaf bound timing
 opens_timed a cap line area s leaf bound timing e f p q g h = record {
@@ -85,7 +85,7 @@ opens_timed a cap line area s leaf bound timing e f p q g h = record {
   good = (g ∙ ap whole (sym h), subst (λ t. t ≤ℤ cap) (sym h) q);
 }
 
-pub opens_cut : (a : Street) (cap : ℤ) (line : Line) (area : Area) (s : Span) (leaf : Leaf) (bound : ℚ) (at : ℤ) (point : Point) (kept : ℕ)
+pub opens_cut : (a : Street) (cap : ℤ) (line : BoxLine) (area : Area) (s : Span) (leaf : Leaf) (bound : ℚ) (at : ℤ) (point : Point) (kept : ℕ)
     → line.area ≡ area → IsOnly cap area.loops s → s.least ≤ℤ cap → cap <ℤ s.most → bound ≡ whole s.most → at ≡ s.most -ℤ pos 1
     → OpensCut (capped_rules a cap) line leaf bound (Loop 1 at) point kept
 opens_cut a cap line area s leaf bound at point kept e f p q g h = record {
@@ -95,7 +95,7 @@ opens_cut a cap line area s leaf bound at point kept e f p q g h = record {
   kept_is = tt;
 }
 
-pub finished : (a : Street) (cap : ℤ) (line : Line) (before between after : Meter) (opened : Opened ℤ ℕ ℕ)
+pub finished : (a : Street) (cap : ℤ) (line : BoxLine) (before between after : Meter) (opened : Opened ℤ ℕ ℕ)
     → EndsAs a cap line opened → between.spent ≡ capped (before.spent + 1) → after.spent ≡ capped (between.spent + 1) → IsWithin after.spent after.limit
     → Opens (capped_rules a cap) line before after opened
 finished a cap line before between after (Infeasible leaf) h e f w = (h, record { spent = omega arith; within = w })
@@ -110,12 +110,12 @@ part_length : (box : Area) (place : At) → (length (low_part box place).loops �
 part_length box (Loop i at) = (length-set box.loops (i - 1) _, length-set box.loops (i - 1) _)
 part_length box (Turn i rank) = (refl, refl)
 
-pub part_link : (a : Street) (cap : ℤ) (parent line : Line) (place : At) (kept : ℕ) (area : Area) → IsPart (capped_rules a cap) parent place line kept area → length area.loops ≡ 1
+pub part_link : (a : Street) (cap : ℤ) (parent line : BoxLine) (place : At) (kept : ℕ) (area : Area) → IsPart (capped_rules a cap) parent place line kept area → length area.loops ≡ 1
 part_link a cap parent line place kept area h =
     let one = one_link cap parent.area.loops place h.cut in
     let size = part_length parent.area place in
     let here : length line.area.loops ≡ 1 = elim (h.side) [
-      | inl e ↦ ap (λ (l : Line). length l.area.loops) e ∙ size.0 ∙ one
-      | inr e ↦ ap (λ (l : Line). length l.area.loops) e ∙ size.1 ∙ one
+      | inl e ↦ ap (λ (l : BoxLine). length l.area.loops) e ∙ size.0 ∙ one
+      | inr e ↦ ap (λ (l : BoxLine). length l.area.loops) e ∙ size.1 ∙ one
     ] in
     ap (λ (b : Area). length b.loops) h.area_is ∙ here

@@ -4,7 +4,7 @@ use Rattle.rational_theory.specs.Rational.{whole}
 use Rattle.rational_theory.proofs.Order.{≤ℚ_trans}
 use Rattle.progression.specs.Street.{Street}
 use Rattle.linear_theory.specs.Boxes.{root_box}
-use Rattle.branch_and_bound.specs.Lines.{Line}
+use Rattle.branch_and_bound.specs.Lines.{BoxLine}
 use Rattle.branch_and_bound.specs.Rules.{Rules}
 use Rattle.branch_and_bound.specs.OpenedNodes.{OpensEmpty, OpensTimed, OpensCut}
 use Rattle.branch_and_bound.specs.declared.opened.Opened.{Opened}
@@ -39,7 +39,7 @@ capped_rules a cap = record {
 }
 
 -- what the end of a box answers
-abbrev pub EndsAs : Street → ℤ → Line → Opened ℤ ℕ ℕ → Type 0
+abbrev pub EndsAs : Street → ℤ → BoxLine → Opened ℤ ℕ ℕ → Type 0
 EndsAs a cap line (Infeasible leaf) = OpensEmpty (capped_rules a cap) line leaf
 EndsAs a cap line (Timed leaf bound timing) = OpensTimed (capped_rules a cap) line leaf bound timing
 EndsAs a cap line (Splits leaf bound place point kept) = OpensCut (capped_rules a cap) line leaf bound place point kept

@@ -7,4 +7,5 @@ pub mod Entering
 pub mod Entered
 pub mod Turns
 pub mod SameRows
+pub mod SameCells
 pub mod Promises

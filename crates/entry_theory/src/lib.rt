@@ -19,6 +19,7 @@
 //! - `Basics`: `basics_of t`, the basic variables in ascending order.
 //! - `Directions`: `HaveSameForms t u`, what tableaus of the same coefficients and goal share, whatever their bounds. `Ready`: `IsFresh t`
 //!   (as it was loaded), `IsReady vs t` (what an entry asks for).
+//! - `SameCells`: `HaveSameCells t u`, tableaus that differ in their bounds alone.
 //! - `Promises`: `IsBasisFor vs rows goal w`, `IsEntered`, and `EntryKeeps`, which joins the two; `BasicsAreListed`.
 //!
 //! Lemmas, by what one asks, each in the file of `proofs/` that has the name of its definition's, or in that named:
@@ -29,6 +30,8 @@
 //! - What is the tableau on its way? `Entering`: `IsEntering vs m w n t`; `Entered`: `finds_row` (a column always finds its row),
 //!   `ready_place`, `ready_rows`, and of the end `entry_basics`, `entry_dual`, `entry_names`, `entry_keeps`, `entry_stands`.
 //! - Are relation and function the same? `Turns`: `is_entry`, `only_entry`.
+//! - What of an entry doesn't hang on the bounds? `SameCells`: `same_row`, `same_after`, and `same_all` (with the same bounds it is the
+//!   same tableau).
 //! - Is a sort the list of the basic variables? `Sorted`: `names_sorted`, `sorted_is`; `Basics`: `names_basics_of`, `names_only`.
 #![tactic(auto)]
 

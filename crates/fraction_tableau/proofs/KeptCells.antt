@@ -319,3 +319,18 @@ front_is cs b w m e h = sym (get_or_append_left cs (b ∷ []) (whole (pos 0)) m 
 
 pub last_is : (cs : List ℚ) (b : ℚ) (w : ℕ) → w ≡ length cs → b ≡ number_in (cs ++ b ∷ []) w
 last_is cs b w e = sym (get_or_push cs b (whole (pos 0)) w (sym e))
+
+-- what is written so is a line, is that row, and is narrow where its numbers fit
+pub record IsFilled (items : List Kept) (count : ℕ) (b : ℚ) (target : List ℚ) : Type 0 where
+  pub line : IsLine (length items) count (take count items)
+  pub row : dense_row (length items) (take count items) b ≡ target
+  pub narrow : IsNarrow target
+
+pub filled : (cs : List ℚ) (items new : List Kept) (w count : ℕ) (f : ℕ → ℚ) (b z : ℚ) → w ≡ length cs → items ≡ new → length new ≡ w → count ≤ w → take count new ≡ kept_below f w → ((m : ℕ) → m < w → f m ≡ number_in cs m) → z ≡ b → ((m : ℕ) → m < w → FitsFrac (f m)) → FitsFrac z
+    → IsFilled items count z (cs ++ b ∷ [])
+filled cs items new w count f b z c e h n k g q u v =
+    let l : length (cs ++ b ∷ []) ≡ w + 1 = length_push cs b ∙ ap (λ n. n + 1) (sym c) in
+    let front : (m : ℕ) → m < w → f m ≡ number_in (cs ++ b ∷ []) m = λ m i. g m i ∙ front_is cs b w m c i in
+    let last = q ∙ last_is cs b w c in
+    let m = line_new (cs ++ b ∷ []) items new w count f z e h l n k front last in
+    record { line = m.0; row = m.1; narrow = line_narrow (cs ++ b ∷ []) w f z l front last u v }

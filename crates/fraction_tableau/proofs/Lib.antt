@@ -6,6 +6,8 @@ pub mod Zeros
 pub mod Others
 pub mod Pivots
 pub mod Filling
+pub mod Rebound
+pub mod Copies
 pub mod Tableaus
 pub mod Named
 pub mod Fitting

@@ -6,13 +6,13 @@ use Rattle.std.proofs.lemmas.Bool.{cases_lt}
 use Rattle.std.specs.List.{range_with_len}
 use Rattle.rational_theory.specs.Rational.{ℚ, whole}
 use Rattle.simplex_theory.specs.Lines.{turned, cleared}
-use Rattle.simplex_theory.specs.Tableau.{Tableau, exchange, width}
+use Rattle.simplex_theory.specs.Tableau.{Tableau, exchange, line, width}
 use Rattle.named_row.specs.Sheets.{Sheet}
 use Rattle.named_row.specs.declared.names.RowId.{RowId}
 use Rattle.narrow_fraction.proofs.Zeros.{zero_fits}
 use Rattle.fraction_tableau.specs.Narrow.{IsNarrow, AreNarrow}
 use Rattle.fraction_tableau.specs.Refusals.{exchanged_rows}
-use Rattle.fraction_tableau.specs.NamedTableaus.{NamedTableau, IsSound, unnamed, blank_table, blank_tableau, row_cells, with_row, goal_cells, with_goal}
+use Rattle.fraction_tableau.specs.NamedTableaus.{NamedTableau, IsSound, unnamed, blank_table, blank_tableau, row_cells, with_row, goal_cells, with_goal, rebound, with_bound, with_goal_bound}
 
 -- ---- a new tableau
 pub blank_is : (m w : ℕ) (rows : List (List ℚ)) (goal : List ℚ) (basic standing : List ℕ) (names : List RowId) → rows ≡ replicate m (replicate (w + 1) (whole (pos 0))) → goal ≡ replicate (w + 1) (whole (pos 0))
@@ -75,6 +75,21 @@ pub goal_is : (t : NamedTableau) (s : Sheet) (goal : List ℚ) (standing : List 
     → record { table = record { rows = t.table.rows; goal = goal; basic = t.table.basic; standing = standing }; names = t.names; spent = false } ≡ with_goal s t
 unfolding with_goal
 goal_is t s goal standing a b = λ i. record { table = record { rows = t.table.rows; goal = a i; basic = t.table.basic; standing = b i }; names = t.names; spent = false }
+
+-- ---- another bound
+pub bound_is : (t : NamedTableau) (r : ℕ) (x : ℚ) (rows : List (List ℚ)) → rows ≡ set t.table.rows r (rebound x (line t.table r)) → record { table = record { rows = rows; goal = t.table.goal; basic = t.table.basic; standing = t.table.standing }; names = t.names; spent = t.spent } ≡ with_bound r x t
+unfolding with_bound
+bound_is t r x rows e = λ i. record { table = record { rows = e i; goal = t.table.goal; basic = t.table.basic; standing = t.table.standing }; names = t.names; spent = t.spent }
+
+-- ---- a copy
+pub copy_is : (t : NamedTableau) (rows : List (List ℚ)) (goal : List ℚ) (basic standing : List ℕ) (names : List RowId) → rows ≡ t.table.rows → goal ≡ t.table.goal → basic ≡ t.table.basic → standing ≡ t.table.standing → names ≡ t.names
+    → record { table = record { rows = rows; goal = goal; basic = basic; standing = standing }; names = names; spent = t.spent } ≡ t
+copy_is t rows goal basic standing names a b c d e = λ i. record { table = record { rows = a i; goal = b i; basic = c i; standing = d i }; names = e i; spent = t.spent }
+
+-- ---- another bound of the goal row
+pub goal_bound_is : (t : NamedTableau) (x : ℚ) (goal : List ℚ) → goal ≡ rebound x t.table.goal → record { table = record { rows = t.table.rows; goal = goal; basic = t.table.basic; standing = t.table.standing }; names = t.names; spent = t.spent } ≡ with_goal_bound x t
+unfolding with_goal_bound
+goal_bound_is t x goal e = λ i. record { table = record { rows = t.table.rows; goal = e i; basic = t.table.basic; standing = t.table.standing }; names = t.names; spent = t.spent }
 
 -- ---- a pivot
 pub new_table : (t : Tableau) (r j : ℕ) (rows : List (List ℚ)) (goal : List ℚ) (basic standing : List ℕ) → rows ≡ exchanged_rows r j t.rows → goal ≡ cleared j (turned j (get_or t.rows r [])) t.goal

@@ -1,8 +1,8 @@
 -- What contracts see of a `Tableau`: a tableau of rational numbers, the names of its rows, and whether it is spent.
-use Rattle.std.specs.Prelude.{◌≡◌, ℕ, Bool, true, false, List, [], ◌∷◌, ◌++◌, map, length, replicate, set, slice_index_or, pos, cond, eqb, ◌<◌, ◌+◌, ◌^◌}
+use Rattle.std.specs.Prelude.{◌≡◌, ℕ, Bool, true, false, List, [], ◌∷◌, ◌++◌, map, length, replicate, set, slice_index_or, pos, cond, eqb, ◌<◌, ◌+◌, ◌-◌, ◌^◌}
 use Rattle.std.specs.List.{range_with_len}
 use Rattle.rational_theory.specs.Rational.{ℚ, whole, neg_ℚ}
-use Rattle.simplex_theory.specs.Tableau.{Tableau, IsShaped, height, width, cell, goal_cell}
+use Rattle.simplex_theory.specs.Tableau.{Tableau, IsShaped, height, width, line, cell, goal_cell}
 use Rattle.named_row.specs.Sheets.{Sheet}
 use Rattle.named_row.specs.declared.names.RowId.{RowId}
 use Rattle.fraction_tableau.specs.Narrow.{IsNarrow, AreNarrow}
@@ -53,6 +53,26 @@ with_row r name s t = record {
     standing = t.table.standing;
   };
   names = set t.names r name;
+  spent = t.spent;
+}
+
+-- a row with another bound
+abbrev pub rebound : ℚ → List ℚ → List ℚ
+rebound x row = set row (length row - 1) x
+
+-- row r with another bound
+unfoldable pub with_bound : ℕ → ℚ → NamedTableau → NamedTableau
+with_bound r x t = record {
+  table = record { rows = set t.table.rows r (rebound x (line t.table r)); goal = t.table.goal; basic = t.table.basic; standing = t.table.standing };
+  names = t.names;
+  spent = t.spent;
+}
+
+-- the goal row with another bound
+unfoldable pub with_goal_bound : ℚ → NamedTableau → NamedTableau
+with_goal_bound x t = record {
+  table = record { rows = t.table.rows; goal = rebound x t.table.goal; basic = t.table.basic; standing = t.table.standing };
+  names = t.names;
   spent = t.spent;
 }
 

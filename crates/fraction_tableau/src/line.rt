@@ -6,16 +6,16 @@ ghost use Rattle.simplex_theory.specs.Lines.{turned, cleared};
 ghost use Rattle.narrow_fraction.specs.Attempt.{attempt};
 ghost use Rattle.fraction_tableau.specs.Narrow.{IsNarrow};
 ghost use Rattle.fraction_tableau.specs.Refusals.{turn_refusal, clear_refusal};
-ghost use Rattle.fraction_tableau.specs.NamedTableaus.{row_cells, goal_cells};
+ghost use Rattle.fraction_tableau.specs.NamedTableaus.{row_cells, goal_cells, rebound};
 ghost use Rattle.fraction_tableau.specs.KeptCells.{number_in, kept_below};
-ghost use Rattle.fraction_tableau.specs.Scales.{IsScaled, IsJoining, IsTurning, factor_of, pivot_of};
+ghost use Rattle.fraction_tableau.specs.Scales.{IsOver, IsScaled, IsJoining, IsTurning, factor_of, pivot_of};
 
 use crate::fractions::{Elimination, clear_row, turn_row};
 use crate::joining::{Joining, find_joining, join, joined};
 use crate::kept::Kept;
 use crate::loading::{fill_goal, fill_row};
 use crate::merging::{Merged, keep_before};
-use crate::narrowing::{divided_denominator, find_scale, held_over, hold_lowest, hold_over};
+use crate::narrowing::{divided_denominator, find_scale, grown, held_over, hold_lowest, hold_over};
 use crate::scale::{AS_IT_IS, Scale, numerator_of};
 use crate::whole_turning::{Turning, turn_whole};
 use crate::wide_cell::WideCell;
@@ -182,10 +182,57 @@ impl Line {
         self.narrow();
     }
 
+    /// The scale of this row with another bound, where it is narrow and stays so over its denominator.
+    fn scale_with(&self, bound: &Quotient) -> Option<Scale>
+        ensures above { IfSome result (λ scale. 0 < scale.denominator) }
+        ensures short { IfSome result (λ scale. scale.most < 2 ^ 42) }
+        ensures bound { IfSome result (λ scale. IsOver scale.denominator scale.most bound.now) }
+        ensures row { IfSome result (λ scale. IsScaled scale (rebound bound.now self.now)) }
+    {
+        let Some(scale) = self.scale else {
+            return None;
+        };
+        let most = grown(scale.most, bound, scale.denominator)?;
+        Some(Scale {
+            denominator: scale.denominator,
+            most,
+        })
+    }
+
+    /// Takes another bound, over the row's denominator where that is possible, and else as a fraction.
+    fn take_bound(&mut self, bound: Frac)
+        requires narrow { IsNarrow self.old }
+        ensures bound { self.new ≡ rebound bound self.old }
+        ensures narrow { IsNarrow self.new }
+    {
+        let bound = Quotient::of_fraction(bound.fitting());
+        match self.scale_with(&bound) {
+            Some(scale) => {
+                self.bound = held_over(&bound, scale);
+                self.scale = Some(scale);
+            }
+            None => {
+                self.bound = bound;
+                self.scale = None;
+                self.denominator = 0;
+            }
+        }
+    }
+
+    /// Takes another bound. The cells stay.
+    pub fn set_bound(&mut self, bound: Frac)
+        requires narrow { IsNarrow self.old }
+        ensures bound { self.new ≡ rebound bound self.old }
+        ensures narrow { IsNarrow self.new }
+    {
+        self.take_bound(bound);
+        self.narrow();
+    }
+
     /// Takes the cells and the bound of another row.
     pub fn copy_from(&mut self, row: &Line)
         requires width { length self.old ≡ length row.now }
-        requires short { length self.old < 2 ^ 32 }
+        requires short { length self.old ≤ 2 ^ 32 }
         ensures { self.new ≡ row.now }
     {
         let width = self.cells.len() as u32;

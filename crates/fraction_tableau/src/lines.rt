@@ -1,6 +1,6 @@
-//! The cells of a whole exchange.
+//! The cells of a whole exchange, and of all rows at once.
 
-ghost use Rattle.std.specs.Prelude.{◌≡◌, ℕ, ◌+◌, ◌<◌, ◌^◌, pos, length, get_or, set, eqb, cond, IfOk, []};
+ghost use Rattle.std.specs.Prelude.{◌≡◌, ℕ, ◌+◌, ◌<◌, ◌≤◌, ◌^◌, pos, length, get_or, set, eqb, cond, IfOk, []};
 ghost use Rattle.rational_theory.specs.Rational.{whole, inverse_ℚ};
 ghost use Rattle.simplex_theory.specs.Lines.{turned, cleared};
 ghost use Rattle.narrow_fraction.specs.Attempt.{attempt, first_below};
@@ -13,6 +13,18 @@ use crate::line::Line;
 use crate::wide_cell::{Spot, WideCell};
 use narrow_fraction::Frac;
 use std::mem;
+
+/// Each row becomes the one at its place in another list of rows as wide.
+pub fn copy_lines(lines: &mut [Line], from: &[Line])
+    requires count { length lines.old ≡ length from.now }
+    requires widths { (i : ℕ) → i < length lines.old → length (get_or lines.old i []) ≡ length (get_or from.now i []) }
+    requires short { (i : ℕ) → i < length lines.old → length (get_or lines.old i []) ≤ 2 ^ 32 }
+    ensures { lines.new ≡ from.now }
+{
+    for line in 0..lines.len() {
+        lines[line].copy_from(&from[line]);
+    }
+}
 
 /// The pivot: its row, its place there, and its number.
 #[derive(Clone, Copy)]

@@ -36,7 +36,7 @@ fn common_denominator(cells: &[Kept], count: usize, bound: &Quotient) -> Option<
 }
 
 /// The greater one of a size and that of a number's numerator, where the number has one of at most 42 bits.
-fn grown(most: u64, number: &Quotient, denominator: u64) -> Option<u64>
+pub fn grown(most: u64, number: &Quotient, denominator: u64) -> Option<u64>
     requires above { 0 < denominator }
     requires short { most < 2 ^ 42 }
     ensures more { IfSome result (λ grown. most ≤ grown) }

@@ -6,12 +6,12 @@ ghost use Rattle.simplex_theory.specs.Tableau.{cell, basic_at, standing_at, heig
 ghost use Rattle.narrow_fraction.specs.Attempt.{attempt};
 ghost use Rattle.fraction_tableau.specs.Refusals.{pivot_refusal};
 ghost use Rattle.fraction_tableau.specs.KeptCells.{kept_below};
-ghost use Rattle.fraction_tableau.specs.NamedTableaus.{IsNamed, IsSpentFrom, blank_tableau, number_at, name_at, with_row, with_goal};
+ghost use Rattle.fraction_tableau.specs.NamedTableaus.{IsNamed, IsSpentFrom, blank_tableau, number_at, name_at, with_row, with_bound, with_goal_bound, with_goal};
 
 use crate::fresh::{blank_names, numbers, zero_lines};
 use crate::kept::Kept;
 use crate::line::Line;
-use crate::lines::exchange_cells;
+use crate::lines::{copy_lines, exchange_cells};
 use crate::loading::count_up;
 use crate::wide_cell::{Spot, WideCell};
 use named_row::{Row, RowId};
@@ -178,6 +178,35 @@ impl Tableau {
         self.lines[line].load(from);
         self.basic[line] = self.standing.len() as u32 + row;
         self.names[line] = name;
+    }
+
+    /// Gives a row another bound. All else stays: cells are loaded once, and where only a bound changes, that alone is set.
+    pub fn set_bound(&mut self, row: u32, bound: Frac)
+        requires { row < height self.old.table }
+        ensures { self.new ≡ with_bound row bound self.old }
+    {
+        self.lines[row as usize].set_bound(bound);
+    }
+
+    /// Gives the goal row another bound. All else stays.
+    pub fn set_goal_bound(&mut self, bound: Frac)
+        ensures { self.new ≡ with_goal_bound bound self.old }
+    {
+        self.goal.set_bound(bound);
+    }
+
+    /// Becomes the same as another tableau with as many rows and columns. Takes no memory.
+    pub fn copy_from(&mut self, from: &Tableau)
+        requires rows { height self.old.table ≡ height from.now.table }
+        requires columns { width self.old.table ≡ width from.now.table }
+        ensures { self.new ≡ from.now }
+    {
+        copy_lines(&mut self.lines, &from.lines);
+        self.goal.copy_from(&from.goal);
+        self.basic.copy_from_slice(&from.basic);
+        self.standing.copy_from_slice(&from.standing);
+        self.names.copy_from_slice(&from.names);
+        self.spent = from.spent;
     }
 
     /// Loads a goal: its negated coefficients, with the bound 0. Each column stands at its place, and the tableau isn't

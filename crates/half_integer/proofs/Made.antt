@@ -11,8 +11,8 @@ use Rattle.mirror_theory.proofs.Widest.{none_runs}
 use Rattle.mirror_theory.proofs.Built.{half_cycle_best}
 use Rattle.half_integer.specs.HalfPlan.{red_tick, first_out_tick, first_in_tick, half_plan}
 use Rattle.half_integer.proofs.HalfPlan.{half_plan_built, length-numbered}
-use Rattle.half_integer.specs.declared.search.Line.{Line}
-use Rattle.half_integer.specs.Lines.{IsBestLine}
+use Rattle.half_integer.specs.declared.search.OutboundBand.{OutboundBand}
+use Rattle.half_integer.specs.Bands.{IsBestBand}
 use Rattle.half_integer.specs.Fitting.{FitsTwice, IsListTo, twice_at}
 use Rattle.half_integer.proofs.Lists.{twice_whole}
 
@@ -55,10 +55,10 @@ made_is a t x b grid unit patterns reds ro ri run_out run_in first_out first_in 
 pub half_none : (a : Street) (t : Plan) (unit : ℕ) → IsValid a → unit ≡ t.unit → 2 ≤ unit → IsEven a t → ((x : ℤ) → ¬ Runs a t x 0) → HasNone a t
 half_none a t unit v e u even h = none_runs a t v (omega (arith, e)) even h
 
-pub half_is : (a : Street) (t s : Plan) (unit : ℕ) (line : Line) → IsValid a → unit ≡ t.unit → 2 ≤ unit → IsEven a t → length t.patterns ≡ count a → IsBestLine a t line
-    → s ≡ half_plan a t line.first line.band → IsHalfCycleBest a t s
-half_is a t s unit line v e u even shape best is =
+pub half_is : (a : Street) (t s : Plan) (unit : ℕ) (band : OutboundBand) → IsValid a → unit ≡ t.unit → 2 ≤ unit → IsEven a t → length t.patterns ≡ count a → IsBestBand a t band
+    → s ≡ half_plan a t band.first band.width → IsHalfCycleBest a t s
+half_is a t s unit band v e u even shape best is =
     let two : 2 ≤ t.unit = omega (arith, e) in
     let long : 2 * 2 ≤ a.head.parts * t.unit = mul-le v.least_parts two in
     let some : 0 < cycle a t = omega (arith, long) in
-    rw is (half_cycle_best a t v two even line.first line.band (half_plan a t line.first line.band) (half_plan_built a t some shape line.first line.band) best.runs best.upright best.widest)
+    rw is (half_cycle_best a t v two even band.first band.width (half_plan a t band.first band.width) (half_plan_built a t some shape band.first band.width) best.runs best.upright best.widest)

@@ -3,13 +3,13 @@ use Rattle.std.proofs.Common.{zero, suc, ◌≡◌, Option, None, Some, inl, inr
 use Rattle.progression.specs.Street.{Street, count}
 use Rattle.progression.specs.Plan.{Plan, cycle}
 use Rattle.mirror_theory.specs.Runs.{far, taken, wait_in_phase, Runs, IsWidest, phase_wait, candidate}
-use Rattle.half_integer.specs.Lines.{fullest}
+use Rattle.half_integer.specs.Bands.{fullest}
 use Rattle.mirror_theory.proofs.Candidates.{far_next, runs_there, wait_half_later, wait_in_turn, wait_at_one, runs_turned}
 use Rattle.mirror_theory.specs.EqualBands.{travel}
 use Rattle.progression.specs.Green.{red_ticks}
 use Rattle.std.proofs.lemmas.Bool.{cases_lt}
-use Rattle.half_integer.specs.Lines.{IsRoom, IsTried, IsTriedTo, reach}
-use Rattle.half_integer.specs.declared.search.Line.{Line}
+use Rattle.half_integer.specs.Bands.{IsRoom, IsTried, IsTriedTo, reach}
+use Rattle.half_integer.specs.declared.search.OutboundBand.{OutboundBand}
 use Rattle.progression.specs.declared.parts.Dir.TheVariants.{Outbound}
 use Rattle.std.proofs.lemmas.Int.{ints}
 
@@ -55,7 +55,7 @@ pub next_here : (a : Street) (t : Plan) (first line step : ℤ) (i : ℕ) → 1 
 next_here a t first line step i h e f = let g = far_next a t i h in sums line step first (far a t i) (travel a t Outbound i +ℤ travel a t Outbound i) (far a t (i + 1)) e f g
 
 -- what was tried stays tried
-pub still_tried : (a : Street) (t : Plan) (best later : Option Line) (x : ℤ) → reach best ≤ reach later → IsTried a t best x → IsTried a t later x
+pub still_tried : (a : Street) (t : Plan) (best later : Option OutboundBand) (x : ℤ) → reach best ≤ reach later → IsTried a t best x → IsTried a t later x
 still_tried a t best later x h k = λ b r. let e = k b r in omega arith
 
 -- a candidate, from the line that crosses signal 1 at 0
@@ -67,7 +67,7 @@ pub candidate_here : (a : Street) (t : Plan) (end line : ℤ) (i phase : ℕ) �
 candidate_here a t end line i phase e f = rw f (from_line (pos (phase + red_ticks a t Outbound i)) line (far a t i) e)
 
 -- signals up to some are signals up to fewer
-pub tried_less : (a : Street) (t : Plan) (best : Option Line) (n k : ℕ) → n ≤ k → IsTriedTo a t best k → IsTriedTo a t best n
+pub tried_less : (a : Street) (t : Plan) (best : Option OutboundBand) (n k : ℕ) → n ≤ k → IsTriedTo a t best k → IsTriedTo a t best n
 tried_less a t best n k l h = record { each = λ i p q. h.each i p (omega arith) }
 
 -- half a cycle later signal 1 is in phase
@@ -85,11 +85,11 @@ pub turned_runs : (a : Street) (t : Plan) (x half : ℤ) (b : ℕ) → 0 < cycle
 turned_runs a t x half b c e h = rw e (runs_turned a t c x b h)
 
 -- before the first signal nothing is to be tried
-pub none_tried : (a : Street) (t : Plan) (best : Option Line) → IsTriedTo a t best 0
+pub none_tried : (a : Street) (t : Plan) (best : Option OutboundBand) → IsTriedTo a t best 0
 none_tried a t best = record { each = λ i p q. absurd (omega arith) }
 
 -- both candidates of the next signal are tried, one after the other
-pub next_tried : (a : Street) (t : Plan) (best found last : Option Line) (k : ℕ) → IsTriedTo a t best k → reach best ≤ reach found → reach found ≤ reach last
+pub next_tried : (a : Street) (t : Plan) (best found last : Option OutboundBand) (k : ℕ) → IsTriedTo a t best k → reach best ≤ reach found → reach found ≤ reach last
     → IsTried a t found (candidate a t (k + 1) 0) → IsTried a t last (candidate a t (k + 1) (cycle a t)) → IsTriedTo a t last (k + 1)
 next_tried a t best found last k h p q f l = record {
   each = λ i r s. elim (cases_lt i (k + 1)) [
@@ -102,8 +102,8 @@ next_tried a t best found last k h p q f l = record {
 }
 
 -- where all candidates are tried, no band is wider
-pub best_is : (a : Street) (t : Plan) (line : Line) → 1 ≤ count a → 0 < cycle a t → IsTriedTo a t (Some line) (count a) → IsWidest a t line.band
-best_is a t line n c h = λ x b r.
+pub best_is : (a : Street) (t : Plan) (band : OutboundBand) → 1 ≤ count a → 0 < cycle a t → IsTriedTo a t (Some band) (count a) → IsWidest a t band.width
+best_is a t band n c h = λ x b r.
     let there = runs_there a t c n x b r in
     let tried = h.each there.signal there.there.0 there.there.1 in
     elim there.runs [

@@ -1,5 +1,5 @@
 pub mod HalfPlan
-pub mod Lines
+pub mod Bands
 pub mod Fitting
 pub mod Uneven
 pub mod TooFine

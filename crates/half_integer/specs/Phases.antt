@@ -1,5 +1,5 @@
 -- The phase of a red in a half-cycle plan.
-use Rattle.std.specs.Prelude.{◌≡◌, ℕ, ◌/◌, ◌%◌, ◌==◌, ◌&&◌, not, Bool, true, pos, ◌-ℤ◌, if◌then◌else◌}
+use Rattle.std.specs.Prelude.{ℕ, ◌/◌, ◌%◌, ◌==◌, ◌&&◌, not, Bool, pos, ◌-ℤ◌, if◌then◌else◌}
 use Rattle.progression.specs.Street.{Street, HasSignal}
 use Rattle.progression.specs.Plan.{Plan, cycle}
 use Rattle.progression.specs.Green.{since, red_start, red_ticks}

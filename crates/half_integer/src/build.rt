@@ -1,4 +1,4 @@
-//! The timing of the best line.
+//! The timing of the best band.
 
 ghost use Rattle.std.specs.Prelude.{◌≡◌, ◌+◌, ◌*◌, ◌<◌, ◌≤◌, ◌^◌, ◌++◌, [], ◌∷◌, ℕ, ℤ, pos, All, length, map, IfOk, OnOk, MatchOption, unsigned_abs, ◌+ℤ◌};
 ghost use Rattle.progression.specs.Street.{count};
@@ -12,10 +12,10 @@ ghost use Rattle.mirror_theory.specs.EqualBands.{IsEven, HasNone, IsHalfCycleBes
 ghost use Rattle.mirror_theory.specs.Runs.{far};
 ghost use Rattle.mirror_theory.specs.Built.{phase_of};
 ghost use Rattle.half_integer.specs.HalfPlan.{red_tick, first_out_tick, first_in_tick, half_plan};
-ghost use Rattle.half_integer.specs.Lines.{IsBestLine};
+ghost use Rattle.half_integer.specs.Bands.{IsBestBand};
 ghost use Rattle.half_integer.specs.Fitting.{FitsTwice, IsListTo, twice_at};
 
-use crate::search::{Line, best_line, line_beyond, next_line, wait_in_phase};
+use crate::search::{OutboundBand, best_band, line_beyond, next_line, wait_in_phase};
 use artery_model::Artery;
 use narrow_fraction::Memory;
 use progression::Dir;
@@ -146,26 +146,26 @@ fn last_line(artery: &Artery, timing: &Timing, first: i128) -> i128
 }
 
 /// Where the mirrored line begins at the last signal.
-fn first_in(artery: &Artery, timing: &Timing, line: Line) -> u128
+fn first_in(artery: &Artery, timing: &Timing, band: OutboundBand) -> u128
     requires shape { length timing.now.patterns ≡ count artery.now }
-    requires near { unsigned_abs line.first ≤ 2 ^ 99 }
-    requires band { line.band < 2 ^ 94 }
-    ensures value { result ≡ first_in_tick artery.now timing.now line.first line.band }
+    requires near { unsigned_abs band.first ≤ 2 ^ 99 }
+    requires width { band.width < 2 ^ 94 }
+    ensures value { result ≡ first_in_tick artery.now timing.now band.first band.width }
     ensures small { result < cycle artery.now timing.now + cycle artery.now timing.now }
 {
     let half = cycle(artery, timing);
-    let end = last_line(artery, timing, line.first) + line.band as i128;
+    let end = last_line(artery, timing, band.first) + band.width as i128;
     since_start(half + half, end, 0)
 }
 
 /// Where the outbound line begins.
-fn first_out(artery: &Artery, timing: &Timing, line: Line) -> u128
-    requires near { unsigned_abs line.first ≤ 2 ^ 99 }
-    ensures value { result ≡ first_out_tick artery.now timing.now line.first }
+fn first_out(artery: &Artery, timing: &Timing, band: OutboundBand) -> u128
+    requires near { unsigned_abs band.first ≤ 2 ^ 99 }
+    ensures value { result ≡ first_out_tick artery.now timing.now band.first }
     ensures small { result < cycle artery.now timing.now + cycle artery.now timing.now }
 {
     let half = cycle(artery, timing);
-    since_start(half + half, 0, line.first)
+    since_start(half + half, 0, band.first)
 }
 
 /// One more number, twice as large.
@@ -203,20 +203,25 @@ fn copied(alloc: Global, patterns: &[u32]) -> Result<Vec<u32>, Memory>
     Ok(copy)
 }
 
-/// The timing of a line, with each red centred in its better phase.
-fn built(alloc: Global, artery: &Artery, timing: &Timing, line: Line) -> Result<Timing, Memory>
+/// The timing of a band, with each red centred in its better phase.
+fn built(
+    alloc: Global,
+    artery: &Artery,
+    timing: &Timing,
+    band: OutboundBand,
+) -> Result<Timing, Memory>
     requires shape { length timing.now.patterns ≡ count artery.now }
     requires fits { FitsTwice artery.now timing.now }
-    requires near { unsigned_abs line.first ≤ 2 ^ 99 }
-    requires band { line.band < 2 ^ 80 }
-    ensures { IfOk result (λ s. s ≡ half_plan artery.now timing.now line.first line.band) }
+    requires near { unsigned_abs band.first ≤ 2 ^ 99 }
+    requires width { band.width < 2 ^ 80 }
+    ensures { IfOk result (λ s. s ≡ half_plan artery.now timing.now band.first band.width) }
 {
     let patterns = copied(alloc, timing.patterns())?;
-    let reds = reds(alloc, artery, timing, line.first)?;
+    let reds = reds(alloc, artery, timing, band.first)?;
     let run_out = doubled(alloc, timing.run_out())?;
     let run_in = doubled(alloc, timing.run_in())?;
-    let first_out = first_out(artery, timing, line);
-    let first_in = first_in(artery, timing, line);
+    let first_out = first_out(artery, timing, band);
+    let first_in = first_in(artery, timing, band);
     match Timing::new(
         timing.grid() * 2,
         timing.unit() * 2,
@@ -226,8 +231,8 @@ fn built(alloc: Global, artery: &Artery, timing: &Timing, line: Line) -> Result<
         run_in,
         first_out,
         first_in,
-        line.band,
-        line.band,
+        band.width,
+        band.width,
     ) {
         Some(made) => Ok(made),
         None => unreachable!(),
@@ -243,8 +248,8 @@ pub fn half_plan(alloc: Global, artery: &Artery, timing: &Timing) -> Result<Opti
 {
     let head = artery.head();
     let unit = timing.unit();
-    match best_line(artery, timing) {
+    match best_band(artery, timing) {
         None => Ok(None),
-        Some(line) => Ok(Some(built(alloc, artery, timing, line)?)),
+        Some(band) => Ok(Some(built(alloc, artery, timing, band)?)),
     }
 }

@@ -9,17 +9,17 @@ ghost use Rattle.artery_model.specs.Bounds.{most_signals};
 ghost use Rattle.time_space.specs.Sizes.{IsWithin};
 ghost use Rattle.mirror_theory.specs.EqualBands.{travel};
 ghost use Rattle.mirror_theory.specs.Runs.{phase_wait, far, wait_in_phase, taken, Runs, IsWidest, candidate};
-ghost use Rattle.half_integer.specs.Lines.{fullest, IsRoom, reach, IsTried, IsTriedTo, IsRun, IsLineWithin, IsBestLine};
+ghost use Rattle.half_integer.specs.Bands.{fullest, IsRoom, reach, IsTried, IsTriedTo, IsRun, IsBandWithin, IsBestBand};
 
 use artery_model::Artery;
 use progression::Dir;
 use time_space::{Timing, advance, cycle, red_ticks, since_start};
 
-/// Where an outbound line crosses signal 1, in ticks of the doubled grid, and the width of the band that begins there.
+/// An outbound band: where its line crosses signal 1, in ticks of the doubled grid, and how wide it is.
 #[derive(Clone, Copy)]
-pub struct Line {
+pub struct OutboundBand {
     pub first: i128,
-    pub band: u128,
+    pub width: u128,
 }
 
 /// A direction's run on a link, less the clearance at its end.
@@ -145,23 +145,28 @@ fn room(artery: &Artery, timing: &Timing, first: i128) -> Option<u128>
     }
 }
 
-/// The better of two lines, the second with its widest band.
-fn better(artery: &Artery, timing: &Timing, best: Option<Line>, first: i128) -> Option<Line>
+/// The better of a band and the widest one on another line.
+fn better(
+    artery: &Artery,
+    timing: &Timing,
+    best: Option<OutboundBand>,
+    first: i128,
+) -> Option<OutboundBand>
     requires shape { length timing.now.patterns ≡ count artery.now }
     requires near { unsigned_abs first ≤ 26 * 2 ^ 94 }
     requires runs { IsRun artery.now timing.now best }
-    requires within { IsLineWithin best }
+    requires within { IsBandWithin best }
     ensures runs { IsRun artery.now timing.now result }
     ensures kept { reach best ≤ reach result }
     ensures tried { IsTried artery.now timing.now result first }
-    ensures within { IsLineWithin result }
+    ensures within { IsBandWithin result }
 {
-    let Some(band) = room(artery, timing, first) else {
+    let Some(width) = room(artery, timing, first) else {
         return best;
     };
     match best {
-        Some(line) if line.band >= band => best,
-        _ => Some(Line { first, band }),
+        Some(band) if band.width >= width => best,
+        _ => Some(OutboundBand { first, width }),
     }
 }
 
@@ -191,24 +196,24 @@ fn candidate(artery: &Artery, timing: &Timing, line: i128, signal: u32, phase: u
     red_end(artery, timing, signal, phase) - line
 }
 
-/// The best line, after the two candidates at the next signal: the lines that cross it at the end of its red in either phase.
+/// The best band, after the two candidates at the next signal: the lines that cross it at the end of its red in either phase.
 fn tried_next(
     artery: &Artery,
     timing: &Timing,
-    best: Option<Line>,
+    best: Option<OutboundBand>,
     line: i128,
     place: u32,
-) -> Option<Line>
+) -> Option<OutboundBand>
     requires last { place < count artery.now }
     requires many { place < most_signals }
     requires shape { length timing.now.patterns ≡ count artery.now }
     requires here { line ≡ pos 0 +ℤ far artery.now timing.now (place + 1) }
     requires near { unsigned_abs line ≤ (place + 1) * 2 ^ 94 }
     requires runs { IsRun artery.now timing.now best }
-    requires within { IsLineWithin best }
+    requires within { IsBandWithin best }
     requires tried { IsTriedTo artery.now timing.now best place }
     ensures runs { IsRun artery.now timing.now result }
-    ensures within { IsLineWithin result }
+    ensures within { IsBandWithin result }
     ensures tried { IsTriedTo artery.now timing.now result (place + 1) }
 {
     let in_phase = candidate(artery, timing, line, place + 1, 0);
@@ -217,12 +222,12 @@ fn tried_next(
     better(artery, timing, found, half_later)
 }
 
-/// The best line of all candidates.
+/// The best band on all candidates.
 #[tactic(auto, using(crate::proofs::Rooms::none_tried))]
-fn best_candidate(artery: &Artery, timing: &Timing) -> Option<Line>
+fn best_candidate(artery: &Artery, timing: &Timing) -> Option<OutboundBand>
     requires shape { length timing.now.patterns ≡ count artery.now }
     ensures runs { IsRun artery.now timing.now result }
-    ensures within { IsLineWithin result }
+    ensures within { IsBandWithin result }
     ensures tried { IsTriedTo artery.now timing.now result (count artery.now) }
     ensures some { 1 ≤ count artery.now }
 {
@@ -245,37 +250,37 @@ fn half_cycle(artery: &Artery, timing: &Timing) -> i128
 }
 
 /// The same band, half a cycle later where that puts signal 1 in phase.
-fn upright(artery: &Artery, timing: &Timing, line: Line) -> Line
+fn upright(artery: &Artery, timing: &Timing, band: OutboundBand) -> OutboundBand
     requires some { 1 ≤ count artery.now }
-    requires near { unsigned_abs line.first ≤ 26 * 2 ^ 94 }
-    requires runs { Runs artery.now timing.now line.first line.band }
-    ensures runs { Runs artery.now timing.now result.first result.band }
-    ensures same { result.band ≡ line.band }
+    requires near { unsigned_abs band.first ≤ 26 * 2 ^ 94 }
+    requires runs { Runs artery.now timing.now band.first band.width }
+    ensures runs { Runs artery.now timing.now result.first result.width }
+    ensures same { result.width ≡ band.width }
     ensures near { unsigned_abs result.first ≤ 2 ^ 99 }
     ensures upright { wait_in_phase artery.now timing.now result.first 1 0 ≤ wait_in_phase artery.now timing.now result.first 1 (cycle artery.now timing.now) }
 {
     let half = cycle(artery, timing);
-    let in_phase = wait_in_phase(artery, timing, line.first, 1, 0);
-    let half_later = wait_in_phase(artery, timing, line.first, 1, half);
+    let in_phase = wait_in_phase(artery, timing, band.first, 1, 0);
+    let half_later = wait_in_phase(artery, timing, band.first, 1, half);
     if half_later < in_phase {
-        Line {
-            first: line.first + half_cycle(artery, timing),
-            band: line.band,
+        OutboundBand {
+            first: band.first + half_cycle(artery, timing),
+            width: band.width,
         }
     } else {
-        line
+        band
     }
 }
 
-/// The line and the band that are widest of all, or None where no band runs.
-pub fn best_line(artery: &Artery, timing: &Timing) -> Option<Line>
+/// The band that is widest of all, or None where none runs.
+pub fn best_band(artery: &Artery, timing: &Timing) -> Option<OutboundBand>
     requires shape { length timing.now.patterns ≡ count artery.now }
-    ensures { MatchOption result ((x : ℤ) → ¬ Runs artery.now timing.now x 0) (λ line. IsBestLine artery.now timing.now line) }
+    ensures { MatchOption result ((x : ℤ) → ¬ Runs artery.now timing.now x 0) (λ band. IsBestBand artery.now timing.now band) }
 {
     let half = cycle(artery, timing);
     prove!(0 < half);
     match best_candidate(artery, timing) {
         None => None,
-        Some(line) => Some(upright(artery, timing, line)),
+        Some(band) => Some(upright(artery, timing, band)),
     }
 }

@@ -3,7 +3,7 @@ use Rattle.std.proofs.Common.{◌≡◌, ℕ, ◌+◌, ◌<◌, ◌≤◌, ◌�
 use Rattle.std.proofs.lemmas.Bool.{eqb-true}
 use Rattle.std.specs.Prelude.{◌==◌, ◌||◌}
 use Rattle.progression.specs.Street.{Street, count}
-use Rattle.linear_theory.specs.Names.{Name, NoRow, Family, families, last_family, row_among, name_of, FamilyOf, Seat, AtSignal, AtLink, AtChange, ByItself, AtRatio, AtLeast, AtEqual, Nowhere, HasSeat, rule_of, HasRow}
+use Rattle.linear_theory.specs.Names.{Name, NoRow, Family, families, last_family, row_among, name_of, FamilyOf, RowPosition, AtSignal, AtLink, AtChange, ByItself, AtRatio, AtLeast, AtEqual, Nowhere, HasRowPosition, rule_of, HasRow}
 
 -- the family has one row alone
 abbrev pub lone_among : {N : Type 0} → ℕ → List (FamilyOf N) → ℕ → Bool
@@ -34,8 +34,8 @@ pub family_most : (a : Street) (g i : ℕ) → HasRow a (name_of g i) → g ≤ 
 family_most a g i h = let l = (within a 1 (1 + last_family) families g i refl h).below in omega arith
 
 -- ---- indices
--- a seat of a family's row has the row's index, and is one for a single row where the family has one alone
-abbrev Fits : Bool → Seat → ℕ → Type 0
+-- a position of a family's row has the row's index, and is one for a single row where the family has one alone
+abbrev Fits : Bool → RowPosition → ℕ → Type 0
 Fits false (AtSignal j) i = j ≡ i
 Fits false (AtLink j) i = j ≡ i
 Fits false (AtChange d j) i = j ≡ i
@@ -43,11 +43,11 @@ Fits true (ByItself j) i = j ≡ i
 Fits true (AtRatio j) i = j ≡ i
 Fits true (AtLeast d j) i = j ≡ i
 Fits true (AtEqual j) i = j ≡ i
-Fits lone seat i = ⊥
+Fits lone position i = ⊥
 
 abbrev AllFit : List Family → ℕ → Type 0
 AllFit [] i = Unit {0}
-AllFit (f ∷ fs) i = Fits f.lone (rule_of (f.row i)).seat i × AllFit fs i
+AllFit (f ∷ fs) i = Fits f.lone (rule_of (f.row i)).position i × AllFit fs i
 
 all_fit : (i : ℕ) → AllFit families i
 all_fit i = search rules
@@ -64,23 +64,23 @@ several a i l m = record { none = λ e. absurd (true≢false (sym e)); some = λ
 single : (a : Street) (i : ℕ) → i ≡ 0 → IsIndex a true i
 single a i e = record { none = λ f. e; some = λ f. absurd (true≢false f); most = omega (arith, e) }
 
-seat_index : (a : Street) (lone : Bool) (s : Seat) (i : ℕ) → Fits lone s i → HasSeat a s → IsIndex a lone i
-seat_index a false (AtSignal j) i e h = subst (IsIndex a false) e (several a j h.0 h.1)
-seat_index a false (AtLink j) i e h = subst (IsIndex a false) e (several a j h.0 (omega (arith, h.1)))
-seat_index a false (AtChange d j) i e h = subst (IsIndex a false) e (several a j h.0.0 (omega (arith, h.0.1)))
-seat_index a false (ByItself j) i e h = absurd e
-seat_index a false (AtRatio j) i e h = absurd e
-seat_index a false (AtLeast d j) i e h = absurd e
-seat_index a false (AtEqual j) i e h = absurd e
-seat_index a false Nowhere i e h = absurd e
-seat_index a true (AtSignal j) i e h = absurd e
-seat_index a true (AtLink j) i e h = absurd e
-seat_index a true (AtChange d j) i e h = absurd e
-seat_index a true (ByItself j) i e h = subst (IsIndex a true) e (single a j h)
-seat_index a true (AtRatio j) i e h = subst (IsIndex a true) e (single a j h.0)
-seat_index a true (AtLeast d j) i e h = subst (IsIndex a true) e (single a j h.0)
-seat_index a true (AtEqual j) i e h = subst (IsIndex a true) e (single a j h.0)
-seat_index a true Nowhere i e h = absurd e
+position_index : (a : Street) (lone : Bool) (s : RowPosition) (i : ℕ) → Fits lone s i → HasRowPosition a s → IsIndex a lone i
+position_index a false (AtSignal j) i e h = subst (IsIndex a false) e (several a j h.0 h.1)
+position_index a false (AtLink j) i e h = subst (IsIndex a false) e (several a j h.0 (omega (arith, h.1)))
+position_index a false (AtChange d j) i e h = subst (IsIndex a false) e (several a j h.0.0 (omega (arith, h.0.1)))
+position_index a false (ByItself j) i e h = absurd e
+position_index a false (AtRatio j) i e h = absurd e
+position_index a false (AtLeast d j) i e h = absurd e
+position_index a false (AtEqual j) i e h = absurd e
+position_index a false Nowhere i e h = absurd e
+position_index a true (AtSignal j) i e h = absurd e
+position_index a true (AtLink j) i e h = absurd e
+position_index a true (AtChange d j) i e h = absurd e
+position_index a true (ByItself j) i e h = subst (IsIndex a true) e (single a j h)
+position_index a true (AtRatio j) i e h = subst (IsIndex a true) e (single a j h.0)
+position_index a true (AtLeast d j) i e h = subst (IsIndex a true) e (single a j h.0)
+position_index a true (AtEqual j) i e h = subst (IsIndex a true) e (single a j h.0)
+position_index a true Nowhere i e h = absurd e
 
 -- ---- which family has one row alone
 
@@ -104,11 +104,11 @@ lone_below : (n : ℕ) (fs : List Family) (g : ℕ) → g < n → lone_among n f
 lone_below n [] g l = refl
 lone_below n (f ∷ fs) g l = lone_step f.lone (g == n) (lone_among (n + 1) fs g) (not_equal g n (g == n) refl l) ∙ lone_below (n + 1) fs g (omega arith)
 
-index_step : (a : Street) (n : ℕ) (fs : List Family) (f : Family) (g i : ℕ) (y : Name) (b : Bool) → (g == n) ≡ b → Fits f.lone (rule_of (f.row i)).seat i
+index_step : (a : Street) (n : ℕ) (fs : List Family) (f : Family) (g i : ℕ) (y : Name) (b : Bool) → (g == n) ≡ b → Fits f.lone (rule_of (f.row i)).position i
     → (HasRow a y → IsIndex a (lone_among (n + 1) fs g) i) → HasRow a (if b then f.row i else y) → IsIndex a (if f.lone then b || lone_among (n + 1) fs g else lone_among (n + 1) fs g) i
 index_step a n fs f g i y true e p more h =
     let q = eqb-true g n e in
-    subst (λ l. IsIndex a l i) (sym (lone_here f.lone true (lone_among (n + 1) fs g) refl (lone_below (n + 1) fs g (omega arith)))) (seat_index a f.lone (rule_of (f.row i)).seat i p h)
+    subst (λ l. IsIndex a l i) (sym (lone_here f.lone true (lone_among (n + 1) fs g) refl (lone_below (n + 1) fs g (omega arith)))) (position_index a f.lone (rule_of (f.row i)).position i p h)
 index_step a n fs f g i y false e p more h = subst (λ l. IsIndex a l i) (sym (lone_step f.lone false (lone_among (n + 1) fs g) refl)) (more h)
 
 index_among : (a : Street) (n : ℕ) (fs : List Family) (g i : ℕ) → AllFit fs i → HasRow a (row_among NoRow n fs g i) → IsIndex a (lone_among n fs g) i

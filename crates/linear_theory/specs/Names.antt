@@ -87,30 +87,30 @@ name_of family i = row_among NoRow 1 families family i
 -- ---- the rules of the families
 -- where a row stands: at a signal, at a link, between a link and the next, by itself, or nowhere; by itself also where the ratio is not 1, where a
 -- direction has a least band, or where the bands have to be equal
-pub data Seat : Type 0 where
-  AtSignal : ℕ → Seat
-  AtLink : ℕ → Seat
-  AtChange : Dir → ℕ → Seat
-  ByItself : ℕ → Seat
-  AtRatio : ℕ → Seat
-  AtLeast : Dir → ℕ → Seat
-  AtEqual : ℕ → Seat
-  Nowhere : Seat
+pub data RowPosition : Type 0 where
+  AtSignal : ℕ → RowPosition
+  AtLink : ℕ → RowPosition
+  AtChange : Dir → ℕ → RowPosition
+  ByItself : ℕ → RowPosition
+  AtRatio : ℕ → RowPosition
+  AtLeast : Dir → ℕ → RowPosition
+  AtEqual : ℕ → RowPosition
+  Nowhere : RowPosition
 
 -- a change of pace from link i to the next is limited in this direction
 abbrev pub HasChange : Street → Dir → ℕ → Type 0
 HasChange a d i = HasLink a i × HasLink a (i + 1) × IsSome (change a d i)
 
 -- the artery has it
-abbrev pub HasSeat : Street → Seat → Type 0
-HasSeat a (AtSignal i) = HasSignal a i
-HasSeat a (AtLink i) = HasLink a i
-HasSeat a (AtChange d i) = HasChange a d i
-HasSeat a (ByItself i) = i ≡ 0
-HasSeat a (AtRatio i) = (i ≡ 0) × (a.head.ratio ≢ number 1)
-HasSeat a (AtLeast d i) = (i ≡ 0) × (least_band a d ≢ number 0)
-HasSeat a (AtEqual i) = (i ≡ 0) × (a.head.equal ≡ true)
-HasSeat a Nowhere = ⊥
+abbrev pub HasRowPosition : Street → RowPosition → Type 0
+HasRowPosition a (AtSignal i) = HasSignal a i
+HasRowPosition a (AtLink i) = HasLink a i
+HasRowPosition a (AtChange d i) = HasChange a d i
+HasRowPosition a (ByItself i) = i ≡ 0
+HasRowPosition a (AtRatio i) = (i ≡ 0) × (a.head.ratio ≢ number 1)
+HasRowPosition a (AtLeast d i) = (i ≡ 0) × (least_band a d ≢ number 0)
+HasRowPosition a (AtEqual i) = (i ≡ 0) × (a.head.equal ≡ true)
+HasRowPosition a Nowhere = ⊥
 
 -- the row that is none, and that of limits which may be missing
 abbrev pub no_form : Form
@@ -122,30 +122,30 @@ limits_form f (Some c) = f c
 
 -- where a row stands, and what it is for an artery and a box
 pub record Rule : Type 0 where
-  pub seat : Seat
+  pub position : RowPosition
   pub form : Street → Area → Form
 
 abbrev pub rule_of : Name → Rule
-rule_of (WaitRow d i) = record { seat = AtSignal i; form = λ a box. wait_form a d i }
-rule_of (FastRow d i) = record { seat = AtLink i; form = λ a box. fast_form a d i }
-rule_of (SlowRow d i) = record { seat = AtLink i; form = λ a box. slow_form a d i }
-rule_of (RiseRow d i) = record { seat = AtChange d i; form = λ a box. limits_form (rise_form a d i) (change a d i) }
-rule_of (DropRow d i) = record { seat = AtChange d i; form = λ a box. limits_form (drop_form a d i) (change a d i) }
-rule_of (CycleLowRow i) = record { seat = ByItself i; form = λ a box. cycle_low_form a }
-rule_of (CycleHighRow i) = record { seat = ByItself i; form = λ a box. cycle_high_form a }
-rule_of (RatioRow i) = record { seat = AtRatio i; form = λ a box. ratio_form a }
-rule_of (LoopLowRow i) = record { seat = AtLink i; form = λ a box. loop_low_form a box i }
-rule_of (LoopHighRow i) = record { seat = AtLink i; form = λ a box. loop_high_form a box i }
-rule_of (TurnLowRow i) = record { seat = AtSignal i; form = λ a box. turn_low_form a box i }
-rule_of (TurnHighRow i) = record { seat = AtSignal i; form = λ a box. turn_high_form a box i }
-rule_of (LeastRow d i) = record { seat = AtLeast d i; form = λ a box. least_form a d }
-rule_of (EqualLowRow i) = record { seat = AtEqual i; form = λ a box. equal_low_form }
-rule_of (EqualHighRow i) = record { seat = AtEqual i; form = λ a box. equal_high_form }
-rule_of NoRow = record { seat = Nowhere; form = λ a box. no_form }
+rule_of (WaitRow d i) = record { position = AtSignal i; form = λ a box. wait_form a d i }
+rule_of (FastRow d i) = record { position = AtLink i; form = λ a box. fast_form a d i }
+rule_of (SlowRow d i) = record { position = AtLink i; form = λ a box. slow_form a d i }
+rule_of (RiseRow d i) = record { position = AtChange d i; form = λ a box. limits_form (rise_form a d i) (change a d i) }
+rule_of (DropRow d i) = record { position = AtChange d i; form = λ a box. limits_form (drop_form a d i) (change a d i) }
+rule_of (CycleLowRow i) = record { position = ByItself i; form = λ a box. cycle_low_form a }
+rule_of (CycleHighRow i) = record { position = ByItself i; form = λ a box. cycle_high_form a }
+rule_of (RatioRow i) = record { position = AtRatio i; form = λ a box. ratio_form a }
+rule_of (LoopLowRow i) = record { position = AtLink i; form = λ a box. loop_low_form a box i }
+rule_of (LoopHighRow i) = record { position = AtLink i; form = λ a box. loop_high_form a box i }
+rule_of (TurnLowRow i) = record { position = AtSignal i; form = λ a box. turn_low_form a box i }
+rule_of (TurnHighRow i) = record { position = AtSignal i; form = λ a box. turn_high_form a box i }
+rule_of (LeastRow d i) = record { position = AtLeast d i; form = λ a box. least_form a d }
+rule_of (EqualLowRow i) = record { position = AtEqual i; form = λ a box. equal_low_form }
+rule_of (EqualHighRow i) = record { position = AtEqual i; form = λ a box. equal_high_form }
+rule_of NoRow = record { position = Nowhere; form = λ a box. no_form }
 
 -- the artery has the row
 abbrev pub HasRow : Street → Name → Type 0
-HasRow a n = HasSeat a (rule_of n).seat
+HasRow a n = HasRowPosition a (rule_of n).position
 
 -- the row of a name, for a box
 abbrev pub form_of : Street → Area → Name → Form

@@ -1,6 +1,5 @@
 pub mod LinkTimings
 pub mod GrownLinkTimings
 pub mod LinkTexts
-pub mod LinkAcceptance
 pub mod LinkMeaning
 pub mod LinkRefusalsFirst

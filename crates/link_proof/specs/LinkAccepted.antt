@@ -1,17 +1,23 @@
 -- Accepted link certificates: the link timing is good and has the claimed value, and the tree of boxes proves the claim, leaf by leaf.
-use Rattle.std.specs.Prelude.{Option, [], ◌∷◌}
+use Rattle.std.specs.Prelude.{Option}
 use Rattle.rational_theory.specs.Rational.{ℚ}
 use Rattle.progression.specs.Street.{Street}
 use Rattle.linear_theory.specs.Boxes.{root_box}
-use Rattle.certificate_checker.specs.Accepted.{value_of, limit_of, IsTimedBy, IsBoundAbove}
-use Rattle.certificate_checker.specs.TreeProofs.{IsTreeProof}
+use Rattle.certificate_checker.specs.Accepted.{IsTimedBy}
+use Rattle.certificate_checker.specs.Checked.{Checked, aim_at, IsAcceptedOf}
 use Rattle.certificate_checker.specs.declared.leaves.Aim.{Aim}
 use Rattle.link_theory.specs.LinkPlan.{LinkPlan}
 use Rattle.link_theory.specs.GoodLinks.{GoodLinks}
 use Rattle.link_theory.specs.BestLinks.{link_value}
+use Rattle.link_space.specs.FirstLinkFailing.{IsFirstLinkFailing}
 use Rattle.link_space.specs.LinkSheets.{link_goal_sheet}
 use Rattle.link_space.specs.LinkWeights.{link_rows}
+use Rattle.link_space.specs.declared.failing.LinkFailing.{LinkFailing}
 use Rattle.link_proof.specs.LinkWarrants.{LinkWarrant}
+
+-- the timings with a band for each link
+abbrev pub of_links : Street → Checked LinkPlan LinkFailing
+of_links a = record { IsGood = GoodLinks a; worth = link_value a; FailsFirst = IsFirstLinkFailing a; root = root_box a; rows = link_rows a; goal = link_goal_sheet a }
 
 -- a link timing stands exactly where a value does, is good, and has the value
 abbrev pub IsLinkTimed : Street → Option LinkPlan → Option ℚ → Type 0
@@ -19,9 +25,7 @@ IsLinkTimed a = IsTimedBy (GoodLinks a) (link_value a)
 
 -- what each leaf is to show: that its box has no link timing, or that no value is above the limit
 abbrev pub link_aim : Street → Option ℚ → Aim
-link_aim a limit = record { goal = link_goal_sheet a; limit = limit }
+link_aim a = aim_at (of_links a)
 
-pub record IsLinkAccepted (a : Street) (c : LinkWarrant) : Type 0 where
-  pub timing : IsLinkTimed a c.timing (value_of c.claim)
-  pub bound : IsBoundAbove c.claim
-  pub tree : IsTreeProof (link_rows a) (link_aim a (limit_of c.claim)) (root_box a ∷ []) c.nodes
+abbrev pub IsLinkAccepted : Street → LinkWarrant → Type 0
+IsLinkAccepted a = IsAcceptedOf (of_links a)

@@ -3,9 +3,8 @@ use Rattle.std.specs.Prelude.{◌≡◌, ◌≢◌, ◌↔◌, None}
 use Rattle.progression.specs.Street.{Street}
 use Rattle.link_proof.specs.LinkWarrants.{LinkWarrant, IsLinkCertificate}
 use Rattle.link_proof.specs.LinkAccepted.{IsLinkAccepted}
-use Rattle.link_proof.specs.LinkRefusals.{link_refusal_of, AreGoodIfThere, IsFirstLinkRefusal}
-use Rattle.link_proof.specs.declared.reject.LinkReject.{LinkReject}
-use Rattle.link_proof.specs.declared.reject.LinkReject.TheVariants.{Memory}
+use Rattle.link_proof.specs.LinkRefusals.{LinkReject, link_refusal_of, AreGoodIfThere, IsFirstLinkRefusal}
+use Rattle.certificate_checker.specs.declared.reject.Reject.TheVariants.{Memory}
 
 -- a link certificate is accepted exactly where nothing of it is refused
 abbrev pub LinkAcceptedExactly : Type 0

@@ -4,21 +4,21 @@ ghost use Rattle.std.specs.Prelude.{◌≡◌, map, None, IfOk, IfErr, OnOk, opt
 ghost use Rattle.linear_theory.specs.Counts.{IsStreet};
 ghost use Rattle.narrow_fraction.specs.Attempt.{attempt};
 ghost use Rattle.plan_text.specs.Warrants.{node_of, AreTrees};
+ghost use Rattle.certificate_checker.specs.Checked.{IsFirst};
 ghost use Rattle.link_theory.specs.BestLinks.{link_value};
 ghost use Rattle.link_space.specs.LinkSheets.{link_goal_sheet};
 ghost use Rattle.link_space.specs.LinkWeights.{link_rows};
 ghost use Rattle.link_proof.specs.LinkAccepted.{IsLinkAccepted};
-ghost use Rattle.link_proof.specs.LinkRefusals.{link_numbers_refusal, link_nodes_refusal, AreGoodIfThere, LinkFailsFirst, IsFirstLink, IsFirstLinkRefusal};
+ghost use Rattle.link_proof.specs.LinkRefusals.{link_numbers_refusal, link_nodes_refusal, AreGoodIfThere, LinkFailsFirst, IsFirstLinkRefusal};
 ghost use Rattle.link_proof.specs.LinkClaims.{LinkClaimHolds};
 ghost use Rattle.link_proof.specs.LinkLaws.{LinkAcceptedExactly, LinkRefusedIsNotAccepted, OneFirstLinkRefusal};
 
 use crate::certificate::LinkCertificate;
-use crate::reject::LinkReject;
 use artery_model::Artery;
-use certificate_checker::{Aim, TreeRows, check_claim, check_tree, limit_of};
+use certificate_checker::{Aim, Reject, TreeRows, check_claim, check_tree, limit_of};
 use link_space::{
-    LinkTiming, fill_link_goal, law_link_fails_rules_out, law_one_first_link, link_column_count,
-    link_holds, link_sum, link_value,
+    LinkFailing, LinkTiming, fill_link_goal, law_link_fails_rules_out, law_one_first_link,
+    link_column_count, link_holds, link_sum, link_value,
 };
 use loop_rows::SumFault;
 use named_row::{Leaf, Row};
@@ -26,6 +26,9 @@ use narrow_fraction::{Frac, Memory};
 use plan_text::{CertNode, Claim};
 use search_box::SearchBox;
 use std::alloc::Global;
+
+/// Why a link certificate is not accepted.
+pub type LinkReject = Reject<LinkFailing>;
 
 /// The rows of the links of an artery's boxes.
 #[derive(Drop)]
@@ -107,7 +110,7 @@ fn check_nodes(
     requires goal { aim.now.goal ≡ link_goal_sheet artery.now }
     requires tree { AreTrees 1 (map node_of nodes.now) }
     ensures none { OnOk result (link_nodes_refusal artery.now aim.now.limit (map node_of nodes.now) ≡ None) }
-    ensures first { IfErr result (λ reject. IsFirstLink (link_nodes_refusal artery.now aim.now.limit (map node_of nodes.now)) reject) }
+    ensures first { IfErr result (λ reject. IsFirst (link_nodes_refusal artery.now aim.now.limit (map node_of nodes.now)) reject) }
     ensures street { IsStreet artery.now }
 {
     let root = SearchBox::root(alloc, artery)?;

@@ -20,15 +20,13 @@ mod checking;
 mod families;
 mod laws;
 mod reading;
-mod reject;
 mod timing_text;
 mod writing;
 
 pub use certificate::LinkCertificate;
-pub use checking::{kept_value, law_link_accepted_or_refused, link_check};
+pub use checking::{LinkReject, kept_value, law_link_accepted_or_refused, link_check};
 pub use families::{LINK_FAMILIES, link_families};
 pub use laws::{law_first_bad_of_links, law_links_read_back, law_one_links_text};
 pub use reading::read_links;
-pub use reject::LinkReject;
 pub use timing_text::LinkBands;
 pub use writing::write_links;

@@ -2,8 +2,9 @@
 
 ghost use Rattle.std.specs.Prelude.{◌≡◌, ◌≢◌, ◌<◌, ◌≤◌, length};
 ghost use Rattle.progression.specs.Street.{count};
+ghost use Rattle.progression.specs.Speeds.{number};
 ghost use Rattle.link_theory.specs.LinkColumns.{link_width};
-ghost use Rattle.link_theory.specs.LinkRows.{link_below_form, link_above_form};
+ghost use Rattle.link_theory.specs.LinkRows.{half_cells};
 ghost use Rattle.link_theory.specs.LinkNames as names;
 ghost use Rattle.link_theory.specs.LinkNames.{HasLinkRow};
 ghost use Rattle.link_space.specs.LinkSheets.{link_written, link_sheet};
@@ -17,31 +18,17 @@ use named_row::{Place, Row};
 use narrow_fraction::Frac;
 use search_box::SearchBox;
 
-/// The row of a ratio below 1.
-fn fill_below(artery: &Artery, link: u32, into: &mut Row)
+/// The row with these numbers at the halves of a link, and the bound 0.
+fn fill_halves(artery: &Artery, link: u32, outbound: Frac, inbound: Frac, into: &mut Row)
     requires first { 1 ≤ link }
     requires last { link < count artery.now }
     requires columns { length into.old.coefs ≡ link_width (count artery.now) }
-    ensures value { into.new ≡ link_written artery.now (link_below_form artery.now link) }
+    ensures value { into.new ≡ link_written artery.now (record { cells = half_cells artery.now link outbound inbound; bound = number 0 }) }
     ensures width { length into.new.coefs ≡ length into.old.coefs }
 {
     into.clear();
-    into.set(half(artery, Dir::Outbound, link), artery.ratio());
-    into.set(half(artery, Dir::Inbound, link), Frac::whole(-1));
-    into.set(Place::Bound, Frac::whole(0));
-}
-
-/// The row of a ratio above 1.
-fn fill_above(artery: &Artery, link: u32, into: &mut Row)
-    requires first { 1 ≤ link }
-    requires last { link < count artery.now }
-    requires columns { length into.old.coefs ≡ link_width (count artery.now) }
-    ensures value { into.new ≡ link_written artery.now (link_above_form artery.now link) }
-    ensures width { length into.new.coefs ≡ length into.old.coefs }
-{
-    into.clear();
-    into.set(half(artery, Dir::Outbound, link), artery.ratio().neg());
-    into.set(half(artery, Dir::Inbound, link), Frac::whole(1));
+    into.set(half(artery, Dir::Outbound, link), outbound);
+    into.set(half(artery, Dir::Inbound, link), inbound);
     into.set(Place::Bound, Frac::whole(0));
 }
 
@@ -68,10 +55,11 @@ impl Family for LinkRatioRow {
     }
 
     fn fill(&self, artery: &Artery, area: &SearchBox, index: u32, into: &mut Row) {
-        if artery.ratio() < Frac::whole(1) {
-            fill_below(artery, index, into);
+        let ratio = artery.ratio();
+        if ratio < Frac::whole(1) {
+            fill_halves(artery, index, ratio, Frac::whole(-1), into);
         } else {
-            fill_above(artery, index, into);
+            fill_halves(artery, index, ratio.neg(), Frac::whole(1), into);
         }
     }
 

@@ -11,7 +11,7 @@ use Rattle.rational_theory.proofs.Compare.{eq_says}
 use Rattle.progression.specs.Street.{Street, count, HasSignal, HasLink, least_band}
 use Rattle.progression.specs.Speeds.{number, change}
 use Rattle.progression.specs.declared.parts.Dir.{Dir}
-use Rattle.linear_theory.specs.Names.{Name, Seat, AtSignal, AtLink, AtChange, ByItself, AtRatio, AtLeast, AtEqual, Nowhere, HasSeat, rule_of, HasRow, HasChange}
+use Rattle.linear_theory.specs.Names.{Name, RowPosition, AtSignal, AtLink, AtChange, ByItself, AtRatio, AtLeast, AtEqual, Nowhere, HasRowPosition, rule_of, HasRow, HasChange}
 use Rattle.loop_rows.specs.RowTests.{has_signal, has_link, has_change, has_seat, has_row}
 
 -- ---- the tests say what they are for
@@ -30,7 +30,7 @@ change_decided a d i =
 other_decided : (x y : ℚ) → Decides (not (eq_by_cmp cmp_ℚ x y)) (x ≢ y)
 other_decided x y = Decides-not (eq_by_cmp cmp_ℚ x y) (eq_says x y (eq_by_cmp cmp_ℚ x y) refl)
 
-seat_decided : (a : Street) (s : Seat) → Decides (has_seat a s) (HasSeat a s)
+seat_decided : (a : Street) (s : RowPosition) → Decides (has_seat a s) (HasRowPosition a s)
 seat_decided a (AtSignal i) = signal_decided a i
 seat_decided a (AtLink i) = link_decided a i
 seat_decided a (AtChange d i) = change_decided a d i
@@ -43,4 +43,4 @@ seat_decided a Nowhere = (λ e. true≢false (sym e), λ h. absurd h)
 -- an artery has a row exactly where the test is true
 pub row_decided : (a : Street) (n : Name) → Decides (has_row a n) (HasRow a n)
 unfolding has_row
-row_decided a n = seat_decided a (rule_of n).seat
+row_decided a n = seat_decided a (rule_of n).position

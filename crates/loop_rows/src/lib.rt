@@ -52,7 +52,7 @@ pub use least::LeastRow;
 pub use leaves::{leaf_sum, sum_of};
 pub use loops::{LoopHighRow, LoopLowRow};
 pub use numbers::green;
-pub use rows::{ArteryTable, fill_by, fill_goal, fill_row, has_by, has_row, next_row};
+pub use rows::{ArteryTable, box_bound, fill_by, fill_goal, fill_row, has_by, has_row, next_row};
 pub use runs::{FastRow, SlowRow};
 pub use source::{BoxRows, RowSource};
 pub use sums::block_sum;

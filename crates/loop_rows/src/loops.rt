@@ -3,6 +3,7 @@
 ghost use Rattle.std.specs.Prelude.{◌≡◌, ◌<◌, ◌≤◌, length};
 ghost use Rattle.progression.specs.Street.{count};
 ghost use Rattle.linear_theory.specs.Places.{width};
+ghost use Rattle.linear_theory.specs.Boxes.{IsBoxOf};
 ghost use Rattle.linear_theory.specs.Rows.{places_of, block_entries};
 ghost use Rattle.linear_theory.specs.Names as names;
 ghost use Rattle.linear_theory.specs.Names.{HasRow, form_of};
@@ -44,6 +45,17 @@ fn fill_block(artery: &Artery, link: u32, added: Frac, taken: Frac, into: &mut R
 #[derive(Drop)]
 pub struct LoopLowRow;
 
+impl LoopLowRow {
+    /// The bound of a link's row for a box.
+    pub fn bound(&self, artery: &Artery, area: &SearchBox, link: u32) -> Frac
+        requires there { HasRow artery.now (names.LoopLowRow link) }
+        requires boxed { IsBoxOf artery.now area.now }
+        ensures { result ≡ (form_of artery.now area.now (names.LoopLowRow link)).bound }
+    {
+        low_bound(artery, link, area.loop_span(link).least)
+    }
+}
+
 impl Family for LoopLowRow {
     type Of = Progression;
 
@@ -63,10 +75,7 @@ impl Family for LoopLowRow {
 
     fn fill(&self, artery: &Artery, area: &SearchBox, index: u32, into: &mut Row) {
         fill_block(artery, index, Frac::whole(-1), Frac::whole(1), into);
-        into.set(
-            Place::Bound,
-            low_bound(artery, index, area.loop_span(index).least),
-        );
+        into.set(Place::Bound, self.bound(artery, area, index));
     }
 
     ghost unspent = { λ f a box i. written_unspent a (form_of a box (names.LoopLowRow i)) };
@@ -77,6 +86,17 @@ impl Family for LoopLowRow {
 /// A link's block sum is at most the greatest number of its span.
 #[derive(Drop)]
 pub struct LoopHighRow;
+
+impl LoopHighRow {
+    /// The bound of a link's row for a box.
+    pub fn bound(&self, artery: &Artery, area: &SearchBox, link: u32) -> Frac
+        requires there { HasRow artery.now (names.LoopHighRow link) }
+        requires boxed { IsBoxOf artery.now area.now }
+        ensures { result ≡ (form_of artery.now area.now (names.LoopHighRow link)).bound }
+    {
+        high_bound(artery, link, area.loop_span(link).most)
+    }
+}
 
 impl Family for LoopHighRow {
     type Of = Progression;
@@ -97,10 +117,7 @@ impl Family for LoopHighRow {
 
     fn fill(&self, artery: &Artery, area: &SearchBox, index: u32, into: &mut Row) {
         fill_block(artery, index, Frac::whole(1), Frac::whole(-1), into);
-        into.set(
-            Place::Bound,
-            high_bound(artery, index, area.loop_span(index).most),
-        );
+        into.set(Place::Bound, self.bound(artery, area, index));
     }
 
     ghost unspent = { λ f a box i. written_unspent a (form_of a box (names.LoopHighRow i)) };

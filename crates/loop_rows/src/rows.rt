@@ -1,9 +1,9 @@
 //! The rows of an artery by their names.
 
-ghost use Rattle.std.specs.Prelude.{◌≡◌, ◌↔◌, ◌+◌, IsTrue, length, true, false};
+ghost use Rattle.std.specs.Prelude.{◌≡◌, ◌↔◌, ◌+◌, IsTrue, IfSome, None, length, true, false};
 ghost use Rattle.progression.specs.Street.{count};
 ghost use Rattle.linear_theory.specs.Places.{width};
-ghost use Rattle.linear_theory.specs.Boxes.{IsBoxOf};
+ghost use Rattle.linear_theory.specs.Boxes.{Area, IsBoxOf};
 ghost use Rattle.linear_theory.specs.Rows.{goal_form};
 ghost use Rattle.linear_theory.specs.Names.{HasRow, form_of, name_of};
 ghost use Rattle.loop_rows.specs.Writing.{written};
@@ -100,6 +100,23 @@ pub fn fill_row(artery: &Artery, area: &SearchBox, row: RowId, into: &mut Row) -
     ensures width { length into.new.coefs ≡ width (count artery.now) }
 {
     with_family!(row.family, fill_by(artery, area, row, into), false)
+}
+
+/// The bound that the row of this name has for a box, where it depends on the box; its other numbers never do. None where the
+/// row is the same for every box.
+pub fn box_bound(artery: &Artery, area: &SearchBox, row: RowId) -> Option<Frac>
+    requires there { HasRow artery.now (name_of row.family row.index) }
+    requires boxed { IsBoxOf artery.now area.now }
+    ensures bound { IfSome result (λ bound. bound ≡ (form_of artery.now area.now (name_of row.family row.index)).bound) }
+    ensures same { result ≡ None → (other : Area) → form_of artery.now other (name_of row.family row.index) ≡ form_of artery.now area.now (name_of row.family row.index) }
+{
+    match row.family {
+        14 => Some(LoopLowRow.bound(artery, area, row.index)),
+        15 => Some(LoopHighRow.bound(artery, area, row.index)),
+        16 => Some(TurnLowRow.bound(artery, area, row.index)),
+        17 => Some(TurnHighRow.bound(artery, area, row.index)),
+        _ => None,
+    }
 }
 
 /// The weighted band: 1 at the outbound band, the ratio at the inbound one, and 0 elsewhere.

@@ -58,6 +58,18 @@ fn shift_part(artery: &Artery, signal: u32, rank: u32) -> Frac
 #[derive(Drop)]
 pub struct TurnLowRow;
 
+impl TurnLowRow {
+    /// The bound of a signal's row for a box.
+    pub fn bound(&self, artery: &Artery, area: &SearchBox, signal: u32) -> Frac
+        requires there { HasRow artery.now (names.TurnLowRow signal) }
+        requires boxed { IsBoxOf artery.now area.now }
+        ensures { result ≡ (form_of artery.now area.now (names.TurnLowRow signal)).bound }
+    {
+        let rank = least_rank(artery, area, signal);
+        shift_part(artery, signal, rank).neg()
+    }
+}
+
 impl Family for TurnLowRow {
     type Of = Progression;
 
@@ -76,10 +88,9 @@ impl Family for TurnLowRow {
     }
 
     fn fill(&self, artery: &Artery, area: &SearchBox, index: u32, into: &mut Row) {
-        let rank = least_rank(artery, area, index);
         into.clear();
         into.set(shift(artery, index), Frac::whole(-1));
-        into.set(Place::Bound, shift_part(artery, index, rank).neg());
+        into.set(Place::Bound, self.bound(artery, area, index));
     }
 
     ghost unspent = { λ f a box i. written_unspent a (form_of a box (names.TurnLowRow i)) };
@@ -90,6 +101,18 @@ impl Family for TurnLowRow {
 /// A signal's shift is at most that of the greatest rank.
 #[derive(Drop)]
 pub struct TurnHighRow;
+
+impl TurnHighRow {
+    /// The bound of a signal's row for a box.
+    pub fn bound(&self, artery: &Artery, area: &SearchBox, signal: u32) -> Frac
+        requires there { HasRow artery.now (names.TurnHighRow signal) }
+        requires boxed { IsBoxOf artery.now area.now }
+        ensures { result ≡ (form_of artery.now area.now (names.TurnHighRow signal)).bound }
+    {
+        let rank = greatest_rank(artery, area, signal);
+        shift_part(artery, signal, rank)
+    }
+}
 
 impl Family for TurnHighRow {
     type Of = Progression;
@@ -109,10 +132,9 @@ impl Family for TurnHighRow {
     }
 
     fn fill(&self, artery: &Artery, area: &SearchBox, index: u32, into: &mut Row) {
-        let rank = greatest_rank(artery, area, index);
         into.clear();
         into.set(shift(artery, index), Frac::whole(1));
-        into.set(Place::Bound, shift_part(artery, index, rank));
+        into.set(Place::Bound, self.bound(artery, area, index));
     }
 
     ghost unspent = { λ f a box i. written_unspent a (form_of a box (names.TurnHighRow i)) };

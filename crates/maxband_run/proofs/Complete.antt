@@ -1,18 +1,22 @@
 -- Whole runs without a fault end as they should, and faults are told.
-use Rattle.std.proofs.Common.{◌≡◌, ℕ, List, [], ◌∷◌, Option, Some, None, ◌⊎◌, inl, inr, refl, ◌∙◌, ap, subst, arith}
+use Rattle.std.proofs.Common.{◌≡◌, ℕ, ◌+◌, List, [], ◌∷◌, Option, Some, None, ◌⊎◌, inl, inr, refl, sym, ◌∙◌, ap, subst, arith}
 use Rattle.std.specs.Prelude.{IsSome}
 use Rattle.description_reader.specs.Described as described
 use Rattle.outer_edge.specs.Counts.{next_count, Rose, SameCounts}
 use Rattle.workload_maker.specs.Made.{made_street}
-use Rattle.maxband_run.specs.Command.{Request, Solve, Links, Renew, Make, Trial, Sweep, shape}
+use Rattle.maxband_run.specs.Command.{Request, Solve, Links, Renew, Draw, Make, Trial, Sweep, shape}
 use Rattle.maxband_run.specs.Outside.{Outside, NamedBytes, named, put_of, IsDone, IsBroken}
-use Rattle.maxband_run.specs.Reading.{Input, input, Value, Reads, IsUnread, StopsReading, Description, Certificate}
+use Rattle.progression.specs.Street.{Street}
+use Rattle.progression.specs.Plan.{Plan}
+use Rattle.maxband_run.specs.Draw.{DrawFinds}
+use Rattle.maxband_run.specs.PlanLaws.{IsDrawingEnd, DrawIsComplete}
+use Rattle.maxband_run.specs.Reading.{Input, Values, AreRead, AreTold, StopsReading}
 use Rattle.maxband_run.specs.Run.{Answers, Answered, Ends}
 use Rattle.maxband_run.specs.Laws.{IsFault, IsVerdict, FaultsAreTold, SolveIsComplete, LinksAreComplete, MakeIsComplete, TrialIsComplete, SweepIsComplete, RenewIsComplete}
 use Rattle.maxband_run.specs.declared.cause.Cause.{Cause}
 use Rattle.maxband_run.specs.declared.cause.Cause.TheVariants as cause
-use Rattle.maxband_run.proofs.Readers.{read_apart}
-use Rattle.maxband_run.proofs.Stopped.{unread_stop, stops_same}
+use Rattle.maxband_run.proofs.Readers.{all_apart}
+use Rattle.maxband_run.proofs.Stopped.{stops_stop, stops_same}
 use Rattle.maxband_run.proofs.Once.{verdict_cause, show_done}
 
 -- what was counted rose
@@ -63,23 +67,30 @@ no_name : (asked : Option Request) (held : List ℕ → Option (List ℕ)) (befo
 no_name asked held before after c lines p e (inl h) = let none = h.no_put in cc
 no_name asked held before after c lines p e (inr h) = let none : Some p ≡ None = h.put_is ∙ ap (λ o. put_of o h.bytes) e in cc
 
--- ---- a command that reads one file and puts one, where the file is read and no read of it failed
-module _ (reader : described.OneAnswer) (before now : Outside) (asked : Option Request) (i : Input) (name : List ℕ) (one : (shape asked).inputs ≡ i ∷ []) (puts : (shape asked).output ≡ Some name)
-    (v : Value i.reader) (told : IsSome (before.holds i.name)) (r : Reads i.reader (before.holds i.name) v) (no_read : Rose (before.reads i.name) (now.reads i.name) → ⊥) where
-  unread : (c : Cause) (lines : List ℕ) → IsUnread i 1 before.holds before.reads now.reads c lines → ⊥
-  unread (cause.ReadFault file) lines h = no_read (rose (before.reads i.name) (now.reads i.name) h.1.once)
-  unread cause.WriteFault lines h = unread_stop before.holds before.reads now.reads i 1 cause.WriteFault lines h
-  unread cause.Memory lines h = unread_stop before.holds before.reads now.reads i 1 cause.Memory lines h
-  unread c lines h = read_apart reader before.holds before.reads now.reads i 1 v c lines told tt r h
+-- no read of these files failed
+abbrev NoneRose : (List ℕ → ℕ) → (List ℕ → ℕ) → List Input → Type 0
+NoneRose before after [] = Unit {0}
+NoneRose before after (i ∷ is) = (Rose (before i.name) (after i.name) → ⊥) × NoneRose before after is
 
-  not_stopped : (c : Cause) (lines : List ℕ) → StopsReading (i ∷ []) 1 before.holds before.reads now.reads c lines → ⊥
-  not_stopped c lines (inl h) = unread c lines h
-  not_stopped c lines (inr h) = h.2
+no_fault : (is : List Input) (place file : ℕ) (held : List ℕ → Option (List ℕ)) (before after : List ℕ → ℕ) (lines : List ℕ)
+    → NoneRose before after is → StopsReading is place held before after (cause.ReadFault file) lines → ⊥
+no_fault [] place file held before after lines n h = h
+no_fault (i ∷ is) place file held before after lines n (inl h) = n.0 (rose (before i.name) (after i.name) h.1.once)
+no_fault (i ∷ is) place file held before after lines n (inr h) = no_fault is (place + 1) file held before after lines n.1 h.2
+
+-- ---- a command that puts a file, where those that it reads are read and no read of them failed
+module _ (reader : described.OneAnswer) (before now : Outside) (asked : Option Request) (name : List ℕ) (puts : (shape asked).output ≡ Some name) (v : Values (shape asked).inputs)
+    (told : AreTold before.holds (shape asked).inputs) (r : AreRead (shape asked).inputs before.holds v) (no_read : NoneRose before.reads now.reads (shape asked).inputs) where
+  not_stopped : (c : Cause) (lines : List ℕ) → StopsReading (shape asked).inputs 1 before.holds before.reads now.reads c lines → ⊥
+  not_stopped (cause.ReadFault file) lines h = no_fault (shape asked).inputs 1 file before.holds before.reads now.reads lines no_read h
+  not_stopped cause.WriteFault lines h = stops_stop before.holds before.reads now.reads (shape asked).inputs 1 cause.WriteFault lines h
+  not_stopped cause.Memory lines h = stops_stop before.holds before.reads now.reads (shape asked).inputs 1 cause.Memory lines h
+  not_stopped c lines h = all_apart reader before.holds before.reads now.reads (shape asked).inputs 1 v c lines told tt r h
 
   -- so it ends by what it finds, or by want of memory
   module _ (p : Cause → Type 0) (found : (c : Cause) (lines : List ℕ) (put : Option NamedBytes) → Answered before.holds before.reads now.reads asked c lines put → p c) where
     finds_so : (c : Cause) (lines : List ℕ) (put : Option NamedBytes) → Answers before.holds before.reads now.reads asked c lines put → p c
-    finds_so c lines put (inl h) = absurd (not_stopped c lines (subst (λ (is : List Input). StopsReading is 1 before.holds before.reads now.reads c lines) one h.stops))
+    finds_so c lines put (inl h) = absurd (not_stopped c lines h.stops)
     finds_so c lines put (inr h) = found c lines put h
 
     ends_so : (c : Cause) → (Rose (before.puts name) (now.puts name) → ⊥) → (Rose before.writes now.writes → ⊥) → Ends before now asked c → p c ⊎ (c ≡ cause.Memory)
@@ -93,21 +104,32 @@ module _ (reader : described.OneAnswer) (before now : Outside) (asked : Option R
 
 pub complete : described.OneAnswer → SolveIsComplete
 complete reader before now artery certificate limit a c told r no_read no_put no_write h =
-    ends_so reader before now (Some (Solve artery certificate limit)) (input Description artery) certificate refl refl a told r no_read IsVerdict
+    ends_so reader before now (Some (Solve artery certificate limit)) certificate refl (a, tt) (told, tt) (r, tt) (no_read, tt) IsVerdict
     (λ c lines put k. verdict_cause c k.finds.2.found.verdict k.finds.2.cause_is) c no_put no_write h
 
 pub links_complete : described.OneAnswer → LinksAreComplete
 links_complete reader before now artery certificate limit a c told r no_read no_put no_write h =
-    ends_so reader before now (Some (Links artery certificate limit)) (input Description artery) certificate refl refl a told r no_read IsVerdict
+    ends_so reader before now (Some (Links artery certificate limit)) certificate refl (a, tt) (told, tt) (r, tt) (no_read, tt) IsVerdict
     (λ c lines put k. verdict_cause c k.finds.2.found.verdict k.finds.2.cause_is) c no_put no_write h
 
 pub sweep_complete : described.OneAnswer → SweepIsComplete
 sweep_complete reader before now artery table limit cycles a c told r no_read no_put no_write h =
-    ends_so reader before now (Some (Sweep artery table limit cycles)) (input Description artery) table refl refl a told r no_read (λ c. c ≡ cause.Done) (λ c lines put k. k.finds.2.cause_is) c no_put no_write h
+    ends_so reader before now (Some (Sweep artery table limit cycles)) table refl (a, tt) (told, tt) (r, tt) (no_read, tt) (λ c. c ≡ cause.Done) (λ c lines put k. k.finds.2.cause_is) c no_put no_write h
 
 pub renew_complete : described.OneAnswer → RenewIsComplete
 renew_complete reader before now certificate new w c told r no_read no_put no_write h =
-    ends_so reader before now (Some (Renew certificate new)) (input Certificate certificate) new refl refl w told r no_read (λ c. c ≡ cause.Done) (λ c lines put k. k.finds.2.cause_is) c no_put no_write h
+    ends_so reader before now (Some (Renew certificate new)) new refl (w, tt) (told, tt) (r, tt) (no_read, tt) (λ c. c ≡ cause.Done) (λ c lines put k. k.finds.2.cause_is) c no_put no_write h
+
+drawing_end : (a : Street) (o : Option Plan) (c : Cause) (l : List ℕ) (bytes : Option (List ℕ)) → DrawFinds a o c l bytes → IsDrawingEnd c
+drawing_end a None c l bytes h = subst (λ (d : Cause). IsDrawingEnd d) (sym h.0) tt
+drawing_end a (Some t) cause.Done l bytes h = tt
+drawing_end a (Some t) (cause.Fails f) l bytes h = tt
+drawing_end a (Some t) c l bytes h = absurd h
+
+pub draw_complete : described.OneAnswer → DrawIsComplete
+draw_complete reader before now artery timed picture a o c told timed_told r q no_read no_timed no_put no_write h =
+    ends_so reader before now (Some (Draw artery timed picture)) picture refl (a, (o, tt)) (told, (timed_told, tt)) (r, (q, tt)) (no_read, (no_timed, tt)) IsDrawingEnd
+    (λ c lines put k. drawing_end k.values.0 k.values.1.0 c lines k.bytes k.finds) c no_put no_write h
 
 -- what puts nothing isn't broken but by a write
 quiet : (before now : Outside) (asked : Option Request) → (shape asked).output ≡ None → (Rose before.writes now.writes → ⊥) → Ends before now asked cause.WriteFault → ⊥

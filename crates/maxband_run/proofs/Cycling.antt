@@ -53,7 +53,6 @@ cycles_more text words i word cycles now cycle lt is e h k =
     rw (e, mapped) (all_zipped_more (λ w q. cycle_of w ≡ Some q) (map text (take i words)) cycles (text word) cycle h k)
 
 -- words of no usage
-pub few_words : {S : Type 0} (text : S → List ℕ) (words : List S) → length words < 2 → None ≡ request_of (map text words)
+pub few_words : {S : Type 0} (text : S → List ℕ) (words : List S) → length words < 1 → None ≡ request_of (map text words)
 few_words text [] h = refl
-few_words text (word ∷ []) h = refl
-few_words text (word ∷ next ∷ more) h = absurd (omega (arith, h))
+few_words text (word ∷ more) h = absurd (omega (arith, h))

@@ -2,6 +2,7 @@ pub mod Holding
 pub mod Readers
 pub mod Stopped
 pub mod Told
+pub mod Timing
 pub mod Once
 pub mod OneAnswer
 pub mod Delivered
@@ -20,3 +21,4 @@ pub mod PlanHeld
 pub mod Found
 pub mod PlansSay
 pub mod Statuses
+pub mod Helping

@@ -15,21 +15,21 @@ use Rattle.plan_text.specs.Warrants.{Warrant}
 use Rattle.time_space.specs.Failing.{FailsRulesOut}
 use Rattle.time_space.specs.FirstFailing.{OneFirst}
 use Rattle.certificate_checker.specs.Laws.{RefusedIsNotAccepted, OneFirstRefusal}
-use Rattle.link_proof.specs.LinkWarrants.{LinkWarrant}
 use Rattle.link_proof.specs.LinkLaws.{LinkRefusedIsNotAccepted, OneFirstLinkRefusal}
 use Rattle.branch_and_bound.specs.declared.found.Verdict.{Verdict}
 use Rattle.branch_and_bound.specs.declared.found.Verdict.TheVariants.{Best, NoTiming, Stopped}
 use Rattle.branch_tree.specs.declared.site.SitePart.{SitePart}
 use Rattle.workload_maker.specs.Made.{made_street}
 use Rattle.maxband_run.specs.Lines.{fails_line}
-use Rattle.maxband_run.specs.CheckLines.{rejected_line, link_rejected_line}
-use Rattle.maxband_run.specs.Command.{Request, Hold, Show, Check, CheckLinks, Solve, Links, Renew, Bands, Round, Half, Make, Trial, Sweep, shape}
-use Rattle.maxband_run.specs.Reading.{Input, Values}
+use Rattle.maxband_run.specs.Command.{Request, Hold, Show, Check, CheckLinks, Solve, Links, Renew, Bands, Round, Half, Draw, Help, Version, Make, Trial, Sweep, shape}
+use Rattle.maxband_run.specs.Reading.{Input, Value, Values}
 use Rattle.maxband_run.specs.Searched.{cause_of}
 use Rattle.maxband_run.specs.Hold.{HoldFinds}
 use Rattle.maxband_run.specs.Show.{Shows}
-use Rattle.maxband_run.specs.Check.{CheckFinds}
-use Rattle.maxband_run.specs.CheckLinks.{CheckLinksFinds}
+use Rattle.maxband_run.specs.Sought.{Sought, whole_bands, bands_of_links}
+use Rattle.maxband_run.specs.Checked.{Checked, whole_checked, links_checked}
+use Rattle.maxband_run.specs.Check.{Rejects, Checks}
+use Rattle.maxband_run.specs.Status.{number_of}
 use Rattle.maxband_run.specs.Bands.{IsWidestBand, widest_line, BreaksBase, BandsFinds}
 use Rattle.second_plan.specs.Planned.{IsAnswer}
 use Rattle.second_plan.specs.Ends as second
@@ -37,12 +37,11 @@ use Rattle.second_plan.specs.Ends.{Ends, PlanOrEnd, OnePlan}
 use Rattle.second_plan.specs.declared.answer.PlanEnd.{PlanEnd}
 use Rattle.second_plan.specs.declared.answer.PlanEnd.TheVariants as end
 use Rattle.certificate_checker.specs.Accepted.{value_of, limit_of, IsTimed, IsAccepted}
-use Rattle.certificate_checker.specs.declared.reject.Reject.{Reject}
 use Rattle.progression.specs.Good.{Good}
 use Rattle.rational_theory.specs.Rational.{ℚ}
-use Rattle.maxband_run.specs.Check.{Rejects}
 use Rattle.maxband_run.specs.Round.{plan_lines, unplanned_line, IsCertified, IsRounded, Unplans, RoundFinds}
 use Rattle.maxband_run.specs.Half.{end_line, HalfFinds}
+use Rattle.maxband_run.specs.Draw.{DrawFinds}
 use Rattle.maxband_run.specs.Run.{Finds}
 use Rattle.maxband_run.specs.Laws.{IsReached, IsVerdict, Agree}
 use Rattle.maxband_run.specs.declared.cause.Cause.{Cause}
@@ -74,15 +73,20 @@ pub show_done : (a : Street) (c : Cause) (l : List ℕ) → Shows a c l → c �
 show_done a cause.Done l h = refl
 show_done a c l h = absurd h
 
-check_reached : (a : Street) (w : Warrant) (c : Cause) (l : List ℕ) → CheckFinds a w c l → IsReached c
-check_reached a w cause.Done l h = tt
-check_reached a w (cause.Rejected r) l h = tt
-check_reached a w c l h = absurd h
+-- which numbers say that an answer is reached
+pub four_reached : (c : Cause) → number_of c ≡ 4 → IsReached c
+four_reached (cause.Fails f) e = tt
+four_reached (cause.Rejected r) e = tt
+four_reached (cause.LinkRejected r) e = tt
+four_reached c e = absurd cc
 
-check_links_reached : (a : Street) (w : LinkWarrant) (c : Cause) (l : List ℕ) → CheckLinksFinds a w c l → IsReached c
-check_links_reached a w cause.Done l h = tt
-check_links_reached a w (cause.LinkRejected r) l h = tt
-check_links_reached a w c l h = absurd h
+-- each refusal has status 4
+abbrev pub AllFour : (k : Sought) → Checked k → Type 0
+AllFour k s = (r : s.Reject) → number_of (s.cause r) ≡ 4
+
+checks_reached : (k : Sought) (s : Checked k) → AllFour k s → (a : Street) (w : Value k.reader) (c : Cause) (l : List ℕ) → Checks k s a w c l → IsReached c
+checks_reached k s four a w c l (inl h) = subst (λ (d : Cause). IsReached d) (sym h.cause_is) tt
+checks_reached k s four a w c l (inr h) = subst (λ (d : Cause). IsReached d) (sym h.cause_is) (four_reached (s.cause h.reject) (four h.reject))
 
 bands_reached : (a : Street) (t : Plan) (c : Cause) (l : List ℕ) → BandsFinds a t c l → IsReached c
 bands_reached a t cause.Done l h = tt
@@ -101,18 +105,27 @@ half_reached a t (cause.Fails f) l bytes h = tt
 half_reached a t (cause.Unmatched e) l bytes h = tt
 half_reached a t c l bytes h = absurd h
 
+draw_reached : (a : Street) (o : Option Plan) (c : Cause) (l : List ℕ) (bytes : Option (List ℕ)) → DrawFinds a o c l bytes → IsReached c
+draw_reached a None c l bytes h = subst (λ (d : Cause). IsReached d) (sym h.0) tt
+draw_reached a (Some t) cause.Done l bytes h = tt
+draw_reached a (Some t) (cause.Fails f) l bytes h = tt
+draw_reached a (Some t) c l bytes h = absurd h
+
 pub finds_reached : (asked : Option Request) (v : Values (shape asked).inputs) (c : Cause) (l : List ℕ) (bytes : Option (List ℕ)) → Finds asked v c l bytes → IsReached c
 finds_reached None v c l bytes h = subst (λ (d : Cause). IsReached d) (sym h.0) tt
 finds_reached (Some (Hold artery timing)) v c l bytes h = hold_reached v.0 v.1.0 c l h
 finds_reached (Some (Show artery)) v c l bytes h = show_reached v.0 c l h
-finds_reached (Some (Check artery certificate)) v c l bytes h = check_reached v.0 v.1.0 c l h
-finds_reached (Some (CheckLinks artery certificate)) v c l bytes h = check_links_reached v.0 v.1.0 c l h
+finds_reached (Some (Check artery certificate)) v c l bytes h = checks_reached whole_bands whole_checked (λ r. refl) v.0 v.1.0 c l h
+finds_reached (Some (CheckLinks artery certificate)) v c l bytes h = checks_reached bands_of_links links_checked (λ r. refl) v.0 v.1.0 c l h
 finds_reached (Some (Solve artery certificate limit)) v c l bytes h = verdict_reached c (verdict_cause c h.2.found.verdict h.2.cause_is)
 finds_reached (Some (Links artery certificate limit)) v c l bytes h = verdict_reached c (verdict_cause c h.2.found.verdict h.2.cause_is)
 finds_reached (Some (Renew certificate new)) v c l bytes h = subst (λ (d : Cause). IsReached d) (sym h.2.cause_is) tt
 finds_reached (Some (Bands artery timing)) v c l bytes h = bands_reached v.0 v.1.0 c l h
 finds_reached (Some (Round artery certificate plan)) v c l bytes h = round_reached v.0 v.1.0 c l bytes h
 finds_reached (Some (Half artery timing new)) v c l bytes h = half_reached v.0 v.1.0 c l bytes h
+finds_reached (Some (Draw artery timed drawing)) v c l bytes h = draw_reached v.0 v.1.0 c l bytes h
+finds_reached (Some Help) v c l bytes h = subst (λ (d : Cause). IsReached d) (sym h.0) tt
+finds_reached (Some Version) v c l bytes h = subst (λ (d : Cause). IsReached d) (sym h.0) tt
 finds_reached (Some (Make signals seed)) v c l bytes h = show_reached (made_street signals seed) c l h
 finds_reached (Some (Trial signals seed limit)) v c l bytes h = verdict_reached c (verdict_cause c h.found.verdict h.cause_is)
 finds_reached (Some (Sweep artery table limit cycles)) v c l bytes h = subst (λ (d : Cause). IsReached d) (sym h.2.cause_is) tt
@@ -131,26 +144,23 @@ show_once one_text a cause.Done cause.Done x y h k = (refl, one_text.same a x y 
 show_once one_text a cause.Done d x y h k = absurd k
 show_once one_text a c d x y h k = absurd h
 
-check_once : RefusedIsNotAccepted → OneFirstRefusal → (a : Street) (w : Warrant) (c d : Cause) (x y : List ℕ) → CheckFinds a w c x → CheckFinds a w d y → (c ≡ d) × (x ≡ y)
-check_once apart once a w cause.Done cause.Done x y h k = (refl, h.lines_are ∙ sym k.lines_are)
-check_once apart once a w cause.Done (cause.Rejected r) x y h k = absurd (apart a w r k.first k.kept h.accepted)
-check_once apart once a w cause.Done d x y h k = absurd k
-check_once apart once a w (cause.Rejected r) cause.Done x y h k = absurd (apart a w r h.first h.kept k.accepted)
-check_once apart once a w (cause.Rejected r) (cause.Rejected s) x y h k = let e = once a w r s h.first k.first h.kept k.kept in
-    (ap cause.Rejected e, h.lines_are ∙ ap (rejected_line (count a)) e ∙ sym k.lines_are)
-check_once apart once a w (cause.Rejected r) d x y h k = absurd k
-check_once apart once a w c d x y h k = absurd h
+-- what is refused isn't accepted, and it has one first refusal
+abbrev pub RefusedApart : (k : Sought) → Checked k → Type 0
+RefusedApart k s = (a : Street) (w : Value k.reader) (r : s.Reject) → s.First a w r → (r ≡ s.wanting → ⊥) → s.Accepted a w → ⊥
 
-check_links_once : LinkRefusedIsNotAccepted → OneFirstLinkRefusal → (a : Street) (w : LinkWarrant) (c d : Cause) (x y : List ℕ) → CheckLinksFinds a w c x → CheckLinksFinds a w d y
-    → (c ≡ d) × (x ≡ y)
-check_links_once apart once a w cause.Done cause.Done x y h k = (refl, h.lines_are ∙ sym k.lines_are)
-check_links_once apart once a w cause.Done (cause.LinkRejected r) x y h k = absurd (apart a w r k.first k.kept h.accepted)
-check_links_once apart once a w cause.Done d x y h k = absurd k
-check_links_once apart once a w (cause.LinkRejected r) cause.Done x y h k = absurd (apart a w r h.first h.kept k.accepted)
-check_links_once apart once a w (cause.LinkRejected r) (cause.LinkRejected s) x y h k = let e = once a w r s h.first k.first h.kept k.kept in
-    (ap cause.LinkRejected e, h.lines_are ∙ ap (link_rejected_line (count a)) e ∙ sym k.lines_are)
-check_links_once apart once a w (cause.LinkRejected r) d x y h k = absurd k
-check_links_once apart once a w c d x y h k = absurd h
+abbrev OneRefusal : (k : Sought) → Checked k → Type 0
+OneRefusal k s = (a : Street) (w : Value k.reader) (r q : s.Reject) → s.First a w r → s.First a w q → (r ≡ s.wanting → ⊥) → (q ≡ s.wanting → ⊥) → r ≡ q
+
+module _ (k : Sought) (s : Checked k) (once : OneRefusal k s) (a : Street) (w : Value k.reader) where
+  rejects_once : (c d : Cause) (x y : List ℕ) → Rejects k s a w c x → Rejects k s a w d y → (c ≡ d) × (x ≡ y)
+  rejects_once c d x y h o = let e = once a w h.reject o.reject h.first o.first h.kept o.kept in
+      (h.cause_is ∙ ap s.cause e ∙ sym o.cause_is, h.lines_are ∙ ap (s.line (count a)) e ∙ sym o.lines_are)
+
+  checks_once : RefusedApart k s → (c d : Cause) (x y : List ℕ) → Checks k s a w c x → Checks k s a w d y → (c ≡ d) × (x ≡ y)
+  checks_once apart c d x y (inl h) (inl o) = (h.cause_is ∙ sym o.cause_is, h.lines_are ∙ sym o.lines_are)
+  checks_once apart c d x y (inl h) (inr o) = absurd (apart a w o.reject o.first o.kept h.accepted)
+  checks_once apart c d x y (inr h) (inl o) = absurd (apart a w h.reject h.first h.kept o.accepted)
+  checks_once apart c d x y (inr h) (inr o) = rejects_once c d x y h o
 
 -- a rule that speaks of no band and fails first
 breaks_once : OneFirst → (a : Street) (t : Plan) (f g : Failing) (x y : List ℕ) → BreaksBase a t f x → BreaksBase a t g y → (cause.Fails f ≡ cause.Fails g) × (x ≡ y)
@@ -176,11 +186,6 @@ bands_once one_first once finer a t (cause.Fails f) cause.Done x y h k = absurd 
 bands_once one_first once finer a t (cause.Fails f) (cause.Fails g) x y h k = breaks_once one_first a t f g x y h k
 bands_once one_first once finer a t (cause.Fails f) d x y h k = absurd k
 bands_once one_first once finer a t c d x y h k = absurd h
-
--- the same refusal
-rejects_once : OneFirstRefusal → (a : Street) (w : Warrant) (r s : Reject) (x y : List ℕ) → Rejects a w r x → Rejects a w s y → (cause.Rejected r ≡ cause.Rejected s) × (x ≡ y)
-rejects_once once a w r s x y h k = let e = once a w r s h.first k.first h.kept k.kept in
-    (ap cause.Rejected e, h.lines_are ∙ ap (rejected_line (count a)) e ∙ sym k.lines_are)
 
 -- the timing and the number of one certificate
 same_timing : (o : Option Plan) (t u : Plan) → o ≡ Some t → o ≡ Some u → u ≡ t
@@ -235,15 +240,15 @@ module _ (ends : second.OneEnd) (apart : PlanOrEnd) (one : OnePlan) (a : Street)
 round_once : RefusedIsNotAccepted → OneFirstRefusal → second.OneEnd → PlanOrEnd → OnePlan
     → (a : Street) (w : Warrant) (c d : Cause) (x y : List ℕ) (s u : Option (List ℕ)) → RoundFinds a w c x s → RoundFinds a w d y u → (c ≡ d) × (x ≡ y)
 round_once refused once ends apart one a w cause.Done cause.Done x y s u h k = (refl, plans_once ends apart one a w x y h.0 k.0 h.2 k.2)
-round_once refused once ends apart one a w cause.Done (cause.Rejected r) x y s u h k = absurd (refused a w r k.0.first k.0.kept h.2.certified.accepted)
+round_once refused once ends apart one a w cause.Done (cause.Rejected r) x y s u h k = absurd (refused a w k.0.reject k.0.first k.0.kept h.2.certified.accepted)
 round_once refused once ends apart one a w cause.Done (cause.Unplanned e) x y s u h k = absurd (plan_apart ends apart one a w e x h.0 h.2 k.first)
 round_once refused once ends apart one a w cause.Done d x y s u h k = absurd k
-round_once refused once ends apart one a w (cause.Rejected r) cause.Done x y s u h k = absurd (refused a w r h.0.first h.0.kept k.2.certified.accepted)
-round_once refused once ends apart one a w (cause.Rejected r) (cause.Rejected q) x y s u h k = rejects_once once a w r q x y h.0 k.0
-round_once refused once ends apart one a w (cause.Rejected r) (cause.Unplanned e) x y s u h k = absurd (refused a w r h.0.first h.0.kept (unplanned_accepted a w e k.first))
+round_once refused once ends apart one a w (cause.Rejected r) cause.Done x y s u h k = absurd (refused a w h.0.reject h.0.first h.0.kept k.2.certified.accepted)
+round_once refused once ends apart one a w (cause.Rejected r) (cause.Rejected q) x y s u h k = rejects_once whole_bands whole_checked once a w (cause.Rejected r) (cause.Rejected q) x y h.0 k.0
+round_once refused once ends apart one a w (cause.Rejected r) (cause.Unplanned e) x y s u h k = absurd (refused a w h.0.reject h.0.first h.0.kept (unplanned_accepted a w e k.first))
 round_once refused once ends apart one a w (cause.Rejected r) d x y s u h k = absurd k
 round_once refused once ends apart one a w (cause.Unplanned e) cause.Done x y s u h k = absurd (plan_apart ends apart one a w e y k.0 k.2 h.first)
-round_once refused once ends apart one a w (cause.Unplanned e) (cause.Rejected r) x y s u h k = absurd (refused a w r k.0.first k.0.kept (unplanned_accepted a w e h.first))
+round_once refused once ends apart one a w (cause.Unplanned e) (cause.Rejected r) x y s u h k = absurd (refused a w k.0.reject k.0.first k.0.kept (unplanned_accepted a w e h.first))
 round_once refused once ends apart one a w (cause.Unplanned e) (cause.Unplanned f) x y s u h k =
     let same = unplans_once ends apart one a w e f h.first k.first in
     (ap cause.Unplanned same, h.lines_are ∙ ap unplanned_line same ∙ sym k.lines_are)
@@ -268,6 +273,16 @@ half_once one_first ends a t (cause.Unmatched e) (cause.Unmatched f) x y s u h k
 half_once one_first ends a t (cause.Unmatched e) d x y s u h k = absurd k
 half_once one_first ends a t c d x y s u h k = absurd h
 
+draw_once : OneFirst → FailsRulesOut → (a : Street) (o : Option Plan) (c d : Cause) (x y : List ℕ) (s u : Option (List ℕ)) → DrawFinds a o c x s → DrawFinds a o d y u → (c ≡ d) × (x ≡ y)
+draw_once one_first rules a None c d x y s u h k = (h.0 ∙ sym k.0, h.1 ∙ sym k.1)
+draw_once one_first rules a (Some t) cause.Done cause.Done x y s u h k = (refl, h.2.lines_are ∙ sym k.2.lines_are)
+draw_once one_first rules a (Some t) cause.Done (cause.Fails f) x y s u h k = absurd (rules a t f k.0.fails h.2.good)
+draw_once one_first rules a (Some t) cause.Done d x y s u h k = absurd k
+draw_once one_first rules a (Some t) (cause.Fails f) cause.Done x y s u h k = absurd (rules a t f h.0.fails k.2.good)
+draw_once one_first rules a (Some t) (cause.Fails f) (cause.Fails g) x y s u h k = let e = one_first a t f g h.0 k.0 in (ap cause.Fails e, h.1 ∙ ap fails_line e ∙ sym k.1)
+draw_once one_first rules a (Some t) (cause.Fails f) d x y s u h k = absurd k
+draw_once one_first rules a (Some t) c d x y s u h k = absurd h
+
 -- ---- every command
 module _ (one_text : OneText) (one_first : OneFirst) (rules : FailsRulesOut) (apart : RefusedIsNotAccepted) (once : OneFirstRefusal) (widest : OneWidest) (finer : FinerPairs)
     (ends : OneEnd) (plan_ends : second.OneEnd) (plan_or : PlanOrEnd) (one_plan : OnePlan) (links_apart : LinkRefusedIsNotAccepted) (links_once : OneFirstLinkRefusal) where
@@ -276,8 +291,8 @@ module _ (one_text : OneText) (one_first : OneFirst) (rules : FailsRulesOut) (ap
   finds_once None v c d x y s t h k = (h.0 ∙ sym k.0, h.1 ∙ sym k.1)
   finds_once (Some (Hold artery timing)) v c d x y s t h k = hold_once one_first rules v.0 v.1.0 c d x y h k
   finds_once (Some (Show artery)) v c d x y s t h k = show_once one_text v.0 c d x y h k
-  finds_once (Some (Check artery certificate)) v c d x y s t h k = check_once apart once v.0 v.1.0 c d x y h k
-  finds_once (Some (CheckLinks artery certificate)) v c d x y s t h k = check_links_once links_apart links_once v.0 v.1.0 c d x y h k
+  finds_once (Some (Check artery certificate)) v c d x y s t h k = checks_once whole_bands whole_checked once v.0 v.1.0 apart c d x y h k
+  finds_once (Some (CheckLinks artery certificate)) v c d x y s t h k = checks_once bands_of_links links_checked links_once v.0 v.1.0 links_apart c d x y h k
   finds_once (Some (Solve artery certificate limit)) v c d x y s t h k =
       inr (verdict_cause c h.2.found.verdict h.2.cause_is, verdict_cause d k.2.found.verdict k.2.cause_is)
   finds_once (Some (Links artery certificate limit)) v c d x y s t h k =
@@ -286,6 +301,9 @@ module _ (one_text : OneText) (one_first : OneFirst) (rules : FailsRulesOut) (ap
   finds_once (Some (Bands artery timing)) v c d x y s t h k = bands_once one_first widest finer v.0 v.1.0 c d x y h k
   finds_once (Some (Round artery certificate plan)) v c d x y s t h k = round_once apart once plan_ends plan_or one_plan v.0 v.1.0 c d x y s t h k
   finds_once (Some (Half artery timing new)) v c d x y s t h k = half_once one_first ends v.0 v.1.0 c d x y s t h k
+  finds_once (Some (Draw artery timed drawing)) v c d x y s t h k = draw_once one_first rules v.0 v.1.0 c d x y s t h k
+  finds_once (Some Help) v c d x y s t h k = (h.0 ∙ sym k.0, h.1 ∙ sym k.1)
+  finds_once (Some Version) v c d x y s t h k = (h.0 ∙ sym k.0, h.1 ∙ sym k.1)
   finds_once (Some (Make signals seed)) v c d x y s t h k = show_once one_text (made_street signals seed) c d x y h k
   finds_once (Some (Trial signals seed limit)) v c d x y s t h k =
       (verdict_cause c h.found.verdict h.cause_is, verdict_cause d k.found.verdict k.cause_is)

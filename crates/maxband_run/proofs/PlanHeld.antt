@@ -28,7 +28,7 @@ use Rattle.maxband_run.specs.declared.cause.Cause.{Cause}
 use Rattle.maxband_run.specs.declared.cause.Cause.TheVariants as cause
 use Rattle.maxband_run.proofs.Complete.{Completes}
 use Rattle.maxband_run.proofs.PutRead.{verdict_found, is_put, reads_put, finds_of}
-use Rattle.maxband_run.proofs.Says.{zero_is}
+use Rattle.maxband_run.proofs.Found.{zero_is, found_four}
 use Rattle.maxband_run.proofs.Planning.{claim_bounds}
 use Rattle.maxband_run.proofs.PlansSay.{round_four, round_ten}
 
@@ -69,7 +69,7 @@ module _ (before now : Outside) (artery certificate plan : List ℕ) where
 pub round_says : RefusedIsNotAccepted → RoundSays
 round_says apart before now artery certificate plan c h = (
   (λ e. puts_plan before now artery certificate plan (subst (λ (d : Cause). Ends before now (Some (Round artery certificate plan)) d) (zero_is c e) h)),
-  (λ e. round_four before now artery certificate plan apart c e h),
+  (λ e. round_four before now artery certificate plan apart c e (found_four before now (Some (Round artery certificate plan)) c e h)),
   (λ e. round_ten before now artery certificate plan c e h),
 )
 

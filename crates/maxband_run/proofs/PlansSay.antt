@@ -1,10 +1,12 @@
--- What the statuses of `bands`, `half` and `sweep` say of the model, and those of `round` but 0.
-use Rattle.std.proofs.Common.{◌≡◌, ℕ, List, [], ◌∷◌, Option, Some, Ok, inl, inr, refl, sym, ◌∙◌, ap, subst}
+-- What the statuses of `bands`, `half`, `draw` and `sweep` say of the model, and those of `round` but 0.
+use Rattle.std.proofs.Common.{◌≡◌, ℕ, List, [], ◌∷◌, Option, Some, None, Ok, inl, inr, refl, sym, ◌∙◌, ap, subst, arith}
 use Rattle.std.specs.List.{AllZip}
 use Rattle.rational_theory.specs.Rational.{ℚ}
 use Rattle.outer_edge.specs.Held.{HoldsExactly}
 use Rattle.outer_edge.specs.Taken.{Appends}
 use Rattle.progression.specs.Street.{Street}
+use Rattle.progression.specs.Plan.{Plan}
+use Rattle.time_space.specs.Failing.{FailsRulesOut}
 use Rattle.time_space.specs.declared.failing.Failing.{Failing}
 use Rattle.half_integer.specs.Answers.{OneEnd}
 use Rattle.half_integer.specs.declared.end.HalfEnd.{HalfEnd}
@@ -14,19 +16,22 @@ use Rattle.certificate_checker.specs.Laws.{RefusedIsNotAccepted}
 use Rattle.cycle_sweep.specs.declared.row.SweepRow.{SweepRow}
 use Rattle.cycle_sweep.specs.Rows.{IsRow}
 use Rattle.cycle_sweep.specs.Says.{RowsSay}
-use Rattle.maxband_run.specs.Command.{Bands, Round, Half, Sweep}
+use Rattle.maxband_run.specs.Command.{Bands, Round, Half, Draw, Sweep}
 use Rattle.maxband_run.specs.Outside.{Outside, put_of, IsPut}
 use Rattle.maxband_run.specs.Half.{HasNoHalfPlan, IsHalfPlan}
+use Rattle.maxband_run.specs.Draw.{DrawFinds}
+use Rattle.maxband_run.specs.Reading.{Reads, Description, Timed}
 use Rattle.maxband_run.specs.Run.{Ends}
+use Rattle.maxband_run.specs.Sought.{whole_bands}
+use Rattle.maxband_run.specs.Checked.{whole_checked}
 use Rattle.maxband_run.specs.Laws.{SaysRejected}
-use Rattle.maxband_run.specs.PlanLaws.{SaysWidest, SaysNoBase, BandsSay, PutsHalf, SaysNoHalf, SaysHalf, SaysUnmatched, HalfSays, SaysUnplanned, SaysCycle, PutsTable, SweepSays}
+use Rattle.maxband_run.specs.PlanLaws.{SaysWidest, SaysNoBase, BandsSay, PutsHalf, SaysNoHalf, SaysHalf, SaysUnmatched, HalfSays, SaysUnplanned, PutsPicture, SaysUndrawn, SaysUntimed, DrawSays, SaysCycle, PutsTable, SweepSays}
 use Rattle.maxband_run.specs.Status.{number_of}
 use Rattle.maxband_run.specs.declared.cause.Cause.{Cause}
 use Rattle.maxband_run.specs.declared.cause.Cause.TheVariants as cause
-use Rattle.maxband_run.proofs.Found.{Found, found, ten_is, eleven_is}
+use Rattle.maxband_run.proofs.Found.{Found, found, found_done, found_four, ten_is, eleven_is}
 use Rattle.maxband_run.proofs.Once.{unplanned_accepted}
 use Rattle.maxband_run.proofs.PutRead.{is_put}
-use Rattle.maxband_run.proofs.Says.{zero_is}
 
 -- ---- bands
 module _ (before now : Outside) (artery timing : List ℕ) where
@@ -58,16 +63,16 @@ module _ (before now : Outside) (artery timing : List ℕ) where
     cause_is = refl;
   }
 
-  bands_four : (c : Cause) → number_of c ≡ 4 → Ends before now (Some (Bands artery timing)) c → SaysNoBase before artery timing c
-  bands_four (cause.Fails f) e h = says_no_base f (found before now (Some (Bands artery timing)) (cause.Fails f) tt (λ s. s) h)
-  bands_four (cause.Rejected r) e h = absurd ((found before now (Some (Bands artery timing)) (cause.Rejected r) tt (λ s. s) h).answer.finds)
-  bands_four (cause.LinkRejected r) e h = absurd ((found before now (Some (Bands artery timing)) (cause.LinkRejected r) tt (λ s. s) h).answer.finds)
-  bands_four c e h = absurd cc
+  bands_four : (c : Cause) → number_of c ≡ 4 → Found before now (Some (Bands artery timing)) c → SaysNoBase before artery timing c
+  bands_four (cause.Fails f) e k = says_no_base f k
+  bands_four (cause.Rejected r) e k = absurd k.answer.finds
+  bands_four (cause.LinkRejected r) e k = absurd k.answer.finds
+  bands_four c e k = absurd cc
 
 pub bands_say : BandsSay
 bands_say before now artery timing c h = (
-  (λ e. says_widest before now artery timing (found before now (Some (Bands artery timing)) cause.Done tt (λ s. s) (subst (λ (d : Cause). Ends before now (Some (Bands artery timing)) d) (zero_is c e) h))),
-  (λ e. bands_four before now artery timing c e h),
+  (λ e. says_widest before now artery timing (found_done before now (Some (Bands artery timing)) c e h)),
+  (λ e. bands_four before now artery timing c e (found_four before now (Some (Bands artery timing)) c e h)),
 )
 
 -- ---- half
@@ -110,11 +115,11 @@ module _ (before now : Outside) (artery timing new : List ℕ) where
     cause_is = refl;
   }
 
-  half_four : (c : Cause) → number_of c ≡ 4 → Ends before now (Some (Half artery timing new)) c → SaysNoBase before artery timing c
-  half_four (cause.Fails f) e h = half_no_base f (found before now (Some (Half artery timing new)) (cause.Fails f) tt (λ s. s) h)
-  half_four (cause.Rejected r) e h = absurd ((found before now (Some (Half artery timing new)) (cause.Rejected r) tt (λ s. s) h).answer.finds)
-  half_four (cause.LinkRejected r) e h = absurd ((found before now (Some (Half artery timing new)) (cause.LinkRejected r) tt (λ s. s) h).answer.finds)
-  half_four c e h = absurd cc
+  half_four : (c : Cause) → number_of c ≡ 4 → Found before now (Some (Half artery timing new)) c → SaysNoBase before artery timing c
+  half_four (cause.Fails f) e k = half_no_base f k
+  half_four (cause.Rejected r) e k = absurd k.answer.finds
+  half_four (cause.LinkRejected r) e k = absurd k.answer.finds
+  half_four c e k = absurd cc
 
   says_unmatched : OneEnd → (reason : HalfEnd) → Found before now (Some (Half artery timing new)) (cause.Unmatched reason) → SaysUnmatched before artery timing (cause.Unmatched reason)
   says_unmatched ends reason k = record {
@@ -135,29 +140,29 @@ module _ (before now : Outside) (artery timing new : List ℕ) where
 
 pub half_says : OneEnd → HalfSays
 half_says ends before now artery timing new c h = (
-  (λ e. says_half before now artery timing new (found before now (Some (Half artery timing new)) cause.Done tt (λ s. s) (subst (λ (d : Cause). Ends before now (Some (Half artery timing new)) d) (zero_is c e) h))),
-  (λ e. half_four before now artery timing new c e h),
+  (λ e. says_half before now artery timing new (found_done before now (Some (Half artery timing new)) c e h)),
+  (λ e. half_four before now artery timing new c e (found_four before now (Some (Half artery timing new)) c e h)),
   (λ e. let r = eleven_is c e in half_eleven before now artery timing new ends c r.0 r.1 h),
 )
 
 -- ---- round
 module _ (before now : Outside) (artery certificate plan : List ℕ) where
-  pub round_four : RefusedIsNotAccepted → (c : Cause) → number_of c ≡ 4 → Ends before now (Some (Round artery certificate plan)) c → SaysRejected before artery certificate c
-  round_four apart (cause.Rejected r) e h =
-      let k = found before now (Some (Round artery certificate plan)) (cause.Rejected r) tt (λ s. s) h in
+  pub round_four : RefusedIsNotAccepted → (c : Cause) → number_of c ≡ 4 → Found before now (Some (Round artery certificate plan)) c → SaysRejected whole_bands whole_checked before artery certificate c
+  round_four apart (cause.Rejected r) e k =
+      let h = k.answer.finds.0 in
       record {
         street = k.answer.values.0;
         warrant = k.answer.values.1.0;
-        reject = r;
+        reject = h.reject;
         description = k.answer.read.0;
         text = k.answer.read.1.0;
-        first = k.answer.finds.0.first;
-        not_accepted = apart k.answer.values.0 k.answer.values.1.0 r k.answer.finds.0.first k.answer.finds.0.kept;
-        cause_is = refl;
+        first = h.first;
+        not_accepted = apart k.answer.values.0 k.answer.values.1.0 h.reject h.first h.kept;
+        cause_is = h.cause_is;
       }
-  round_four apart (cause.Fails f) e h = absurd ((found before now (Some (Round artery certificate plan)) (cause.Fails f) tt (λ s. s) h).answer.finds)
-  round_four apart (cause.LinkRejected r) e h = absurd ((found before now (Some (Round artery certificate plan)) (cause.LinkRejected r) tt (λ s. s) h).answer.finds)
-  round_four apart c e h = absurd cc
+  round_four apart (cause.Fails f) e k = absurd k.answer.finds
+  round_four apart (cause.LinkRejected r) e k = absurd k.answer.finds
+  round_four apart c e k = absurd cc
 
   says_unplanned : (reason : PlanEnd) → Found before now (Some (Round artery certificate plan)) (cause.Unplanned reason) → SaysUnplanned before artery certificate (cause.Unplanned reason)
   says_unplanned reason k = record {
@@ -175,6 +180,61 @@ module _ (before now : Outside) (artery certificate plan : List ℕ) where
   round_ten c n h = let r = ten_is c n in
       subst (λ (d : Cause). SaysUnplanned before artery certificate d) (sym r.1)
       (says_unplanned r.0 (found before now (Some (Round artery certificate plan)) (cause.Unplanned r.0) tt (λ s. s) (subst (λ (d : Cause). Ends before now (Some (Round artery certificate plan)) d) r.1 h)))
+
+-- ---- draw
+ten_apart : ◌≡◌ {A = ℕ} 10 4 → ⊥
+ten_apart e = omega (arith, e)
+
+module _ (rules : FailsRulesOut) (before now : Outside) (artery timed picture : List ℕ) where
+  -- what is found of the timing, where the file has one
+  picture_of : (a : Street) (o : Option Plan) (f : Found before now (Some (Draw artery timed picture)) cause.Done) → Reads Description (before.holds artery) a → Reads Timed (before.holds timed) o
+      → DrawFinds a o cause.Done f.lines f.answer.bytes → PutsPicture before now artery timed picture
+  picture_of a None f d r h = let e = h.0 in absurd cc
+  picture_of a (Some t) f d r h = record {
+    street = a;
+    timing = t;
+    description = d;
+    text = r;
+    good = h.2.good;
+    put = subst (λ (x : List ℕ). HoldsExactly (now.holds picture) x) h.2.text_is (is_put before now picture h.0 f.lines f.put f.answer.bytes f.answer.put_is h.1 f.done).0;
+    told = subst (λ (l : List ℕ). Appends before.taken now.taken l) h.2.lines_are f.done.written;
+  }
+
+  undrawn_of : (a : Street) (o : Option Plan) (c : Cause) (l : List ℕ) (bytes : Option (List ℕ)) → Reads Description (before.holds artery) a → Reads Timed (before.holds timed) o → number_of c ≡ 4
+      → DrawFinds a o c l bytes → SaysUndrawn before artery timed c
+  undrawn_of a None c l bytes d r e h = absurd (ten_apart (sym (ap number_of h.0) ∙ e))
+  undrawn_of a (Some t) (cause.Fails f) l bytes d r e h = record {
+    street = a;
+    timing = t;
+    failing = f;
+    description = d;
+    text = r;
+    fails = h.0.fails;
+    not_good = rules a t f h.0.fails;
+    cause_is = refl;
+  }
+  undrawn_of a (Some t) cause.Done l bytes d r e h = absurd cc
+  undrawn_of a (Some t) c l bytes d r e h = absurd h
+
+  untimed_of : (a : Street) (o : Option Plan) (reason : PlanEnd) (l : List ℕ) (bytes : Option (List ℕ)) → Reads Description (before.holds artery) a → Reads Timed (before.holds timed) o
+      → DrawFinds a o (cause.Unplanned reason) l bytes → SaysUntimed before artery timed (cause.Unplanned reason)
+  untimed_of a None reason l bytes d r h = record { street = a; description = d; text = r; cause_is = h.0 }
+  untimed_of a (Some t) reason l bytes d r h = absurd h
+
+  draw_ten : (c : Cause) (reason : PlanEnd) → c ≡ cause.Unplanned reason → Ends before now (Some (Draw artery timed picture)) c → SaysUntimed before artery timed c
+  draw_ten c reason e h =
+      let f = found before now (Some (Draw artery timed picture)) (cause.Unplanned reason) tt (λ s. s) (subst (λ (d : Cause). Ends before now (Some (Draw artery timed picture)) d) e h) in
+      subst (λ (d : Cause). SaysUntimed before artery timed d) (sym e)
+      (untimed_of f.answer.values.0 f.answer.values.1.0 reason f.lines f.answer.bytes f.answer.read.0 f.answer.read.1.0 f.answer.finds)
+
+pub draw_says : FailsRulesOut → DrawSays
+draw_says rules before now artery timed picture c h = (
+  (λ e. let f = found_done before now (Some (Draw artery timed picture)) c e h in
+      picture_of rules before now artery timed picture f.answer.values.0 f.answer.values.1.0 f f.answer.read.0 f.answer.read.1.0 f.answer.finds),
+  (λ e. let f = found_four before now (Some (Draw artery timed picture)) c e h in
+      undrawn_of rules before now artery timed picture f.answer.values.0 f.answer.values.1.0 c f.lines f.answer.bytes f.answer.read.0 f.answer.read.1.0 e f.answer.finds),
+  (λ e. let r = ten_is c e in draw_ten rules before now artery timed picture c r.0 r.1 h),
+)
 
 -- ---- sweep
 each_row : RowsSay → (a : Street) (limit : Option ℕ) (cycles : List ℚ) (rows : List SweepRow) → AllZip (IsRow a limit) cycles rows → AllZip (SaysCycle a limit) cycles rows
@@ -202,4 +262,4 @@ module _ (say : RowsSay) (before now : Outside) (artery table : List ℕ) (limit
 
 pub sweep_says : RowsSay → SweepSays
 sweep_says say before now artery table limit words c h e =
-    puts_table say before now artery table limit words (found before now (Some (Sweep artery table limit words)) cause.Done tt (λ s. s) (subst (λ (d : Cause). Ends before now (Some (Sweep artery table limit words)) d) (zero_is c e) h))
+    puts_table say before now artery table limit words (found_done before now (Some (Sweep artery table limit words)) c e h)

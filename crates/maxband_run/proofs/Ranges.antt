@@ -4,7 +4,7 @@ use Rattle.std.specs.Prelude.{option_map, option_and_then, if◌then◌else◌}
 use Rattle.std.specs.Str.{bytes_eq}
 use Rattle.work_meter.specs.Work.{IsBelow}
 use Rattle.maxband_run.specs.Numbers.{usual_work, number_within, signals_of, seed_of, limit_of}
-use Rattle.maxband_run.specs.Command.{Request, Solve, Links, Make, Trial, Sweep, Usage, asked, one_more, two_more, three_more, any_more, request_of, InLimits}
+use Rattle.maxband_run.specs.Command.{Request, Solve, Links, Make, Trial, Sweep, Usage, asked, no_more, one_more, two_more, three_more, any_more, request_of, InLimits}
 use Rattle.maxband_run.specs.Cycles.{are_cycles, SpellCycles}
 use Rattle.maxband_run.proofs.Spelled.{in_limits}
 use Rattle.maxband_run.proofs.Cycling.{cycles_spelled}
@@ -66,14 +66,14 @@ usage_limits word (f ∷ fs) h = either (bytes_eq word f.word) f.asks (asked wor
 
 pub command_limits : (words : List (List ℕ)) → InLimits (request_of words)
 command_limits [] = tt
-command_limits (word ∷ []) = tt
+command_limits (word ∷ []) = usage_limits word no_more (tt, (tt, tt))
 command_limits (word ∷ first ∷ []) = usage_limits word (one_more first) (tt, tt)
 command_limits (word ∷ first ∷ second ∷ []) =
     usage_limits word (two_more first second) (tt, (tt, (tt, (usual, (usual, (tt, (tt, (make_limits (signals_of first) (seed_of second) (in_limits 2 16 first), tt))))))))
 command_limits (word ∷ first ∷ second ∷ third ∷ []) =
     usage_limits word (three_more first second third) (
       solve_limits first second (limit_of third) (some_limit third),
-      (links_limits first second (limit_of third) (some_limit third), (tt, (tt, (trial_limits (signals_of first) (seed_of second) (limit_of third) (in_limits 2 16 first) (some_limit third), tt)))),
+      (links_limits first second (limit_of third) (some_limit third), (tt, (tt, (tt, (trial_limits (signals_of first) (seed_of second) (limit_of third) (in_limits 2 16 first) (some_limit third), tt))))),
     )
 command_limits (word ∷ first ∷ second ∷ third ∷ fourth ∷ more) =
     usage_limits word (any_more first second third (fourth ∷ more))

@@ -10,8 +10,9 @@ use Rattle.plan_text.specs.Reading.{timing_of}
 use Rattle.plan_text.specs.CertificateReading.{certificate_of}
 use Rattle.link_proof.specs.LinkWarrants.{links_of}
 use Rattle.plan_text.specs.declared.fault.BadText.{BadText}
+use Rattle.maxband_run.specs.Timed.{timed_of}
 use Rattle.maxband_run.specs.Lines.{refused_line, bad_text_line, too_long_line}
-use Rattle.maxband_run.specs.Reading.{Reader, Description, Timing, Certificate, LinkCertificate, IsNoDescription, IsBadText, Value, most_bytes, IsReadAs, IsRefusedFor, Input, HasBytes, Reads, IsUnread, Values, AreRead, StopsReading, AreTold}
+use Rattle.maxband_run.specs.Reading.{Reader, Description, Timing, Certificate, LinkCertificate, Timed, IsNoDescription, IsBadText, Value, most_bytes, IsReadAs, IsRefusedFor, Input, HasBytes, Reads, IsUnread, Values, AreRead, StopsReading, AreTold}
 use Rattle.maxband_run.specs.Laws.{IsReached}
 use Rattle.maxband_run.specs.declared.cause.Cause.{Cause}
 use Rattle.maxband_run.specs.declared.cause.Cause.TheVariants as cause
@@ -81,18 +82,21 @@ module _ (reader : described.OneAnswer) where
   one_value Timing x u v h k = same_ok u v (sym h ∙ k)
   one_value Certificate x u v h k = same_ok u v (sym h ∙ k)
   one_value LinkCertificate x u v h k = same_ok u v (sym h ∙ k)
+  one_value Timed x u v h k = same_ok u v (sym h ∙ k)
 
   value_apart : (r : Reader) (x : List ℕ) (v : Value r) (c : Cause) (lines : List ℕ) → IsReadAs r x v → IsRefusedFor r x c lines → ⊥
   value_apart Description x v c lines h k = description_apart x v c lines h k
   value_apart Timing x v c lines h k = text_apart timing_of x v c lines h k
   value_apart Certificate x v c lines h k = text_apart certificate_of x v c lines h k
   value_apart LinkCertificate x v c lines h k = text_apart links_of x v c lines h k
+  value_apart Timed x v c lines h k = text_apart timed_of x v c lines h k
 
   one_refusal : (r : Reader) (x : List ℕ) (c d : Cause) (l m : List ℕ) → IsRefusedFor r x c l → IsRefusedFor r x d m → (c ≡ d) × (l ≡ m)
   one_refusal Description x c d l m h k = one_no_description x c d l m h k
   one_refusal Timing x c d l m h k = one_bad_text timing_of x c d l m h k
   one_refusal Certificate x c d l m h k = one_bad_text certificate_of x c d l m h k
   one_refusal LinkCertificate x c d l m h k = one_bad_text links_of x c d l m h k
+  one_refusal Timed x c d l m h k = one_bad_text timed_of x c d l m h k
 
   -- ---- one file
   pub one_read : (r : Reader) (o : Option (List ℕ)) (u v : Value r) → IsSome o → Reads r o u → Reads r o v → u ≡ v

@@ -1,5 +1,5 @@
 -- What the numbers of the statuses say of the model.
-use Rattle.std.proofs.Common.{◌≡◌, ℕ, List, Option, Some, None, Ok, ◌<◌, inl, inr, refl, sym, ◌∙◌, ap, subst}
+use Rattle.std.proofs.Common.{◌≡◌, ℕ, List, Option, Some, None, Ok, ◌<◌, inl, inr, refl, sym, ◌∙◌, ap, subst, arith}
 use Rattle.std.specs.Prelude.{IfSome, option_map}
 use Rattle.outer_edge.specs.Held.{HoldsExactly}
 use Rattle.outer_edge.specs.Taken.{Appends}
@@ -34,27 +34,26 @@ use Rattle.multi_band.specs.LinkRules.{link_rules}
 use Rattle.multi_band.specs.LinkSearches.{link_incumbent_of}
 use Rattle.multi_band.specs.LinkSites.{IsLinkSiteOf}
 use Rattle.multi_band.specs.LinkEnough.{link_enough_of}
-use Rattle.maxband_run.specs.Command.{Request, Hold, Check, CheckLinks, Solve, Links, Renew, shape}
+use Rattle.maxband_run.specs.Command.{Request, Hold, Check, CheckLinks, Solve, Links, Renew}
 use Rattle.maxband_run.specs.Outside.{Outside}
 use Rattle.branch_tree.specs.Searched.{Proves}
 use Rattle.maxband_run.specs.Searched.{cause_of}
 use Rattle.maxband_run.specs.Reading.{Value, IsReadAs, Reads, Description}
 use Rattle.maxband_run.specs.Sought.{Sought, whole_bands, bands_of_links}
 use Rattle.maxband_run.specs.Run.{Ends}
-use Rattle.maxband_run.specs.Laws.{IsVerdict, IsWholeLimit, PutsBest, PutsNone, PutsBound, SearchSays, SolveSays, LinksSay, HoldSays, CheckSays, CheckLinksSays, SaysGood, SaysBroken, SaysAccepted, SaysRejected, SaysLinksAccepted, SaysLinksRejected, PutsRenewed, RenewSays}
+use Rattle.maxband_run.specs.Laws.{IsVerdict, IsWholeLimit, PutsBest, PutsNone, PutsBound, SearchSays, SolveSays, LinksSay, HoldSays, CheckSays, CheckLinksSays, SaysGood, SaysBroken, SaysAccepted, SaysRejected, SaysChecked, PutsRenewed, RenewSays}
 use Rattle.maxband_run.specs.StopLaws.{IsOutOfWork, StopsFor, SearchStops, whole_stops, link_stops, StopSays, SolveStopSays, LinksStopSays}
 use Rattle.maxband_run.specs.Status.{number_of}
 use Rattle.maxband_run.specs.declared.cause.Cause.{Cause}
 use Rattle.maxband_run.specs.declared.cause.Cause.TheVariants as cause
-use Rattle.maxband_run.proofs.Stopped.{stops_stop}
+use Rattle.maxband_run.specs.Checked.{Checked, whole_checked, links_checked}
+use Rattle.maxband_run.specs.Check.{Accepts, Rejects, Checks}
 use Rattle.maxband_run.proofs.Complete.{Completes}
+use Rattle.maxband_run.proofs.Found.{Found, zero_is, found_done, found_four}
+use Rattle.maxband_run.proofs.Once.{AllFour, RefusedApart}
 use Rattle.maxband_run.proofs.PutRead.{verdict_found, is_put}
 
 -- ---- which cause has a number
-pub zero_is : (c : Cause) → number_of c ≡ 0 → c ≡ cause.Done
-zero_is cause.Done e = refl
-zero_is c e = absurd cc
-
 one_is : (c : Cause) → number_of c ≡ 1 → c ≡ cause.NoTiming
 one_is cause.NoTiming e = refl
 one_is c e = absurd cc
@@ -304,138 +303,120 @@ links_stop_says = stop_says bands_of_links link_stops links_spent Links links_pu
 
 -- ---- hold
 module _ (rules : FailsRulesOut) (before now : Outside) (artery timing : List ℕ) where
-  says_good : Completes before now (Some (Hold artery timing)) cause.Done → SaysGood before now artery timing
-  says_good h = elim h.2 [
-    | inl s ↦ absurd (stops_stop before.holds before.reads now.reads (shape (Some (Hold artery timing))).inputs 1 cause.Done h.0 s.stops)
-    | inr f ↦ record {
-      street = f.values.0;
-      plan = f.values.1.0;
-      description = f.read.0;
-      text = f.read.1.0;
-      good = f.finds.0;
-      told = subst (λ (l : List ℕ). Appends before.taken now.taken l) f.finds.1 h.3.written;
-    }
-  ]
+  says_good : Found before now (Some (Hold artery timing)) cause.Done → SaysGood before now artery timing
+  says_good f = record {
+    street = f.answer.values.0;
+    plan = f.answer.values.1.0;
+    description = f.answer.read.0;
+    text = f.answer.read.1.0;
+    good = f.answer.finds.0;
+    told = subst (λ (l : List ℕ). Appends before.taken now.taken l) f.answer.finds.1 f.done.written;
+  }
 
-  says_broken : (c : Cause) → number_of c ≡ 4 → Ends before now (Some (Hold artery timing)) c → SaysBroken before artery timing c
-  says_broken (cause.Fails f) e h = elim h.2 [
-    | inl s ↦ absurd (stops_stop before.holds before.reads now.reads (shape (Some (Hold artery timing))).inputs 1 (cause.Fails f) h.0 s.stops)
-    | inr k ↦ record {
-      street = k.values.0;
-      plan = k.values.1.0;
-      failing = f;
-      description = k.read.0;
-      text = k.read.1.0;
-      fails = k.finds.0.fails;
-      not_good = rules k.values.0 k.values.1.0 f k.finds.0.fails;
-      cause_is = refl;
-    }
-  ]
-  says_broken (cause.Rejected r) e h = elim h.2 [
-    | inl s ↦ absurd (stops_stop before.holds before.reads now.reads (shape (Some (Hold artery timing))).inputs 1 (cause.Rejected r) h.0 s.stops)
-    | inr k ↦ absurd k.finds
-  ]
-  says_broken (cause.LinkRejected r) e h = elim h.2 [
-    | inl s ↦ absurd (stops_stop before.holds before.reads now.reads (shape (Some (Hold artery timing))).inputs 1 (cause.LinkRejected r) h.0 s.stops)
-    | inr k ↦ absurd k.finds
-  ]
-  says_broken c e h = absurd cc
+  says_broken : (c : Cause) → number_of c ≡ 4 → Found before now (Some (Hold artery timing)) c → SaysBroken before artery timing c
+  says_broken (cause.Fails f) e k = record {
+    street = k.answer.values.0;
+    plan = k.answer.values.1.0;
+    failing = f;
+    description = k.answer.read.0;
+    text = k.answer.read.1.0;
+    fails = k.answer.finds.0.fails;
+    not_good = rules k.answer.values.0 k.answer.values.1.0 f k.answer.finds.0.fails;
+    cause_is = refl;
+  }
+  says_broken (cause.Rejected r) e k = absurd k.answer.finds
+  says_broken (cause.LinkRejected r) e k = absurd k.answer.finds
+  says_broken c e k = absurd cc
 
 pub hold_says : FailsRulesOut → HoldSays
 hold_says rules before now artery timing c h = (
-  (λ e. says_good rules before now artery timing (subst (λ (d : Cause). Ends before now (Some (Hold artery timing)) d) (zero_is c e) h)),
-  (λ e. says_broken rules before now artery timing c e h),
+  (λ e. says_good rules before now artery timing (found_done before now (Some (Hold artery timing)) c e h)),
+  (λ e. says_broken rules before now artery timing c e (found_four before now (Some (Hold artery timing)) c e h)),
 )
 
--- ---- check
-module _ (apart : RefusedIsNotAccepted) (before now : Outside) (artery certificate : List ℕ) where
-  says_accepted : Completes before now (Some (Check artery certificate)) cause.Done → SaysAccepted before now artery certificate
-  says_accepted h = elim h.2 [
-    | inl s ↦ absurd (stops_stop before.holds before.reads now.reads (shape (Some (Check artery certificate))).inputs 1 cause.Done h.0 s.stops)
-    | inr f ↦ record {
-      street = f.values.0;
-      warrant = f.values.1.0;
-      description = f.read.0;
-      text = f.read.1.0;
-      proves = f.finds.proves;
-      told = subst (λ (l : List ℕ). Appends before.taken now.taken l) f.finds.lines_are h.3.written;
-    }
-  ]
+-- ---- check and check-links
+zero_apart : ◌≡◌ {A = ℕ} 0 4 → ⊥
+zero_apart e = omega (arith, e)
 
-  says_rejected : (c : Cause) → number_of c ≡ 4 → Ends before now (Some (Check artery certificate)) c → SaysRejected before artery certificate c
-  says_rejected (cause.Rejected r) e h = elim h.2 [
-    | inl s ↦ absurd (stops_stop before.holds before.reads now.reads (shape (Some (Check artery certificate))).inputs 1 (cause.Rejected r) h.0 s.stops)
-    | inr k ↦ record {
-      street = k.values.0;
-      warrant = k.values.1.0;
-      reject = r;
-      description = k.read.0;
-      text = k.read.1.0;
-      first = k.finds.first;
-      not_accepted = apart k.values.0 k.values.1.0 r k.finds.first k.finds.kept;
-      cause_is = refl;
-    }
-  ]
-  says_rejected (cause.Fails f) e h = elim h.2 [
-    | inl s ↦ absurd (stops_stop before.holds before.reads now.reads (shape (Some (Check artery certificate))).inputs 1 (cause.Fails f) h.0 s.stops)
-    | inr k ↦ absurd k.finds
-  ]
-  says_rejected (cause.LinkRejected r) e h = elim h.2 [
-    | inl s ↦ absurd (stops_stop before.holds before.reads now.reads (shape (Some (Check artery certificate))).inputs 1 (cause.LinkRejected r) h.0 s.stops)
-    | inr k ↦ absurd k.finds
-  ]
-  says_rejected c e h = absurd cc
+-- what was found of a certificate, and told
+record FoundChecked (k : Sought) (s : Checked k) (before now : Outside) (artery certificate : List ℕ) (c : Cause) : Type 0 where
+  pub street : Street
+  pub warrant : Value k.reader
+  pub lines : List ℕ
+  pub description : Reads Description (before.holds artery) street
+  pub text : Reads k.reader (before.holds certificate) warrant
+  pub finds : Checks k s street warrant c lines
+  pub told : Appends before.taken now.taken lines
+
+module _ (k : Sought) (s : Checked k) (four : AllFour k s) (apart : RefusedApart k s) (before now : Outside) (artery certificate : List ℕ) where
+  accepts_of : (a : Street) (w : Value k.reader) (l : List ℕ) → Checks k s a w cause.Done l → Accepts k s a w cause.Done l
+  accepts_of a w l (inl h) = h
+  accepts_of a w l (inr h) = absurd (zero_apart (ap number_of h.cause_is ∙ four h.reject))
+
+  rejects_of : (a : Street) (w : Value k.reader) (c : Cause) (l : List ℕ) → number_of c ≡ 4 → Checks k s a w c l → Rejects k s a w c l
+  rejects_of a w c l e (inl h) = absurd (zero_apart (sym (ap number_of h.cause_is) ∙ e))
+  rejects_of a w c l e (inr h) = h
+
+  says_accepted : FoundChecked k s before now artery certificate cause.Done → SaysAccepted k s before now artery certificate
+  says_accepted f = let h = accepts_of f.street f.warrant f.lines f.finds in
+      record {
+        street = f.street;
+        warrant = f.warrant;
+        description = f.description;
+        text = f.text;
+        proves = h.proves;
+        told = subst (λ (l : List ℕ). Appends before.taken now.taken l) h.lines_are f.told;
+      }
+
+  says_rejected : (c : Cause) → number_of c ≡ 4 → FoundChecked k s before now artery certificate c → SaysRejected k s before artery certificate c
+  says_rejected c e f = let h = rejects_of f.street f.warrant c f.lines e f.finds in
+      record {
+        street = f.street;
+        warrant = f.warrant;
+        reject = h.reject;
+        description = f.description;
+        text = f.text;
+        first = h.first;
+        not_accepted = apart f.street f.warrant h.reject h.first h.kept;
+        cause_is = h.cause_is;
+      }
+
+module _ (k : Sought) (s : Checked k) (asks : List ℕ → List ℕ → Request)
+    (checked : (before now : Outside) (artery certificate : List ℕ) (c : Cause) → Found before now (Some (asks artery certificate)) c → FoundChecked k s before now artery certificate c) where
+  says_checked : AllFour k s → RefusedApart k s → SaysChecked k s asks
+  says_checked four apart before now artery certificate c h = (
+    (λ e. says_accepted k s four apart before now artery certificate (checked before now artery certificate cause.Done (found_done before now (Some (asks artery certificate)) c e h))),
+    (λ e. says_rejected k s four apart before now artery certificate c e (checked before now artery certificate c (found_four before now (Some (asks artery certificate)) c e h))),
+  )
+
+check_found : (before now : Outside) (artery certificate : List ℕ) (c : Cause) → Found before now (Some (Check artery certificate)) c → FoundChecked whole_bands whole_checked before now artery certificate c
+check_found before now artery certificate c f = record {
+  street = f.answer.values.0;
+  warrant = f.answer.values.1.0;
+  lines = f.lines;
+  description = f.answer.read.0;
+  text = f.answer.read.1.0;
+  finds = f.answer.finds;
+  told = f.done.written;
+}
 
 pub check_says : RefusedIsNotAccepted → CheckSays
-check_says apart before now artery certificate c h = (
-  (λ e. says_accepted apart before now artery certificate (subst (λ (d : Cause). Ends before now (Some (Check artery certificate)) d) (zero_is c e) h)),
-  (λ e. says_rejected apart before now artery certificate c e h),
-)
+check_says apart = says_checked whole_bands whole_checked Check check_found (λ r. refl) apart
 
--- ---- check-links
-module _ (apart : LinkRefusedIsNotAccepted) (before now : Outside) (artery certificate : List ℕ) where
-  says_links_accepted : Completes before now (Some (CheckLinks artery certificate)) cause.Done → SaysLinksAccepted before now artery certificate
-  says_links_accepted h = elim h.2 [
-    | inl s ↦ absurd (stops_stop before.holds before.reads now.reads (shape (Some (CheckLinks artery certificate))).inputs 1 cause.Done h.0 s.stops)
-    | inr f ↦ record {
-      street = f.values.0;
-      warrant = f.values.1.0;
-      description = f.read.0;
-      text = f.read.1.0;
-      proves = f.finds.proves;
-      told = subst (λ (l : List ℕ). Appends before.taken now.taken l) f.finds.lines_are h.3.written;
-    }
-  ]
-
-  says_links_rejected : (c : Cause) → number_of c ≡ 4 → Ends before now (Some (CheckLinks artery certificate)) c → SaysLinksRejected before artery certificate c
-  says_links_rejected (cause.LinkRejected r) e h = elim h.2 [
-    | inl s ↦ absurd (stops_stop before.holds before.reads now.reads (shape (Some (CheckLinks artery certificate))).inputs 1 (cause.LinkRejected r) h.0 s.stops)
-    | inr k ↦ record {
-      street = k.values.0;
-      warrant = k.values.1.0;
-      reject = r;
-      description = k.read.0;
-      text = k.read.1.0;
-      first = k.finds.first;
-      not_accepted = apart k.values.0 k.values.1.0 r k.finds.first k.finds.kept;
-      cause_is = refl;
-    }
-  ]
-  says_links_rejected (cause.Fails f) e h = elim h.2 [
-    | inl s ↦ absurd (stops_stop before.holds before.reads now.reads (shape (Some (CheckLinks artery certificate))).inputs 1 (cause.Fails f) h.0 s.stops)
-    | inr k ↦ absurd k.finds
-  ]
-  says_links_rejected (cause.Rejected r) e h = elim h.2 [
-    | inl s ↦ absurd (stops_stop before.holds before.reads now.reads (shape (Some (CheckLinks artery certificate))).inputs 1 (cause.Rejected r) h.0 s.stops)
-    | inr k ↦ absurd k.finds
-  ]
-  says_links_rejected c e h = absurd cc
+check_links_found : (before now : Outside) (artery certificate : List ℕ) (c : Cause) → Found before now (Some (CheckLinks artery certificate)) c
+    → FoundChecked bands_of_links links_checked before now artery certificate c
+check_links_found before now artery certificate c f = record {
+  street = f.answer.values.0;
+  warrant = f.answer.values.1.0;
+  lines = f.lines;
+  description = f.answer.read.0;
+  text = f.answer.read.1.0;
+  finds = f.answer.finds;
+  told = f.done.written;
+}
 
 pub check_links_says : LinkRefusedIsNotAccepted → CheckLinksSays
-check_links_says apart before now artery certificate c h = (
-  (λ e. says_links_accepted apart before now artery certificate (subst (λ (d : Cause). Ends before now (Some (CheckLinks artery certificate)) d) (zero_is c e) h)),
-  (λ e. says_links_rejected apart before now artery certificate c e h),
-)
+check_links_says apart = says_checked bands_of_links links_checked CheckLinks check_links_found (λ r. refl) apart
 
 -- ---- renew
 module _ (before now : Outside) (certificate new : List ℕ) where

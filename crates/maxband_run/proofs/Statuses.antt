@@ -1,9 +1,15 @@
 -- When the statuses of words and of faults come.
-use Rattle.std.proofs.Common.{◌≡◌, ℕ, ◌+◌, List, [], ◌∷◌, Option, Some, None, inl, inr, refl, ap, subst}
+use Rattle.std.proofs.Common.{◌≡◌, ℕ, ◌+◌, List, [], ◌∷◌, Option, Some, None, inl, inr, refl, ◌∙◌, ap, subst, arith}
 use Rattle.outer_edge.specs.Counts.{Rose}
-use Rattle.maxband_run.specs.Command.{Request, Hold, Show, Check, CheckLinks, Solve, Links, Renew, Bands, Round, Half, Make, Trial, Sweep, shape}
+use Rattle.maxband_run.specs.Command.{Request, Hold, Show, Check, CheckLinks, Solve, Links, Renew, Bands, Round, Half, Draw, Help, Version, Make, Trial, Sweep, shape}
 use Rattle.maxband_run.specs.Outside.{Outside, NamedBytes}
-use Rattle.maxband_run.specs.Reading.{Input, Values, StopsReading}
+use Rattle.progression.specs.Street.{Street}
+use Rattle.progression.specs.Plan.{Plan}
+use Rattle.maxband_run.specs.Draw.{DrawFinds}
+use Rattle.maxband_run.specs.Reading.{Input, Value, Values, StopsReading}
+use Rattle.maxband_run.specs.Sought.{Sought, whole_bands, bands_of_links}
+use Rattle.maxband_run.specs.Checked.{Checked, whole_checked, links_checked}
+use Rattle.maxband_run.specs.Check.{Checks}
 use Rattle.maxband_run.specs.Run.{Answers, Finds, Ends}
 use Rattle.maxband_run.specs.Laws.{IsReached}
 use Rattle.maxband_run.specs.StopLaws.{WordsAreTold, FaultsAreCounted}
@@ -12,7 +18,7 @@ use Rattle.maxband_run.specs.declared.cause.Cause.{Cause}
 use Rattle.maxband_run.specs.declared.cause.Cause.TheVariants as cause
 use Rattle.maxband_run.proofs.Complete.{rose, not_broken}
 use Rattle.maxband_run.proofs.Found.{found, five_is, six_is, seven_is}
-use Rattle.maxband_run.proofs.Once.{verdict_cause, finds_reached}
+use Rattle.maxband_run.proofs.Once.{AllFour, verdict_cause, finds_reached}
 use Rattle.maxband_run.proofs.PutRead.{reached_ends}
 
 -- ---- no fault where no count rises
@@ -42,17 +48,32 @@ words_told before now c r h =
     let e = reached_ends before now None c r h in
     elim e.2 [ inl k ↦ absurd k.stops | inr k ↦ ap number_of k.finds.0 ]
 
+five_apart : ◌≡◌ {A = ℕ} 5 4 → ⊥
+five_apart e = omega (arith, e)
+
+-- a check doesn't end by words
+checks_told : (k : Sought) (s : Checked k) → AllFour k s → (a : Street) (w : Value k.reader) (lines : List ℕ) → Checks k s a w cause.Words lines → ⊥
+checks_told k s four a w lines (inl h) = let e = h.cause_is in absurd cc
+checks_told k s four a w lines (inr h) = five_apart (ap number_of h.cause_is ∙ four h.reject)
+
+draw_told : (a : Street) (o : Option Plan) (lines : List ℕ) (bytes : Option (List ℕ)) → DrawFinds a o cause.Words lines bytes → ⊥
+draw_told a None lines bytes h = let e = h.0 in absurd cc
+draw_told a (Some t) lines bytes h = h
+
 no_words : (r : Request) (v : Values (shape (Some r)).inputs) (lines : List ℕ) (bytes : Option (List ℕ)) → Finds (Some r) v cause.Words lines bytes → ⊥
 no_words (Hold artery timing) v lines bytes h = h
 no_words (Show artery) v lines bytes h = h
-no_words (Check artery certificate) v lines bytes h = h
-no_words (CheckLinks artery certificate) v lines bytes h = h
+no_words (Check artery certificate) v lines bytes h = checks_told whole_bands whole_checked (λ r. refl) v.0 v.1.0 lines h
+no_words (CheckLinks artery certificate) v lines bytes h = checks_told bands_of_links links_checked (λ r. refl) v.0 v.1.0 lines h
 no_words (Solve artery certificate limit) v lines bytes h = verdict_cause cause.Words h.2.found.verdict h.2.cause_is
 no_words (Links artery certificate limit) v lines bytes h = verdict_cause cause.Words h.2.found.verdict h.2.cause_is
 no_words (Renew certificate new) v lines bytes h = let e = h.2.cause_is in absurd cc
 no_words (Bands artery timing) v lines bytes h = h
 no_words (Round artery certificate plan) v lines bytes h = h
 no_words (Half artery timing new) v lines bytes h = h
+no_words (Draw artery timed drawing) v lines bytes h = draw_told v.0 v.1.0 lines bytes h
+no_words Help v lines bytes h = let e = h.0 in absurd cc
+no_words Version v lines bytes h = let e = h.0 in absurd cc
 no_words (Make signals seed) v lines bytes h = h
 no_words (Trial signals seed limit) v lines bytes h = verdict_cause cause.Words h.found.verdict h.cause_is
 no_words (Sweep artery table limit cycles) v lines bytes h = let e = h.2.cause_is in absurd cc

@@ -6,8 +6,9 @@ use Rattle.plan_text.specs.Reading.{timing_of}
 use Rattle.plan_text.specs.CertificateReading.{certificate_of}
 use Rattle.link_proof.specs.LinkWarrants.{links_of}
 use Rattle.plan_text.specs.declared.fault.BadText.{BadText}
+use Rattle.maxband_run.specs.Timed.{timed_of}
 use Rattle.maxband_run.specs.Lines.{cannot_read_line}
-use Rattle.maxband_run.specs.Reading.{Reader, Description, Timing, Certificate, LinkCertificate, IsBadText, IsRefusedFor, Input, IsUnread, StopsReading, IsRoomForFaults}
+use Rattle.maxband_run.specs.Reading.{Reader, Description, Timing, Certificate, LinkCertificate, Timed, IsBadText, IsRefusedFor, Input, IsUnread, StopsReading, IsRoomForFaults}
 use Rattle.maxband_run.specs.Laws.{IsFault}
 use Rattle.maxband_run.specs.declared.cause.Cause.{Cause}
 use Rattle.maxband_run.specs.declared.cause.Cause.TheVariants as cause
@@ -34,6 +35,7 @@ refused_stop Description x c l h = absurd h
 refused_stop Timing x c l h = bad_text_stop timing_of x c l h
 refused_stop Certificate x c l h = bad_text_stop certificate_of x c l h
 refused_stop LinkCertificate x c l h = bad_text_stop links_of x c l h
+refused_stop Timed x c l h = bad_text_stop timed_of x c l h
 
 module _ (held : List ℕ → Option (List ℕ)) (before after : List ℕ → ℕ) where
   pub unread_stop : (i : Input) (place : ℕ) (c : Cause) (l : List ℕ) → IsUnread i place held before after c l → IsStop c

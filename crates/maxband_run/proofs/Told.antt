@@ -5,28 +5,30 @@ use Rattle.narrow_fraction.specs.declared.memory.Memory.{Memory}
 use Rattle.outer_edge.specs.declared.files.Files.{Ghosts}
 use Rattle.maxband_run.specs.Outside.{put_of, view, Puts, MayPut}
 use Rattle.maxband_run.specs.Command.{Request, shape}
-use Rattle.maxband_run.specs.Reading.{Input, Value, Values, LeavesFiles, WereRead, WasUnread}
+use Rattle.maxband_run.specs.Reading.{Input, Value, Values, LeavesFiles, WereRead, WasUnread, end_of}
 use Rattle.maxband_run.specs.Run.{Finds, IsAnswered}
 use Rattle.maxband_run.specs.declared.answer.Answer.{Answer}
+use Rattle.maxband_run.specs.declared.answer.Unread.{Unread}
+use Rattle.maxband_run.specs.declared.answer.Unread.TheVariants as stop
 use Rattle.maxband_run.specs.declared.cause.Cause.{Cause}
 use Rattle.maxband_run.proofs.Stopped.{stops_later}
 
 -- the second of two files isn't read
-pub second_unread : {F : Type 0} {files : Ghosts F} {before mid now : F} {i j : Input} {v : Value i.reader} (end : Result Answer Memory)
+pub second_unread : {F : Type 0} {files : Ghosts F} {before mid now : F} {i j : Input} {v : Value i.reader} (end : Unread)
     → WereRead files before mid (i ∷ []) (v, tt) → LeavesFiles files before mid → WasUnread files mid now (j ∷ []) 2 end → WasUnread files before now (i ∷ j ∷ []) 1 end
-second_unread {files = files} {before = before} {mid = mid} {now = now} {i = i} {j = j} {v = v} (Ok a) r kept u = record {
+second_unread {files = files} {before = before} {mid = mid} {now = now} {i = i} {j = j} {v = v} (stop.Told a) r kept u = record {
   told = inr (v, r.read.0, stops_later (j ∷ []) 2 (files.holds before) (files.holds mid) (files.read_faults before) (files.read_faults mid) (files.read_faults now) a.cause a.lines.items kept.holds r.counts u.told);
   no_put = u.no_put;
   memory = tt;
 }
-second_unread (Err e) r kept u = record { told = tt; no_put = tt; memory = λ name. u.memory name ∙ r.counts name }
+second_unread stop.Memory r kept u = record { told = tt; no_put = tt; memory = λ name. u.memory name ∙ r.counts name }
 
 -- ---- answers
 -- one of the files isn't read
-pub unread : {F : Type 0} {files : Ghosts F} {before now : F} {asked : Option Request} (r : Result Answer Memory)
-    → WasUnread files before now (shape asked).inputs 1 r → IsAnswered files before now asked r
-unread (Ok a) u = record { told = inl (record { stops = u.told; no_put = ap (option_map view) u.no_put }); memory = tt }
-unread (Err e) u = record { told = tt; memory = u.memory }
+pub unread : {F : Type 0} {files : Ghosts F} {before now : F} {asked : Option Request} (end : Unread)
+    → WasUnread files before now (shape asked).inputs 1 end → IsAnswered files before now asked (end_of end)
+unread (stop.Told a) u = record { told = inl (record { stops = u.told; no_put = ap (option_map view) u.no_put }); memory = tt }
+unread stop.Memory u = record { told = tt; memory = u.memory }
 
 module _ {F : Type 0} {files : Ghosts F} {before now : F} {asked : Option Request} {values : Values (shape asked).inputs} where
   -- what is found is told, and nothing is put

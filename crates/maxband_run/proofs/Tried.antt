@@ -1,7 +1,7 @@
 -- What is found on the artery that was made is the answer of `trial`.
 use Rattle.std.proofs.Common.{◌≡◌, ℕ, List, Option, length, ◌∙◌, ap, subst}
 use Rattle.progression.specs.Street.{Street}
-use Rattle.branch_tree.specs.declared.found.Found.{Found}
+use Rattle.branch_tree.specs.Told.{Found}
 use Rattle.branch_tree.specs.Certified.{warrant_of}
 use Rattle.workload_maker.specs.Made.{made_street}
 use Rattle.branch_tree.specs.Searched.{IsSearched}

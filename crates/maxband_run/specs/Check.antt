@@ -1,30 +1,36 @@
--- What `check` finds of an artery and a certificate.
-use Rattle.std.specs.Prelude.{◌≡◌, ◌≢◌, ℕ, List}
+-- What `check` and `check-links` find of an artery and a certificate.
+use Rattle.std.specs.Prelude.{◌≡◌, ◌≢◌, ◌⊎◌, ℕ, List}
 use Rattle.progression.specs.Street.{Street, count}
 use Rattle.plan_text.specs.Warrants.{Warrant}
-use Rattle.certificate_checker.specs.Accepted.{IsAccepted}
-use Rattle.certificate_checker.specs.Claims.{ClaimHolds}
-use Rattle.certificate_checker.specs.Refusals.{IsFirstRefusal}
-use Rattle.certificate_checker.specs.declared.reject.Reject.{Reject}
-use Rattle.certificate_checker.specs.declared.reject.Reject.TheVariants.{Memory}
-use Rattle.maxband_run.specs.CheckLines.{accepted_line, rejected_line}
+use Rattle.link_proof.specs.LinkWarrants.{LinkWarrant}
+use Rattle.maxband_run.specs.Reading.{Value}
+use Rattle.maxband_run.specs.Sought.{Sought, whole_bands, bands_of_links}
+use Rattle.maxband_run.specs.Checked.{Checked, whole_checked, links_checked}
+use Rattle.maxband_run.specs.CheckLines.{accepted_line}
 use Rattle.maxband_run.specs.declared.cause.Cause.{Cause}
 use Rattle.maxband_run.specs.declared.cause.Cause.TheVariants as cause
 
 -- The certificate is accepted on the artery. `proves` is what that means: its timing is best among the good timings on any grid, or there is no good
--- timing, or none has a weighted band above the bound.
-pub record Accepts (a : Street) (w : Warrant) (lines : List ℕ) : Type 0 where
-  pub accepted : IsAccepted a w
-  pub proves : ClaimHolds a w.claim w.timing
-  pub lines_are : lines ≡ accepted_line w.claim
+-- timing, or none has a value above the bound.
+pub record Accepts (k : Sought) (s : Checked k) (a : Street) (w : Value k.reader) (c : Cause) (lines : List ℕ) : Type 0 where
+  pub cause_is : c ≡ cause.Done
+  pub accepted : s.Accepted a w
+  pub proves : s.Proves a w
+  pub lines_are : lines ≡ accepted_line (k.claim w)
 
 -- the certificate is refused on the artery, and this is the first refusal, never want of memory
-pub record Rejects (a : Street) (w : Warrant) (reject : Reject) (lines : List ℕ) : Type 0 where
-  pub first : IsFirstRefusal a w reject
-  pub kept : reject ≢ Memory
-  pub lines_are : lines ≡ rejected_line (count a) reject
+pub record Rejects (k : Sought) (s : Checked k) (a : Street) (w : Value k.reader) (c : Cause) (lines : List ℕ) : Type 0 where
+  pub reject : s.Reject
+  pub cause_is : c ≡ s.cause reject
+  pub first : s.First a w reject
+  pub kept : reject ≢ s.wanting
+  pub lines_are : lines ≡ s.line (count a) reject
+
+abbrev pub Checks : (k : Sought) → Checked k → Street → Value k.reader → Cause → List ℕ → Type 0
+Checks k s a w c lines = Accepts k s a w c lines ⊎ Rejects k s a w c lines
 
 abbrev pub CheckFinds : Street → Warrant → Cause → List ℕ → Type 0
-CheckFinds a w cause.Done lines = Accepts a w lines
-CheckFinds a w (cause.Rejected reject) lines = Rejects a w reject lines
-CheckFinds a w c lines = ⊥
+CheckFinds = Checks whole_bands whole_checked
+
+abbrev pub CheckLinksFinds : Street → LinkWarrant → Cause → List ℕ → Type 0
+CheckLinksFinds = Checks bands_of_links links_checked

@@ -7,15 +7,14 @@ use Rattle.named_row.specs.declared.names.RowId.{RowId}
 use Rattle.named_row.specs.declared.names.Place.{Place}
 use Rattle.plan_text.specs.declared.certificate.Claim.{Claim}
 use Rattle.plan_text.specs.declared.certificate.Claim.TheVariants.{Best, NoTiming, Stopped}
-use Rattle.certificate_checker.specs.declared.reject.Reject.{Reject}
+use Rattle.certificate_checker.specs.Refusals.{Reject}
 use Rattle.certificate_checker.specs.declared.reject.Reject.TheVariants as reject
 use Rattle.plan_text.specs.Families.{Table, ordinary}
 use Rattle.diagram_print.specs.Names.{row_text_in, place_text}
 use Rattle.link_space.specs.declared.failing.LinkFailing.{LinkFailing}
 use Rattle.link_space.specs.declared.failing.LinkFailing.TheVariants as failing
 use Rattle.link_proof.specs.LinkFamilies.{links}
-use Rattle.link_proof.specs.declared.reject.LinkReject.{LinkReject}
-use Rattle.link_proof.specs.declared.reject.LinkReject.TheVariants as link
+use Rattle.link_proof.specs.LinkRefusals.{LinkReject}
 use Rattle.maxband_run.specs.Lines.{failing_text}
 
 -- ---- accepted
@@ -84,12 +83,12 @@ link_failing_text (failing.Inbound i signal x) = codes "inbound link " ++ (decim
 
 -- the line of its refusal, in the same words
 abbrev pub link_rejected_line : ℕ → LinkReject → List ℕ
-link_rejected_line signals (link.TimingFails f) = timing_line (link_failing_text f)
-link_rejected_line signals (link.ValueDiffers kept claimed) = value_line kept claimed
-link_rejected_line signals (link.BoundBelow bound value) = below_line bound value
-link_rejected_line signals (link.SplitOutside node) = split_line node
-link_rejected_line signals (link.NoSuchRow leaf row) = leaf_line links (codes "row") leaf row
-link_rejected_line signals (link.Negative leaf row) = leaf_line links (codes "negative") leaf row
-link_rejected_line signals (link.Wide leaf row at) = wide_line links signals leaf row at.place
-link_rejected_line signals (link.LeafTooWeak leaf place) = weak_line signals leaf place
-link_rejected_line signals link.Memory = []
+link_rejected_line signals (reject.TimingFails f) = timing_line (link_failing_text f)
+link_rejected_line signals (reject.ValueDiffers kept claimed) = value_line kept claimed
+link_rejected_line signals (reject.BoundBelow bound value) = below_line bound value
+link_rejected_line signals (reject.SplitOutside node) = split_line node
+link_rejected_line signals (reject.NoSuchRow leaf row) = leaf_line links (codes "row") leaf row
+link_rejected_line signals (reject.Negative leaf row) = leaf_line links (codes "negative") leaf row
+link_rejected_line signals (reject.Wide leaf row at) = wide_line links signals leaf row at.place
+link_rejected_line signals (reject.LeafTooWeak leaf place) = weak_line signals leaf place
+link_rejected_line signals reject.Memory = []

@@ -1,33 +1,49 @@
--- How what a command searches for is found and checked: what a search ends with, and which of its certificates a check accepts.
-use Rattle.std.specs.Prelude.{◌≡◌, ℕ, List, Option}
+-- How the certificates of a kind of timing are checked.
+use Rattle.std.specs.Prelude.{ℕ, List}
 use Rattle.progression.specs.Street.{Street}
 use Rattle.certificate_checker.specs.Accepted.{IsAccepted}
-use Rattle.certificate_checker.specs.Claims.{ClaimHolds}
+use Rattle.certificate_checker.specs.Claims as claims
+use Rattle.certificate_checker.specs.Refusals.{IsFirstRefusal}
+use Rattle.certificate_checker.specs.declared.reject.Reject as whole
+use Rattle.certificate_checker.specs.declared.reject.Reject.TheVariants as whole_reject
 use Rattle.link_proof.specs.LinkAccepted.{IsLinkAccepted}
 use Rattle.link_proof.specs.LinkClaims.{LinkClaimHolds}
-use Rattle.branch_tree.specs.Certified.{warrant_of}
-use Rattle.multi_band.specs.LinkCertified.{link_warrant_of}
+use Rattle.link_proof.specs.LinkRefusals.{IsFirstLinkRefusal}
+use Rattle.link_proof.specs.declared.reject.LinkReject as links
+use Rattle.certificate_checker.specs.declared.reject.Reject.TheVariants as link_reject
 use Rattle.maxband_run.specs.Reading.{Value}
 use Rattle.maxband_run.specs.Sought.{Sought, whole_bands, bands_of_links}
-use Rattle.maxband_run.specs.Solve.{IsSolution}
-use Rattle.maxband_run.specs.Links.{IsLinkSolution}
+use Rattle.maxband_run.specs.CheckLines.{rejected_line, link_rejected_line}
 use Rattle.maxband_run.specs.declared.cause.Cause.{Cause}
+use Rattle.maxband_run.specs.declared.cause.Cause.TheVariants as cause
 
 pub record Checked (k : Sought) : Type 1 where
   pub Accepted : Street → Value k.reader → Type 0
-  pub ClaimHolds : Street → Value k.reader → Type 0
-  pub Solves : Street → Option ℕ → Cause → List ℕ → List ℕ → Value k.reader → Type 0  -- a search within the limit ends with this cause, these lines, this text and this certificate
+  pub Proves : Street → Value k.reader → Type 0  -- the claim holds of all good timings of the artery
+  pub Reject : Type 0  -- why a certificate is refused
+  pub First : Street → Value k.reader → Reject → Type 0
+  pub wanting : Reject  -- memory was wanting, which says nothing of the certificate
+  pub cause : Reject → Cause
+  pub line : ℕ → Reject → List ℕ  -- on an artery with so many signals
 
 abbrev pub whole_checked : Checked whole_bands
 whole_checked = record {
   Accepted = IsAccepted;
-  ClaimHolds = λ a w. ClaimHolds a w.claim w.timing;
-  Solves = λ a limit c lines text w. (s : IsSolution a limit c lines text) × (w ≡ warrant_of a s.found);
+  Proves = λ a w. claims.ClaimHolds a w.claim w.timing;
+  Reject = whole.Reject;
+  First = IsFirstRefusal;
+  wanting = whole_reject.Memory;
+  cause = cause.Rejected;
+  line = rejected_line;
 }
 
 abbrev pub links_checked : Checked bands_of_links
 links_checked = record {
   Accepted = IsLinkAccepted;
-  ClaimHolds = λ a w. LinkClaimHolds a w.claim w.timing;
-  Solves = λ a limit c lines text w. (s : IsLinkSolution a limit c lines text) × (w ≡ link_warrant_of a s.found);
+  Proves = λ a w. LinkClaimHolds a w.claim w.timing;
+  Reject = links.LinkReject;
+  First = IsFirstLinkRefusal;
+  wanting = link_reject.Memory;
+  cause = cause.LinkRejected;
+  line = link_rejected_line;
 }

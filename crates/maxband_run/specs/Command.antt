@@ -4,7 +4,7 @@ use Rattle.std.specs.Str.{bytes_eq}
 use Rattle.work_meter.specs.Work.{IsBelow}
 use Rattle.maxband_run.specs.Numbers.{signals_of, seed_of, limit_of, usual_work}
 use Rattle.maxband_run.specs.Cycles.{are_cycles, SpellCycles}
-use Rattle.maxband_run.specs.Reading.{Input, input, Description, Timing, Certificate, LinkCertificate}
+use Rattle.maxband_run.specs.Reading.{Input, input, Description, Timing, Certificate, LinkCertificate, Timed}
 use Rattle.maxband_run.specs.declared.command.Command.{Command}
 use Rattle.maxband_run.specs.declared.command.Command.TheVariants as command
 use Rattle.artery_model.specs.Bounds.{least_signals, most_first_signals}
@@ -20,6 +20,9 @@ pub data Request : Type 0 where
   Bands : List ℕ → List ℕ → Request  -- the names of a description and of a timing
   Round : List ℕ → List ℕ → List ℕ → Request  -- the names of a description and of a certificate, and of the file for a plan in whole seconds
   Half : List ℕ → List ℕ → List ℕ → Request  -- the names of a description and of a timing, and of the file for a half-cycle plan
+  Draw : List ℕ → List ℕ → List ℕ → Request  -- the names of a description and of a timing or certificate, and of the file for a picture
+  Help : Request
+  Version : Request
   Make : ℕ → ℕ → Request  -- how many signals, and the seed
   Trial : ℕ → ℕ → Option ℕ → Request  -- how many signals, the seed, and the same of a search
   Sweep : List ℕ → List ℕ → Option ℕ → List (List ℕ) → Request  -- the names of a description and of a table, the same of each search, and the words of the cycles
@@ -35,6 +38,9 @@ view (command.Renew certificate new) = Renew certificate.now new.now
 view (command.Bands artery timing) = Bands artery.now timing.now
 view (command.Round artery certificate plan) = Round artery.now certificate.now plan.now
 view (command.Half artery timing new) = Half artery.now timing.now new.now
+view (command.Draw artery timed drawing) = Draw artery.now timed.now drawing.now
+view command.Help = Help
+view command.Version = Version
 view (command.Make signals seed) = Make signals seed
 view (command.Trial signals seed limit) = Trial signals seed limit
 view (command.Sweep artery table limit cycles) = Sweep artery.now table.now limit (map string_bytes cycles.now)
@@ -59,6 +65,9 @@ shape (Some (Renew certificate new)) = record { inputs = input Certificate certi
 shape (Some (Bands artery timing)) = record { inputs = input Description artery ∷ input Timing timing ∷ []; output = None; chooses = false }
 shape (Some (Round artery certificate plan)) = record { inputs = input Description artery ∷ input Certificate certificate ∷ []; output = Some plan; chooses = false }
 shape (Some (Half artery timing new)) = record { inputs = input Description artery ∷ input Timing timing ∷ []; output = Some new; chooses = true }
+shape (Some (Draw artery timed drawing)) = record { inputs = input Description artery ∷ input Timed timed ∷ []; output = Some drawing; chooses = false }
+shape (Some Help) = record { inputs = []; output = None; chooses = false }
+shape (Some Version) = record { inputs = []; output = None; chooses = false }
 shape (Some (Make signals seed)) = record { inputs = []; output = None; chooses = false }
 shape (Some (Trial signals seed limit)) = record { inputs = []; output = None; chooses = true }
 shape (Some (Sweep artery table limit cycles)) = record { inputs = input Description artery ∷ []; output = Some table; chooses = false }
@@ -94,7 +103,10 @@ abbrev pub asked : List ℕ → List Usage → Option Request
 asked word [] = None
 asked word (f ∷ fs) = if bytes_eq word f.word then f.asks else asked word fs
 
--- the usages with one word more, with two, and with three
+-- the usages of one word alone, and those with one word more, with two, and with three
+abbrev pub no_more : List Usage
+no_more = usage (codes "--help") (Some Help) ∷ usage (codes "--version") (Some Version) ∷ []
+
 abbrev pub one_more : List ℕ → List Usage
 one_more first = usage (codes "show") (Some (Show first)) ∷ []
 
@@ -116,6 +128,7 @@ three_more first second third =
     ∷ usage (codes "links") (option_map (Links first second) (limit_of third))
     ∷ usage (codes "round") (Some (Round first second third))
     ∷ usage (codes "half") (Some (Half first second third))
+    ∷ usage (codes "draw") (Some (Draw first second third))
     ∷ usage (codes "trial") (trial_of first second third)
     ∷ []
 
@@ -128,6 +141,7 @@ abbrev pub any_more : List ℕ → List ℕ → List ℕ → List (List ℕ) →
 any_more first second third more = usage (codes "sweep") (sweep_of first second third more) ∷ []
 
 abbrev pub request_of : List (List ℕ) → Option Request
+request_of (word ∷ []) = asked word no_more
 request_of (word ∷ first ∷ []) = asked word (one_more first)
 request_of (word ∷ first ∷ second ∷ []) = asked word (two_more first second)
 request_of (word ∷ first ∷ second ∷ third ∷ []) = asked word (three_more first second third)

@@ -8,7 +8,8 @@ use Rattle.progression.specs.Good.{IsBase}
 use Rattle.progression.specs.declared.parts.Dir.TheVariants.{Outbound}
 use Rattle.plan_text.specs.Spelling.{timing_text}
 use Rattle.plan_text.specs.Reading.{timing_of}
-use Rattle.diagram_print.specs.Measures.{measure_line, band_share}
+use Rattle.timing_measures.specs.Measures.{band_share}
+use Rattle.diagram_print.specs.Measures.{measure_line}
 use Rattle.mirror_theory.specs.EqualBands.{HasNone, IsHalfCycleBest}
 use Rattle.half_integer.specs.Phases.{is_later}
 use Rattle.half_integer.specs.Answers.{IsReady, Ends}

@@ -1,5 +1,5 @@
 -- Statements about the definitions of a run, each of which a public call proves.
-use Rattle.std.specs.Prelude.{◌≡◌, ◌≢◌, ◌⊎◌, ℕ, ◌≤◌, Bool, true, false, List, [], ◌∷◌, length, Option, Some, None, Ok, IsSome, IfSome, option_map}
+use Rattle.std.specs.Prelude.{◌≡◌, ◌≢◌, ◌⊎◌, ℕ, ◌≤◌, Bool, true, false, List, [], ◌∷◌, ◌++◌, length, Option, Some, None, Ok, IsSome, IfSome, option_map}
 use Rattle.rational_theory.specs.Rational.{ℚ, ◌≤ℚ◌}
 use Rattle.outer_edge.specs.Counts.{Rose, SameCounts}
 use Rattle.outer_edge.specs.Held.{HoldsExactly}
@@ -15,25 +15,21 @@ use Rattle.plan_text.specs.SecondText.{second_text}
 use Rattle.plan_text.specs.CertificateReading.{certificate_of}
 use Rattle.plan_text.specs.declared.certificate.Claim.{Claim}
 use Rattle.plan_text.specs.declared.certificate.Claim.TheVariants as claim
-use Rattle.certificate_checker.specs.Claims as claims
-use Rattle.certificate_checker.specs.Accepted.{IsAccepted}
-use Rattle.certificate_checker.specs.Refusals.{IsFirstRefusal}
-use Rattle.certificate_checker.specs.declared.reject.Reject.{Reject}
-use Rattle.link_proof.specs.LinkWarrants.{LinkWarrant}
-use Rattle.link_proof.specs.LinkAccepted.{IsLinkAccepted}
-use Rattle.link_proof.specs.LinkClaims.{LinkClaimHolds}
-use Rattle.link_proof.specs.LinkRefusals.{IsFirstLinkRefusal}
-use Rattle.link_proof.specs.declared.reject.LinkReject.{LinkReject}
 use Rattle.branch_and_bound.specs.declared.found.Stop.{Stop}
 use Rattle.branch_and_bound.specs.declared.found.Stop.TheVariants.{Work, Wide}
 use Rattle.branch_tree.specs.declared.site.SitePart.{SitePart}
+use Rattle.branch_tree.specs.Certified.{warrant_of}
+use Rattle.multi_band.specs.LinkCertified.{link_warrant_of}
 use Rattle.maxband_run.specs.CheckLines.{accepted_line}
 use Rattle.maxband_run.specs.Lines.{holds_lines}
 use Rattle.maxband_run.specs.Outside.{Outside, NamedBytes}
-use Rattle.maxband_run.specs.Command.{Request, Hold, Check, CheckLinks, Solve, Links, Renew, Make, Trial, Sweep, shape}
-use Rattle.maxband_run.specs.Reading.{Input, Value, most_bytes, IsReadAs, Reads, Describes, AreTold, Description, Timing, Certificate, LinkCertificate}
+use Rattle.maxband_run.specs.Command.{Request, Hold, Check, CheckLinks, Solve, Links, Renew, Help, Make, Trial, Sweep, shape}
+use Rattle.maxband_run.specs.Reading.{Input, Value, most_bytes, IsReadAs, Reads, Describes, AreTold, Description, Timing, Certificate}
+use Rattle.maxband_run.specs.Usages.{usage_line, usage_of}
 use Rattle.maxband_run.specs.Sought.{Sought, whole_bands, bands_of_links}
 use Rattle.maxband_run.specs.Checked.{Checked, whole_checked, links_checked}
+use Rattle.maxband_run.specs.Solve.{IsSolution}
+use Rattle.maxband_run.specs.Links.{IsLinkSolution}
 use Rattle.maxband_run.specs.Run.{Answers, Ends}
 use Rattle.maxband_run.specs.Status.{number_of}
 use Rattle.maxband_run.specs.declared.cause.Cause.{Cause}
@@ -119,33 +115,43 @@ RenewIsComplete = (before now : Outside) (certificate new : List ℕ) (w : Warra
     → ¬ Rose (before.reads certificate) (now.reads certificate) → ¬ Rose (before.puts new) (now.puts new) → ¬ Rose before.writes now.writes
     → Ends before now (Some (Renew certificate new)) c → (c ≡ cause.Done) ⊎ (c ≡ cause.Memory)
 
+-- a search within the limit ends with this cause, these lines, this text and this certificate
+abbrev pub Solves : Sought → Type 1
+Solves k = Street → Option ℕ → Cause → List ℕ → List ℕ → Value k.reader → Type 0
+
+abbrev pub whole_solves : Solves whole_bands
+whole_solves a limit c lines text w = (s : IsSolution a limit c lines text) × (w ≡ warrant_of a s.found)
+
+abbrev pub links_solve : Solves bands_of_links
+links_solve a limit c lines text w = (s : IsLinkSolution a limit c lines text) × (w ≡ link_warrant_of a s.found)
+
 -- What a search found, of the artery that the file described, and that the check accepts the file that was put with just the claim of that.
-pub record IsConfirmed (k : Sought) (s : Checked k) (before between now : Outside) (artery certificate : List ℕ) (limit : Option ℕ) (c d : Cause) : Type 0 where
+pub record IsConfirmed (k : Sought) (s : Checked k) (solves : Solves k) (before between now : Outside) (artery certificate : List ℕ) (limit : Option ℕ) (c d : Cause) : Type 0 where
   pub street : Street
   pub lines : List ℕ
   pub text : List ℕ
   pub warrant : Value k.reader
   pub description : Reads Description (before.holds artery) street
-  pub solves : s.Solves street limit c lines text warrant
+  pub solved : solves street limit c lines text warrant
   pub done : d ≡ cause.Done
   pub certificate_is : Reads k.reader (between.holds certificate) warrant
   pub accepted : s.Accepted street warrant
-  pub proves : s.ClaimHolds street warrant
+  pub proves : s.Proves street warrant
   pub told : Appends between.taken now.taken (accepted_line (k.claim warrant))
 
 -- After a verdict of a search that is asked for so, a run of its check over the same description and the file that was put accepts what was found, unless a fault or
 -- want of memory ends it: where these are two files that tell their bytes, and the certificate isn't too long to be read.
-abbrev pub SearchIsAccepted : (k : Sought) → Checked k → (List ℕ → List ℕ → Option ℕ → Request) → (List ℕ → List ℕ → Request) → Type 0
-SearchIsAccepted k s asks checks = (before between now : Outside) (artery certificate : List ℕ) (limit : Option ℕ) (c d : Cause)
+abbrev pub SearchIsAccepted : (k : Sought) → Checked k → Solves k → (List ℕ → List ℕ → Option ℕ → Request) → (List ℕ → List ℕ → Request) → Type 0
+SearchIsAccepted k s solves asks checks = (before between now : Outside) (artery certificate : List ℕ) (limit : Option ℕ) (c d : Cause)
     → artery ≢ certificate → IsSome (before.holds artery) → IsSome (between.holds certificate) → IfSome (between.holds certificate) (λ bytes. length bytes ≤ most_bytes k.reader)
     → IsVerdict c → Ends before between (Some (asks artery certificate limit)) c
-    → IsReached d → Ends between now (Some (checks artery certificate)) d → IsConfirmed k s before between now artery certificate limit c d
+    → IsReached d → Ends between now (Some (checks artery certificate)) d → IsConfirmed k s solves before between now artery certificate limit c d
 
 abbrev pub PutIsAccepted : Type 0
-PutIsAccepted = SearchIsAccepted whole_bands whole_checked Solve Check
+PutIsAccepted = SearchIsAccepted whole_bands whole_checked whole_solves Solve Check
 
 abbrev pub PutLinksAreAccepted : Type 0
-PutLinksAreAccepted = SearchIsAccepted bands_of_links links_checked Links CheckLinks
+PutLinksAreAccepted = SearchIsAccepted bands_of_links links_checked links_solve Links CheckLinks
 
 -- ---- what the numbers of the statuses say of the model
 -- the file holds, where it is told, a text that is read as a certificate with this claim and this timing
@@ -200,6 +206,16 @@ SolveSays = SearchSays whole_bands Solve
 abbrev pub LinksSay : Type 0
 LinksSay = SearchSays bands_of_links Links
 
+-- `--help` with status 0: the usage by which this is asked for has its line in what was written
+pub record TellsUsage (before now : Outside) (asked : Request) : Type 0 where
+  pub front : List ℕ
+  pub back : List ℕ
+  pub told : Appends before.taken now.taken (front ++ (usage_line (usage_of asked) ++ back))
+
+-- so of each request
+abbrev pub HelpSays : Type 0
+HelpSays = (before now : Outside) (asked : Request) (c : Cause) → Ends before now (Some Help) c → number_of c ≡ 0 → TellsUsage before now asked
+
 -- `hold` with status 0: the timing of the second file is good on the artery of the first, and its weighted band is printed
 pub record SaysGood (before now : Outside) (artery timing : List ℕ) : Type 0 where
   pub street : Street
@@ -224,53 +240,36 @@ abbrev pub HoldSays : Type 0
 HoldSays = (before now : Outside) (artery timing : List ℕ) (c : Cause) → Ends before now (Some (Hold artery timing)) c
     → (number_of c ≡ 0 → SaysGood before now artery timing) × (number_of c ≡ 4 → SaysBroken before artery timing c)
 
--- `check` with status 0: what the certificate of the second file claims holds of every timing of the artery of the first, and the claim is printed
-pub record SaysAccepted (before now : Outside) (artery certificate : List ℕ) : Type 0 where
+-- a check with status 0: what the certificate of the second file claims holds of every timing of its kind on the artery of the first, and the claim is printed
+pub record SaysAccepted (k : Sought) (s : Checked k) (before now : Outside) (artery certificate : List ℕ) : Type 0 where
   pub street : Street
-  pub warrant : Warrant
+  pub warrant : Value k.reader
   pub description : Reads Description (before.holds artery) street
-  pub text : Reads Certificate (before.holds certificate) warrant
-  pub proves : claims.ClaimHolds street warrant.claim warrant.timing
-  pub told : Appends before.taken now.taken (accepted_line warrant.claim)
+  pub text : Reads k.reader (before.holds certificate) warrant
+  pub proves : s.Proves street warrant
+  pub told : Appends before.taken now.taken (accepted_line (k.claim warrant))
 
--- `check` with status 4: the certificate isn't accepted, and this is its first refusal
-pub record SaysRejected (before : Outside) (artery certificate : List ℕ) (c : Cause) : Type 0 where
+-- a check with status 4: the certificate isn't accepted, and this is its first refusal
+pub record SaysRejected (k : Sought) (s : Checked k) (before : Outside) (artery certificate : List ℕ) (c : Cause) : Type 0 where
   pub street : Street
-  pub warrant : Warrant
-  pub reject : Reject
+  pub warrant : Value k.reader
+  pub reject : s.Reject
   pub description : Reads Description (before.holds artery) street
-  pub text : Reads Certificate (before.holds certificate) warrant
-  pub first : IsFirstRefusal street warrant reject
-  pub not_accepted : ¬ IsAccepted street warrant
-  pub cause_is : c ≡ cause.Rejected reject
+  pub text : Reads k.reader (before.holds certificate) warrant
+  pub first : s.First street warrant reject
+  pub not_accepted : ¬ s.Accepted street warrant
+  pub cause_is : c ≡ s.cause reject
+
+-- what the statuses of a command say that is asked for so and checks these
+abbrev pub SaysChecked : (k : Sought) → Checked k → (List ℕ → List ℕ → Request) → Type 0
+SaysChecked k s asks = (before now : Outside) (artery certificate : List ℕ) (c : Cause) → Ends before now (Some (asks artery certificate)) c
+    → (number_of c ≡ 0 → SaysAccepted k s before now artery certificate) × (number_of c ≡ 4 → SaysRejected k s before artery certificate c)
 
 abbrev pub CheckSays : Type 0
-CheckSays = (before now : Outside) (artery certificate : List ℕ) (c : Cause) → Ends before now (Some (Check artery certificate)) c
-    → (number_of c ≡ 0 → SaysAccepted before now artery certificate) × (number_of c ≡ 4 → SaysRejected before artery certificate c)
-
--- `check-links` with status 0: what the certificate of the second file claims holds of every link timing of the artery of the first, and the claim is printed
-pub record SaysLinksAccepted (before now : Outside) (artery certificate : List ℕ) : Type 0 where
-  pub street : Street
-  pub warrant : LinkWarrant
-  pub description : Reads Description (before.holds artery) street
-  pub text : Reads LinkCertificate (before.holds certificate) warrant
-  pub proves : LinkClaimHolds street warrant.claim warrant.timing
-  pub told : Appends before.taken now.taken (accepted_line warrant.claim)
-
--- `check-links` with status 4: the certificate isn't accepted, and this is its first refusal
-pub record SaysLinksRejected (before : Outside) (artery certificate : List ℕ) (c : Cause) : Type 0 where
-  pub street : Street
-  pub warrant : LinkWarrant
-  pub reject : LinkReject
-  pub description : Reads Description (before.holds artery) street
-  pub text : Reads LinkCertificate (before.holds certificate) warrant
-  pub first : IsFirstLinkRefusal street warrant reject
-  pub not_accepted : ¬ IsLinkAccepted street warrant
-  pub cause_is : c ≡ cause.LinkRejected reject
+CheckSays = SaysChecked whole_bands whole_checked Check
 
 abbrev pub CheckLinksSays : Type 0
-CheckLinksSays = (before now : Outside) (artery certificate : List ℕ) (c : Cause) → Ends before now (Some (CheckLinks artery certificate)) c
-    → (number_of c ≡ 0 → SaysLinksAccepted before now artery certificate) × (number_of c ≡ 4 → SaysLinksRejected before artery certificate c)
+CheckLinksSays = SaysChecked bands_of_links links_checked CheckLinks
 
 -- `renew` with status 0: the file that is put holds, where it is told, the second text of the certificate that the first file held, and that text is read as just
 -- this certificate

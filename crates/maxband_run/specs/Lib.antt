@@ -1,15 +1,16 @@
 pub mod Numbers
 pub mod Cycles
 pub mod Command
+pub mod Usages
 pub mod Status
 pub mod Outside
 pub mod Lines
 pub mod CheckLines
+pub mod Timed
 pub mod Reading
 pub mod Hold
 pub mod Show
 pub mod Check
-pub mod CheckLinks
 pub mod Searched
 pub mod Solve
 pub mod Links
@@ -17,7 +18,9 @@ pub mod Renew
 pub mod Bands
 pub mod Round
 pub mod Half
+pub mod Draw
 pub mod Make
+pub mod Help
 pub mod Trial
 pub mod Sweep
 pub mod Run

@@ -1,7 +1,7 @@
 -- What `links` finds of an artery, what it writes, and what it puts.
 use Rattle.std.specs.Prelude.{◌≡◌, ℕ, List, Option}
 use Rattle.progression.specs.Street.{Street}
-use Rattle.multi_band.specs.declared.found.LinkFound.{LinkFound}
+use Rattle.multi_band.specs.LinkTold.{LinkFound}
 use Rattle.multi_band.specs.LinkCertified.{link_warrant_of}
 use Rattle.multi_band.specs.LinksSearched.{IsLinksSearched}
 use Rattle.multi_band.specs.LinkReport.{link_report_lines}

@@ -3,6 +3,8 @@ use Rattle.std.specs.Prelude.{◌≡◌, ◌⊎◌, ℕ, List, Option, Some, Non
 use Rattle.outer_edge.specs.Counts.{next_count, NoneFell, SameCounts, CountedAt}
 use Rattle.outer_edge.specs.Held.{SameFiles, OthersSame, HoldsExactly}
 use Rattle.outer_edge.specs.Taken.{Appends, AppendsFront}
+use Rattle.outer_edge.specs.declared.files.Files as files
+use Rattle.outer_edge.specs.declared.sink.Sink as sink
 use Rattle.narrow_fraction.specs.declared.memory.Memory.{Memory}
 use Rattle.maxband_run.specs.declared.answer.Answer.{Answer}
 use Rattle.maxband_run.specs.declared.answer.Put.{Put}
@@ -18,6 +20,10 @@ pub record Outside : Type 0 where
 
 abbrev pub outside : (List ℕ → Option (List ℕ)) → (List ℕ → ℕ) → (List ℕ → ℕ) → Option (List ℕ) → ℕ → Outside
 outside holds reads puts taken writes = record { holds = holds; reads = reads; puts = puts; taken = taken; writes = writes }
+
+-- what the program sees of files and an output
+abbrev pub seen : {F K : Type 0} → files.Ghosts F → sink.Ghosts K → F → K → Outside
+seen f k files out = outside (f.holds files) (f.read_faults files) (f.put_faults files) (k.taken out) (k.faults out)
 
 -- the bytes that are to be put into a file
 pub record NamedBytes : Type 0 where

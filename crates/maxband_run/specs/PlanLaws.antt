@@ -1,7 +1,8 @@
--- What the statuses of `bands`, `half`, `round` and `sweep` say of the model: statements about the definitions of a run, each of which a public call proves.
-use Rattle.std.specs.Prelude.{◌≡◌, ◌≢◌, ◌⊎◌, ℕ, ◌≤◌, List, ◌++◌, length, codes, Option, Some, Ok, IsSome, IfSome}
+-- What the statuses of `bands`, `half`, `round`, `draw` and `sweep` say of the model: statements about the definitions of a run, each of which a public call proves.
+use Rattle.std.specs.Prelude.{◌≡◌, ◌≢◌, ◌⊎◌, ℕ, ◌≤◌, List, ◌++◌, length, codes, Option, None, Some, Ok, IsSome, IfSome}
 use Rattle.std.specs.List.{AllZip}
 use Rattle.rational_theory.specs.Rational.{ℚ, ◌+ℚ◌, ◌≤ℚ◌}
+use Rattle.outer_edge.specs.Counts.{Rose}
 use Rattle.outer_edge.specs.Held.{SameFiles, HoldsExactly}
 use Rattle.outer_edge.specs.Taken.{Appends}
 use Rattle.progression.specs.Street.{Street}
@@ -17,6 +18,8 @@ use Rattle.half_integer.specs.Answers as half
 use Rattle.half_integer.specs.declared.end.HalfEnd.{HalfEnd}
 use Rattle.second_plan.specs.Planned.{IsBestOfOffsets}
 use Rattle.second_plan.specs.declared.answer.PlanEnd.{PlanEnd}
+use Rattle.second_plan.specs.declared.answer.PlanEnd.TheVariants as end
+use Rattle.diagram_draw.specs.Pages.{drawing, svg_text}
 use Rattle.plan_text.specs.Warrants.{Warrant}
 use Rattle.plan_text.specs.Spelling.{timing_text}
 use Rattle.plan_text.specs.Reading.{timing_of}
@@ -27,12 +30,14 @@ use Rattle.cycle_sweep.specs.Says.{SaysRow}
 use Rattle.cycle_sweep.specs.Table.{row_fields, sweep_text}
 use Rattle.maxband_run.specs.Cycles.{AreCycles}
 use Rattle.maxband_run.specs.Outside.{Outside}
-use Rattle.maxband_run.specs.Command.{Hold, Bands, Round, Half, Sweep}
-use Rattle.maxband_run.specs.Reading.{most_bytes, Reads, Description, Timing, Certificate}
+use Rattle.maxband_run.specs.Command.{Hold, Bands, Round, Half, Draw, Sweep}
+use Rattle.maxband_run.specs.Reading.{most_bytes, Reads, Description, Timing, Certificate, Timed}
 use Rattle.maxband_run.specs.Bands.{IsWidestBand, widest_line}
 use Rattle.maxband_run.specs.Half.{half_lines}
 use Rattle.maxband_run.specs.Round.{plan_lines, Unplans}
 use Rattle.maxband_run.specs.Sweep.{rows_line}
+use Rattle.maxband_run.specs.Sought.{whole_bands}
+use Rattle.maxband_run.specs.Checked.{whole_checked}
 use Rattle.maxband_run.specs.Run.{Ends}
 use Rattle.maxband_run.specs.Laws.{IsReached, SaysRejected}
 use Rattle.maxband_run.specs.Status.{number_of}
@@ -139,7 +144,7 @@ pub record SaysUnplanned (before : Outside) (artery certificate : List ℕ) (c :
 
 abbrev pub RoundSays : Type 0
 RoundSays = (before now : Outside) (artery certificate plan : List ℕ) (c : Cause) → Ends before now (Some (Round artery certificate plan)) c
-    → (number_of c ≡ 0 → PutsPlan before now artery plan) × (number_of c ≡ 4 → SaysRejected before artery certificate c) × (number_of c ≡ 10 → SaysUnplanned before artery certificate c)
+    → (number_of c ≡ 0 → PutsPlan before now artery plan) × (number_of c ≡ 4 → SaysRejected whole_bands whole_checked before artery certificate c) × (number_of c ≡ 10 → SaysUnplanned before artery certificate c)
 
 -- So a run of `hold` over the same description and the file that was put accepts it, unless a fault or want of memory ends it: where these are two files that tell
 -- their bytes, and the plan isn't too long to be read.
@@ -147,6 +152,54 @@ abbrev pub PlanIsHeld : Type 0
 PlanIsHeld = (before between now : Outside) (artery certificate plan : List ℕ) (c d : Cause)
     → artery ≢ plan → IsSome (before.holds artery) → IsSome (between.holds plan) → IfSome (between.holds plan) (λ bytes. length bytes ≤ most_bytes Timing)
     → number_of c ≡ 0 → Ends before between (Some (Round artery certificate plan)) c → IsReached d → Ends between now (Some (Hold artery plan)) d → d ≡ cause.Done
+
+-- ---- draw
+-- `draw` with status 0: the timing of the second file is good on the artery of the first, and the file that is put holds, where it is told, the picture of it
+pub record PutsPicture (before now : Outside) (artery timed picture : List ℕ) : Type 0 where
+  pub street : Street
+  pub timing : Plan
+  pub description : Reads Description (before.holds artery) street
+  pub text : Reads Timed (before.holds timed) (Some timing)
+  pub good : Good street timing
+  pub put : HoldsExactly (now.holds picture) (svg_text (drawing street timing))
+  pub told : Appends before.taken now.taken (codes "drawn\n")
+
+-- with status 4: this rule fails, so that the timing isn't good
+pub record SaysUndrawn (before : Outside) (artery timed : List ℕ) (c : Cause) : Type 0 where
+  pub street : Street
+  pub timing : Plan
+  pub failing : Failing
+  pub description : Reads Description (before.holds artery) street
+  pub text : Reads Timed (before.holds timed) (Some timing)
+  pub fails : Fails street timing failing
+  pub not_good : ¬ Good street timing
+  pub cause_is : c ≡ cause.Fails failing
+
+-- with status 10: the second file is a certificate without a timing
+pub record SaysUntimed (before : Outside) (artery timed : List ℕ) (c : Cause) : Type 0 where
+  pub street : Street
+  pub description : Reads Description (before.holds artery) street
+  pub text : Reads Timed (before.holds timed) None
+  pub cause_is : c ≡ cause.Unplanned end.NoTimingGiven
+
+abbrev pub DrawSays : Type 0
+DrawSays = (before now : Outside) (artery timed picture : List ℕ) (c : Cause) → Ends before now (Some (Draw artery timed picture)) c
+    → (number_of c ≡ 0 → PutsPicture before now artery timed picture) × (number_of c ≡ 4 → SaysUndrawn before artery timed c) × (number_of c ≡ 10 → SaysUntimed before artery timed c)
+
+-- the timing is drawn, it breaks a rule, or there is none
+abbrev pub IsDrawingEnd : Cause → Type 0
+IsDrawingEnd cause.Done = Unit {0}
+IsDrawingEnd (cause.Fails f) = Unit {0}
+IsDrawingEnd (cause.Unplanned end.NoTimingGiven) = Unit {0}
+IsDrawingEnd c = ⊥
+
+-- Where the files tell bytes that describe an artery and are a timing or a certificate, and no read of them, no put of the picture and no write failed, the run ends so,
+-- or by want of memory.
+abbrev pub DrawIsComplete : Type 0
+DrawIsComplete = (before now : Outside) (artery timed picture : List ℕ) (a : Street) (o : Option Plan) (c : Cause)
+    → IsSome (before.holds artery) → IsSome (before.holds timed) → Reads Description (before.holds artery) a → Reads Timed (before.holds timed) o
+    → ¬ Rose (before.reads artery) (now.reads artery) → ¬ Rose (before.reads timed) (now.reads timed) → ¬ Rose (before.puts picture) (now.puts picture) → ¬ Rose before.writes now.writes
+    → Ends before now (Some (Draw artery timed picture)) c → IsDrawingEnd c ⊎ (c ≡ cause.Memory)
 
 -- ---- sweep
 -- what is found at a cycle, and what its record says of the street

@@ -4,14 +4,11 @@ use Rattle.outer_edge.specs.Counts.{NoneFell}
 use Rattle.outer_edge.specs.declared.files.Files as files
 use Rattle.outer_edge.specs.declared.sink.Sink as sink
 use Rattle.maxband_run.specs.Command.{request_of, shape}
-use Rattle.maxband_run.specs.Outside.{Outside, outside, OthersKept, PutsCounted}
+use Rattle.maxband_run.specs.Outside.{seen, OthersKept, PutsCounted}
 use Rattle.maxband_run.specs.Run.{Ends, LeavesAlone}
-use Rattle.maxband_run.specs.Status.{number_of}
+use Rattle.maxband_run.specs.Status.{number_of, no_words}
 use Rattle.maxband_run.specs.declared.cause.Cause.{Cause}
-
--- what the program sees of files and an output
-abbrev pub seen : {F K : Type 0} → files.Ghosts F → sink.Ghosts K → F → K → Outside
-seen f k files out = outside (f.holds files) (f.read_faults files) (f.put_faults files) (k.taken out) (k.faults out)
+use Rattle.maxband_run.specs.declared.cause.Cause.TheVariants as cause
 
 -- These words were run, from the files and the output before to those after, and the status is the number of the cause.
 pub record ExitsBy {F K : Type 0} (f : files.Ghosts F) (k : sink.Ghosts K) (before after : F) (old new : K) (words : List (List ℕ)) (status : ℕ) : Type 0 where
@@ -27,12 +24,16 @@ pub record ExitsBy {F K : Type 0} (f : files.Ghosts F) (k : sink.Ghosts K) (befo
 
 -- memory was wanting for the words: nothing was done
 pub record WantsMemory {F K : Type 0} (before after : F) (old new : K) (status : ℕ) : Type 0 where
-  pub status_is : status ≡ 8
+  pub status_is : status ≡ number_of cause.Memory
   pub files : after ≡ before
   pub out : new ≡ old
 
--- there were no words: nothing was done, and the status is 8, or 12 where the system doesn't give them as text
+-- the words were run, or memory was wanting for them
+abbrev pub Exits : {F K : Type 0} → files.Ghosts F → sink.Ghosts K → F → F → K → K → List (List ℕ) → ℕ → Type 0
+Exits f k before after old new words status = ExitsBy f k before after old new words status ⊎ WantsMemory before after old new status
+
+-- there were no words: nothing was done, and the status is that of want of memory, or that of words that the system doesn't give as text
 pub record HasNoWords {F K : Type 0} (before after : F) (old new : K) (status : ℕ) : Type 0 where
-  pub status_is : (status ≡ 8) ⊎ (status ≡ 12)
+  pub status_is : (status ≡ number_of cause.Memory) ⊎ (status ≡ no_words)
   pub files : after ≡ before
   pub out : new ≡ old

@@ -13,8 +13,11 @@ use Rattle.plan_text.specs.Warrants.{Warrant}
 use Rattle.plan_text.specs.CertificateReading.{certificate_of}
 use Rattle.plan_text.specs.declared.fault.BadText.{BadText}
 use Rattle.link_proof.specs.LinkWarrants.{LinkWarrant, links_of}
+use Rattle.maxband_run.specs.Timed.{timed_of}
 use Rattle.maxband_run.specs.Lines.{refused_line, bad_text_line, cannot_read_line, too_long_line}
 use Rattle.maxband_run.specs.declared.answer.Answer.{Answer}
+use Rattle.maxband_run.specs.declared.answer.Unread.{Unread}
+use Rattle.maxband_run.specs.declared.answer.Unread.TheVariants as unread
 use Rattle.maxband_run.specs.declared.cause.Cause.{Cause}
 use Rattle.maxband_run.specs.declared.cause.Cause.TheVariants as cause
 
@@ -24,6 +27,7 @@ pub data Reader : Type 0 where
   Timing : Reader
   Certificate : Reader
   LinkCertificate : Reader  -- a certificate of link timings
+  Timed : Reader  -- a timing or a certificate, of which its timing is taken
 
 -- what a file is read as
 abbrev pub Value : Reader → Type 0
@@ -31,6 +35,7 @@ Value Description = Street
 Value Timing = Plan
 Value Certificate = Warrant
 Value LinkCertificate = LinkWarrant
+Value Timed = Option Plan
 
 -- the most bytes of a description and of a certificate
 abbrev pub most_described : ℕ
@@ -45,6 +50,7 @@ most_bytes Description = most_described
 most_bytes Timing = 1048576
 most_bytes Certificate = most_certified
 most_bytes LinkCertificate = most_certified
+most_bytes Timed = most_certified
 
 -- which value the bytes are read as
 abbrev pub IsReadAs : (r : Reader) → List ℕ → Value r → Type 0
@@ -52,6 +58,7 @@ IsReadAs Description bytes a = Described bytes a
 IsReadAs Timing bytes t = timing_of bytes ≡ Ok t
 IsReadAs Certificate bytes w = certificate_of bytes ≡ Ok w
 IsReadAs LinkCertificate bytes w = links_of bytes ≡ Ok w
+IsReadAs Timed bytes t = timed_of bytes ≡ Ok t
 
 -- ---- refusals
 abbrev pub IsNoDescription : List ℕ → Cause → List ℕ → Type 0
@@ -68,6 +75,7 @@ IsRefusedFor Description bytes c lines = IsNoDescription bytes c lines
 IsRefusedFor Timing bytes c lines = IsBadText timing_of bytes c lines
 IsRefusedFor Certificate bytes c lines = IsBadText certificate_of bytes c lines
 IsRefusedFor LinkCertificate bytes c lines = IsBadText links_of bytes c lines
+IsRefusedFor Timed bytes c lines = IsBadText timed_of bytes c lines
 
 -- ---- one file
 pub record Input : Type 0 where
@@ -141,8 +149,13 @@ pub record WereRead {F : Type 0} (files : Ghosts F) (before now : F) (is : List 
   pub read : AreRead is (files.holds before) values
   pub counts : SameCounts (files.read_faults before) (files.read_faults now)
 
+-- the answer that tells why a file isn't read, or want of memory
+abbrev pub end_of : Unread → Result Answer Memory
+end_of (unread.Told a) = Ok a
+end_of unread.Memory = Err (record {})
+
 -- One of these files, of which the first is read at this place, wasn't read: an answer that tells why and puts nothing, or want of memory where no read failed.
-pub record WasUnread {F : Type 0} (files : Ghosts F) (before now : F) (is : List Input) (place : ℕ) (end : Result Answer Memory) : Type 0 where
-  pub told : IfOk end (λ a. StopsReading is place (files.holds before) (files.read_faults before) (files.read_faults now) a.cause a.lines.items)
-  pub no_put : IfOk end (λ a. a.put ≡ None)
-  pub memory : OnErr end (SameCounts (files.read_faults before) (files.read_faults now))
+pub record WasUnread {F : Type 0} (files : Ghosts F) (before now : F) (is : List Input) (place : ℕ) (end : Unread) : Type 0 where
+  pub told : IfOk (end_of end) (λ a. StopsReading is place (files.holds before) (files.read_faults before) (files.read_faults now) a.cause a.lines.items)
+  pub no_put : IfOk (end_of end) (λ a. a.put ≡ None)
+  pub memory : OnErr (end_of end) (SameCounts (files.read_faults before) (files.read_faults now))

@@ -22,6 +22,8 @@ use Rattle.second_plan.specs.declared.answer.PlanEnd.{PlanEnd}
 use Rattle.second_plan.specs.declared.answer.PlanEnd.TheVariants as end
 use Rattle.maxband_run.specs.Outside.{NamedBytes, named, With}
 use Rattle.maxband_run.specs.Lines.{failing_text}
+use Rattle.maxband_run.specs.Sought.{whole_bands}
+use Rattle.maxband_run.specs.Checked.{whole_checked}
 use Rattle.maxband_run.specs.Check.{Rejects}
 use Rattle.maxband_run.specs.declared.cause.Cause.{Cause}
 use Rattle.maxband_run.specs.declared.cause.Cause.TheVariants as cause
@@ -88,7 +90,7 @@ pub record IsUnplanned (a : Street) (w : Warrant) (e : PlanEnd) (lines : List �
 
 abbrev pub RoundFinds : Street → Warrant → Cause → List ℕ → Option (List ℕ) → Type 0
 RoundFinds a w cause.Done lines put = With (IsRounded a w lines) put
-RoundFinds a w (cause.Rejected reject) lines put = Rejects a w reject lines × (put ≡ None)
+RoundFinds a w (cause.Rejected reject) lines put = Rejects whole_bands whole_checked a w (cause.Rejected reject) lines × (put ≡ None)
 RoundFinds a w (cause.Unplanned e) lines put = IsUnplanned a w e lines put
 RoundFinds a w c lines put = ⊥
 

@@ -1,26 +1,28 @@
 -- What a run comes to: the cause of its status, what stands behind it, what is put, and by which lines the output grew.
-use Rattle.std.specs.Prelude.{◌≡◌, ◌⊎◌, ℕ, List, [], Option, Some, None, IfOk, OnErr, Result, option_map}
+use Rattle.std.specs.Prelude.{◌≡◌, ◌⊎◌, ℕ, List, [], Option, Some, None, IfOk, OnErr, Result, Ok, Err, option_map}
 use Rattle.narrow_fraction.specs.declared.memory.Memory.{Memory}
 use Rattle.outer_edge.specs.Counts.{SameCounts}
 use Rattle.outer_edge.specs.declared.files.Files.{Ghosts}
 use Rattle.maxband_run.specs.Outside.{Outside, NamedBytes, With, put_of, view, IsDone, IsUntouched, IsBroken}
-use Rattle.maxband_run.specs.Command.{Request, Hold, Show, Check, CheckLinks, Solve, Links, Renew, Bands, Round, Half, Make, Trial, Sweep, shape}
-use Rattle.maxband_run.specs.Reading.{Input, Values, AreRead, StopsReading}
+use Rattle.maxband_run.specs.Command.{Request, Hold, Show, Check, CheckLinks, Solve, Links, Renew, Bands, Round, Half, Draw, Help, Version, Make, Trial, Sweep, shape}
+use Rattle.maxband_run.specs.Reading.{Input, Values, AreRead, StopsReading, end_of}
 use Rattle.maxband_run.specs.Lines.{words_line}
 use Rattle.maxband_run.specs.Hold.{HoldFinds}
 use Rattle.maxband_run.specs.Show.{Shows}
-use Rattle.maxband_run.specs.Check.{CheckFinds}
-use Rattle.maxband_run.specs.CheckLinks.{CheckLinksFinds}
+use Rattle.maxband_run.specs.Check.{CheckFinds, CheckLinksFinds}
 use Rattle.maxband_run.specs.Solve.{IsSolution}
 use Rattle.maxband_run.specs.Links.{IsLinkSolution}
 use Rattle.maxband_run.specs.Renew.{IsRenewal}
 use Rattle.maxband_run.specs.Bands.{BandsFinds}
 use Rattle.maxband_run.specs.Round.{RoundFinds}
 use Rattle.maxband_run.specs.Half.{HalfFinds}
+use Rattle.maxband_run.specs.Draw.{DrawFinds}
+use Rattle.maxband_run.specs.Help.{HelpFinds, VersionFinds}
 use Rattle.maxband_run.specs.Make.{Makes}
 use Rattle.maxband_run.specs.Trial.{IsTrial}
 use Rattle.maxband_run.specs.Sweep.{IsSweep}
 use Rattle.maxband_run.specs.declared.answer.Answer.{Answer}
+use Rattle.maxband_run.specs.declared.answer.Unread.{Unread}
 use Rattle.maxband_run.specs.declared.cause.Cause.{Cause}
 use Rattle.maxband_run.specs.declared.cause.Cause.TheVariants as cause
 
@@ -37,6 +39,9 @@ Finds (Some (Renew certificate new)) v c lines put = With (IsRenewal v.0 c lines
 Finds (Some (Bands artery timing)) v c lines put = BandsFinds v.0 v.1.0 c lines
 Finds (Some (Round artery certificate plan)) v c lines put = RoundFinds v.0 v.1.0 c lines put
 Finds (Some (Half artery timing new)) v c lines put = HalfFinds v.0 v.1.0 c lines put
+Finds (Some (Draw artery timed drawing)) v c lines put = DrawFinds v.0 v.1.0 c lines put
+Finds (Some Help) v c lines put = HelpFinds c lines
+Finds (Some Version) v c lines put = VersionFinds c lines
 Finds (Some (Make signals seed)) v c lines put = Makes signals seed c lines
 Finds (Some (Trial signals seed limit)) v c lines put = IsTrial signals seed limit c lines
 Finds (Some (Sweep artery table limit cycles)) v c lines put = With (IsSweep v.0 limit cycles c lines) put
@@ -58,6 +63,11 @@ pub record Answered (held : List ℕ → Option (List ℕ)) (before after : List
 -- The answer to the words, its lines, and what it puts. `held` is what the files held at entry, `before` and `after` count the failed reads of each name.
 abbrev pub Answers : (List ℕ → Option (List ℕ)) → (List ℕ → ℕ) → (List ℕ → ℕ) → Option Request → Cause → List ℕ → Option NamedBytes → Type 0
 Answers held before after asked c lines put = Stops held before after asked c lines put ⊎ Answered held before after asked c lines put
+
+-- the answer that is reached, or that tells of a file that isn't read
+abbrev pub ended : Result Answer Unread → Result Answer Memory
+ended (Ok a) = Ok a
+ended (Err end) = end_of end
 
 -- the answer to the words, or want of memory where no read failed
 pub record IsAnswered {F : Type 0} (files : Ghosts F) (before now : F) (asked : Option Request) (r : Result Answer Memory) : Type 0 where

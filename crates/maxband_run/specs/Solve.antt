@@ -1,7 +1,7 @@
 -- What `solve` finds of an artery, what it writes, and what it puts.
 use Rattle.std.specs.Prelude.{◌≡◌, ℕ, List, Option}
 use Rattle.progression.specs.Street.{Street}
-use Rattle.branch_tree.specs.declared.found.Found.{Found}
+use Rattle.branch_tree.specs.Told.{Found}
 use Rattle.branch_tree.specs.Certified.{warrant_of}
 use Rattle.diagram_print.specs.Report.{report_lines}
 use Rattle.branch_tree.specs.Searched.{IsSearched}

@@ -1,4 +1,4 @@
--- The number of each cause.
+-- The number of each cause, and of words that are no text, of which there is no run.
 use Rattle.std.specs.Prelude.{ℕ}
 use Rattle.maxband_run.specs.declared.cause.Cause.{Cause}
 use Rattle.maxband_run.specs.declared.cause.Cause.TheVariants as cause
@@ -19,3 +19,6 @@ number_of cause.Memory = 8
 number_of (cause.TooLong file) = 9
 number_of (cause.Unplanned end) = 10
 number_of (cause.Unmatched end) = 11
+
+abbrev pub no_words : ℕ
+no_words = 12

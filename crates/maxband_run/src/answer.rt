@@ -20,8 +20,24 @@ pub struct Answer<'a> {
     pub put: Option<Put<'a>>,
 }
 
-/// What a run comes to where a file isn't read: an answer that tells why, or want of memory.
-pub type Unread = Result<Answer<'static>, Memory>;
+/// Why a file isn't read.
+#[derive(Drop)]
+pub enum Unread {
+    /// This is told of it.
+    Told(Answer<'static>),
+    /// Memory was wanting.
+    Memory,
+}
+
+impl From<Memory> for Unread {
+    ghost use Rattle.maxband_run.specs.declared.answer.Unread.TheVariants as unread;
+
+    ghost from_gives = { λ _ end. end ≡ unread.Memory };
+
+    fn from(_: Memory) -> Unread {
+        Unread::Memory
+    }
+}
 
 /// An answer that puts nothing.
 pub fn told(cause: Cause, lines: Vec<u8>) -> Answer<'static>

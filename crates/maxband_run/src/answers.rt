@@ -4,15 +4,17 @@ ghost use Rattle.std.specs.Prelude.{◌≡◌, None, IfOk, option_map};
 ghost use Rattle.maxband_run.specs.Lines.{words_line};
 ghost use Rattle.maxband_run.specs.Reading.{LeavesFiles};
 ghost use Rattle.maxband_run.specs.Command.{view, shape, InLimits};
-ghost use Rattle.maxband_run.specs.Run.{IsAnswered, LeavesAlone};
+ghost use Rattle.maxband_run.specs.Run.{ended, IsAnswered, LeavesAlone};
 
-use crate::answer::{Answer, told};
+use crate::answer::{Answer, Unread, told};
 use crate::bands::bands;
 use crate::cause::Cause;
 use crate::check::check;
 use crate::check_links::check_links;
 use crate::command::Command;
+use crate::draw::draw_timing;
 use crate::half::half_cycle;
+use crate::help::{help, version};
 use crate::hold::hold;
 use crate::inputs::{read_both, read_one};
 use crate::lines::words_line;
@@ -38,7 +40,88 @@ fn words_answer(alloc: Global) -> Result<Answer<'static>, Memory>
     Ok(told(Cause::Words, lines))
 }
 
-/// The answer to what the words ask for.
+/// The answer to what the words ask for, or why a file that it takes isn't read.
+fn found<'a, F: Files>(
+    alloc: Global,
+    command: Option<Command<'a>>,
+    files: &mut F,
+) -> Result<Answer<'a>, Unread>
+    requires { InLimits (option_map view command) }
+    ensures answered { IsAnswered F.Files files.old files.new (option_map view command.entry) (ended result) }
+    ensures kept { LeavesFiles F.Files files.old files.new }
+    ensures alone { LeavesAlone (shape (option_map view command.entry)).inputs (shape (option_map view command.entry)).output files.old files.new }
+{
+    match command {
+        Some(Command::Hold(artery, timing)) => {
+            let (street, plan) = read_both(alloc, files, artery, timing)?;
+            Ok(hold(alloc, &street, &plan)?)
+        }
+        Some(Command::Show(artery)) => {
+            let street = read_one(alloc, files, artery)?;
+            Ok(show(alloc, &street)?)
+        }
+        Some(Command::Check(artery, certificate)) => {
+            let (street, warrant) = read_both(alloc, files, artery, certificate)?;
+            Ok(check(alloc, &street, &warrant)?)
+        }
+        Some(Command::CheckLinks(artery, certificate)) => {
+            let (street, warrant) = read_both(alloc, files, artery, certificate)?;
+            Ok(check_links(alloc, &street, &warrant)?)
+        }
+        Some(Command::Solve(artery, certificate, limit)) => {
+            let street = read_one(alloc, files, artery)?;
+            Ok(solve(alloc, &street, certificate, limit)?)
+        }
+        Some(Command::Links(artery, certificate, limit)) => {
+            let street = read_one(alloc, files, artery)?;
+            Ok(links(alloc, &street, certificate, limit)?)
+        }
+        Some(Command::Renew(certificate, new)) => {
+            let warrant = read_one(alloc, files, certificate)?;
+            Ok(renew(alloc, &warrant, new)?)
+        }
+        Some(Command::Bands(artery, timing)) => {
+            let (street, plan) = read_both(alloc, files, artery, timing)?;
+            Ok(bands(alloc, &street, &plan)?)
+        }
+        Some(Command::Round(artery, certificate, plan)) => {
+            let (street, warrant) = read_both(alloc, files, artery, certificate)?;
+            Ok(round(alloc, &street, &warrant, plan)?)
+        }
+        Some(Command::Half(artery, timing, new)) => {
+            let (street, plan) = read_both(alloc, files, artery, timing)?;
+            Ok(half_cycle(alloc, &street, &plan, new)?)
+        }
+        Some(Command::Draw(artery, file, drawing)) => {
+            let (street, timed) = read_both(alloc, files, artery, file)?;
+            Ok(draw_timing(alloc, &street, &timed, drawing)?)
+        }
+        Some(Command::Help) => Ok(help(alloc)?),
+        Some(Command::Version) => Ok(version(alloc)?),
+        Some(Command::Make { signals, seed }) => Ok(make(alloc, signals, seed)?),
+        Some(
+            Command::Trial {
+                signals,
+                seed,
+                limit,
+            },
+        ) => Ok(trial(alloc, signals, seed, limit)?),
+        Some(
+            Command::Sweep {
+                artery,
+                table,
+                limit,
+                cycles,
+            },
+        ) => {
+            let street = read_one(alloc, files, artery)?;
+            Ok(sweep(alloc, &street, table, limit, cycles)?)
+        }
+        None => Ok(words_answer(alloc)?),
+    }
+}
+
+/// The answer to what the words ask for, or to a file that isn't read.
 pub fn answer_to<'a, F: Files>(
     alloc: Global,
     command: Option<Command<'a>>,
@@ -49,78 +132,9 @@ pub fn answer_to<'a, F: Files>(
     ensures kept { LeavesFiles F.Files files.old files.new }
     ensures alone { LeavesAlone (shape (option_map view command.entry)).inputs (shape (option_map view command.entry)).output files.old files.new }
 {
-    match command {
-        Some(Command::Hold(artery, timing)) => match read_both(alloc, files, artery, timing) {
-            Ok((street, plan)) => hold(alloc, &street, &plan),
-            Err(end) => end,
-        },
-        Some(Command::Show(artery)) => match read_one(alloc, files, artery, 1) {
-            Ok(street) => show(alloc, &street),
-            Err(end) => end,
-        },
-        Some(Command::Check(artery, certificate)) => {
-            match read_both(alloc, files, artery, certificate) {
-                Ok((street, warrant)) => check(alloc, &street, &warrant),
-                Err(end) => end,
-            }
-        }
-        Some(Command::Solve(artery, certificate, limit)) => {
-            match read_one(alloc, files, artery, 1) {
-                Ok(street) => solve(alloc, &street, certificate, limit),
-                Err(end) => end,
-            }
-        }
-        Some(Command::Renew(certificate, new)) => match read_one(alloc, files, certificate, 1) {
-            Ok(warrant) => renew(alloc, &warrant, new),
-            Err(end) => end,
-        },
-        Some(Command::Bands(artery, timing)) => match read_both(alloc, files, artery, timing) {
-            Ok((street, plan)) => bands(alloc, &street, &plan),
-            Err(end) => end,
-        },
-        Some(Command::Round(artery, certificate, plan)) => {
-            match read_both(alloc, files, artery, certificate) {
-                Ok((street, warrant)) => round(alloc, &street, &warrant, plan),
-                Err(end) => end,
-            }
-        }
-        Some(Command::Half(artery, timing, new)) => {
-            match read_both(alloc, files, artery, timing) {
-                Ok((street, plan)) => half_cycle(alloc, &street, &plan, new),
-                Err(end) => end,
-            }
-        }
-        Some(Command::Make { signals, seed }) => make(alloc, signals, seed),
-        Some(
-            Command::Trial {
-                signals,
-                seed,
-                limit,
-            },
-        ) => trial(alloc, signals, seed, limit),
-        Some(
-            Command::Sweep {
-                artery,
-                table,
-                limit,
-                cycles,
-            },
-        ) => match read_one(alloc, files, artery, 1) {
-            Ok(street) => sweep(alloc, &street, table, limit, cycles),
-            Err(end) => end,
-        },
-        Some(Command::CheckLinks(artery, certificate)) => {
-            match read_both(alloc, files, artery, certificate) {
-                Ok((street, warrant)) => check_links(alloc, &street, &warrant),
-                Err(end) => end,
-            }
-        }
-        Some(Command::Links(artery, certificate, limit)) => {
-            match read_one(alloc, files, artery, 1) {
-                Ok(street) => links(alloc, &street, certificate, limit),
-                Err(end) => end,
-            }
-        }
-        None => words_answer(alloc),
+    match found(alloc, command, files) {
+        Ok(answer) => Ok(answer),
+        Err(Unread::Told(answer)) => Ok(answer),
+        Err(Unread::Memory) => Err(Memory),
     }
 }

@@ -12,6 +12,9 @@ use plan_text::BadText;
 use second_plan::PlanEnd;
 use time_space::Failing;
 
+/// The number of the status for words that the system doesn't give as text. It is none of a cause: no run ends with it.
+pub const NO_WORDS: u8 = 12;
+
 /// Why a run ends with its status. `file` is 1 or 2: the first or the second file that the command
 /// reads.
 #[derive(Drop)]

@@ -21,9 +21,6 @@ pub fn rejected(alloc: Global, artery: &Artery, reject: Reject) -> Result<Answer
     ensures lines { IfOk result (λ a. a.lines.items ≡ rejected_line (count artery.now) reject) }
     ensures no_put { IfOk result (λ a. a.put ≡ None) }
 {
-    if reject.is_memory() {
-        return Err(Memory);
-    }
     let lines = rejected_line(alloc, artery.count(), &reject)?.into_bytes();
     Ok(told(Cause::Rejected(reject), lines))
 }

@@ -1,6 +1,6 @@
 //! The lines of what `check` and `check-links` find.
 
-ghost use Rattle.std.specs.Prelude.{◌≡◌, IfOk, string_bytes};
+ghost use Rattle.std.specs.Prelude.{◌≡◌, ◌≢◌, IfOk, string_bytes};
 ghost use Rattle.plan_text.specs.Families.{table_of};
 ghost use Rattle.maxband_run.specs.Lines.{failing_text};
 ghost use Rattle.maxband_run.specs.CheckLines.{best_line, bound_line, between_line, open_line, accepted_line, leaf_line, wide_line, value_line, below_line, weak_line, split_line, timing_line, rejected_line, link_failing_text, link_rejected_line};
@@ -133,10 +133,11 @@ fn failing_line(alloc: Global, failing: Failing) -> Result<String, AllocError>
     timing_line(alloc, text.as_str())
 }
 
-/// The line of a refusal on an artery with so many signals; none of want of memory.
+/// The line of a refusal on an artery with so many signals. A refusal for want of memory has none, and is told as such.
 #[tactic(auto, unfolding(plan_text::specs::Families::ordinary))]
 pub fn rejected_line(alloc: Global, signals: u32, reject: &Reject) -> Result<String, AllocError>
-    ensures { IfOk result (λ text. string_bytes text ≡ rejected_line signals reject.now) }
+    ensures kept { IfOk result (λ text. reject.now ≢ Reject.Memory) }
+    ensures line { IfOk result (λ text. string_bytes text ≡ rejected_line signals reject.now) }
 {
     match reject {
         Reject::TimingFails(failing) => failing_line(alloc, *failing),
@@ -149,7 +150,7 @@ pub fn rejected_line(alloc: Global, signals: u32, reject: &Reject) -> Result<Str
             wide_line(alloc, &FAMILIES, signals, *leaf, *row, at.place)
         }
         Reject::LeafTooWeak { leaf, place } => weak_line(alloc, signals, *leaf, *place),
-        Reject::Memory => Ok(String::new(alloc)),
+        Reject::Memory => Err(AllocError),
     }
 }
 
@@ -177,13 +178,15 @@ fn link_failing_line(alloc: Global, failing: LinkFailing) -> Result<String, Allo
     timing_line(alloc, text.as_str())
 }
 
-/// The line of a refusal of a certificate of link timings, on an artery with so many signals; none of want of memory.
+/// The line of a refusal of a certificate of link timings, on an artery with so many signals. A refusal for want of memory has none,
+/// and is told as such.
 pub fn link_rejected_line(
     alloc: Global,
     signals: u32,
     reject: &LinkReject,
 ) -> Result<String, AllocError>
-    ensures { IfOk result (λ text. string_bytes text ≡ link_rejected_line signals reject.now) }
+    ensures kept { IfOk result (λ text. reject.now ≢ LinkReject.Memory) }
+    ensures line { IfOk result (λ text. string_bytes text ≡ link_rejected_line signals reject.now) }
 {
     let names = link_families(alloc)?;
     let names = names.as_slice();
@@ -198,6 +201,6 @@ pub fn link_rejected_line(
             wide_line(alloc, names, signals, *leaf, *row, at.place)
         }
         LinkReject::LeafTooWeak { leaf, place } => weak_line(alloc, signals, *leaf, *place),
-        LinkReject::Memory => Ok(String::new(alloc)),
+        LinkReject::Memory => Err(AllocError),
     }
 }

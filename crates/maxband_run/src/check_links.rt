@@ -1,31 +1,15 @@
 //! The command `check-links`.
 
-ghost use Rattle.std.specs.Prelude.{◌≡◌, ◌≢◌, None, IfOk};
-ghost use Rattle.progression.specs.Street.{count};
-ghost use Rattle.maxband_run.specs.CheckLinks.{CheckLinksFinds};
-ghost use Rattle.maxband_run.specs.CheckLines.{link_rejected_line};
+ghost use Rattle.std.specs.Prelude.{◌≡◌, None, IfOk};
+ghost use Rattle.maxband_run.specs.Check.{CheckLinksFinds};
 
 use crate::answer::{Answer, told};
 use crate::cause::Cause;
 use crate::check_lines::{accepted_line, link_rejected_line};
 use artery_model::Artery;
-use link_proof::{LinkCertificate, LinkReject, link_check};
+use link_proof::{LinkCertificate, link_check};
 use narrow_fraction::Memory;
 use std::alloc::Global;
-
-/// The answer where a certificate of link timings is rejected.
-fn rejected(alloc: Global, artery: &Artery, reject: LinkReject) -> Result<Answer<'static>, Memory>
-    ensures cause { IfOk result (λ a. a.cause ≡ Cause.LinkRejected reject) }
-    ensures kept { IfOk result (λ a. reject ≢ LinkReject.Memory) }
-    ensures lines { IfOk result (λ a. a.lines.items ≡ link_rejected_line (count artery.now) reject) }
-    ensures no_put { IfOk result (λ a. a.put ≡ None) }
-{
-    if reject.is_memory() {
-        return Err(Memory);
-    }
-    let lines = link_rejected_line(alloc, artery.count(), &reject)?.into_bytes();
-    Ok(told(Cause::LinkRejected(reject), lines))
-}
 
 /// Checks the certificate of link timings for the artery: the answer has what is claimed where it is accepted, else the first
 /// refusal.
@@ -42,6 +26,9 @@ pub fn check_links(
             let lines = accepted_line(alloc, certificate.claim)?.into_bytes();
             Ok(told(Cause::Done, lines))
         }
-        Err(reject) => rejected(alloc, artery, reject),
+        Err(reject) => {
+            let lines = link_rejected_line(alloc, artery.count(), &reject)?.into_bytes();
+            Ok(told(Cause::LinkRejected(reject), lines))
+        }
     }
 }

@@ -1,12 +1,12 @@
 //! The words of a command.
 
-ghost use Rattle.std.specs.Prelude.{◌≡◌, length, map, option_map, string_bytes};
+ghost use Rattle.std.specs.Prelude.{◌≡◌, map, option_map, string_bytes};
 ghost use Rattle.maxband_run.specs.Numbers.{limit_of};
-ghost use Rattle.maxband_run.specs.Command.{Solve, Links, request_of, make_of, trial_of, sweep_of, asked, one_more, two_more, three_more, any_more, view, shape};
-ghost use Rattle.maxband_run.specs.Lines.{cannot_read_line};
+ghost use Rattle.maxband_run.specs.Command.{Solve, Links, request_of, make_of, trial_of, sweep_of, asked, no_more, one_more, two_more, three_more, any_more, view, shape};
 ghost use Rattle.maxband_run.specs.Reading.{IsRoomForFaults};
 
 use crate::cycles::are_cycles;
+use crate::lines::cannot_read_bytes;
 use crate::numbers::{USUAL_WORK, limit_in, seed_in, signals_in};
 
 /// What the words ask for, with the names of files in the order of the words.
@@ -33,6 +33,12 @@ pub enum Command<'a> {
     Round(&'a str, &'a str, &'a str),
     /// Find the widest equal bands over all offsets of the timing of the second file, and put the plan that has them in the third.
     Half(&'a str, &'a str, &'a str),
+    /// Draw the timing of the second file, a timing or a certificate, on the artery of the first, and put the picture in the third.
+    Draw(&'a str, &'a str, &'a str),
+    /// Tell the usages.
+    Help,
+    /// Tell the versions of the program and of what it reads.
+    Version,
     /// Write the canonical description of the artery that is made with so many signals from the seed.
     Make {
         signals: u32,
@@ -93,6 +99,17 @@ fn trial_of(signals: &str, seed: &str, limit: &str) -> Option<Command<'static>>
     })
 }
 
+/// The command of a word alone.
+fn alone(word: &str) -> Option<Command<'_>>
+    ensures { option_map view result ≡ asked word.now no_more }
+{
+    match word {
+        "--help" => Some(Command::Help),
+        "--version" => Some(Command::Version),
+        _ => None,
+    }
+}
+
 /// The command of a word with one more.
 fn with_one<'a>(word: &str, first: &'a str) -> Option<Command<'a>>
     ensures { option_map view result ≡ asked word.now (one_more first.now) }
@@ -134,6 +151,7 @@ fn with_three<'a>(
         "links" => links_of(first, second, third),
         "round" => Some(Command::Round(first, second, third)),
         "half" => Some(Command::Half(first, second, third)),
+        "draw" => Some(Command::Draw(first, second, third)),
         "trial" => trial_of(first, second, third),
         _ => None,
     }
@@ -181,6 +199,7 @@ pub fn command_in(words: &[String]) -> Option<Command<'_>>
     ensures { option_map view result ≡ request_of (map string_bytes words.now) }
 {
     match words {
+        [word] => alone(word.as_str()),
         [word, first] => with_one(word.as_str(), first.as_str()),
         [word, first, second] => with_two(word.as_str(), first.as_str(), second.as_str()),
         [word, first, second, third] => with_three(
@@ -200,13 +219,6 @@ pub fn command_in(words: &[String]) -> Option<Command<'_>>
     }
 }
 
-/// How many bytes the line of a file has that couldn't be read.
-fn fault_bytes(name: &str) -> u64
-    ensures { result ≡ length (cannot_read_line name.now) }
-{
-    13 + name.len() as u64
-}
-
 /// Room for the line of each file that the command reads, in case that it can't be read.
 pub fn room_for_faults(command: Option<Command<'_>>) -> u64
     ensures { IsRoomForFaults (shape (option_map view command.entry)).inputs result }
@@ -218,15 +230,17 @@ pub fn room_for_faults(command: Option<Command<'_>>) -> u64
             | Command::Links(first, ..)
             | Command::Renew(first, _)
             | Command::Sweep { artery: first, .. },
-        ) => fault_bytes(first),
+        ) => cannot_read_bytes(first),
         Some(
             Command::Hold(first, second)
             | Command::Check(first, second)
             | Command::CheckLinks(first, second)
             | Command::Bands(first, second)
             | Command::Round(first, second, _)
-            | Command::Half(first, second, _),
-        ) => fault_bytes(first).max(fault_bytes(second)),
-        Some(Command::Make { .. } | Command::Trial { .. }) | None => 0,
+            | Command::Half(first, second, _)
+            | Command::Draw(first, second, _),
+        ) => cannot_read_bytes(first).max(cannot_read_bytes(second)),
+        Some(Command::Help | Command::Version | Command::Make { .. } | Command::Trial { .. })
+        | None => 0,
     }
 }

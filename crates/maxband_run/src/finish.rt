@@ -2,7 +2,7 @@
 
 ghost use Rattle.std.specs.Prelude.{◌≡◌, ◌⊎◌, ◌<◌, ◌≤◌, length, IsErrOf, IsNone, IsSome, OnOk, OnErr, option_map};
 ghost use Rattle.outer_edge.specs.Counts.{SameCounts};
-ghost use Rattle.maxband_run.specs.Outside.{outside, view, IsDone, IsUntouched, IsBroken, OthersKept, PutsCounted};
+ghost use Rattle.maxband_run.specs.Outside.{seen, view, IsDone, IsUntouched, IsBroken, OthersKept, PutsCounted};
 
 use crate::answer::Put;
 use narrow_fraction::Memory;
@@ -44,10 +44,10 @@ pub fn deliver<F: Files, K: Sink>(
     room: u64,
 ) -> Result<(), Undelivered>
     requires { room ≤ K.room out.old }
-    ensures done { OnOk result (IsDone (outside (F.holds files.old) (F.read_faults files.old) (F.put_faults files.old) (K.taken out.old) (K.faults out.old)) (outside (F.holds files.new) (F.read_faults files.new) (F.put_faults files.new) (K.taken out.new) (K.faults out.new)) lines.now (option_map view put.now)) }
-    ensures untouched { IsErrOf result Undelivered.Memory → IsUntouched (outside (F.holds files.old) (F.read_faults files.old) (F.put_faults files.old) (K.taken out.old) (K.faults out.old)) (outside (F.holds files.new) (F.read_faults files.new) (F.put_faults files.new) (K.taken out.new) (K.faults out.new)) }
+    ensures done { OnOk result (IsDone (seen F.Files K.Sink files.old out.old) (seen F.Files K.Sink files.new out.new) lines.now (option_map view put.now)) }
+    ensures untouched { IsErrOf result Undelivered.Memory → IsUntouched (seen F.Files K.Sink files.old out.old) (seen F.Files K.Sink files.new out.new) }
     ensures wanting { IsErrOf result Undelivered.Memory → (room < length lines.now) ⊎ IsSome put.now }
-    ensures broken { IsErrOf result Undelivered.Broken → IsBroken (outside (F.holds files.old) (F.read_faults files.old) (F.put_faults files.old) (K.taken out.old) (K.faults out.old)) (outside (F.holds files.new) (F.read_faults files.new) (F.put_faults files.new) (K.taken out.new) (K.faults out.new)) lines.now (option_map view put.now) }
+    ensures broken { IsErrOf result Undelivered.Broken → IsBroken (seen F.Files K.Sink files.old out.old) (seen F.Files K.Sink files.new out.new) lines.now (option_map view put.now) }
 
     // In every case.
     ensures others { OthersKept (option_map (λ p. p.name.now) put.now) (F.holds files.old) (F.holds files.new) }

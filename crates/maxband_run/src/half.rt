@@ -39,7 +39,7 @@ fn phase_line(
 }
 
 /// The lines of the signals, from the first on.
-#[tactic(auto, using(diagram_print::proofs::Pieces::piece_up))]
+#[tactic(auto, using(timing_measures::proofs::Pieces::piece_up))]
 fn phase_lines(alloc: Global, artery: &Artery, plan: &Timing) -> Result<Vec<u8>, Memory>
     requires { length plan.now.patterns ≡ count artery.now }
     ensures { IfOk result (λ lines. lines.items ≡ phase_lines artery.now plan.now) }

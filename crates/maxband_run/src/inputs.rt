@@ -2,25 +2,31 @@
 
 ghost use Rattle.std.specs.Prelude.{◌≡◌, [], ◌∷◌, None, IfOk, IfErr, OnOk};
 ghost use Rattle.outer_edge.specs.Counts.{SameCounts};
-ghost use Rattle.maxband_run.specs.Reading.{input, most_bytes, IsWithinLimit, LeavesFiles, WereRead, WasUnread};
+ghost use Rattle.maxband_run.specs.Reading.{input, most_bytes, end_of, IsWithinLimit, LeavesFiles, WereRead, WasUnread};
 ghost use Rattle.maxband_run.specs.Lines.{too_long_line};
 
 use crate::answer::{Unread, told};
 use crate::cause::Cause;
 use crate::lines::{cannot_read_line, too_long_line};
 use crate::readable::Readable;
-use narrow_fraction::Memory;
 use outer_edge::{Files, ReadEnd, read_whole};
 use std::alloc::Global;
 
-/// The answer where a file has more bytes than its limit.
+/// The places of the files that a command reads, in the order of its words.
+const FIRST: u8 = 1;
+
+const SECOND: u8 = 2;
+
+/// What is told of a file with more bytes than its limit.
 fn too_long(alloc: Global, name: &str, place: u8) -> Unread
-    ensures cause { IfOk result (λ a. a.cause ≡ Cause.TooLong place) }
-    ensures lines { IfOk result (λ a. a.lines.items ≡ too_long_line name.now) }
-    ensures no_put { IfOk result (λ a. a.put ≡ None) }
+    ensures cause { IfOk (end_of result) (λ a. a.cause ≡ Cause.TooLong place) }
+    ensures lines { IfOk (end_of result) (λ a. a.lines.items ≡ too_long_line name.now) }
+    ensures no_put { IfOk (end_of result) (λ a. a.put ≡ None) }
 {
-    let line = too_long_line(alloc, name)?;
-    Ok(told(Cause::TooLong { file: place }, line.into_bytes()))
+    match too_long_line(alloc, name) {
+        Ok(line) => Unread::Told(told(Cause::TooLong { file: place }, line.into_bytes())),
+        Err(_) => Unread::Memory,
+    }
 }
 
 /// The bytes of the file that is read at this place as a `T`, or why it isn't read. The line of a read that fails is made before
@@ -36,22 +42,22 @@ fn bytes_of<T: Readable, F: Files>(
     ensures unread { IfErr result (WasUnread F.Files files.old files.new (input T.reader name.now ∷ []) place) }
     ensures kept { LeavesFiles F.Files files.old files.new }
 {
-    let line = match cannot_read_line(alloc, name) {
-        Ok(line) => line,
-        Err(_) => return Err(Err(Memory)),
+    let Ok(line) = cannot_read_line(alloc, name) else {
+        return Err(Unread::Memory);
     };
     match read_whole(alloc, files, name, T::most_bytes()) {
         Ok(bytes) => Ok(bytes),
-        Err(ReadEnd::ReadFault) => {
-            Err(Ok(told(Cause::ReadFault { file: place }, line.into_bytes())))
-        }
+        Err(ReadEnd::ReadFault) => Err(Unread::Told(told(
+            Cause::ReadFault { file: place },
+            line.into_bytes(),
+        ))),
         Err(ReadEnd::TooLong) => Err(too_long(alloc, name, place)),
-        Err(ReadEnd::Memory) => Err(Err(Memory)),
+        Err(ReadEnd::Memory) => Err(Unread::Memory),
     }
 }
 
 /// What the file that is read at this place is read as, or why it isn't read.
-pub fn read_one<T: Readable, F: Files>(
+fn read_at<T: Readable, F: Files>(
     alloc: Global,
     files: &mut F,
     name: &str,
@@ -61,10 +67,21 @@ pub fn read_one<T: Readable, F: Files>(
     ensures unread { IfErr result (WasUnread F.Files files.old files.new (input T.reader name.now ∷ []) place) }
     ensures kept { LeavesFiles F.Files files.old files.new }
 {
-    match bytes_of::<T, F>(alloc, files, name, place) {
-        Ok(bytes) => T::read(alloc, bytes.as_slice()),
-        Err(end) => Err(end),
-    }
+    let bytes = bytes_of::<T, F>(alloc, files, name, place)?;
+    T::read(alloc, bytes.as_slice())
+}
+
+/// What the one file that a command reads is read as, or why it isn't read.
+pub fn read_one<T: Readable, F: Files>(
+    alloc: Global,
+    files: &mut F,
+    name: &str,
+) -> Result<T, Unread>
+    ensures read { IfOk result (λ v. WereRead F.Files files.old files.new (input T.reader name.now ∷ []) (T.value v, tt)) }
+    ensures unread { IfErr result (WasUnread F.Files files.old files.new (input T.reader name.now ∷ []) 1) }
+    ensures kept { LeavesFiles F.Files files.old files.new }
+{
+    read_at(alloc, files, name, FIRST)
 }
 
 /// What the two files are read as, or why one of them isn't read.
@@ -78,12 +95,7 @@ pub fn read_both<T: Readable, U: Readable, F: Files>(
     ensures unread { IfErr result (WasUnread F.Files files.old files.new (input T.reader first.now ∷ input U.reader second.now ∷ []) 1) }
     ensures kept { LeavesFiles F.Files files.old files.new }
 {
-    let one = match read_one(alloc, files, first, 1) {
-        Ok(one) => one,
-        Err(end) => return Err(end),
-    };
-    match read_one(alloc, files, second, 2) {
-        Ok(other) => Ok((one, other)),
-        Err(end) => Err(end),
-    }
+    let one = read_at(alloc, files, first, FIRST)?;
+    let other = read_at(alloc, files, second, SECOND)?;
+    Ok((one, other))
 }

@@ -1,9 +1,10 @@
 //! The run of the program `maxband`: what its words ask for, which files a command reads and puts, its lines and its status.
 //! Commands find best timings of the signals of one artery (`solve`), also at each of several cycles (`sweep`), or best ones with a
 //! band for each link (`links`), with certificates of what is claimed of all its good timings (`check`, `check-links`); test
-//! timings against its time-space diagram (`hold`) and measure their bands (`bands`); make plans in whole seconds (`round`) and of
-//! half cycles (`half`); write the canonical description of an artery (`show`) and certificates in the second format (`renew`); and
-//! make arteries from a seed, to be described (`make`) or searched (`trial`).
+//! timings against its time-space diagram (`hold`), measure their bands (`bands`) and draw them (`draw`); make plans in whole
+//! seconds (`round`) and of half cycles (`half`); write the canonical description of an artery (`show`) and certificates in the
+//! second format (`renew`); make arteries from a seed, to be described (`make`) or searched (`trial`); and tell the program's usages
+//! (`--help`) and what it reads (`--version`).
 //!
 //! Start with `run`, which is the program over any files and any output. Its contract is the program's theorem: each status has its
 //! cause, and the output grows by exactly that answer's lines (`specs/Run.antt`). `run_program` is the last frame, from what the
@@ -74,8 +75,10 @@ mod check_lines;
 mod check_links;
 mod command;
 mod cycles;
+mod draw;
 mod finish;
 mod half;
+mod help;
 mod hold;
 mod inputs;
 mod lines;
@@ -92,15 +95,16 @@ mod solve;
 mod sweep;
 mod top;
 mod trial;
+mod usage;
 
 pub use cause::{Cause, Status};
 pub use program::{maxband_main, run_program};
 pub use top::{
     law_all_never_stops_by_work, law_bands_say, law_check_links_says, law_check_says,
-    law_faults_are_counted, law_faults_are_told, law_half_says, law_hold_says,
-    law_links_are_complete, law_links_say, law_links_stop_says, law_make_is_complete,
-    law_one_answer, law_plan_is_held, law_put_is_accepted, law_put_links_are_accepted,
-    law_renew_is_complete, law_renew_says, law_round_says, law_solve_is_complete, law_solve_says,
-    law_solve_stop_says, law_sweep_is_complete, law_sweep_says, law_trial_is_complete,
-    law_words_are_told, run,
+    law_draw_is_complete, law_draw_says, law_faults_are_counted, law_faults_are_told,
+    law_half_says, law_help_says, law_hold_says, law_links_are_complete, law_links_say,
+    law_links_stop_says, law_make_is_complete, law_one_answer, law_plan_is_held,
+    law_put_is_accepted, law_put_links_are_accepted, law_renew_is_complete, law_renew_says,
+    law_round_says, law_solve_is_complete, law_solve_says, law_solve_stop_says,
+    law_sweep_is_complete, law_sweep_says, law_trial_is_complete, law_words_are_told, run,
 };

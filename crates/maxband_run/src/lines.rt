@@ -1,6 +1,6 @@
 //! The lines of each answer.
 
-ghost use Rattle.std.specs.Prelude.{◌≡◌, IfOk, string_bytes};
+ghost use Rattle.std.specs.Prelude.{◌≡◌, IfOk, length, string_bytes};
 ghost use Rattle.maxband_run.specs.Lines.{kind_name, fault_name, least_text, link_text, failing_text, fails_line, refused_line, bad_text_line, words_line, cannot_read_line, too_long_line, holds_lines};
 
 use artery_model::{Dir, Kind, Refusal};
@@ -117,11 +117,22 @@ pub fn words_line(alloc: Global) -> Result<String, AllocError>
     String::from_str(alloc, "words not understood\n")
 }
 
+/// What the line of a file that couldn't be read begins with.
+const CANNOT_READ: &str = "cannot read ";
+
 /// The line of a file that couldn't be read.
 pub fn cannot_read_line(alloc: Global, name: &str) -> Result<String, AllocError>
     ensures { IfOk result (λ text. string_bytes text ≡ cannot_read_line name.now) }
 {
-    format!(in alloc; "cannot read {name}\n")
+    let begin = CANNOT_READ;
+    format!(in alloc; "{begin}{name}\n")
+}
+
+/// How many bytes that line has.
+pub fn cannot_read_bytes(name: &str) -> u64
+    ensures { result ≡ length (cannot_read_line name.now) }
+{
+    (CANNOT_READ.len() + name.len() + "\n".len()) as u64
 }
 
 /// The line of a file with too many bytes.

@@ -3,9 +3,10 @@
 ghost use Rattle.std.specs.Prelude.{◌≡◌, ◌⊎◌, IfErr, IfOk, IsErr, MatchResult, OnErr, drop, map, string_bytes};
 ghost use Rattle.std.specs.Process.{exit_status};
 ghost use Rattle.std.specs.Vec.Iter.{into_iter_items};
-ghost use Rattle.maxband_run.specs.Program.{ExitsBy, WantsMemory, HasNoWords};
+ghost use Rattle.maxband_run.specs.Status.{number_of, no_words};
+ghost use Rattle.maxband_run.specs.Program.{ExitsBy, Exits, HasNoWords};
 
-use crate::cause::Cause;
+use crate::cause::{Cause, NO_WORDS};
 use crate::top::run;
 use outer_edge::{Files, RealFiles, RealOut, Sink};
 use std::alloc::{AllocError, Global};
@@ -14,12 +15,9 @@ use std::process::ExitCode;
 use std::rt::Env;
 use std::{env, io, rt};
 
-/// The status for words that the system doesn't give as text. `run` never answers it.
-const NO_WORDS: u8 = 12;
-
 /// The status for want of memory, which is that of `run`.
 fn no_memory() -> u8
-    ensures { result ≡ 8 }
+    ensures { result ≡ number_of Cause.Memory }
 {
     Cause::Memory.number()
 }
@@ -39,9 +37,9 @@ fn after_the_name(alloc: Global, mut args: env::Args) -> Result<Vec<String>, All
 /// The words after the program's name, or the status to end with.
 fn words(alloc: Global, args: io::Result<env::Args>) -> Result<Vec<String>, u8>
     ensures all { IfOk args (λ given. IfOk result (λ words. words.items ≡ drop 1 (into_iter_items given))) }
-    ensures wanting { IfOk args (λ given. IfErr result (λ number. number ≡ 8)) }
+    ensures wanting { IfOk args (λ given. IfErr result (λ number. number ≡ number_of Cause.Memory)) }
     ensures none { OnErr args (IsErr result) }
-    ensures numbers { IfErr result (λ number. (number ≡ 8) ⊎ (number ≡ 12)) }
+    ensures numbers { IfErr result (λ number. (number ≡ number_of Cause.Memory) ⊎ (number ≡ no_words)) }
 {
     match args {
         Ok(args) => after_the_name(alloc, args).map_err(|_| no_memory()),
@@ -63,8 +61,8 @@ fn exit_of_run<F: Files, K: Sink>(
 }
 
 /// The program over any files and any output, from the system's answer to which words it was called with: `run` with all of them but
-/// the first, and its number as the exit status. Where there are no words the status is 8, or 12 where the system doesn't give
-/// them as text, and nothing is done.
+/// the first, and its number as the exit status. Where there are no words the status is that of want of memory, or `NO_WORDS` where
+/// the system doesn't give them as text, and nothing is done.
 pub fn run_program<F: Files, K: Sink>(
     alloc: Global,
     args: io::Result<env::Args>,
@@ -72,7 +70,7 @@ pub fn run_program<F: Files, K: Sink>(
     out: &mut K,
 ) -> ExitCode
     ensures { MatchResult args
-        (λ given. ExitsBy F.Files K.Sink files.old files.new out.old out.new (map string_bytes (drop 1 (into_iter_items given))) (exit_status result) ⊎ WantsMemory files.old files.new out.old out.new (exit_status result))
+        (λ given. Exits F.Files K.Sink files.old files.new out.old out.new (map string_bytes (drop 1 (into_iter_items given))) (exit_status result))
         (λ error. HasNoWords files.old files.new out.old out.new (exit_status result)) }
 {
     match words(alloc, args) {

@@ -2,7 +2,8 @@
 
 ghost use Rattle.std.specs.Prelude.{◌≡◌, ◌<◌, ◌^◌, None, IfOk, IfErr};
 ghost use Rattle.maxband_run.specs.Lines.{refused_line, bad_text_line};
-ghost use Rattle.maxband_run.specs.Reading.{Reader, Value, most_bytes, IsReadAs, IsRefusedFor};
+ghost use Rattle.maxband_run.specs.Timed.{is_timing};
+ghost use Rattle.maxband_run.specs.Reading.{Reader, Value, most_bytes, end_of, IsReadAs, IsRefusedFor};
 
 use crate::answer::{Unread, told};
 use crate::cause::Cause;
@@ -10,7 +11,6 @@ use crate::lines::{bad_text_line, refused_line};
 use artery_model::{Artery, Flaw, Refusal};
 use description_reader::read_artery;
 use link_proof::{LinkCertificate, read_links};
-use narrow_fraction::Memory;
 use plan_text::{BadText, Certificate, TextEnd, read_certificate, read_timing};
 use std::alloc::Global;
 use time_space::Timing;
@@ -37,28 +37,32 @@ pub trait Readable: Drop {
     /// The value that the bytes are read as, or why they are refused.
     fn read(alloc: Global, bytes: &[u8]) -> Result<Self, Unread>
         ensures value { IfOk result (λ v. IsReadAs reader bytes.now (value v)) }
-        ensures refused { IfErr result (λ end. IfOk end (λ a. IsRefusedFor reader bytes.now a.cause a.lines.items)) }
-        ensures no_put { IfErr result (λ end. IfOk end (λ a. a.put ≡ None)) };
+        ensures refused { IfErr result (λ end. IfOk (end_of end) (λ a. IsRefusedFor reader bytes.now a.cause a.lines.items)) }
+        ensures no_put { IfErr result (λ end. IfOk (end_of end) (λ a. a.put ≡ None)) };
 }
 
-/// The answer where a description is refused.
+/// What is told of a description that is refused.
 fn refused(alloc: Global, refusal: Refusal) -> Unread
-    ensures cause { IfOk result (λ a. a.cause ≡ Cause.Refused refusal) }
-    ensures lines { IfOk result (λ a. a.lines.items ≡ refused_line refusal) }
-    ensures no_put { IfOk result (λ a. a.put ≡ None) }
+    ensures cause { IfOk (end_of result) (λ a. a.cause ≡ Cause.Refused refusal) }
+    ensures lines { IfOk (end_of result) (λ a. a.lines.items ≡ refused_line refusal) }
+    ensures no_put { IfOk (end_of result) (λ a. a.put ≡ None) }
 {
-    let line = refused_line(alloc, &refusal)?;
-    Ok(told(Cause::Refused(refusal), line.into_bytes()))
+    match refused_line(alloc, &refusal) {
+        Ok(line) => Unread::Told(told(Cause::Refused(refusal), line.into_bytes())),
+        Err(_) => Unread::Memory,
+    }
 }
 
-/// The answer where a text has a bad line.
+/// What is told of a text with a bad line.
 fn bad_text(alloc: Global, bad: BadText) -> Unread
-    ensures cause { IfOk result (λ a. a.cause ≡ Cause.BadText bad) }
-    ensures lines { IfOk result (λ a. a.lines.items ≡ bad_text_line bad) }
-    ensures no_put { IfOk result (λ a. a.put ≡ None) }
+    ensures cause { IfOk (end_of result) (λ a. a.cause ≡ Cause.BadText bad) }
+    ensures lines { IfOk (end_of result) (λ a. a.lines.items ≡ bad_text_line bad) }
+    ensures no_put { IfOk (end_of result) (λ a. a.put ≡ None) }
 {
-    let line = bad_text_line(alloc, bad)?;
-    Ok(told(Cause::BadText(bad), line.into_bytes()))
+    match bad_text_line(alloc, bad) {
+        Ok(line) => Unread::Told(told(Cause::BadText(bad), line.into_bytes())),
+        Err(_) => Unread::Memory,
+    }
 }
 
 /// The artery that a description describes.
@@ -75,7 +79,7 @@ impl Readable for Artery {
         match read_artery(alloc, bytes) {
             Ok(artery) => Ok(artery),
             Err(Flaw::Refused(refusal)) => Err(refused(alloc, refusal)),
-            Err(Flaw::Memory) => Err(Err(Memory)),
+            Err(Flaw::Memory) => Err(Unread::Memory),
         }
     }
 }
@@ -93,7 +97,7 @@ impl Readable for Timing {
         match read_timing(alloc, bytes) {
             Ok(timing) => Ok(timing),
             Err(TextEnd::Bad(bad)) => Err(bad_text(alloc, bad)),
-            Err(TextEnd::Memory) => Err(Err(Memory)),
+            Err(TextEnd::Memory) => Err(Unread::Memory),
         }
     }
 }
@@ -111,8 +115,42 @@ impl Readable for Certificate {
         match read_certificate(alloc, bytes) {
             Ok(certificate) => Ok(certificate),
             Err(TextEnd::Bad(bad)) => Err(bad_text(alloc, bad)),
-            Err(TextEnd::Memory) => Err(Err(Memory)),
+            Err(TextEnd::Memory) => Err(Unread::Memory),
         }
+    }
+}
+
+/// The timing that a file has: the text of a timing, or a certificate, which may have none.
+#[derive(Drop)]
+pub struct Timed {
+    pub timing: Option<Timing>,
+}
+
+/// Whether the first line is that of a timing.
+fn is_timing(bytes: &[u8]) -> bool
+    ensures { result ≡ is_timing bytes.now }
+{
+    bytes.starts_with(b"maxband-timing 1\n")
+}
+
+impl Readable for Timed {
+    ghost reader = { Reader.Timed };
+
+    ghost value = { λ t. t.timing };
+
+    fn most_bytes() -> u64 {
+        LONG_FILE
+    }
+
+    #[tactic(auto, using(crate::proofs::Timing::timing_read, crate::proofs::Timing::certificate_read))]
+    fn read(alloc: Global, bytes: &[u8]) -> Result<Timed, Unread> {
+        if is_timing(bytes) {
+            let plan = <Timing as Readable>::read(alloc, bytes)?;
+            return Ok(Timed { timing: Some(plan) });
+        }
+        let warrant = <Certificate as Readable>::read(alloc, bytes)?;
+        let Certificate { timing, .. } = warrant;
+        Ok(Timed { timing })
     }
 }
 
@@ -129,7 +167,7 @@ impl Readable for LinkCertificate {
         match read_links(alloc, bytes) {
             Ok(certificate) => Ok(certificate),
             Err(TextEnd::Bad(bad)) => Err(bad_text(alloc, bad)),
-            Err(TextEnd::Memory) => Err(Err(Memory)),
+            Err(TextEnd::Memory) => Err(Unread::Memory),
         }
     }
 }

@@ -12,13 +12,14 @@ use crate::check::rejected;
 use crate::lines::failing_text;
 use artery_model::{Artery, Dir};
 use certificate_checker::{check, limit_of};
-use diagram_print::{band_line, dir_name, signal_name, weighted_line};
+use diagram_print::{band_line, dir_name, weighted_line};
 use narrow_fraction::{Frac, Memory, Wide};
 use plan_text::{Certificate, write_timing};
 use quantity_text::exact_string;
 use second_plan::{Plan, PlanEnd, PlanFault, plan};
 use std::alloc::{AllocError, Global};
 use time_space::Timing;
+use timing_measures::signal_name;
 
 fn whole_cycle_line(alloc: Global, seconds: u64) -> Result<String, AllocError>
     ensures { IfOk result (λ line. string_bytes line ≡ whole_cycle_line seconds) }
@@ -44,7 +45,7 @@ fn offset_line(
 }
 
 /// The lines of the signals, from the first on.
-#[tactic(auto, using(diagram_print::proofs::Pieces::piece_up))]
+#[tactic(auto, using(timing_measures::proofs::Pieces::piece_up))]
 fn offset_lines(alloc: Global, artery: &Artery, offsets: &[u64]) -> Result<Vec<u8>, Memory>
     requires { length offsets.now ≡ count artery.now }
     ensures { IfOk result (λ lines. lines.items ≡ offset_lines artery.now offsets.now) }
@@ -113,7 +114,7 @@ fn unplanned_line(alloc: Global, end: PlanEnd) -> Result<String, AllocError>
 }
 
 /// The answer where no plan is made: nothing is put.
-fn unplanned(alloc: Global, end: PlanEnd) -> Result<Answer<'static>, Memory>
+pub fn unplanned(alloc: Global, end: PlanEnd) -> Result<Answer<'static>, Memory>
     ensures cause { IfOk result (λ a. a.cause ≡ Cause.Unplanned end) }
     ensures lines { IfOk result (λ a. a.lines.items ≡ unplanned_line end) }
     ensures no_put { IfOk result (λ a. a.put ≡ None) }

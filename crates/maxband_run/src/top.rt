@@ -4,10 +4,10 @@ ghost use Rattle.std.specs.Prelude.{◌≡◌, ◌≤◌, map, string_bytes};
 ghost use Rattle.outer_edge.specs.Counts.{NoneFell};
 ghost use Rattle.maxband_run.specs.Status.{number_of};
 ghost use Rattle.maxband_run.specs.Command.{request_of, shape};
-ghost use Rattle.maxband_run.specs.Outside.{outside, OthersKept, PutsCounted};
+ghost use Rattle.maxband_run.specs.Outside.{seen, OthersKept, PutsCounted};
 ghost use Rattle.maxband_run.specs.Run.{Ends, LeavesAlone};
-ghost use Rattle.maxband_run.specs.Laws.{OneAnswer, FaultsAreTold, SolveIsComplete, LinksAreComplete, MakeIsComplete, TrialIsComplete, SweepIsComplete, RenewIsComplete, PutIsAccepted, PutLinksAreAccepted, SolveSays, LinksSay, HoldSays, CheckSays, CheckLinksSays, RenewSays};
-ghost use Rattle.maxband_run.specs.PlanLaws.{BandsSay, HalfSays, RoundSays, PlanIsHeld, SweepSays};
+ghost use Rattle.maxband_run.specs.Laws.{OneAnswer, FaultsAreTold, SolveIsComplete, LinksAreComplete, MakeIsComplete, TrialIsComplete, SweepIsComplete, RenewIsComplete, PutIsAccepted, PutLinksAreAccepted, SolveSays, LinksSay, HelpSays, HoldSays, CheckSays, CheckLinksSays, RenewSays};
+ghost use Rattle.maxband_run.specs.PlanLaws.{BandsSay, DrawIsComplete, DrawSays, HalfSays, RoundSays, PlanIsHeld, SweepSays};
 ghost use Rattle.maxband_run.specs.StopLaws.{SolveStopSays, LinksStopSays, AllNeverStopsByWork, WordsAreTold, FaultsAreCounted};
 
 use crate::answers::answer_to;
@@ -33,13 +33,13 @@ fn status(cause: Cause) -> Status
 /// The status has its cause: what the bytes of the files are, which are those that they held at entry where they tell them, what
 /// is made from a seed, or which failed call was counted. The output grew by exactly that answer's lines, and no file changed but
 /// that `solve` or `links` put the text of its certificate, which is read back as the very certificate that was accepted, `renew` that of the
-/// certificate that it read, or `sweep` its table. What a command
+/// certificate that it read, `round` or `half` that of its plan, `draw` its picture, or `sweep` its table. What a command
 /// reads and puts is a table, `shape`. Each call that failed and was counted is told by the status: after any other no count has
 /// changed. After `Memory` no file changed and nothing was written; after `WriteFault` either the put failed and nothing was
 /// written, or a front of the lines of the answer that was reached went out.
 pub fn run<F: Files, K: Sink>(alloc: Global, words: &[String], files: &mut F, out: &mut K) -> Status
     ensures number { result.number ≡ number_of result.cause }
-    ensures ends { Ends (outside (F.holds files.old) (F.read_faults files.old) (F.put_faults files.old) (K.taken out.old) (K.faults out.old)) (outside (F.holds files.new) (F.read_faults files.new) (F.put_faults files.new) (K.taken out.new) (K.faults out.new)) (request_of (map string_bytes words.now)) result.cause }
+    ensures ends { Ends (seen F.Files K.Sink files.old out.old) (seen F.Files K.Sink files.new out.new) (request_of (map string_bytes words.now)) result.cause }
 
     // In every case.
     ensures files { OthersKept (shape (request_of (map string_bytes words.now))).output (F.holds files.old) (F.holds files.new) }
@@ -166,6 +166,11 @@ pub fn law_links_say()
     ensures { LinksSay }
 {}
 
+/// A law over the definitions: after status 0 of `--help` each usage has its line in what was written, so that none is missing there.
+pub fn law_help_says()
+    ensures { HelpSays }
+{}
+
 /// A law over the definitions: after status 0 of `hold` the timing is good and its weighted band was printed, and after 4 the rule
 /// that the cause names fails.
 pub fn law_hold_says()
@@ -217,6 +222,22 @@ pub fn law_round_says()
     ensures { RoundSays }
 {
     certificate_checker::law_accepted_or_refused();
+}
+
+/// A law over the definitions: after status 0 of `draw` the file that it put holds the picture of the timing of its second file, which is
+/// good on the described artery; after 4 the rule that the cause names fails, and after 10 the file is a certificate without a timing.
+pub fn law_draw_says()
+    ensures { DrawSays }
+{
+    time_space::law_fails_rules_out();
+}
+
+/// A law over the definitions: where the description of `draw` is one of an artery, its second file is a timing or a certificate, and no
+/// fault is counted, the picture is put, the timing breaks a rule, the certificate has none, or memory is wanting.
+pub fn law_draw_is_complete()
+    ensures { DrawIsComplete }
+{
+    description_reader::law_one_answer();
 }
 
 /// A law over the definitions: after status 0 of `sweep` the file that it put holds the table of its cycles, and each record says what

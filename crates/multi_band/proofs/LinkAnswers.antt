@@ -19,26 +19,24 @@ use Rattle.branch_and_bound.specs.declared.node.TreeNode.{TreeNode}
 use Rattle.branch_and_bound.specs.declared.found.Verdict.{Verdict}
 use Rattle.branch_and_bound.specs.Enough.{IsEnough}
 use Rattle.branch_and_bound.specs.Answer as engine
-use Rattle.branch_and_bound.specs.Answer.{IsAnswer}
+use Rattle.branch_and_bound.specs.Answer.{IsAnswer, IsFound}
 use Rattle.branch_and_bound.proofs.Readings.{ReadsAnswers, accepted_read}
 use Rattle.branch_tree.specs.declared.site.SitePart.{SitePart}
 use Rattle.branch_tree.specs.Certified.{claim_by}
 use Rattle.branch_tree.specs.Enough.{sets_in}
 use Rattle.branch_tree.specs.Lineage.{IsSearchable}
-use Rattle.branch_tree.specs.Told.{plan_of}
 use Rattle.branch_tree.specs.Trees.{node_of}
-use Rattle.branch_tree.proofs.Answering.{answer_valued, timing_good, tells, timed, answer_kept, sited_by}
+use Rattle.branch_tree.proofs.Answering.{found_valued, timing_good, tells, timed, answer_kept, sited_by}
 use Rattle.branch_tree.proofs.Certificates.{proven_trees, certified_by}
 use Rattle.branch_tree.proofs.Enough.{within}
 use Rattle.branch_tree.proofs.Units.{program_short}
-use Rattle.multi_band.specs.declared.found.LinkFound.{LinkFound}
 use Rattle.multi_band.specs.LinkEnough.{IsWithinLinkEnough}
 use Rattle.multi_band.specs.LinkProgram.{link_program}
 use Rattle.multi_band.specs.LinkRelaxed.{IsLinkTiming, IsLinkLeaf}
 use Rattle.multi_band.specs.LinkRules.{link_meaning, link_rules}
 use Rattle.multi_band.specs.LinkSearches.{link_incumbent_of, IsLinkSearch}
 use Rattle.multi_band.specs.LinkSites.{IsLinkSiteOf, HasLinkSite}
-use Rattle.multi_band.specs.LinkTold.{LinksTell, AreLinksCertifiable}
+use Rattle.multi_band.specs.LinkTold.{LinkFound, LinksTell, AreLinksCertifiable}
 use Rattle.multi_band.specs.laws.LinkLines.{link_searchable}
 use Rattle.multi_band.proofs.LinkKeptLeaves.{link_leaf_kept, link_start_kept}
 use Rattle.multi_band.proofs.LinkSitesNamed.{link_site_of}
@@ -47,11 +45,10 @@ use Rattle.multi_band.proofs.LinkSitesNamed.{link_site_of}
 own_value : (a : Street) (t : LinkPlan) (v : ℚ) → IsLinkTiming a t v → link_value a t ≡ v
 own_value a t v h = h.1
 
-module _ (a : Street) (limit : Option ℕ) (nodes : List TreeNode) (bound : ℚ) (spent : ℕ) where
-  pub links_known : (best : Option (Incumbent LinkPlan)) (verdict : Verdict SitePart) → IsAnswer (link_rules a) limit nodes best bound spent verdict
-      → IsAnswer (link_rules a) limit nodes (link_incumbent_of a (plan_of best)) bound spent verdict
-  links_known best verdict h = answer_valued (link_rules a) (link_value a) (own_value a) limit nodes bound spent best verdict h
+pub links_known : (a : Street) (limit : Option ℕ) (found : LinkFound) → IsFound (link_rules a) limit found → IsLinkSearch a limit found
+links_known a limit found h = found_valued (link_rules a) (link_value a) (own_value a) limit found h
 
+module _ (a : Street) (limit : Option ℕ) (nodes : List TreeNode) (bound : ℚ) (spent : ℕ) where
   pub links_good : (timing : Option LinkPlan) (verdict : Verdict SitePart) → IsAnswer (link_rules a) limit nodes (link_incumbent_of a timing) bound spent verdict → IfSome timing (λ t. GoodLinks a t)
   links_good None verdict h = tt
   links_good (Some t) verdict h = (timing_good (link_rules a) (link_value a) (own_value a) limit nodes bound spent (Some t) verdict h).0

@@ -23,7 +23,7 @@ use Rattle.link_theory.specs.LinkTrees.{AreLinkWeights}
 use Rattle.link_theory.proofs.LinkFamilies.{link_family_least, link_family_most, link_index_most}
 use Rattle.link_space.specs.LinkWeights.{link_name_at, link_named}
 use Rattle.link_proof.specs.LinkFamilies.{links}
-use Rattle.branch_and_bound.specs.Lines.{Line}
+use Rattle.branch_and_bound.specs.Lines.{BoxLine}
 use Rattle.branch_tree.specs.Ends.{end_leaf}
 use Rattle.branch_tree.specs.Runs.{IsEndLeaf}
 use Rattle.branch_tree.proofs.KeptLeaves.{below_test, program_kept}
@@ -121,7 +121,7 @@ outbound_ascends by i (suc k) last ws e now behind = (e, outbound_ascends by (i 
 
 module _ (a : Street) (v : IsValid a) where
   -- the leaf of a line's end
-  end_kept : (line : Line) → IsNodeIn links (LeafOf (end_leaf (link_program a) line))
+  end_kept : (line : BoxLine) → IsNodeIn links (LeafOf (end_leaf (link_program a) line))
   end_kept line =
       let most = links_most a (let n = v.many in omega arith) in
       program_kept links (link_program a) line (omega arith) (links_ascend a) (λ k l. links_named a _ (links_there a k l))
@@ -146,7 +146,7 @@ module _ (a : Street) (v : IsValid a) where
         weights_named a (link_start_leaf a) (start_links_there a v),
       )
 
-  pub link_leaf_kept : (line : Line) (leaf : Leaf) → IsEndLeaf (link_program a) line leaf → IsNodeIn links (LeafOf leaf.multipliers.items)
+  pub link_leaf_kept : (line : BoxLine) (leaf : Leaf) → IsEndLeaf (link_program a) line leaf → IsNodeIn links (LeafOf leaf.multipliers.items)
   link_leaf_kept line leaf e = subst (λ us. IsNodeIn links (LeafOf us)) (sym e) (end_kept line)
 
   pub link_start_kept : (leaf : Leaf) → IsLinkStartLeaf a leaf → IsNodeIn links (LeafOf leaf.multipliers.items)

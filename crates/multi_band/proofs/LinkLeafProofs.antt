@@ -16,7 +16,7 @@ use Rattle.link_space.specs.LinkSheets.{link_goal_sheet}
 use Rattle.link_space.specs.LinkWeights.{link_name_at, link_rows}
 use Rattle.link_space.proofs.LinkRowTests.{link_row_decided, links_stand}
 use Rattle.link_proof.specs.LinkAccepted.{link_aim}
-use Rattle.branch_and_bound.specs.Lines.{Line}
+use Rattle.branch_and_bound.specs.Lines.{BoxLine}
 use Rattle.branch_and_bound.specs.Lineages.{Empty, IsOptimal}
 use Rattle.branch_tree.specs.Meaning.{EndsProve}
 use Rattle.branch_tree.specs.Ends.{end_move, end_point, end_bound, end_leaf, ending_of}
@@ -40,7 +40,7 @@ links_add a box two sum w e =
 links_leaf : (a : Street) (limit : Option ℚ) (box : Area) (ws : List Weight) → 2 ≤ count a → fault_of (link_rows a box) ws ≡ None → Keeps (link_goal_sheet a) limit (total_of (link_rows a box) ws) → IsLinkLeaf a limit box ws
 links_leaf a limit box ws two f k = leaf_proof (link_rows a box) (links_add a box two) (link_aim a limit) ws f k
 
-module _ (a : Street) (line : Line) (v : IsValid a) (f : fault_of (link_rows a line.area) (end_leaf (link_program a) line) ≡ None) where
+module _ (a : Street) (line : BoxLine) (v : IsValid a) (f : fault_of (link_rows a line.area) (end_leaf (link_program a) line) ≡ None) where
   end_covers : IsOptimal (ending_of (link_program a) line) → IsLinkLeaf a (Some (end_bound (link_program a) line)) line.area (end_leaf (link_program a) line)
   end_covers o =
       links_leaf a (Some (end_bound (link_program a) line)) line.area (end_leaf (link_program a) line) v.few f
@@ -69,5 +69,5 @@ start_links_prove a v =
     (inl (link_covers_total a (root_box a) v.few (link_start_leaf a) (link_start_bound a) (start_links_cover a v)))
 
 -- the vertex of an optimal end is one of links of the box
-pub link_vertex_there : (a : Street) (line : Line) → IsValid a → (box : Area) (xs : List ℚ) → line.area ≡ box → end_move (link_program a) line ≡ optimal → xs ≡ end_point (link_program a) line → IsLinkVertex a box xs
+pub link_vertex_there : (a : Street) (line : BoxLine) → IsValid a → (box : Area) (xs : List ℚ) → line.area ≡ box → end_move (link_program a) line ≡ optimal → xs ≡ end_point (link_program a) line → IsLinkVertex a box xs
 link_vertex_there a line v box xs e o x = subst (λ b. IsLinkVertex a b xs) e (subst (IsLinkVertex a line.area) (sym x) (link_end_vertex a line v o))

@@ -16,7 +16,7 @@ use Rattle.link_theory.specs.LinkColumns.{link_width}
 use Rattle.link_theory.specs.LinkRows.{link_goal}
 use Rattle.link_theory.specs.LinkTrees.{link_sum, CoversLinks, RefutesLinks}
 use Rattle.link_space.specs.LinkWeights.{link_named}
-use Rattle.branch_and_bound.specs.Lines.{Line}
+use Rattle.branch_and_bound.specs.Lines.{BoxLine}
 use Rattle.branch_and_bound.specs.Lineages.{Empty, Reads, IsOptimal}
 use Rattle.branch_tree.specs.Program.{Gives}
 use Rattle.branch_tree.specs.Ends.{end_move, end_point, end_bound, end_leaf, ending_of}
@@ -29,7 +29,7 @@ use Rattle.multi_band.proofs.LinkEnds.{link_sum_read}
 use Rattle.multi_band.proofs.LinkRecoveries.{gives_good}
 use Rattle.multi_band.specs.laws.LinkLines.{link_end_vertex}
 
-module _ (a : Street) (line : Line) (v : IsValid a) where
+module _ (a : Street) (line : BoxLine) (v : IsValid a) where
   abbrev end_sum : maths.Row
   end_sum = link_sum a line.area (map link_named (end_leaf (link_program a) line))
 
@@ -49,7 +49,7 @@ module _ (a : Street) (line : Line) (v : IsValid a) where
     pub link_end_goal : dot (link_goal a) (end_point (link_program a) line) ≡ end_bound (link_program a) line
     link_end_goal = (runs.optimal_vertex (link_program a) line v e).goal_value
 
-module _ (a : Street) (line : Line) (v : IsValid a) (b : IsBoxOf a line.area) where
+module _ (a : Street) (line : BoxLine) (v : IsValid a) (b : IsBoxOf a line.area) where
   -- a link timing that the vertex gives is good, and its value is the bound
   pub link_reads_good : (t : LinkPlan) → ending_of (link_program a) line ≡ Reads → (link_program a).outcome line.area (end_point (link_program a) line) ≡ Gives t → GoodLinks a t × (link_value a t ≡ end_bound (link_program a) line)
   link_reads_good t e f =

@@ -13,7 +13,7 @@ use Rattle.link_space.specs.laws.LinkSheets.{link_sheet_width}
 use Rattle.link_space.proofs.LinkRowTests.{link_row_decided}
 use Rattle.offset_recovery.specs.declared.outcome.WideTiming.{WideTiming}
 use Rattle.offset_recovery.specs.Recovered.{unit_tests, line_tests, recovered_by}
-use Rattle.branch_and_bound.specs.Lines.{Line}
+use Rattle.branch_and_bound.specs.Lines.{BoxLine}
 use Rattle.branch_and_bound.specs.Rules.{IsMet}
 use Rattle.branch_and_bound.specs.Answer.{IsSite}
 use Rattle.branch_and_bound.specs.declared.found.Site.{Site}
@@ -60,7 +60,7 @@ module _ (a : Street) (v : IsValid a) (box : Area) (x : List ℚ) (e : length x 
       made_named a (link_width (count a)) (linked a x) (recovered_by a box x (link_number_tests a x))
       (outcome_by_named a v (link_width (count a)) (let n = v.few in omega arith) box x (link_number_tests a x) numbers_named _ refl)
 
-link_part_named : (a : Street) (line : Line) → IsValid a → (k : ℕ) → Each (IsLinkPartOf a) (refusal_at (link_program a) line k)
+link_part_named : (a : Street) (line : BoxLine) → IsValid a → (k : ℕ) → Each (IsLinkPartOf a) (refusal_at (link_program a) line k)
 link_part_named a line v k =
     refusal_named a (λ row. HasLinkRow a (link_name_at row)) (link_program a) line v (λ w. refl) (λ w. refl) (λ row at. refl)
     (fault_named (link_rows a line.area) (λ row. HasLinkRow a (link_name_at row)) (λ row h. (link_row_decided a (link_name_at row)).0 h) (λ row. link_sheet_width a line.area v.few (link_name_at row))
@@ -68,7 +68,7 @@ link_part_named a line v k =
     (vertex_named a (length (names_of_links a)) (link_width (count a)) (λ row. HasLinkRow a (link_name_at row)) (link_recovered a line.area (end_point (link_program a) line))
     (link_outcome_named a v line.area (end_point (link_program a) line) (point_columns (link_program a) line v))) k
 
-pub link_site_of : (a : Street) → IsSearchable a → (line : Line) (k : ℕ) (site : Site SitePart) → IsMet (link_rules a) line → IsSite (link_rules a) line k site → IsLinkSiteOf a site
+pub link_site_of : (a : Street) → IsSearchable a → (line : BoxLine) (k : ℕ) (site : Site SitePart) → IsMet (link_rules a) line → IsSite (link_rules a) line k site → IsLinkSiteOf a site
 link_site_of a sound line k site m h = record {
   boxed = subst (IsBoxOf a) (sym h.area_is) (link_boxed a line m);
   part = link_part_named a line sound.valid k site.part h.part_is.refused;

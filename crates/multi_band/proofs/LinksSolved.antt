@@ -12,7 +12,7 @@ use Rattle.branch_and_bound.specs.declared.found.Verdict.{Verdict}
 use Rattle.branch_and_bound.specs.declared.found.Verdict.TheVariants.{Best, NoTiming, Stopped}
 use Rattle.branch_tree.specs.declared.site.SitePart.{SitePart}
 use Rattle.branch_tree.specs.Certified.{claim_by}
-use Rattle.multi_band.specs.declared.found.LinkFound.{LinkFound}
+use Rattle.multi_band.specs.LinkTold.{LinkFound}
 use Rattle.multi_band.specs.LinkCertified.{link_warrant_of}
 use Rattle.multi_band.specs.LinkTold.{LinksTell}
 use Rattle.multi_band.specs.LinksSearched.{LinksProve}

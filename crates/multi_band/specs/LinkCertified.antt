@@ -5,7 +5,7 @@ use Rattle.link_theory.specs.BestLinks.{link_value}
 use Rattle.link_proof.specs.LinkWarrants.{LinkWarrant}
 use Rattle.branch_tree.specs.Certified.{claim_by}
 use Rattle.branch_tree.specs.Trees.{node_of}
-use Rattle.multi_band.specs.declared.found.LinkFound.{LinkFound}
+use Rattle.multi_band.specs.LinkTold.{LinkFound}
 
 abbrev pub link_warrant_of : Street → LinkFound → LinkWarrant
 link_warrant_of a found = record {

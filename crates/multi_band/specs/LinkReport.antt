@@ -10,7 +10,7 @@ use Rattle.progression.specs.declared.parts.Dir.TheVariants.{Outbound, Inbound}
 use Rattle.link_theory.specs.LinkPlan.{LinkPlan, lines, half}
 use Rattle.link_theory.specs.BestLinks.{link_value}
 use Rattle.link_proof.specs.LinkFamilies.{links}
-use Rattle.multi_band.specs.declared.found.LinkFound.{LinkFound}
+use Rattle.multi_band.specs.LinkTold.{LinkFound}
 use Rattle.diagram_print.specs.Measures.{dir_name, measure_line, cycle_line}
 use Rattle.diagram_print.specs.Offsets.{signal_lines}
 use Rattle.diagram_print.specs.Speeds.{link_lines}

@@ -6,7 +6,7 @@ use Rattle.link_theory.specs.BestLinks.{link_value}
 use Rattle.branch_and_bound.specs.declared.incumbent.Incumbent.{Incumbent}
 use Rattle.branch_and_bound.specs.Answer.{IsAnswer}
 use Rattle.branch_tree.specs.Told.{valued}
-use Rattle.multi_band.specs.declared.found.LinkFound.{LinkFound}
+use Rattle.multi_band.specs.LinkTold.{LinkFound}
 use Rattle.multi_band.specs.LinkRules.{link_rules}
 
 -- a link timing with its value

@@ -6,11 +6,15 @@ use Rattle.plan_text.specs.Warrants.{AreTrees, IsNodeIn}
 use Rattle.link_theory.specs.LinkPlan.{LinkPlan}
 use Rattle.link_theory.specs.BestLinks.{link_value}
 use Rattle.link_proof.specs.LinkFamilies.{links}
+use Rattle.branch_and_bound.specs.declared.found.Found as engine
 use Rattle.branch_and_bound.specs.declared.found.Verdict.{Verdict}
 use Rattle.branch_tree.specs.declared.site.SitePart.{SitePart}
 use Rattle.branch_tree.specs.Told.{TellsOf, IsTimed}
 use Rattle.branch_tree.specs.Trees.{node_of}
-use Rattle.multi_band.specs.declared.found.LinkFound.{LinkFound}
+
+-- what a search of links finds
+abbrev pub LinkFound : Type 0
+LinkFound = engine.Found LinkPlan SitePart
 
 -- what a verdict tells of the link timing and the bound
 abbrev pub LinksTell : Street → Option LinkPlan → ℚ → Verdict SitePart → Type 0

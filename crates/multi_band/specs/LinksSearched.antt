@@ -10,7 +10,7 @@ use Rattle.link_proof.specs.LinkClaims.{AreBest}
 use Rattle.branch_and_bound.specs.declared.found.Verdict.{Verdict}
 use Rattle.branch_and_bound.specs.declared.found.Verdict.TheVariants.{Best, NoTiming, Stopped}
 use Rattle.branch_tree.specs.declared.site.SitePart.{SitePart}
-use Rattle.multi_band.specs.declared.found.LinkFound.{LinkFound}
+use Rattle.multi_band.specs.LinkTold.{LinkFound}
 use Rattle.multi_band.specs.LinkSearches.{IsLinkSearch}
 use Rattle.multi_band.specs.LinkEnough.{IsWithinLinkEnough}
 use Rattle.multi_band.specs.LinkSites.{HasLinkSite}

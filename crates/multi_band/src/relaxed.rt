@@ -3,7 +3,7 @@
 ghost use Rattle.std.specs.Prelude.{◌≡◌, IfOk};
 ghost use Rattle.linear_theory.specs.Boxes.{IsBoxOf};
 ghost use Rattle.work_meter.specs.Work.{HasWork};
-ghost use Rattle.branch_and_bound.specs.Lines.{Line};
+ghost use Rattle.branch_and_bound.specs.Lines.{BoxLine};
 ghost use Rattle.branch_and_bound.specs.OpenedNodes.{Opens};
 ghost use Rattle.multi_band.specs.LinkRooms.{IsLinkRoomFor};
 ghost use Rattle.multi_band.specs.LinkRules.{link_rules};
@@ -69,7 +69,7 @@ fn open_box(
     requires work { HasWork meter.old }
     ensures ready { IsLinkRoomFor links.now.artery.now room.new }
     ensures limit { meter.new.limit ≡ meter.old.limit }
-    ensures opens { IfOk result (λ opened. (line : Line) → line.area ≡ area.now → Opens (link_rules links.now.artery.now) line meter.old meter.new opened) }
+    ensures opens { IfOk result (λ opened. (line : BoxLine) → line.area ≡ area.now → Opens (link_rules links.now.artery.now) line meter.old meter.new opened) }
 {
     reset_links(
         &mut room.tableau,

@@ -1,9 +1,8 @@
 //! The search of an artery's best link timing.
 
-ghost use Rattle.std.specs.Prelude.{◌≡◌, IfOk, IfSome};
+ghost use Rattle.std.specs.Prelude.{IfOk, IfSome};
 ghost use Rattle.link_theory.specs.GoodLinks.{GoodLinks};
 ghost use Rattle.work_meter.specs.Work.{IsBelow};
-ghost use Rattle.branch_tree.specs.Told.{plan_of};
 ghost use Rattle.multi_band.specs.LinkSearches.{IsLinkSearch};
 ghost use Rattle.multi_band.specs.LinkTold.{LinksTell, AreLinksCertifiable};
 ghost use Rattle.multi_band.specs.LinkSites.{HasLinkSite};
@@ -13,23 +12,8 @@ use crate::found::LinkFound;
 use crate::relaxed::{RelaxedLinks, make_link_room};
 use artery_model::Artery;
 use branch_and_bound as engine;
-use branch_tree::{SitePart, timing_of};
-use link_space::LinkTiming;
 use narrow_fraction::Memory;
 use std::alloc::Global;
-
-/// The engine's answer, as one of links.
-fn found_of(found: engine::Found<LinkTiming, SitePart>) -> LinkFound
-    ensures { result ≡ record { verdict = found.verdict; nodes = found.nodes; timing = plan_of found.incumbent; bound = found.bound; spent = found.spent } }
-{
-    LinkFound {
-        verdict: found.verdict,
-        nodes: found.nodes,
-        timing: timing_of(found.incumbent),
-        bound: found.bound,
-        spent: found.spent,
-    }
-}
 
 /// Searches for the artery's best link timing: the root box is opened first, and then, while a waiting box has a bound of more
 /// than the best value, the one with the greatest bound is split and its two parts are opened, each from its own opening on.
@@ -49,6 +33,5 @@ pub fn link_search(alloc: Global, artery: &Artery, limit: Option<u64>) -> Result
     let links = RelaxedLinks { artery };
     engine::law_enough(&links);
     let mut room = make_link_room(alloc, artery)?;
-    let found = engine::search(alloc, &links, &mut room, limit)?;
-    Ok(found_of(found))
+    engine::search(alloc, &links, &mut room, limit)
 }

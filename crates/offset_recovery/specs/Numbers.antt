@@ -1,5 +1,5 @@
 -- What is known of a vertex's numbers where its unit fits, and the lists of its timing.
-use Rattle.std.specs.Prelude.{◌≡◌, ℕ, ◌-◌, ◌*◌, ◌<◌, ◌≤◌, ◌^◌, List, length, None, if◌then◌else◌}
+use Rattle.std.specs.Prelude.{◌≡◌, ℕ, ◌-◌, ◌*◌, ◌<◌, ◌≤◌, ◌^◌, List, length, None, Result, IfOk, if◌then◌else◌}
 use Rattle.rational_theory.specs.Rational.{ℚ, ◌≤ℚ◌}
 use Rattle.progression.specs.Speeds.{number, run_high}
 use Rattle.rational_theory.specs.Rows.{AllNonNegative}
@@ -10,13 +10,20 @@ use Rattle.progression.specs.Columns.{BandOf, Frequency, WaitOf, RunOf, numbered
 use Rattle.progression.specs.declared.parts.Dir.{Dir}
 use Rattle.progression.specs.declared.parts.Dir.TheVariants.{Outbound, Inbound}
 use Rattle.linear_theory.specs.Places.{width}
-use Rattle.recovery_theory.specs.Ticks.{unit_of, ticks_of}
+use Rattle.recovery_theory.specs.Ticks.{common, unit_of, ticks_of}
 use Rattle.recovery_theory.specs.Placing.{pattern_at, with_out, reds_of, with_reds}
-use Rattle.offset_recovery.specs.Tests.{product_test}
+use Rattle.narrow_fraction.specs.Attempt.{attempt, first_below}
+use Rattle.offset_recovery.specs.declared.outcome.WideTiming.{WideTiming}
+use Rattle.offset_recovery.specs.Tests.{product_test, unit_test}
 
 -- each product with the number of parts fits
 abbrev pub ProductsFit : Street → List ℚ → Type 0
 ProductsFit a x = (j : ℕ) → j < length x → product_test a x j ≡ None
+
+-- the least common denominator of the first j products, or the first that is too great
+pub record IsCommon (a : Street) (x : List ℚ) (j : ℕ) (found : Result ℕ WideTiming) : Type 0 where
+  pub value : found ≡ attempt (first_below (unit_test a x) j) (common a x j)
+  pub small : IfOk found (λ n. n < 2 ^ 80)
 
 -- the vertex's columns, and how many ticks they have at most
 pub record IsReady (a : Street) (x : List ℚ) : Type 0 where

@@ -55,10 +55,13 @@ first_in_at a x = first_in_of a (unit_of a x) (ticks_of a x) (pattern_at a x)
 abbrev pub red_tests : Street → List ℚ → Option WideTiming
 red_tests a x = first_below (λ j. number_test (place (count a) (WaitOf Outbound (j + 2))) (red_at a x (j + 2))) (count a - 1)
 
+abbrev pub first_in_test : Street → List ℚ → Option WideTiming
+first_in_test a x = number_test (place (count a) (WaitOf Inbound (count a))) (first_in_at a x)
+
 abbrev pub placed_tests : Street → List ℚ → Option WideTiming
 placed_tests a x =
     earlier (number_test (place (count a) (WaitOf Outbound 1)) (first_out_at a x))
-    (earlier (red_tests a x) (number_test (place (count a) (WaitOf Inbound (count a))) (first_in_at a x)))
+    (earlier (red_tests a x) (first_in_test a x))
 
 abbrev pub number_tests : Street → List ℚ → Option WideTiming
 number_tests a x = earlier (unit_tests a x) (earlier (column_tests a x) (placed_tests a x))

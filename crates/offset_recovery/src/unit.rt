@@ -1,15 +1,16 @@
 //! Into how many ticks a part of the cycle is divided.
 
-ghost use Rattle.std.specs.Prelude.{◌≡◌, ◌==◌, if◌then◌else◌, ◌+◌, ◌<◌, ◌≤◌, ◌^◌, ◌≤ℤ◌, nat_le, length, pos, suc, None, SomeIff, OnOk, unsigned_abs};
+ghost use Rattle.std.specs.Prelude.{◌≡◌, ℕ, List, ◌==◌, if◌then◌else◌, ◌+◌, ◌<◌, ◌^◌, length, SomeIff, OnOk};
 ghost use Rattle.rational_theory.specs.Gcd.{lcm};
-ghost use Rattle.narrow_fraction.specs.Attempt.{attempt, refusal_if, first_below};
-ghost use Rattle.recovery_theory.specs.Ticks.{common, in_parts, unit_of};
-ghost use Rattle.offset_recovery.specs.Tests.{product_test, unit_test};
+ghost use Rattle.narrow_fraction.specs.Attempt.{attempt};
+ghost use Rattle.progression.specs.Street.{Street};
+ghost use Rattle.rational_theory.specs.Rational.{ℚ};
+ghost use Rattle.recovery_theory.specs.Ticks.{in_parts, unit_of};
 ghost use Rattle.offset_recovery.specs.Recovered.{unit_tests};
-ghost use Rattle.offset_recovery.specs.Numbers.{ProductsFit};
+ghost use Rattle.offset_recovery.specs.Numbers.{ProductsFit, IsCommon};
 
 use crate::outcome::WideTiming;
-use crate::products::{in_parts, product};
+use crate::products::product;
 use artery_model::Artery;
 use named_row::Point;
 use narrow_fraction::{Frac, common_multiple};
@@ -21,17 +22,6 @@ fn column_count(point: &Point) -> u32
     ensures { result ≡ length point.now.values.items }
 {
     point.values.len() as u32
-}
-
-/// Whether each column's product with the number of parts fits.
-fn check_products(artery: &Artery, point: &Point) -> Result<(), WideTiming>
-    requires { length point.now.values.items < 2 ^ 32 }
-    ensures { result ≡ attempt (first_below (product_test artery.now point.now.values.items) (length point.now.values.items)) tt }
-{
-    for column in 0..column_count(point) {
-        product(artery, point, column)?;
-    }
-    Ok(())
 }
 
 /// The least common multiple, where it is below the limit.
@@ -54,21 +44,12 @@ pub fn bottom(product: Frac) -> u128
     product.den().unsigned_abs()
 }
 
-/// The least common denominator with one more column.
-fn with_column(
-    artery: &Artery,
-    point: &Point,
-    so_far: u128,
-    column: u32,
-) -> Result<u128, WideTiming>
-    requires column { column < length point.now.values.items }
-    requires fits { product_test artery.now point.now.values.items column ≡ None }
-    requires before { so_far ≡ common artery.now point.now.values.items column }
-    requires small { so_far < 2 ^ 80 }
-    ensures value { result ≡ attempt (unit_test artery.now point.now.values.items column) (common artery.now point.now.values.items (column + 1)) }
-    ensures small { OnOk result (common artery.now point.now.values.items (column + 1) < 2 ^ 80) }
+/// The least common denominator of the products so far and one more.
+fn with_product(so_far: Result<u128, WideTiming>, product: Frac) -> Result<u128, WideTiming>
+    ensures { (a : Street) (x : List ℚ) (column : ℕ) → IsCommon a x column so_far → product ≡ in_parts a x column → IsCommon a x (column + 1) result }
 {
-    let bottom = bottom(in_parts(artery, point, column));
+    let so_far = so_far?;
+    let bottom = bottom(product);
     match multiple(so_far, bottom) {
         Some(multiple) => Ok(multiple),
         None => Err(WideTiming::Unit {
@@ -85,27 +66,19 @@ fn two_or(number: u128) -> u128
     if number == 1 { 2 } else { number }
 }
 
-/// The ticks of a part: the least common denominator of all columns in parts, and 2 where that is 1.
-fn unit_of(artery: &Artery, point: &Point) -> Result<u128, WideTiming>
-    requires few { length point.now.values.items < 2 ^ 32 }
-    requires products { ProductsFit artery.now point.now.values.items }
-    ensures value { result ≡ attempt (first_below (unit_test artery.now point.now.values.items) (length point.now.values.items)) (unit_of artery.now point.now.values.items) }
-    ensures small { OnOk result (unit_of artery.now point.now.values.items < 2 ^ 80) }
-{
-    let mut common = 1;
-    for column in 0..column_count(point) {
-        common = with_column(artery, point, common, column)?;
-    }
-    Ok(two_or(common))
-}
-
-/// The ticks of a part, where the products with the number of parts and their least common denominator fit.
+/// The ticks of a part: the least common denominator of all columns in parts, and 2 where that is 1. The products with the
+/// number of parts and that denominator fit; a product that doesn't is told before a denominator that doesn't.
 pub fn common_unit(artery: &Artery, point: &Point) -> Result<u128, WideTiming>
     requires { length point.now.values.items < 2 ^ 32 }
     ensures value { result ≡ attempt (unit_tests artery.now point.now.values.items) (unit_of artery.now point.now.values.items) }
     ensures small { OnOk result (unit_of artery.now point.now.values.items < 2 ^ 80) }
     ensures products { OnOk result (ProductsFit artery.now point.now.values.items) }
 {
-    check_products(artery, point)?;
-    unit_of(artery, point)
+    let mut common = Ok(1);
+    for column in 0..column_count(point) {
+        let product = product(artery, point, column)?;
+        common = with_product(common, product);
+    }
+    let unit = common?;
+    Ok(two_or(unit))
 }

@@ -25,7 +25,7 @@ use Rattle.simplex_theory.proofs.Loaded.{stands-loaded}
 use Rattle.program_builder.specs.Entry.{IsBasisOf, entered_box}
 
 -- ---- a box is in the bounds alone
-form_coefs : (a : Street) (box other : Area) (n : Name) → (line a (form_of a box n)).coefs ≡ (line a (form_of a other n)).coefs
+pub form_coefs : (a : Street) (box other : Area) (n : Name) → (line a (form_of a box n)).coefs ≡ (line a (form_of a other n)).coefs
 form_coefs a box other (WaitRow d i) = refl
 form_coefs a box other (FastRow d i) = refl
 form_coefs a box other (SlowRow d i) = refl

@@ -15,8 +15,15 @@ mod EntryRefusals
 pub mod Entry
 pub mod First
 mod EntryTurns
+mod BoundTurns
+mod RememberedTurns
+mod SameLoaded
+mod WrittenBounds
+mod WrittenRows
+mod Memories
 pub mod LoadedTables
 pub mod ArteryTables
 pub mod StartPivots
 pub mod CommonParts
 pub mod UnitFits
+pub mod BoxBounds

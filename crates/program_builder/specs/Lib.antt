@@ -9,3 +9,4 @@ pub mod OpeningLaws
 pub mod EntryRefusals
 pub mod Entry
 pub mod First
+pub mod Remembering

@@ -22,7 +22,7 @@ use std::alloc::Global;
 
 /// Brings both bands into the basis: the outbound one in the row of the outbound wait at signal 1, the inbound one in that
 /// of the inbound wait there.
-fn enter_bands(tableau: &mut Tableau, artery: &Artery, area: &SearchBox)
+pub fn enter_bands(tableau: &mut Tableau, artery: &Artery, area: &SearchBox)
     requires boxed { IsBoxOf artery.now area.now }
     requires loaded { tableau.old ≡ loaded_box artery.now area.now }
     ensures { tableau.new ≡ opened_box artery.now area.now }

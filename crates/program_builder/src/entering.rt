@@ -43,7 +43,7 @@ pub fn enter(
     ensures unspent { room.new.spent ≡ false }
 {
     load(tableau, &ArteryTable { artery }, area, &mut (), room);
-    match enter_columns(tableau, basis) {
+    match enter_columns(tableau, basis, &mut []) {
         Ok(()) => true,
         Err(_) => {
             tableau.known_named();

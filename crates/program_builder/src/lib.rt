@@ -10,6 +10,14 @@
 //! one of its pivots leaves 128 bits, and makes the opening. Which of the two a box begins from, by the boxes above it, is `first_of`
 //! (`specs/First.antt`), with its law.
 //!
+//! Only some bounds depend on the box. Where many boxes are begun, `make_loaded` keeps the rows of one as they are loaded, and
+//! `reset_from` and `enter_from` make what `reset` and `enter` make from a copy of it.
+//!
+//! The two parts of a split enter the same basis, and what is loaded for them differs in bounds alone. `enter_remembering` enters as
+//! `enter_from` does and keeps in an `EntryMemory` what it takes to enter the other part: the row of each turn of a column, what all
+//! rows had at its place (the product form of the inverse), and the entered tableau. The other part's bounds alone are run through
+//! these turns (`specs/Remembering.antt`).
+//!
 //! What isn't an artery's alone is made for any table of rows, a `TableRows` (`specs/RowTable.antt`): `make_tableau`, `load`
 //! (`specs/Loading.antt`) and `pivot`, one of the pivots of a start (`specs/StartPivots.antt`). `ArteryTable` is an artery's.
 //!
@@ -27,13 +35,18 @@ mod choosing;
 mod counting;
 mod entering;
 pub mod laws;
+mod loaded;
 mod loading;
+mod noting;
 mod pivots;
+mod remembering;
 mod table;
 mod turning;
 
 pub use building::{reset, start};
 pub use entering::enter;
+pub use loaded::{enter_from, load_from, make_loaded, reset_from};
 pub use loading::{load, make_tableau};
 pub use pivots::{StartPivot, pivot};
+pub use remembering::{EntryMemory, enter_remembering};
 pub use table::{ArteryTable, TableRows};

@@ -1,27 +1,42 @@
 //! The turns of an entry.
 
-ghost use Rattle.std.specs.Prelude.{◌≡◌, ◌<◌, IfOk, IfErr, false};
-ghost use Rattle.simplex_theory.specs.Tableau.{IsPlace, width};
+ghost use Rattle.std.specs.Prelude.{◌≡◌, ℕ, ◌+◌, ◌<◌, length, slice_index_or, IfOk, IfErr, false};
+ghost use Rattle.simplex_theory.specs.Tableau.{IsPlace, height, width};
 ghost use Rattle.narrow_fraction.specs.Attempt.{attempt};
 ghost use Rattle.fraction_tableau.specs.NamedTableaus.{IsSpentFrom};
 ghost use Rattle.entry_theory.specs.Entry as rule;
 ghost use Rattle.entry_theory.specs.Ready.{IsReady};
 ghost use Rattle.program_builder.specs.EntryRefusals.{turn_refusal, entry_refusal, IsSpentOnTheWay};
+ghost use Rattle.program_builder.specs.Remembering.{IsNoteOf, AreNotesOf, HaveRoom};
+ghost use Rattle.program_builder.specs.declared.noting.Turn.{Turn};
 
 use crate::choosing::entry_row;
+use crate::noting::{Turn, note};
 use fraction_tableau::{Tableau, WideCell};
 
-/// The turn of one of the listed variables: a column enters at its row, and at a slack nothing happens. The refusal names the
-/// pivot's first operation that leaves 128 bits.
-fn turn(tableau: &mut Tableau, basis: &[u32], variable: u32) -> Result<(), WideCell>
+/// The turn of one of the listed variables: a column enters at its row, which is noted, and at a slack nothing happens. The refusal
+/// names the pivot's first operation that leaves 128 bits.
+fn turn(
+    tableau: &mut Tableau,
+    basis: &[u32],
+    variable: u32,
+    notes: &mut [Turn],
+    turns: usize,
+) -> Result<(), WideCell>
     requires place { variable < width tableau.old.table → IsPlace tableau.old.table (rule.entry_row basis.now tableau.old.table variable) variable }
     requires unspent { tableau.old.spent ≡ false }
+    requires room { HaveRoom notes.old (height tableau.old.table + 1) }
     ensures outcome { result ≡ attempt (turn_refusal basis.now tableau.old.table variable) tt }
     ensures turned { IfOk result (λ _. tableau.new ≡ record tableau.old { table = rule.entry_turn basis.now tableau.old.table variable }) }
     ensures spent { IfErr result (λ _. IsSpentFrom tableau.old tableau.new) }
+    ensures noted { variable < width tableau.old.table → (d : Turn) → turns < length notes.old
+        → IsNoteOf tableau.old.table (rule.entry_row basis.now tableau.old.table variable) variable (slice_index_or notes.new turns d) }
+    ensures others { (i : ℕ) (d : Turn) → (i ≡ turns → ⊥) → slice_index_or notes.new i d ≡ slice_index_or notes.old i d }
+    ensures room { HaveRoom notes.new (height tableau.old.table + 1) }
 {
     if variable < tableau.width() {
         let row = entry_row(tableau, basis, variable);
+        note(notes, turns, tableau, row, variable);
         tableau.pivot(row, variable)
     } else {
         Ok(())
@@ -30,16 +45,24 @@ fn turn(tableau: &mut Tableau, basis: &[u32], variable: u32) -> Result<(), WideC
 
 /// Brings the listed columns into the basis of a tableau that was just loaded, in the order of the list. The list names the basic
 /// variables of a dual feasible tableau of the same coefficients and goal in ascending order; they are the basic ones afterwards.
-/// The refusal names the first operation that leaves 128 bits, and the tableau is spent then. Takes no memory.
-pub fn enter_columns(tableau: &mut Tableau, basis: &[u32]) -> Result<(), WideCell>
+/// The refusal names the first operation that leaves 128 bits, and the tableau is spent then. The turns of the columns are noted, as
+/// many as there is room for. Takes no memory.
+pub fn enter_columns(
+    tableau: &mut Tableau,
+    basis: &[u32],
+    notes: &mut [Turn],
+) -> Result<(), WideCell>
     requires ready { IsReady basis.now tableau.old.table }
     requires unspent { tableau.old.spent ≡ false }
+    requires room { HaveRoom notes.old (height tableau.old.table + 1) }
     ensures outcome { result ≡ attempt (entry_refusal basis.now tableau.old.table) tt }
     ensures entered { IfOk result (λ _. tableau.new ≡ record tableau.old { table = rule.entry basis.now tableau.old.table }) }
     ensures spent { IfErr result (λ _. IsSpentOnTheWay basis.now tableau.old tableau.new) }
+    ensures noted { IfOk result (λ _. AreNotesOf basis.now tableau.old.table notes.new) }
+    ensures room { HaveRoom notes.new (height tableau.old.table + 1) }
 {
     for turns in 0..basis.len() {
-        if let Err(wide) = turn(tableau, basis, basis[turns]) {
+        if let Err(wide) = turn(tableau, basis, basis[turns], notes, turns) {
             return Err(wide);
         }
     }

@@ -1,5 +1,5 @@
 -- A timing's cycle and offsets in whole seconds.
-use Rattle.std.specs.Prelude.{◌≡◌, ℕ, ◌-◌, ◌*◌, ◌%◌, List, length, slice_index}
+use Rattle.std.specs.Prelude.{◌≡◌, ℕ, ◌-◌, ◌*◌, ◌%◌, ◌<◌, ◌≤◌, All, List, length, slice_index}
 use Rattle.rational_theory.specs.Rational.{◌≤ℚ◌}
 use Rattle.progression.specs.Street.{Street, count, HasSignal}
 use Rattle.progression.specs.Speeds.{number}
@@ -30,3 +30,9 @@ pub record IsOffset (a : Street) (t : Plan) (k i offset : ℕ) : Type 0 where
 pub record AreOffsets (a : Street) (t : Plan) (k : ℕ) (offsets : List ℕ) : Type 0 where
   pub each_has : length offsets ≡ count a
   pub each : (i : ℕ) → HasSignal a i → IsOffset a t k i (slice_index offsets (i - 1))
+
+-- a cycle of at most an hour, and offsets below it
+pub record IsRounded (k : ℕ) (offsets : List ℕ) : Type 0 where
+  pub some : 1 ≤ k
+  pub small : k ≤ 3600
+  pub below : All (λ n. n < k) offsets

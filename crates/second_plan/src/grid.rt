@@ -6,8 +6,10 @@ ghost use Rattle.progression.specs.Plan.{cycle};
 ghost use Rattle.artery_model.specs.Bounds.{most_parts};
 ghost use Rattle.band_measure.specs.Pairs.{with_pairs};
 ghost use Rattle.second_plan.specs.Grid.{fineness, in_seconds, too_fine};
+ghost use Rattle.second_plan.specs.Seconds.{IsRounded};
 
 use crate::bands::Pairs;
+use crate::seconds::Rounded;
 use artery_model::Artery;
 use narrow_fraction::Memory;
 use std::alloc::Global;
@@ -112,31 +114,28 @@ pub fn timed(
     alloc: Global,
     artery: &Artery,
     timing: &Timing,
-    seconds: u64,
-    offsets: &[u64],
+    rounded: &Rounded,
     pairs: Pairs,
 ) -> Result<Timing, Memory>
-    requires some { 1 ≤ seconds }
-    requires small { seconds ≤ 3600 }
-    requires fine { too_fine artery.now timing.now seconds ≡ None }
+    requires rounded { IsRounded rounded.now.seconds rounded.now.offsets.items }
+    requires fine { too_fine artery.now timing.now rounded.now.seconds ≡ None }
     requires shape { length timing.now.patterns ≡ count artery.now }
-    requires offsets { length offsets.now ≡ count artery.now }
-    requires below { All (λ n. n < seconds) offsets.now }
+    requires offsets { length rounded.now.offsets.items ≡ count artery.now }
     requires first_out { pairs.outbound.first < 2 ^ 80 }
     requires band_out { pairs.outbound.band < 2 ^ 80 }
     requires first_in { pairs.inbound.first < 2 ^ 80 }
     requires band_in { pairs.inbound.band < 2 ^ 80 }
     ensures { IfOk result (λ plan. plan ≡ with_pairs (pos pairs.outbound.first) pairs.outbound.band (pos pairs.inbound.first) pairs.inbound.band
-        (in_seconds artery.now timing.now seconds offsets.now)) }
+        (in_seconds artery.now timing.now rounded.now.seconds rounded.now.offsets.items)) }
 {
     artery.known_valid();
     // its contract says what a timing's lists are
     let _ = timing.count();
     let fineness = fineness(artery);
     let grid = grid(artery, timing);
-    let unit = unit(timing, seconds);
+    let unit = unit(timing, rounded.seconds);
     let patterns = patterns(alloc, timing)?;
-    let reds = reds(alloc, offsets, grid)?;
+    let reds = reds(alloc, rounded.offsets.as_slice(), grid)?;
     let run_out = multiples(alloc, timing.run_out(), fineness)?;
     let run_in = multiples(alloc, timing.run_in(), fineness)?;
     match Timing::new(

@@ -1,6 +1,6 @@
 //! The plan of a timing: its whole seconds, the widest bands on them, and what they lose.
 
-ghost use Rattle.std.specs.Prelude.{◌≡◌, ◌<◌, ◌≤◌, length, All, IfOk, IfErr};
+ghost use Rattle.std.specs.Prelude.{◌<◌, IfOk, IfErr};
 ghost use Rattle.rational_theory.specs.Rational.{ℚ, ◌≤ℚ◌};
 ghost use Rattle.progression.specs.Speeds.{number};
 ghost use Rattle.progression.specs.Plan.{cycle};
@@ -11,11 +11,12 @@ ghost use Rattle.band_measure.specs.Widest.{IsWidest};
 ghost use Rattle.second_plan.specs.Grid.{in_seconds};
 ghost use Rattle.second_plan.specs.Planned.{AreWhole, IsPlanned, IsAnswer, IsBestOfOffsets};
 ghost use Rattle.second_plan.specs.Ends.{Faults};
+ghost use Rattle.second_plan.specs.Seconds.{IsRounded};
 
 use crate::answer::{Plan, PlanEnd, PlanFault};
 use crate::bands::{Bands, Pairs, cut};
 use crate::grid::{timed, too_fine};
-use crate::seconds::{offsets, whole_cycle};
+use crate::seconds::{Rounded, offsets, whole_cycle};
 use artery_model::Artery;
 use band_measure::{Widest, law_finer_pairs, law_own_pair, law_pairs_make_good, widest};
 use narrow_fraction::Frac;
@@ -28,20 +29,17 @@ fn with_cut_bands(
     alloc: Global,
     artery: &Artery,
     timing: &Timing,
-    seconds: u64,
-    offsets: &[u64],
+    rounded: &Rounded,
     pairs: Pairs,
 ) -> Result<Timing, PlanFault>
     requires base { IsBase artery.now timing.now }
-    requires whole { AreWhole artery.now timing.now seconds offsets.now }
-    requires some { 1 ≤ seconds }
-    requires small { seconds ≤ 3600 }
-    requires below { All (λ n. n < seconds) offsets.now }
-    requires outbound { IsWidest artery.now (in_seconds artery.now timing.now seconds offsets.now) Outbound pairs.outbound.first pairs.outbound.band }
-    requires inbound { IsWidest artery.now (in_seconds artery.now timing.now seconds offsets.now) Inbound pairs.inbound.first pairs.inbound.band }
-    requires band_out { pairs.outbound.band < cycle artery.now (in_seconds artery.now timing.now seconds offsets.now) }
-    requires band_in { pairs.inbound.band < cycle artery.now (in_seconds artery.now timing.now seconds offsets.now) }
-    ensures planned { IfOk result (λ plan. IsPlanned artery.now timing.now seconds offsets.now plan) }
+    requires whole { AreWhole artery.now timing.now rounded.now.seconds rounded.now.offsets.items }
+    requires rounded { IsRounded rounded.now.seconds rounded.now.offsets.items }
+    requires outbound { IsWidest artery.now (in_seconds artery.now timing.now rounded.now.seconds rounded.now.offsets.items) Outbound pairs.outbound.first pairs.outbound.band }
+    requires inbound { IsWidest artery.now (in_seconds artery.now timing.now rounded.now.seconds rounded.now.offsets.items) Inbound pairs.inbound.first pairs.inbound.band }
+    requires band_out { pairs.outbound.band < cycle artery.now (in_seconds artery.now timing.now rounded.now.seconds rounded.now.offsets.items) }
+    requires band_in { pairs.inbound.band < cycle artery.now (in_seconds artery.now timing.now rounded.now.seconds rounded.now.offsets.items) }
+    ensures planned { IfOk result (λ plan. IsPlanned artery.now timing.now rounded.now.seconds rounded.now.offsets.items plan) }
     ensures good { IfOk result (λ plan. Good artery.now plan) }
     ensures best { IfOk result (λ plan. IsBestOfOffsets artery.now plan) }
     ensures faults { IfErr result (λ f. (claim : ℚ) → Faults artery.now claim timing.now f) }
@@ -67,7 +65,7 @@ fn with_cut_bands(
             band: bands.inbound,
         },
     };
-    let plan = timed(alloc, artery, timing, seconds, offsets, kept)?;
+    let plan = timed(alloc, artery, timing, rounded, kept)?;
     match holds(artery, &plan) {
         Ok(()) => Ok(plan),
         Err(failing) => Err(PlanFault::End(PlanEnd::Fails(failing))),
@@ -79,15 +77,12 @@ fn planned(
     alloc: Global,
     artery: &Artery,
     timing: &Timing,
-    seconds: u64,
-    offsets: &[u64],
+    rounded: &Rounded,
 ) -> Result<Timing, PlanFault>
     requires base { IsBase artery.now timing.now }
-    requires whole { AreWhole artery.now timing.now seconds offsets.now }
-    requires some { 1 ≤ seconds }
-    requires small { seconds ≤ 3600 }
-    requires below { All (λ n. n < seconds) offsets.now }
-    ensures planned { IfOk result (λ plan. IsPlanned artery.now timing.now seconds offsets.now plan) }
+    requires whole { AreWhole artery.now timing.now rounded.now.seconds rounded.now.offsets.items }
+    requires rounded { IsRounded rounded.now.seconds rounded.now.offsets.items }
+    ensures planned { IfOk result (λ plan. IsPlanned artery.now timing.now rounded.now.seconds rounded.now.offsets.items plan) }
     ensures good { IfOk result (λ plan. Good artery.now plan) }
     ensures best { IfOk result (λ plan. IsBestOfOffsets artery.now plan) }
     ensures faults { IfErr result (λ f. (claim : ℚ) → Faults artery.now claim timing.now f) }
@@ -97,7 +92,7 @@ fn planned(
         outbound: line,
         inbound: line,
     };
-    let frame = timed(alloc, artery, timing, seconds, offsets, lines)?;
+    let frame = timed(alloc, artery, timing, rounded, lines)?;
     let Some(outbound) = widest(artery, &frame, Dir::Outbound) else {
         return Err(PlanFault::End(PlanEnd::NoLine { dir: Dir::Outbound }));
     };
@@ -105,7 +100,7 @@ fn planned(
         return Err(PlanFault::End(PlanEnd::NoLine { dir: Dir::Inbound }));
     };
     let pairs = Pairs { outbound, inbound };
-    with_cut_bands(alloc, artery, timing, seconds, offsets, pairs)
+    with_cut_bands(alloc, artery, timing, rounded, pairs)
 }
 
 /// The plan in whole seconds of a good timing, and what it loses against a claim.
@@ -132,17 +127,21 @@ pub fn plan(alloc: Global, artery: &Artery, claim: Frac, timing: &Timing) -> Res
         return Err(PlanFault::End(PlanEnd::TooFine { ticks }));
     }
     let offsets = offsets(alloc, artery, timing, seconds)?;
-    let plan = match planned(alloc, artery, timing, seconds, offsets.as_slice()) {
+    let rounded = Rounded { seconds, offsets };
+    let plan = match planned(alloc, artery, timing, &rounded) {
         Ok(plan) => plan,
         Err(fault) => return Err(fault),
     };
     match claim.minus(value(artery, &plan)) {
-        Ok(loss) => Ok(Plan {
-            seconds,
-            offsets,
-            timing: plan,
-            loss,
-        }),
+        Ok(loss) => {
+            let Rounded { seconds, offsets } = rounded;
+            Ok(Plan {
+                seconds,
+                offsets,
+                timing: plan,
+                loss,
+            })
+        }
         Err(wide) => Err(PlanFault::End(PlanEnd::Wide(wide))),
     }
 }

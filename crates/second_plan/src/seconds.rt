@@ -15,6 +15,13 @@ use narrow_fraction::{Frac, Memory};
 use std::alloc::Global;
 use time_space::{Timing, cycle, since_start};
 
+/// A cycle of so many whole seconds, and each signal's offset in it.
+#[derive(Drop)]
+pub struct Rounded {
+    pub seconds: u64,
+    pub offsets: Vec<u64>,
+}
+
 /// The greatest whole number that is not above a limit of the cycle.
 #[tactic(auto, using(crate::proofs::Rounding::most_is))]
 fn most_seconds(limit: Frac) -> u64

@@ -1,8 +1,11 @@
-//! Tests of the edge, of streets and of timings: `outer_edge`, `artery_model`, `search_box`, `time_space`, `half_integer` and `second_plan`, through what is public of them.
+//! Tests of the edge, of streets and of timings: `outer_edge`, `artery_model`, `search_box`, `time_space`, `half_integer`, `second_plan` and
+//! `diagram_draw`, through what is public of them.
 #![tactic(auto)]
 
 #[cfg(test)]
 mod artery_model_tests;
+#[cfg(test)]
+mod diagram_draw_tests;
 #[cfg(test)]
 mod half_integer_tests;
 #[cfg(test)]

@@ -7,7 +7,7 @@ mod order_tests;
 mod print_tests;
 mod reading_tests;
 mod rule_tests;
-mod samples;
+pub mod samples;
 mod table_tests;
 mod type_tests;
 mod version_tests;

@@ -1,7 +1,9 @@
-//! Tests of what is read and written: `description_reader` and `plan_text`, through what is public of them.
+//! Tests of what is read and written: `description_reader`, `typed_plan` and `plan_text`, through what is public of them.
 #![tactic(auto)]
 
 #[cfg(test)]
 mod description_reader_tests;
 #[cfg(test)]
 mod plan_text_tests;
+#[cfg(test)]
+mod typed_plan_tests;

@@ -15,7 +15,7 @@ use Rattle.search_box.proofs.Streets.{street_of}
 use Rattle.offset_recovery.specs.Outcomes as vertices
 use Rattle.offset_recovery.specs.Outcomes.{Gives}
 use Rattle.offset_recovery.specs.Recovered.{recovered}
-use Rattle.branch_and_bound.specs.Lines.{Line, low_line, high_line}
+use Rattle.branch_and_bound.specs.Lines.{BoxLine, low_line, high_line}
 use Rattle.branch_and_bound.specs.Lineages.{NoEnd, Empty, Reads, Cuts, IsOptimal}
 use Rattle.branch_tree.specs.Ends.{end_point, end_bound, end_leaf, ending_of}
 use Rattle.branch_tree.specs.LeafRows.{sum_of}
@@ -36,7 +36,7 @@ module _ {T : Type 0} where
   only_splits (vertices.Gives other) place e = cc
 
 -- ---- ends
-module _ (a : Street) (line : Line) (v : IsValid a) where
+module _ (a : Street) (line : BoxLine) (v : IsValid a) where
   -- there is an end
   pub comes_to_an_end : ending_of (program_of a) line ≡ NoEnd → ⊥
   comes_to_an_end e = ends_somehow (program_of a) line (end_reached (program_of a) line v) e
@@ -55,7 +55,7 @@ module _ (a : Street) (line : Line) (v : IsValid a) where
   pub vertex_greatest : (x : List ℚ) → IsOptimal (ending_of (program_of a) line) → IsVertex a line.area x → goal_at a x ≤ℚ end_bound (program_of a) line
   vertex_greatest x h p = end_greatest (program_of a) line v (optimal_from (program_of a) line h) x (vertex_is_point a line.area x p)
 
-module _ (a : Street) (line : Line) (v : IsValid a) (b : IsBoxOf a line.area) where
+module _ (a : Street) (line : BoxLine) (v : IsValid a) (b : IsBoxOf a line.area) where
   -- the place of a split lies in the box
   pub cuts_inside : (place : At) → ending_of (program_of a) line ≡ Cuts place → IsPlace line.area place
   cuts_inside place e =
@@ -73,7 +73,7 @@ module _ (a : Street) (line : Line) (v : IsValid a) (b : IsBoxOf a line.area) wh
     some_parts : 0 < a.head.parts
     some_parts = let m = v.least_parts in omega arith
 
-    under : (part : Line) → IsOptimal (ending_of (program_of a) part) → ((x : List ℚ) → IsVertex a part.area x → IsVertex a line.area x) → end_bound (program_of a) part ≤ℚ end_bound (program_of a) line
+    under : (part : BoxLine) → IsOptimal (ending_of (program_of a) part) → ((x : List ℚ) → IsVertex a part.area x → IsVertex a line.area x) → end_bound (program_of a) part ≤ℚ end_bound (program_of a) line
     under part h wider =
         bound_falls (program_of a) line part v (optimal_from (program_of a) line (subst IsOptimal (sym e) tt)) (optimal_from (program_of a) part h)
         (λ x q. vertex_is_point a line.area x (wider x (point_is_vertex a part.area x q)))

@@ -18,7 +18,7 @@ use Rattle.simplex_theory.proofs.Multipliers.{goal_weight_low, row_weight_low}
 use Rattle.fraction_tableau.specs.NamedTableaus.{name_in}
 use Rattle.program_builder.specs.BoxRows.{IsAmong}
 use Rattle.dual_leaf.specs.Leaves.{CoversWith, RefutesAt, multiplier, multipliers_below}
-use Rattle.branch_and_bound.specs.Lines.{Line}
+use Rattle.branch_and_bound.specs.Lines.{BoxLine}
 use Rattle.branch_tree.specs.Program.{Program}
 use Rattle.branch_tree.specs.Ends.{steps_of, last_table, named_last, end_move, end_point, end_bound, leaf_by, end_leaf, leaf_row}
 use Rattle.branch_tree.specs.laws.RunLaws as runs
@@ -78,7 +78,7 @@ module _ {T W : Type 0} (p : Program T W) (box : Area) (x : List ℚ) (v : IsPoi
       <ℚ_not-≤ℚ _ _ c.bound (≤ℚ_trans _ _ _ (dot_grows (leaf_row p box ws).coefs [] x (λ j l. c.coefs j (omega arith)) v.not_negative) (sum_met ws h).met)
 
 -- ---- ends
-module _ {T W : Type 0} (p : Program T W) (line : Line) (s : p.IsSound) where
+module _ {T W : Type 0} (p : Program T W) (line : BoxLine) (s : p.IsSound) where
   last_dual : IsDual (last_table p line)
   last_dual = runs.run_dual p line s (steps_of p line)
 
@@ -106,7 +106,7 @@ module _ {T W : Type 0} (p : Program T W) (line : Line) (s : p.IsSound) where
     end_greatest x v = goal_below p line.area x v (end_leaf p line) (end_bound p line) end_over (runs.leaf_covers p line s e)
 
 -- where the points of one line's box are points of another's, the other's bound is no less
-pub bound_falls : {T W : Type 0} (p : Program T W) (line part : Line) → p.IsSound → end_move p line ≡ optimal → end_move p part ≡ optimal
+pub bound_falls : {T W : Type 0} (p : Program T W) (line part : BoxLine) → p.IsSound → end_move p line ≡ optimal → end_move p part ≡ optimal
     → ((x : List ℚ) → IsPointOf p part.area x → IsPointOf p line.area x) → end_bound p part ≤ℚ end_bound p line
 bound_falls p line part s e f wider =
     subst (λ y. y ≤ℚ end_bound p line) (runs.optimal_vertex p part s f).goal_value (end_greatest p line s e (end_point p part) (wider (end_point p part) (end_point_of p part s f)))

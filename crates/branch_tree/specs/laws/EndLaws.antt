@@ -20,7 +20,7 @@ use Rattle.program_builder.proofs.RowOrder.{rows_there, among_rows}
 use Rattle.program_builder.specs.Opening.{row_for, goal_of}
 use Rattle.recovery_theory.specs.Vertices.{IsVertex, goal_at}
 use Rattle.dual_leaf.specs.Leaves.{CoversWith, RefutesAt}
-use Rattle.branch_and_bound.specs.Lines.{Line}
+use Rattle.branch_and_bound.specs.Lines.{BoxLine}
 use Rattle.branch_tree.specs.Ends.{end_move, end_point, end_bound, end_leaf}
 use Rattle.branch_tree.specs.LeafRows.{sum_of}
 use Rattle.branch_tree.specs.ArteryProgram.{program_of}
@@ -29,14 +29,14 @@ use Rattle.branch_tree.specs.laws.Duality.{IsPointOf, end_over, end_point_of, en
 use Rattle.branch_tree.specs.laws.RunLaws as runs
 
 -- ---- what is promised of an end
-pub record IsOptimalEnd (a : Street) (line : Line) : Type 0 where
+pub record IsOptimalEnd (a : Street) (line : BoxLine) : Type 0 where
   pub vertex : IsVertex a line.area (end_point (program_of a) line)
   pub goal : goal_at a (end_point (program_of a) line) ≡ end_bound (program_of a) line
   pub rows : AreWeights a (map named (end_leaf (program_of a) line))
   pub covers : CoversGoal a (end_bound (program_of a) line) (sum_of a line.area (end_leaf (program_of a) line))
   pub bound : (sum_of a line.area (end_leaf (program_of a) line)).bound ≡ end_bound (program_of a) line
 
-pub record IsInfeasibleEnd (a : Street) (line : Line) : Type 0 where
+pub record IsInfeasibleEnd (a : Street) (line : BoxLine) : Type 0 where
   pub rows : AreWeights a (map named (end_leaf (program_of a) line))
   pub refutes : RefutesAll a (sum_of a line.area (end_leaf (program_of a) line))
 
@@ -83,7 +83,7 @@ point_is_vertex a box x v = record { columns = v.columns; not_negative = v.not_n
         let g = among_rows a r.row (subst (λ m. HasRow a m) (sym r.is) h) in
         subst (λ m. IsMet x (forms.line a (form_of a box m))) r.is (subst (λ (q : RowId). IsMet x (row_for a box q)) g.is (v.rows g.place g.within))
 
-module _ (a : Street) (line : Line) (v : IsValid a) where
+module _ (a : Street) (line : BoxLine) (v : IsValid a) where
   -- the leaf of each end has rows of the artery
   pub end_rows : AreWeights a (map named (end_leaf (program_of a) line))
   end_rows = weights_of a (end_leaf (program_of a) line) (end_over (program_of a) line v)

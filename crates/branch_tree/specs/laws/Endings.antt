@@ -3,13 +3,13 @@ use Rattle.std.proofs.Common.{◌≡◌, ℕ, false, true≢false, refl, sym, �
 use Rattle.search_box.specs.declared.span.At.{At}
 use Rattle.simplex_theory.specs.BlandRule.{Move, optimal, infeasible, pivoted}
 use Rattle.simplex_theory.specs.StepCounts.{is_pivot}
-use Rattle.branch_and_bound.specs.Lines.{Line}
+use Rattle.branch_and_bound.specs.Lines.{BoxLine}
 use Rattle.branch_and_bound.specs.Lineages.{Ending, NoEnd, Empty, Cuts, IsOptimal}
 use Rattle.branch_tree.specs.Program.{Program, Outcome, Refused, Splits, Gives}
 use Rattle.branch_tree.specs.Ends.{end_move, end_point, ending_by_outcome, ending_by, ending_of}
 
 -- the row of an infeasible end
-pub record HasRowAtEnd {T W : Type 0} (p : Program T W) (line : Line) : Type 0 where
+pub record HasRowAtEnd {T W : Type 0} (p : Program T W) (line : BoxLine) : Type 0 where
   pub row : ℕ
   pub is : end_move p line ≡ infeasible row
 
@@ -30,7 +30,7 @@ module _ {T W : Type 0} where
   outcome_ends (Splits place) e = cc
   outcome_ends (Gives plan) e = cc
 
-module _ {T W : Type 0} (p : Program T W) (line : Line) where
+module _ {T W : Type 0} (p : Program T W) (line : BoxLine) where
   -- ---- from the last tableau and the vertex
   pub ends_by_outcome : (o : Outcome T W) → end_move p line ≡ optimal → p.outcome line.area (end_point p line) ≡ o → ending_of p line ≡ ending_by_outcome o
   unfolding ending_of

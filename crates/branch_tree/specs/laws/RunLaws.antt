@@ -20,7 +20,7 @@ use Rattle.simplex_theory.proofs.StepCounts.{ended, dual_after}
 use Rattle.fraction_tableau.specs.NamedTableaus.{unnamed, name_in}
 use Rattle.dual_leaf.specs.Leaves.{goal_multipliers, row_multipliers, CoversWith, RefutesAt}
 use Rattle.dual_leaf.proofs.LeafLaws.{goal_leaf_covers, row_leaf_refutes, own_shares}
-use Rattle.branch_and_bound.specs.Lines.{Line}
+use Rattle.branch_and_bound.specs.Lines.{BoxLine}
 use Rattle.branch_tree.specs.Program.{Program, rows_for}
 use Rattle.branch_tree.specs.Ends.{table_after, steps_of, last_table, named_last, end_move, end_point, end_bound, leaf_by, end_leaf, leaf_row}
 use Rattle.branch_tree.specs.laws.Standing.{height-after, width-after}
@@ -30,7 +30,7 @@ met_at x [] k m h = absurd (omega arith)
 met_at x (r ∷ rows) zero m h = m.0
 met_at x (r ∷ rows) (suc k) m h = met_at x rows k m.1 (omega arith)
 
-module _ {T W : Type 0} (p : Program T W) (line : Line) (s : p.IsSound) where
+module _ {T W : Type 0} (p : Program T W) (line : BoxLine) (s : p.IsSound) where
   -- ---- the tableaus
   pub run_dual : (k : ℕ) → IsDual (table_after p line k)
   unfolding table_after

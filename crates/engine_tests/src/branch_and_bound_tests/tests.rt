@@ -5,7 +5,7 @@ ghost use Rattle.std.specs.Prelude.{◌<◌};
 
 use super::toy::Capped;
 use artery_model::Artery;
-use branch_and_bound::{Found, Incumbent, Stop, TreeNode, Verdict, law_enough, search};
+use branch_and_bound::{Found, Stop, TreeNode, Verdict, law_enough, search};
 use narrow_fraction::Frac;
 use sample_streets::{SampleHead, plain_head, plain_link, plain_signal, range, sample_street};
 use std::alloc::Global;
@@ -42,11 +42,8 @@ fn found(alloc: Global, cap: i64, limit: u64) -> Result<Found<i64, u8>, Fail>
 }
 
 /// The best number, and -1 where there is none.
-fn number(best: &Option<Incumbent<i64>>) -> i64 {
-    match best {
-        Some(best) => best.timing,
-        None => -1,
-    }
+fn number(timing: &Option<i64>) -> i64 {
+    timing.unwrap_or(-1)
 }
 
 /// A letter for each node: split, closed or waiting.
@@ -76,7 +73,7 @@ fn the_best_is_found(rt: HostRuntime) -> Result<(), Fail> {
     assert!(rt; matches!(found.verdict, Verdict::Best));
     assert!(rt; has_shape(&found, b"ssccc"));
     assert!(rt; found.spent == 10);
-    assert!(rt; number(&found.incumbent) == 1);
+    assert!(rt; number(&found.timing) == 1);
     assert!(rt; found.bound == Frac::whole(1));
     Ok(())
 }
@@ -106,7 +103,7 @@ fn work_runs_out(rt: HostRuntime) -> Result<(), Fail> {
         assert!(rt; found.spent == limit);
         assert!(rt; has_shape(&found, letters.as_bytes()));
         assert!(rt; found.bound == Frac::whole(bound));
-        assert!(rt; number(&found.incumbent) == best);
+        assert!(rt; number(&found.timing) == best);
     }
     let just = found(rt.alloc(), 1, 10)?;
     assert!(rt; matches!(just.verdict, Verdict::Best));
@@ -128,6 +125,6 @@ fn a_refusal_stops_at_the_root(rt: HostRuntime) -> Result<(), Fail> {
     assert!(rt; found.spent == 1);
     assert!(rt; has_shape(&found, b"w"));
     assert!(rt; found.bound == Frac::whole(3));
-    assert!(rt; number(&found.incumbent) == -1);
+    assert!(rt; number(&found.timing) == -1);
     Ok(())
 }

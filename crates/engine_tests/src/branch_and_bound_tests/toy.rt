@@ -3,7 +3,7 @@
 
 ghost use Rattle.std.specs.Prelude.{◌≡◌, ◌≤◌, ◌<ℤ◌, ◌-ℤ◌, ℤ, pos, length, IfOk};
 ghost use Rattle.progression.specs.Street.{Street};
-ghost use Rattle.branch_and_bound.specs.Lines.{Line};
+ghost use Rattle.branch_and_bound.specs.Lines.{BoxLine};
 ghost use Rattle.work_meter.specs.Work.{HasWork};
 ghost use Rattle.branch_and_bound.specs.OpenedNodes.{Opens};
 ghost use Rattle.engine_tests.specs.CappedRules.{capped_rules, EndsAs};
@@ -40,7 +40,7 @@ fn no_rows(alloc: Global) -> Leaf {
 /// The end of a box of one link.
 fn end_of(alloc: Global, cap: i64, area: &SearchBox) -> Opened<i64, u8, u8>
     requires { length area.now.loops ≡ 1 }
-    ensures { (a : Street) (line : Line) → line.area ≡ area.now → EndsAs a cap line result }
+    ensures { (a : Street) (line : BoxLine) → line.area ≡ area.now → EndsAs a cap line result }
 {
     let span = area.loop_span(1);
     let leaf = no_rows(alloc);
@@ -72,7 +72,7 @@ fn end_of(alloc: Global, cap: i64, area: &SearchBox) -> Opened<i64, u8, u8>
 /// The end of a box with so many links.
 fn end_with(alloc: Global, cap: i64, links: u32, area: &SearchBox) -> Opened<i64, u8, u8>
     requires { links ≡ length area.now.loops }
-    ensures { (a : Street) (line : Line) → line.area ≡ area.now → EndsAs a cap line result }
+    ensures { (a : Street) (line : BoxLine) → line.area ≡ area.now → EndsAs a cap line result }
 {
     if links == 1 {
         end_of(alloc, cap, area)
@@ -95,7 +95,7 @@ impl Capped {
         requires work { HasWork meter.old }
         requires links { links ≡ length area.now.loops }
         ensures limit { meter.new.limit ≡ meter.old.limit }
-        ensures opens { (line : Line) → line.area ≡ area.now → Opens (capped_rules self.now.artery self.now.cap) line meter.old meter.new result }
+        ensures opens { (line : BoxLine) → line.area ≡ area.now → Opens (capped_rules self.now.artery self.now.cap) line meter.old meter.new result }
     {
         meter.spend();
         if meter.is_out() {

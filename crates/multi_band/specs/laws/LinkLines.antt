@@ -20,7 +20,7 @@ use Rattle.link_theory.proofs.PlainStreets.{plain_street, plain_box}
 use Rattle.link_theory.proofs.LinesOfVertices.{lines_vertex}
 use Rattle.link_space.specs.LinkWeights.{link_named}
 use Rattle.branch_and_bound.specs.Choices.{HasNumbers}
-use Rattle.branch_and_bound.specs.Lines.{Line, low_line, high_line}
+use Rattle.branch_and_bound.specs.Lines.{BoxLine, low_line, high_line}
 use Rattle.branch_and_bound.specs.Lineages.{Cuts, IsOptimal, IsLineage}
 use Rattle.branch_tree.specs.Ends.{table_after, steps_of, end_move, end_point, end_bound, end_leaf, ending_of}
 use Rattle.branch_tree.specs.Lineage.{IsSearchable}
@@ -42,7 +42,7 @@ weights_over : (a : Street) (ws : List Weight) → AreOver (names_of_links a) ws
 weights_over a [] h = tt
 weights_over a (w ∷ ws) h = ((among_links_is a w.row).0 h.0, h.1, weights_over a ws h.2)
 
-module _ (a : Street) (line : Line) (v : IsValid a) where
+module _ (a : Street) (line : BoxLine) (v : IsValid a) where
   -- ---- the leaf
   pub link_end_weights : AreLinkWeights a (map link_named (end_leaf (link_program a) line))
   link_end_weights = weights_over a (end_leaf (link_program a) line) (end_over (link_program a) line v)
@@ -60,7 +60,7 @@ module _ (a : Street) (line : Line) (v : IsValid a) where
         let p = end_point_of (link_program a) line v e in
         table_vertex a line.area (end_point (link_program a) line) p.columns p.not_negative (band_zero 0 (omega arith)) (band_zero 1 (omega arith)) p.rows
 
-module _ (a : Street) (line : Line) (v : IsValid a) (b : IsBoxOf a line.area) where
+module _ (a : Street) (line : BoxLine) (v : IsValid a) (b : IsBoxOf a line.area) where
   vertex : IsOptimal (ending_of (link_program a) line) → IsLinkVertex a line.area (end_point (link_program a) line)
   vertex o = link_end_vertex a line v (optimal_from (link_program a) line o)
 
@@ -95,13 +95,13 @@ module _ (a : Street) (line : Line) (v : IsValid a) (b : IsBoxOf a line.area) wh
 
 -- ---- lineages
 -- the lines that a search of the artery's links can meet
-abbrev pub IsLinkLine : Street → Line → Type 0
+abbrev pub IsLinkLine : Street → BoxLine → Type 0
 IsLinkLine a line = IsLineage (IsSearchable a) (root_box a) (ending_of (link_program a)) line
 
-pub link_searchable : (a : Street) (line : Line) → IsLinkLine a line → IsSearchable a
+pub link_searchable : (a : Street) (line : BoxLine) → IsLinkLine a line → IsSearchable a
 link_searchable a line l = sound_along (IsSearchable a) (root_box a) (ending_of (link_program a)) line l
 
-pub link_boxed : (a : Street) (line : Line) → IsLinkLine a line → IsBoxOf a line.area
+pub link_boxed : (a : Street) (line : BoxLine) → IsLinkLine a line → IsBoxOf a line.area
 link_boxed a line l =
     boxed_along (IsSearchable a) (root_box a) (ending_of (link_program a)) (IsBoxOf a) (λ s. s.root)
     (λ at place s b e. let p = parts_of a at.area place b (link_cuts_inside a at s.valid b place e) in (p.low_box, p.high_box)) line l

@@ -127,8 +127,15 @@ fn name_of(kind: Kind) -> &'static str {
 pub fn answer(alloc: Global, bytes: &[u8]) -> Result<String, AllocError> {
     match read_artery(alloc, bytes) {
         Ok(_) => String::from_str(alloc, "described"),
-        Err(Flaw::Memory) => String::from_str(alloc, "memory"),
-        Err(Flaw::Refused(refusal)) => {
+        Err(flaw) => answer_of(alloc, flaw),
+    }
+}
+
+/// The kind and the place of a refusal.
+pub fn answer_of(alloc: Global, flaw: Flaw) -> Result<String, AllocError> {
+    match flaw {
+        Flaw::Memory => String::from_str(alloc, "memory"),
+        Flaw::Refused(refusal) => {
             let kind = name_of(refusal.kind);
             let place = refusal.place.as_str();
             format!(in alloc; "{kind} {place}")

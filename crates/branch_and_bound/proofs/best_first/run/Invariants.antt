@@ -7,9 +7,9 @@ use Rattle.branch_and_bound.proofs.best_first.run.Given as goal
 abbrev pub invariant-splits : goal.invariant-splits
 invariant-splits g l = record {
   ready : g.P.Relaxation.Ready l.relaxation l.room;
-  within : IsWithin l.meter.spent l.meter.limit;
-  limit : l.meter.limit ≡ l.initial.meter.limit;
-  holds : (top : ℚ) × IsSearchState (g.P.Relaxation.rules l.relaxation) l.nodes.items l.incumbent top l.meter.spent;
+  within : IsWithin l.progress.meter.spent l.progress.meter.limit;
+  limit : l.progress.meter.limit ≡ l.initial.progress.meter.limit;
+  holds : (top : ℚ) × IsSearchState (g.P.Relaxation.rules l.relaxation) l.nodes.items l.progress.incumbent top l.progress.meter.spent;
 }
 
 abbrev pub decreases-splits : goal.decreases-splits

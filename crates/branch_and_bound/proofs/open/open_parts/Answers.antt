@@ -1,50 +1,37 @@
-use Rattle.std.proofs.Common.{sym, subst}
+use Rattle.std.proofs.lemmas.Result.{err_from_is_err_and}
 use Rattle.branch_and_bound.specs.Lines.{low_line, high_line}
-use Rattle.branch_and_bound.specs.State.{IsBetter}
 use Rattle.branch_and_bound.specs.Lineages.{at_low}
-use Rattle.branch_and_bound.proofs.Settling.{low_is, high_is, leaf_read}
+use Rattle.branch_and_bound.proofs.Settling.{low_is, high_is, low_halted, high_halted}
 use Rattle.branch_and_bound.proofs.open.open_parts.Goals as goal
 
 pub open_side-requires-clause-part : goal.open_side-requires-clause-part
 open_side-requires-clause-part g c =
-    let line = c.requires.cut.0 in
-    (line, low_line c.args.place line, c.args.place, low_is _ line _ _ _ _ c.requires.cut.1 c.in_ok-low_box.ensures.low)
+    let line = c.requires.cut.0 in let place = c.args.cut.now.place in
+    (line, low_line place line, place, low_is _ line _ _ _ _ c.requires.cut.1 c.in_ok-low_box.ensures.low)
 
-pub returns-in-Part-clause-settles : goal.returns-in-Part-clause-settles
-returns-in-Part-clause-settles g c = λ line cut.
-    let part = low_is (g.P.Relaxation.rules c.args.relaxation.now) line _ _ _ _ cut c.in_ok-low_box.ensures.low in
-    let k = rw c.in-Part.is at (c.in_ok-node.ensures.ends line (low_line c.args.place line) c.args.place part) in
-    record { same = k.0; stops = k.1 }
-
-pub open_side-requires-2-clause-within : goal.open_side-requires-2-clause-within
-open_side-requires-2-clause-within g c =
-    let line = c.requires.cut.0 in
-    let part = low_is (g.P.Relaxation.rules c.args.relaxation.now) line _ _ _ _ c.requires.cut.1 c.in_ok-low_box.ensures.low in
-    let k = rw c.in-Whole.is at (c.in_ok-node.ensures.ends line (low_line c.args.place line) c.args.place part) in
-    k.1.within
+pub returns-in_err-low-clause-ends : goal.returns-in_err-low-clause-ends
+returns-in_err-low-clause-ends g c = λ line cut.
+    let r = g.P.Relaxation.rules c.args.relaxation.now in let place = c.args.cut.now.place in
+    let p = err_from_is_err_and c.from_residual-in_err-low.result c.from_residual-in_err-low.ensures.1 in
+    let low = low_is r line _ _ _ _ cut c.in_ok-low_box.ensures.low in
+    rw (p.1, p.2) (low_halted r line place c.args.progress.now c.open_side.new.progress _ (c.in_err-low.ensures.ends line (low_line place line) place low))
 
 pub open_side-requires-2-clause-part : goal.open_side-requires-2-clause-part
 open_side-requires-2-clause-part g c =
-    let line = c.requires.cut.0 in
-    (line, high_line c.args.place line, c.args.place, high_is _ line _ _ _ _ c.requires.cut.1 c.in_ok-low_box.ensures.high)
+    let line = c.requires.cut.0 in let place = c.args.cut.now.place in
+    (line, high_line place line, place, high_is _ line _ _ _ _ c.requires.cut.1 c.in_ok-low_box.ensures.high)
 
-pub returns-in-Whole-2-clause-settles : goal.returns-in-Whole-2-clause-settles
-returns-in-Whole-2-clause-settles g c = λ line cut.
-    let r = g.P.Relaxation.rules c.args.relaxation.now in
-    let low_part = low_is r line _ _ _ _ cut c.in_ok-low_box.ensures.low in
-    let high_part = high_is r line _ _ _ _ cut c.in_ok-low_box.ensures.high in
-    let k = rw c.in-Whole.is at (c.in_ok-node.ensures.ends line (low_line c.args.place line) c.args.place low_part) in
-    let m = rw c.in-Whole-2.is at (c.in_ok-node-2.ensures.ends line (high_line c.args.place line) c.args.place high_part) in
-    record { middle = c.open_side.new.incumbent; between = c.open_side.new.meter; low_is = k.0; low_cost = k.1; high_is = m.0; high_cost = m.1 }
+pub returns-in_err-high-clause-ends : goal.returns-in_err-high-clause-ends
+returns-in_err-high-clause-ends g c = λ line cut.
+    let r = g.P.Relaxation.rules c.args.relaxation.now in let place = c.args.cut.now.place in
+    let p = err_from_is_err_and c.from_residual-in_err-high.result c.from_residual-in_err-high.ensures.1 in
+    let low = c.in_ok-low.ensures.ends line (low_line place line) place (low_is r line _ _ _ _ cut c.in_ok-low_box.ensures.low) in
+    let high = c.in_err-high.ensures.ends line (high_line place line) place (high_is r line _ _ _ _ cut c.in_ok-low_box.ensures.high) in
+    rw (p.1, p.2) (high_halted r line place c.args.progress.now c.open_side.new.progress c.open_side-2.new.progress c.in_ok-low.low _ (at_low line place cut.lineage cut.end) low.0 low.1 high)
 
-pub returns-in-Part-2-clause-settles : goal.returns-in-Part-2-clause-settles
-returns-in-Part-2-clause-settles g c = λ line cut.
-    let r = g.P.Relaxation.rules c.args.relaxation.now in
-    let low_part = low_is r line _ _ _ _ cut c.in_ok-low_box.ensures.low in
-    let high_part = high_is r line _ _ _ _ cut c.in_ok-low_box.ensures.high in
-    let k = rw c.in-Whole.is at (c.in_ok-node.ensures.ends line (low_line c.args.place line) c.args.place low_part) in
-    let m = rw c.in-Part-2.is at (c.in_ok-node-2.ensures.ends line (high_line c.args.place line) c.args.place high_part) in
-    let better = subst (λ b. IsBetter r (low_line c.args.place line) c.args.incumbent.now b) (sym m.0) k.0.better in
-    let met = at_low line c.args.place cut.lineage cut.end in
-    let read = leaf_read r (low_line c.args.place line) _ _ _ met k.0 in
-    record { between = c.open_side.new.meter; better = better; read = read; low_cost = k.1; stops = m.1 }
+pub returns-clause-ends : goal.returns-clause-ends
+returns-clause-ends g c = λ line cut.
+    let r = g.P.Relaxation.rules c.args.relaxation.now in let place = c.args.cut.now.place in
+    let low = c.in_ok-low.ensures.ends line (low_line place line) place (low_is r line _ _ _ _ cut c.in_ok-low_box.ensures.low) in
+    let high = c.in_ok-high.ensures.ends line (high_line place line) place (high_is r line _ _ _ _ cut c.in_ok-low_box.ensures.high) in
+    record { middle = c.open_side.new.progress; low_is = low.0; low_cost = low.1; high_is = high.0; high_cost = high.1 }

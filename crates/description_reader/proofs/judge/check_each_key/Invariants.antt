@@ -8,5 +8,5 @@ use Rattle.description_reader.proofs.judge.check_each_key.Given as goal
 -- the values at the keys so far have no fault of the kind
 abbrev pub invariant-loop-entry : goal.invariant-loop-entry
 invariant-loop-entry l =
-    first_fault (map (key_fault l.stage l.facts.parts l.section (view l.table)) (keys_of l.facts.second l.section))
-    ≡ first_fault (map (key_fault l.stage l.facts.parts l.section (view l.table)) (map key_of (drop l.entry-index l.entry-items)))
+    first_fault (map (key_fault l.stage l.facts l.section (view l.table)) (keys_of l.section))
+    ≡ first_fault (map (key_fault l.stage l.facts l.section (view l.table)) (map key_of (drop l.entry-index l.entry-items)))

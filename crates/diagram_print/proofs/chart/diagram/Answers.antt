@@ -1,7 +1,7 @@
 use Rattle.std.proofs.Common.{◌+◌, sym, ◌∙◌, arith}
 use Rattle.progression.specs.Street.{count}
 use Rattle.diagram_print.specs.Diagram.{signal_rows}
-use Rattle.diagram_print.proofs.Pieces.{extended, none_down, piece_down, all_down}
+use Rattle.timing_measures.proofs.Pieces.{extended, none_down, piece_down, all_down}
 use Rattle.diagram_print.proofs.chart.diagram.Goals as goal
 
 pub loop-signal-init : goal.loop-signal-init

@@ -1,7 +1,7 @@
 use Rattle.std.proofs.Common.{◌≡◌, ◌≤◌}
 use Rattle.progression.specs.Street.{count}
 use Rattle.diagram_print.specs.Diagram.{signal_rows}
-use Rattle.diagram_print.proofs.Pieces.{pieces_down}
+use Rattle.timing_measures.proofs.Pieces.{pieces_down}
 use Rattle.diagram_print.proofs.chart.diagram.Given as goal
 
 abbrev pub invariant-loop-signal : goal.invariant-loop-signal

@@ -2,7 +2,7 @@ use Rattle.std.proofs.Common.{◌≡◌, ◌+◌, ◌-◌, flat_map, ap, ◌∙�
 use Rattle.std.specs.List.{range_with_len}
 use Rattle.progression.specs.Street.{count}
 use Rattle.diagram_print.specs.Speeds.{speed_lines}
-use Rattle.diagram_print.proofs.Pieces.{extended, piece_up}
+use Rattle.timing_measures.proofs.Pieces.{extended, piece_up}
 use Rattle.diagram_print.proofs.speeds.link_lines.Goals as goal
 
 pub loop-link-preserved : goal.loop-link-preserved

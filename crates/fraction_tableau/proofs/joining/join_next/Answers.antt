@@ -3,73 +3,53 @@ use Rattle.rational_theory.specs.Rational.{whole, neg_ℚ, ◌+ℚ◌, ◌*ℚ�
 use Rattle.simplex_theory.specs.Lines.{cleared}
 use Rattle.fraction_tableau.specs.KeptCells.{number_in, kept_below}
 use Rattle.fraction_tableau.specs.Scales.{IsOver, factor_of}
-use Rattle.fraction_tableau.proofs.KeptCells.{next_in, step_count, same_width}
+use Rattle.fraction_tableau.proofs.KeptCells.{IsNext, next_in, step_count, same_width}
 use Rattle.fraction_tableau.proofs.Scales.{quiet_is, cleared_number, joined_next}
 use Rattle.fraction_tableau.proofs.joining.join_next.Goals as goal
+use Rattle.fraction_tableau.proofs.joining.join_next.Goals.{After-index-others-index}
+
+-- the next cell of the turned row that isn't 0
+next : (c : After-index-others-index) → IsNext (number_in c.args.turned.now) c.args.done.below (length c.args.cells.now) c.index-others-index.result
+next c =
+    let f = number_in c.args.turned.now in
+    let s = c.kept-others.ensures ∙ ap (kept_below f) (same_width _ _ _ c.requires.width c.requires.widths) in
+    next_in f c.args.done.below (length c.args.cells.now) c.args.index c.kept-others.result.now c.index-others-index.result s c.index-others-index.is c.requires.joined.inside c.requires.index (subst (λ t. c.args.index < length t) (sym s) c.requires.inside)
 
 pub keep_before-done-requires-clause-place : goal.keep_before-done-requires-clause-place
 keep_before-done-requires-clause-place c =
-    let e = c.args.turned.now in
-    let d = c.args.row.now in
-    let j = c.args.joining.now in
-    let k = c.index-others-index.result in
-    let s = c.kept-others.ensures ∙ ap (kept_below (number_in e)) (same_width _ _ _ c.requires.width c.requires.widths) in
-    let x = next_in (number_in e) c.args.done.below (length c.args.cells.now) c.args.index c.kept-others.result.now k s c.index-others-index.is c.requires.joined.inside c.requires.index (subst (λ t. c.args.index < length t) (sym s) c.requires.inside) in
+    let x = next (goal.at.keep_before-done-requires-clause-place c).After-index-others-index in
     let y = x.inside in
     omega arith
 
 pub keep_before-done-requires-clause-order : goal.keep_before-done-requires-clause-order
 keep_before-done-requires-clause-order c =
-    let e = c.args.turned.now in
-    let d = c.args.row.now in
-    let j = c.args.joining.now in
-    let k = c.index-others-index.result in
-    let s = c.kept-others.ensures ∙ ap (kept_below (number_in e)) (same_width _ _ _ c.requires.width c.requires.widths) in
-    let x = next_in (number_in e) c.args.done.below (length c.args.cells.now) c.args.index c.kept-others.result.now k s c.index-others-index.is c.requires.joined.inside c.requires.index (subst (λ t. c.args.index < length t) (sym s) c.requires.inside) in
+    let x = next (goal.at.keep_before-done-requires-clause-order c).After-index-others-index in
     let y = x.inside in
     x.after
 
 pub take_at-own-requires-clause-place : goal.take_at-own-requires-clause-place
 take_at-own-requires-clause-place c =
-    let e = c.args.turned.now in
-    let d = c.args.row.now in
-    let j = c.args.joining.now in
-    let k = c.index-others-index.result in
-    let s = c.kept-others.ensures ∙ ap (kept_below (number_in e)) (same_width _ _ _ c.requires.width c.requires.widths) in
-    let x = next_in (number_in e) c.args.done.below (length c.args.cells.now) c.args.index c.kept-others.result.now k s c.index-others-index.is c.requires.joined.inside c.requires.index (subst (λ t. c.args.index < length t) (sym s) c.requires.inside) in
+    let x = next (goal.at.take_at-own-requires-clause-place c).After-index-others-index in
     let y = x.inside in
     omega (arith, c.requires.width)
 
 pub joined-cell-requires-clause-turned : goal.joined-cell-requires-clause-turned
 joined-cell-requires-clause-turned c =
-    let e = c.args.turned.now in
-    let d = c.args.row.now in
     let j = c.args.joining.now in
     let k = c.index-others-index.result in
-    let s = c.kept-others.ensures ∙ ap (kept_below (number_in e)) (same_width _ _ _ c.requires.width c.requires.widths) in
-    let x = next_in (number_in e) c.args.done.below (length c.args.cells.now) c.args.index c.kept-others.result.now k s c.index-others-index.is c.requires.joined.inside c.requires.index (subst (λ t. c.args.index < length t) (sym s) c.requires.inside) in
+    let x = next (goal.at.joined-cell-requires-clause-turned c).After-index-others-index in
     let y = x.inside in
     subst (IsOver j.turned.denominator j.turned.most) x.is (c.requires.turned.numbers k.place)
 
 pub put-made-requires : goal.put-made-requires
 put-made-requires c =
-    let e = c.args.turned.now in
-    let d = c.args.row.now in
-    let j = c.args.joining.now in
-    let k = c.index-others-index.result in
-    let s = c.kept-others.ensures ∙ ap (kept_below (number_in e)) (same_width _ _ _ c.requires.width c.requires.widths) in
-    let x = next_in (number_in e) c.args.done.below (length c.args.cells.now) c.args.index c.kept-others.result.now k s c.index-others-index.is c.requires.joined.inside c.requires.index (subst (λ t. c.args.index < length t) (sym s) c.requires.inside) in
+    let x = next (goal.at.put-made-requires c).After-index-others-index in
     let y = x.inside in
     omega (arith, c.keep_before-done.auto.cells, c.keep_before-done.ensures.made)
 
 pub overflow_add-result : goal.overflow_add-result
 overflow_add-result c =
-    let e = c.args.turned.now in
-    let d = c.args.row.now in
-    let j = c.args.joining.now in
-    let k = c.index-others-index.result in
-    let s = c.kept-others.ensures ∙ ap (kept_below (number_in e)) (same_width _ _ _ c.requires.width c.requires.widths) in
-    let x = next_in (number_in e) c.args.done.below (length c.args.cells.now) c.args.index c.kept-others.result.now k s c.index-others-index.is c.requires.joined.inside c.requires.index (subst (λ t. c.args.index < length t) (sym s) c.requires.inside) in
+    let x = next (goal.at.overflow_add-result c).After-index-others-index in
     let y = x.inside in
     omega (arith, c.requires.width, c.requires.short)
 
@@ -79,8 +59,7 @@ returns-clause-joined c =
     let d = c.args.row.now in
     let j = c.args.joining.now in
     let k = c.index-others-index.result in
-    let s = c.kept-others.ensures ∙ ap (kept_below (number_in e)) (same_width _ _ _ c.requires.width c.requires.widths) in
-    let x = next_in (number_in e) c.args.done.below (length c.args.cells.now) c.args.index c.kept-others.result.now k s c.index-others-index.is c.requires.joined.inside c.requires.index (subst (λ t. c.args.index < length t) (sym s) c.requires.inside) in
+    let x = next (goal.at.returns-clause-joined c).After-index-others-index in
     let y = x.inside in
     let t = cleared j.place e d in
     let n = c.keep_before-done.ensures.cells (number_in t) (λ m a b. quiet_is j.place m e d c.requires.own (x.zeros m a b)) c.requires.joined.joined in
@@ -94,10 +73,7 @@ returns-clause-joined c =
 pub returns-clause-index : goal.returns-clause-index
 returns-clause-index c =
     let e = c.args.turned.now in
-    let d = c.args.row.now in
-    let j = c.args.joining.now in
     let k = c.index-others-index.result in
-    let s = c.kept-others.ensures ∙ ap (kept_below (number_in e)) (same_width _ _ _ c.requires.width c.requires.widths) in
-    let x = next_in (number_in e) c.args.done.below (length c.args.cells.now) c.args.index c.kept-others.result.now k s c.index-others-index.is c.requires.joined.inside c.requires.index (subst (λ t. c.args.index < length t) (sym s) c.requires.inside) in
+    let x = next (goal.at.returns-clause-index c).After-index-others-index in
     let y = x.inside in
     ap (λ n. n + 1) c.requires.index ∙ sym (step_count (number_in e) c.args.done.below (length c.args.cells.now) k x)

@@ -3,36 +3,32 @@ use Rattle.narrow_fraction.specs.Fraction.{FitsFrac}
 use Rattle.narrow_fraction.proofs.Attempt.{attempt_ok, attempt_err, first_is}
 use Rattle.fraction_tableau.specs.Refusals.{clear_at}
 use Rattle.fraction_tableau.specs.KeptCells.{number_in, kept_below, merged_at}
-use Rattle.fraction_tableau.proofs.KeptCells.{next_in, step_count, same_width}
+use Rattle.fraction_tableau.proofs.KeptCells.{IsNext, next_in, step_count, same_width}
 use Rattle.fraction_tableau.proofs.Merges.{quiet_number, merge_passed, merge_fits, same_refusal, same_number, merge_next_is}
 use Rattle.fraction_tableau.proofs.merging.merge_next.Goals as goal
+use Rattle.fraction_tableau.proofs.merging.merge_next.Goals.{After-index-others-index}
+
+-- the next cell of the turned row that isn't 0
+next : (c : After-index-others-index) → IsNext (number_in c.args.turned.now) c.args.done.below (length c.args.cells.now) c.index-others-index.result
+next c =
+    let f = number_in c.args.turned.now in
+    let s = c.kept-others.ensures ∙ ap (kept_below f) (same_width _ _ _ c.requires.width c.requires.widths) in
+    next_in f c.args.done.below (length c.args.cells.now) c.args.index c.kept-others.result.now c.index-others-index.result s c.index-others-index.is c.requires.merged.inside c.requires.index (subst (λ t. c.args.index < length t) (sym s) c.requires.inside)
 
 pub keep_before-done-requires-clause-place : goal.keep_before-done-requires-clause-place
 keep_before-done-requires-clause-place c =
-    let e = c.args.turned.now in
-    let d = c.args.row.now in
-    let k = c.index-others-index.result in
-    let s = c.kept-others.ensures ∙ ap (kept_below (number_in e)) (same_width _ _ _ c.requires.width c.requires.widths) in
-    let x = next_in (number_in e) c.args.done.below (length c.args.cells.now) c.args.index c.kept-others.result.now k s c.index-others-index.is c.requires.merged.inside c.requires.index (subst (λ t. c.args.index < length t) (sym s) c.requires.inside) in
+    let x = next (goal.at.keep_before-done-requires-clause-place c).After-index-others-index in
     let y = x.inside in
     omega arith
 
 pub keep_before-done-requires-clause-order : goal.keep_before-done-requires-clause-order
 keep_before-done-requires-clause-order c =
-    let e = c.args.turned.now in
-    let d = c.args.row.now in
-    let k = c.index-others-index.result in
-    let s = c.kept-others.ensures ∙ ap (kept_below (number_in e)) (same_width _ _ _ c.requires.width c.requires.widths) in
-    let x = next_in (number_in e) c.args.done.below (length c.args.cells.now) c.args.index c.kept-others.result.now k s c.index-others-index.is c.requires.merged.inside c.requires.index (subst (λ t. c.args.index < length t) (sym s) c.requires.inside) in
+    let x = next (goal.at.keep_before-done-requires-clause-order c).After-index-others-index in
     x.after
 
 pub take_at-own-requires-clause-place : goal.take_at-own-requires-clause-place
 take_at-own-requires-clause-place c =
-    let e = c.args.turned.now in
-    let d = c.args.row.now in
-    let k = c.index-others-index.result in
-    let s = c.kept-others.ensures ∙ ap (kept_below (number_in e)) (same_width _ _ _ c.requires.width c.requires.widths) in
-    let x = next_in (number_in e) c.args.done.below (length c.args.cells.now) c.args.index c.kept-others.result.now k s c.index-others-index.is c.requires.merged.inside c.requires.index (subst (λ t. c.args.index < length t) (sym s) c.requires.inside) in
+    let x = next (goal.at.take_at-own-requires-clause-place c).After-index-others-index in
     let y = x.inside in
     omega (arith, c.requires.width)
 
@@ -41,32 +37,22 @@ returns-in-Err-clause-refused c =
     let e = c.args.turned.now in
     let d = c.args.row.now in
     let k = c.index-others-index.result in
-    let s = c.kept-others.ensures ∙ ap (kept_below (number_in e)) (same_width _ _ _ c.requires.width c.requires.widths) in
-    let x = next_in (number_in e) c.args.done.below (length c.args.cells.now) c.args.index c.kept-others.result.now k s c.index-others-index.is c.requires.merged.inside c.requires.index (subst (λ t. c.args.index < length t) (sym s) c.requires.inside) in
+    let x = next (goal.at.returns-in-Err-clause-refused c).After-index-others-index in
     let i = c.args.clearing.now.number in
     let j = c.args.clearing.now.own.place in
-    let v = c.args.clearing.now.own.cell in
     let f = c.args.clearing.now.factor in
     let r = sym (same_refusal i j e d k c.fraction.result f c.requires.factor x.is (c.fraction.ensures.value ∙ c.take_at-own.ensures.cell)) ∙ attempt_err _ _ _ c.in-Err.ensures.outcome in
     first_is (clear_at i j e d) k.place (length c.args.cells.now) c.in-Err.wide (merge_passed i j e d c.args.done.below k.place c.requires.narrow x.after c.requires.merged.passed x.zeros) r x.inside
 
 pub put-made-requires : goal.put-made-requires
 put-made-requires c =
-    let e = c.args.turned.now in
-    let d = c.args.row.now in
-    let k = c.index-others-index.result in
-    let s = c.kept-others.ensures ∙ ap (kept_below (number_in e)) (same_width _ _ _ c.requires.width c.requires.widths) in
-    let x = next_in (number_in e) c.args.done.below (length c.args.cells.now) c.args.index c.kept-others.result.now k s c.index-others-index.is c.requires.merged.inside c.requires.index (subst (λ t. c.args.index < length t) (sym s) c.requires.inside) in
+    let x = next (goal.at.put-made-requires c).After-index-others-index in
     let y = x.inside in
     omega (arith, c.keep_before-done.auto.cells, c.keep_before-done.ensures.made)
 
 pub overflow_add-result : goal.overflow_add-result
 overflow_add-result c =
-    let e = c.args.turned.now in
-    let d = c.args.row.now in
-    let k = c.index-others-index.result in
-    let s = c.kept-others.ensures ∙ ap (kept_below (number_in e)) (same_width _ _ _ c.requires.width c.requires.widths) in
-    let x = next_in (number_in e) c.args.done.below (length c.args.cells.now) c.args.index c.kept-others.result.now k s c.index-others-index.is c.requires.merged.inside c.requires.index (subst (λ t. c.args.index < length t) (sym s) c.requires.inside) in
+    let x = next (goal.at.overflow_add-result c).After-index-others-index in
     let y = x.inside in
     omega (arith, c.requires.width, c.requires.short)
 
@@ -75,8 +61,7 @@ returns-clause-merged c =
     let e = c.args.turned.now in
     let d = c.args.row.now in
     let k = c.index-others-index.result in
-    let s = c.kept-others.ensures ∙ ap (kept_below (number_in e)) (same_width _ _ _ c.requires.width c.requires.widths) in
-    let x = next_in (number_in e) c.args.done.below (length c.args.cells.now) c.args.index c.kept-others.result.now k s c.index-others-index.is c.requires.merged.inside c.requires.index (subst (λ t. c.args.index < length t) (sym s) c.requires.inside) in
+    let x = next (goal.at.returns-clause-merged c).After-index-others-index in
     let i = c.args.clearing.now.number in
     let j = c.args.clearing.now.own.place in
     let v = c.args.clearing.now.own.cell in
@@ -92,8 +77,6 @@ returns-clause-merged c =
 pub returns-clause-index : goal.returns-clause-index
 returns-clause-index c =
     let e = c.args.turned.now in
-    let d = c.args.row.now in
     let k = c.index-others-index.result in
-    let s = c.kept-others.ensures ∙ ap (kept_below (number_in e)) (same_width _ _ _ c.requires.width c.requires.widths) in
-    let x = next_in (number_in e) c.args.done.below (length c.args.cells.now) c.args.index c.kept-others.result.now k s c.index-others-index.is c.requires.merged.inside c.requires.index (subst (λ t. c.args.index < length t) (sym s) c.requires.inside) in
+    let x = next (goal.at.returns-clause-index c).After-index-others-index in
     ap (λ n. n + 1) c.requires.index ∙ sym (step_count (number_in e) c.args.done.below (length c.args.cells.now) k x)

@@ -1,7 +1,7 @@
 use Rattle.std.proofs.Common.{◌≡◌, ◌+◌, ◌*◌, ◌<◌, ◌≤◌, ◌^◌, unsigned_abs, ◌+ℤ◌}
 use Rattle.progression.specs.Street.{count}
 use Rattle.mirror_theory.specs.Runs.{far}
-use Rattle.half_integer.specs.Lines.{fullest}
+use Rattle.half_integer.specs.Bands.{fullest}
 use Rattle.half_integer.proofs.search.fullest.Given as goal
 
 -- the fullest so far, and the line stands where it crosses the next signal

@@ -1,5 +1,6 @@
+use Rattle.std.proofs.Common.{rules}
 use Rattle.maxband_run.proofs.Told.{second_unread}
 use Rattle.maxband_run.proofs.inputs.read_both.Goals as goal
 
-pub returns-in-Err-read_one-clause-unread : goal.returns-in-Err-read_one-clause-unread
-returns-in-Err-read_one-clause-unread g c = second_unread c.in-Err-read_one.end c.in-Ok.ensures.read c.in-Ok.ensures.kept c.in-Err-read_one.ensures.unread
+pub returns-in_err-other-clause-unread : goal.returns-in_err-other-clause-unread
+returns-in_err-other-clause-unread g c = let both = second_unread _ c.in_ok-one.ensures.read c.in_ok-one.ensures.kept c.in_err-other.ensures.unread in search (rules, both)

@@ -1,7 +1,7 @@
 use Rattle.std.proofs.Common.{◌≡◌, ◌+◌, ◌-◌, flat_map, ap, ◌∙◌, arith}
 use Rattle.std.specs.List.{range_with_len}
 use Rattle.progression.specs.Street.{count}
-use Rattle.diagram_print.proofs.Pieces.{extended, piece_up}
+use Rattle.timing_measures.proofs.Pieces.{extended, piece_up}
 use Rattle.multi_band.specs.LinkReport.{both_band_lines}
 use Rattle.multi_band.proofs.band_lines.link_band_lines.Goals as goal
 

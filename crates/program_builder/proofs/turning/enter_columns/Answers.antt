@@ -1,15 +1,31 @@
-use Rattle.std.proofs.Common.{◌≡◌, ◌<◌, length, refl, sym, ◌∙◌, ap, subst, arith}
-use Rattle.simplex_theory.specs.Tableau.{Tableau, IsPlace, width}
+use Rattle.std.proofs.Common.{◌≡◌, ℕ, List, ◌+◌, ◌<◌, ◌≤◌, length, refl, sym, ◌∙◌, ap, subst, arith}
+use Rattle.simplex_theory.specs.Tableau.{Tableau, IsPlace, height, width}
 use Rattle.narrow_fraction.specs.Attempt.{attempt}
 use Rattle.narrow_fraction.proofs.Attempt.{attempt_ok, attempt_err}
 use Rattle.entry_theory.specs.Entry as rule
-use Rattle.entry_theory.proofs.Entered.{ready_place}
+use Rattle.entry_theory.proofs.Entered.{ready_place, ready_rows}
+use Rattle.entry_theory.specs.Ready.{IsReady}
+use Rattle.program_builder.specs.Remembering.{HaveRoom}
+use Rattle.program_builder.proofs.WrittenBounds.{notes_none, notes_next, notes_all}
 use Rattle.fraction_tableau.specs.NamedTableaus.{NamedTableau}
-use Rattle.program_builder.proofs.EntryTurns.{turned_none, turned_next, turned_all, all_passed, first_refused, passed_next}
+use Rattle.program_builder.proofs.EntryTurns.{turned, turned_none, turned_next, turned_all, all_passed, first_refused, passed_next}
 use Rattle.program_builder.proofs.turning.enter_columns.Goals as goal
 
 pub loop-turns-init : goal.loop-turns-init
-loop-turns-init c = record { table = turned_none c.args.basis.now c.args.tableau.now; passed = refl }
+loop-turns-init c = record {
+  table = turned_none c.args.basis.now c.args.tableau.now;
+  notes = notes_none c.args.basis.now c.args.tableau.now.table c.args.notes.now;
+  room = c.requires.room;
+  passed = refl;
+}
+
+-- no turn changes the number of rows
+same_height : (vs : List ℕ) (s t : NamedTableau) (k : ℕ) → IsReady vs s.table → k ≤ length vs → t ≡ turned vs s k → height s.table ≡ height t.table
+same_height vs s t k r h e = sym ((ready_rows vs s.table r k h).0) ∙ sym (ap (λ (x : NamedTableau). height x.table) e)
+
+pub turn-requires-clause-room : goal.turn-requires-clause-room
+turn-requires-clause-room c =
+    subst (λ n. HaveRoom c.loop-turns.notes (n + 1)) (same_height c.args.basis.now c.args.tableau.now c.loop-turns.tableau c.loop-turns.turns c.requires.ready (omega arith) c.loop-turns.invariant.table) c.loop-turns.invariant.room
 
 pub turn-requires-clause-place : goal.turn-requires-clause-place
 turn-requires-clause-place c =
@@ -27,6 +43,9 @@ returns-in-Err-clause-outcome c =
 pub loop-turns-preserved : goal.loop-turns-preserved
 loop-turns-preserved c = record {
   table = turned_next c.args.basis.now c.args.tableau.now c.loop-turns.tableau c.turn.new.tableau c.loop-turns.turns c.loop-turns.invariant.table c.in_default.ensures.turned;
+  notes = notes_next c.args.basis.now c.args.tableau.now.table c.loop-turns.tableau.table c.loop-turns.turns c.loop-turns.notes c.turn.new.notes
+      (ap (λ (x : NamedTableau). x.table) c.loop-turns.invariant.table) (omega arith) c.loop-turns.invariant.notes c.in_default.ensures.others c.in_default.ensures.noted;
+  room = subst (λ n. HaveRoom c.turn.new.notes (n + 1)) (sym (same_height c.args.basis.now c.args.tableau.now c.loop-turns.tableau c.loop-turns.turns c.requires.ready (omega arith) c.loop-turns.invariant.table)) c.in_default.ensures.room;
   passed = passed_next c.args.basis.now c.args.tableau.now c.loop-turns.tableau c.loop-turns.turns c.loop-turns.invariant.table c.loop-turns.invariant.passed (attempt_ok _ _ _ c.in_default.ensures.outcome).0;
 }
 
@@ -39,3 +58,12 @@ pub returns-clause-entered : goal.returns-clause-entered
 returns-clause-entered c =
     let e : c.loop-turns.turns ≡ length c.args.basis.now = omega arith in
     c.loop-turns.invariant.table ∙ turned_all c.args.basis.now c.args.tableau.now c.loop-turns.turns e
+
+pub returns-in-Err-clause-room : goal.returns-in-Err-clause-room
+returns-in-Err-clause-room c =
+    subst (λ n. HaveRoom c.turn.new.notes (n + 1)) (sym (same_height c.args.basis.now c.args.tableau.now c.loop-turns.tableau c.loop-turns.turns c.requires.ready (omega arith) c.loop-turns.invariant.table)) c.in-Err.ensures.room
+
+pub returns-clause-noted : goal.returns-clause-noted
+returns-clause-noted c =
+    let e : c.loop-turns.turns ≡ length c.args.basis.now = omega arith in
+    notes_all c.args.basis.now c.args.tableau.now.table c.loop-turns.turns c.loop-turns.notes e c.loop-turns.invariant.notes

@@ -5,8 +5,8 @@ use Rattle.second_plan.proofs.planning.planned.Goals as goal
 
 pub returns-in_default-clause-faults : goal.returns-in_default-clause-faults
 returns-in_default-clause-faults c = λ claim. record {
-  k = c.args.seconds;
-  offsets = c.args.offsets.now;
+  k = c.args.rounded.now.seconds;
+  offsets = c.args.rounded.now.offsets.items;
   whole = c.requires.whole;
   none = subst (λ p. NoneRuns c.args.artery.now p Outbound) c.in_ok-frame.ensures c.in_default.ensures.widest;
   before = λ e. absurd (cc);
@@ -14,8 +14,8 @@ returns-in_default-clause-faults c = λ claim. record {
 
 pub returns-in_default-widest-clause-faults : goal.returns-in_default-widest-clause-faults
 returns-in_default-widest-clause-faults c = λ claim. record {
-  k = c.args.seconds;
-  offsets = c.args.offsets.now;
+  k = c.args.rounded.now.seconds;
+  offsets = c.args.rounded.now.offsets.items;
   whole = c.requires.whole;
   none = subst (λ p. NoneRuns c.args.artery.now p Inbound) c.in_ok-frame.ensures c.in_default-widest.ensures.widest;
   before = λ e. subst (λ p. ¬ NoneRuns c.args.artery.now p Outbound) c.in_ok-frame.ensures c.in-Some.ensures.some;

@@ -1,0 +1,221 @@
+-- Which shapes are seen through the field of a drawing: the members of lists that are made piece by piece.
+use Rattle.std.proofs.Common.{◌≡◌, ℕ, zero, suc, ◌+◌, ◌-◌, ◌<◌, ◌≤◌, ◌==◌, if◌then◌else◌, true, false, List, [], ◌∷◌, ◌++◌, map, flat_map, sym, ap, subst, ◌∙◌, arith, inl, inr}
+use Rattle.std.specs.Prelude.{◌⊎◌, Contains, ℤ, pos, ◌+ℤ◌, slice_index_or}
+use Rattle.std.specs.List.{range_with_len}
+use Rattle.std.proofs.lemmas.Bool.{cases_lt}
+use Rattle.std.proofs.lemmas.Bool.Decides.{eqb_tells}
+use Rattle.std.proofs.lemmas.List.Elements.{Contains-append_left, Contains-append_right, Contains-append_cases}
+use Rattle.progression.specs.Street.{Street, count, left_against, HasSignal, HasLink}
+use Rattle.progression.specs.Plan.{Plan, run, band}
+use Rattle.progression.specs.declared.parts.Dir.{Dir}
+use Rattle.progression.specs.declared.parts.Dir.TheVariants.{Outbound, Inbound}
+use Rattle.diagram_draw.specs.declared.paint.Paint.{Paint}
+use Rattle.diagram_draw.specs.declared.paint.Paint.TheVariants as paint
+use Rattle.diagram_draw.specs.declared.shape.Shape.{Shape}
+use Rattle.diagram_draw.specs.declared.frame.Frame.{Frame}
+use Rattle.diagram_draw.specs.Frames.{later}
+use Rattle.diagram_draw.specs.Bands.{band_paint, leaving_level, entering_level, first_leaving, piece, pieces, link_pieces, all_pieces}
+use Rattle.diagram_draw.specs.Bars.{bar_top, block, blocks, first_red, first_window, common_wait, turn_wait, common_ticks, turn_ticks, window_paint, ground, windows, common_reds, turn_reds, bar, signal_bars, all_bars}
+use Rattle.diagram_draw.specs.Members.{IsBlock, IsRed, IsPiece, IsFieldShape, Piece, Ground, Window, Red, is_red}
+use Rattle.diagram_draw.specs.Pages.{field_shapes, drawn}
+use Rattle.diagram_draw.specs.Laws.{FieldIsExact, RedsAreReds}
+
+-- ---- lists
+module _ {A : Type 0} where
+  none : (y : A) → Contains [] y → ⊥
+  none y h = let l = h.1 in absurd (omega (arith, l))
+
+  first_at : (x y : A) (k : ℕ) → k < 1 → slice_index_or (x ∷ []) k y ≡ y → y ≡ x
+  first_at x y zero l e = sym e
+  first_at x y (suc k) l e = absurd (omega (arith, l))
+
+  is_first : (x y : A) → Contains (x ∷ []) y → y ≡ x
+  is_first x y h = first_at x y h.0 h.1 h.2
+
+  the_first : (x y : A) → y ≡ x → Contains (x ∷ []) y
+  the_first x y e = (0, omega arith, sym e)
+
+  -- in a list with one more in front
+  in_cons : (x : A) (xs : List A) (y : A) → Contains (x ∷ xs) y → (y ≡ x) ⊎ Contains xs y
+  in_cons x xs y h = elim (Contains-append_cases (x ∷ []) xs y h) [
+    | inl p ↦ inl (is_first x y p)
+    | inr p ↦ inr p
+  ]
+
+  cons_in : (x : A) (xs : List A) (y : A) → (y ≡ x) ⊎ Contains xs y → Contains (x ∷ xs) y
+  cons_in x xs y (inl e) = Contains-append_left (x ∷ []) xs y (the_first x y e)
+  cons_in x xs y (inr h) = Contains-append_right (x ∷ []) xs y h
+
+  in_both : (xs ys : List A) (y : A) → Contains xs y ⊎ Contains ys y → Contains (xs ++ ys) y
+  in_both xs ys y (inl h) = Contains-append_left xs ys y h
+  in_both xs ys y (inr h) = Contains-append_right xs ys y h
+
+  -- a piece of each number of a range
+  in_pieces : (g : ℕ → List A) (a n : ℕ) (y : A) → Contains (flat_map g (range_with_len a n)) y → (k : ℕ) × ((a ≤ k) × (k < a + n)) × Contains (g k) y
+  in_pieces g a zero y h = absurd (none y h)
+  in_pieces g a (suc n) y h = elim (Contains-append_cases (g a) (flat_map g (range_with_len (a + 1) n)) y h) [
+    | inl p ↦ (a, (omega arith, omega arith), p)
+    | inr p ↦ (let q = in_pieces g (a + 1) n y p in let l = q.1.0 in let m = q.1.1 in (q.0, (omega (arith, l), omega (arith, m)), q.2))
+  ]
+
+  pieces_in : (g : ℕ → List A) (a n k : ℕ) (y : A) → a ≤ k → k < a + n → Contains (g k) y → Contains (flat_map g (range_with_len a n)) y
+  pieces_in g a zero k y l m h = absurd (omega (arith, l, m))
+  pieces_in g a (suc n) k y l m h = elim (cases_lt a k) [
+    | inl p ↦ Contains-append_right (g a) (flat_map g (range_with_len (a + 1) n)) y (pieces_in g (a + 1) n k y (omega (arith, p)) (omega (arith, m)) h)
+    | inr p ↦ (let e : k ≡ a = omega (arith, l, p) in
+        Contains-append_left (g a) (flat_map g (range_with_len (a + 1) n)) y (subst (λ j. Contains (g j) y) e h))
+  ]
+
+  -- an element of each
+  in_each : (g : ℕ → A) (a n : ℕ) (y : A) → Contains (map g (range_with_len a n)) y → (k : ℕ) × ((a ≤ k) × (k < a + n)) × (y ≡ g k)
+  in_each g a zero y h = absurd (none y h)
+  in_each g a (suc n) y h = elim (in_cons (g a) (map g (range_with_len (a + 1) n)) y h) [
+    | inl p ↦ (a, (omega arith, omega arith), p)
+    | inr p ↦ (let q = in_each g (a + 1) n y p in let l = q.1.0 in let m = q.1.1 in (q.0, (omega (arith, l), omega (arith, m)), q.2))
+  ]
+
+  each_in : (g : ℕ → A) (a n k : ℕ) (y : A) → a ≤ k → k < a + n → y ≡ g k → Contains (map g (range_with_len a n)) y
+  each_in g a zero k y l m h = absurd (omega (arith, l, m))
+  each_in g a (suc n) k y l m h = elim (cases_lt a k) [
+    | inl p ↦ cons_in (g a) (map g (range_with_len (a + 1) n)) y (inr (each_in g (a + 1) n k y (omega (arith, p)) (omega (arith, m)) h))
+    | inr p ↦ (let e : k ≡ a = omega (arith, l, p) in cons_in (g a) (map g (range_with_len (a + 1) n)) y (inl (h ∙ ap g e)))
+  ]
+
+  -- of a list that is empty at 0
+  in_some : (n : ℕ) (xs : List A) (y : A) → Contains (if n == 0 then [] else xs) y → (1 ≤ n) × Contains xs y
+  in_some n xs y h = elim (eqb_tells n 0) [
+    | inl p ↦ absurd (none y (subst (λ b. Contains (if b then [] else xs) y) p.0 h))
+    | inr p ↦ (let some = p.1 in omega (arith, some), subst (λ b. Contains (if b then [] else xs) y) p.0 h)
+  ]
+
+  some_in : (n : ℕ) (xs : List A) (y : A) → 1 ≤ n → Contains xs y → Contains (if n == 0 then [] else xs) y
+  some_in n xs y l h = elim (eqb_tells n 0) [
+    | inl p ↦ (let none = p.1 in absurd (omega (arith, l, none)))
+    | inr p ↦ subst (λ b. Contains (if b then [] else xs) y) (sym p.0) h
+  ]
+
+-- ---- blocks and pieces
+module _ (f : Frame) (p : Paint) (top first : ℤ) (long : ℕ) (s : Shape) where
+  in_blocks : Contains (blocks f p top first long) s → IsBlock f p top first long s
+  in_blocks h =
+      let q = in_each (λ m. block f p top (later f first m) long) 0 (f.cycles + 1) s h in
+      let l = q.1.1 in
+      record { cycle = q.0; shown = omega (arith, l); is = q.2 }
+
+  blocks_in : IsBlock f p top first long s → Contains (blocks f p top first long) s
+  blocks_in h =
+      let l = h.shown in
+      each_in (λ m. block f p top (later f first m) long) 0 (f.cycles + 1) h.cycle s (omega arith) (omega (arith, l)) h.is
+
+module _ (f : Frame) (a : Street) (t : Plan) (s : Shape) where
+  in_link : (d : Dir) (l : ℕ) → Contains (pieces f a t d l) s → IsPiece f a t d l s
+  in_link d l h =
+      let q = in_each (λ m. piece f (band_paint d) (leaving_level f a d l) (entering_level f a d l) (later f (first_leaving f a t d l) m) (run t d l) (band t d)) 0 _ s h in
+      let m = q.1.1 in
+      record { cycle = q.0; shown = omega (arith, m); is = q.2 }
+
+  link_in : (d : Dir) (l : ℕ) → IsPiece f a t d l s → Contains (pieces f a t d l) s
+  link_in d l h =
+      let m = h.shown in
+      each_in (λ m. piece f (band_paint d) (leaving_level f a d l) (entering_level f a d l) (later f (first_leaving f a t d l) m) (run t d l) (band t d)) 0 _ h.cycle s
+      (omega arith) (omega (arith, m)) h.is
+
+  -- ---- from the list to what it shows
+  in_bar : (d : Dir) (i : ℕ) → HasSignal a i → Contains (bar f a t d i) s → IsFieldShape f a t s
+  in_bar d i here h = elim (in_cons (ground f a d i) (windows f a t d i ++ (common_reds f a t d i ++ turn_reds f a t d i)) s h) [
+    | inl p ↦ Ground d i here p
+    | inr p ↦ elim (Contains-append_cases (windows f a t d i) (common_reds f a t d i ++ turn_reds f a t d i) s p) [
+      | inl q ↦ Window d i here (in_blocks f (window_paint d) (bar_top f a d i) (first_window f a t d i) (band t d) s q)
+      | inr q ↦ elim (Contains-append_cases (common_reds f a t d i) (turn_reds f a t d i) s q) [
+        | inl r ↦ Red d i here (inl (in_blocks f paint.CommonRed (bar_top f a d i) (first_red f a t d i +ℤ pos (common_wait a t d i)) (common_ticks a t i) s r))
+        | inr r ↦ (let some = in_some (left_against a d i) (blocks f paint.TurnRed (bar_top f a d i) (first_red f a t d i +ℤ pos (turn_wait a t d i)) (turn_ticks a t d i)) s r in
+            Red d i here (inr (some.0, in_blocks f paint.TurnRed (bar_top f a d i) (first_red f a t d i +ℤ pos (turn_wait a t d i)) (turn_ticks a t d i) s some.1)))
+      ]
+    ]
+  ]
+
+  in_bars : Contains (all_bars f a t) s → IsFieldShape f a t s
+  in_bars h =
+      let q = in_pieces (signal_bars f a t) 1 (count a) s h in
+      let some = q.1.0 in
+      let last = q.1.1 in
+      let here : HasSignal a q.0 = (some, omega (arith, last)) in
+      elim (Contains-append_cases (bar f a t Outbound q.0) (bar f a t Inbound q.0) s q.2) [
+        | inl p ↦ in_bar Outbound q.0 here p
+        | inr p ↦ in_bar Inbound q.0 here p
+      ]
+
+  in_links : Contains (all_pieces f a t) s → IsFieldShape f a t s
+  in_links h =
+      let q = in_pieces (link_pieces f a t) 1 (count a - 1) s h in
+      let some = q.1.0 in
+      let last = q.1.1 in
+      let there : HasLink a q.0 = (some, omega (arith, some, last)) in
+      elim (Contains-append_cases (pieces f a t Outbound q.0) (pieces f a t Inbound q.0) s q.2) [
+        | inl p ↦ Piece Outbound q.0 there (in_link Outbound q.0 p)
+        | inr p ↦ Piece Inbound q.0 there (in_link Inbound q.0 p)
+      ]
+
+  -- ---- and back
+  red_in : (d : Dir) (i : ℕ) → IsRed f a t d i s → Contains (common_reds f a t d i ++ turn_reds f a t d i) s
+  red_in d i (inl h) =
+      Contains-append_left (common_reds f a t d i) (turn_reds f a t d i) s
+      (blocks_in f paint.CommonRed (bar_top f a d i) (first_red f a t d i +ℤ pos (common_wait a t d i)) (common_ticks a t i) s h)
+  red_in d i (inr h) =
+      Contains-append_right (common_reds f a t d i) (turn_reds f a t d i) s
+      (some_in (left_against a d i) _ s h.0
+      (blocks_in f paint.TurnRed (bar_top f a d i) (first_red f a t d i +ℤ pos (turn_wait a t d i)) (turn_ticks a t d i) s h.1))
+
+  signal_in : (d : Dir) (i : ℕ) → Contains (bar f a t d i) s → Contains (signal_bars f a t i) s
+  signal_in Outbound i h = Contains-append_left (bar f a t Outbound i) (bar f a t Inbound i) s h
+  signal_in Inbound i h = Contains-append_right (bar f a t Outbound i) (bar f a t Inbound i) s h
+
+  bar_in : (d : Dir) (i : ℕ) → HasSignal a i → Contains (bar f a t d i) s → Contains (all_bars f a t) s
+  bar_in d i here h = let last = here.1 in pieces_in (signal_bars f a t) 1 (count a) i s here.0 (omega (arith, last)) (signal_in d i h)
+
+  piece_in : (d : Dir) (l : ℕ) → IsPiece f a t d l s → Contains (link_pieces f a t l) s
+  piece_in Outbound l h = Contains-append_left (pieces f a t Outbound l) (pieces f a t Inbound l) s (link_in Outbound l h)
+  piece_in Inbound l h = Contains-append_right (pieces f a t Outbound l) (pieces f a t Inbound l) s (link_in Inbound l h)
+
+  shape_in : IsFieldShape f a t s → Contains (all_pieces f a t) s ⊎ Contains (all_bars f a t) s
+  shape_in (Piece d l there h) =
+      let some = there.0 in
+      let last = there.1 in
+      inl (pieces_in (link_pieces f a t) 1 (count a - 1) l s some (omega (arith, some, last)) (piece_in d l h))
+  shape_in (Ground d i here h) = inr (bar_in d i here (cons_in (ground f a d i) (windows f a t d i ++ (common_reds f a t d i ++ turn_reds f a t d i)) s (inl h)))
+  shape_in (Window d i here h) =
+      inr (bar_in d i here (cons_in (ground f a d i) (windows f a t d i ++ (common_reds f a t d i ++ turn_reds f a t d i)) s
+      (inr (Contains-append_left (windows f a t d i) (common_reds f a t d i ++ turn_reds f a t d i) s
+      (blocks_in f (window_paint d) (bar_top f a d i) (first_window f a t d i) (band t d) s h)))))
+  shape_in (Red d i here h) =
+      inr (bar_in d i here (cons_in (ground f a d i) (windows f a t d i ++ (common_reds f a t d i ++ turn_reds f a t d i)) s
+      (inr (Contains-append_right (windows f a t d i) (common_reds f a t d i ++ turn_reds f a t d i) s (red_in d i h)))))
+
+  field_one : Contains (drawn f a t).field s → IsFieldShape f a t s
+  unfolding field_shapes
+  field_one h = elim (Contains-append_cases (all_pieces f a t) (all_bars f a t) s h) [
+    | inl p ↦ in_links p
+    | inr p ↦ in_bars p
+  ]
+
+  one_field : IsFieldShape f a t s → Contains (drawn f a t).field s
+  unfolding field_shapes
+  one_field h = in_both (all_pieces f a t) (all_bars f a t) s (shape_in h)
+
+pub field_is_exact : FieldIsExact
+field_is_exact f a t s = (field_one f a t s, one_field f a t s)
+
+-- ---- reds
+not_both : (s : Shape) → is_red s ≡ false → is_red s ≡ true → ⊥
+not_both s e h = let f : true ≡ false = sym h ∙ e in cc
+
+the_red : (f : Frame) (a : Street) (t : Plan) (s : Shape) → IsFieldShape f a t s → is_red s ≡ true → (d : Dir) × (i : ℕ) × HasSignal a i × IsRed f a t d i s
+the_red f a t s (Piece Outbound l there h) r = absurd (not_both s (ap is_red h.is) r)
+the_red f a t s (Piece Inbound l there h) r = absurd (not_both s (ap is_red h.is) r)
+the_red f a t s (Ground d i here h) r = absurd (not_both s (ap is_red h) r)
+the_red f a t s (Window Outbound i here h) r = absurd (not_both s (ap is_red h.is) r)
+the_red f a t s (Window Inbound i here h) r = absurd (not_both s (ap is_red h.is) r)
+the_red f a t s (Red d i here h) r = (d, i, here, h)
+
+pub reds_are_reds : RedsAreReds
+reds_are_reds f a t s h r = the_red f a t s (field_one f a t s h) r

@@ -1,0 +1,10 @@
+pub mod Shapes
+pub mod Escapes
+pub mod Frames
+pub mod Bars
+pub mod Bands
+pub mod Axes
+pub mod Captions
+pub mod Pages
+pub mod Members
+pub mod Laws

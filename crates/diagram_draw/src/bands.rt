@@ -1,0 +1,227 @@
+//! The bands between the signals.
+
+ghost use Rattle.std.specs.Prelude.{◌≡◌, ◌+◌, ◌*◌, ◌<◌, ◌≤◌, ◌^◌, IfOk, pos, ◌+ℤ◌, length, unsigned_abs};
+ghost use Rattle.progression.specs.Street.{count};
+ghost use Rattle.progression.specs.Plan.{cycle, run, band};
+ghost use Rattle.diagram_draw.specs.Frames.{IsFrame};
+ghost use Rattle.diagram_draw.specs.Bands.{tail, leaving_level, entering_level, band_paint, cycles_back, piece, some_pieces, first_leaving, pieces, link_pieces, all_pieces};
+
+use crate::frame::{BAR_HEIGHT, Frame, earlier, later, level, moment_after, x_at};
+use crate::paint::Paint;
+use crate::shape::Shape;
+use artery_model::{Artery, Dir};
+use narrow_fraction::Memory;
+use std::alloc::{AllocError, Global};
+use time_space::{Timing, line_at};
+use timing_measures::after_start;
+
+/// The signal at which a direction's traffic enters a link.
+fn tail(dir: Dir, link: u32) -> u32
+    requires { link < 2 ^ 30 }
+    ensures { result ≡ tail dir link }
+{
+    match dir {
+        Dir::Outbound => link,
+        Dir::Inbound => link + 1,
+    }
+}
+
+/// The level at which a direction's band leaves the signal where a link begins.
+fn leaving_level(frame: Frame, artery: &Artery, dir: Dir, link: u32) -> i128
+    requires frame { IsFrame frame }
+    requires first { 1 ≤ link }
+    requires last { link < count artery.now }
+    ensures value { result ≡ leaving_level frame artery.now dir link }
+    ensures small { unsigned_abs result < 30000 }
+{
+    // there are few signals
+    let _ = artery.count();
+    match dir {
+        Dir::Outbound => i128::from(level(frame, artery, link)) - i128::from(BAR_HEIGHT),
+        Dir::Inbound => i128::from(level(frame, artery, link + 1)) + i128::from(BAR_HEIGHT),
+    }
+}
+
+/// The level at which it reaches the signal where the link ends.
+fn entering_level(frame: Frame, artery: &Artery, dir: Dir, link: u32) -> i128
+    requires frame { IsFrame frame }
+    requires first { 1 ≤ link }
+    requires last { link < count artery.now }
+    ensures value { result ≡ entering_level frame artery.now dir link }
+    ensures small { unsigned_abs result < 30000 }
+{
+    // there are few signals
+    let _ = artery.count();
+    match dir {
+        Dir::Outbound => i128::from(level(frame, artery, link + 1)) + i128::from(BAR_HEIGHT),
+        Dir::Inbound => i128::from(level(frame, artery, link)) - i128::from(BAR_HEIGHT),
+    }
+}
+
+fn band_paint(dir: Dir) -> Paint
+    ensures { result ≡ band_paint dir }
+{
+    match dir {
+        Dir::Outbound => Paint::OutBand,
+        Dir::Inbound => Paint::InBand,
+    }
+}
+
+/// How many pieces begin before the first cycle that is shown.
+fn cycles_back(frame: Frame, ticks: u128) -> u32
+    requires frame { IsFrame frame }
+    requires ticks { ticks < 2 ^ 100 }
+    ensures value { result ≡ cycles_back frame ticks }
+    ensures most { result ≤ 60 }
+{
+    let whole = (ticks + frame.cycle - 1) / frame.cycle;
+    whole.min(60) as u32
+}
+
+/// A piece of a band: from one signal to the next.
+fn piece(
+    frame: Frame,
+    paint: Paint,
+    from: i128,
+    to: i128,
+    ticks: i128,
+    run: u128,
+    band: u128,
+) -> Shape
+    requires frame { IsFrame frame }
+    requires ticks { unsigned_abs ticks < 2 ^ 100 }
+    requires run { run < 2 ^ 80 }
+    requires band { band < 2 ^ 80 }
+    ensures { result ≡ piece frame paint from to ticks run band }
+{
+    let end = moment_after(ticks, band);
+    let arrival = moment_after(ticks, run);
+    let last_arrival = moment_after(ticks, run + band);
+    Shape::Slant {
+        paint,
+        left: x_at(frame, ticks),
+        right: x_at(frame, end),
+        level: from,
+        next_left: x_at(frame, arrival),
+        next_right: x_at(frame, last_arrival),
+        next_level: to,
+    }
+}
+
+/// Such a piece in each of so many cycles.
+#[tactic(auto, using(timing_measures::proofs::Pieces::map_on))]
+fn some_pieces(
+    alloc: Global,
+    frame: Frame,
+    paint: Paint,
+    from: i128,
+    to: i128,
+    ticks: i128,
+    run: u128,
+    band: u128,
+    cycles: u32,
+) -> Result<Vec<Shape>, AllocError>
+    requires frame { IsFrame frame }
+    requires ticks { unsigned_abs ticks < 2 ^ 99 }
+    requires run { run < 2 ^ 80 }
+    requires band { band < 2 ^ 80 }
+    requires cycles { cycles ≤ 72 }
+    ensures { IfOk result (λ shapes. shapes.items ≡ some_pieces frame paint from to ticks run band cycles) }
+{
+    let mut shapes = Vec::new(alloc);
+    for cycle in 0..cycles {
+        let begin = later(frame, ticks, cycle);
+        shapes.push(piece(frame, paint, from, to, begin, run, band))?;
+    }
+    Ok(shapes)
+}
+
+/// When a direction's band leaves the first signal of a link in the first of the cycles.
+fn first_leaving(frame: Frame, artery: &Artery, timing: &Timing, dir: Dir, link: u32) -> i128
+    requires frame { IsFrame frame }
+    requires shape { length timing.now.patterns ≡ count artery.now }
+    requires first { 1 ≤ link }
+    requires last { link < count artery.now }
+    ensures value { result ≡ first_leaving frame artery.now timing.now dir link }
+    ensures small { unsigned_abs result < 2 ^ 98 }
+{
+    // there are few signals
+    let _ = artery.count();
+    let line = line_at(artery, timing, dir, tail(dir, link));
+    let back = cycles_back(frame, timing.run(dir, link) + timing.band(dir));
+    earlier(frame, back, after_start(artery, timing, line))
+}
+
+/// The pieces of a direction's band on a link.
+fn pieces(
+    alloc: Global,
+    frame: Frame,
+    artery: &Artery,
+    timing: &Timing,
+    dir: Dir,
+    link: u32,
+) -> Result<Vec<Shape>, AllocError>
+    requires frame { IsFrame frame }
+    requires shape { length timing.now.patterns ≡ count artery.now }
+    requires first { 1 ≤ link }
+    requires last { link < count artery.now }
+    ensures { IfOk result (λ shapes. shapes.items ≡ pieces frame artery.now timing.now dir link) }
+{
+    let run = timing.run(dir, link);
+    let band = timing.band(dir);
+    let from = leaving_level(frame, artery, dir, link);
+    let to = entering_level(frame, artery, dir, link);
+    let first = first_leaving(frame, artery, timing, dir, link);
+    let cycles = frame.cycles + cycles_back(frame, run + band);
+    some_pieces(
+        alloc,
+        frame,
+        band_paint(dir),
+        from,
+        to,
+        first,
+        run,
+        band,
+        cycles,
+    )
+}
+
+/// The pieces of both bands on a link.
+fn link_pieces(
+    alloc: Global,
+    frame: Frame,
+    artery: &Artery,
+    timing: &Timing,
+    link: u32,
+) -> Result<Vec<Shape>, Memory>
+    requires frame { IsFrame frame }
+    requires shape { length timing.now.patterns ≡ count artery.now }
+    requires first { 1 ≤ link }
+    requires last { link < count artery.now }
+    ensures { IfOk result (λ shapes. shapes.items ≡ link_pieces frame artery.now timing.now link) }
+{
+    let mut shapes = pieces(alloc, frame, artery, timing, Dir::Outbound, link)?;
+    let inbound = pieces(alloc, frame, artery, timing, Dir::Inbound, link)?;
+    shapes.extend_from_slice(inbound.as_slice())?;
+    Ok(shapes)
+}
+
+/// The pieces of both bands, from the first link on.
+#[tactic(auto, using(timing_measures::proofs::Pieces::piece_up))]
+pub fn all_pieces(
+    alloc: Global,
+    frame: Frame,
+    artery: &Artery,
+    timing: &Timing,
+) -> Result<Vec<Shape>, Memory>
+    requires frame { IsFrame frame }
+    requires shape { length timing.now.patterns ≡ count artery.now }
+    ensures { IfOk result (λ shapes. shapes.items ≡ all_pieces frame artery.now timing.now) }
+{
+    let mut shapes = Vec::new(alloc);
+    for link in 1..artery.count() {
+        let pieces = link_pieces(alloc, frame, artery, timing, link)?;
+        shapes.extend_from_slice(pieces.as_slice())?;
+    }
+    Ok(shapes)
+}

@@ -1,0 +1,345 @@
+//! The bars at the signals: reds, and where the bands cross.
+
+ghost use Rattle.std.specs.Prelude.{◌≡◌, ◌+◌, ◌*◌, ◌<◌, ◌≤◌, ◌^◌, IfOk, pos, ◌+ℤ◌, length, unsigned_abs};
+ghost use Rattle.progression.specs.Street.{count};
+ghost use Rattle.progression.specs.Plan.{cycle, band};
+ghost use Rattle.diagram_draw.specs.Frames.{IsFrame};
+ghost use Rattle.diagram_draw.specs.Bars.{bar_top, block, some_blocks, blocks, first_red, first_window, common_ticks, turn_ticks, common_wait, turn_wait, window_paint, ground, windows, common_reds, turn_reds, bar, signal_bars, all_bars};
+
+use crate::frame::{BAR_HEIGHT, Frame, PLOT_WIDTH, earlier, later, level, moment_after, x_at};
+use crate::paint::Paint;
+use crate::shape::Shape;
+use artery_model::{Artery, Dir};
+use narrow_fraction::Memory;
+use std::alloc::{AllocError, Global};
+use time_space::{Timing, is_early, line_at, red_start};
+use timing_measures::after_start;
+
+/// Where a direction's bar begins.
+pub fn bar_top(frame: Frame, artery: &Artery, dir: Dir, signal: u32) -> i128
+    requires frame { IsFrame frame }
+    requires first { 1 ≤ signal }
+    requires last { signal ≤ count artery.now }
+    ensures value { result ≡ bar_top frame artery.now dir signal }
+    ensures small { unsigned_abs result < 30000 }
+{
+    let level = i128::from(level(frame, artery, signal));
+    match dir {
+        Dir::Outbound => level,
+        Dir::Inbound => level - i128::from(BAR_HEIGHT),
+    }
+}
+
+/// A block of a bar, from a moment on and so many ticks long.
+fn block(frame: Frame, paint: Paint, top: i128, ticks: i128, long: u128) -> Shape
+    requires frame { IsFrame frame }
+    requires top { unsigned_abs top < 30000 }
+    requires ticks { unsigned_abs ticks < 2 ^ 100 }
+    requires long { long < 2 ^ 100 }
+    ensures { result ≡ block frame paint top ticks long }
+{
+    let end = moment_after(ticks, long);
+    Shape::Rect {
+        paint,
+        left: x_at(frame, ticks),
+        top,
+        right: x_at(frame, end),
+        bottom: top + i128::from(BAR_HEIGHT),
+    }
+}
+
+/// Such a block in each of so many cycles.
+#[tactic(auto, using(timing_measures::proofs::Pieces::map_on))]
+fn some_blocks(
+    alloc: Global,
+    frame: Frame,
+    paint: Paint,
+    top: i128,
+    ticks: i128,
+    long: u128,
+    cycles: u32,
+) -> Result<Vec<Shape>, AllocError>
+    requires frame { IsFrame frame }
+    requires top { unsigned_abs top < 30000 }
+    requires ticks { unsigned_abs ticks < 2 ^ 99 }
+    requires long { long < 2 ^ 100 }
+    requires cycles { cycles ≤ 72 }
+    ensures { IfOk result (λ shapes. shapes.items ≡ some_blocks frame paint top ticks long cycles) }
+{
+    let mut shapes = Vec::new(alloc);
+    for cycle in 0..cycles {
+        let begin = later(frame, ticks, cycle);
+        shapes.push(block(frame, paint, top, begin, long))?;
+    }
+    Ok(shapes)
+}
+
+/// Such a block in the cycle before the first that is shown, and in each that is shown.
+fn blocks(
+    alloc: Global,
+    frame: Frame,
+    paint: Paint,
+    top: i128,
+    ticks: i128,
+    long: u128,
+) -> Result<Vec<Shape>, AllocError>
+    requires frame { IsFrame frame }
+    requires top { unsigned_abs top < 30000 }
+    requires ticks { unsigned_abs ticks < 2 ^ 99 }
+    requires long { long < 2 ^ 100 }
+    ensures { IfOk result (λ shapes. shapes.items ≡ blocks frame paint top ticks long) }
+{
+    some_blocks(alloc, frame, paint, top, ticks, long, frame.cycles + 1)
+}
+
+/// Where a direction's red begins in the cycle before the first that is shown.
+fn first_red(frame: Frame, artery: &Artery, timing: &Timing, dir: Dir, signal: u32) -> i128
+    requires frame { IsFrame frame }
+    requires shape { length timing.now.patterns ≡ count artery.now }
+    requires first { 1 ≤ signal }
+    requires last { signal ≤ count artery.now }
+    ensures value { result ≡ first_red frame artery.now timing.now dir signal }
+    ensures small { unsigned_abs result < 2 ^ 98 }
+{
+    let start = red_start(artery, timing, dir, signal);
+    earlier(frame, 1, after_start(artery, timing, start))
+}
+
+/// Where a direction's band begins at a signal in the cycle before the first that is shown.
+fn first_window(frame: Frame, artery: &Artery, timing: &Timing, dir: Dir, signal: u32) -> i128
+    requires frame { IsFrame frame }
+    requires shape { length timing.now.patterns ≡ count artery.now }
+    requires first { 1 ≤ signal }
+    requires last { signal ≤ count artery.now }
+    ensures value { result ≡ first_window frame artery.now timing.now dir signal }
+    ensures small { unsigned_abs result < 2 ^ 98 }
+{
+    let line = line_at(artery, timing, dir, signal);
+    earlier(frame, 1, after_start(artery, timing, line))
+}
+
+/// The common red, in ticks.
+fn common_ticks(artery: &Artery, timing: &Timing, signal: u32) -> u128
+    requires first { 1 ≤ signal }
+    requires last { signal ≤ count artery.now }
+    ensures value { result ≡ common_ticks artery.now timing.now signal }
+    ensures small { result < 2 ^ 92 }
+{
+    u128::from(artery.common_red(signal)) * timing.unit()
+}
+
+/// The rest of a direction's red, in ticks.
+fn turn_ticks(artery: &Artery, timing: &Timing, dir: Dir, signal: u32) -> u128
+    requires first { 1 ≤ signal }
+    requires last { signal ≤ count artery.now }
+    ensures value { result ≡ turn_ticks artery.now timing.now dir signal }
+    ensures small { result < 2 ^ 92 }
+{
+    u128::from(artery.left_against(dir, signal)) * timing.unit()
+}
+
+/// How long after the start of a direction's red the common red begins.
+fn common_wait(artery: &Artery, timing: &Timing, dir: Dir, signal: u32) -> u128
+    requires shape { length timing.now.patterns ≡ count artery.now }
+    requires first { 1 ≤ signal }
+    requires last { signal ≤ count artery.now }
+    ensures value { result ≡ common_wait artery.now timing.now dir signal }
+    ensures small { result < 2 ^ 92 }
+{
+    if is_early(dir, timing.pattern(signal)) {
+        turn_ticks(artery, timing, dir, signal)
+    } else {
+        0
+    }
+}
+
+/// How long after the start of a direction's red the rest of it begins.
+fn turn_wait(artery: &Artery, timing: &Timing, dir: Dir, signal: u32) -> u128
+    requires shape { length timing.now.patterns ≡ count artery.now }
+    requires first { 1 ≤ signal }
+    requires last { signal ≤ count artery.now }
+    ensures value { result ≡ turn_wait artery.now timing.now dir signal }
+    ensures small { result < 2 ^ 92 }
+{
+    if is_early(dir, timing.pattern(signal)) {
+        0
+    } else {
+        common_ticks(artery, timing, signal)
+    }
+}
+
+fn window_paint(dir: Dir) -> Paint
+    ensures { result ≡ window_paint dir }
+{
+    match dir {
+        Dir::Outbound => Paint::OutWindow,
+        Dir::Inbound => Paint::InWindow,
+    }
+}
+
+/// The ground of a direction's bar.
+fn ground(frame: Frame, artery: &Artery, dir: Dir, signal: u32) -> Shape
+    requires frame { IsFrame frame }
+    requires first { 1 ≤ signal }
+    requires last { signal ≤ count artery.now }
+    ensures { result ≡ ground frame artery.now dir signal }
+{
+    let top = bar_top(frame, artery, dir, signal);
+    Shape::Rect {
+        paint: Paint::Ground,
+        left: i128::from(frame.left),
+        top,
+        right: i128::from(frame.left + PLOT_WIDTH),
+        bottom: top + i128::from(BAR_HEIGHT),
+    }
+}
+
+/// A moment so many ticks after another.
+fn after(ticks: i128, wait: u128) -> i128
+    requires ticks { unsigned_abs ticks < 2 ^ 98 }
+    requires wait { wait < 2 ^ 92 }
+    ensures value { result ≡ ticks +ℤ pos wait }
+    ensures small { unsigned_abs result < 2 ^ 99 }
+{
+    ticks + wait as i128
+}
+
+/// A direction's band at a signal.
+fn windows(
+    alloc: Global,
+    frame: Frame,
+    artery: &Artery,
+    timing: &Timing,
+    dir: Dir,
+    signal: u32,
+) -> Result<Vec<Shape>, AllocError>
+    requires frame { IsFrame frame }
+    requires shape { length timing.now.patterns ≡ count artery.now }
+    requires first { 1 ≤ signal }
+    requires last { signal ≤ count artery.now }
+    ensures { IfOk result (λ shapes. shapes.items ≡ windows frame artery.now timing.now dir signal) }
+{
+    let top = bar_top(frame, artery, dir, signal);
+    let first = first_window(frame, artery, timing, dir, signal);
+    blocks(
+        alloc,
+        frame,
+        window_paint(dir),
+        top,
+        first,
+        timing.band(dir),
+    )
+}
+
+/// The common reds of a direction at a signal.
+fn common_reds(
+    alloc: Global,
+    frame: Frame,
+    artery: &Artery,
+    timing: &Timing,
+    dir: Dir,
+    signal: u32,
+) -> Result<Vec<Shape>, AllocError>
+    requires frame { IsFrame frame }
+    requires shape { length timing.now.patterns ≡ count artery.now }
+    requires first { 1 ≤ signal }
+    requires last { signal ≤ count artery.now }
+    ensures { IfOk result (λ shapes. shapes.items ≡ common_reds frame artery.now timing.now dir signal) }
+{
+    let top = bar_top(frame, artery, dir, signal);
+    let first = first_red(frame, artery, timing, dir, signal);
+    let begin = after(first, common_wait(artery, timing, dir, signal));
+    let long = common_ticks(artery, timing, signal);
+    blocks(alloc, frame, Paint::CommonRed, top, begin, long)
+}
+
+/// The rests of a direction's reds at a signal.
+fn turn_reds(
+    alloc: Global,
+    frame: Frame,
+    artery: &Artery,
+    timing: &Timing,
+    dir: Dir,
+    signal: u32,
+) -> Result<Vec<Shape>, AllocError>
+    requires frame { IsFrame frame }
+    requires shape { length timing.now.patterns ≡ count artery.now }
+    requires first { 1 ≤ signal }
+    requires last { signal ≤ count artery.now }
+    ensures { IfOk result (λ shapes. shapes.items ≡ turn_reds frame artery.now timing.now dir signal) }
+{
+    if artery.left_against(dir, signal) == 0 {
+        return Ok(Vec::new(alloc));
+    }
+    let top = bar_top(frame, artery, dir, signal);
+    let first = first_red(frame, artery, timing, dir, signal);
+    let begin = after(first, turn_wait(artery, timing, dir, signal));
+    let long = turn_ticks(artery, timing, dir, signal);
+    blocks(alloc, frame, Paint::TurnRed, top, begin, long)
+}
+
+/// A direction's bar at a signal.
+fn bar(
+    alloc: Global,
+    frame: Frame,
+    artery: &Artery,
+    timing: &Timing,
+    dir: Dir,
+    signal: u32,
+) -> Result<Vec<Shape>, Memory>
+    requires frame { IsFrame frame }
+    requires shape { length timing.now.patterns ≡ count artery.now }
+    requires first { 1 ≤ signal }
+    requires last { signal ≤ count artery.now }
+    ensures { IfOk result (λ shapes. shapes.items ≡ bar frame artery.now timing.now dir signal) }
+{
+    let windows = windows(alloc, frame, artery, timing, dir, signal)?;
+    let common = common_reds(alloc, frame, artery, timing, dir, signal)?;
+    let turns = turn_reds(alloc, frame, artery, timing, dir, signal)?;
+    let mut shapes = Vec::new(alloc);
+    shapes.push(ground(frame, artery, dir, signal))?;
+    shapes.extend_from_slice(windows.as_slice())?;
+    shapes.extend_from_slice(common.as_slice())?;
+    shapes.extend_from_slice(turns.as_slice())?;
+    Ok(shapes)
+}
+
+/// Both bars of a signal.
+fn signal_bars(
+    alloc: Global,
+    frame: Frame,
+    artery: &Artery,
+    timing: &Timing,
+    signal: u32,
+) -> Result<Vec<Shape>, Memory>
+    requires frame { IsFrame frame }
+    requires shape { length timing.now.patterns ≡ count artery.now }
+    requires first { 1 ≤ signal }
+    requires last { signal ≤ count artery.now }
+    ensures { IfOk result (λ shapes. shapes.items ≡ signal_bars frame artery.now timing.now signal) }
+{
+    let mut shapes = bar(alloc, frame, artery, timing, Dir::Outbound, signal)?;
+    let inbound = bar(alloc, frame, artery, timing, Dir::Inbound, signal)?;
+    shapes.extend_from_slice(inbound.as_slice())?;
+    Ok(shapes)
+}
+
+/// The bars of the signals, from the first on.
+#[tactic(auto, using(timing_measures::proofs::Pieces::piece_up))]
+pub fn all_bars(
+    alloc: Global,
+    frame: Frame,
+    artery: &Artery,
+    timing: &Timing,
+) -> Result<Vec<Shape>, Memory>
+    requires frame { IsFrame frame }
+    requires shape { length timing.now.patterns ≡ count artery.now }
+    ensures { IfOk result (λ shapes. shapes.items ≡ all_bars frame artery.now timing.now) }
+{
+    let mut shapes = Vec::new(alloc);
+    for signal in 1..artery.count() + 1 {
+        let bars = signal_bars(alloc, frame, artery, timing, signal)?;
+        shapes.extend_from_slice(bars.as_slice())?;
+    }
+    Ok(shapes)
+}

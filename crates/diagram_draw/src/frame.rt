@@ -1,0 +1,254 @@
+//! The measures of a drawing: where a moment and a signal stand.
+
+ghost use Rattle.std.specs.Prelude.{◌≡◌, ◌+◌, ◌-◌, ◌*◌, ◌<◌, ◌≤◌, ◌^◌, ℤ, pos, ◌*ℤ◌, ◌+ℤ◌, length, unsigned_abs};
+ghost use Rattle.progression.specs.Street.{count, signal_of};
+ghost use Rattle.progression.specs.Plan.{cycle};
+ghost use Rattle.diagram_draw.specs.Frames.{trip, reach, longest_reach, cycles_for, far, street_length, shortest, rise_for, span_for, longest_name, name_room, frame_of, x_at, level, plot_bottom, earlier, later, IsFrame};
+
+use artery_model::{Artery, Dir};
+use time_space::{Timing, cycle};
+use timing_measures::signal_name;
+
+/// How wide the field of the diagram is, and where it begins.
+pub const PLOT_WIDTH: u32 = 9000;
+
+pub const PLOT_TOP: u32 = 1500;
+
+/// What is left free above the last signal and below the first.
+pub const MARGIN: u32 = 260;
+
+/// How high a bar is.
+pub const BAR_HEIGHT: u32 = 90;
+
+/// How high both bars of a signal are.
+const BOTH_BARS: u32 = 2 * BAR_HEIGHT;
+
+/// Where the names of the signals begin.
+pub const NAME_LEFT: u32 = 430;
+
+/// The measures that depend on the artery and the timing.
+#[derive(Clone, Copy, Debug, PartialEq, Eq)]
+pub struct Frame {
+    /// Where the field begins.
+    pub left: u32,
+    /// How many cycles it shows.
+    pub cycles: u32,
+    /// The ticks of a cycle.
+    pub cycle: u128,
+    /// How far the last signal is above the first.
+    pub span: u32,
+}
+
+/// How many ticks the runs of the first links take together.
+#[tactic(auto, using(crate::proofs::Measures::trip_up))]
+fn trip(timing: &Timing, dir: Dir, links: u32) -> u128
+    requires last { links < length timing.now.patterns }
+    requires many { links ≤ 24 }
+    ensures value { result ≡ trip timing.now dir links }
+    ensures small { result ≤ links * 2 ^ 80 }
+{
+    let mut ticks = 0;
+    for link in 1..links + 1 {
+        ticks += timing.run(dir, link);
+    }
+    ticks
+}
+
+/// How many ticks at most lie between a band's first tick anywhere and its last.
+fn reach(artery: &Artery, timing: &Timing, dir: Dir) -> u128
+    requires { length timing.now.patterns ≡ count artery.now }
+    ensures value { result ≡ reach artery.now timing.now dir }
+    ensures small { result < 2 ^ 86 }
+{
+    let links = artery.count() - 1;
+    trip(timing, dir, links) + timing.band(dir)
+}
+
+fn longest_reach(artery: &Artery, timing: &Timing) -> u128
+    requires { length timing.now.patterns ≡ count artery.now }
+    ensures value { result ≡ longest_reach artery.now timing.now }
+    ensures small { result < 2 ^ 86 }
+{
+    let outbound = reach(artery, timing, Dir::Outbound);
+    let inbound = reach(artery, timing, Dir::Inbound);
+    outbound.max(inbound)
+}
+
+/// How many cycles show so many ticks whole: from 2 to 12.
+fn cycles_for(ticks: u128, cycle: u128) -> u32
+    requires ticks { ticks < 2 ^ 100 }
+    requires cycle { 4 ≤ cycle }
+    requires room { cycle < 2 ^ 92 }
+    ensures value { result ≡ cycles_for ticks cycle }
+    ensures least { 2 ≤ result }
+    ensures most { result ≤ 12 }
+{
+    let needed = (ticks + cycle - 1) / cycle + 1;
+    needed.max(2).min(12) as u32
+}
+
+/// How far the signal after so many links is from signal 1, outbound.
+#[tactic(auto, using(crate::proofs::Measures::far_up))]
+pub fn far(artery: &Artery, links: u32) -> u32
+    requires last { links < count artery.now }
+    requires many { links ≤ 24 }
+    ensures value { result ≡ far artery.now links }
+    ensures least { links ≤ result }
+    ensures most { result ≤ links * 30000 }
+{
+    let mut length = 0;
+    for link in 1..links + 1 {
+        length += artery.distance(Dir::Outbound, link);
+    }
+    length
+}
+
+/// The shortest of the first links, outbound.
+#[tactic(auto, using(crate::proofs::Measures::shortest_up))]
+fn shortest(artery: &Artery, links: u32) -> u32
+    requires last { links < count artery.now }
+    requires many { links ≤ 24 }
+    ensures value { result ≡ shortest artery.now links }
+    ensures least { 1 ≤ result }
+{
+    let mut least = 30000;
+    for link in 1..links + 1 {
+        least = least.min(artery.distance(Dir::Outbound, link));
+    }
+    least
+}
+
+/// How high the links of a street of this length with this shortest link are together, between the bars of their signals.
+fn rise_for(whole: u32, least: u32) -> u32
+    requires whole { whole ≤ 720000 }
+    requires least { 1 ≤ least }
+    ensures value { result ≡ rise_for whole least }
+    ensures least { 4400 ≤ result }
+    ensures most { result ≤ 16000 }
+{
+    (whole * 180 / least).max(4400).min(16000)
+}
+
+/// How far the last signal is above the first.
+fn span_for(artery: &Artery) -> u32
+    ensures value { result ≡ span_for artery.now }
+    ensures least { 4400 ≤ result }
+    ensures most { result ≤ 20140 }
+{
+    let links = artery.count() - 1;
+    rise_for(far(artery, links), shortest(artery, links)) + BOTH_BARS * links
+}
+
+/// The bytes of the longest of the first names, or 14.
+#[tactic(auto, using(crate::proofs::Measures::longest_up))]
+fn longest_name(artery: &Artery, signals: u32) -> usize
+    requires last { signals ≤ count artery.now }
+    requires many { signals ≤ 24 }
+    ensures { result ≡ longest_name artery.now signals }
+{
+    let mut longest = 14;
+    for signal in 1..signals + 1 {
+        longest = longest.max(signal_name(artery, signal).len());
+    }
+    longest
+}
+
+/// Room for the names.
+pub fn name_room(artery: &Artery) -> u32
+    ensures value { result ≡ name_room artery.now }
+    ensures most { result ≤ 3120 }
+{
+    let longest = longest_name(artery, artery.count());
+    78 * longest.min(40) as u32
+}
+
+/// The frame of a drawing.
+pub fn frame_of(artery: &Artery, timing: &Timing) -> Frame
+    requires { length timing.now.patterns ≡ count artery.now }
+    ensures value { result ≡ frame_of artery.now timing.now }
+    ensures range { IsFrame result }
+{
+    let cycle = cycle(artery, timing);
+    Frame {
+        left: name_room(artery) + 1570,
+        cycles: cycles_for(longest_reach(artery, timing), cycle),
+        cycle,
+        span: span_for(artery),
+    }
+}
+
+/// So many ticks in widths of the field.
+fn widths(ticks: i128) -> i128
+    requires { unsigned_abs ticks < 2 ^ 102 }
+    ensures value { result ≡ ticks *ℤ pos 9000 }
+    ensures small { unsigned_abs result < 2 ^ 116 }
+{
+    ticks * i128::from(PLOT_WIDTH)
+}
+
+/// Where a moment stands that comes so many ticks after the start of the common red of signal 1.
+pub fn x_at(frame: Frame, ticks: i128) -> i128
+    requires frame { IsFrame frame }
+    requires ticks { unsigned_abs ticks < 2 ^ 102 }
+    ensures { result ≡ x_at frame ticks }
+{
+    let whole = u128::from(frame.cycles) * frame.cycle;
+    i128::from(frame.left) + widths(ticks).div_euclid(whole as i128)
+}
+
+/// The level of a signal.
+pub fn level(frame: Frame, artery: &Artery, signal: u32) -> u32
+    requires frame { IsFrame frame }
+    requires first { 1 ≤ signal }
+    requires last { signal ≤ count artery.now }
+    ensures value { result ≡ level frame artery.now signal }
+    ensures most { result ≤ 21900 }
+{
+    let links = artery.count() - 1;
+    let rise = u64::from(frame.span - BOTH_BARS * links);
+    let way = u64::from(far(artery, signal - 1)) * rise;
+    let whole = u64::from(far(artery, links));
+    let lowest = u64::from(PLOT_TOP + MARGIN + frame.span - BOTH_BARS * (signal - 1));
+    lowest.saturating_sub(way / whole) as u32
+}
+
+/// Where the field ends below.
+pub fn plot_bottom(frame: Frame) -> u32
+    requires { IsFrame frame }
+    ensures value { result ≡ plot_bottom frame }
+    ensures most { result ≤ 22160 }
+{
+    PLOT_TOP + 2 * MARGIN + frame.span
+}
+
+/// A moment so many cycles earlier.
+pub fn earlier(frame: Frame, back: u32, ticks: u128) -> i128
+    requires frame { IsFrame frame }
+    requires back { back ≤ 60 }
+    requires ticks { ticks < 2 ^ 92 }
+    ensures value { result ≡ earlier frame back ticks }
+    ensures small { unsigned_abs result < 2 ^ 98 }
+{
+    ticks as i128 - (u128::from(back) * frame.cycle) as i128
+}
+
+/// And one so many cycles later.
+pub fn later(frame: Frame, ticks: i128, cycles: u32) -> i128
+    requires frame { IsFrame frame }
+    requires ticks { unsigned_abs ticks < 2 ^ 99 }
+    requires cycles { cycles ≤ 72 }
+    ensures value { result ≡ later frame ticks cycles }
+    ensures small { unsigned_abs result < 2 ^ 100 }
+{
+    ticks + (u128::from(cycles) * frame.cycle) as i128
+}
+
+/// A moment so many ticks after another.
+pub fn moment_after(ticks: i128, long: u128) -> i128
+    requires ticks { unsigned_abs ticks < 2 ^ 101 }
+    requires long { long < 2 ^ 100 }
+    ensures value { result ≡ ticks +ℤ pos long }
+    ensures small { unsigned_abs result < 2 ^ 102 }
+{
+    ticks + long as i128
+}

@@ -1,0 +1,5 @@
+use Rattle.maxband_run.proofs.Complete.{draw_complete}
+use Rattle.maxband_run.proofs.top.law_draw_is_complete.Goals as goal
+
+pub returns : goal.returns
+returns c = draw_complete c.law_one_answer.ensures

@@ -1,0 +1,59 @@
+//! The command `draw`.
+
+ghost use Rattle.std.specs.Prelude.{◌≡◌, Some, IfOk, option_map};
+ghost use Rattle.progression.specs.Good.{Good};
+ghost use Rattle.maxband_run.specs.Outside.{MayPut, view};
+ghost use Rattle.maxband_run.specs.Draw.{TimingFinds, DrawFinds};
+
+use crate::answer::{Answer, Put, told};
+use crate::cause::Cause;
+use crate::lines::fails_line;
+use crate::readable::Timed;
+use crate::round::unplanned;
+use artery_model::Artery;
+use diagram_draw::draw;
+use narrow_fraction::Memory;
+use second_plan::PlanEnd;
+use std::alloc::Global;
+use time_space::{Timing, holds};
+
+/// Draws a timing where it is good on the artery; else the answer has the first rule that it breaks.
+fn draw_good<'a>(
+    alloc: Global,
+    artery: &Artery,
+    timing: &Timing,
+    drawing: &'a str,
+) -> Result<Answer<'a>, Memory>
+    ensures finds { MayPut drawing.now (TimingFinds artery.now timing.now) result }
+{
+    if let Err(failing) = holds(artery, timing) {
+        let lines = fails_line(alloc, failing)?.into_bytes();
+        return Ok(told(Cause::Fails(failing), lines));
+    }
+    let bytes = draw(alloc, artery, timing)?;
+    let lines = String::from_str(alloc, "drawn\n")?.into_bytes();
+    Ok(Answer {
+        cause: Cause::Done,
+        lines,
+        put: Some(Put {
+            name: drawing,
+            bytes,
+        }),
+    })
+}
+
+/// Draws the timing that the file has, where it is good on the artery. The picture is to be put into the file of this name; nothing is put
+/// where the timing breaks a rule, or where there is none. Of what a certificate claims nothing is checked.
+pub fn draw_timing<'a>(
+    alloc: Global,
+    artery: &Artery,
+    timed: &Timed,
+    drawing: &'a str,
+) -> Result<Answer<'a>, Memory>
+    ensures finds { MayPut drawing.now (DrawFinds artery.now timed.now.timing) result }
+{
+    match &timed.timing {
+        Some(timing) => draw_good(alloc, artery, timing, drawing),
+        None => unplanned(alloc, PlanEnd::NoTimingGiven),
+    }
+}

@@ -1,0 +1,108 @@
+//! What is noted of an entry's turns, and the same turns of bounds alone.
+
+ghost use Rattle.std.specs.Prelude.{◌≡◌, ◌+◌, ◌<◌, ◌≤◌, ℕ, pos, true, length, slice_index_or, IfOk, IfSome};
+ghost use Rattle.rational_theory.specs.Rational.{whole};
+ghost use Rattle.simplex_theory.specs.Tableau.{height, width};
+ghost use Rattle.narrow_fraction.specs.Fraction.{FitsFrac};
+ghost use Rattle.fraction_tableau.specs.Narrow.{IsNarrow};
+ghost use Rattle.fraction_tableau.specs.KeptCells.{number_in};
+ghost use Rattle.program_builder.specs.declared.noting.Turn.{Turn};
+ghost use Rattle.program_builder.specs.Remembering.{IsLess, AreTurned, IsNoteOf, HaveRoom};
+
+use fraction_tableau::Tableau;
+use narrow_fraction::{Frac, Memory, Quotient};
+use std::alloc::Global;
+
+/// The turn of a column: the row that it entered, and what each row and then the goal row had at its place before.
+#[derive(Drop)]
+pub struct Turn {
+    row: u32,
+    column: Vec<Quotient>,
+}
+
+/// A bound less the factor times the pivot row's new bound; None where an operation leaves 128 bits.
+fn less(bound: Frac, factor: &Quotient, own: Frac) -> Option<Frac>
+    requires { FitsFrac bound }
+    ensures less { IfSome result (λ new. IsLess factor.now own bound new) }
+    ensures fits { IfSome result (λ new. FitsFrac new) }
+{
+    if own.is_zero() {
+        return Some(bound);
+    }
+    if factor.is_zero() {
+        return Some(bound);
+    }
+    let part = match factor.fraction().times(own) {
+        Ok(part) => part,
+        Err(_) => return None,
+    };
+    match bound.minus(part) {
+        Ok(new) => Some(new.fitting()),
+        Err(_) => None,
+    }
+}
+
+/// Notes the turn of a column that is about to enter a row, where there is room for it.
+pub fn note(notes: &mut [Turn], turns: usize, tableau: &Tableau, row: u32, variable: u32)
+    requires room { HaveRoom notes.old (height tableau.now.table + 1) }
+    requires column { variable < width tableau.now.table }
+    ensures noted { (d : Turn) → turns < length notes.old
+        → IsNoteOf tableau.now.table row variable (slice_index_or notes.new turns d) }
+    ensures others { (i : ℕ) (d : Turn) → (i ≡ turns → ⊥) → slice_index_or notes.new i d ≡ slice_index_or notes.old i d }
+    ensures room { HaveRoom notes.new (height tableau.now.table + 1) }
+{
+    if turns < notes.len() {
+        notes[turns].note(tableau, row, variable);
+    }
+}
+
+impl Turn {
+    /// Room for the turn of a column that has so many numbers.
+    pub fn new(alloc: Global, count: usize) -> Result<Turn, Memory>
+        ensures { IfOk result (λ turn. length turn.column.items ≡ count) }
+    {
+        let zero = Quotient::of_fraction(Frac::whole(0));
+        let column = vec![in alloc; zero; count]?;
+        Ok(Turn { row: 0, column })
+    }
+
+    /// Notes the turn of a column that is about to enter a row.
+    fn note(&mut self, tableau: &Tableau, row: u32, variable: u32)
+        requires room { length self.old.column.items ≡ height tableau.now.table + 1 }
+        requires column { variable < width tableau.now.table }
+        ensures noted { IsNoteOf tableau.now.table row variable self.new }
+        ensures room { length self.new.column.items ≡ length self.old.column.items }
+    {
+        tableau.known_named();
+        self.row = row;
+        for line in 0..self.column.len() {
+            self.column[line] = tableau.held(line as u32, variable);
+        }
+    }
+
+    /// Makes of bounds what the turn makes of them; false where an operation on one of them leaves 128 bits.
+    pub fn turn_bounds(&self, bounds: &mut [Frac]) -> bool
+        requires row { self.now.row < length bounds.old }
+        requires column { length self.now.column.items ≡ length bounds.old }
+        requires pivot { number_in self.now.column.items self.now.row ≡ whole (pos 0) → ⊥ }
+        requires narrow { IsNarrow bounds.old }
+        ensures turned { result ≡ true → AreTurned self.now.row self.now.column.items bounds.old bounds.new }
+        ensures narrow { IsNarrow bounds.new }
+    {
+        let row = self.row as usize;
+        let own = match bounds[row].over(self.column[row].fraction()) {
+            Ok(own) => own.fitting(),
+            Err(_) => return false,
+        };
+        bounds[row] = own;
+        for line in 0..bounds.len() {
+            if line != row {
+                match less(bounds[line], &self.column[line], own) {
+                    Some(bound) => bounds[line] = bound,
+                    None => return false,
+                }
+            }
+        }
+        true
+    }
+}

@@ -1,0 +1,131 @@
+//! The numbers.
+
+ghost use Rattle.std.specs.Prelude.{◌≡◌, ◌<◌, ◌≤◌, ◌^◌, pos, ◌≤ℤ◌, length, unsigned_abs};
+ghost use Rattle.rational_theory.specs.Rational.{over};
+ghost use Rattle.progression.specs.Street.{count, signal_of};
+ghost use Rattle.progression.specs.Plan.{cycle, run};
+ghost use Rattle.progression.specs.Good.{IsBase};
+ghost use Rattle.timing_measures.specs.Measures.{band_share, seconds, cycle_seconds, after_start, offset, speed_of, link_speed};
+
+use artery_model::{Artery, Dir, Units};
+use narrow_fraction::Frac;
+use time_space::{Timing, cycle, since_start};
+
+/// The quotient of two whole numbers. Never below 0.
+#[tactic(auto, using(crate::proofs::Sizes::over_least))]
+pub fn quotient(top: u128, bottom: u128) -> Frac
+    requires top { top < 2 ^ 126 }
+    requires some { 1 ≤ bottom }
+    requires bottom { bottom ≤ 2 ^ 120 }
+    ensures value { result ≡ over (pos top) bottom }
+    ensures least { pos 0 ≤ℤ result.num }
+    ensures denominator { result.den ≤ 2 ^ 120 }
+{
+    Frac::reduced(top as i128, bottom)
+}
+
+/// A direction's band as a fraction of the cycle.
+pub fn band_share(artery: &Artery, timing: &Timing, dir: Dir) -> Frac
+    ensures value { result ≡ band_share artery.now timing.now dir }
+    ensures least { pos 0 ≤ℤ result.num }
+    ensures denominator { result.den ≤ 2 ^ 120 }
+{
+    quotient(timing.band(dir), cycle(artery, timing))
+}
+
+/// So many ticks of a timing in seconds.
+pub fn seconds(timing: &Timing, ticks: u128) -> Frac
+    requires { ticks < 2 ^ 126 }
+    ensures value { result ≡ seconds timing.now ticks }
+    ensures least { pos 0 ≤ℤ result.num }
+    ensures denominator { result.den ≤ 2 ^ 120 }
+{
+    quotient(ticks, timing.grid())
+}
+
+/// The cycle in seconds.
+pub fn cycle_seconds(artery: &Artery, timing: &Timing) -> Frac
+    ensures value { result ≡ cycle_seconds artery.now timing.now }
+    ensures least { pos 0 ≤ℤ result.num }
+    ensures denominator { result.den ≤ 2 ^ 120 }
+{
+    seconds(timing, cycle(artery, timing))
+}
+
+/// How many ticks a tick comes after the last start of the common red of signal 1.
+pub fn after_start(artery: &Artery, timing: &Timing, tick: i128) -> u128
+    requires { unsigned_abs tick < 2 ^ 100 }
+    ensures value { result ≡ after_start artery.now timing.now tick }
+    ensures small { result < 2 ^ 92 }
+    ensures below { result < cycle artery.now timing.now }
+{
+    // a timing has a first signal
+    let _ = timing.count();
+    since_start(cycle(artery, timing), timing.common_red(1), tick)
+}
+
+/// How many seconds after the common red of signal 1 that of a signal starts: less than a cycle.
+pub fn offset(artery: &Artery, timing: &Timing, signal: u32) -> Frac
+    requires first { 1 ≤ signal }
+    requires last { signal ≤ length timing.now.patterns }
+    ensures value { result ≡ offset artery.now timing.now signal }
+    ensures least { pos 0 ≤ℤ result.num }
+    ensures denominator { result.den ≤ 2 ^ 120 }
+{
+    let ticks = after_start(artery, timing, timing.common_red(signal));
+    seconds(timing, ticks)
+}
+
+/// The ticks that a direction's band takes on a link. There are some, since no speed limit allows none.
+fn run_ticks(artery: &Artery, timing: &Timing, dir: Dir, link: u32) -> u128
+    requires base { IsBase artery.now timing.now }
+    requires first { 1 ≤ link }
+    requires last { link < count artery.now }
+    ensures value { result ≡ run timing.now dir link }
+    ensures least { 1 ≤ result }
+    ensures most { result < 2 ^ 80 }
+{
+    // at the greatest speed the link takes some time
+    prove!(1 <= artery.run_low(dir, link).num());
+    timing.run(dir, link)
+}
+
+/// The speed at which a distance takes so many ticks, with `grid` ticks in a second: in km/h where it is in metres, in mph where in feet.
+fn speed_of(units: Units, distance: u128, grid: u128, ticks: u128) -> Frac
+    requires distance { distance ≤ 30000 }
+    requires grid { grid < 2 ^ 80 }
+    requires some { 1 ≤ ticks }
+    requires ticks { ticks < 2 ^ 80 }
+    ensures value { result ≡ speed_of units distance grid ticks }
+    ensures least { pos 0 ≤ℤ result.num }
+    ensures denominator { result.den ≤ 2 ^ 120 }
+{
+    match units {
+        Units::Metric => quotient(18 * distance * grid, 5 * ticks),
+        Units::English => quotient(15 * distance * grid, 22 * ticks),
+    }
+}
+
+/// The speed of a direction's band on a link, in km/h or mph, as the description's units are. The timing keeps the rules that don't
+/// speak of bands.
+pub fn link_speed(artery: &Artery, timing: &Timing, dir: Dir, link: u32) -> Frac
+    requires base { IsBase artery.now timing.now }
+    requires first { 1 ≤ link }
+    requires last { link < count artery.now }
+    ensures value { result ≡ link_speed artery.now timing.now dir link }
+    ensures least { pos 0 ≤ℤ result.num }
+    ensures denominator { result.den ≤ 2 ^ 120 }
+{
+    let distance = u128::from(artery.distance(dir, link));
+    let ticks = run_ticks(artery, timing, dir, link);
+    speed_of(artery.head().units, distance, timing.grid(), ticks)
+}
+
+/// The name of a signal.
+pub fn signal_name(artery: &Artery, signal: u32) -> &str
+    requires first { 1 ≤ signal }
+    requires last { signal ≤ count artery.now }
+    ensures { result.now ≡ (signal_of artery.now signal).name }
+{
+    artery.signals()[signal as usize - 1].name.as_str()
+}

@@ -1,0 +1,13 @@
+pub mod Counted
+pub mod Sizes
+pub mod Shared
+pub mod Ticks
+pub mod LeastTiming
+pub mod First
+pub mod Chain
+pub mod Fine
+pub mod Framed
+pub mod Forward
+pub mod Timed
+pub mod OneTiming
+pub mod SpeedsBack

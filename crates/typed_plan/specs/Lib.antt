@@ -1,0 +1,4 @@
+pub mod Asked
+pub mod Counts
+pub mod Ends
+pub mod Grid

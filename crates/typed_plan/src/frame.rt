@@ -1,0 +1,199 @@
+//! The least timing of a plan, with given firsts and bands.
+
+ghost use Rattle.std.specs.Prelude.{◌≡◌, ◌+◌, ◌*◌, ◌<◌, ◌≤◌, ◌^◌, None, All, IfOk, pos, ◌+ℤ◌, ◌-ℤ◌, unsigned_abs};
+ghost use Rattle.progression.specs.Columns.{numbered};
+ghost use Rattle.progression.specs.Green.{mod_ℤ};
+ghost use Rattle.progression.specs.Street.{count};
+ghost use Rattle.band_measure.specs.Pairs.{with_pairs};
+ghost use Rattle.typed_plan.specs.Counts.{HasCounts};
+ghost use Rattle.typed_plan.specs.Grid.{lead, least_grid, least_unit, red_tick, runs, too_fine, frame};
+
+use crate::grid::{size, ticks};
+use crate::times::{Times, time};
+use artery_model::{Artery, Dir};
+use band_measure::Widest;
+use description_reader::{Reference, TypedPlan};
+use narrow_fraction::Memory;
+use std::alloc::Global;
+use time_space::Timing;
+
+/// The first line and the band of each direction.
+#[derive(Clone, Copy)]
+pub struct Pairs {
+    pub outbound: Widest,
+    pub inbound: Widest,
+}
+
+/// By how many ticks the common red of a signal starts before the moment from which its offset counts.
+fn lead(artery: &Artery, plan: &TypedPlan, unit: u128, signal: u32) -> i128
+    requires unit { unit ≡ least_unit artery.now plan.now }
+    requires small { unit < 2 ^ 80 }
+    requires first { 1 ≤ signal }
+    requires last { signal ≤ count artery.now }
+    ensures value { result ≡ pos (lead artery.now plan.now plan.now.reference signal) }
+    ensures most { unsigned_abs result < 2 ^ 92 }
+{
+    match plan.reference() {
+        Reference::Red => 0,
+        Reference::Green => (u128::from(artery.common_red(signal)) * unit) as i128,
+    }
+}
+
+/// A moment of a signal and a part of a cycle after it.
+fn sum(one: i128, other: i128) -> i128
+    requires one { unsigned_abs one < 2 ^ 110 }
+    requires other { unsigned_abs other < 2 ^ 92 }
+    ensures value { result ≡ one +ℤ other }
+    ensures near { unsigned_abs result < 2 ^ 111 }
+{
+    one + other
+}
+
+/// And a part of a cycle before it.
+fn difference(one: i128, other: i128) -> i128
+    requires one { unsigned_abs one < 2 ^ 111 }
+    requires other { unsigned_abs other < 2 ^ 92 }
+    ensures value { result ≡ one -ℤ other }
+    ensures near { unsigned_abs result < 2 ^ 112 }
+{
+    one - other
+}
+
+/// The remainder of a tick by the cycle, from 0 to `cycle - 1`.
+fn in_cycle(cycle: u128, tick: i128) -> u128
+    requires cycle { 0 < cycle }
+    requires room { cycle < 2 ^ 100 }
+    requires tick { unsigned_abs tick < 2 ^ 120 }
+    ensures value { result ≡ mod_ℤ tick cycle }
+    ensures below { result < cycle }
+{
+    tick.rem_euclid(cycle as i128) as u128
+}
+
+/// The cycle in ticks.
+fn cycle(artery: &Artery, unit: u128) -> u128
+    requires some { 1 ≤ unit }
+    requires small { artery.now.head.parts * unit < 2 ^ 80 }
+    ensures value { result ≡ artery.now.head.parts * unit }
+    ensures some { 0 < result }
+{
+    artery.known_valid();
+    u128::from(artery.parts()) * unit
+}
+
+/// Where the common red of a signal starts, that of signal 1 at 0.
+fn red_tick(artery: &Artery, plan: &TypedPlan, grid: u128, unit: u128, signal: u32) -> u128
+    requires counts { HasCounts artery.now plan.now }
+    requires grid { grid ≡ least_grid artery.now plan.now }
+    requires unit { unit ≡ least_unit artery.now plan.now }
+    requires grid_small { grid < 2 ^ 80 }
+    requires unit_some { 1 ≤ unit }
+    requires unit_small { unit < 2 ^ 80 }
+    requires cycle_small { artery.now.head.parts * unit < 2 ^ 80 }
+    requires first { 1 ≤ signal }
+    requires last { signal ≤ count artery.now }
+    ensures value { result ≡ red_tick artery.now plan.now signal }
+    ensures small { result < 2 ^ 80 }
+{
+    let after = ticks(grid, time(artery, plan, Times::After, signal));
+    let here = lead(artery, plan, unit, signal);
+    let first = lead(artery, plan, unit, 1);
+    let tick = difference(sum(after, first), here);
+    in_cycle(cycle(artery, unit), tick)
+}
+
+/// Where the common red of each signal starts.
+fn reds(
+    alloc: Global,
+    artery: &Artery,
+    plan: &TypedPlan,
+    grid: u128,
+    unit: u128,
+) -> Result<Vec<u128>, Memory>
+    requires counts { HasCounts artery.now plan.now }
+    requires grid { grid ≡ least_grid artery.now plan.now }
+    requires unit { unit ≡ least_unit artery.now plan.now }
+    requires grid_small { grid < 2 ^ 80 }
+    requires unit_some { 1 ≤ unit }
+    requires unit_small { unit < 2 ^ 80 }
+    requires cycle_small { artery.now.head.parts * unit < 2 ^ 80 }
+    ensures value { IfOk result (λ v. v.items ≡ numbered (count artery.now) 1 (red_tick artery.now plan.now)) }
+    ensures small { IfOk result (λ v. All (λ n. n < 2 ^ 80) v.items) }
+{
+    let mut reds = Vec::new(alloc);
+    for place in 0..artery.count() {
+        reds.push(red_tick(artery, plan, grid, unit, place + 1))?;
+    }
+    Ok(reds)
+}
+
+/// The runs of a direction.
+fn runs(
+    alloc: Global,
+    artery: &Artery,
+    plan: &TypedPlan,
+    grid: u128,
+    dir: Dir,
+) -> Result<Vec<u128>, Memory>
+    requires counts { HasCounts artery.now plan.now }
+    requires grid { grid ≡ least_grid artery.now plan.now }
+    requires fine { too_fine artery.now plan.now ≡ None }
+    ensures { IfOk result (λ v. v.items ≡ runs artery.now plan.now dir) }
+{
+    let mut runs = Vec::new(alloc);
+    for place in 0..artery.count() - 1 {
+        runs.push(size(artery, plan, grid, Times::Run(dir), place + 1))?;
+    }
+    Ok(runs)
+}
+
+fn patterns(alloc: Global, plan: &TypedPlan) -> Result<Vec<u32>, Memory>
+    ensures value { IfOk result (λ copy. copy.items ≡ plan.now.patterns) }
+    ensures each { IfOk result (λ copy. All (λ p. (1 ≤ p) × (p ≤ 4)) copy.items) }
+{
+    let mut copy = Vec::new(alloc);
+    copy.extend_from_slice(plan.patterns())?;
+    Ok(copy)
+}
+
+/// The least timing of a plan, with these firsts and bands.
+pub fn framed(
+    alloc: Global,
+    artery: &Artery,
+    plan: &TypedPlan,
+    grid: u128,
+    pairs: Pairs,
+) -> Result<Timing, Memory>
+    requires counts { HasCounts artery.now plan.now }
+    requires grid { grid ≡ least_grid artery.now plan.now }
+    requires fine { too_fine artery.now plan.now ≡ None }
+    requires first_out { pairs.outbound.first < 2 ^ 80 }
+    requires band_out { pairs.outbound.band < 2 ^ 80 }
+    requires first_in { pairs.inbound.first < 2 ^ 80 }
+    requires band_in { pairs.inbound.band < 2 ^ 80 }
+    ensures { IfOk result (λ t. t ≡ with_pairs (pos pairs.outbound.first) pairs.outbound.band (pos pairs.inbound.first) pairs.inbound.band
+        (frame artery.now plan.now)) }
+{
+    artery.known_valid();
+    plan.known_within();
+    let unit = size(artery, plan, grid, Times::Part, 1);
+    let patterns = patterns(alloc, plan)?;
+    let reds = reds(alloc, artery, plan, grid, unit)?;
+    let run_out = runs(alloc, artery, plan, grid, Dir::Outbound)?;
+    let run_in = runs(alloc, artery, plan, grid, Dir::Inbound)?;
+    match Timing::new(
+        grid,
+        unit,
+        patterns,
+        reds,
+        run_out,
+        run_in,
+        pairs.outbound.first,
+        pairs.inbound.first,
+        pairs.outbound.band,
+        pairs.inbound.band,
+    ) {
+        Some(timing) => Ok(timing),
+        None => unreachable!(),
+    }
+}
