@@ -3,14 +3,11 @@ use Rattle.std.specs.Prelude.{ℕ, List}
 use Rattle.progression.specs.Street.{Street}
 use Rattle.certificate_checker.specs.Accepted.{IsAccepted}
 use Rattle.certificate_checker.specs.Claims as claims
-use Rattle.certificate_checker.specs.Refusals.{IsFirstRefusal}
-use Rattle.certificate_checker.specs.declared.reject.Reject as whole
-use Rattle.certificate_checker.specs.declared.reject.Reject.TheVariants as whole_reject
+use Rattle.certificate_checker.specs.Refusals as whole
+use Rattle.certificate_checker.specs.declared.reject.Reject.TheVariants as reject
 use Rattle.link_proof.specs.LinkAccepted.{IsLinkAccepted}
 use Rattle.link_proof.specs.LinkClaims.{LinkClaimHolds}
-use Rattle.link_proof.specs.LinkRefusals.{IsFirstLinkRefusal}
-use Rattle.link_proof.specs.declared.reject.LinkReject as links
-use Rattle.certificate_checker.specs.declared.reject.Reject.TheVariants as link_reject
+use Rattle.link_proof.specs.LinkRefusals as links
 use Rattle.maxband_run.specs.Reading.{Value}
 use Rattle.maxband_run.specs.Sought.{Sought, whole_bands, bands_of_links}
 use Rattle.maxband_run.specs.CheckLines.{rejected_line, link_rejected_line}
@@ -31,8 +28,8 @@ whole_checked = record {
   Accepted = IsAccepted;
   Proves = λ a w. claims.ClaimHolds a w.claim w.timing;
   Reject = whole.Reject;
-  First = IsFirstRefusal;
-  wanting = whole_reject.Memory;
+  First = whole.IsFirstRefusal;
+  wanting = reject.Memory;
   cause = cause.Rejected;
   line = rejected_line;
 }
@@ -42,8 +39,8 @@ links_checked = record {
   Accepted = IsLinkAccepted;
   Proves = λ a w. LinkClaimHolds a w.claim w.timing;
   Reject = links.LinkReject;
-  First = IsFirstLinkRefusal;
-  wanting = link_reject.Memory;
+  First = links.IsFirstLinkRefusal;
+  wanting = reject.Memory;
   cause = cause.LinkRejected;
   line = link_rejected_line;
 }

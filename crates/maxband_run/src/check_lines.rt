@@ -3,6 +3,7 @@
 ghost use Rattle.std.specs.Prelude.{◌≡◌, ◌≢◌, IfOk, string_bytes};
 ghost use Rattle.plan_text.specs.Families.{table_of};
 ghost use Rattle.maxband_run.specs.Lines.{failing_text};
+ghost use Rattle.certificate_checker.specs.declared.reject.Reject.TheVariants as refusal;
 ghost use Rattle.maxband_run.specs.CheckLines.{best_line, bound_line, between_line, open_line, accepted_line, leaf_line, wide_line, value_line, below_line, weak_line, split_line, timing_line, rejected_line, link_failing_text, link_rejected_line};
 
 use crate::lines::failing_text;
@@ -185,7 +186,7 @@ pub fn link_rejected_line(
     signals: u32,
     reject: &LinkReject,
 ) -> Result<String, AllocError>
-    ensures kept { IfOk result (λ text. reject.now ≢ LinkReject.Memory) }
+    ensures kept { IfOk result (λ text. reject.now ≢ refusal.Memory) }
     ensures line { IfOk result (λ text. string_bytes text ≡ link_rejected_line signals reject.now) }
 {
     let names = link_families(alloc)?;
