@@ -17,7 +17,13 @@ use Rattle.loop_rows.proofs.LeafSums.{total_coef, total_bound, total_width}
 use Rattle.loop_rows.proofs.RowTests.{row_decided}
 use Rattle.certificate_checker.specs.TreeProofs.{AreRows, Keeps, IsLeafProof}
 use Rattle.certificate_checker.specs.Accepted.{Shows, IsProof}
-use Rattle.certificate_checker.specs.Refusals.{aim_of}
+use Rattle.certificate_checker.specs.Refusals.{one_band}
+use Rattle.certificate_checker.specs.declared.leaves.Aim.{Aim}
+use Rattle.certificate_checker.specs.Checked.{aim_at}
+
+-- what each leaf is to show: that its box has no timing, or that no weighted band is above the limit
+abbrev pub aim_of : Street → Option ℚ → Aim
+aim_of a = aim_at (one_band a)
 
 -- ---- on a leaf's sum
 module _ (a : Street) (box : Area) (ws : List Weight) where

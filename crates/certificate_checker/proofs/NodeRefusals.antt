@@ -12,7 +12,6 @@ use Rattle.plan_text.specs.Warrants.{Node, SplitAt, LeafOf, node_of, AreTrees}
 use Rattle.loop_rows.specs.Weights.{Source, artery_rows}
 use Rattle.loop_rows.proofs.LeafSums.{at_left}
 use Rattle.certificate_checker.specs.Accepted.{IsProof, AreProofs}
-use Rattle.certificate_checker.specs.Refusals.{aim_of}
 use Rattle.certificate_checker.specs.Checked.{Checked, aim_at, reject_from, IsFirst}
 use Rattle.certificate_checker.specs.TreeProofs.{ProveAll, IsLeafProof, IsTreeProof}
 use Rattle.certificate_checker.specs.TreeRefusals.{tree_refusal, IsFirstOf}
@@ -23,7 +22,7 @@ use Rattle.certificate_checker.specs.declared.reject.Reject.{Reject}
 use Rattle.certificate_checker.specs.declared.reject.Reject.TheVariants.{TimingFails, ValueDiffers, BoundBelow, SplitOutside, NoSuchRow, Negative, Wide, LeafTooWeak, Memory}
 use Rattle.certificate_checker.proofs.PlaceTests.{place_in, place_out}
 use Rattle.certificate_checker.proofs.LeafRefusals.{proof_in, proof_out}
-use Rattle.certificate_checker.proofs.ArteryLeaves.{leaf_in, leaf_out}
+use Rattle.certificate_checker.proofs.ArteryLeaves.{aim_of, leaf_in, leaf_out}
 
 -- ---- nodes that are not refused, as many trees as boxes, are proofs, and back
 module _ (rows : Area → Source) (aim : Aim) where

@@ -14,8 +14,7 @@ use Rattle.time_space.specs.declared.failing.Failing.{Failing}
 use Rattle.plan_text.specs.declared.certificate.Claim.{Claim}
 use Rattle.plan_text.specs.Warrants.{Warrant, Node}
 use Rattle.certificate_checker.specs.ClaimRefusals.{IfThere}
-use Rattle.certificate_checker.specs.Checked.{Checked, aim_at, numbers_refusal_of, nodes_refusal_of, first_refusal, TimingFailsFirst, IsFirstRefusalOf}
-use Rattle.certificate_checker.specs.declared.leaves.Aim.{Aim}
+use Rattle.certificate_checker.specs.Checked.{Checked, numbers_refusal_of, nodes_refusal_of, first_refusal, TimingFailsFirst, IsFirstRefusalOf}
 use Rattle.certificate_checker.specs.declared.reject.Reject.{Reject as RejectOf}
 
 -- why one is refused
@@ -25,10 +24,6 @@ Reject = RejectOf Failing
 -- the timings with one band a direction
 abbrev pub one_band : Street → Checked Plan Failing
 one_band a = record { IsGood = Good a; worth = weighted_band a; FailsFirst = IsFirstFailing a; root = root_box a; rows = artery_rows a; goal = written a (goal_form a) }
-
--- what each leaf is to show: that its box has no timing, or that no weighted band is above the limit
-abbrev pub aim_of : Street → Option ℚ → Aim
-aim_of a = aim_at (one_band a)
 
 abbrev pub numbers_refusal : Street → Claim → Option Plan → Option Reject
 numbers_refusal a = numbers_refusal_of (one_band a)

@@ -5,7 +5,6 @@ use Rattle.std.specs.List.{All}
 use Rattle.std.proofs.lemmas.Bool.{true≢false}
 use Rattle.std.proofs.lemmas.Bool.Decides.{nat_tests}
 use Rattle.std.proofs.lemmas.List.Elements.{All-nil, All-cons}
-use Rattle.std.proofs.lemmas.Option.{none-some}
 use Rattle.toml.specs.Data.{Data, array, no_items, get, as_table}
 use Rattle.artery_model.specs.Bounds.{least_cycle, most_cycle, least_speed, most_speed}
 use Rattle.artery_model.specs.Faults.{Fault, first_fault, unless, each_numbered}
@@ -28,9 +27,6 @@ use Rattle.description_reader.specs.declared.place.Section.{Section}
 use Rattle.description_reader.specs.declared.place.Section.TheVariants.{Plan, PlanRoot}
 use Rattle.description_reader.proofs.CanonicalValues.{u32_back}
 use Rattle.description_reader.proofs.CanonicalTests.{each_none, none_of, passed, both_of}
-
-none_some : (f : Fault) → Some f ≡ None → ⊥
-none_some f e = none-some f (sym e)
 
 -- ---- one value
 there : (o : Option Data) (k : Kind) (place : List ℕ) → unless (is_some o) k place ≡ None → is_some o ≡ true

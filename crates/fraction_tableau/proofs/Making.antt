@@ -1,5 +1,5 @@
 -- Rows that are made of their cells and a bound.
-use Rattle.std.proofs.Common.{◌^◌, ◌≡◌, ℕ, zero, suc, pos, List, [], ◌∷◌, Option, Some, None, length, take, eqb, ◌+◌, ◌<◌, ◌≤◌, ◌⊎◌, inl, inr, sym, ◌∙◌, ap, subst, arith}
+use Rattle.std.proofs.Common.{◌^◌, ◌≡◌, ℕ, zero, suc, pos, List, [], ◌∷◌, Option, Some, None, length, take, eqb, ◌+◌, ◌<◌, ◌≤◌, ◌⊎◌, inl, inr, sym, subst, arith}
 use Rattle.std.specs.Prelude.{SomeIff}
 use Rattle.std.proofs.lemmas.List.{get_or_past}
 use Rattle.std.proofs.lemmas.Bool.{cond_both}
@@ -18,13 +18,6 @@ use Rattle.fraction_tableau.proofs.Scales.{zero_is_over, to_above, to_least}
 pub row_made : (target : List ℚ) (w count : ℕ) (f : ℕ → ℚ) (new : List Kept) (b : ℚ) → length target ≡ w + 1 → count ≤ w → take count new ≡ kept_below f w → ((m : ℕ) → m < w → f m ≡ number_in target m) → b ≡ number_in target w
     → IsLine w count (take count new) × (dense_row w (take count new) b ≡ target)
 row_made target w count f new b l n k g q = (line_made w count f (take count new) n k, row_is target w f (take count new) b l k g q)
-
--- the same of the list that a call wrote
-pub line_in : (items new : List Kept) (w count : ℕ) → items ≡ new → length new ≡ w → IsLine w count (take count new) → IsLine (length items) count (take count items)
-line_in items new w count e h l = subst (λ t. IsLine (length t) count (take count t)) (sym e) (subst (λ m. IsLine m count (take count new)) (sym h) l)
-
-pub row_in : (items new : List Kept) (w count : ℕ) (b : ℚ) → items ≡ new → length new ≡ w → dense_row (length items) (take count items) b ≡ dense_row w (take count new) b
-row_in items new w count b e h = ap (λ t. dense_row (length t) (take count t) b) e ∙ ap (λ m. dense_row m (take count new) b) h
 
 -- ---- the numbers of a row by those of its cells
 pub cells_over : (d b : ℕ) (cs : List Kept) (k : ℕ) → 0 < d → ((i : ℕ) → IsOver d b (cell_at cs i)) → IsOver d b (cell_in cs k)

@@ -1,5 +1,5 @@
 -- A row with another bound.
-use Rattle.std.proofs.Common.{◌≡◌, ℕ, List, [], ◌∷◌, ◌++◌, map, length, ◌-◌, ◌<◌, ◌≤◌, ◌^◌, ◌⊎◌, inl, inr, pos, refl, sym, ◌∙◌, ap, subst, arith}
+use Rattle.std.proofs.Common.{◌≡◌, ℕ, List, [], ◌∷◌, ◌++◌, map, length, ◌-◌, ◌<◌, ◌⊎◌, inl, inr, pos, refl, sym, ◌∙◌, ap, subst, arith}
 use Rattle.std.proofs.Math.ListN.{set}
 use Rattle.std.specs.List.{range_with_len}
 use Rattle.std.proofs.lemmas.List.{get_or-set_same, get_or-set_other, length_push}
@@ -8,10 +8,8 @@ use Rattle.rational_theory.specs.Rational.{ℚ, whole}
 use Rattle.narrow_fraction.specs.Fraction.{FitsFrac}
 use Rattle.fraction_tableau.specs.Narrow.{IsNarrow}
 use Rattle.fraction_tableau.specs.KeptCells.{number_in, cell_in, dense_row}
-use Rattle.fraction_tableau.specs.Scales.{IsOver, IsScaled}
 use Rattle.fraction_tableau.specs.NamedTableaus.{rebound}
 use Rattle.fraction_tableau.specs.declared.kept.Kept.{Kept}
-use Rattle.fraction_tableau.specs.declared.scale.Scale.{Scale}
 
 set_last : (xs : List ℚ) (b c : ℚ) → set (xs ++ b ∷ []) (length xs) c ≡ xs ++ c ∷ []
 set_last [] b c = refl
@@ -35,18 +33,6 @@ rebound_each P row c l h p k = pick (cases_eq k (length row - 1))
     pick : (k ≡ length row - 1) ⊎ (k ≡ length row - 1 → ⊥) → P (number_in (rebound c row) k)
     pick (inl e) = subst (λ n. P (number_in (rebound c row) n)) (sym e) (subst P (sym (get_or-set_same row (length row - 1) c (whole (pos 0)) (omega arith))) p)
     pick (inr n) = subst P (sym (get_or-set_other row (length row - 1) k c (whole (pos 0)) n)) (h k)
-
-over_more : (d b c : ℕ) (x : ℚ) → b ≤ c → IsOver d b x → IsOver d c x
-over_more d b c x l o = record { same = o.same; size = omega (arith, o.size, l) }
-
--- the row stays narrow over its denominator
-pub scaled_rebound : (s : Scale) (most : ℕ) (row : List ℚ) (c : ℚ) → 0 < length row → IsScaled s row → s.most ≤ most → most < 2 ^ 42 → IsOver s.denominator most c → IsScaled (record { denominator = s.denominator; most = most }) (rebound c row)
-scaled_rebound s most row c l o m h b = record {
-  above = o.above;
-  denominator = omega (arith, o.denominator, m);
-  short = h;
-  numbers = rebound_each (IsOver s.denominator most) row c l (λ k. over_more s.denominator s.most most (number_in row k) m (o.numbers k)) b;
-}
 
 -- and its numbers fit
 pub narrow_rebound : (row : List ℚ) (c : ℚ) → 0 < length row → IsNarrow row → FitsFrac c → IsNarrow (rebound c row)

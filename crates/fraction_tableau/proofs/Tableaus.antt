@@ -82,10 +82,6 @@ unfolding with_bound
 bound_is t r x rows e = λ i. record { table = record { rows = e i; goal = t.table.goal; basic = t.table.basic; standing = t.table.standing }; names = t.names; spent = t.spent }
 
 -- ---- a copy
-pub copy_is : (t : NamedTableau) (rows : List (List ℚ)) (goal : List ℚ) (basic standing : List ℕ) (names : List RowId) → rows ≡ t.table.rows → goal ≡ t.table.goal → basic ≡ t.table.basic → standing ≡ t.table.standing → names ≡ t.names
-    → record { table = record { rows = rows; goal = goal; basic = basic; standing = standing }; names = names; spent = t.spent } ≡ t
-copy_is t rows goal basic standing names a b c d e = λ i. record { table = record { rows = a i; goal = b i; basic = c i; standing = d i }; names = e i; spent = t.spent }
-
 -- ---- another bound of the goal row
 pub goal_bound_is : (t : NamedTableau) (x : ℚ) (goal : List ℚ) → goal ≡ rebound x t.table.goal → record { table = record { rows = t.table.rows; goal = goal; basic = t.table.basic; standing = t.table.standing }; names = t.names; spent = t.spent } ≡ with_goal_bound x t
 unfolding with_goal_bound

@@ -1,7 +1,7 @@
 -- Numerators, and one step of the least common denominator.
-use Rattle.std.proofs.Common.{◌≡◌, ℕ, suc, ◌+◌, ◌<◌, ◌^◌, List, length, Option, Some, None, Result, Ok, Err, refl, sym, ◌∙◌, ap, ap₂, subst, arith, add-one}
+use Rattle.std.proofs.Common.{◌≡◌, ℕ, suc, ◌+◌, ◌<◌, ◌^◌, List, length, Option, Some, None, Ok, Err, refl, sym, ◌∙◌, ap, ap₂, subst, arith, add-one}
 use Rattle.rational_theory.specs.Gcd.{lcm}
-use Rattle.std.specs.Prelude.{nat_le, ◌==◌, if◌then◌else◌, SomeIff, OnOk}
+use Rattle.std.specs.Prelude.{nat_le, ◌==◌, if◌then◌else◌, SomeIff}
 use Rattle.std.proofs.lemmas.Bool.Decides.{nat_tests}
 use Rattle.std.proofs.Common.{true, false}
 use Rattle.rational_theory.specs.Rational.{ℚ}
@@ -103,8 +103,3 @@ unit_refused a x n w products h e =
     let refused = attempt_err (first_below (unit_test a x) n) (common a x n) w h.value in
     let tests : unit_tests a x ≡ Some w = subst (λ m. earlier (first_below (product_test a x) m) (first_below (unit_test a x) m) ≡ Some w) e (ap₂ earlier products refused) in
     rw tests refl
-
--- what holds anyway holds of a value
-pub on_ok : {T E P : Type 0} (r : Result T E) → P → OnOk r P
-on_ok (Ok v) p = p
-on_ok (Err e) p = tt

@@ -86,12 +86,6 @@ module _ (t u : Tableau) (r j : ℕ) (s : IsShaped t) (v : IsShaped u) (p : IsPl
   low : r < height u
   low = let h = p.row in let e = a.rows in omega arith
 
-  turned_row : List ℚ
-  turned_row = turned j (line u r)
-
-  other_row : List ℚ
-  other_row = turned j (line t r)
-
   same_cells : (i : ℕ) → i < height u → (k : ℕ) → k < width u → cell t i k ≡ cell u i k
   same_cells i h k l = a.cells i k (let e = a.rows in omega arith) (let e = columns in omega arith)
 

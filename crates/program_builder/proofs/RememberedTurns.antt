@@ -36,10 +36,6 @@ pub all_turns : (vs : List ℕ) (u : Tableau) (k : ℕ) (bounds : List ℚ) → 
 unfolding entry
 all_turns vs u k bounds e a = (all_passed vs u k e a.passed, subst (λ n. AreBoundsOf (entry_after vs u n) bounds) e a.bounds)
 
--- as many bounds at each turn
-pub bounds_count : (vs : List ℕ) (u : Tableau) (k n : ℕ) (bounds : List ℚ) → IsReady vs u → k ≤ length vs → n ≡ height u + 1 → AreBoundsAfter vs u k bounds → n ≡ length bounds
-bounds_count vs u k n bounds r h e a = let p = a.bounds.count in let q = (ready_rows vs u r k h).0 in omega arith
-
 -- a slack changes nothing
 pub slack_next : (vs : List ℕ) (u : Tableau) (k : ℕ) (bounds : List ℚ) → IsReady vs u → k < length vs → width u ≤ variable_at vs k → AreBoundsAfter vs u k bounds → AreBoundsAfter vs u (k + 1) bounds
 unfolding entry_after

@@ -1,5 +1,5 @@
 -- Lists of numbers while they are written one after another: notes, and bounds that are turned.
-use Rattle.std.proofs.Common.{◌≡◌, ℕ, pos, List, get_or, set, length, ◌+◌, ◌<◌, ◌≤◌, ◌⊎◌, inl, inr, refl, sym, ◌∙◌, ap, subst, arith}
+use Rattle.std.proofs.Common.{◌≡◌, ℕ, pos, List, get_or, set, length, ◌+◌, ◌<◌, ◌≤◌, ◌⊎◌, inl, inr, sym, ◌∙◌, ap, subst, arith}
 use Rattle.std.proofs.Math.ListN.{length-set}
 use Rattle.std.proofs.lemmas.List.{get_or-set_same, get_or-set_other, get_or_past}
 use Rattle.std.proofs.lemmas.Bool.{cases_lt}
@@ -17,7 +17,7 @@ use Rattle.fraction_tableau.specs.KeptCells.{number_in}
 use Rattle.fraction_tableau.proofs.Zeros.{negated_zero}
 use Rattle.simplex_theory.specs.Tableau.{Tableau, width}
 use Rattle.entry_theory.specs.Entry.{variable_at, entry_row, entry_after}
-use Rattle.program_builder.specs.Remembering.{IsLess, AreTurned, IsNoteOf, AreNotesOf, HaveRoom}
+use Rattle.program_builder.specs.Remembering.{IsLess, IsNoteOf, AreNotesOf}
 use Rattle.program_builder.specs.declared.noting.Turn.{Turn}
 
 -- ---- written one after another
@@ -26,20 +26,8 @@ pub record AreWritten (f : ℕ → ℚ) (old now : List ℚ) (k : ℕ) : Type 0 
   pub count : length now ≡ length old
   pub written : (i : ℕ) → i < k → number_in now i ≡ f i
 
-pub none_written : (f : ℕ → ℚ) (old : List ℚ) → AreWritten f old old 0
-none_written f old = record { count = refl; written = λ i h. absurd (omega arith) }
-
 pub last_or_before : (i k : ℕ) → i < k + 1 → (i ≡ k) ⊎ (i < k)
 last_or_before i k h = grind arith
-
-pub one_written : (f : ℕ → ℚ) (old now : List ℚ) (k : ℕ) (x : ℚ) → AreWritten f old now k → k < length now → x ≡ f k → AreWritten f old (set now k x) (k + 1)
-one_written f old now k x w h e = record {
-  count = length-set now k x ∙ w.count;
-  written = λ i l. elim (last_or_before i k l) [
-    | inl q ↦ rw q (get_or-set_same now k x (whole (pos 0)) h ∙ e)
-    | inr q ↦ get_or-set_other now k i x (whole (pos 0)) (λ d. absurd (omega arith)) ∙ w.written i q
-  ];
-}
 
 -- ---- fitting numbers
 pub narrow_set : (now : List ℚ) (k : ℕ) (x : ℚ) → IsNarrow now → k < length now → FitsFrac x → IsNarrow (set now k x)
@@ -72,17 +60,6 @@ pub record IsTurningBounds (r : ℕ) (column old now : List ℚ) (k : ℕ) : Typ
   pub done : (i : ℕ) → i < k → (i ≡ r → ⊥) → IsLess (number_in column i) (number_in now r) (number_in old i) (number_in now i)
   pub rest : (i : ℕ) → k ≤ i → (i ≡ r → ⊥) → number_in now i ≡ number_in old i
   pub narrow : IsNarrow now
-
-pub turning_start : (r : ℕ) (column old : List ℚ) (own : ℚ) → r < length old → own ≡ number_in old r *ℚ inverse_ℚ (number_in column r) → Fits128 Div (number_in old r) (number_in column r) → FitsFrac own → IsNarrow old
-    → IsTurningBounds r column old (set old r own) 0
-turning_start r column old own h e q f n = record {
-  count = length-set old r own;
-  own = get_or-set_same old r own (whole (pos 0)) h ∙ e;
-  quotient = q;
-  done = λ i l. absurd (omega arith);
-  rest = λ i l o. get_or-set_other old r i own (whole (pos 0)) o;
-  narrow = narrow_set old r own n h f;
-}
 
 -- the pivot's own row
 pub turning_own : (r : ℕ) (column old now : List ℚ) (k : ℕ) → IsTurningBounds r column old now k → k ≡ r → IsTurningBounds r column old now (k + 1)
@@ -118,27 +95,7 @@ turning_next r column old now k x t n h l f = record {
     pick i o (inr q) =
         subst (λ z. IsLess (number_in column i) (number_in now r) (number_in old i) z) (sym (get_or-set_other now k i x (whole (pos 0)) (λ d. absurd (omega arith)))) (t.done i q o)
 
-pub turning_end : (r : ℕ) (column old now : List ℚ) (k : ℕ) → IsTurningBounds r column old now k → length now ≤ k → AreTurned r column old now
-turning_end r column old now k t h = record {
-  count = t.count;
-  own = t.own;
-  quotient = t.quotient;
-  others = λ i l o. t.done i (let e = t.count in omega arith) o;
-}
-
 -- ---- notes
-pub note_here : (t : Tableau) (r v k : ℕ) (old : List Turn) (x : Turn) → IsNoteOf t r v x → (d : Turn) → k < length old → IsNoteOf t r v (get_or (set old k x) k d)
-note_here t r v k old x n d h = subst (IsNoteOf t r v) (sym (get_or-set_same old k x d h)) n
-
-pub note_others : (k : ℕ) (old : List Turn) (x : Turn) (i : ℕ) (d : Turn) → (i ≡ k → ⊥) → get_or (set old k x) i d ≡ get_or old i d
-note_others k old x i d n = get_or-set_other old k i x d n
-
-pub note_room : (k n : ℕ) (old : List Turn) (x : Turn) → k < length old → HaveRoom old n → length x.column.items ≡ n → HaveRoom (set old k x) n
-note_room k n old x h r e i d l = elim (same_or_other i k) [
-  | inl q ↦ rw q (ap (λ (u : Turn). length u.column.items) (get_or-set_same old k x d h) ∙ e)
-  | inr q ↦ ap (λ (u : Turn). length u.column.items) (get_or-set_other old k i x d q) ∙ r i d (let f = length-set old k x in omega arith)
-]
-
 -- the notes of the turns below k
 abbrev pub AreNotesBelow : List ℕ → Tableau → ℕ → List Turn → Type 0
 AreNotesBelow vs t k notes = (j : ℕ) (d : Turn) → j < k → j < length notes → variable_at vs j < width (entry_after vs t j)

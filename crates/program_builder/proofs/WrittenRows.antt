@@ -1,5 +1,5 @@
 -- A tableau while its bounds are written, row after row, and the goal row's last.
-use Rattle.std.proofs.Common.{◌≡◌, ℕ, suc, pos, List, [], get_or, set, length, ◌+◌, ◌-◌, ◌<◌, ◌⊎◌, inl, inr, refl, sym, ◌∙◌, ap, subst, arith}
+use Rattle.std.proofs.Common.{◌≡◌, ℕ, suc, pos, List, [], get_or, set, length, ◌+◌, ◌-◌, ◌<◌, ◌⊎◌, inl, inr, sym, ◌∙◌, ap, subst, arith}
 use Rattle.std.proofs.Math.ListN.{length-set}
 use Rattle.std.proofs.lemmas.List.{get_or-set_same, get_or-set_other}
 use Rattle.rational_theory.specs.Rational.{ℚ, whole}
@@ -28,15 +28,6 @@ pub record IsWriting (bounds : List ℚ) (s now : NamedTableau) (k : ℕ) : Type
   pub done : (i : ℕ) → i < k → i < height s.table → bound now.table i ≡ number_in bounds i
   pub names : now.names ≡ s.names
   pub spent : now.spent ≡ s.spent
-
-pub none_done : (bounds : List ℚ) (s : NamedTableau) → IsShaped s.table → IsWriting bounds s s 0
-none_done bounds s h = record {
-  shaped = h;
-  cells = record { rows = refl; basic = refl; standing = refl; cells = λ i k m n. refl; goals = λ k n. refl };
-  done = λ i m. absurd (omega arith);
-  names = refl;
-  spent = refl;
-}
 
 module _ (bounds : List ℚ) (s now : NamedTableau) (k : ℕ) (x : ℚ) (o : IsWriting bounds s now k) (h : k < height s.table) (e : x ≡ number_in bounds k) where
   row : List ℚ

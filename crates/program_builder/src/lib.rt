@@ -11,10 +11,10 @@
 //! (`specs/First.antt`), with its law.
 //!
 //! Only some bounds depend on the box. Where many boxes are begun, `make_loaded` keeps the rows of one as they are loaded, and
-//! `reset_from` and `enter_from` make what `reset` and `enter` make from a copy of it.
+//! `reset_from` makes what `reset` makes from a copy of it.
 //!
 //! The two parts of a split enter the same basis, and what is loaded for them differs in bounds alone. `enter_remembering` enters as
-//! `enter_from` does and keeps in an `EntryMemory` what it takes to enter the other part: the row of each turn of a column, what all
+//! `enter` does, from such a copy, and keeps in an `EntryMemory` what it takes to enter the other part: the row of each turn of a column, what all
 //! rows had at its place (the product form of the inverse), and the entered tableau. The other part's bounds alone are run through
 //! these turns (`specs/Remembering.antt`).
 //!
@@ -45,7 +45,7 @@ mod turning;
 
 pub use building::{reset, start};
 pub use entering::enter;
-pub use loaded::{enter_from, load_from, make_loaded, reset_from};
+pub use loaded::{load_from, make_loaded, reset_from};
 pub use loading::{load, make_tableau};
 pub use pivots::{StartPivot, pivot};
 pub use remembering::{EntryMemory, enter_remembering};

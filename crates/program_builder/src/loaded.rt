@@ -1,20 +1,17 @@
 //! The rows of an artery as they are loaded, kept for all of its boxes: their cells are the same for each, and most bounds.
 
-ghost use Rattle.std.specs.Prelude.{◌≡◌, ◌<◌, length, is_none, false, IfOk, if◌then◌else◌};
+ghost use Rattle.std.specs.Prelude.{◌≡◌, ◌<◌, length, false, IfOk};
 ghost use Rattle.progression.specs.Street.{count};
 ghost use Rattle.linear_theory.specs.Places as places;
 ghost use Rattle.linear_theory.specs.Boxes.{IsBoxOf};
 ghost use Rattle.simplex_theory.specs.DualSteps.{IsDual};
 ghost use Rattle.simplex_theory.specs.RowLists.{StandsForRows};
-ghost use Rattle.program_builder.specs.EntryRefusals.{entry_refusal};
-ghost use Rattle.program_builder.specs.Opening.{box_rows, goal_of, loaded};
+ghost use Rattle.program_builder.specs.Opening.{box_rows, goal_of};
 ghost use Rattle.program_builder.specs.Building.{IsMadeFor, IsLoadedFor, loaded_box, opened_box};
-ghost use Rattle.program_builder.specs.Entry.{IsBasisOf, entered_box};
 
 use crate::building::enter_bands;
 use crate::loading::{load, make_tableau};
 use crate::table::ArteryTable;
-use crate::turning::enter_columns;
 use artery_model::Artery;
 use fraction_tableau::Tableau;
 use loop_rows::box_bound;
@@ -70,33 +67,4 @@ pub fn reset_from(tableau: &mut Tableau, from: &Tableau, artery: &Artery, area: 
     artery.known_valid();
     load_from(tableau, from, artery, area);
     enter_bands(tableau, artery, area);
-}
-
-/// Makes what `enter` makes, and answers as it does, from a tableau in which the rows of another box are loaded. Takes no memory.
-pub fn enter_from(
-    tableau: &mut Tableau,
-    from: &Tableau,
-    artery: &Artery,
-    area: &SearchBox,
-    basis: &[u32],
-) -> bool
-    requires boxed { IsBoxOf artery.now area.now }
-    requires made { IsMadeFor artery.now tableau.old }
-    requires loaded { IsLoadedFor artery.now from.now }
-    requires basis { IsBasisOf artery.now basis.now }
-    ensures outcome { result ≡ is_none (entry_refusal basis.now (loaded artery.now area.now)) }
-    ensures state { tableau.new ≡ (if result then entered_box artery.now area.now basis.now else opened_box artery.now area.now) }
-    ensures dual { IsDual tableau.new.table }
-    ensures stands { StandsForRows tableau.new.table (box_rows artery.now area.now) (goal_of artery.now) }
-    ensures made { IsMadeFor artery.now tableau.new }
-{
-    load_from(tableau, from, artery, area);
-    match enter_columns(tableau, basis, &mut []) {
-        Ok(()) => true,
-        Err(_) => {
-            tableau.known_named();
-            reset_from(tableau, from, artery, area);
-            false
-        }
-    }
 }

@@ -235,9 +235,9 @@ fn enter_anew(
     }
 }
 
-/// Makes what `enter_from` makes, and answers as it does. Where the entry of this basis is remembered, its turns are made of the bounds
-/// alone, unless an operation on one of them leaves 128 bits; else the entry is remembered for the next call. The error is want of
-/// memory.
+/// Makes what `enter` makes, and answers as it does, from a tableau in which the rows of another box are loaded. Where the entry of
+/// this basis is remembered, its turns are made of the bounds alone, unless an operation on one of them leaves 128 bits; else the
+/// entry is remembered for the next call. The error is want of memory.
 pub fn enter_remembering(
     tableau: &mut Tableau,
     from: &Tableau,

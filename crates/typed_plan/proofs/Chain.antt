@@ -18,9 +18,6 @@ module _ (a : Street) (p : Typed) where
   abbrev from_offsets : List ℕ
   from_offsets = commons a p After (with_part a p) ++ from_out
 
-  pub first_part : (k : ℕ) → find large (commons a p Part 1) ≡ Some k → too_fine a p ≡ Some k
-  first_part k h = stop (commons a p Part 1) from_offsets k h
-
   module _ (one : ℕ) (one_is : one ≡ common_all a p Part 1) (one_none : find large (commons a p Part 1) ≡ None) where
     part_is : one ≡ with_part a p
     unfolding with_part
