@@ -1,13 +1,9 @@
 -- What `--help` says.
-use Rattle.std.proofs.Common.{◌≡◌, ℕ, List, [], ◌∷◌, ◌++◌, Option, Some, flat_map, ◌⊎◌, inl, inr, refl, sym, ◌∙◌, ap, subst, append_assoc}
+use Rattle.std.proofs.Common.{◌≡◌, ℕ, List, [], ◌∷◌, ◌++◌, Some, flat_map, ◌⊎◌, inl, inr, refl, sym, ◌∙◌, ap, subst, append_assoc}
 use Rattle.outer_edge.specs.Taken.{Appends}
-use Rattle.maxband_run.specs.Command.{Request, Help}
-use Rattle.maxband_run.specs.Outside.{Outside}
+use Rattle.maxband_run.specs.Command.{Help}
 use Rattle.maxband_run.specs.Usages.{usage_line, usages, usage_of, statuses_line}
-use Rattle.maxband_run.specs.Run.{Ends}
-use Rattle.maxband_run.specs.Laws.{TellsUsage, HelpSays}
-use Rattle.maxband_run.specs.Status.{number_of}
-use Rattle.maxband_run.specs.declared.cause.Cause.{Cause}
+use Rattle.maxband_run.specs.Laws.{HelpSays}
 use Rattle.maxband_run.specs.declared.usage.Usage.{Usage}
 use Rattle.maxband_run.specs.declared.usage.Usage.TheVariants as usage
 use Rattle.maxband_run.proofs.Found.{found_done}

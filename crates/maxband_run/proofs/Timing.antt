@@ -1,11 +1,10 @@
 -- A file with a timing is read by the reader that its first line tells.
-use Rattle.std.proofs.Common.{◌≡◌, ℕ, Bool, true, false, List, Option, Some, Result, Ok, Err, ap, refl, ◌∙◌}
+use Rattle.std.proofs.Common.{◌≡◌, ℕ, Bool, true, false, List, Some, Ok, ap, refl, ◌∙◌}
 use Rattle.std.specs.Prelude.{IfOk, if◌then◌else◌}
 use Rattle.progression.specs.Plan.{Plan}
 use Rattle.plan_text.specs.Reading.{timing_of}
 use Rattle.plan_text.specs.Warrants.{Warrant}
 use Rattle.plan_text.specs.CertificateReading.{certificate_of}
-use Rattle.plan_text.specs.declared.fault.BadText.{BadText}
 use Rattle.maxband_run.specs.Timed.{is_timing, some_timing, timing_in, timed_of}
 use Rattle.maxband_run.specs.Reading.{IsBadText, end_of}
 use Rattle.maxband_run.specs.declared.answer.Unread.{Unread}

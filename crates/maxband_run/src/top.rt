@@ -32,10 +32,10 @@ fn status(cause: Cause) -> Status
 ///
 /// The status has its cause: what the bytes of the files are, which are those that they held at entry where they tell them, what
 /// is made from a seed, or which failed call was counted. The output grew by exactly that answer's lines, and no file changed but
-/// that `solve` or `links` put the text of its certificate, which is read back as the very certificate that was accepted, `renew` that of the
-/// certificate that it read, `round` or `half` that of its plan, `draw` its picture, or `sweep` its table. What a command
-/// reads and puts is a table, `shape`. Each call that failed and was counted is told by the status: after any other no count has
-/// changed. After `Memory` no file changed and nothing was written; after `WriteFault` either the put failed and nothing was
+/// that `solve` or `links` put the text of its certificate, which is read back as the very certificate that was accepted, `renew`
+/// that of the certificate that it read, `round`, `round-from` or `half` that of its plan, `draw` its picture, or `sweep` its table.
+/// What a command reads and puts is a table, `shape`. Each call that failed and was counted is told by the status: after any other
+/// no count has changed. After `Memory` no file changed and nothing was written; after `WriteFault` either the put failed and nothing was
 /// written, or a front of the lines of the answer that was reached went out.
 pub fn run<F: Files, K: Sink>(alloc: Global, words: &[String], files: &mut F, out: &mut K) -> Status
     ensures number { result.number ≡ number_of result.cause }
@@ -234,9 +234,9 @@ pub fn law_round_from_says()
     time_space::law_fails_rules_out();
 }
 
-/// A law over the definitions: where the files of `round-from` are a description of an artery, a certificate, and a timing or a certificate,
-/// and no fault is counted, a plan is put, the certificate is rejected, the timing breaks a rule, no plan is made of it, or memory is
-/// wanting.
+/// A law over the definitions: where the files of `round-from` are a description of an artery, a certificate, and a timing or a
+/// certificate, and no fault is counted, a plan is put, the certificate is rejected, the timing breaks a rule, no plan is made of it,
+/// or memory is wanting.
 pub fn law_round_from_is_complete()
     ensures { RoundFromIsComplete }
 {
