@@ -1,22 +1,23 @@
 -- Whole runs without a fault end as they should, and faults are told.
 use Rattle.std.proofs.Common.{◌≡◌, ℕ, ◌+◌, List, [], ◌∷◌, Option, Some, None, ◌⊎◌, inl, inr, refl, sym, ◌∙◌, ap, subst, arith}
-use Rattle.description_reader.specs.Described as described
 use Rattle.outer_edge.specs.Counts.{next_count, Rose, SameCounts}
 use Rattle.workload_maker.specs.Made.{made_street}
-use Rattle.maxband_run.specs.Command.{Request, Solve, Links, Renew, RoundFrom, Draw, Make, Trial, Sweep, shape}
+use Rattle.maxband_run.specs.Command.{Request, Solve, Links, Renew, RoundFrom, TimingOf, Draw, Make, Trial, Sweep, shape}
 use Rattle.maxband_run.specs.Outside.{Outside, NamedBytes, named, put_of, IsDone, IsBroken}
 use Rattle.progression.specs.Street.{Street}
 use Rattle.progression.specs.Plan.{Plan}
 use Rattle.plan_text.specs.Warrants.{Warrant}
 use Rattle.maxband_run.specs.Round.{RoundFromFinds}
+use Rattle.description_reader.specs.Typed.{Typed}
+use Rattle.maxband_run.specs.Typed.{WritesTiming, TypedFinds}
 use Rattle.maxband_run.specs.Draw.{DrawFinds}
-use Rattle.maxband_run.specs.PlanLaws.{IsDrawingEnd, DrawIsComplete, IsRoundingEnd, RoundFromIsComplete}
+use Rattle.maxband_run.specs.PlanLaws.{IsDrawingEnd, DrawIsComplete, IsRoundingEnd, RoundFromIsComplete, IsTypedEnd, TimingIsComplete}
 use Rattle.maxband_run.specs.Reading.{Input, Values, AreRead, AreTold, StopsReading}
 use Rattle.maxband_run.specs.Run.{Answers, Answered, Ends}
 use Rattle.maxband_run.specs.Laws.{IsFault, IsVerdict, FaultsAreTold, SolveIsComplete, LinksAreComplete, MakeIsComplete, TrialIsComplete, SweepIsComplete, RenewIsComplete}
 use Rattle.maxband_run.specs.declared.cause.Cause.{Cause}
 use Rattle.maxband_run.specs.declared.cause.Cause.TheVariants as cause
-use Rattle.maxband_run.proofs.Readers.{all_apart}
+use Rattle.maxband_run.proofs.Readers.{OneReading, all_apart}
 use Rattle.maxband_run.proofs.Stopped.{stops_stop, stops_same}
 use Rattle.maxband_run.proofs.Once.{verdict_cause, show_done}
 
@@ -80,7 +81,7 @@ no_fault (i ∷ is) place file held before after lines n (inl h) = n.0 (rose (be
 no_fault (i ∷ is) place file held before after lines n (inr h) = no_fault is (place + 1) file held before after lines n.1 h.2
 
 -- ---- a command that puts a file, where those that it reads are read and no read of them failed
-module _ (reader : described.OneAnswer) (before now : Outside) (asked : Option Request) (name : List ℕ) (puts : (shape asked).output ≡ Some name) (v : Values (shape asked).inputs)
+module _ (reader : OneReading) (before now : Outside) (asked : Option Request) (name : List ℕ) (puts : (shape asked).output ≡ Some name) (v : Values (shape asked).inputs)
     (told : AreTold before.holds (shape asked).inputs) (r : AreRead (shape asked).inputs before.holds v) (no_read : NoneRose before.reads now.reads (shape asked).inputs) where
   not_stopped : (c : Cause) (lines : List ℕ) → StopsReading (shape asked).inputs 1 before.holds before.reads now.reads c lines → ⊥
   not_stopped (cause.ReadFault file) lines h = no_fault (shape asked).inputs 1 file before.holds before.reads now.reads lines no_read h
@@ -103,21 +104,21 @@ module _ (reader : described.OneAnswer) (before now : Outside) (asked : Option R
     ends_so cause.Memory no_put no_write h = inr refl
     ends_so c no_put no_write h = inl (finds_so c h.0 h.1 h.2)
 
-pub complete : described.OneAnswer → SolveIsComplete
+pub complete : OneReading → SolveIsComplete
 complete reader before now artery certificate limit a c told r no_read no_put no_write h =
     ends_so reader before now (Some (Solve artery certificate limit)) certificate refl (a, tt) (told, tt) (r, tt) (no_read, tt) IsVerdict
     (λ c lines put k. verdict_cause c k.finds.2.found.verdict k.finds.2.cause_is) c no_put no_write h
 
-pub links_complete : described.OneAnswer → LinksAreComplete
+pub links_complete : OneReading → LinksAreComplete
 links_complete reader before now artery certificate limit a c told r no_read no_put no_write h =
     ends_so reader before now (Some (Links artery certificate limit)) certificate refl (a, tt) (told, tt) (r, tt) (no_read, tt) IsVerdict
     (λ c lines put k. verdict_cause c k.finds.2.found.verdict k.finds.2.cause_is) c no_put no_write h
 
-pub sweep_complete : described.OneAnswer → SweepIsComplete
+pub sweep_complete : OneReading → SweepIsComplete
 sweep_complete reader before now artery table limit cycles a c told r no_read no_put no_write h =
     ends_so reader before now (Some (Sweep artery table limit cycles)) table refl (a, tt) (told, tt) (r, tt) (no_read, tt) (λ c. c ≡ cause.Done) (λ c lines put k. k.finds.2.cause_is) c no_put no_write h
 
-pub renew_complete : described.OneAnswer → RenewIsComplete
+pub renew_complete : OneReading → RenewIsComplete
 renew_complete reader before now certificate new w c told r no_read no_put no_write h =
     ends_so reader before now (Some (Renew certificate new)) new refl (w, tt) (told, tt) (r, tt) (no_read, tt) (λ c. c ≡ cause.Done) (λ c lines put k. k.finds.2.cause_is) c no_put no_write h
 
@@ -128,10 +129,25 @@ rounding_end a w o (cause.Fails f) l bytes h = tt
 rounding_end a w o (cause.Unplanned e) l bytes h = tt
 rounding_end a w o c l bytes h = absurd h
 
-pub round_from_complete : described.OneAnswer → RoundFromIsComplete
+pub round_from_complete : OneReading → RoundFromIsComplete
 round_from_complete reader before now artery certificate other plan a w o c told told_too told_last r q p no_read no_certificate no_other no_put no_write h =
     ends_so reader before now (Some (RoundFrom artery certificate other plan)) plan refl (a, (w, (o, tt))) (told, (told_too, (told_last, tt))) (r, (q, (p, tt))) (no_read, (no_certificate, (no_other, tt))) IsRoundingEnd
     (λ c lines put k. rounding_end k.values.0 k.values.1.0 k.values.1.1.0 c lines k.bytes k.finds) c no_put no_write h
+
+writes_end : (a : Street) (t : Plan) (c : Cause) (l : List ℕ) (bytes : Option (List ℕ)) → WritesTiming a t c l bytes → IsTypedEnd c
+writes_end a t cause.Done l bytes h = tt
+writes_end a t (cause.Fails f) l bytes h = tt
+writes_end a t c l bytes h = absurd h
+
+typed_end : (a : Street) (p : Typed) (c : Cause) (l : List ℕ) (bytes : Option (List ℕ)) → TypedFinds a p c l bytes → IsTypedEnd c
+typed_end a p c l bytes (inl h) = writes_end a h.timing c l bytes h.finds
+typed_end a p c l bytes (inr (inl h)) = subst (λ (d : Cause). IsTypedEnd d) (sym h.cause_is) tt
+typed_end a p c l bytes (inr (inr h)) = subst (λ (d : Cause). IsTypedEnd d) (sym h.cause_is) tt
+
+pub timing_complete : OneReading → TimingIsComplete
+timing_complete reader before now artery plan timing a p c told plan_told r q no_read no_plan no_put no_write h =
+    ends_so reader before now (Some (TimingOf artery plan timing)) timing refl (a, (p, tt)) (told, (plan_told, tt)) (r, (q, tt)) (no_read, (no_plan, tt)) IsTypedEnd
+    (λ c lines put k. typed_end k.values.0 k.values.1.0 c lines k.bytes k.finds) c no_put no_write h
 
 drawing_end : (a : Street) (o : Option Plan) (c : Cause) (l : List ℕ) (bytes : Option (List ℕ)) → DrawFinds a o c l bytes → IsDrawingEnd c
 drawing_end a None c l bytes h = subst (λ (d : Cause). IsDrawingEnd d) (sym h.0) tt
@@ -139,7 +155,7 @@ drawing_end a (Some t) cause.Done l bytes h = tt
 drawing_end a (Some t) (cause.Fails f) l bytes h = tt
 drawing_end a (Some t) c l bytes h = absurd h
 
-pub draw_complete : described.OneAnswer → DrawIsComplete
+pub draw_complete : OneReading → DrawIsComplete
 draw_complete reader before now artery timed picture a o c told timed_told r q no_read no_timed no_put no_write h =
     ends_so reader before now (Some (Draw artery timed picture)) picture refl (a, (o, tt)) (told, (timed_told, tt)) (r, (q, tt)) (no_read, (no_timed, tt)) IsDrawingEnd
     (λ c lines put k. drawing_end k.values.0 k.values.1.0 c lines k.bytes k.finds) c no_put no_write h

@@ -20,8 +20,15 @@ use Rattle.branch_and_bound.specs.declared.found.Verdict.{Verdict}
 use Rattle.branch_and_bound.specs.declared.found.Verdict.TheVariants.{Best, NoTiming, Stopped}
 use Rattle.branch_tree.specs.declared.site.SitePart.{SitePart}
 use Rattle.workload_maker.specs.Made.{made_street}
-use Rattle.maxband_run.specs.Lines.{fails_line}
-use Rattle.maxband_run.specs.Command.{Request, Hold, Show, Check, CheckLinks, Solve, Links, Renew, Bands, Round, RoundFrom, Half, Draw, Help, Version, Make, Trial, Sweep, shape}
+use Rattle.artery_model.specs.Faults.{fault_of}
+use Rattle.diagram_print.specs.Measures.{weighted_line}
+use Rattle.half_integer.specs.declared.end.HalfEnd.TheVariants as half_end
+use Rattle.description_reader.specs.Typed.{Typed}
+use Rattle.typed_plan.specs.Counts.{count_fault}
+use Rattle.typed_plan.specs.Grid.{too_fine}
+use Rattle.typed_plan.specs.Ends.{OneTiming}
+use Rattle.maxband_run.specs.Lines.{fails_line, refused_line}
+use Rattle.maxband_run.specs.Command.{Request, Hold, Show, Check, CheckLinks, Solve, Links, Renew, Bands, Round, RoundFrom, Half, TimingOf, Draw, Help, Version, Make, Trial, Sweep, shape}
 use Rattle.maxband_run.specs.Reading.{Input, Value, Values}
 use Rattle.maxband_run.specs.Searched.{cause_of}
 use Rattle.maxband_run.specs.Hold.{HoldFinds}
@@ -41,11 +48,13 @@ use Rattle.progression.specs.Good.{Good}
 use Rattle.rational_theory.specs.Rational.{ℚ}
 use Rattle.maxband_run.specs.Round.{plan_lines, unplanned_line, IsCertified, IsRounded, IsUnfit, Unplans, RoundFinds, RoundFromFinds}
 use Rattle.maxband_run.specs.Half.{end_line, HalfFinds}
+use Rattle.maxband_run.specs.Typed.{WritesTiming, TypedFinds}
 use Rattle.maxband_run.specs.Draw.{DrawFinds}
 use Rattle.maxband_run.specs.Run.{Finds}
 use Rattle.maxband_run.specs.Laws.{IsReached, IsVerdict, Agree}
 use Rattle.maxband_run.specs.declared.cause.Cause.{Cause}
 use Rattle.maxband_run.specs.declared.cause.Cause.TheVariants as cause
+use Rattle.maxband_run.proofs.Readers.{same_refusal}
 
 -- a search gives a verdict
 pub verdict_cause : (c : Cause) (v : Verdict SitePart) → c ≡ cause_of v → IsVerdict c
@@ -112,6 +121,16 @@ half_reached a t (cause.Fails f) l bytes h = tt
 half_reached a t (cause.Unmatched e) l bytes h = tt
 half_reached a t c l bytes h = absurd h
 
+writes_reached : (a : Street) (t : Plan) (c : Cause) (l : List ℕ) (bytes : Option (List ℕ)) → WritesTiming a t c l bytes → IsReached c
+writes_reached a t cause.Done l bytes h = tt
+writes_reached a t (cause.Fails f) l bytes h = tt
+writes_reached a t c l bytes h = absurd h
+
+typed_reached : (a : Street) (p : Typed) (c : Cause) (l : List ℕ) (bytes : Option (List ℕ)) → TypedFinds a p c l bytes → IsReached c
+typed_reached a p c l bytes (inl h) = writes_reached a h.timing c l bytes h.finds
+typed_reached a p c l bytes (inr (inl h)) = subst (λ (d : Cause). IsReached d) (sym h.cause_is) tt
+typed_reached a p c l bytes (inr (inr h)) = subst (λ (d : Cause). IsReached d) (sym h.cause_is) tt
+
 draw_reached : (a : Street) (o : Option Plan) (c : Cause) (l : List ℕ) (bytes : Option (List ℕ)) → DrawFinds a o c l bytes → IsReached c
 draw_reached a None c l bytes h = subst (λ (d : Cause). IsReached d) (sym h.0) tt
 draw_reached a (Some t) cause.Done l bytes h = tt
@@ -131,6 +150,7 @@ finds_reached (Some (Bands artery timing)) v c l bytes h = bands_reached v.0 v.1
 finds_reached (Some (Round artery certificate plan)) v c l bytes h = round_reached v.0 v.1.0 c l bytes h
 finds_reached (Some (RoundFrom artery certificate other plan)) v c l bytes h = from_reached v.0 v.1.0 v.1.1.0 c l bytes h
 finds_reached (Some (Half artery timing new)) v c l bytes h = half_reached v.0 v.1.0 c l bytes h
+finds_reached (Some (TimingOf artery plan timing)) v c l bytes h = typed_reached v.0 v.1.0 c l bytes h
 finds_reached (Some (Draw artery timed drawing)) v c l bytes h = draw_reached v.0 v.1.0 c l bytes h
 finds_reached (Some Help) v c l bytes h = subst (λ (d : Cause). IsReached d) (sym h.0) tt
 finds_reached (Some Version) v c l bytes h = subst (λ (d : Cause). IsReached d) (sym h.0) tt
@@ -195,15 +215,12 @@ bands_once one_first once finer a t (cause.Fails f) (cause.Fails g) x y h k = br
 bands_once one_first once finer a t (cause.Fails f) d x y h k = absurd k
 bands_once one_first once finer a t c d x y h k = absurd h
 
--- the timing and the number of one certificate
-same_timing : (o : Option Plan) (t u : Plan) → o ≡ Some t → o ≡ Some u → u ≡ t
-same_timing o t u e f = cc
+-- the value of an option, as the timing and the number of one certificate
+same_value : {V : Type 0} (o : Option V) (x y : V) → o ≡ Some x → o ≡ Some y → y ≡ x
+same_value o x y e f = cc
 
-same_claim : (o : Option ℚ) (x y : ℚ) → o ≡ Some x → o ≡ Some y → y ≡ x
-same_claim o x y e f = cc
-
-no_timing_apart : (o : Option Plan) (t : Plan) → o ≡ Some t → o ≡ None → ⊥
-no_timing_apart o t e f = absurd cc
+no_value : {V : Type 0} (o : Option V) (x : V) → o ≡ Some x → o ≡ None → ⊥
+no_value o x e f = absurd cc
 
 same_lines : (a : Street) (k m : ℕ) (ns os : List ℕ) (t u : Plan) (x y : ℚ) → k ≡ m → ns ≡ os → t ≡ u → x ≡ y → plan_lines a k ns t x ≡ plan_lines a m os u y
 same_lines a k m ns os t u x y e f g h = ap₂ (λ n ms. plan_lines a n ms t x) e f ∙ ap₂ (λ p z. plan_lines a m os p z) g h
@@ -214,17 +231,17 @@ module _ (a : Street) (w : Warrant) (o : Option Plan) where
   unplanned_accepted e h = h.2.accepted
 
   fails_apart : FailsRulesOut → (t u : Plan) (f : Failing) → o ≡ Some t → o ≡ Some u → Good a t → IsFirstFailing a u f → ⊥
-  fails_apart rules t u f e g good h = rules a u f h.fails (subst (λ p. Good a p) (sym (same_timing o t u e g)) good)
+  fails_apart rules t u f e g good h = rules a u f h.fails (subst (λ p. Good a p) (sym (same_value o t u e g)) good)
 
   unplans_unfit : FailsRulesOut → (e : PlanEnd) (u : Plan) (f : Failing) → Unplans a w o e → o ≡ Some u → IsFirstFailing a u f → ⊥
-  unplans_unfit rules end.NoTimingGiven u f h g k = no_timing_apart o u g h.1
+  unplans_unfit rules end.NoTimingGiven u f h g k = no_value o u g h.1
   unplans_unfit rules e u f h g k = fails_apart rules h.0 u f h.2.timing_is g h.2.good k
 
 module _ (ends : second.OneEnd) (apart : PlanOrEnd) (one : OnePlan) (a : Street) (w : Warrant) (o : Option Plan) where
   plans_once : (x y s u : List ℕ) → IsRounded a w o x s → IsRounded a w o y u → x ≡ y
   plans_once x y s u h k =
-      let t = same_timing o h.timing k.timing h.certified.timing_is k.certified.timing_is in
-      let q = same_claim (limit_of w.claim) h.claim k.claim h.certified.claim_is k.certified.claim_is in
+      let t = same_value o h.timing k.timing h.certified.timing_is k.certified.timing_is in
+      let q = same_value (limit_of w.claim) h.claim k.claim h.certified.claim_is k.certified.claim_is in
       let other = subst (λ c. IsAnswer a c h.timing k.plan) q (subst (λ p. IsAnswer a k.claim p k.plan) t k.answer) in
       let e = one a h.claim h.timing h.plan k.plan h.certified.valid h.certified.good h.answer other in
       h.lines_are ∙ same_lines a h.plan.seconds k.plan.seconds h.plan.offsets.items k.plan.offsets.items h.plan.timing k.plan.timing h.plan.loss k.plan.loss e.0 e.1 e.2 e.3 ∙ sym k.lines_are
@@ -232,22 +249,22 @@ module _ (ends : second.OneEnd) (apart : PlanOrEnd) (one : OnePlan) (a : Street)
   -- the timing and the number of another certificate's end
   ends_here : (t u : Plan) (x y : ℚ) (e : PlanEnd) → IsCertified a w o t x → IsCertified a w o u y → Ends a y u e → Ends a x t e
   ends_here t u x y e c d h =
-      subst (λ p. Ends a x p e) (same_timing o t u c.timing_is d.timing_is) (subst (λ q. Ends a q u e) (same_claim (limit_of w.claim) x y c.claim_is d.claim_is) h)
+      subst (λ p. Ends a x p e) (same_value o t u c.timing_is d.timing_is) (subst (λ q. Ends a q u e) (same_value (limit_of w.claim) x y c.claim_is d.claim_is) h)
 
   plan_apart : (e : PlanEnd) (x s : List ℕ) → IsRounded a w o x s → Unplans a w o e → ⊥
-  plan_apart end.NoTimingGiven x s h k = no_timing_apart o h.timing h.certified.timing_is k.1
+  plan_apart end.NoTimingGiven x s h k = no_value o h.timing h.certified.timing_is k.1
   plan_apart e x s h k = apart a h.claim h.timing h.plan e h.certified.valid h.certified.good h.answer (ends_here h.timing k.0 h.claim k.1 e h.certified k.2 k.3)
 
   unplans_once : (e f : PlanEnd) → Unplans a w o e → Unplans a w o f → e ≡ f
   unplans_once end.NoTimingGiven end.NoTimingGiven h k = refl
-  unplans_once end.NoTimingGiven f h k = absurd (no_timing_apart o k.0 k.2.timing_is h.1)
-  unplans_once e end.NoTimingGiven h k = absurd (no_timing_apart o h.0 h.2.timing_is k.1)
+  unplans_once end.NoTimingGiven f h k = absurd (no_value o k.0 k.2.timing_is h.1)
+  unplans_once e end.NoTimingGiven h k = absurd (no_value o h.0 h.2.timing_is k.1)
   unplans_once e f h k = ends a h.1 h.0 e f h.2.valid h.2.good h.3 (ends_here h.0 k.0 h.1 k.1 f h.2 k.2 k.3)
 
   module _ (one_first : OneFirst) (rules : FailsRulesOut) (refused : RefusedIsNotAccepted) (once : OneFirstRefusal) where
     unfit_once : (f g : Failing) (x y : List ℕ) (s u : Option (List ℕ)) → IsUnfit a w o f x s → IsUnfit a w o g y u → (cause.Fails f ≡ cause.Fails g) × (x ≡ y)
     unfit_once f g x y s u h k =
-        let first = subst (λ p. IsFirstFailing a p g) (same_timing o h.timing k.timing h.timing_is k.timing_is) k.first in
+        let first = subst (λ p. IsFirstFailing a p g) (same_value o h.timing k.timing h.timing_is k.timing_is) k.first in
         let e = one_first a h.timing f g h.first first in
         (ap cause.Fails e, h.lines_are ∙ ap fails_line e ∙ sym k.lines_are)
 
@@ -300,6 +317,36 @@ half_once one_first ends a t (cause.Unmatched e) (cause.Unmatched f) x y s u h k
 half_once one_first ends a t (cause.Unmatched e) d x y s u h k = absurd k
 half_once one_first ends a t c d x y s u h k = absurd h
 
+-- ---- a typed plan
+writes_once : OneFirst → OneWidest → FinerPairs → (a : Street) (t : Plan) (c d : Cause) (x y : List ℕ) (s u : Option (List ℕ)) → WritesTiming a t c x s → WritesTiming a t d y u → (c ≡ d) × (x ≡ y)
+writes_once one_first once finer a t cause.Done cause.Done x y s u h k =
+    let e = bands_once one_first once finer a t cause.Done cause.Done h.2.bands k.2.bands h.2.measured k.2.measured in
+    (refl, h.2.lines_are ∙ ap (λ l. l ++ weighted_line a t) e.1 ∙ sym k.2.lines_are)
+writes_once one_first once finer a t cause.Done (cause.Fails f) x y s u h k = absurd (k.0.not_base h.2.measured.base)
+writes_once one_first once finer a t cause.Done d x y s u h k = absurd k
+writes_once one_first once finer a t (cause.Fails f) cause.Done x y s u h k = absurd (h.0.not_base k.2.measured.base)
+writes_once one_first once finer a t (cause.Fails f) (cause.Fails g) x y s u h k = breaks_once one_first a t f g x y h.0 k.0
+writes_once one_first once finer a t (cause.Fails f) d x y s u h k = absurd k
+writes_once one_first once finer a t c d x y s u h k = absurd h
+
+module _ (one : OneTiming) (one_first : OneFirst) (once : OneWidest) (finer : FinerPairs) (a : Street) (p : Typed) where
+  typed_once : (c d : Cause) (x y : List ℕ) (s u : Option (List ℕ)) → TypedFinds a p c x s → TypedFinds a p d y u → (c ≡ d) × (x ≡ y)
+  typed_once c d x y s u (inl h) (inl k) =
+      let e = one a p k.timing h.timing h.valid k.timing_is h.timing_is in
+      writes_once one_first once finer a h.timing c d x y s u h.finds (subst (λ (t : Plan). WritesTiming a t d y u) e k.finds)
+  typed_once c d x y s u (inl h) (inr (inl k)) = absurd (no_value (count_fault a p) (fault_of k.refusal) k.first h.timing_is.counts)
+  typed_once c d x y s u (inl h) (inr (inr k)) = absurd (no_value (too_fine a p) k.ticks k.first.1 h.timing_is.fine)
+  typed_once c d x y s u (inr (inl h)) (inl k) = absurd (no_value (count_fault a p) (fault_of h.refusal) h.first k.timing_is.counts)
+  typed_once c d x y s u (inr (inl h)) (inr (inl k)) =
+      let e = same_refusal h.refusal k.refusal (sym (same_value (count_fault a p) (fault_of h.refusal) (fault_of k.refusal) h.first k.first)) in
+      (h.cause_is ∙ ap cause.Refused e ∙ sym k.cause_is, h.lines_are ∙ ap refused_line e ∙ sym k.lines_are)
+  typed_once c d x y s u (inr (inl h)) (inr (inr k)) = absurd (no_value (count_fault a p) (fault_of h.refusal) h.first k.first.0)
+  typed_once c d x y s u (inr (inr h)) (inl k) = absurd (no_value (too_fine a p) h.ticks h.first.1 k.timing_is.fine)
+  typed_once c d x y s u (inr (inr h)) (inr (inl k)) = absurd (no_value (count_fault a p) (fault_of k.refusal) k.first h.first.0)
+  typed_once c d x y s u (inr (inr h)) (inr (inr k)) =
+      let e = sym (same_value (too_fine a p) h.ticks k.ticks h.first.1 k.first.1) in
+      (h.cause_is ∙ ap (λ n. cause.Unmatched (half_end.TooFine n)) e ∙ sym k.cause_is, h.lines_are ∙ ap (λ n. end_line (half_end.TooFine n)) e ∙ sym k.lines_are)
+
 draw_once : OneFirst → FailsRulesOut → (a : Street) (o : Option Plan) (c d : Cause) (x y : List ℕ) (s u : Option (List ℕ)) → DrawFinds a o c x s → DrawFinds a o d y u → (c ≡ d) × (x ≡ y)
 draw_once one_first rules a None c d x y s u h k = (h.0 ∙ sym k.0, h.1 ∙ sym k.1)
 draw_once one_first rules a (Some t) cause.Done cause.Done x y s u h k = (refl, h.2.lines_are ∙ sym k.2.lines_are)
@@ -312,7 +359,7 @@ draw_once one_first rules a (Some t) c d x y s u h k = absurd h
 
 -- ---- every command
 module _ (one_text : OneText) (one_first : OneFirst) (rules : FailsRulesOut) (apart : RefusedIsNotAccepted) (once : OneFirstRefusal) (widest : OneWidest) (finer : FinerPairs)
-    (ends : OneEnd) (plan_ends : second.OneEnd) (plan_or : PlanOrEnd) (one_plan : OnePlan) (links_apart : LinkRefusedIsNotAccepted) (links_once : OneFirstLinkRefusal) where
+    (one_timing : OneTiming) (ends : OneEnd) (plan_ends : second.OneEnd) (plan_or : PlanOrEnd) (one_plan : OnePlan) (links_apart : LinkRefusedIsNotAccepted) (links_once : OneFirstLinkRefusal) where
   pub finds_once : (asked : Option Request) (v : Values (shape asked).inputs) (c d : Cause) (x y : List ℕ) (s t : Option (List ℕ))
       → Finds asked v c x s → Finds asked v d y t → Agree (shape asked).chooses (shape asked).inputs c x d y
   finds_once None v c d x y s t h k = (h.0 ∙ sym k.0, h.1 ∙ sym k.1)
@@ -330,6 +377,7 @@ module _ (one_text : OneText) (one_first : OneFirst) (rules : FailsRulesOut) (ap
       from_once plan_ends plan_or one_plan v.0 v.1.0 v.1.0.timing one_first rules apart once c d x y s t (own_from v.0 v.1.0 c x s h) (own_from v.0 v.1.0 d y t k)
   finds_once (Some (RoundFrom artery certificate other plan)) v c d x y s t h k = from_once plan_ends plan_or one_plan v.0 v.1.0 v.1.1.0 one_first rules apart once c d x y s t h k
   finds_once (Some (Half artery timing new)) v c d x y s t h k = half_once one_first ends v.0 v.1.0 c d x y s t h k
+  finds_once (Some (TimingOf artery plan timing)) v c d x y s t h k = typed_once one_timing one_first widest finer v.0 v.1.0 c d x y s t h k
   finds_once (Some (Draw artery timed drawing)) v c d x y s t h k = draw_once one_first rules v.0 v.1.0 c d x y s t h k
   finds_once (Some Help) v c d x y s t h k = (h.0 ∙ sym k.0, h.1 ∙ sym k.1)
   finds_once (Some Version) v c d x y s t h k = (h.0 ∙ sym k.0, h.1 ∙ sym k.1)

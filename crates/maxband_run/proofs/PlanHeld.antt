@@ -1,7 +1,6 @@
 -- The plan that `round` puts is good, and `hold` accepts it.
 use Rattle.std.proofs.Common.{◌≡◌, ℕ, List, [], ◌∷◌, Option, Some, Ok, refl, sym, ◌∙◌, ap, subst}
 use Rattle.std.specs.Prelude.{IsSome}
-use Rattle.description_reader.specs.Described as described
 use Rattle.outer_edge.specs.Held.{HoldsExactly}
 use Rattle.outer_edge.specs.Taken.{Appends}
 use Rattle.rational_theory.specs.Rational.{ℚ, ◌+ℚ◌, ◌-ℚ◌, ◌≤ℚ◌}
@@ -31,6 +30,7 @@ use Rattle.maxband_run.proofs.PutRead.{verdict_found, is_put, reads_put, finds_o
 use Rattle.maxband_run.proofs.Found.{zero_is, found_done, found_four}
 use Rattle.maxband_run.proofs.Planning.{claim_bounds}
 use Rattle.maxband_run.proofs.PlansSay.{round_four, round_ten, from_four, from_ten}
+use Rattle.maxband_run.proofs.Readers.{OneReading}
 
 -- no good timing exceeds what an accepted certificate claims
 lost : (a : Street) (w : Warrant) (o : Option Plan) (timing : Plan) (claim band loss : ℚ) → IsCertified a w o timing claim → loss ≡ claim -ℚ band → (s : Plan) → Good a s → weighted_band a s ≤ℚ (band +ℚ loss)
@@ -92,7 +92,7 @@ good_done rules a t cause.Done lines good h = refl
 good_done rules a t (cause.Fails f) lines good h = absurd (rules a t f h.0.fails good)
 good_done rules a t c lines good h = absurd h
 
-pub plan_held : described.OneAnswer → FailsRulesOut → PlanIsHeld
+pub plan_held : OneReading → FailsRulesOut → PlanIsHeld
 plan_held reader rules before between now artery certificate plan c d two told put_told few e h m k =
     let done = subst (λ (b : Cause). Ends before between (Some (Round artery certificate plan)) b) (zero_is c e) h in
     let p = puts_plan before between artery certificate plan done in

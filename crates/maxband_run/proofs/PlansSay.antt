@@ -1,4 +1,4 @@
--- What the statuses of `bands`, `half`, `draw` and `sweep` say of the model, and those of `round` but 0.
+-- What the statuses of `bands`, `half`, `timing`, `draw` and `sweep` say of the model, and those of `round` but 0.
 use Rattle.std.proofs.Common.{◌≡◌, ◌⊎◌, ℕ, List, [], ◌∷◌, Option, Some, None, Ok, inl, inr, refl, sym, ◌∙◌, ap, subst, arith}
 use Rattle.std.specs.List.{AllZip}
 use Rattle.rational_theory.specs.Rational.{ℚ}
@@ -16,22 +16,25 @@ use Rattle.certificate_checker.specs.Laws.{RefusedIsNotAccepted}
 use Rattle.cycle_sweep.specs.declared.row.SweepRow.{SweepRow}
 use Rattle.cycle_sweep.specs.Rows.{IsRow}
 use Rattle.cycle_sweep.specs.Says.{RowsSay}
-use Rattle.maxband_run.specs.Command.{Bands, Round, RoundFrom, Half, Draw, Sweep}
-use Rattle.maxband_run.specs.Outside.{Outside, put_of, IsPut}
+use Rattle.maxband_run.specs.Command.{Bands, Round, RoundFrom, Half, TimingOf, Draw, Sweep, shape}
+use Rattle.maxband_run.specs.Outside.{Outside, NamedBytes, put_of, IsPut, IsDone}
 use Rattle.maxband_run.specs.Half.{HasNoHalfPlan, IsHalfPlan}
+use Rattle.description_reader.specs.Typed.{Typed}
+use Rattle.typed_plan.specs.Ends.{IsTimingOf}
+use Rattle.maxband_run.specs.Typed.{WritesTiming, TypedFinds}
 use Rattle.maxband_run.specs.Draw.{DrawFinds}
-use Rattle.maxband_run.specs.Reading.{Reads, Description, Timed}
+use Rattle.maxband_run.specs.Reading.{Reads, Description, Timed, TypedPlan}
 use Rattle.maxband_run.specs.Run.{Ends}
 use Rattle.maxband_run.specs.Sought.{whole_bands}
 use Rattle.maxband_run.specs.Checked.{whole_checked}
-use Rattle.maxband_run.specs.Laws.{SaysRejected}
-use Rattle.maxband_run.specs.PlanLaws.{SaysWidest, SaysNoBase, BandsSay, PutsHalf, SaysNoHalf, SaysHalf, SaysUnmatched, HalfSays, SaysUnplanned, SaysUnplannedFrom, PutsPicture, SaysFailing, SaysUntimed, DrawSays, SaysCycle, PutsTable, SweepSays}
+use Rattle.maxband_run.specs.Laws.{IsReached, SaysRejected}
+use Rattle.maxband_run.specs.PlanLaws.{SaysWidest, SaysNoBase, BandsSay, PutsHalf, SaysNoHalf, SaysHalf, SaysUnmatched, HalfSays, SaysUnplanned, SaysUnplannedFrom, PutsTyped, StopsTyped, SaysMiscounted, SaysBroken, SaysTooFine, TimingSays, PutsPicture, SaysFailing, SaysUntimed, DrawSays, SaysCycle, PutsTable, SweepSays}
 use Rattle.maxband_run.specs.Status.{number_of}
 use Rattle.maxband_run.specs.declared.cause.Cause.{Cause}
 use Rattle.maxband_run.specs.declared.cause.Cause.TheVariants as cause
 use Rattle.maxband_run.proofs.Found.{Found, found, found_done, found_four, ten_is, eleven_is}
 use Rattle.maxband_run.proofs.Once.{unplanned_accepted}
-use Rattle.maxband_run.proofs.PutRead.{is_put}
+use Rattle.maxband_run.proofs.PutRead.{is_put, reached_ends}
 
 -- ---- bands
 module _ (before now : Outside) (artery timing : List ℕ) where
@@ -232,6 +235,110 @@ module _ (before now : Outside) (artery certificate other plan : List ℕ) where
       subst (λ (d : Cause). SaysUnplannedFrom before artery certificate other d) (sym r.1)
       (says_from_unplanned r.0 (found before now (Some (RoundFrom artery certificate other plan)) (cause.Unplanned r.0) tt (λ s. s)
       (subst (λ (d : Cause). Ends before now (Some (RoundFrom artery certificate other plan)) d) r.1 h)))
+
+-- ---- timing
+three_reached : (c : Cause) → number_of c ≡ 3 → IsReached c
+three_reached (cause.Refused r) e = tt
+three_reached (cause.BadText b) e = tt
+three_reached c e = absurd cc
+
+three_four : ◌≡◌ {A = ℕ} 3 4 → ⊥
+three_four e = omega (arith, e)
+
+eleven_four : ◌≡◌ {A = ℕ} 11 4 → ⊥
+eleven_four e = omega (arith, e)
+
+eleven_three : ◌≡◌ {A = ℕ} 11 3 → ⊥
+eleven_three e = omega (arith, e)
+
+-- no timing is put with status 3
+no_three : (a : Street) (t : Plan) (c : Cause) (l : List ℕ) (bytes : Option (List ℕ)) → number_of c ≡ 3 → WritesTiming a t c l bytes → ⊥
+no_three a t cause.Done l bytes e h = absurd cc
+no_three a t (cause.Fails f) l bytes e h = absurd cc
+no_three a t c l bytes e h = h
+
+module _ (before now : Outside) (artery plan timing : List ℕ) where
+  kept_none : (lines : List ℕ) (put : Option NamedBytes) (bytes : Option (List ℕ)) → put ≡ put_of (Some timing) bytes → bytes ≡ None → IsDone before now lines put → IsPut None before.holds now.holds
+  kept_none lines put bytes e n h = subst (λ (p : Option NamedBytes). IsPut p before.holds now.holds) (e ∙ ap (put_of (Some timing)) n) h.files
+
+  module _ (a : Street) (p : Typed) (d : Reads Description (before.holds artery) a) (r : Reads TypedPlan (before.holds plan) p) where
+    typed_put : (f : Found before now (Some (TimingOf artery plan timing)) cause.Done) → TypedFinds a p cause.Done f.lines f.answer.bytes → PutsTyped before now artery plan timing
+    typed_put f (inl h) =
+        let k = h.finds in
+        record {
+          street = a;
+          typed = p;
+          made = h.timing;
+          bands = k.2.bands;
+          description = d;
+          text = r;
+          made_is = h.timing_is;
+          measured = k.2.measured;
+          put = subst (λ (x : List ℕ). HoldsExactly (now.holds timing) x) k.2.written (is_put before now timing k.0 f.lines f.put f.answer.bytes f.answer.put_is k.1 f.done).0;
+          read_back = subst (λ (x : List ℕ). timing_of x ≡ Ok h.timing) k.2.written k.2.read_back;
+          told = subst (λ (l : List ℕ). Appends before.taken now.taken l) k.2.lines_are f.done.written;
+        }
+    typed_put f (inr (inl h)) = let e = h.cause_is in absurd cc
+    typed_put f (inr (inr h)) = let e = h.cause_is in absurd cc
+
+    module _ (lines : List ℕ) (put : Option NamedBytes) (bytes : Option (List ℕ)) (put_is : put ≡ put_of (Some timing) bytes) (done : IsDone before now lines put) where
+      miscounted : (c : Cause) → number_of c ≡ 3 → TypedFinds a p c lines bytes → SaysMiscounted before now artery plan c
+      miscounted c e (inl h) = absurd (no_three a h.timing c lines bytes e h.finds)
+      miscounted c e (inr (inl h)) =
+          record { street = a; typed = p; refusal = h.refusal; description = d; text = r; first = h.first; cause_is = h.cause_is; kept = kept_none lines put bytes put_is h.no_put done }
+      miscounted c e (inr (inr h)) = absurd (eleven_three (sym (ap number_of h.cause_is) ∙ e))
+
+      breaks : (t : Plan) → IsTimingOf a p t → (c : Cause) → number_of c ≡ 4 → WritesTiming a t c lines bytes → SaysBroken before now artery plan c
+      breaks t is (cause.Fails f) e h = record {
+        street = a;
+        typed = p;
+        made = t;
+        failing = f;
+        description = d;
+        text = r;
+        made_is = is;
+        fails = h.0.first.fails;
+        not_base = h.0.not_base;
+        cause_is = refl;
+        kept = kept_none lines put bytes put_is h.1 done;
+      }
+      breaks t is cause.Done e h = absurd cc
+      breaks t is c e h = absurd h
+
+      broken : (c : Cause) → number_of c ≡ 4 → TypedFinds a p c lines bytes → SaysBroken before now artery plan c
+      broken c e (inl h) = breaks h.timing h.timing_is c e h.finds
+      broken c e (inr (inl h)) = absurd (three_four (sym (ap number_of h.cause_is) ∙ e))
+      broken c e (inr (inr h)) = absurd (eleven_four (sym (ap number_of h.cause_is) ∙ e))
+
+      too_fine_of : (reason : HalfEnd) → TypedFinds a p (cause.Unmatched reason) lines bytes → SaysTooFine before now artery plan (cause.Unmatched reason)
+      too_fine_of reason (inl h) = absurd h.finds
+      too_fine_of reason (inr (inl h)) = let e = h.cause_is in absurd cc
+      too_fine_of reason (inr (inr h)) =
+          record { street = a; typed = p; ticks = h.ticks; description = d; text = r; first = h.first; cause_is = h.cause_is; kept = kept_none lines put bytes put_is h.no_put done }
+
+  timing_three : (c : Cause) → number_of c ≡ 3 → Ends before now (Some (TimingOf artery plan timing)) c → StopsTyped before now artery plan timing c ⊎ SaysMiscounted before now artery plan c
+  timing_three c n h =
+      let e = reached_ends before now (Some (TimingOf artery plan timing)) c (three_reached c n) h in
+      elim e.2 [
+        | inl s ↦ inl (record { lines = e.0; stops = s.stops; kept = subst (λ (p : Option NamedBytes). IsPut p before.holds now.holds) s.no_put e.3.files })
+        | inr k ↦ inr (miscounted k.values.0 k.values.1.0 k.read.0 k.read.1.0 e.0 e.1 k.bytes k.put_is e.3 c n k.finds)
+      ]
+
+  timing_eleven : (c : Cause) (reason : HalfEnd) → c ≡ cause.Unmatched reason → Ends before now (Some (TimingOf artery plan timing)) c → SaysTooFine before now artery plan c
+  timing_eleven c reason e h =
+      let f = found before now (Some (TimingOf artery plan timing)) (cause.Unmatched reason) tt (λ s. s) (subst (λ (d : Cause). Ends before now (Some (TimingOf artery plan timing)) d) e h) in
+      subst (λ (d : Cause). SaysTooFine before now artery plan d) (sym e)
+      (too_fine_of f.answer.values.0 f.answer.values.1.0 f.answer.read.0 f.answer.read.1.0 f.lines f.put f.answer.bytes f.answer.put_is f.done reason f.answer.finds)
+
+pub timing_says : TimingSays
+timing_says before now artery plan timing c h = (
+  (λ e. let f = found_done before now (Some (TimingOf artery plan timing)) c e h in
+      typed_put before now artery plan timing f.answer.values.0 f.answer.values.1.0 f.answer.read.0 f.answer.read.1.0 f f.answer.finds),
+  (λ e. timing_three before now artery plan timing c e h),
+  (λ e. let f = found_four before now (Some (TimingOf artery plan timing)) c e h in
+      broken before now artery plan timing f.answer.values.0 f.answer.values.1.0 f.answer.read.0 f.answer.read.1.0 f.lines f.put f.answer.bytes f.answer.put_is f.done c e f.answer.finds),
+  (λ e. let r = eleven_is c e in timing_eleven before now artery plan timing c r.0 r.1 h),
+)
 
 -- ---- draw
 ten_apart : ◌≡◌ {A = ℕ} 10 4 → ⊥

@@ -1,7 +1,6 @@
 -- What a search puts its check accepts.
 use Rattle.std.proofs.Common.{◌≡◌, ℕ, List, Option, Some, inl, inr, refl, sym, subst}
 use Rattle.std.specs.Prelude.{IsSome}
-use Rattle.description_reader.specs.Described as described
 use Rattle.outer_edge.specs.Taken.{Appends}
 use Rattle.progression.specs.Street.{Street}
 use Rattle.certificate_checker.specs.Laws.{RefusedIsNotAccepted}
@@ -20,6 +19,7 @@ use Rattle.maxband_run.specs.declared.cause.Cause.{Cause}
 use Rattle.maxband_run.proofs.Complete.{Completes}
 use Rattle.maxband_run.proofs.PutRead.{reached_ends, verdict_found, is_put, reads_put, finds_of}
 use Rattle.maxband_run.proofs.Once.{RefusedApart, verdict_reached}
+use Rattle.maxband_run.proofs.Readers.{OneReading}
 
 -- an accepted certificate isn't refused
 accepted_done : (k : Sought) (s : Checked k) → RefusedApart k s → (a : Street) (w : Value k.reader) (c : Cause) (lines : List ℕ) → s.Accepted a w → Checks k s a w c lines → Accepts k s a w c lines
@@ -85,7 +85,7 @@ solve_put before between artery certificate limit c v e =
       files = is_put before between certificate f.finds.0 e.0 e.1 f.bytes f.put_is f.finds.1 e.3;
     }
 
-pub put_accepted : described.OneAnswer → RefusedIsNotAccepted → PutIsAccepted
+pub put_accepted : OneReading → RefusedIsNotAccepted → PutIsAccepted
 put_accepted reader apart = search_accepted whole_bands whole_checked whole_solves Solve Check apart solve_put
     (λ between now artery certificate a w d t u r q m o. let f = finds_of reader between now (Some (Check artery certificate)) (a, (w, tt)) d (t, (u, tt)) (r, (q, tt)) m o in (f.0, f.2, f.3))
 
@@ -106,6 +106,6 @@ links_put before between artery certificate limit c v e =
       files = is_put before between certificate f.finds.0 e.0 e.1 f.bytes f.put_is f.finds.1 e.3;
     }
 
-pub put_links_accepted : described.OneAnswer → LinkRefusedIsNotAccepted → PutLinksAreAccepted
+pub put_links_accepted : OneReading → LinkRefusedIsNotAccepted → PutLinksAreAccepted
 put_links_accepted reader apart = search_accepted bands_of_links links_checked links_solve Links CheckLinks apart links_put
     (λ between now artery certificate a w d t u r q m o. let f = finds_of reader between now (Some (CheckLinks artery certificate)) (a, (w, tt)) d (t, (u, tt)) (r, (q, tt)) m o in (f.0, f.2, f.3))

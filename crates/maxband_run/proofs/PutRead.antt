@@ -1,7 +1,6 @@
 -- A later run over the file that a run put.
 use Rattle.std.proofs.Common.{◌≡◌, ℕ, ◌≤◌, List, length, Option, Some, None, inl, inr, sym, subst}
 use Rattle.std.specs.Prelude.{IsSome, IfSome}
-use Rattle.description_reader.specs.Described as described
 use Rattle.outer_edge.specs.Held.{HoldsExactly}
 use Rattle.outer_edge.specs.Taken.{Appends}
 use Rattle.maxband_run.specs.Command.{Request, shape}
@@ -12,7 +11,7 @@ use Rattle.maxband_run.specs.Laws.{IsReached, IsVerdict}
 use Rattle.maxband_run.specs.declared.cause.Cause.{Cause}
 use Rattle.maxband_run.specs.declared.cause.Cause.TheVariants as cause
 use Rattle.maxband_run.proofs.Holding.{told_has}
-use Rattle.maxband_run.proofs.Readers.{all_apart, same_values}
+use Rattle.maxband_run.proofs.Readers.{OneReading, all_apart, same_values}
 use Rattle.maxband_run.proofs.Stopped.{IsStop, stops_stop}
 
 pub reached_ends : (before now : Outside) (asked : Option Request) (c : Cause) → IsReached c → Ends before now asked c
@@ -45,7 +44,7 @@ reads_put r None text v told few h is = absurd cc
 reads_put r (Some x) text v told few h is = told_has (most_bytes r) x (λ y. IsReadAs r y v) (few, subst (λ y. IsReadAs r y v) (sym h) is)
 
 -- a reached end of a run over files that tell their bytes, and that are read as these values, is what is found of these
-pub finds_of : described.OneAnswer → (before now : Outside) (asked : Option Request) (v : Values (shape asked).inputs) (c : Cause)
+pub finds_of : OneReading → (before now : Outside) (asked : Option Request) (v : Values (shape asked).inputs) (c : Cause)
     → AreTold before.holds (shape asked).inputs → AreRead (shape asked).inputs before.holds v → IsReached c → Ends before now asked c
     → (lines : List ℕ) × (bytes : Option (List ℕ)) × Finds asked v c lines bytes × Appends before.taken now.taken lines
 finds_of reader before now asked v c told read n h =

@@ -2,24 +2,24 @@
 use Rattle.std.proofs.Common.{◌≡◌, ℕ, ◌+◌, ◌<◌, ◌≤◌, List, [], ◌∷◌, length, Option, Some, None, Result, Ok, Err, ◌⊎◌, inl, inr, sym, ◌∙◌, ap, refl, subst, arith}
 use Rattle.std.specs.Prelude.{IsSome}
 use Rattle.outer_edge.specs.Held.{BeginsWith}
-use Rattle.artery_model.specs.Faults.{fault_of}
+use Rattle.artery_model.specs.Faults.{Fault, fault_of}
 use Rattle.artery_model.specs.declared.kind.Refusal.{Refusal}
 use Rattle.description_reader.specs.Described as described
-use Rattle.progression.specs.Street.{Street}
+use Rattle.description_reader.specs.Typed as typed
 use Rattle.plan_text.specs.Reading.{timing_of}
 use Rattle.plan_text.specs.CertificateReading.{certificate_of}
 use Rattle.link_proof.specs.LinkWarrants.{links_of}
 use Rattle.plan_text.specs.declared.fault.BadText.{BadText}
 use Rattle.maxband_run.specs.Timed.{timed_of}
 use Rattle.maxband_run.specs.Lines.{refused_line, bad_text_line, too_long_line}
-use Rattle.maxband_run.specs.Reading.{Reader, Description, Timing, Certificate, LinkCertificate, Timed, IsNoDescription, IsBadText, Value, most_bytes, IsReadAs, IsRefusedFor, Input, HasBytes, Reads, IsUnread, Values, AreRead, StopsReading, AreTold}
+use Rattle.maxband_run.specs.Reading.{Reader, Description, Timing, Certificate, LinkCertificate, Timed, TypedPlan, HasFault, IsBadText, Value, most_bytes, IsReadAs, IsRefusedFor, Input, HasBytes, Reads, IsUnread, Values, AreRead, StopsReading, AreTold}
 use Rattle.maxband_run.specs.Laws.{IsReached}
 use Rattle.maxband_run.specs.declared.cause.Cause.{Cause}
 use Rattle.maxband_run.specs.declared.cause.Cause.TheVariants as cause
 use Rattle.maxband_run.proofs.Holding.{has_told}
 
 -- ---- bytes
-same_refusal : (r s : Refusal) → fault_of r ≡ fault_of s → r ≡ s
+pub same_refusal : (r s : Refusal) → fault_of r ≡ fault_of s → r ≡ s
 same_refusal r s e = λ i. record { kind = (e i).kind; place = (e i).place }
 
 same_ok : {T : Type 0} (t u : T) → ◌≡◌ {A = Result T BadText} (Ok t) (Ok u) → t ≡ u
@@ -64,39 +64,47 @@ module _ {V : Type 0} (reads : List ℕ → Result V BadText) (x : List ℕ) whe
   one_bad_text (cause.BadText a) d l m h k = absurd k
   one_bad_text c d l m h k = absurd h
 
-module _ (reader : described.OneAnswer) where
-  -- ---- descriptions
-  description_apart : (x : List ℕ) (a : Street) (c : Cause) (lines : List ℕ) → described.Described x a → IsNoDescription x c lines → ⊥
-  description_apart x a (cause.Refused f) lines h k = reader.apart x a (fault_of f) h k.0
-  description_apart x a c lines h k = absurd k
+-- ---- documents
+module _ (refuses : List ℕ → Fault → Type 0) (x : List ℕ) where
+  fault_apart : (c : Cause) (lines : List ℕ) → ((f : Fault) → refuses x f → ⊥) → HasFault refuses x c lines → ⊥
+  fault_apart (cause.Refused f) lines apart k = apart (fault_of f) k.0
+  fault_apart c lines apart k = absurd k
 
-  one_no_description : (x : List ℕ) (c d : Cause) (l m : List ℕ) → IsNoDescription x c l → IsNoDescription x d m → (c ≡ d) × (l ≡ m)
-  one_no_description x (cause.Refused f) (cause.Refused g) l m h k = let e = same_refusal f g (reader.fault x (fault_of f) (fault_of g) h.0 k.0) in
-      (ap cause.Refused e, h.1 ∙ ap refused_line e ∙ sym k.1)
-  one_no_description x (cause.Refused f) d l m h k = absurd k
-  one_no_description x c d l m h k = absurd h
+  one_fault : ((f g : Fault) → refuses x f → refuses x g → f ≡ g) → (c d : Cause) (l m : List ℕ) → HasFault refuses x c l → HasFault refuses x d m → (c ≡ d) × (l ≡ m)
+  one_fault once (cause.Refused f) (cause.Refused g) l m h k = let e = same_refusal f g (once (fault_of f) (fault_of g) h.0 k.0) in (ap cause.Refused e, h.1 ∙ ap refused_line e ∙ sym k.1)
+  one_fault once (cause.Refused f) d l m h k = absurd k
+  one_fault once c d l m h k = absurd h
 
+-- any bytes describe at most one artery, give at most one plan, and have at most one fault as either
+pub record OneReading : Type 0 where
+  pub street : described.OneAnswer
+  pub plan : typed.OneTyped
+
+module _ (reader : OneReading) where
   -- ---- the readers
   one_value : (r : Reader) (x : List ℕ) (u v : Value r) → IsReadAs r x u → IsReadAs r x v → u ≡ v
-  one_value Description x u v h k = reader.artery x u v h k
+  one_value Description x u v h k = reader.street.artery x u v h k
   one_value Timing x u v h k = same_ok u v (sym h ∙ k)
   one_value Certificate x u v h k = same_ok u v (sym h ∙ k)
   one_value LinkCertificate x u v h k = same_ok u v (sym h ∙ k)
   one_value Timed x u v h k = same_ok u v (sym h ∙ k)
+  one_value TypedPlan x u v h k = reader.plan.plan x u v h k
 
   value_apart : (r : Reader) (x : List ℕ) (v : Value r) (c : Cause) (lines : List ℕ) → IsReadAs r x v → IsRefusedFor r x c lines → ⊥
-  value_apart Description x v c lines h k = description_apart x v c lines h k
+  value_apart Description x v c lines h k = fault_apart described.RefusedAs x c lines (λ f r. reader.street.apart x v f h r) k
   value_apart Timing x v c lines h k = text_apart timing_of x v c lines h k
   value_apart Certificate x v c lines h k = text_apart certificate_of x v c lines h k
   value_apart LinkCertificate x v c lines h k = text_apart links_of x v c lines h k
   value_apart Timed x v c lines h k = text_apart timed_of x v c lines h k
+  value_apart TypedPlan x v c lines h k = fault_apart typed.GivesNone x c lines (λ f r. reader.plan.apart x v f h r) k
 
   one_refusal : (r : Reader) (x : List ℕ) (c d : Cause) (l m : List ℕ) → IsRefusedFor r x c l → IsRefusedFor r x d m → (c ≡ d) × (l ≡ m)
-  one_refusal Description x c d l m h k = one_no_description x c d l m h k
+  one_refusal Description x c d l m h k = one_fault described.RefusedAs x (reader.street.fault x) c d l m h k
   one_refusal Timing x c d l m h k = one_bad_text timing_of x c d l m h k
   one_refusal Certificate x c d l m h k = one_bad_text certificate_of x c d l m h k
   one_refusal LinkCertificate x c d l m h k = one_bad_text links_of x c d l m h k
   one_refusal Timed x c d l m h k = one_bad_text timed_of x c d l m h k
+  one_refusal TypedPlan x c d l m h k = one_fault typed.GivesNone x (reader.plan.fault x) c d l m h k
 
   -- ---- one file
   pub one_read : (r : Reader) (o : Option (List ℕ)) (u v : Value r) → IsSome o → Reads r o u → Reads r o v → u ≡ v

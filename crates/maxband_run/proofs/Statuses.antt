@@ -1,10 +1,12 @@
 -- When the statuses of words and of faults come.
 use Rattle.std.proofs.Common.{◌≡◌, ℕ, ◌+◌, List, [], ◌∷◌, Option, Some, None, inl, inr, refl, ◌∙◌, ap, subst, arith}
 use Rattle.outer_edge.specs.Counts.{Rose}
-use Rattle.maxband_run.specs.Command.{Request, Hold, Show, Check, CheckLinks, Solve, Links, Renew, Bands, Round, RoundFrom, Half, Draw, Help, Version, Make, Trial, Sweep, shape}
+use Rattle.maxband_run.specs.Command.{Request, Hold, Show, Check, CheckLinks, Solve, Links, Renew, Bands, Round, RoundFrom, Half, TimingOf, Draw, Help, Version, Make, Trial, Sweep, shape}
 use Rattle.maxband_run.specs.Outside.{Outside, NamedBytes}
 use Rattle.progression.specs.Street.{Street}
 use Rattle.progression.specs.Plan.{Plan}
+use Rattle.description_reader.specs.Typed.{Typed}
+use Rattle.maxband_run.specs.Typed.{TypedFinds}
 use Rattle.maxband_run.specs.Draw.{DrawFinds}
 use Rattle.maxband_run.specs.Reading.{Input, Value, Values, StopsReading}
 use Rattle.maxband_run.specs.Sought.{Sought, whole_bands, bands_of_links}
@@ -60,6 +62,11 @@ draw_told : (a : Street) (o : Option Plan) (lines : List ℕ) (bytes : Option (L
 draw_told a None lines bytes h = let e = h.0 in absurd cc
 draw_told a (Some t) lines bytes h = h
 
+typed_told : (a : Street) (p : Typed) (lines : List ℕ) (bytes : Option (List ℕ)) → TypedFinds a p cause.Words lines bytes → ⊥
+typed_told a p lines bytes (inl h) = h.finds
+typed_told a p lines bytes (inr (inl h)) = let e = h.cause_is in absurd cc
+typed_told a p lines bytes (inr (inr h)) = let e = h.cause_is in absurd cc
+
 no_words : (r : Request) (v : Values (shape (Some r)).inputs) (lines : List ℕ) (bytes : Option (List ℕ)) → Finds (Some r) v cause.Words lines bytes → ⊥
 no_words (Hold artery timing) v lines bytes h = h
 no_words (Show artery) v lines bytes h = h
@@ -72,6 +79,7 @@ no_words (Bands artery timing) v lines bytes h = h
 no_words (Round artery certificate plan) v lines bytes h = h
 no_words (RoundFrom artery certificate other plan) v lines bytes h = h
 no_words (Half artery timing new) v lines bytes h = h
+no_words (TimingOf artery plan timing) v lines bytes h = typed_told v.0 v.1.0 lines bytes h
 no_words (Draw artery timed drawing) v lines bytes h = draw_told v.0 v.1.0 lines bytes h
 no_words Help v lines bytes h = let e = h.0 in absurd cc
 no_words Version v lines bytes h = let e = h.0 in absurd cc

@@ -2,13 +2,16 @@
 use Rattle.std.proofs.Common.{◌≡◌, ℕ, ◌+◌, ◌≤◌, List, [], ◌∷◌, length, Option, Result, ◌⊎◌, inl, inr, subst, sym}
 use Rattle.outer_edge.specs.Counts.{SameCounts}
 use Rattle.outer_edge.specs.Held.{SameFiles}
+use Rattle.artery_model.specs.Faults.{Fault}
+use Rattle.description_reader.specs.Described.{RefusedAs}
+use Rattle.description_reader.specs.Typed.{GivesNone}
 use Rattle.plan_text.specs.Reading.{timing_of}
 use Rattle.plan_text.specs.CertificateReading.{certificate_of}
 use Rattle.link_proof.specs.LinkWarrants.{links_of}
 use Rattle.plan_text.specs.declared.fault.BadText.{BadText}
 use Rattle.maxband_run.specs.Timed.{timed_of}
 use Rattle.maxband_run.specs.Lines.{cannot_read_line}
-use Rattle.maxband_run.specs.Reading.{Reader, Description, Timing, Certificate, LinkCertificate, Timed, IsBadText, IsRefusedFor, Input, IsUnread, StopsReading, IsRoomForFaults}
+use Rattle.maxband_run.specs.Reading.{Reader, Description, Timing, Certificate, LinkCertificate, Timed, TypedPlan, HasFault, IsBadText, IsRefusedFor, Input, IsUnread, StopsReading, IsRoomForFaults}
 use Rattle.maxband_run.specs.Laws.{IsFault}
 use Rattle.maxband_run.specs.declared.cause.Cause.{Cause}
 use Rattle.maxband_run.specs.declared.cause.Cause.TheVariants as cause
@@ -29,13 +32,17 @@ bad_text_stop : {V : Type 0} (reads : List ℕ → Result V BadText) (x : List �
 bad_text_stop reads x (cause.BadText b) l h = tt
 bad_text_stop reads x c l h = absurd h
 
+fault_stop : (refuses : List ℕ → Fault → Type 0) (x : List ℕ) (c : Cause) (l : List ℕ) → HasFault refuses x c l → IsStop c
+fault_stop refuses x (cause.Refused f) l h = tt
+fault_stop refuses x c l h = absurd h
+
 refused_stop : (r : Reader) (x : List ℕ) (c : Cause) (l : List ℕ) → IsRefusedFor r x c l → IsStop c
-refused_stop Description x (cause.Refused f) l h = tt
-refused_stop Description x c l h = absurd h
+refused_stop Description x c l h = fault_stop RefusedAs x c l h
 refused_stop Timing x c l h = bad_text_stop timing_of x c l h
 refused_stop Certificate x c l h = bad_text_stop certificate_of x c l h
 refused_stop LinkCertificate x c l h = bad_text_stop links_of x c l h
 refused_stop Timed x c l h = bad_text_stop timed_of x c l h
+refused_stop TypedPlan x c l h = fault_stop GivesNone x c l h
 
 module _ (held : List ℕ → Option (List ℕ)) (before after : List ℕ → ℕ) where
   pub unread_stop : (i : Input) (place : ℕ) (c : Cause) (l : List ℕ) → IsUnread i place held before after c l → IsStop c

@@ -1,12 +1,13 @@
 -- From the readings of a command's files, and what it finds of them, to its answer.
-use Rattle.std.proofs.Common.{◌≡◌, ℕ, List, [], ◌∷◌, Option, Some, None, Result, Ok, Err, inl, inr, sym, ◌∙◌, ap}
+use Rattle.std.proofs.Common.{◌≡◌, ℕ, List, [], ◌∷◌, Option, Some, None, Result, Ok, Err, inl, inr, sym, ◌∙◌, ap, subst}
 use Rattle.std.specs.Prelude.{IfOk, option_map}
 use Rattle.narrow_fraction.specs.declared.memory.Memory.{Memory}
+use Rattle.outer_edge.specs.Counts.{SameCounts}
 use Rattle.outer_edge.specs.declared.files.Files.{Ghosts}
 use Rattle.maxband_run.specs.Outside.{put_of, view, Puts, MayPut}
 use Rattle.maxband_run.specs.Command.{Request, shape}
 use Rattle.maxband_run.specs.Reading.{Input, Value, Values, LeavesFiles, WereRead, WasUnread, StopsReading, end_of}
-use Rattle.maxband_run.specs.Run.{Finds, IsAnswered}
+use Rattle.maxband_run.specs.Run.{Finds, IsAnswered, ended}
 use Rattle.maxband_run.specs.declared.answer.Answer.{Answer}
 use Rattle.maxband_run.specs.declared.answer.Unread.{Unread}
 use Rattle.maxband_run.specs.declared.answer.Unread.TheVariants as stop
@@ -64,6 +65,12 @@ pub unread : {F : Type 0} {files : Ghosts F} {before now : F} {asked : Option Re
     → WasUnread files before now (shape asked).inputs 1 end → IsAnswered files before now asked (end_of end)
 unread (stop.Told a) u = record { told = inl (record { stops = u.told; no_put = ap (option_map view) u.no_put }); memory = tt }
 unread stop.Memory u = record { told = tt; memory = u.memory }
+
+-- memory is wanting, and no read failed
+pub wanting : {F : Type 0} {files : Ghosts F} {before now : F} {asked : Option Request} (r : Result Answer Unread) → r ≡ Err stop.Memory
+    → SameCounts (files.read_faults before) (files.read_faults now) → IsAnswered files before now asked (ended r)
+wanting {files = files} {before = before} {now = now} {asked = asked} r e counts =
+    subst (λ (x : Result Answer Unread). IsAnswered files before now asked (ended x)) (sym e) (record { told = tt; memory = counts })
 
 module _ {F : Type 0} {files : Ghosts F} {before now : F} {asked : Option Request} {values : Values (shape asked).inputs} where
   -- what is found is told, and nothing is put

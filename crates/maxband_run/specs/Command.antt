@@ -4,7 +4,7 @@ use Rattle.std.specs.Str.{bytes_eq}
 use Rattle.work_meter.specs.Work.{IsBelow}
 use Rattle.maxband_run.specs.Numbers.{signals_of, seed_of, limit_of, usual_work}
 use Rattle.maxband_run.specs.Cycles.{are_cycles, SpellCycles}
-use Rattle.maxband_run.specs.Reading.{Input, input, Description, Timing, Certificate, LinkCertificate, Timed}
+use Rattle.maxband_run.specs.Reading.{Input, input, Description, Timing, Certificate, LinkCertificate, Timed, TypedPlan}
 use Rattle.maxband_run.specs.declared.command.Command.{Command}
 use Rattle.maxband_run.specs.declared.command.Command.TheVariants as command
 use Rattle.artery_model.specs.Bounds.{least_signals, most_first_signals}
@@ -21,6 +21,7 @@ pub data Request : Type 0 where
   Round : List ℕ → List ℕ → List ℕ → Request  -- the names of a description and of a certificate, and of the file for a plan in whole seconds
   RoundFrom : List ℕ → List ℕ → List ℕ → List ℕ → Request  -- the names of a description, of a certificate and of another timing or certificate, and of the file for such a plan
   Half : List ℕ → List ℕ → List ℕ → Request  -- the names of a description and of a timing, and of the file for a half-cycle plan
+  TimingOf : List ℕ → List ℕ → List ℕ → Request  -- the names of a description and of a plan typed in seconds, and of the file for its timing
   Draw : List ℕ → List ℕ → List ℕ → Request  -- the names of a description and of a timing or certificate, and of the file for a picture
   Help : Request
   Version : Request
@@ -40,6 +41,7 @@ view (command.Bands artery timing) = Bands artery.now timing.now
 view (command.Round artery certificate plan) = Round artery.now certificate.now plan.now
 view (command.RoundFrom artery certificate other plan) = RoundFrom artery.now certificate.now other.now plan.now
 view (command.Half artery timing new) = Half artery.now timing.now new.now
+view (command.TimingOf artery plan timing) = TimingOf artery.now plan.now timing.now
 view (command.Draw artery timed drawing) = Draw artery.now timed.now drawing.now
 view command.Help = Help
 view command.Version = Version
@@ -68,6 +70,7 @@ shape (Some (Bands artery timing)) = record { inputs = input Description artery 
 shape (Some (Round artery certificate plan)) = record { inputs = input Description artery ∷ input Certificate certificate ∷ []; output = Some plan; chooses = false }
 shape (Some (RoundFrom artery certificate other plan)) = record { inputs = input Description artery ∷ input Certificate certificate ∷ input Timed other ∷ []; output = Some plan; chooses = false }
 shape (Some (Half artery timing new)) = record { inputs = input Description artery ∷ input Timing timing ∷ []; output = Some new; chooses = true }
+shape (Some (TimingOf artery plan timing)) = record { inputs = input Description artery ∷ input TypedPlan plan ∷ []; output = Some timing; chooses = false }
 shape (Some (Draw artery timed drawing)) = record { inputs = input Description artery ∷ input Timed timed ∷ []; output = Some drawing; chooses = false }
 shape (Some Help) = record { inputs = []; output = None; chooses = false }
 shape (Some Version) = record { inputs = []; output = None; chooses = false }
@@ -131,6 +134,7 @@ three_more first second third =
     ∷ usage (codes "links") (option_map (Links first second) (limit_of third))
     ∷ usage (codes "round") (Some (Round first second third))
     ∷ usage (codes "half") (Some (Half first second third))
+    ∷ usage (codes "timing") (Some (TimingOf first second third))
     ∷ usage (codes "draw") (Some (Draw first second third))
     ∷ usage (codes "trial") (trial_of first second third)
     ∷ []

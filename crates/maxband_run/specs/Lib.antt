@@ -18,6 +18,7 @@ pub mod Renew
 pub mod Bands
 pub mod Round
 pub mod Half
+pub mod Typed
 pub mod Draw
 pub mod Make
 pub mod Help

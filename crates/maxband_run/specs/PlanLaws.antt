@@ -1,4 +1,4 @@
--- What the statuses of `bands`, `half`, `round`, `draw` and `sweep` say of the model: statements about the definitions of a run, each of which a public call proves.
+-- What the statuses of `bands`, `half`, `timing`, `round`, `draw` and `sweep` say of the model: statements about the definitions of a run, each of which a public call proves.
 use Rattle.std.specs.Prelude.{◌≡◌, ◌≢◌, ◌⊎◌, ℕ, ◌≤◌, List, ◌++◌, length, codes, Option, None, Some, Ok, IsSome, IfSome}
 use Rattle.std.specs.List.{AllZip}
 use Rattle.rational_theory.specs.Rational.{ℚ, ◌+ℚ◌, ◌≤ℚ◌}
@@ -19,6 +19,12 @@ use Rattle.half_integer.specs.declared.end.HalfEnd.{HalfEnd}
 use Rattle.second_plan.specs.Planned.{IsBestOfOffsets}
 use Rattle.second_plan.specs.declared.answer.PlanEnd.{PlanEnd}
 use Rattle.second_plan.specs.declared.answer.PlanEnd.TheVariants as end
+use Rattle.diagram_print.specs.Measures.{weighted_line}
+use Rattle.half_integer.specs.declared.end.HalfEnd.TheVariants as half_end
+use Rattle.artery_model.specs.declared.kind.Refusal.{Refusal}
+use Rattle.description_reader.specs.Typed.{Typed}
+use Rattle.typed_plan.specs.Ends.{IsTimingOf, Refuses}
+use Rattle.typed_plan.specs.declared.timing.TypedFault.TheVariants as fault
 use Rattle.diagram_draw.specs.Pages.{drawing, svg_text}
 use Rattle.plan_text.specs.Warrants.{Warrant}
 use Rattle.plan_text.specs.Spelling.{timing_text}
@@ -30,9 +36,9 @@ use Rattle.cycle_sweep.specs.Says.{SaysRow}
 use Rattle.cycle_sweep.specs.Table.{row_fields, sweep_text}
 use Rattle.maxband_run.specs.Cycles.{AreCycles}
 use Rattle.maxband_run.specs.Outside.{Outside}
-use Rattle.maxband_run.specs.Command.{Hold, Bands, Round, RoundFrom, Half, Draw, Sweep}
-use Rattle.maxband_run.specs.Reading.{most_bytes, Reads, Description, Timing, Certificate, Timed}
-use Rattle.maxband_run.specs.Bands.{IsWidestBand, widest_line}
+use Rattle.maxband_run.specs.Command.{Hold, Bands, Round, RoundFrom, Half, TimingOf, Draw, Sweep, shape}
+use Rattle.maxband_run.specs.Reading.{most_bytes, Reads, Description, Timing, Certificate, Timed, TypedPlan, StopsReading}
+use Rattle.maxband_run.specs.Bands.{IsWidestBand, widest_line, IsMeasured}
 use Rattle.maxband_run.specs.Half.{half_lines}
 use Rattle.maxband_run.specs.Round.{plan_lines, Unplans}
 use Rattle.maxband_run.specs.Sweep.{rows_line}
@@ -200,6 +206,86 @@ abbrev pub PlanIsHeld : Type 0
 PlanIsHeld = (before between now : Outside) (artery certificate plan : List ℕ) (c d : Cause)
     → artery ≢ plan → IsSome (before.holds artery) → IsSome (between.holds plan) → IfSome (between.holds plan) (λ bytes. length bytes ≤ most_bytes Timing)
     → number_of c ≡ 0 → Ends before between (Some (Round artery certificate plan)) c → IsReached d → Ends between now (Some (Hold artery plan)) d → d ≡ cause.Done
+
+-- ---- timing
+-- `timing` with status 0: the file that is put holds, where it is told, the text of the timing of the typed plan, which keeps the rules that speak of no band and is read
+-- back; its widest bands and its weighted band were told
+pub record PutsTyped (before now : Outside) (artery plan timing : List ℕ) : Type 0 where
+  pub street : Street
+  pub typed : Typed
+  pub made : Plan
+  pub bands : List ℕ
+  pub description : Reads Description (before.holds artery) street
+  pub text : Reads TypedPlan (before.holds plan) typed
+  pub made_is : IsTimingOf street typed made
+  pub measured : IsMeasured street made bands
+  pub put : HoldsExactly (now.holds timing) (timing_text made)
+  pub read_back : timing_of (timing_text made) ≡ Ok made
+  pub told : Appends before.taken now.taken (bands ++ weighted_line street made)
+
+-- with status 3: one of the two files isn't read
+pub record StopsTyped (before now : Outside) (artery plan timing : List ℕ) (c : Cause) : Type 0 where
+  pub lines : List ℕ
+  pub stops : StopsReading (shape (Some (TimingOf artery plan timing))).inputs 1 before.holds before.reads now.reads c lines
+  pub kept : SameFiles before.holds now.holds
+
+-- or the plan has more or fewer numbers at this place than the artery has signals or links
+pub record SaysMiscounted (before now : Outside) (artery plan : List ℕ) (c : Cause) : Type 0 where
+  pub street : Street
+  pub typed : Typed
+  pub refusal : Refusal
+  pub description : Reads Description (before.holds artery) street
+  pub text : Reads TypedPlan (before.holds plan) typed
+  pub first : Refuses street typed (fault.Refused refusal)
+  pub cause_is : c ≡ cause.Refused refusal
+  pub kept : SameFiles before.holds now.holds
+
+-- with status 4: the plan's timing breaks this rule that speaks of no band
+pub record SaysBroken (before now : Outside) (artery plan : List ℕ) (c : Cause) : Type 0 where
+  pub street : Street
+  pub typed : Typed
+  pub made : Plan
+  pub failing : Failing
+  pub description : Reads Description (before.holds artery) street
+  pub text : Reads TypedPlan (before.holds plan) typed
+  pub made_is : IsTimingOf street typed made
+  pub fails : Fails street made failing
+  pub not_base : ¬ IsBase street made
+  pub cause_is : c ≡ cause.Fails failing
+  pub kept : SameFiles before.holds now.holds
+
+-- with status 11: so many ticks are past the limit of a timing
+pub record SaysTooFine (before now : Outside) (artery plan : List ℕ) (c : Cause) : Type 0 where
+  pub street : Street
+  pub typed : Typed
+  pub ticks : ℕ
+  pub description : Reads Description (before.holds artery) street
+  pub text : Reads TypedPlan (before.holds plan) typed
+  pub first : Refuses street typed (fault.TooFine ticks)
+  pub cause_is : c ≡ cause.Unmatched (half_end.TooFine ticks)
+  pub kept : SameFiles before.holds now.holds
+
+abbrev pub TimingSays : Type 0
+TimingSays = (before now : Outside) (artery plan timing : List ℕ) (c : Cause) → Ends before now (Some (TimingOf artery plan timing)) c
+    → (number_of c ≡ 0 → PutsTyped before now artery plan timing)
+    × (number_of c ≡ 3 → StopsTyped before now artery plan timing c ⊎ SaysMiscounted before now artery plan c)
+    × (number_of c ≡ 4 → SaysBroken before now artery plan c)
+    × (number_of c ≡ 11 → SaysTooFine before now artery plan c)
+
+-- a timing is put, the plan isn't of the artery, its timing breaks a rule, or it has too many ticks
+abbrev pub IsTypedEnd : Cause → Type 0
+IsTypedEnd cause.Done = Unit {0}
+IsTypedEnd (cause.Refused r) = Unit {0}
+IsTypedEnd (cause.Fails f) = Unit {0}
+IsTypedEnd (cause.Unmatched (half_end.TooFine ticks)) = Unit {0}
+IsTypedEnd c = ⊥
+
+-- Where the files tell bytes that describe an artery and give a plan, and no read of them, no put of the timing and no write failed, the run ends so, or by want of memory.
+abbrev pub TimingIsComplete : Type 0
+TimingIsComplete = (before now : Outside) (artery plan timing : List ℕ) (a : Street) (p : Typed) (c : Cause)
+    → IsSome (before.holds artery) → IsSome (before.holds plan) → Reads Description (before.holds artery) a → Reads TypedPlan (before.holds plan) p
+    → ¬ Rose (before.reads artery) (now.reads artery) → ¬ Rose (before.reads plan) (now.reads plan) → ¬ Rose (before.puts timing) (now.puts timing) → ¬ Rose before.writes now.writes
+    → Ends before now (Some (TimingOf artery plan timing)) c → IsTypedEnd c ⊎ (c ≡ cause.Memory)
 
 -- ---- draw
 -- `draw` with status 0: the timing of the second file is good on the artery of the first, and the file that is put holds, where it is told, the picture of it

@@ -6,8 +6,9 @@ use Rattle.outer_edge.specs.Held.{BeginsWith, SameFiles}
 use Rattle.outer_edge.specs.declared.files.Files.{Ghosts}
 use Rattle.progression.specs.Street.{Street}
 use Rattle.progression.specs.Plan.{Plan}
-use Rattle.artery_model.specs.Faults.{fault_of}
+use Rattle.artery_model.specs.Faults.{Fault, fault_of}
 use Rattle.description_reader.specs.Described.{Described, RefusedAs}
+use Rattle.description_reader.specs.Typed.{Typed, GivesPlan, GivesNone}
 use Rattle.plan_text.specs.Reading.{timing_of}
 use Rattle.plan_text.specs.Warrants.{Warrant}
 use Rattle.plan_text.specs.CertificateReading.{certificate_of}
@@ -28,6 +29,7 @@ pub data Reader : Type 0 where
   Certificate : Reader
   LinkCertificate : Reader  -- a certificate of link timings
   Timed : Reader  -- a timing or a certificate, of which its timing is taken
+  TypedPlan : Reader  -- a plan as people type it, in seconds
 
 -- what a file is read as
 abbrev pub Value : Reader → Type 0
@@ -36,6 +38,7 @@ Value Timing = Plan
 Value Certificate = Warrant
 Value LinkCertificate = LinkWarrant
 Value Timed = Option Plan
+Value TypedPlan = Typed
 
 -- the most bytes of a description and of a certificate
 abbrev pub most_described : ℕ
@@ -51,6 +54,7 @@ most_bytes Timing = 1048576
 most_bytes Certificate = most_certified
 most_bytes LinkCertificate = most_certified
 most_bytes Timed = most_certified
+most_bytes TypedPlan = 1048576
 
 -- which value the bytes are read as
 abbrev pub IsReadAs : (r : Reader) → List ℕ → Value r → Type 0
@@ -59,11 +63,13 @@ IsReadAs Timing bytes t = timing_of bytes ≡ Ok t
 IsReadAs Certificate bytes w = certificate_of bytes ≡ Ok w
 IsReadAs LinkCertificate bytes w = links_of bytes ≡ Ok w
 IsReadAs Timed bytes t = timed_of bytes ≡ Ok t
+IsReadAs TypedPlan bytes p = GivesPlan bytes p
 
 -- ---- refusals
-abbrev pub IsNoDescription : List ℕ → Cause → List ℕ → Type 0
-IsNoDescription bytes (cause.Refused r) lines = RefusedAs bytes (fault_of r) × (lines ≡ refused_line r)
-IsNoDescription bytes c lines = ⊥
+-- this is the fault of the bytes
+abbrev pub HasFault : (List ℕ → Fault → Type 0) → List ℕ → Cause → List ℕ → Type 0
+HasFault refuses bytes (cause.Refused r) lines = refuses bytes (fault_of r) × (lines ≡ refused_line r)
+HasFault refuses bytes c lines = ⊥
 
 abbrev pub IsBadText : {V : Type 0} → (List ℕ → Result V BadText) → List ℕ → Cause → List ℕ → Type 0
 IsBadText reads bytes (cause.BadText b) lines = (reads bytes ≡ Err b) × (lines ≡ bad_text_line b)
@@ -71,11 +77,12 @@ IsBadText reads bytes c lines = ⊥
 
 -- for which cause and with which line the bytes are refused
 abbrev pub IsRefusedFor : Reader → List ℕ → Cause → List ℕ → Type 0
-IsRefusedFor Description bytes c lines = IsNoDescription bytes c lines
+IsRefusedFor Description bytes c lines = HasFault RefusedAs bytes c lines
 IsRefusedFor Timing bytes c lines = IsBadText timing_of bytes c lines
 IsRefusedFor Certificate bytes c lines = IsBadText certificate_of bytes c lines
 IsRefusedFor LinkCertificate bytes c lines = IsBadText links_of bytes c lines
 IsRefusedFor Timed bytes c lines = IsBadText timed_of bytes c lines
+IsRefusedFor TypedPlan bytes c lines = HasFault GivesNone bytes c lines
 
 -- ---- one file
 pub record Input : Type 0 where

@@ -4,7 +4,7 @@ use Rattle.narrow_fraction.specs.declared.memory.Memory.{Memory}
 use Rattle.outer_edge.specs.Counts.{SameCounts}
 use Rattle.outer_edge.specs.declared.files.Files.{Ghosts}
 use Rattle.maxband_run.specs.Outside.{Outside, NamedBytes, With, put_of, view, IsDone, IsUntouched, IsBroken}
-use Rattle.maxband_run.specs.Command.{Request, Hold, Show, Check, CheckLinks, Solve, Links, Renew, Bands, Round, RoundFrom, Half, Draw, Help, Version, Make, Trial, Sweep, shape}
+use Rattle.maxband_run.specs.Command.{Request, Hold, Show, Check, CheckLinks, Solve, Links, Renew, Bands, Round, RoundFrom, Half, TimingOf, Draw, Help, Version, Make, Trial, Sweep, shape}
 use Rattle.maxband_run.specs.Reading.{Input, Values, AreRead, StopsReading, end_of}
 use Rattle.maxband_run.specs.Lines.{words_line}
 use Rattle.maxband_run.specs.Hold.{HoldFinds}
@@ -16,6 +16,7 @@ use Rattle.maxband_run.specs.Renew.{IsRenewal}
 use Rattle.maxband_run.specs.Bands.{BandsFinds}
 use Rattle.maxband_run.specs.Round.{RoundFinds, RoundFromFinds}
 use Rattle.maxband_run.specs.Half.{HalfFinds}
+use Rattle.maxband_run.specs.Typed.{TypedFinds}
 use Rattle.maxband_run.specs.Draw.{DrawFinds}
 use Rattle.maxband_run.specs.Help.{HelpFinds, VersionFinds}
 use Rattle.maxband_run.specs.Make.{Makes}
@@ -40,6 +41,7 @@ Finds (Some (Bands artery timing)) v c lines put = BandsFinds v.0 v.1.0 c lines
 Finds (Some (Round artery certificate plan)) v c lines put = RoundFinds v.0 v.1.0 c lines put
 Finds (Some (RoundFrom artery certificate other plan)) v c lines put = RoundFromFinds v.0 v.1.0 v.1.1.0 c lines put
 Finds (Some (Half artery timing new)) v c lines put = HalfFinds v.0 v.1.0 c lines put
+Finds (Some (TimingOf artery plan timing)) v c lines put = TypedFinds v.0 v.1.0 c lines put
 Finds (Some (Draw artery timed drawing)) v c lines put = DrawFinds v.0 v.1.0 c lines put
 Finds (Some Help) v c lines put = HelpFinds c lines
 Finds (Some Version) v c lines put = VersionFinds c lines

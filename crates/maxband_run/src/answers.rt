@@ -26,6 +26,7 @@ use crate::show::show;
 use crate::solve::solve;
 use crate::sweep::sweep;
 use crate::trial::trial;
+use crate::typed::typed_timing;
 use narrow_fraction::Memory;
 use outer_edge::Files;
 use std::alloc::Global;
@@ -95,6 +96,10 @@ fn found<'a, F: Files>(
         Some(Command::Half(artery, timing, new)) => {
             let (street, plan) = read_both(alloc, files, artery, timing)?;
             Ok(half_cycle(alloc, &street, &plan, new)?)
+        }
+        Some(Command::TimingOf(artery, file, timing)) => {
+            let (street, typed) = read_both(alloc, files, artery, file)?;
+            Ok(typed_timing(alloc, &street, &typed, timing)?)
         }
         Some(Command::Draw(artery, file, drawing)) => {
             let (street, timed) = read_both(alloc, files, artery, file)?;

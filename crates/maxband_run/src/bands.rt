@@ -4,7 +4,8 @@ ghost use Rattle.std.specs.Prelude.{◌≡◌, ◌++◌, ◌<◌, None, Some, If
 ghost use Rattle.progression.specs.Street.{count};
 ghost use Rattle.progression.specs.Plan.{cycle};
 ghost use Rattle.diagram_print.specs.Measures.{dir_name};
-ghost use Rattle.maxband_run.specs.Bands.{widest_line, BandsFinds};
+ghost use Rattle.progression.specs.Good.{IsBase};
+ghost use Rattle.maxband_run.specs.Bands.{widest_line, IsMeasured, BandsFinds};
 
 use crate::answer::{Answer, told};
 use crate::cause::Cause;
@@ -61,6 +62,21 @@ fn widest_line(
     }
 }
 
+/// The lines of the widest bands on the offsets of a timing that keeps the rules that speak of no band.
+pub fn measured(alloc: Global, artery: &Artery, timing: &Timing) -> Result<Vec<u8>, Memory>
+    requires { IsBase artery.now timing.now }
+    ensures { IfOk result (λ lines. IsMeasured artery.now timing.now lines.items) }
+{
+    artery.known_valid();
+    prove!(2 <= timing.unit());
+    let outbound = widest(artery, timing, Dir::Outbound);
+    let inbound = widest(artery, timing, Dir::Inbound);
+    let mut lines = widest_line(alloc, artery, timing, Dir::Outbound, outbound)?;
+    let second = widest_line(alloc, artery, timing, Dir::Inbound, inbound)?;
+    lines.extend_from_slice(second.as_slice())?;
+    Ok(lines)
+}
+
 /// Measures the greatest band of each direction on the offsets of the timing, whatever its firsts and bands: where it keeps the rules
 /// that speak of no band, else the answer has the first of these that it breaks.
 pub fn bands(alloc: Global, artery: &Artery, timing: &Timing) -> Result<Answer<'static>, Memory>
@@ -71,12 +87,6 @@ pub fn bands(alloc: Global, artery: &Artery, timing: &Timing) -> Result<Answer<'
         let lines = fails_line(alloc, failing)?.into_bytes();
         return Ok(told(Cause::Fails(failing), lines));
     }
-    artery.known_valid();
-    prove!(2 <= timing.unit());
-    let outbound = widest(artery, timing, Dir::Outbound);
-    let inbound = widest(artery, timing, Dir::Inbound);
-    let mut lines = widest_line(alloc, artery, timing, Dir::Outbound, outbound)?;
-    let second = widest_line(alloc, artery, timing, Dir::Inbound, inbound)?;
-    lines.extend_from_slice(second.as_slice())?;
+    let lines = measured(alloc, artery, timing)?;
     Ok(told(Cause::Done, lines))
 }

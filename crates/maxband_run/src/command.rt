@@ -36,6 +36,8 @@ pub enum Command<'a> {
     RoundFrom(&'a str, &'a str, &'a str, &'a str),
     /// Find the widest equal bands over all offsets of the timing of the second file, and put the plan that has them in the third.
     Half(&'a str, &'a str, &'a str),
+    /// Make the timing of the second file, a plan that is typed in seconds, on the artery of the first, and put it in the third.
+    TimingOf(&'a str, &'a str, &'a str),
     /// Draw the timing of the second file, a timing or a certificate, on the artery of the first, and put the picture in the third.
     Draw(&'a str, &'a str, &'a str),
     /// Tell the usages.
@@ -154,6 +156,7 @@ fn with_three<'a>(
         "links" => links_of(first, second, third),
         "round" => Some(Command::Round(first, second, third)),
         "half" => Some(Command::Half(first, second, third)),
+        "timing" => Some(Command::TimingOf(first, second, third)),
         "draw" => Some(Command::Draw(first, second, third)),
         "trial" => trial_of(first, second, third),
         _ => None,
@@ -257,6 +260,7 @@ pub fn room_for_faults(command: Option<Command<'_>>) -> u64
             | Command::Bands(first, second)
             | Command::Round(first, second, _)
             | Command::Half(first, second, _)
+            | Command::TimingOf(first, second, _)
             | Command::Draw(first, second, _),
         ) => cannot_read_bytes(first).max(cannot_read_bytes(second)),
         Some(Command::RoundFrom(first, second, third, _)) => cannot_read_bytes(first)

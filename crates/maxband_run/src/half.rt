@@ -1,6 +1,6 @@
 //! The command `half`.
 
-ghost use Rattle.std.specs.Prelude.{◌≡◌, ◌≤◌, IfOk, length, option_map, string_bytes};
+ghost use Rattle.std.specs.Prelude.{◌≡◌, ◌≤◌, None, IfOk, length, option_map, string_bytes};
 ghost use Rattle.progression.specs.Street.{count};
 ghost use Rattle.maxband_run.specs.Outside.{MayPut, view};
 ghost use Rattle.maxband_run.specs.Half.{phase_name, phase_line, phase_lines, half_lines, end_line, TellsPlan, HalfFinds};
@@ -80,6 +80,16 @@ fn end_line(alloc: Global, end: HalfEnd) -> Result<String, AllocError>
     }
 }
 
+/// The answer where a timing has no half-cycle plan, or a typed plan no timing: nothing is put.
+pub fn unmatched(alloc: Global, end: HalfEnd) -> Result<Answer<'static>, Memory>
+    ensures cause { IfOk result (λ a. a.cause ≡ Cause.Unmatched end) }
+    ensures lines { IfOk result (λ a. a.lines.items ≡ end_line end) }
+    ensures no_put { IfOk result (λ a. a.put ≡ None) }
+{
+    let lines = end_line(alloc, end)?.into_bytes();
+    Ok(told(Cause::Unmatched(end), lines))
+}
+
 /// The answer with a half-cycle plan, whose text is to be put into the file of this name.
 fn tell_plan<'a>(
     alloc: Global,
@@ -119,10 +129,7 @@ pub fn half_cycle<'a>(
             let lines = fails_line(alloc, failing)?.into_bytes();
             Ok(told(Cause::Fails(failing), lines))
         }
-        Err(HalfFault::End(end)) => {
-            let lines = end_line(alloc, end)?.into_bytes();
-            Ok(told(Cause::Unmatched(end), lines))
-        }
+        Err(HalfFault::End(end)) => unmatched(alloc, end),
         Err(HalfFault::Memory) => Err(Memory),
     }
 }

@@ -1,7 +1,7 @@
 //! The run of the program `maxband`: what its words ask for, which files a command reads and puts, its lines and its status.
 //! Commands find best timings of the signals of one artery (`solve`), also at each of several cycles (`sweep`), or best ones with a
 //! band for each link (`links`), with certificates of what is claimed of all its good timings (`check`, `check-links`); test
-//! timings against its time-space diagram (`hold`), measure their bands (`bands`) and draw them (`draw`); make plans in whole
+//! timings against its time-space diagram (`hold`), measure their bands (`bands`) and draw them (`draw`); make timings of plans typed in seconds (`timing`); make plans in whole
 //! seconds (`round`, `round-from`) and of half cycles (`half`); write the canonical description of an artery (`show`) and certificates in the
 //! second format (`renew`); make arteries from a seed, to be described (`make`) or searched (`trial`); and tell the program's usages
 //! (`--help`) and what it reads (`--version`).
@@ -48,6 +48,8 @@
 //!   the first reason for which there is none (`IsUnplanned`); `half` the widest equal bands over all offsets by `half_integer`, or
 //!   that there are none (`IsHalved`), or the first reason for which the timing has no such plan (`IsUnmatched`). Nothing is put
 //!   where nothing was found (`put_of`).
+//! - `timing` (`specs/Typed.antt`) puts the one timing that a typed plan has by `typed_plan`, with the widest bands on its offsets,
+//!   where it keeps the rules that speak of no band (`HasTiming`), or tells the first reason for which the plan has none.
 //! - `sweep` (`specs/Sweep.antt`) puts the table of `cycle_sweep` of just the cycles that the words spell, and always ends with
 //!   `Done`; it keeps the words of the cycles, which are read as numbers when the street is there. `renew` puts the second text of
 //!   the certificate that it read.
@@ -95,6 +97,7 @@ mod solve;
 mod sweep;
 mod top;
 mod trial;
+mod typed;
 mod usage;
 
 pub use cause::{Cause, Status};
@@ -107,5 +110,5 @@ pub use top::{
     law_put_is_accepted, law_put_links_are_accepted, law_renew_is_complete, law_renew_says,
     law_round_from_is_complete, law_round_from_says, law_round_says, law_solve_is_complete,
     law_solve_says, law_solve_stop_says, law_sweep_is_complete, law_sweep_says,
-    law_trial_is_complete, law_words_are_told, run,
+    law_timing_is_complete, law_timing_says, law_trial_is_complete, law_words_are_told, run,
 };

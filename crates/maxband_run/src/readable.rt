@@ -9,13 +9,13 @@ use crate::answer::{Unread, told};
 use crate::cause::Cause;
 use crate::lines::{bad_text_line, refused_line};
 use artery_model::{Artery, Flaw, Refusal};
-use description_reader::read_artery;
+use description_reader::{TypedPlan, read_artery, read_plan};
 use link_proof::{LinkCertificate, read_links};
 use plan_text::{BadText, Certificate, TextEnd, read_certificate, read_timing};
 use std::alloc::Global;
 use time_space::Timing;
 
-/// The most bytes of a description or a timing.
+/// The most bytes of a description, a timing or a typed plan.
 const SHORT_FILE: u64 = 1_048_576;
 
 /// The most bytes of a certificate of either kind.
@@ -41,7 +41,7 @@ pub trait Readable: Drop {
         ensures no_put { IfErr result (λ end. IfOk (end_of end) (λ a. a.put ≡ None)) };
 }
 
-/// What is told of a description that is refused.
+/// What is told of a description or a typed plan that is refused.
 fn refused(alloc: Global, refusal: Refusal) -> Unread
     ensures cause { IfOk (end_of result) (λ a. a.cause ≡ Cause.Refused refusal) }
     ensures lines { IfOk (end_of result) (λ a. a.lines.items ≡ refused_line refusal) }
@@ -78,6 +78,25 @@ impl Readable for Artery {
     fn read(alloc: Global, bytes: &[u8]) -> Result<Artery, Unread> {
         match read_artery(alloc, bytes) {
             Ok(artery) => Ok(artery),
+            Err(Flaw::Refused(refusal)) => Err(refused(alloc, refusal)),
+            Err(Flaw::Memory) => Err(Unread::Memory),
+        }
+    }
+}
+
+/// The plan that a text gives, typed in seconds.
+impl Readable for TypedPlan {
+    ghost reader = { Reader.TypedPlan };
+
+    ghost value = { λ p. p };
+
+    fn most_bytes() -> u64 {
+        SHORT_FILE
+    }
+
+    fn read(alloc: Global, bytes: &[u8]) -> Result<TypedPlan, Unread> {
+        match read_plan(alloc, bytes) {
+            Ok(plan) => Ok(plan),
             Err(Flaw::Refused(refusal)) => Err(refused(alloc, refusal)),
             Err(Flaw::Memory) => Err(Unread::Memory),
         }

@@ -7,7 +7,7 @@ ghost use Rattle.maxband_run.specs.Command.{request_of, shape};
 ghost use Rattle.maxband_run.specs.Outside.{seen, OthersKept, PutsCounted};
 ghost use Rattle.maxband_run.specs.Run.{Ends, LeavesAlone};
 ghost use Rattle.maxband_run.specs.Laws.{OneAnswer, FaultsAreTold, SolveIsComplete, LinksAreComplete, MakeIsComplete, TrialIsComplete, SweepIsComplete, RenewIsComplete, PutIsAccepted, PutLinksAreAccepted, SolveSays, LinksSay, HelpSays, HoldSays, CheckSays, CheckLinksSays, RenewSays};
-ghost use Rattle.maxband_run.specs.PlanLaws.{BandsSay, DrawIsComplete, DrawSays, HalfSays, RoundFromIsComplete, RoundFromSays, RoundSays, PlanIsHeld, SweepSays};
+ghost use Rattle.maxband_run.specs.PlanLaws.{BandsSay, DrawIsComplete, DrawSays, HalfSays, RoundFromIsComplete, RoundFromSays, RoundSays, PlanIsHeld, SweepSays, TimingIsComplete, TimingSays};
 ghost use Rattle.maxband_run.specs.StopLaws.{SolveStopSays, LinksStopSays, AllNeverStopsByWork, WordsAreTold, FaultsAreCounted};
 
 use crate::answers::answer_to;
@@ -33,10 +33,11 @@ fn status(cause: Cause) -> Status
 /// The status has its cause: what the bytes of the files are, which are those that they held at entry where they tell them, what
 /// is made from a seed, or which failed call was counted. The output grew by exactly that answer's lines, and no file changed but
 /// that `solve` or `links` put the text of its certificate, which is read back as the very certificate that was accepted, `renew`
-/// that of the certificate that it read, `round`, `round-from` or `half` that of its plan, `draw` its picture, or `sweep` its table.
-/// What a command reads and puts is a table, `shape`. Each call that failed and was counted is told by the status: after any other
-/// no count has changed. After `Memory` no file changed and nothing was written; after `WriteFault` either the put failed and nothing was
-/// written, or a front of the lines of the answer that was reached went out.
+/// that of the certificate that it read, `round`, `round-from` or `half` that of its plan, `timing` that of the typed plan's timing,
+/// `draw` its picture, or `sweep` its table. What a command reads and puts is a table, `shape`. Each call that failed and was
+/// counted is told by the status: after any other no count has changed. After `Memory` no file changed and nothing was written;
+/// after `WriteFault` either the put failed and nothing was written, or a front of the lines of the answer that was reached went
+/// out.
 pub fn run<F: Files, K: Sink>(alloc: Global, words: &[String], files: &mut F, out: &mut K) -> Status
     ensures number { result.number ≡ number_of result.cause }
     ensures ends { Ends (seen F.Files K.Sink files.old out.old) (seen F.Files K.Sink files.new out.new) (request_of (map string_bytes words.now)) result.cause }
@@ -71,6 +72,7 @@ pub fn law_one_answer()
     ensures { OneAnswer }
 {
     description_reader::law_one_answer();
+    description_reader::law_one_typed();
     description_reader::law_one_text();
     time_space::law_one_first();
     time_space::law_fails_rules_out();
@@ -81,6 +83,7 @@ pub fn law_one_answer()
     second_plan::law_one_end();
     second_plan::law_plan_or_end();
     second_plan::law_one_plan();
+    typed_plan::law_one_timing();
     link_proof::law_link_accepted_or_refused();
 }
 
@@ -90,6 +93,7 @@ pub fn law_solve_is_complete()
     ensures { SolveIsComplete }
 {
     description_reader::law_one_answer();
+    description_reader::law_one_typed();
 }
 
 /// A law over the definitions: where the description of `links` is one of an artery and no fault is counted, the run ends with a
@@ -98,6 +102,7 @@ pub fn law_links_are_complete()
     ensures { LinksAreComplete }
 {
     description_reader::law_one_answer();
+    description_reader::law_one_typed();
 }
 
 /// A law over the definitions: where no failed write is counted, `make` is done or ends by want of memory.
@@ -123,6 +128,7 @@ pub fn law_sweep_is_complete()
     ensures { SweepIsComplete }
 {
     description_reader::law_one_answer();
+    description_reader::law_one_typed();
 }
 
 /// A law over the definitions: where the first file of `renew` is a certificate and no fault is counted, the run is done or ends by want
@@ -131,6 +137,7 @@ pub fn law_renew_is_complete()
     ensures { RenewIsComplete }
 {
     description_reader::law_one_answer();
+    description_reader::law_one_typed();
 }
 
 /// A law over the definitions: `check` accepts the certificate that `solve` put, with the very claim of what was found.
@@ -138,6 +145,7 @@ pub fn law_put_is_accepted()
     ensures { PutIsAccepted }
 {
     description_reader::law_one_answer();
+    description_reader::law_one_typed();
     certificate_checker::law_accepted_or_refused();
 }
 
@@ -146,6 +154,7 @@ pub fn law_put_links_are_accepted()
     ensures { PutLinksAreAccepted }
 {
     description_reader::law_one_answer();
+    description_reader::law_one_typed();
     link_proof::law_link_accepted_or_refused();
 }
 
@@ -241,6 +250,23 @@ pub fn law_round_from_is_complete()
     ensures { RoundFromIsComplete }
 {
     description_reader::law_one_answer();
+    description_reader::law_one_typed();
+}
+
+/// A law over the definitions: after status 0 of `timing` the file that it put holds the text of the timing of the typed plan, which keeps the
+/// rules that speak of no band, and its widest bands were printed. After 3 a file isn't read or the plan has more or fewer numbers than the
+/// artery has signals or links, after 4 a rule fails that speaks of no band, and after 11 the timing has too many ticks; no file changed.
+pub fn law_timing_says()
+    ensures { TimingSays }
+{}
+
+/// A law over the definitions: where the files of `timing` are a description of an artery and a typed plan, and no fault is counted, the
+/// timing is put, the plan isn't of the artery, its timing breaks a rule, it has too many ticks, or memory is wanting.
+pub fn law_timing_is_complete()
+    ensures { TimingIsComplete }
+{
+    description_reader::law_one_answer();
+    description_reader::law_one_typed();
 }
 
 /// A law over the definitions: after status 0 of `draw` the file that it put holds the picture of the timing of its second file, which is
@@ -257,6 +283,7 @@ pub fn law_draw_is_complete()
     ensures { DrawIsComplete }
 {
     description_reader::law_one_answer();
+    description_reader::law_one_typed();
 }
 
 /// A law over the definitions: after status 0 of `sweep` the file that it put holds the table of its cycles, and each record says what
@@ -295,5 +322,6 @@ pub fn law_plan_is_held()
     ensures { PlanIsHeld }
 {
     description_reader::law_one_answer();
+    description_reader::law_one_typed();
     time_space::law_fails_rules_out();
 }

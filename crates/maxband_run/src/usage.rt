@@ -14,6 +14,7 @@ pub enum Usage {
     Round,
     RoundFrom,
     Half,
+    TimingOf,
     Draw,
     Renew,
     Links,
@@ -28,13 +29,14 @@ pub enum Usage {
 }
 
 /// All usages, in the order of the help.
-pub const USAGES: [Usage; 17] = [
+pub const USAGES: [Usage; 18] = [
     Usage::Solve,
     Usage::Check,
     Usage::Bands,
     Usage::Round,
     Usage::RoundFrom,
     Usage::Half,
+    Usage::TimingOf,
     Usage::Draw,
     Usage::Renew,
     Usage::Links,
@@ -67,6 +69,8 @@ fn usage_line(usage: Usage) -> &'static str
         }
         Usage::Half =>
             "maxband half ARTERY TIMING NEW                put the half-cycle plan with the widest equal bands\n",
+        Usage::TimingOf =>
+            "maxband timing ARTERY PLAN TIMING             put the timing of a plan typed in seconds\n",
         Usage::Draw =>
             "maxband draw ARTERY FILE SVG                  put a picture of the timing of a timing or certificate\n",
         Usage::Renew =>

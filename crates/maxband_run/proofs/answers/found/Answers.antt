@@ -1,11 +1,12 @@
-use Rattle.std.proofs.Common.{rules, Some, Ok, map, refl}
+use Rattle.std.proofs.Common.{rules, Some, Ok, Err, map, refl, ap, ◌∙◌}
 use Rattle.std.specs.Prelude.{string_bytes}
-use Rattle.maxband_run.specs.Command.{Hold, Show, Check, CheckLinks, Solve, Links, Renew, Bands, Round, RoundFrom, Half, Draw, Sweep}
+use Rattle.std.proofs.lemmas.Result.{err_from_is_err_and}
+use Rattle.maxband_run.specs.Command.{Hold, Show, Check, CheckLinks, Solve, Links, Renew, Bands, Round, RoundFrom, Half, TimingOf, Draw, Sweep}
 use Rattle.maxband_run.specs.Solve.{IsSolution}
 use Rattle.maxband_run.specs.Links.{IsLinkSolution}
 use Rattle.maxband_run.specs.Renew.{IsRenewal}
 use Rattle.maxband_run.specs.Sweep.{IsSweep}
-use Rattle.maxband_run.proofs.Told.{unread, tells, puts, may_put}
+use Rattle.maxband_run.proofs.Told.{unread, wanting, tells, puts, may_put}
 use Rattle.maxband_run.proofs.answers.found.Goals as goal
 
 -- hold
@@ -87,6 +88,15 @@ pub returns-in_ok-sweep-in-Some-Sweep-clause-answered : goal.returns-in_ok-sweep
 returns-in_ok-sweep-in-Some-Sweep-clause-answered g c =
     let told = puts {asked = Some (Sweep c.in-Some-Sweep.artery.now c.in-Some-Sweep.table.now c.in-Some-Sweep.limit (map string_bytes c.in-Some-Sweep.cycles.now))} (Ok c.in_ok-sweep-in-Some-Sweep.field-0) (IsSweep c.in_ok-street-in-Some-Sweep.street c.in-Some-Sweep.limit (map string_bytes c.in-Some-Sweep.cycles.now)) (λ d lines bytes h. (bytes, refl, h)) c.in_ok-street-in-Some-Sweep.ensures.read refl c.in_ok-sweep-in-Some-Sweep.ensures.finds in search (rules, told)
 
+-- timing
+pub returns-in_err-street-in-Some-TimingOf-clause-answered : goal.returns-in_err-street-in-Some-TimingOf-clause-answered
+returns-in_err-street-in-Some-TimingOf-clause-answered g c =
+    let told = unread {asked = Some (TimingOf c.in-Some-TimingOf.artery.now c.in-Some-TimingOf.file.now c.in-Some-TimingOf.timing.now)} _ c.in_err-street-in-Some-TimingOf.ensures.unread in search (rules, told)
+
+pub returns-in_ok-typed_timing-in-Some-TimingOf-clause-answered : goal.returns-in_ok-typed_timing-in-Some-TimingOf-clause-answered
+returns-in_ok-typed_timing-in-Some-TimingOf-clause-answered g c =
+    let told = may_put {asked = Some (TimingOf c.in-Some-TimingOf.artery.now c.in-Some-TimingOf.file.now c.in-Some-TimingOf.timing.now)} (Ok c.in_ok-typed_timing-in-Some-TimingOf.field-0) c.in_ok-street-in-Some-TimingOf.ensures.read refl c.in_ok-typed_timing-in-Some-TimingOf.ensures.finds in search (rules, told)
+
 -- draw
 pub returns-in_err-street-in-Some-Draw-clause-answered : goal.returns-in_err-street-in-Some-Draw-clause-answered
 returns-in_err-street-in-Some-Draw-clause-answered g c =
@@ -104,3 +114,8 @@ returns-in_err-street-in-Some-RoundFrom-clause-answered g c =
 pub returns-in_ok-round_from-in-Some-RoundFrom-clause-answered : goal.returns-in_ok-round_from-in-Some-RoundFrom-clause-answered
 returns-in_ok-round_from-in-Some-RoundFrom-clause-answered g c =
     let told = may_put {asked = Some (RoundFrom c.in-Some-RoundFrom.artery.now c.in-Some-RoundFrom.certificate.now c.in-Some-RoundFrom.file.now c.in-Some-RoundFrom.plan.now)} (Ok c.in_ok-round_from-in-Some-RoundFrom.field-0) c.in_ok-street-in-Some-RoundFrom.ensures.read refl c.in_ok-round_from-in-Some-RoundFrom.ensures.finds in search (rules, told)
+
+pub returns-in_err-round_from-in-Some-RoundFrom-clause-answered : goal.returns-in_err-round_from-in-Some-RoundFrom-clause-answered
+returns-in_err-round_from-in-Some-RoundFrom-clause-answered g c =
+    let p = err_from_is_err_and c.from_residual-in_err-round_from-in-Some-RoundFrom.result c.from_residual-in_err-round_from-in-Some-RoundFrom.ensures.1 in
+    wanting c.from_residual-in_err-round_from-in-Some-RoundFrom.result (p.1 ∙ ap Err p.2) c.in_ok-street-in-Some-RoundFrom.ensures.read.counts

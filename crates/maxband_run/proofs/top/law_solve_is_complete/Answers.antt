@@ -2,4 +2,4 @@ use Rattle.maxband_run.proofs.Complete.{complete}
 use Rattle.maxband_run.proofs.top.law_solve_is_complete.Goals as goal
 
 pub returns : goal.returns
-returns c = complete c.law_one_answer.ensures
+returns c = complete (record { street = c.law_one_answer.ensures; plan = c.law_one_typed.ensures })

@@ -46,6 +46,13 @@ returns-clause-ends g c =
     c.room_for_faults-room.result c.status-in-Err-Memory.result.cause c.status-in-Err-Memory.ensures.cause c.room_for_faults-room.ensures (c.in-Err-Memory.ensures.wanting (ap Err c.in-Err-Memory.field-0-is))
     (c.in-Err-Memory.ensures.untouched (ap Err c.in-Err-Memory.field-0-is)))
 
+pub returns-in-Ok-deliver-clause-files : goal.returns-in-Ok-deliver-clause-files
+returns-in-Ok-deliver-clause-files g c =
+    let asked : Option Request = option_map commands.view c.command_in-command.result in
+    subst (λ (o : Option Request). OthersKept (shape o).output (g.F.Files.holds c.args.files.now) (g.F.Files.holds c.deliver.new.files)) c.command_in-command.ensures
+    (others_since (g.F.Files.holds c.args.files.now) (g.F.Files.read_faults c.args.files.now) (g.F.Files.read_faults c.answer_to.new.files) asked c.in-Ok.answer.cause c.in-Ok.answer.lines.items c.in-Ok.answer.put
+    (g.F.Files.holds c.args.files.now) (g.F.Files.holds c.answer_to.new.files) (g.F.Files.holds c.deliver.new.files) c.answer_to.ensures.kept.holds c.in-Ok.ensures.answered.told c.deliver.ensures.others)
+
 pub returns-in-Err-Broken-clause-files : goal.returns-in-Err-Broken-clause-files
 returns-in-Err-Broken-clause-files g c =
     let asked : Option Request = option_map commands.view c.command_in-command.result in

@@ -1,0 +1,67 @@
+//! The command `timing`.
+
+ghost use Rattle.std.specs.Prelude.{IfOk};
+ghost use Rattle.maxband_run.specs.Outside.{MayPut};
+ghost use Rattle.maxband_run.specs.Typed.{WritesTiming, TypedFinds};
+
+use crate::answer::{Answer, Put, told};
+use crate::bands::measured;
+use crate::cause::Cause;
+use crate::half::unmatched;
+use crate::lines::{fails_line, refused_line};
+use artery_model::Artery;
+use band_measure::base_holds;
+use description_reader::TypedPlan;
+use diagram_print::weighted_line;
+use half_integer::HalfEnd;
+use narrow_fraction::Memory;
+use plan_text::write_timing;
+use std::alloc::Global;
+use time_space::Timing;
+use typed_plan::{TypedFault, timing_of};
+
+/// Measures and writes a timing where it keeps the rules that speak of no band; else the answer has the first of these that it breaks.
+fn write_measured<'a>(
+    alloc: Global,
+    artery: &Artery,
+    timing: &Timing,
+    name: &'a str,
+) -> Result<Answer<'a>, Memory>
+    ensures finds { MayPut name.now (WritesTiming artery.now timing.now) result }
+{
+    if let Err(failing) = base_holds(artery, timing) {
+        let lines = fails_line(alloc, failing)?.into_bytes();
+        return Ok(told(Cause::Fails(failing), lines));
+    }
+    let mut lines = measured(alloc, artery, timing)?;
+    let weighted = weighted_line(alloc, artery, timing)?;
+    lines.extend_from_slice(weighted.as_slice())?;
+    let bytes = write_timing(alloc, timing)?;
+    Ok(Answer {
+        cause: Cause::Done,
+        lines,
+        put: Some(Put { name, bytes }),
+    })
+}
+
+/// Makes the timing of a plan that is typed in seconds, whose text is to be put into the file of this name. Nothing is put where the plan
+/// isn't of the artery, where it has too many ticks, or where its timing breaks a rule that speaks of no band.
+pub fn typed_timing<'a>(
+    alloc: Global,
+    artery: &Artery,
+    plan: &TypedPlan,
+    name: &'a str,
+) -> Result<Answer<'a>, Memory>
+    ensures finds { MayPut name.now (TypedFinds artery.now plan.now) result }
+{
+    artery.known_valid();
+    match timing_of(alloc, artery, plan) {
+        Ok(timing) => write_measured(alloc, artery, &timing, name),
+        Err(TypedFault::Refused(refusal)) => {
+            let lines = refused_line(alloc, &refusal)?.into_bytes();
+            Ok(told(Cause::Refused(refusal), lines))
+        }
+        Err(TypedFault::TooFine { ticks }) => unmatched(alloc, HalfEnd::TooFine { ticks }),
+        Err(TypedFault::Memory) => Err(Memory),
+    }
+}
