@@ -1,10 +1,10 @@
 //! The run of the program `maxband`: what its words ask for, which files a command reads and puts, its lines and its status.
 //! Commands find best timings of the signals of one artery (`solve`), also at each of several cycles (`sweep`), or best ones with a
 //! band for each link (`links`), with certificates of what is claimed of all its good timings (`check`, `check-links`); test
-//! timings against its time-space diagram (`hold`), measure their bands (`bands`) and draw them (`draw`); make timings of plans typed in seconds (`timing`); make plans in whole
-//! seconds (`round`, `round-from`) and of half cycles (`half`); write the canonical description of an artery (`show`) and certificates in the
-//! second format (`renew`); make arteries from a seed, to be described (`make`) or searched (`trial`); and tell the program's usages
-//! (`--help`) and what it reads (`--version`).
+//! timings against its time-space diagram (`hold`), measure their bands (`bands`) and draw them (`draw`); make timings of plans
+//! typed in seconds (`timing`), plans in whole seconds (`round`, `round-from`) and of half cycles (`half`); write the canonical
+//! description of an artery (`show`) and certificates in the second format (`renew`); make arteries from a seed, to be described
+//! (`make`) or searched (`trial`); and tell the program's usages (`--help`) and what it reads (`--version`).
 //!
 //! Start with `run`, which is the program over any files and any output. Its contract is the program's theorem: each status has its
 //! cause, and the output grows by exactly that answer's lines (`specs/Run.antt`). `run_program` is the last frame, from what the
