@@ -45,7 +45,8 @@ try:
 	@test -f "$$STREET_FILE" || { printf 'there is no street %s\n' "$$STREET_FILE" >&2; exit 1; }
 	@case $$STREET_FILE in /*) file=$$STREET_FILE ;; *) file=$$PWD/$$STREET_FILE ;; esac; cd crates/maxband; \
 		rt try --data "street.toml=$$file" -- solve street.toml certificate.txt || test $$? -le 2
-	@echo 'nothing was proved and no certificate is kept: `make` builds the proved program, whose `solve` puts one'
+	@echo 'nothing was proved and no certificate is kept: `make` builds the proved program, whose `solve` puts one, and whose `draw`'
+	@echo 'puts the diagram as a picture for a browser, as docs/broadway.svg'
 
 example: $(PROGRAM)
 	$(PROGRAM) solve examples/broadway.toml broadway-certificate.txt
