@@ -35,7 +35,7 @@ help:
 	@sed -n '/^#/!q; s/^# //p' Makefile
 
 # A program that is there was built of proved crates, so one whose crates have changed since goes where they aren't proved.
-PROVE = scripts/prove --jobs $(JOBS) $(notdir $@) && touch $@ || { rm -f $@; exit 1; }
+PROVE = scripts/prove --once --jobs $(JOBS) $(notdir $@) && touch $@ || { rm -f $@; exit 1; }
 
 $(PROGRAM): $(SOURCES)
 	@$(PROVE)
