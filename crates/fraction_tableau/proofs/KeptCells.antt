@@ -160,9 +160,12 @@ in_right : (k : ℕ) (xs ys : List Kept) → Lacks k xs → cell_in (xs ++ ys) k
 in_right k [] ys h = refl
 in_right k (x ∷ xs) ys h = cond-false (eqb k x.place) x.cell (cell_in (xs ++ ys) k) (ne_eqb k x.place h.0) ∙ in_right k xs ys h.1
 
-in_left : (k : ℕ) (xs ys : List Kept) → cell_in ys k ≡ whole (pos 0) → cell_in (xs ++ ys) k ≡ cell_in xs k
+pub in_left : (k : ℕ) (xs ys : List Kept) → cell_in ys k ≡ whole (pos 0) → cell_in (xs ++ ys) k ≡ cell_in xs k
 in_left k [] ys h = h
 in_left k (x ∷ xs) ys h = ap (cond (eqb k x.place) x.cell) (in_left k xs ys h)
+
+pub kept_apart : (k n : ℕ) (x : ℚ) → (k ≡ n → ⊥) → cell_in (kept_at n x) k ≡ whole (pos 0)
+kept_apart k n x h = lacking k (kept_at n x) (lacks_one k n x h)
 
 one_same : (n : ℕ) (x : ℚ) → cell_in (kept_at n x) n ≡ x
 one_same n x = pick (zero_or_not x)

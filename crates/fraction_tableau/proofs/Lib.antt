@@ -1,4 +1,5 @@
 pub mod KeptCells
+pub mod Marking
 pub mod Scales
 pub mod Keeps
 pub mod Merges

@@ -65,11 +65,11 @@ same_number j v e d k x f a b c = rw (a, ← b, c) refl
 pub below_next : (m k : ℕ) → m < k + 1 → (m ≡ k) ⊎ (m < k)
 below_next m k l = grind arith
 
-pub merge_next_is : (i j : ℕ) (v : ℚ) (e d : List ℚ) (now new : List Kept) (taken made put : ℕ) (k : Kept) (x : ℚ) → length new ≡ length now → k.place < length now → taken ≡ length (kept_below (number_in d) (k.place + 1)) → made ≤ k.place
+pub merge_next_is : (i j : ℕ) (v : ℚ) (e d : List ℚ) (now new : List Kept) (taken made put marks : ℕ) (k : Kept) (x : ℚ) → length new ≡ length now → k.place < length now → taken ≡ length (kept_below (number_in d) (k.place + 1)) → made ≤ k.place
     → take made now ≡ kept_below (merged_at j v e d) k.place → x ≡ merged_at j v e d k.place → put ≡ made + length (kept_at k.place x) → take put new ≡ take made now ++ kept_at k.place x
     → first_below (clear_at i j e d) k.place ≡ None → clear_at i j e d k.place ≡ None → ((m : ℕ) → m < k.place → FitsFrac (merged_at j v e d m)) → FitsFrac x
-    → IsMerged i j v e d new (record { below = k.place + 1; taken = taken; made = put })
-merge_next_is i j v e d now new taken made put k x n h t l c q a b f g s u =
+    → IsMerged i j v e d new (record { below = k.place + 1; taken = taken; made = put; marks = marks })
+merge_next_is i j v e d now new taken made put marks k x n h t l c q a b f g s u =
     let o = at_most_one k.place x in
     record {
       inside = omega arith;

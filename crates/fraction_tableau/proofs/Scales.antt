@@ -19,6 +19,7 @@ use Rattle.simplex_theory.specs.Lines.{cleared}
 use Rattle.simplex_theory.proofs.Lines.{cleared_at, cleared_other}
 use Rattle.fraction_tableau.specs.KeptCells.{number_in, kept_at, kept_below}
 use Rattle.fraction_tableau.specs.Scales.{numerator, IsOver, IsScaled, IsRescaled, factor_of, IsJoining, IsJoined}
+use Rattle.fraction_tableau.specs.Marks.{AreMarked}
 use Rattle.fraction_tableau.specs.declared.kept.Kept.{Kept}
 use Rattle.fraction_tableau.proofs.Fitting.{fits_i64}
 use Rattle.fraction_tableau.proofs.KeptCells.{at_most_one, kept_more}
@@ -190,14 +191,16 @@ first_above (suc m) g e h k = omega arith
 
 -- ---- the walk over the turned row's cells
 
-pub joined_next : (target d : List ℚ) (now new : List Kept) (taken made put : ℕ) (k : Kept) → length new ≡ length now → k.place < length now → taken ≡ length (kept_below (number_in d) (k.place + 1)) → made ≤ k.place
+pub joined_next : (target d : List ℚ) (now new : List Kept) (taken made put marks : ℕ) (k : Kept) → length new ≡ length now → k.place < length now → taken ≡ length (kept_below (number_in d) (k.place + 1)) → made ≤ k.place
     → take made now ≡ kept_below (number_in target) k.place → k.cell ≡ number_in target k.place → put ≡ made + length (kept_at k.place k.cell) → take put new ≡ take made now ++ kept_at k.place k.cell
-    → IsJoined target d new (record { below = k.place + 1; taken = taken; made = put })
-joined_next target d now new taken made put k n h t l c q a b =
+    → AreMarked marks (take put new)
+    → IsJoined target d new (record { below = k.place + 1; taken = taken; made = put; marks = marks })
+joined_next target d now new taken made put marks k n h t l c q a b m =
     let o = at_most_one k.place k.cell in
     record {
       inside = omega arith;
       taken = t;
       made = omega arith;
       joined = b ∙ ap₂ (λ y z. y ++ z) c (ap (kept_at k.place) q) ∙ sym (kept_more (number_in target) k.place);
+      marked = m;
     }

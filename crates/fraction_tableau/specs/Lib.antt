@@ -1,5 +1,6 @@
 pub mod Narrow
 pub mod KeptCells
+pub mod Marks
 pub mod Scales
 pub mod Refusals
 pub mod NamedTableaus

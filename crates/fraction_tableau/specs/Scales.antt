@@ -2,6 +2,7 @@
 use Rattle.std.specs.Prelude.{◌≡◌, ℕ, ℤ, pos, List, Option, Some, None, ◌*ℤ◌, ◌*◌, ◌/◌, ◌+◌, ◌<◌, ◌≤◌, ◌^◌, get_or, length, take, unsigned_abs}
 use Rattle.rational_theory.specs.Rational.{ℚ, whole, over}
 use Rattle.fraction_tableau.specs.KeptCells.{number_in, kept_below}
+use Rattle.fraction_tableau.specs.Marks.{AreMarked}
 use Rattle.fraction_tableau.specs.declared.kept.Kept.{Kept}
 use Rattle.fraction_tableau.specs.declared.merging.Merged.{Merged}
 use Rattle.fraction_tableau.specs.declared.scale.Scale.{Scale}
@@ -72,6 +73,7 @@ pub record IsJoined (target d : List ℚ) (cells : List Kept) (done : Merged) : 
   pub taken : done.taken ≡ length (kept_below (number_in d) done.below)
   pub made : done.made ≤ done.below
   pub joined : take done.made cells ≡ kept_below (number_in target) done.below
+  pub marked : AreMarked done.marks (take done.made cells)
 
 -- ---- turning
 -- the pivot

@@ -4,11 +4,13 @@ ghost use Rattle.std.specs.Prelude.{◌≡◌, ℕ, ◌+◌, ◌*◌, ◌/◌, �
 ghost use Rattle.rational_theory.specs.Rational.{whole, over, neg_ℚ, ◌+ℚ◌, ◌*ℚ◌};
 ghost use Rattle.simplex_theory.specs.Lines.{cleared};
 ghost use Rattle.fraction_tableau.specs.KeptCells.{number_in, kept_below};
+ghost use Rattle.fraction_tableau.specs.Marks.{AreMarked};
 ghost use Rattle.fraction_tableau.specs.Scales.{numerator, factor_of, IsOver, IsScaled, IsJoining, IsJoined};
 
 use crate::kept::{Kept, put};
 use crate::line::Line;
-use crate::merging::{Merged, keep_before, take_at};
+use crate::marks::with_mark;
+use crate::merging::{Merged, UNMERGED, keep_before, take_at};
 use crate::scale::{MOST, Rescaling, Scale, numerator_of};
 use narrow_fraction::{Quotient, word_divisor, word_quotient};
 
@@ -169,7 +171,7 @@ fn join_next(
     let others = turned.kept();
     let next = &others[index];
     let done = keep_before(cells, row, done, next.place, joining.rescaling);
-    let own = take_at(row, done.taken, next.place);
+    let own = take_at(row, done.taken, next.place, joining.row.denominator);
     let cell = joined(joining, &own.cell, next.place == joining.place, &next.cell);
     let made = put(
         cells,
@@ -183,11 +185,12 @@ fn join_next(
         below: next.place + 1,
         taken: own.taken,
         made,
+        marks: with_mark(done.marks, next.place),
     }
 }
 
-/// The cells of the row cleared by the turned row. The answer is how many there are.
-pub fn join(cells: &mut [Kept], row: &Line, turned: &Line, joining: &Joining) -> usize
+/// The cells of the row cleared by the turned row. The answer is the whole merge: how many there are, and their marks.
+pub fn join(cells: &mut [Kept], row: &Line, turned: &Line, joining: &Joining) -> Merged
     requires width { length row.now ≡ length cells.old + 1 }
     requires widths { length turned.now ≡ length row.now }
     requires short { length row.now < 2 ^ 32 }
@@ -197,17 +200,14 @@ pub fn join(cells: &mut [Kept], row: &Line, turned: &Line, joining: &Joining) ->
     requires joining { IsJoining joining.now }
     requires row { IsScaled joining.now.row row.now }
     requires turned { IsScaled joining.now.turned turned.now }
-    ensures count { result ≤ length cells.old }
-    ensures cells { take result cells.new ≡ kept_below (number_in (cleared joining.now.place turned.now row.now)) (length cells.old) }
+    ensures count { result.made ≤ length cells.old }
+    ensures marked { AreMarked result.marks (take result.made cells.new) }
+    ensures cells { take result.made cells.new ≡ kept_below (number_in (cleared joining.now.place turned.now row.now)) (length cells.old) }
 {
     let width = cells.len() as u32;
-    let mut done = Merged {
-        below: 0,
-        taken: 0,
-        made: 0,
-    };
+    let mut done = UNMERGED;
     for index in 0..turned.kept().len() {
         done = join_next(cells, row, turned, index, joining, done);
     }
-    keep_before(cells, row, done, width, joining.rescaling).made
+    keep_before(cells, row, done, width, joining.rescaling)
 }

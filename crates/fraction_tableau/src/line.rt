@@ -14,8 +14,9 @@ use crate::fractions::{Elimination, clear_row, turn_row};
 use crate::joining::{Joining, find_joining, join, joined};
 use crate::kept::Kept;
 use crate::loading::{fill_goal, fill_row};
-use crate::merging::{Merged, keep_before};
-use crate::narrowing::{divided_denominator, grown, held_over, hold_narrow};
+use crate::marks::{ALL_MARKED, is_marked, marks_of};
+use crate::merging::{UNMERGED, keep_before};
+use crate::narrowing::{divided_denominator, grown, held_over, held_where, hold_narrow, hold_where};
 use crate::scale::{AS_IT_IS, Scale, numerator_of};
 use crate::whole_turning::{Turning, turn_whole};
 use crate::wide_cell::WideCell;
@@ -33,6 +34,8 @@ pub struct Line {
     count: usize,
     bound: Quotient,
     scale: Option<Scale>,
+    /// A bit for each place with a cell, as `marks_of` gives it; more bits may be set.
+    marks: u64,
     /// Over which the numbers of a wide row may be held, 0 where that isn't known: a guess, which is tested.
     denominator: u64,
 }
@@ -42,12 +45,13 @@ impl Model for Line {
     ghost use Rattle.rational_theory.specs.Rational.{ℚ};
     ghost use Rattle.fraction_tableau.specs.KeptCells.{dense_row, IsLine};
     ghost use Rattle.fraction_tableau.specs.Scales.{HasScale};
+    ghost use Rattle.fraction_tableau.specs.Marks.{AreMarked};
 
     ghost Value = { List ℚ };
 
     ghost view = { λ a. dense_row (length a.cells.items) (take a.count a.cells.items) a.bound };
 
-    ghost invariant = { λ a. IsLine (length a.cells.items) a.count (take a.count a.cells.items) × HasScale a.scale (dense_row (length a.cells.items) (take a.count a.cells.items) a.bound) };
+    ghost invariant = { λ a. IsLine (length a.cells.items) a.count (take a.count a.cells.items) × (HasScale a.scale (dense_row (length a.cells.items) (take a.count a.cells.items) a.bound) × AreMarked a.marks (take a.count a.cells.items)) };
 }
 
 impl Line {
@@ -65,6 +69,7 @@ impl Line {
             count: 0,
             bound: Quotient::of_fraction(Frac::whole(0)),
             scale: None,
+            marks: 0,
             denominator: 0,
         })
     }
@@ -97,8 +102,9 @@ impl Line {
         self.held_bound().fraction()
     }
 
-    /// The cell at a place, as it is held.
-    pub fn held(&self, place: u32) -> Quotient
+    /// The cell at a place, as it is held, sought among the cells.
+    #[inline(never)]
+    fn find(&self, place: u32) -> Quotient
         requires { place + 1 < length self.now }
         ensures { result ≡ number_in self.now place }
     {
@@ -110,6 +116,18 @@ impl Line {
                     Quotient::of_fraction(Frac::whole(0))
                 };
             }
+        }
+        Quotient::of_fraction(Frac::whole(0))
+    }
+
+    /// The cell at a place, as it is held: at once where its bit is clear, as it is of most rows at a pivot.
+    #[inline(always)]
+    pub fn held(&self, place: u32) -> Quotient
+        requires { place + 1 < length self.now }
+        ensures { result ≡ number_in self.now place }
+    {
+        if is_marked(self.marks, place) {
+            return self.find(place);
         }
         Quotient::of_fraction(Frac::whole(0))
     }
@@ -144,6 +162,7 @@ impl Line {
         self.count = fill_row(&mut self.cells, from);
         self.bound = Quotient::of_fraction(from.get(Place::Bound).fitting());
         self.scale = None;
+        self.marks = ALL_MARKED;
         self.denominator = 0;
     }
 
@@ -156,6 +175,7 @@ impl Line {
     {
         self.fill(from);
         self.narrow();
+        self.mark();
     }
 
     /// Takes a row's negated coefficients, and the bound 0, as fractions.
@@ -168,6 +188,7 @@ impl Line {
         self.count = fill_goal(&mut self.cells, from);
         self.bound = Quotient::of_fraction(Frac::whole(0));
         self.scale = None;
+        self.marks = ALL_MARKED;
         self.denominator = 0;
     }
 
@@ -180,6 +201,7 @@ impl Line {
     {
         self.fill_goal(from);
         self.narrow();
+        self.mark();
     }
 
     /// The scale of this row with another bound, where it is narrow and stays so over its denominator.
@@ -199,16 +221,28 @@ impl Line {
         })
     }
 
+    /// A bound, held over the row's denominator where it has a numerator there: so it is divided once, and then measured without a
+    /// division.
+    fn bound_over(&self, bound: Frac) -> Quotient
+        ensures { result ≡ bound }
+    {
+        let bound = Quotient::of_fraction(bound);
+        match self.scale {
+            Some(scale) => held_where(&bound, scale.denominator),
+            None => bound,
+        }
+    }
+
     /// Takes another bound, over the row's denominator where that is possible, and else as a fraction.
     fn take_bound(&mut self, bound: Frac)
         requires narrow { IsNarrow self.old }
         ensures bound { self.new ≡ rebound bound self.old }
         ensures narrow { IsNarrow self.new }
     {
-        let bound = Quotient::of_fraction(bound.fitting());
+        let bound = self.bound_over(bound.fitting());
         match self.scale_with(&bound) {
             Some(scale) => {
-                self.bound = held_over(&bound, scale);
+                self.bound = bound;
                 self.scale = Some(scale);
             }
             None => {
@@ -236,14 +270,10 @@ impl Line {
         ensures { self.new ≡ row.now }
     {
         let width = self.cells.len() as u32;
-        let none = Merged {
-            below: 0,
-            taken: 0,
-            made: 0,
-        };
-        self.count = keep_before(&mut self.cells, row, none, width, AS_IT_IS).made;
+        self.count = keep_before(&mut self.cells, row, UNMERGED, width, AS_IT_IS).made;
         self.bound = row.bound.copied();
         self.scale = row.scale;
+        self.marks = row.marks;
         self.denominator = row.denominator;
     }
 
@@ -261,6 +291,24 @@ impl Line {
         }
     }
 
+    /// Marks the places of the cells, and no others. The row stays what it is.
+    fn mark(&mut self)
+        ensures { self.new ≡ self.old }
+    {
+        self.marks = marks_of(&self.cells, self.count);
+    }
+
+    /// Holds the numbers over a denominator where they have a numerator there, as those of a wide row: so they are divided once, and
+    /// then measured without a division. The row stays what it is.
+    fn hold(&mut self, denominator: u64)
+        ensures { self.new ≡ self.old }
+    {
+        hold_where(&mut self.cells, self.count, denominator);
+        self.bound = held_where(&self.bound, denominator);
+        self.scale = None;
+        self.denominator = denominator;
+    }
+
     /// Divides the numbers of a narrow row and its denominator by what they have in common. The row stays what it is.
     fn reduce(&mut self)
         ensures { self.new ≡ self.old }
@@ -273,8 +321,7 @@ impl Line {
                 scale.denominator,
             );
             if divided != scale.denominator {
-                self.denominator = divided;
-                self.scale = None;
+                self.hold(divided);
             }
         }
         self.narrow();
@@ -330,6 +377,7 @@ impl Line {
         self.count = made.count;
         self.bound = Quotient::of_fraction(made.bound);
         self.scale = None;
+        self.marks = ALL_MARKED;
         self.denominator = 0;
         made.outcome
     }
@@ -352,6 +400,7 @@ impl Line {
         self.count = turn_whole(&mut self.cells, row, &turning);
         self.bound = turning.turned(&row.bound, false);
         self.scale = Some(turning.scale());
+        self.marks = ALL_MARKED;
         self.denominator = 0;
         true
     }
@@ -388,6 +437,7 @@ impl Line {
     {
         let outcome = self.turn_either(row, number, place);
         self.reduce();
+        self.mark();
         outcome
     }
 
@@ -415,6 +465,7 @@ impl Line {
         self.count = made.count;
         self.bound = Quotient::of_fraction(made.bound);
         self.scale = None;
+        self.marks = ALL_MARKED;
         self.denominator = 0;
         made.outcome
     }
@@ -436,9 +487,11 @@ impl Line {
         let Some(joining) = row.joining(turned, place, factor) else {
             return false;
         };
-        self.count = join(&mut self.cells, row, turned, &joining);
+        let made = join(&mut self.cells, row, turned, &joining);
+        self.count = made.made;
         self.bound = joined(&joining, &row.bound, false, &turned.bound);
         self.scale = joining.scale();
+        self.marks = made.marks;
         self.denominator = joining.rescaling.to;
         true
     }
@@ -466,7 +519,9 @@ impl Line {
         if self.clear_narrow(row, turned, elimination.place, &elimination.factor) {
             return Ok(());
         }
-        self.clear_fractions(row, turned, elimination)
+        let outcome = self.clear_fractions(row, turned, elimination);
+        self.mark();
+        outcome
     }
 
     /// Becomes another row cleared: each number less the factor, the row's cell at the place, times the turned row's, and at

@@ -8,21 +8,33 @@ ghost use Rattle.narrow_fraction.specs.declared.wide.Op.TheVariants.{Mul, Sub};
 ghost use Rattle.fraction_tableau.specs.Narrow.{IsNarrow};
 ghost use Rattle.fraction_tableau.specs.Refusals.{refused, clear_at};
 ghost use Rattle.fraction_tableau.specs.KeptCells.{number_in, kept_below, merged_at, IsMerged};
+ghost use Rattle.fraction_tableau.specs.Marks.{AreMarked};
 ghost use Rattle.fraction_tableau.specs.Scales.{CanRescale};
 
 use crate::kept::{Kept, put};
 use crate::line::Line;
+use crate::marks::with_mark;
 use crate::scale::{AS_IT_IS, Rescaling};
 use crate::wide_cell::{Spot, WideCell};
 use narrow_fraction::{Frac, Quotient};
 
-/// How far a merge is: the places below `below` are done, which are `taken` cells of the row and `made` of the result.
+/// How far a merge is: the places below `below` are done, which are `taken` cells of the row and `made` of the result, with the
+/// marks of their places.
 #[derive(Clone, Copy)]
 pub struct Merged {
     pub below: u32,
     pub taken: usize,
     pub made: usize,
+    pub marks: u64,
 }
+
+/// The beginning of a merge: no place is done.
+pub const UNMERGED: Merged = Merged {
+    below: 0,
+    taken: 0,
+    made: 0,
+    marks: 0,
+};
 
 /// By what a row of that number is cleared: its new cell at the pivot's place, and the old one there.
 #[derive(Drop)]
@@ -49,10 +61,12 @@ pub fn keep_before(
     ensures below { result.below ≡ place }
     ensures taken { result.taken ≡ length (kept_below (number_in row.now) place) }
     ensures made { result.made ≤ place }
+    ensures marked { AreMarked done.marks (take done.made cells.old) → AreMarked result.marks (take result.made cells.new) }
     ensures cells { (h : ℕ → ℚ) → ((m : ℕ) → done.below ≤ m → m < place → h m ≡ number_in row.now m) → take done.made cells.old ≡ kept_below h done.below → take result.made cells.new ≡ kept_below h place }
 {
     let kept = row.kept();
     let mut made = done.made;
+    let mut marks = done.marks;
     for taken in done.taken..kept.len() {
         let next = &kept[taken];
         if next.place >= place {
@@ -60,18 +74,21 @@ pub fn keep_before(
                 below: place,
                 taken,
                 made,
+                marks,
             };
         }
         cells[made] = Kept {
             place: next.place,
             cell: rescaling.rescaled(&next.cell),
         };
+        marks = with_mark(marks, next.place);
         made += 1;
     }
     Merged {
         below: place,
         taken: kept.len(),
         made,
+        marks,
     }
 }
 
@@ -82,8 +99,10 @@ pub struct Taken {
     pub taken: usize,
 }
 
-/// The cell at a place before which `taken` cells stand.
-pub fn take_at(row: &Line, taken: usize, place: u32) -> Taken
+/// The cell at a place before which `taken` cells stand. Where none stands there, 0 is held over `denominator`, so that no
+/// division is needed for its numerator.
+pub fn take_at(row: &Line, taken: usize, place: u32, denominator: u64) -> Taken
+    requires above { 0 < denominator }
     requires place { place + 1 < length row.now }
     requires taken { taken ≡ length (kept_below (number_in row.now) place) }
     ensures cell { result.cell ≡ number_in row.now place }
@@ -100,7 +119,7 @@ pub fn take_at(row: &Line, taken: usize, place: u32) -> Taken
         }
     }
     Taken {
-        cell: Quotient::of_fraction(Frac::whole(0)),
+        cell: Quotient::of_words(0, denominator),
         taken,
     }
 }
@@ -164,7 +183,7 @@ fn merge_next(
     let others = turned.kept();
     let next = &others[index];
     let done = keep_before(cells, row, done, next.place, AS_IT_IS);
-    let own = take_at(row, done.taken, next.place);
+    let own = take_at(row, done.taken, next.place, 1);
     let cell = match cleared_cell(clearing, own.cell.fraction(), next) {
         Ok(cell) => cell,
         Err(wide) => return Err(wide),
@@ -181,6 +200,7 @@ fn merge_next(
         below: next.place + 1,
         taken: own.taken,
         made,
+        marks: done.marks,
     })
 }
 
@@ -205,11 +225,7 @@ pub fn merge(
     ensures fits { IfOk result (λ _. (m : ℕ) → m < length cells.old → FitsFrac (merged_at clearing.now.own.place clearing.now.own.cell turned.now row.now m)) }
 {
     let width = cells.len() as u32;
-    let mut done = Merged {
-        below: 0,
-        taken: 0,
-        made: 0,
-    };
+    let mut done = UNMERGED;
     for index in 0..turned.kept().len() {
         match merge_next(cells, row, turned, index, clearing, done) {
             Ok(next) => done = next,

@@ -103,11 +103,13 @@ fn least_scale(cells: &[Kept], count: usize, bound: &Quotient) -> Option<Scale>
     }
 }
 
-/// A number held over a denominator, where it has a numerator there; else as it is. The same number.
-fn held_where(number: &Quotient, denominator: u64) -> Quotient
-    requires { 0 < denominator }
+/// A number held over a denominator, where it has a numerator there; else as it is, as over 0. The same number.
+pub fn held_where(number: &Quotient, denominator: u64) -> Quotient
     ensures { result ≡ number.now }
 {
+    if denominator == 0 {
+        return number.copied();
+    }
     match number.numerator_over(denominator) {
         Some(numerator) => Quotient::of_words(numerator, denominator),
         None => number.copied(),
@@ -116,13 +118,10 @@ fn held_where(number: &Quotient, denominator: u64) -> Quotient
 
 /// The first `count` cells, each held over a denominator where it has a numerator there: the same numbers. So they are
 /// divided once, and then measured and read without a division.
-fn hold_where(cells: &mut [Kept], count: usize, denominator: u64)
+pub fn hold_where(cells: &mut [Kept], count: usize, denominator: u64)
     requires { count ≤ length cells.old }
     ensures { cells.new ≡ cells.old }
 {
-    if denominator == 0 {
-        return;
-    }
     for index in 0..count {
         cells[index].cell = held_where(&cells[index].cell, denominator);
     }

@@ -1,7 +1,8 @@
-use Rattle.std.proofs.Common.{length, ◌∙◌, ap, arith}
+use Rattle.std.proofs.Common.{length, refl, ◌∙◌, ap, arith}
 use Rattle.simplex_theory.specs.Lines.{cleared}
 use Rattle.fraction_tableau.specs.KeptCells.{number_in, kept_below}
 use Rattle.fraction_tableau.proofs.KeptCells.{same_count, same_width}
+use Rattle.fraction_tableau.proofs.Marking.{none_marked}
 use Rattle.fraction_tableau.proofs.Scales.{quiet_is}
 use Rattle.fraction_tableau.proofs.joining.join.Goals as goal
 
@@ -16,3 +17,12 @@ returns-clause-cells c =
     let u = c.loop-index.invariant.index in
     let z = same_count (number_in e) c.loop-index.done.below (length c.args.cells.now) (omega (arith, c.loop-index.auto.cells)) (omega arith) in
     c.keep_before.ensures.cells (number_in (cleared j.place e d)) (λ m a b. quiet_is j.place m e d c.requires.own (z m a (omega arith))) t.joined
+
+pub loop-index-init : goal.loop-index-init
+loop-index-init c = record {
+  joined = record { inside = omega arith; taken = refl; made = omega arith; joined = refl; marked = none_marked 0 };
+  index = refl;
+}
+
+pub returns-clause-marked : goal.returns-clause-marked
+returns-clause-marked c = c.keep_before.ensures.marked c.loop-index.invariant.joined.marked

@@ -1,5 +1,6 @@
-use Rattle.std.proofs.Common.{◌≡◌, length, ◌+◌, ◌≤◌, refl, sym, ◌∙◌, ap, subst, arith}
+use Rattle.std.proofs.Common.{◌≡◌, length, take, ◌+◌, ◌≤◌, refl, sym, ◌∙◌, ap, subst, arith}
 use Rattle.fraction_tableau.specs.Scales.{HasScale}
+use Rattle.fraction_tableau.specs.Marks.{AreMarked}
 use Rattle.std.proofs.lemmas.List.{with_items_is}
 use Rattle.fraction_tableau.specs.KeptCells.{number_in, kept_below}
 use Rattle.fraction_tableau.proofs.KeptCells.{open_row, line_new}
@@ -32,7 +33,8 @@ invariant_of-self c =
     let n : length c.row.inside.cells.items ≡ length i.cells.items = (let a = o.wide in omega (arith, e)) in
     let b = c.copied-self-inside.ensures ∙ o.bound ∙ ap (number_in c.args.row.now) n in
     let m = (line_new c.args.row.now _ c.keep_before.new.cells (length i.cells.items) c.keep_before.result.made (number_in c.args.row.now) _ same len e high k (λ m h. refl) b) in
-    (m.0, subst (HasScale c.row.inside.scale) (c.row.view_is ∙ sym m.1) c.row.invariant.1)
+    let cells = ap (λ t. take c.keep_before.result.made t) same ∙ k ∙ ap (kept_below (number_in c.args.row.now)) (sym n) ∙ sym o.kept in
+    (m.0, (subst (HasScale c.row.inside.scale) (c.row.view_is ∙ sym m.1) c.row.invariant.1.0, subst (AreMarked c.row.inside.marks) (sym cells) c.row.invariant.1.1))
 
 pub returns : goal.returns
 returns c =

@@ -7,6 +7,7 @@ use Rattle.fraction_tableau.specs.NamedTableaus.{row_cells}
 use Rattle.fraction_tableau.specs.KeptCells.{number_in, kept_below}
 use Rattle.fraction_tableau.specs.declared.kept.Kept.{Kept}
 use Rattle.fraction_tableau.proofs.KeptCells.{open_row, IsFilled, filled}
+use Rattle.fraction_tableau.proofs.Marking.{all_marked}
 use Rattle.fraction_tableau.proofs.line.Line.fill.Goals as goal
 use Rattle.fraction_tableau.proofs.line.Line.fill.Goals.{After-of_fraction-self-inside}
 
@@ -38,7 +39,7 @@ made c items same =
 
 pub invariant_of-self : goal.invariant_of-self
 invariant_of-self c =
-    ((made (goal.at.invariant_of-self c).After-of_fraction-self-inside _ (with_items_is c.self.inside.cells _ (written (goal.at.invariant_of-self c).After-of_fraction-self-inside ∙ sym c.self.inside.cells.ok.0))).line, tt)
+    ((made (goal.at.invariant_of-self c).After-of_fraction-self-inside _ (with_items_is c.self.inside.cells _ (written (goal.at.invariant_of-self c).After-of_fraction-self-inside ∙ sym c.self.inside.cells.ok.0))).line, (tt, all_marked _))
 
 pub returns-clause-cells : goal.returns-clause-cells
 returns-clause-cells c =

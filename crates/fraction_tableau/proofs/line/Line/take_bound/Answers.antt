@@ -1,4 +1,4 @@
-use Rattle.std.proofs.Common.{sym, ◌∙◌, subst, arith}
+use Rattle.std.proofs.Common.{refl, sym, ◌∙◌, subst, arith}
 use Rattle.narrow_fraction.specs.Fraction.{FitsFrac}
 use Rattle.fraction_tableau.specs.Narrow.{IsNarrow}
 use Rattle.fraction_tableau.specs.Scales.{IsScaled}
@@ -8,12 +8,12 @@ use Rattle.fraction_tableau.proofs.line.Line.take_bound.Goals as goal
 
 pub invariant_of-self : goal.invariant_of-self
 invariant_of-self c =
-    let v = bound_taken _ _ _ c.self.inside.bound _ _ c.self.view_is (c.held_over-self-inside.ensures) in
-    (c.self.invariant.0, subst (IsScaled c.in-Some.scale) (sym v) c.in-Some.ensures.row)
+    let v = bound_taken _ _ _ c.self.inside.bound _ _ c.self.view_is refl in
+    (c.self.invariant.0, (subst (IsScaled c.in-Some.scale) (sym v) c.in-Some.ensures.row, c.self.invariant.1.1))
 
 pub returns-in-Some-clause-bound : goal.returns-in-Some-clause-bound
 returns-in-Some-clause-bound c =
-    bound_taken _ _ _ c.self.inside.bound _ _ c.self.view_is (c.held_over-self-inside.ensures ∙ c.of_fraction-bound.ensures ∙ c.fitting.ensures.same)
+    bound_taken _ _ _ c.self.inside.bound _ _ c.self.view_is (c.bound_over-bound.ensures ∙ c.fitting.ensures.same)
 
 pub returns-in-Some-clause-narrow : goal.returns-in-Some-clause-narrow
 returns-in-Some-clause-narrow c =
@@ -22,7 +22,7 @@ returns-in-Some-clause-narrow c =
 
 pub returns-in-None-clause-bound : goal.returns-in-None-clause-bound
 returns-in-None-clause-bound c =
-    bound_taken _ _ _ c.self.inside.bound _ _ c.self.view_is (c.of_fraction-bound.ensures ∙ c.fitting.ensures.same)
+    bound_taken _ _ _ c.self.inside.bound _ _ c.self.view_is (c.bound_over-bound.ensures ∙ c.fitting.ensures.same)
 
 pub returns-in-None-clause-narrow : goal.returns-in-None-clause-narrow
 returns-in-None-clause-narrow c =

@@ -11,6 +11,7 @@ use Rattle.fraction_tableau.proofs.Making.{over_fits}
 use Rattle.fraction_tableau.proofs.Merges.{turned_last}
 use Rattle.fraction_tableau.proofs.Turns.{turned_scaled, scale_turned, size_above}
 use Rattle.fraction_tableau.proofs.Small.{scaled_small, turn_free}
+use Rattle.fraction_tableau.proofs.Marking.{all_marked}
 use Rattle.fraction_tableau.proofs.line.Line.turn_narrow.Goals as goal
 use Rattle.fraction_tableau.proofs.line.Line.turn_narrow.Goals.{After-deref_mut, After-turn_whole-self-inside, After-turned-self-inside}
 
@@ -68,7 +69,7 @@ invariant_of-self c =
     let at = goal.at.invariant_of-self c in
     let len = written at.After-turn_whole-self-inside in
     let m = made at.After-turned-self-inside _ (wide at.After-deref_mut) len (with_items_is c.self.inside.cells c.turn_whole-self-inside.new.cells (len ∙ sym c.self.inside.cells.ok.0)) in
-    (m.0, subst (IsScaled c.scale.result) (sym m.1) (scale_turned c.in-Some.turning c.scale.result _ c.in-Some.ensures.turning c.scale.ensures.denominator c.scale.ensures.most (scaled at.After-deref_mut)))
+    (m.0, (subst (IsScaled c.scale.result) (sym m.1) (scale_turned c.in-Some.turning c.scale.result _ c.in-Some.ensures.turning c.scale.ensures.denominator c.scale.ensures.most (scaled at.After-deref_mut)), all_marked _))
 
 pub returns-clause-passed : goal.returns-clause-passed
 returns-clause-passed c =

@@ -13,7 +13,7 @@ pub returns-clause-turning : goal.returns-clause-turning
 returns-clause-turning c =
     let s = c.in-Some.row in
     let x = number_in c.args.self.now c.args.place in
-    let g : HasScale c.self.inside.scale c.args.self.now = subst (HasScale c.self.inside.scale) c.self.view_is c.self.invariant.1 in
+    let g : HasScale c.self.inside.scale c.args.self.now = subst (HasScale c.self.inside.scale) c.self.view_is c.self.invariant.1.0 in
     let h : IsScaled s c.args.self.now = subst (λ (t : Option Scale). HasScale t c.args.self.now) c.in-Some.is g in
     let o = h.numbers c.args.place in
     let n = numerator s.denominator x in

@@ -2,11 +2,12 @@ use Rattle.std.proofs.Common.{◌≡◌, pos, length, replicate, ◌+◌, refl, 
 use Rattle.std.proofs.lemmas.List.{length-replicate, get_or-replicate}
 use Rattle.rational_theory.specs.Rational.{whole}
 use Rattle.fraction_tableau.proofs.KeptCells.{zeros_skip, line_made, row_is}
+use Rattle.fraction_tableau.proofs.Marking.{none_marked}
 use Rattle.fraction_tableau.proofs.line.Line.zero.Goals as goal
 
 pub invariant_of-result : goal.invariant_of-result
 invariant_of-result c =
-    (line_made (length c.in_ok-cells.cells.items) 0 (λ _. whole (pos 0)) _ (omega arith) (sym (zeros_skip (λ _. whole (pos 0)) 0 (length c.in_ok-cells.cells.items) (omega arith) (λ m a b. refl))), tt)
+    (line_made (length c.in_ok-cells.cells.items) 0 (λ _. whole (pos 0)) _ (omega arith) (sym (zeros_skip (λ _. whole (pos 0)) 0 (length c.in_ok-cells.cells.items) (omega arith) (λ m a b. refl))), (tt, none_marked 0))
 
 pub returns : goal.returns
 returns c =

@@ -1,0 +1,57 @@
+-- Lemmas on marks.
+use Rattle.std.proofs.Common.{◌≡◌, ◌==◌, ℕ, zero, suc, pos, false, List, [], ◌∷◌, ◌++◌, length, get_or, set, take, eqb, ◌+◌, ◌/◌, ◌^◌, ◌<◌, ◌%◌, ◌⊎◌, inl, inr, refl, sym, ◌∙◌, ap, subst, arith}
+use Rattle.std.specs.Int.{bit_at}
+use Rattle.std.proofs.lemmas.Nat.Bits.{bit_at_ones, shr_and_one}
+use Rattle.std.specs.Int.Bits.{bit_and}
+use Rattle.std.proofs.lemmas.List.{take_more, take_more_set}
+use Rattle.std.proofs.lemmas.Bool.{cond-false, ne_eqb, cases_eq}
+use Rattle.rational_theory.specs.Rational.{ℚ, whole}
+use Rattle.fraction_tableau.specs.declared.kept.Kept.{Kept}
+use Rattle.fraction_tableau.specs.KeptCells.{number_in, kept_at, cell_in, dense_row}
+use Rattle.fraction_tableau.specs.Marks.{AreMarked}
+use Rattle.fraction_tableau.proofs.KeptCells.{clash, in_left, kept_apart, dense_cell}
+
+pub all_marked : (cells : List Kept) → AreMarked 18446744073709551615 cells
+all_marked cells = record { empty = λ k z. absurd (let a : bit_at 18446744073709551615 (k % 64) ≡ 1 = bit_at_ones 64 (k % 64) (omega arith) in omega (arith, a, z)) }
+
+pub none_marked : (marks : ℕ) → AreMarked marks []
+none_marked marks = record { empty = λ _ _. refl }
+
+small : (x : ℕ) → x % 2 < 2
+small x = omega arith
+
+bit_zero : (b : ℕ) → b < 2 → (b == 1) ≡ false → b ≡ 0
+bit_zero zero h e = refl
+bit_zero (suc zero) h e = absurd (clash refl e)
+bit_zero (suc (suc b)) h e = absurd (omega arith)
+
+pub bit_clear : (n i : ℕ) → (bit_and (n / 2 ^ i) 1 == 1) ≡ false → bit_at n i ≡ 0
+bit_clear n i e = bit_zero (bit_at n i) (small (n / 2 ^ i)) (sym (ap (λ x. x == 1) (shr_and_one n i)) ∙ e)
+
+-- cells behind others, all at one place, with its mark
+module _ (marks new place : ℕ) (xs : List Kept) where
+  marked_with : (ys : List Kept) → ((k : ℕ) → (k ≡ place → ⊥) → cell_in ys k ≡ whole (pos 0)) → AreMarked marks xs → bit_at new (place % 64) ≡ 1 → ((k : ℕ) → (k ≡ place % 64 → ⊥) → bit_at new k ≡ bit_at marks k) → AreMarked new (xs ++ ys)
+  marked_with ys apart m s o = record { empty = λ k z. pick k z (cases_eq (k % 64) (place % 64)) }
+    where
+      pick : (k : ℕ) → bit_at new (k % 64) ≡ 0 → (k % 64 ≡ place % 64) ⊎ (k % 64 ≡ place % 64 → ⊥) → cell_in (xs ++ ys) k ≡ whole (pos 0)
+      pick k z (inl e) = absurd (let a = ap (bit_at new) e in omega (arith, a, z, s))
+      pick k z (inr n) = in_left k xs ys (apart k (λ e. n (ap (λ x. x % 64) e))) ∙ m.empty k (sym (o (k % 64) n) ∙ z)
+
+  pub marked_kept : (x : ℚ) → AreMarked marks xs → bit_at new (place % 64) ≡ 1 → ((k : ℕ) → (k ≡ place % 64 → ⊥) → bit_at new k ≡ bit_at marks k) → AreMarked new (xs ++ kept_at place x)
+  marked_kept x = marked_with (kept_at place x) (λ k n. kept_apart k place x n)
+
+alone : (k : ℕ) (c : Kept) → (k ≡ c.place → ⊥) → cell_in (c ∷ []) k ≡ whole (pos 0)
+alone k c n = cond-false (eqb k c.place) c.cell (whole (pos 0)) (ne_eqb k c.place n)
+
+-- one cell more of a list, with its mark
+pub marked_next : (marks new i : ℕ) (cells : List Kept) (c : Kept) → i < length cells → c ≡ get_or cells i c → AreMarked marks (take i cells) → bit_at new (c.place % 64) ≡ 1 → ((k : ℕ) → (k ≡ c.place % 64 → ⊥) → bit_at new k ≡ bit_at marks k) → AreMarked new (take (i + 1) cells)
+marked_next marks new i cells c l g m s o =
+    subst (AreMarked new) (sym (take_more cells i c l ∙ ap (λ x. take i cells ++ x ∷ []) (sym g))) (marked_with marks new c.place (take i cells) (c ∷ []) (λ k n. alone k c n) m s o)
+
+pub marked_put : (marks new made : ℕ) (cells : List Kept) (c : Kept) → made < length cells → AreMarked marks (take made cells) → bit_at new (c.place % 64) ≡ 1 → ((k : ℕ) → (k ≡ c.place % 64 → ⊥) → bit_at new k ≡ bit_at marks k) → AreMarked new (take (made + 1) (set cells made c))
+marked_put marks new made cells c l m s o =
+    subst (AreMarked new) (sym (take_more_set cells made c l)) (marked_with marks new c.place (take made cells) (c ∷ []) (λ k n. alone k c n) m s o)
+
+-- a place whose bit is clear has no cell
+pub unmarked : (w : ℕ) (cells : List Kept) (b : ℚ) (row : List ℚ) (marks k : ℕ) → AreMarked marks cells → dense_row w cells b ≡ row → k < w → bit_at marks (k % 64) ≡ 0 → whole (pos 0) ≡ number_in row k
+unmarked w cells b row marks k m e h z = sym (m.empty k z) ∙ sym (dense_cell w cells b k h) ∙ ap (λ t. number_in t k) e

@@ -1,0 +1,39 @@
+//! Marks of the places of a row's cells, in one word: of most places without a cell, one test says so.
+
+ghost use Rattle.std.specs.Prelude.{◌≡◌, ℕ, ◌≤◌, ◌%◌, false, length, take};
+ghost use Rattle.std.specs.Int.{bit_at};
+ghost use Rattle.fraction_tableau.specs.Marks.{AreMarked};
+
+use crate::kept::Kept;
+
+/// The mark of any cells: no bit is clear.
+pub const ALL_MARKED: u64 = u64::MAX;
+
+/// Marks and the mark of one more place: the bit of its rest by 64.
+#[inline(always)]
+pub fn with_mark(marks: u64, place: u32) -> u64
+    ensures set { bit_at result (place % 64) ≡ 1 }
+    ensures others { (i : ℕ) → (i ≡ place % 64 → ⊥) → bit_at result i ≡ bit_at marks i }
+{
+    marks | 1 << (place % 64)
+}
+
+/// The marks of the places of the first `count` cells.
+pub fn marks_of(cells: &[Kept], count: usize) -> u64
+    requires { count ≤ length cells.now }
+    ensures { AreMarked result (take count cells.now) }
+{
+    let mut marks = 0;
+    for index in 0..count {
+        marks = with_mark(marks, cells[index].place);
+    }
+    marks
+}
+
+/// Whether the bit of a place is set. Where it isn't, there is no cell.
+#[inline(always)]
+pub fn is_marked(marks: u64, place: u32) -> bool
+    ensures { result ≡ false → bit_at marks (place % 64) ≡ 0 }
+{
+    (marks >> (place % 64)) & 1 == 1
+}
