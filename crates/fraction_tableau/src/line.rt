@@ -16,7 +16,9 @@ use crate::kept::Kept;
 use crate::loading::{fill_goal, fill_row};
 use crate::marks::{ALL_MARKED, is_marked, marks_of};
 use crate::merging::{UNMERGED, keep_before};
-use crate::narrowing::{divided_denominator, grown, held_over, held_where, hold_narrow, hold_where};
+use crate::narrowing::{
+    divided_denominator, grown, held_over, held_where, hold_narrow, hold_where,
+};
 use crate::scale::{AS_IT_IS, Scale, numerator_of};
 use crate::whole_turning::{Turning, turn_whole};
 use crate::wide_cell::WideCell;

@@ -29,10 +29,11 @@ pub loop-taken-preserved : goal.loop-taken-preserved
 loop-taken-preserved c =
     let k = c.index-kept-taken.result in
     let f = number_in c.args.row.now in
-    let room = keeping_room _ _ _ _ _ _ _ _ (length c.args.row.now - 1) c.kept-kept.result.now k c.loop-taken.invariant.0 (omega arith) (omega arith) c.kept-kept.ensures c.index-kept-taken.is (omega arith) (omega arith) in
-    (subst (λ (x : ℚ). Keeping f c.args.done.below c.args.place c.args.done.made c.args.cells.now (set c.loop-taken.cells c.loop-taken.made (record { place = k.place; cell = x })) (c.loop-taken.taken + 1) (c.loop-taken.made + 1)) (sym c.rescaled.ensures)
-    (keeping_next _ _ _ _ _ _ _ _ (length c.args.row.now - 1) c.kept-kept.result.now k c.loop-taken.invariant.0 (omega arith) (omega arith) c.kept-kept.ensures c.index-kept-taken.is (omega arith) (omega arith)),
-    λ m. marked_put _ _ _ _ (record { place = k.place; cell = c.rescaled.result }) room (c.loop-taken.invariant.1 m) c.with_mark-marks.ensures.set c.with_mark-marks.ensures.others)
+    let room = keeping_room _ _ _ _ _ _ _ _ (length c.args.row.now - 1) c.kept-kept.result.now k c.loop-taken.invariant.0 (omega arith) (omega arith) c.kept-kept.ensures c.index-kept-taken.is (omega arith) (omega arith) in (
+      subst (λ (x : ℚ). Keeping f c.args.done.below c.args.place c.args.done.made c.args.cells.now (set c.loop-taken.cells c.loop-taken.made (record { place = k.place; cell = x })) (c.loop-taken.taken + 1) (c.loop-taken.made + 1)) (sym c.rescaled.ensures)
+          (keeping_next _ _ _ _ _ _ _ _ (length c.args.row.now - 1) c.kept-kept.result.now k c.loop-taken.invariant.0 (omega arith) (omega arith) c.kept-kept.ensures c.index-kept-taken.is (omega arith) (omega arith)),
+      λ m. marked_put _ _ _ _ (record { place = k.place; cell = c.rescaled.result }) room (c.loop-taken.invariant.1 m) c.with_mark-marks.ensures.set c.with_mark-marks.ensures.others,
+    )
 
 pub returns-clause-taken : goal.returns-clause-taken
 returns-clause-taken c =

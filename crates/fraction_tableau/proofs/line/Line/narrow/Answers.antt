@@ -18,7 +18,9 @@ invariant_of-self c =
     let cells = subst (λ (t : List Kept). (k : ℕ) → k < i.count → IsOver s.denominator s.most (cell_at t k)) c.deref_mut.ensures.value f.cells in
     let made = scale_made s (length i.cells.items) i.count i.cells.items i.bound f.above f.least f.short f.bound cells in (
       subst (λ (t : List Kept). IsLine (length t) i.count (take i.count t)) (sym same) c.self.invariant.0,
-      (subst (λ (t : List Kept). IsScaled s (dense_row (length t) (take i.count t) c.held_over-self-inside.result)) (sym same)
-          (subst (λ (b : ℚ). IsScaled s (dense_row (length i.cells.items) (take i.count i.cells.items) b)) (sym c.held_over-self-inside.ensures) made),
-      subst (λ (t : List Kept). AreMarked i.marks (take i.count t)) (sym same) c.self.invariant.1.1),
+      (
+        subst (λ (t : List Kept). IsScaled s (dense_row (length t) (take i.count t) c.held_over-self-inside.result)) (sym same)
+            (subst (λ (b : ℚ). IsScaled s (dense_row (length i.cells.items) (take i.count i.cells.items) b)) (sym c.held_over-self-inside.ensures) made),
+        subst (λ (t : List Kept). AreMarked i.marks (take i.count t)) (sym same) c.self.invariant.1.1,
+      ),
     )
