@@ -5,11 +5,11 @@ ghost use Rattle.simplex_theory.specs.Tableau.{height, width};
 ghost use Rattle.entry_theory.specs.Entry as rule;
 
 use fraction_tableau::Tableau;
-use narrow_fraction::Frac;
+use narrow_fraction::Quotient;
 
 /// Whether a number is 0.
-fn is_zero(number: Frac) -> bool
-    ensures { result ≡ rule.is_zero number }
+fn is_zero(number: &Quotient) -> bool
+    ensures { result ≡ rule.is_zero number.now }
 {
     number.is_zero()
 }
@@ -23,7 +23,7 @@ fn can_take(tableau: &Tableau, basis: &[u32], column: u32, row: u32) -> bool
 {
     tableau.known_named();
     let slack = tableau.width() + row;
-    tableau.basic(row) == slack && (!is_zero(tableau.cell(row, column)) && !basis.contains(&slack))
+    tableau.basic(row) == slack && (!is_zero(&tableau.held(row, column)) && !basis.contains(&slack))
 }
 
 /// The least row that can take the column; the number after the last row where none can.

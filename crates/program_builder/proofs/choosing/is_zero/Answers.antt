@@ -12,5 +12,5 @@ same_test false false f g = refl
 
 pub returns : goal.returns
 returns c =
-    let says = eq_says c.args.number (whole (pos 0)) (is_zero c.args.number) refl in
+    let says = eq_says c.args.number.now (whole (pos 0)) (is_zero c.args.number.now) refl in
     same_test _ _ (λ t. says.1 (c.is_zero.ensures.0 t)) (λ t. c.is_zero.ensures.1 (says.0 t))
