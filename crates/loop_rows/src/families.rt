@@ -196,7 +196,10 @@ impl Family for ArteryFamily {
                     let next = next_of(artery, index);
                     let cells = [
                         (frequency, limits.most.neg()),
-                        (run_column(artery, dir, index), one_over(artery, dir, index).neg()),
+                        (
+                            run_column(artery, dir, index),
+                            one_over(artery, dir, index).neg(),
+                        ),
                         (run_column(artery, dir, next), one_over(artery, dir, next)),
                     ];
                     fill_cells(&cells, bound, into);
@@ -208,7 +211,10 @@ impl Family for ArteryFamily {
                     let cells = [
                         (frequency, limits.least),
                         (run_column(artery, dir, index), one_over(artery, dir, index)),
-                        (run_column(artery, dir, next), one_over(artery, dir, next).neg()),
+                        (
+                            run_column(artery, dir, next),
+                            one_over(artery, dir, next).neg(),
+                        ),
                     ];
                     fill_cells(&cells, bound, into);
                 }

@@ -31,10 +31,10 @@ mod rows;
 mod source;
 mod sums;
 
+pub use cells::fill_cells;
 pub use columns::{
     band_column, column_count, frequency_column, run_column, shift_column, wait_column,
 };
-pub use cells::fill_cells;
 pub use families::ArteryFamily;
 pub use family::{Family, Problem, Progression};
 pub use fault::SumFault;
