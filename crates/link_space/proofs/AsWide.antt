@@ -36,18 +36,7 @@ later u v w x e = omega (arith, ints, e)
 -- ---- another line and another band on the same offsets
 -- the first lines so much later, with bands of these widths
 abbrev moved : Plan → ℤ → ℤ → ℕ → ℕ → Plan
-moved t x y b c = record {
-  grid = t.grid;
-  unit = t.unit;
-  patterns = t.patterns;
-  reds = t.reds;
-  run_out = t.run_out;
-  run_in = t.run_in;
-  first_out = t.first_out +ℤ x;
-  first_in = t.first_in +ℤ y;
-  band_out = b;
-  band_in = c;
-}
+moved t x y b c = record t { first_out = t.first_out +ℤ x; first_in = t.first_in +ℤ y; band_out = b; band_in = c }
 
 module _ (a : Street) (t : Plan) (x y : ℤ) (b c : ℕ) where
   abbrev there : Plan

@@ -5,6 +5,7 @@ pub mod FirstLinkFailing
 pub mod FinerLinks
 pub mod LinksAsWide
 pub mod LinkSheets
+pub mod LinkFamilies
 pub mod LinkRowTests
 pub mod LinkWeights
 pub mod laws

@@ -8,9 +8,9 @@ ghost use Rattle.artery_model.specs.Bounds.{most_numerator, most_denominator};
 ghost use Rattle.link_theory.specs.LinkColumns.{link_width, half_place};
 ghost use Rattle.link_space.specs.LinkSheets.{with_run, link_goal_sheet};
 
-use crate::columns::half;
+use crate::columns::half_column;
 use artery_model::{Artery, Dir};
-use named_row::Row;
+use named_row::{Place, Row};
 use narrow_fraction::Frac;
 
 /// Twice a numerator.
@@ -40,7 +40,7 @@ fn fill_halves(artery: &Artery, dir: Dir, value: Frac, into: &mut Row)
     ensures width { length into.new.coefs ≡ link_width (count artery.now) }
 {
     for link in 1..artery.count() {
-        into.set(half(artery, dir, link), value);
+        into.set(Place::Cell(half_column(artery, dir, link)), value);
     }
 }
 

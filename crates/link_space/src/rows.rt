@@ -13,8 +13,7 @@ ghost use Rattle.link_theory.proofs.LinkFamilies.{link_family_most, link_index_m
 ghost use Rattle.link_space.specs.LinkSheets.{wide_sheet, link_sheet, IsFilledLinks};
 ghost use Rattle.link_space.specs.LinkWeights.{rows_of_links};
 
-use crate::bands::{FarRow, NearRow};
-use crate::ratios::LinkRatioRow;
+use crate::families::LinkFamily;
 use artery_model::{Artery, Dir};
 use link_theory::End;
 use loop_rows::{RowTable, column_count, fill_by, fill_row, has_by, has_row, next_in};
@@ -30,15 +29,15 @@ macro_rules! with_link_family {
     ($number:expr, $line:expr, $call:ident($($given:expr),*), $none:expr) => {
         match $number {
             3 | 4 | 5 | 6 | 7 | 8 | 9 | 10 | 11 | 12 | 14 | 15 | 16 | 17 => $line,
-            22 => $call(&NearRow { dir: Dir::Outbound, end: End::Here }, $($given),*),
-            23 => $call(&NearRow { dir: Dir::Outbound, end: End::Next }, $($given),*),
-            24 => $call(&FarRow { dir: Dir::Outbound, end: End::Here }, $($given),*),
-            25 => $call(&FarRow { dir: Dir::Outbound, end: End::Next }, $($given),*),
-            26 => $call(&NearRow { dir: Dir::Inbound, end: End::Here }, $($given),*),
-            27 => $call(&NearRow { dir: Dir::Inbound, end: End::Next }, $($given),*),
-            28 => $call(&FarRow { dir: Dir::Inbound, end: End::Here }, $($given),*),
-            29 => $call(&FarRow { dir: Dir::Inbound, end: End::Next }, $($given),*),
-            30 => $call(&LinkRatioRow, $($given),*),
+            22 => $call(&LinkFamily::NearRow(Dir::Outbound, End::Here), $($given),*),
+            23 => $call(&LinkFamily::NearRow(Dir::Outbound, End::Next), $($given),*),
+            24 => $call(&LinkFamily::FarRow(Dir::Outbound, End::Here), $($given),*),
+            25 => $call(&LinkFamily::FarRow(Dir::Outbound, End::Next), $($given),*),
+            26 => $call(&LinkFamily::NearRow(Dir::Inbound, End::Here), $($given),*),
+            27 => $call(&LinkFamily::NearRow(Dir::Inbound, End::Next), $($given),*),
+            28 => $call(&LinkFamily::FarRow(Dir::Inbound, End::Here), $($given),*),
+            29 => $call(&LinkFamily::FarRow(Dir::Inbound, End::Next), $($given),*),
+            30 => $call(&LinkFamily::LinkRatioRow, $($given),*),
             _ => $none,
         }
     };

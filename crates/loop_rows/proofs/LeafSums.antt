@@ -97,13 +97,13 @@ pub record IsAddedBy (rows : Source) (Has : RowId → Type 0) (sum : Sheet) (w :
 
 -- ---- widths and numbers
 -- two rows of one width
-add_width : (xs ys : List ℚ) → length ys ≡ length xs → length (add xs ys) ≡ length xs
+pub add_width : (xs ys : List ℚ) → length ys ≡ length xs → length (add xs ys) ≡ length xs
 add_width [] [] e = refl
 add_width [] (y ∷ ys) e = absurd (omega arith)
 add_width (x ∷ xs) [] e = refl
 add_width (x ∷ xs) (y ∷ ys) e = ap suc (add_width xs ys (omega arith))
 
-scale_width : (k : ℚ) (xs : List ℚ) → length (scale k xs) ≡ length xs
+pub scale_width : (k : ℚ) (xs : List ℚ) → length (scale k xs) ≡ length xs
 scale_width k [] = refl
 scale_width k (x ∷ xs) = ap suc (scale_width k xs)
 

@@ -6,55 +6,41 @@
 //! memory, and no row is refused. `leaf_sum` adds up the rows that a leaf names. A `Family` comes with the proof that every
 //! point meets its rows that counts for its `Problem`; `Progression` is the problem of the timings of one artery. Which rows
 //! there are, and what they say, is defined in `linear_theory` (`specs/Rows.antt`, `specs/Names.antt`); `laws` says over
-//! those definitions alone what they promise. Each family has one name, here and there, and a new one is a type of this
-//! crate with an arm of `with_family`.
+//! those definitions alone what they promise. The families are those of `ArteryFamily`, each by one name, here and there; a new one
+//! is a variant with its line in each table of `families.rt` and an arm of `with_family`.
 //!
-//! For the rows of another linear program: families of another `Problem`, filled by `fill_by`; a `RowTable`, whose rows `next_in`
-//! names in their order; a `RowSource`, whose rows `sum_of` adds up. Those of an artery are the instances `Progression`,
-//! `ArteryTable` and `BoxRows`.
+//! For the rows of another linear program: families of another `Problem`, whose rows `fill_cells` makes and `fill_by` asks for; a
+//! `RowTable`, whose rows `next_in` names in their order; a `RowSource`, whose rows `sum_of` adds up. Those of an artery are the
+//! instances `Progression`, `ArteryTable` and `BoxRows`.
 //!
 //! `fill_row` clears the row first and makes it exactly, unspent; it is false, and the row stays as it was, exactly where the
 //! artery has no such row. `block_sum` adds its twelve terms in order or names the first operation past 128 bits, and `leaf_sum`
 //! names the first row that can't be added. In `rows.rt` it is said once which number is which family.
 #![tactic(auto)]
 
-mod bands;
-mod changes;
+mod cells;
 mod columns;
-mod cycles;
-mod equal;
+mod families;
 mod family;
 mod fault;
 mod following;
 pub mod laws;
-mod least;
 mod leaves;
-mod loops;
 mod numbers;
 mod rows;
-mod runs;
 mod source;
 mod sums;
-mod turns;
-mod waits;
 
-pub use bands::RatioRow;
-pub use changes::{DropRow, RiseRow};
+pub use cells::fill_cells;
 pub use columns::{
     band_column, column_count, frequency_column, run_column, shift_column, wait_column,
 };
-pub use cycles::{CycleHighRow, CycleLowRow};
-pub use equal::{EqualHighRow, EqualLowRow};
+pub use families::ArteryFamily;
 pub use family::{Family, Problem, Progression};
 pub use fault::SumFault;
 pub use following::{RowTable, next_in};
-pub use least::LeastRow;
 pub use leaves::{leaf_sum, sum_of};
-pub use loops::{LoopHighRow, LoopLowRow};
 pub use numbers::green;
 pub use rows::{ArteryTable, box_bound, fill_by, fill_goal, fill_row, has_by, has_row, next_row};
-pub use runs::{FastRow, SlowRow};
 pub use source::{BoxRows, RowSource};
 pub use sums::block_sum;
-pub use turns::{TurnHighRow, TurnLowRow};
-pub use waits::WaitRow;

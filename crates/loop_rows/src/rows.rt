@@ -12,20 +12,13 @@ ghost use Rattle.linear_theory.proofs.Families.{family_most, index_most};
 ghost use Rattle.loop_rows.specs.Meeting.{IsFilled, IsFilledBy};
 ghost use Rattle.loop_rows.specs.Following.{rows_of_artery, IsNextRow};
 
-use crate::bands::RatioRow;
-use crate::changes::{DropRow, RiseRow};
-use crate::columns::band;
-use crate::cycles::{CycleHighRow, CycleLowRow};
-use crate::equal::{EqualHighRow, EqualLowRow};
+use crate::cells::fill_cells;
+use crate::columns::band_column;
+use crate::families::ArteryFamily;
 use crate::family::Family;
 use crate::following::{RowTable, next_in};
-use crate::least::LeastRow;
-use crate::loops::{LoopHighRow, LoopLowRow};
-use crate::runs::{FastRow, SlowRow};
-use crate::turns::{TurnHighRow, TurnLowRow};
-use crate::waits::WaitRow;
 use artery_model::{Artery, Dir};
-use named_row::{Place, Row, RowId};
+use named_row::{Row, RowId};
 use narrow_fraction::Frac;
 use search_box::SearchBox;
 
@@ -37,27 +30,27 @@ const LAST_FAMILY: u8 = 21;
 macro_rules! with_family {
     ($number:expr, $call:ident($($given:expr),*), $none:expr) => {
         match $number {
-            1 => $call(&WaitRow { dir: Dir::Outbound }, $($given),*),
-            2 => $call(&WaitRow { dir: Dir::Inbound }, $($given),*),
-            3 => $call(&FastRow { dir: Dir::Outbound }, $($given),*),
-            4 => $call(&FastRow { dir: Dir::Inbound }, $($given),*),
-            5 => $call(&SlowRow { dir: Dir::Outbound }, $($given),*),
-            6 => $call(&SlowRow { dir: Dir::Inbound }, $($given),*),
-            7 => $call(&RiseRow { dir: Dir::Outbound }, $($given),*),
-            8 => $call(&RiseRow { dir: Dir::Inbound }, $($given),*),
-            9 => $call(&DropRow { dir: Dir::Outbound }, $($given),*),
-            10 => $call(&DropRow { dir: Dir::Inbound }, $($given),*),
-            11 => $call(&CycleLowRow, $($given),*),
-            12 => $call(&CycleHighRow, $($given),*),
-            13 => $call(&RatioRow, $($given),*),
-            14 => $call(&LoopLowRow, $($given),*),
-            15 => $call(&LoopHighRow, $($given),*),
-            16 => $call(&TurnLowRow, $($given),*),
-            17 => $call(&TurnHighRow, $($given),*),
-            18 => $call(&LeastRow { dir: Dir::Outbound }, $($given),*),
-            19 => $call(&LeastRow { dir: Dir::Inbound }, $($given),*),
-            20 => $call(&EqualLowRow, $($given),*),
-            21 => $call(&EqualHighRow, $($given),*),
+            1 => $call(&ArteryFamily::WaitRow(Dir::Outbound), $($given),*),
+            2 => $call(&ArteryFamily::WaitRow(Dir::Inbound), $($given),*),
+            3 => $call(&ArteryFamily::FastRow(Dir::Outbound), $($given),*),
+            4 => $call(&ArteryFamily::FastRow(Dir::Inbound), $($given),*),
+            5 => $call(&ArteryFamily::SlowRow(Dir::Outbound), $($given),*),
+            6 => $call(&ArteryFamily::SlowRow(Dir::Inbound), $($given),*),
+            7 => $call(&ArteryFamily::RiseRow(Dir::Outbound), $($given),*),
+            8 => $call(&ArteryFamily::RiseRow(Dir::Inbound), $($given),*),
+            9 => $call(&ArteryFamily::DropRow(Dir::Outbound), $($given),*),
+            10 => $call(&ArteryFamily::DropRow(Dir::Inbound), $($given),*),
+            11 => $call(&ArteryFamily::CycleLowRow, $($given),*),
+            12 => $call(&ArteryFamily::CycleHighRow, $($given),*),
+            13 => $call(&ArteryFamily::RatioRow, $($given),*),
+            14 => $call(&ArteryFamily::LoopLowRow, $($given),*),
+            15 => $call(&ArteryFamily::LoopHighRow, $($given),*),
+            16 => $call(&ArteryFamily::TurnLowRow, $($given),*),
+            17 => $call(&ArteryFamily::TurnHighRow, $($given),*),
+            18 => $call(&ArteryFamily::LeastRow(Dir::Outbound), $($given),*),
+            19 => $call(&ArteryFamily::LeastRow(Dir::Inbound), $($given),*),
+            20 => $call(&ArteryFamily::EqualLowRow, $($given),*),
+            21 => $call(&ArteryFamily::EqualHighRow, $($given),*),
             _ => $none,
         }
     };
@@ -111,10 +104,10 @@ pub fn box_bound(artery: &Artery, area: &SearchBox, row: RowId) -> Option<Frac>
     ensures same { result ≡ None → (other : Area) → form_of artery.now other (name_of row.family row.index) ≡ form_of artery.now area.now (name_of row.family row.index) }
 {
     match row.family {
-        14 => Some(LoopLowRow.bound(artery, area, row.index)),
-        15 => Some(LoopHighRow.bound(artery, area, row.index)),
-        16 => Some(TurnLowRow.bound(artery, area, row.index)),
-        17 => Some(TurnHighRow.bound(artery, area, row.index)),
+        14 => Some(ArteryFamily::LoopLowRow.bound(artery, area, row.index)),
+        15 => Some(ArteryFamily::LoopHighRow.bound(artery, area, row.index)),
+        16 => Some(ArteryFamily::TurnLowRow.bound(artery, area, row.index)),
+        17 => Some(ArteryFamily::TurnHighRow.bound(artery, area, row.index)),
         _ => None,
     }
 }
@@ -126,10 +119,11 @@ pub fn fill_goal(artery: &Artery, into: &mut Row)
     ensures unspent { into.new.spent ≡ false }
     ensures width { length into.new.coefs ≡ width (count artery.now) }
 {
-    into.clear();
-    into.set(band(artery, Dir::Outbound), Frac::whole(1));
-    into.set(band(artery, Dir::Inbound), artery.ratio());
-    into.set(Place::Bound, Frac::whole(0));
+    let cells = [
+        (band_column(artery, Dir::Outbound), Frac::whole(1)),
+        (band_column(artery, Dir::Inbound), artery.ratio()),
+    ];
+    fill_cells(&cells, Frac::whole(0), into);
 }
 
 /// Whether the artery has the row of this index of a family.
