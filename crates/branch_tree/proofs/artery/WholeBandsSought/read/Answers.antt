@@ -3,7 +3,7 @@ use Rattle.offset_recovery.specs.Recovered.{recovered}
 use Rattle.offset_recovery.specs.Answers.{IsOutcome}
 use Rattle.branch_tree.specs.ArteryProgram.{outcome_of}
 use Rattle.branch_tree.proofs.ArteryEnds.{end_vertex}
-use Rattle.branch_tree.proofs.artery.RelaxedBoxProgram.read.Goals as goal
+use Rattle.branch_tree.proofs.artery.WholeBandsSought.read.Goals as goal
 
 pub recover-requires-clause-vertex : goal.recover-requires-clause-vertex
 recover-requires-clause-vertex c =

@@ -8,7 +8,7 @@ use Rattle.loop_rows.specs.Weights.{named, leaf_fault, IsFirstFault}
 use Rattle.loop_rows.proofs.LeafSums.{total_bound}
 use Rattle.branch_tree.proofs.LeafFaults.{only_wide}
 use Rattle.branch_tree.specs.laws.EndLaws.{end_rows}
-use Rattle.branch_tree.proofs.artery.RelaxedBoxProgram.sum.Goals as goal
+use Rattle.branch_tree.proofs.artery.WholeBandsSought.sum.Goals as goal
 
 pub unreachable-requires : goal.unreachable-requires
 unreachable-requires c =

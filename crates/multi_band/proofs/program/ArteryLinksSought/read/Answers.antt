@@ -3,7 +3,7 @@ use Rattle.offset_recovery.specs.Answers.{IsOutcome}
 use Rattle.branch_tree.specs.ArteryProgram.{outcome_of}
 use Rattle.multi_band.specs.LinkRecovered.{link_recovered}
 use Rattle.multi_band.proofs.LinkLeafProofs.{link_vertex_there}
-use Rattle.multi_band.proofs.program.RelaxedLinksBoxProgram.read.Goals as goal
+use Rattle.multi_band.proofs.program.ArteryLinksSought.read.Goals as goal
 
 pub recover_links-requires-clause-vertex : goal.recover_links-requires-clause-vertex
 recover_links-requires-clause-vertex c =

@@ -3,7 +3,7 @@ use Rattle.linear_theory.specs.Boxes.{root_box}
 use Rattle.multi_band.specs.LinkStarts.{link_start_bound}
 use Rattle.multi_band.specs.LinkRelaxed.{IsLinkLeaf}
 use Rattle.multi_band.proofs.LinkLeafProofs.{start_links_prove}
-use Rattle.multi_band.proofs.relaxed.RelaxedLinksRelaxation.start_leaf.Goals as goal
+use Rattle.multi_band.proofs.program.ArteryLinksSought.start_leaf.Goals as goal
 
 pub returns-clause-covers : goal.returns-clause-covers
 returns-clause-covers c =

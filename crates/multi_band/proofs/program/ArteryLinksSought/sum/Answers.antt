@@ -10,7 +10,7 @@ use Rattle.multi_band.proofs.LinkEnds.{link_sum_read}
 use Rattle.multi_band.specs.laws.LinkLeaves.{link_total_bound}
 use Rattle.multi_band.proofs.LinkLeaves.{link_rows_there}
 use Rattle.multi_band.specs.laws.LinkLines.{link_end_weights}
-use Rattle.multi_band.proofs.program.RelaxedLinksBoxProgram.sum.Goals as goal
+use Rattle.multi_band.proofs.program.ArteryLinksSought.sum.Goals as goal
 
 pub unreachable-requires : goal.unreachable-requires
 unreachable-requires c =
