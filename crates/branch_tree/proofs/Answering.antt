@@ -1,22 +1,17 @@
--- What the engine's answer tells of a search, as an artery's: its timing, its tree and its site.
+-- What the engine's answer tells of a search, of any rules: its timing, its tree and its site.
 use Rattle.std.proofs.Common.{◌≡◌, ℕ, zero, suc, ◌⊎◌, inl, inr, List, [], ◌∷◌, map, take, All, Option, Some, None, IfSome, refl, sym, ap, subst}
 use Rattle.std.specs.List.{slice_get}
 use Rattle.std.proofs.lemmas.List.Elements.{All-nil, All-cons, All-map}
 use Rattle.rational_theory.specs.Rational.{ℚ}
-use Rattle.progression.specs.Street.{Street}
-use Rattle.progression.specs.Plan.{Plan}
-use Rattle.progression.specs.Good.{Good}
-use Rattle.progression.specs.Best.{weighted_band}
-use Rattle.artery_model.specs.Valid.{IsValid}
-use Rattle.linear_theory.specs.Boxes.{Area, IsBoxOf, root_box}
+use Rattle.linear_theory.specs.Boxes.{Area}
 use Rattle.search_box.specs.declared.span.At.{At}
 use Rattle.search_box.specs.declared.span.At.TheVariants.{Loop, Turn}
 use Rattle.search_box.specs.Places.{IsPlace}
 use Rattle.named_row.specs.declared.leaves.Leaf.{Leaf}
 use Rattle.branch_and_bound.specs.Lines.{BoxLine, top_line, low_line, high_line, owed, Fills, line_after}
 use Rattle.branch_and_bound.proofs.Walks.{Fills-both}
-use Rattle.plan_text.specs.Families.{Table, ordinary}
-use Rattle.plan_text.specs.Warrants.{IsNodeIn, IsNode, SplitAt, LeafOf}
+use Rattle.plan_text.specs.Families.{Table}
+use Rattle.plan_text.specs.Warrants.{IsNodeIn, SplitAt, LeafOf}
 use Rattle.branch_and_bound.specs.Lineages.{at_top, at_low, at_high}
 use Rattle.branch_and_bound.specs.Rules.{Rules, IsMet}
 use Rattle.branch_and_bound.specs.declared.incumbent.Incumbent.{Incumbent}
@@ -28,20 +23,9 @@ use Rattle.branch_and_bound.specs.declared.found.Found as engine
 use Rattle.branch_and_bound.specs.declared.found.Verdict.{Verdict}
 use Rattle.branch_and_bound.specs.declared.found.Verdict.TheVariants.{Best, NoTiming, Stopped}
 use Rattle.branch_and_bound.specs.Answer.{IsAnswer, IsFound, timing_of, cut_of, lines_of, line_at, IsAcceptedNode, IsNeededNode, IsStart, IsNeededStop, StopCase, RootLeft, RootUnread, BeforeLow, InLow, BeforeHigh, InHigh, Spot, IsSpot, HasSpot, IsSite, IsWideStop}
-use Rattle.branch_tree.specs.declared.site.SitePart.{SitePart}
-use Rattle.branch_tree.specs.ArteryProgram.{program_of}
-use Rattle.branch_tree.specs.Ends.{end_leaf}
-use Rattle.branch_tree.specs.Lineage.{IsSearchable}
-use Rattle.branch_tree.specs.laws.Lineage.{boxed}
-use Rattle.branch_tree.specs.ArteryRules.{rules_of}
-use Rattle.branch_tree.specs.Relaxed.{IsStartLeaf, IsTiming}
 use Rattle.branch_tree.specs.Trees.{node_of}
-use Rattle.branch_tree.specs.Searches.{incumbent_of, IsSearch}
-use Rattle.branch_tree.specs.Told.{Found, valued, TellsOf, Tells, IsTimed, IsCertifiable}
-use Rattle.branch_tree.specs.SiteNames.{IsSiteOf, EndsAt, HasSite}
-use Rattle.branch_tree.proofs.KeptLeaves.{end_kept, start_kept}
-use Rattle.branch_tree.proofs.Certificates.{certified, proven_trees}
-use Rattle.branch_tree.proofs.NamedSites.{part_named}
+use Rattle.branch_tree.specs.Told.{valued, TellsOf, IsTimed}
+use Rattle.branch_tree.specs.SiteNames.{EndsAt}
 
 -- ---- the timing
 some_value : {T : Type 0} (x y : Incumbent T) → Some x ≡ Some y → x.value ≡ y.value
@@ -90,21 +74,6 @@ timed value (Some t) bound Best h = refl
 timed value timing bound NoTiming h = h
 timed value timing bound (Stopped stop) h = tt
 
--- of an artery's
-own_value : (a : Street) (plan : Plan) (v : ℚ) → IsTiming a plan v → weighted_band a plan ≡ v
-own_value a plan v h = h.1
-
-pub answer_known : (a : Street) (limit : Option ℕ) (found : Found) → IsFound (rules_of a) limit found → IsSearch a limit found
-answer_known a limit found h = found_valued (rules_of a) (weighted_band a) (own_value a) limit found h
-
-module _ (a : Street) (limit : Option ℕ) (nodes : List TreeNode) (bound : ℚ) (spent : ℕ) where
-  pub plan_good : (timing : Option Plan) (verdict : Verdict SitePart) → IsAnswer (rules_of a) limit nodes (incumbent_of a timing) bound spent verdict → IfSome timing (λ plan. Good a plan)
-  plan_good None verdict h = tt
-  plan_good (Some plan) verdict h = (timing_good (rules_of a) (weighted_band a) (own_value a) limit nodes bound spent (Some plan) verdict h).0
-
-  pub told : (timing : Option Plan) (verdict : Verdict SitePart) → IsAnswer (rules_of a) limit nodes (incumbent_of a timing) bound spent verdict → Tells a timing bound verdict
-  told timing verdict h = tells (rules_of a) (weighted_band a) (own_value a) limit nodes bound spent timing verdict h
-
 -- ---- the tree
 -- of any rules whose ends and whose start have leaves that a certificate keeps, by the names of a table
 module _ {T K W : Type 0} (r : Rules T K W) (table : Table) (ends : (line : BoxLine) (leaf : Leaf) → r.IsLeaf line leaf → IsNodeIn table (LeafOf leaf.multipliers.items))
@@ -150,20 +119,6 @@ module _ {T K W : Type 0} (r : Rules T K W) (table : Table) (ends : (line : BoxL
       pick (inl s) = start_tree nodes best bound s
       pick (inr t) = tree_kept (Some bound) best nodes h.accepted t
 
--- of an artery's
-leaf_kept : (a : Street) → IsValid a → (line : BoxLine) (leaf : Leaf) → leaf.multipliers.items ≡ end_leaf (program_of a) line → IsNode (LeafOf leaf.multipliers.items)
-leaf_kept a v line leaf e = subst (λ us. IsNode (LeafOf us)) (sym e) (end_kept a v line)
-
-first_kept : (a : Street) → IsValid a → (leaf : Leaf) → IsStartLeaf a leaf → IsNode (LeafOf leaf.multipliers.items)
-first_kept a v leaf e = subst (λ us. IsNode (LeafOf us)) (sym e) (start_kept a v)
-
-pub certifiable : (a : Street) → IsValid a → (limit : Option ℕ) (found : Found) → IsSearch a limit found → IsCertifiable found
-certifiable a v limit found h = record {
-  timing = timed (weighted_band a) found.timing found.bound found.verdict (told a limit found.nodes.items found.bound found.spent found.timing found.verdict h);
-  tree = proven_trees _ (root_box a ∷ []) (map node_of found.nodes.items) (certified a found.nodes.items limit found.bound found.spent found.timing found.verdict h).tree;
-  nodes = answer_kept (rules_of a) ordinary (leaf_kept a v) (first_kept a v) limit found.nodes.items found.bound found.spent (incumbent_of a found.timing) found.verdict h;
-}
-
 -- ---- the site
 -- of any rules: what is true of each site on a line that a search can meet
 module _ {T K W : Type 0} (r : Rules T K W) (sound : r.IsSound) (Named : Site W → Type 0) (site_on : (line : BoxLine) (k : ℕ) (site : Site W) → IsMet r line → IsSite r line k site → Named site) where
@@ -207,15 +162,3 @@ module _ {T K W : Type 0} (r : Rules T K W) (sound : r.IsSound) (Named : Site W 
   sited_by limit nodes bound spent best NoTiming h = tt
   sited_by limit nodes bound spent best (Stopped (Work units)) h = tt
   sited_by limit nodes bound spent best (Stopped (Wide site)) h = site_by nodes best bound site h.case h.spot h.needed h.cause
-
--- of an artery's
-module _ (a : Street) (sound : IsSearchable a) where
-  site_of : (line : BoxLine) (k : ℕ) (site : Site SitePart) → IsMet (rules_of a) line → IsSite (rules_of a) line k site → IsSiteOf a site
-  site_of line k site m h = record {
-    boxed = subst (IsBoxOf a) (sym h.area_is) (boxed a line m);
-    part = part_named a line sound.valid k site.part h.part_is.refused;
-  }
-
-  pub sited : (limit : Option ℕ) (nodes : List TreeNode) (bound : ℚ) (spent : ℕ) (best : Option (Incumbent Plan)) (verdict : Verdict SitePart)
-      → IsAnswer (rules_of a) limit nodes best bound spent verdict → HasSite a verdict
-  sited = sited_by (rules_of a) sound (IsSiteOf a) site_of

@@ -1,33 +1,26 @@
 -- The certificate of an answer: what it keeps, and that it is accepted where a search gave the answer.
-use Rattle.std.proofs.Common.{◌≡◌, ℕ, List, [], ◌∷◌, length, map, Option, Some, None, option_map, refl, sym, subst}
+use Rattle.std.proofs.Common.{◌≡◌, ℕ, List, [], ◌∷◌, length, map, Option, Some, None, option_map, refl, sym, ◌∙◌, subst}
 use Rattle.rational_theory.specs.Rational.{ℚ}
-use Rattle.progression.specs.Street.{Street}
-use Rattle.progression.specs.Plan.{Plan}
-use Rattle.progression.specs.Good.{Good}
-use Rattle.progression.specs.Best.{weighted_band}
-use Rattle.linear_theory.specs.Boxes.{Area, root_box}
+use Rattle.linear_theory.specs.Boxes.{Area}
 use Rattle.search_box.specs.Places.{low_part, high_part}
+use Rattle.plan_text.specs.Families.{Table}
 use Rattle.plan_text.specs.declared.certificate.Claim.{Claim}
-use Rattle.plan_text.specs.Warrants.{Node, SplitAt, LeafOf, AreTrees}
+use Rattle.plan_text.specs.Warrants.{Node, SplitAt, LeafOf, WarrantWith, AreTrees, HasTiming, IsCertificateIn}
 use Rattle.named_row.specs.declared.leaves.Weight.{Weight}
 use Rattle.certificate_checker.specs.TreeProofs.{ProveAll}
 use Rattle.certificate_checker.specs.Accepted as accepted
-use Rattle.certificate_checker.specs.Accepted.{limit_of, IsTimedBy, IsBoundAbove, AreProofs, IsAccepted}
+use Rattle.certificate_checker.specs.Accepted.{limit_of, IsTimedBy, IsBoundAbove}
 use Rattle.branch_and_bound.specs.Rules.{Rules}
 use Rattle.branch_and_bound.specs.Answer as engine
 use Rattle.branch_and_bound.specs.declared.incumbent.Incumbent.{Incumbent}
 use Rattle.branch_and_bound.specs.declared.node.TreeNode.{TreeNode}
+use Rattle.branch_and_bound.specs.declared.found.Found.{Found}
 use Rattle.branch_and_bound.specs.declared.found.Verdict.{Verdict}
 use Rattle.branch_and_bound.specs.declared.found.Verdict.TheVariants.{Best, NoTiming, Stopped}
 use Rattle.branch_and_bound.specs.Answer.{IsAnswer}
-use Rattle.branch_tree.specs.declared.site.SitePart.{SitePart}
-use Rattle.branch_tree.specs.Told.{Found}
-use Rattle.branch_tree.specs.ArteryRules.{rules_of}
-use Rattle.branch_tree.specs.Told.{valued}
+use Rattle.branch_tree.specs.Certified.{claim_by, warrant_by}
+use Rattle.branch_tree.specs.Told.{valued, IsTimed, IsCertifiableIn}
 use Rattle.branch_tree.specs.Trees.{node_of}
-use Rattle.branch_tree.proofs.TreeProofs.{accepted_proofs}
-use Rattle.branch_tree.specs.Searches.{incumbent_of, IsSearch}
-use Rattle.branch_tree.specs.Certified.{value_of, claim_by}
 
 -- nodes that prove for some boxes are as many whole trees
 pub proven_trees : (P : Area → List Weight → Type 0) (boxes : List Area) (nodes : List Node) → ProveAll P boxes nodes → AreTrees (length boxes) nodes
@@ -46,13 +39,13 @@ module _ {T : Type 0} where
   some_timing x y e = cc
 
 -- ---- of any rules whose good timings are good so and worth so much, and whose trees are proofs
-module _ {T K : Type 0} (r : Rules T K SitePart) (Good : T → Type 0) (worth : T → ℚ) (good : (t : T) (v : ℚ) → r.IsGood t v → Good t × (worth t ≡ v))
+module _ {T K W : Type 0} (r : Rules T K W) (Good : T → Type 0) (worth : T → ℚ) (good : (t : T) (v : ℚ) → r.IsGood t v → Good t × (worth t ≡ v))
     (Proofs : Option ℚ → List Node → Type 0) (proofs : (claim : Option ℚ) (nodes : List TreeNode) → engine.IsAccepted r claim nodes → Proofs claim (map node_of nodes)) where
   -- a claim with its timing and its nodes is accepted
   abbrev IsCertified : Claim → Option T → List Node → Type 0
   IsCertified claim timing nodes = IsTimedBy Good worth timing (accepted.value_of claim) × IsBoundAbove claim × Proofs (limit_of claim) nodes
 
-  pub certified_by : (nodes : List TreeNode) (limit : Option ℕ) (bound : ℚ) (spent : ℕ) (timing : Option T) (verdict : Verdict SitePart)
+  pub certified_by : (nodes : List TreeNode) (limit : Option ℕ) (bound : ℚ) (spent : ℕ) (timing : Option T) (verdict : Verdict W)
       → IsAnswer r limit nodes (valued worth timing) bound spent verdict → IsCertified (claim_by verdict bound (option_map worth timing)) timing (map node_of nodes)
   certified_by nodes limit bound spent None Best h = absurd (let e = h.best_is in cc)
   certified_by nodes limit bound spent (Some t) Best h =
@@ -65,16 +58,23 @@ module _ {T K : Type 0} (r : Rules T K SitePart) (Good : T → Type 0) (worth : 
   certified_by nodes limit bound spent None (Stopped stop) h = (tt, tt, proofs (Some bound) nodes h.accepted)
   certified_by nodes limit bound spent (Some t) (Stopped stop) h = (((good t (worth t) h.good.0).0, refl), h.good.1, proofs (Some bound) nodes h.accepted)
 
--- ---- of an artery's
-pub certified : (a : Street) (nodes : List TreeNode) (limit : Option ℕ) (bound : ℚ) (spent : ℕ) (timing : Option Plan) (verdict : Verdict SitePart)
-    → IsAnswer (rules_of a) limit nodes (incumbent_of a timing) bound spent verdict
-    → IsAccepted a (record { claim = claim_by verdict bound (value_of a timing); timing = timing; nodes = map node_of nodes })
-certified a nodes limit bound spent timing verdict h =
-    let c = certified_by (rules_of a) (Good a) (weighted_band a) (λ t v g. g) (λ claim ns. AreProofs a claim (root_box a ∷ []) ns) (accepted_proofs a) nodes limit bound spent timing verdict h in
-    record { timing = c.0; bound = c.1; tree = c.2 }
+-- ---- what is made of an answer's parts
+-- a timing stands exactly where the claim has a value
+has_timing : {T W : Type 0} (worth : T → ℚ) (timing : Option T) (verdict : Verdict W) (bound : ℚ) → IsTimed timing verdict → HasTiming (claim_by verdict bound (option_map worth timing)) timing
+has_timing worth None Best bound h = tt
+has_timing worth (Some t) Best bound h = tt
+has_timing worth None NoTiming bound h = tt
+has_timing worth (Some t) NoTiming bound h = absurd (let e = h in cc)
+has_timing worth None (Stopped stop) bound h = tt
+has_timing worth (Some t) (Stopped stop) bound h = tt
 
--- what is made of an answer's parts
-pub accepted_made : (a : Street) (found : Found) (limit : Option ℕ) (claim : Claim) (timing : Option Plan) (nodes : List Node)
-    → claim ≡ claim_by found.verdict found.bound (value_of a found.timing) → timing ≡ found.timing → nodes ≡ map node_of found.nodes.items
-    → IsSearch a limit found → IsAccepted a (record { claim = claim; timing = timing; nodes = nodes })
-accepted_made a found limit claim timing nodes e f g h = rw (e, f, g) (certified a found.nodes.items limit found.bound found.spent found.timing found.verdict h)
+module _ {T W : Type 0} (worth : T → ℚ) (found : Found T W) (value : Option ℚ) (claim : Claim) (timing : Option T) (nodes : List TreeNode) (made : List Node)
+    (e : value ≡ option_map worth found.timing) (f : claim ≡ claim_by found.verdict found.bound value) (g : timing ≡ found.timing) (h : made ≡ map node_of nodes) (i : nodes ≡ found.nodes.items) where
+  parts_are : record { claim = claim; timing = timing; nodes = made } ≡ warrant_by worth found
+  parts_are = rw (f, e, g, h, i) refl
+
+  pub certificate_is : (warrant : WarrantWith T) → warrant ≡ record { claim = claim; timing = timing; nodes = made } → warrant ≡ warrant_by worth found
+  certificate_is warrant w = w ∙ parts_are
+
+  pub certificate_parts : (names : Table) → IsCertifiableIn names found → IsCertificateIn names (record { claim = claim; timing = timing; nodes = made })
+  certificate_parts names c = subst (λ (w : WarrantWith T). IsCertificateIn names w) (sym parts_are) (record { timing = has_timing worth found.timing found.verdict found.bound c.timing; tree = c.tree; nodes = c.nodes })

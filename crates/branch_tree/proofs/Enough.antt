@@ -29,7 +29,3 @@ within r sets short s enough limit nodes best bound spent NoTiming h = tt
 within r sets short s enough limit nodes best bound spent (Stopped (Work units)) h =
     too_low (enough_for r.root sets) limit spent h.cause.1 (enough s limit nodes best bound spent units sets h short)
 within r sets short s enough limit nodes best bound spent (Stopped (Wide site)) h = tt
-
-pub within_enough : (a : Street) → IsSearchable a → IsEnough (rules_of a) → (limit : Option ℕ) (nodes : List TreeNode) (best : Option (Incumbent Plan)) (bound : ℚ) (spent : ℕ) (verdict : Verdict SitePart)
-    → IsAnswer (rules_of a) limit nodes best bound spent verdict → IsWithinEnough a limit verdict
-within_enough a s enough limit nodes best bound spent verdict h = within (rules_of a) (sets_of a) (boxes_short a) s enough limit nodes best bound spent verdict h

@@ -14,10 +14,11 @@ pub mod Reading
 pub mod Opens
 pub mod TreeProofs
 pub mod Certificates
-mod Solved
 pub mod KeptLeaves
 pub mod NamedCells
 pub mod NamedSites
 pub mod Answering
+pub mod Telling
+pub mod WholeTimings
 mod ArteryEnds
 pub mod GivenTimings

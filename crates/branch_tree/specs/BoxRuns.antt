@@ -1,18 +1,15 @@
 -- What opening a line's box answers, by its run.
-use Rattle.std.specs.Prelude.{◌≡◌, ℕ, List, Some, None, length}
-use Rattle.progression.specs.Street.{Street, count}
-use Rattle.linear_theory.specs.Places.{width}
+use Rattle.std.specs.Prelude.{◌≡◌, ℕ, List, Some, None}
 use Rattle.linear_theory.specs.Boxes.{Area}
 use Rattle.fraction_tableau.specs.NamedTableaus.{NamedTableau}
-use Rattle.program_builder.specs.Building.{IsMadeFor, IsLoadedFor}
-use Rattle.program_builder.specs.Remembering.{IsMemoryOf}
 use Rattle.loop_rows.specs.declared.fault.SumFault.TheVariants as fault
 use Rattle.named_row.specs.declared.leaves.Leaf.{Leaf}
 use Rattle.named_row.specs.declared.leaves.Point.{Point}
 use Rattle.named_row.specs.declared.leaves.Weight.{Weight}
 use Rattle.rational_theory.specs.Rational.{ℚ}
 use Rattle.search_box.specs.declared.span.At.{At}
-use Rattle.simplex_theory.specs.Tableau.{Tableau}
+use Rattle.simplex_theory.specs.Tableau.{Tableau, goal_bound}
+use Rattle.dual_leaf.specs.Leaves.{goal_multipliers}
 use Rattle.simplex_theory.specs.DualSteps.{IsPlaced}
 use Rattle.program_builder.specs.RowTable.{RowTable}
 use Rattle.branch_and_bound.specs.Lines.{BoxLine}
@@ -24,10 +21,8 @@ use Rattle.branch_and_bound.specs.OpenedNodes.{OpensEmpty, OpensTimed, OpensCut,
 use Rattle.branch_tree.specs.declared.site.SitePart.{SitePart}
 use Rattle.branch_tree.specs.declared.program.Read.{Read}
 use Rattle.branch_tree.specs.declared.program.Read.TheVariants as reading
-use Rattle.branch_tree.specs.declared.relaxed.Room.{Room}
 use Rattle.branch_tree.specs.declared.program.Summed.{Summed}
 use Rattle.branch_tree.specs.declared.program.Summed.TheVariants as summed
-use Rattle.branch_tree.specs.Lineage.{IsSearchable}
 use Rattle.branch_tree.specs.Program.{Program, Outcome, Refused, Splits, Gives}
 use Rattle.branch_tree.specs.Ends.{leaf_row}
 
@@ -35,19 +30,17 @@ use Rattle.branch_tree.specs.Ends.{leaf_row}
 abbrev pub table_of : {T W : Type 0} → Program T W → RowTable
 table_of p = record { columns = p.columns; names = p.names; row = p.row; goal = p.goal }
 
--- the tableau and the memory were made for the artery, the rows of one of its boxes are loaded, and the spare row has its width
-pub record IsRoomFor (a : Street) (room : Room) : Type 0 where
-  pub sound : IsSearchable a
-  pub made : IsMadeFor a room.tableau
-  pub loaded : IsLoadedFor a room.loaded
-  pub row : length room.row.coefs ≡ width (count a)
-  pub memory : IsMemoryOf a room.memory
-
 -- ---- the sum of a leaf
 -- its bound, where no operation of it is refused, or the first one that is
 abbrev pub IsSummed : {T W : Type 0} → Program T W → Area → List Weight → Summed → Type 0
 IsSummed p box ws (summed.Bound bound) = (p.leaf_fault box ws ≡ None) × (bound ≡ (leaf_row p box ws).bound)
 IsSummed p box ws (summed.Wide row at) = p.leaf_fault box ws ≡ Some (fault.Wide row at)
+
+-- the leaf and the bound of an optimal end's goal row, where no operation of the leaf's sum is refused
+pub record IsCovering {T W : Type 0} (p : Program T W) (box : Area) (tableau : NamedTableau) (leaf : Leaf) (bound : ℚ) : Type 0 where
+  pub leaf_is : leaf.multipliers.items ≡ goal_multipliers tableau
+  pub fits : p.leaf_fault box leaf.multipliers.items ≡ None
+  pub bound_is : bound ≡ goal_bound tableau.table
 
 -- ---- what is answered
 -- what is read off a vertex, as an outcome

@@ -1,15 +1,17 @@
 -- The certificate of what a search found: its claim, its timing and its tree, without the vertices.
-use Rattle.std.specs.Prelude.{map, option_map, Option, Some, None}
+use Rattle.std.specs.Prelude.{map, option_map, List, Option, Some, None}
 use Rattle.rational_theory.specs.Rational.{ℚ}
 use Rattle.progression.specs.Street.{Street}
 use Rattle.progression.specs.Plan.{Plan}
 use Rattle.progression.specs.Best.{weighted_band}
-use Rattle.plan_text.specs.Warrants.{Warrant}
+use Rattle.plan_text.specs.Warrants as warrants
+use Rattle.plan_text.specs.Warrants.{Warrant, WarrantWith}
+use Rattle.plan_text.specs.declared.certificate.CertNode.{CertNode}
 use Rattle.plan_text.specs.declared.certificate.Claim.{Claim}
 use Rattle.plan_text.specs.declared.certificate.Claim.TheVariants as claim
+use Rattle.branch_and_bound.specs.declared.found.Found as engine
 use Rattle.branch_and_bound.specs.declared.found.Verdict.{Verdict}
 use Rattle.branch_and_bound.specs.declared.found.Verdict.TheVariants.{Best, NoTiming, Stopped}
-use Rattle.branch_tree.specs.declared.site.SitePart.{SitePart}
 use Rattle.branch_tree.specs.Told.{Found}
 use Rattle.branch_tree.specs.Trees.{node_of}
 
@@ -21,14 +23,24 @@ abbrev pub best_claim : Option ℚ → Claim
 best_claim None = claim.NoTiming
 best_claim (Some value) = claim.Best value
 
-abbrev pub claim_by : Verdict SitePart → ℚ → Option ℚ → Claim
+abbrev pub claim_by : {W : Type 0} → Verdict W → ℚ → Option ℚ → Claim
 claim_by Best bound value = best_claim value
 claim_by NoTiming bound value = claim.NoTiming
 claim_by (Stopped stop) bound value = claim.Stopped bound value
 
-abbrev pub warrant_of : Street → Found → Warrant
-warrant_of a found = record {
-  claim = claim_by found.verdict found.bound (value_of a found.timing);
+-- ---- of timings of any type
+-- of these parts
+abbrev pub warrant_from : {T : Type 0} → Claim → Option T → List CertNode → WarrantWith T
+warrant_from claim timing nodes = record { claim = claim; timing = timing; nodes = map warrants.node_of nodes }
+
+-- by their values
+abbrev pub warrant_by : {T W : Type 0} → (T → ℚ) → engine.Found T W → WarrantWith T
+warrant_by value found = record {
+  claim = claim_by found.verdict found.bound (option_map value found.timing);
   timing = found.timing;
   nodes = map node_of found.nodes.items;
 }
+
+-- ---- of an artery's
+abbrev pub warrant_of : Street → Found → Warrant
+warrant_of a = warrant_by (weighted_band a)

@@ -15,7 +15,10 @@ pub mod Told
 pub mod SiteNames
 pub mod Searches
 pub mod Certified
+pub mod Kinds
+pub mod WholeBands
 pub mod Searched
+pub mod Rooms
 pub mod BoxRuns
 pub mod OpenedBoxes
 pub mod ArteryRules

@@ -1,5 +1,5 @@
 -- What the ends of lines of boxes promise, as an outsider reads it.
-use Rattle.std.specs.Prelude.{◌≡◌, ℕ, ◌<◌, ◌≤◌, List, None, Some, map}
+use Rattle.std.specs.Prelude.{◌≡◌, ℕ, ◌<◌, ◌≤◌, List, [], ◌∷◌, Option, None, Some, map}
 use Rattle.rational_theory.specs.Rational.{ℚ, ◌≤ℚ◌}
 use Rattle.progression.specs.Street.{Street}
 use Rattle.progression.specs.Plan.{Plan}
@@ -20,11 +20,13 @@ use Rattle.search_box.specs.Places.{IsPlace, low_part, high_part, AreParts}
 use Rattle.offset_recovery.specs.declared.outcome.WideTiming.{WideTiming}
 use Rattle.offset_recovery.specs.Outcomes.{Refused, Gives}
 use Rattle.offset_recovery.specs.Recovered.{recovered}
-use Rattle.certificate_checker.specs.Accepted.{IsProof}
+use Rattle.certificate_checker.specs.Accepted.{IsProof, AreProofs}
 use Rattle.simplex_theory.specs.Paths.{HaveSameBasics}
 use Rattle.branch_and_bound.specs.Lines.{BoxLine, low_line, high_line}
+use Rattle.branch_and_bound.specs.Answer.{IsAccepted}
 use Rattle.branch_and_bound.specs.Enough.{IsShort}
 use Rattle.branch_and_bound.specs.Lineages.{NoEnd, Empty, Reads, Cuts, IsOptimal}
+use Rattle.branch_and_bound.specs.declared.node.TreeNode.{TreeNode}
 use Rattle.branch_tree.specs.ArteryProgram.{program_of}
 use Rattle.branch_tree.specs.Ends.{table_after, steps_of, end_point, end_bound, end_leaf, ending_of}
 use Rattle.branch_tree.specs.declared.site.SitePart.{SitePart}
@@ -33,6 +35,7 @@ use Rattle.branch_tree.specs.Sites.{step_at, IsReached, IsDue, IsWide}
 use Rattle.branch_tree.specs.Starts.{start_leaf, start_bound}
 use Rattle.branch_tree.specs.ArteryRules.{rules_of}
 use Rattle.branch_tree.specs.Enough.{sets_of}
+use Rattle.branch_tree.specs.Trees.{node_of}
 
 -- the run of each line comes to an end, before it could have met every set of basic variables
 pub record ComesToAnEnd (a : Street) (line : BoxLine) : Type 0 where
@@ -81,3 +84,7 @@ pub record BoxesEnd : Type 0 where
   pub short : (a : Street) → IsShort (rules_of a) (sets_of a)
   -- before any step the start leaf is a proof of its bound
   pub start : (a : Street) → IsValid a → IsProof a (Some (start_bound a)) (root_box a) (start_leaf a)
+
+-- a tree that a search accepts is one that the checker of certificates accepts
+abbrev pub TreesAreProofs : Type 0
+TreesAreProofs = (a : Street) (claim : Option ℚ) (nodes : List TreeNode) → IsAccepted (rules_of a) claim nodes → AreProofs a claim (root_box a ∷ []) (map node_of nodes)

@@ -4,9 +4,8 @@ use Rattle.progression.specs.Street.{Street}
 use Rattle.progression.specs.Plan.{Plan}
 use Rattle.progression.specs.Best.{weighted_band}
 use Rattle.branch_and_bound.specs.declared.incumbent.Incumbent.{Incumbent}
-use Rattle.branch_and_bound.specs.Answer.{IsAnswer}
 use Rattle.branch_tree.specs.ArteryRules.{rules_of}
-use Rattle.branch_tree.specs.Told.{Found, valued}
+use Rattle.branch_tree.specs.Told.{Found, valued, IsAnswered}
 -- what this tells besides, by the names that the crates above know
 pub use Rattle.branch_tree.specs.Told.{Tells, IsCertifiable}
 pub use Rattle.branch_tree.specs.SiteNames.{IsPartOf, HasSite}
@@ -17,4 +16,4 @@ incumbent_of a = valued (weighted_band a)
 
 -- an accepted tree that was needed, its units, and why the search stopped
 abbrev pub IsSearch : Street → Option ℕ → Found → Type 0
-IsSearch a limit found = IsAnswer (rules_of a) limit found.nodes.items (incumbent_of a found.timing) found.bound found.spent found.verdict
+IsSearch a = IsAnswered (rules_of a) (weighted_band a)

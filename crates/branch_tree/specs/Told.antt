@@ -1,10 +1,13 @@
 -- What the answer of a search tells of its timing, and what a certificate keeps of it.
-use Rattle.std.specs.Prelude.{◌≡◌, All, map, Option, Some, None, IfSome, IsSome}
+use Rattle.std.specs.Prelude.{◌≡◌, ℕ, All, map, Option, Some, None, IfSome, IsSome}
 use Rattle.rational_theory.specs.Rational.{ℚ, ◌≤ℚ◌}
 use Rattle.progression.specs.Street.{Street}
 use Rattle.progression.specs.Plan.{Plan}
 use Rattle.progression.specs.Best.{weighted_band}
-use Rattle.plan_text.specs.Warrants.{AreTrees, IsNode}
+use Rattle.plan_text.specs.Families.{Table, ordinary}
+use Rattle.plan_text.specs.Warrants.{AreTrees, IsNodeIn}
+use Rattle.branch_and_bound.specs.Answer.{IsAnswer}
+use Rattle.branch_and_bound.specs.Rules.{Rules}
 use Rattle.branch_and_bound.specs.declared.incumbent.Incumbent.{Incumbent}
 use Rattle.branch_and_bound.specs.declared.found.Found as engine
 use Rattle.branch_and_bound.specs.declared.found.Verdict.{Verdict}
@@ -32,6 +35,10 @@ TellsOf value timing bound Best = IsValued value timing bound
 TellsOf value timing bound NoTiming = timing ≡ None
 TellsOf value timing bound (Stopped stop) = IfSome timing (λ t. value t ≤ℚ bound)
 
+-- an accepted tree that was needed, its units, and why the search stopped
+abbrev pub IsAnswered : {T K W : Type 0} → Rules T K W → (T → ℚ) → Option ℕ → engine.Found T W → Type 0
+IsAnswered r value limit found = IsAnswer r limit found.nodes.items (valued value found.timing) found.bound found.spent found.verdict
+
 -- ---- of an artery's
 
 abbrev pub Tells : Street → Option Plan → ℚ → Verdict SitePart → Type 0
@@ -44,8 +51,11 @@ IsTimed timing Best = IsSome timing
 IsTimed timing NoTiming = timing ≡ None
 IsTimed timing (Stopped stop) = Unit {0}
 
--- one whole tree in preorder, of splits and leaves that a certificate keeps, and the timing that the verdict wants
-pub record IsCertifiable (found : Found) : Type 0 where
+-- one whole tree in preorder, of splits and leaves that a certificate keeps whose rows have names in a table, and the timing that the verdict wants
+pub record IsCertifiableIn {T W : Type 0} (names : Table) (found : engine.Found T W) : Type 0 where
   pub timing : IsTimed found.timing found.verdict
   pub tree : AreTrees 1 (map node_of found.nodes.items)
-  pub nodes : All IsNode (map node_of found.nodes.items)
+  pub nodes : All (IsNodeIn names) (map node_of found.nodes.items)
+
+abbrev pub IsCertifiable : Found → Type 0
+IsCertifiable found = IsCertifiableIn ordinary found

@@ -1,39 +1,124 @@
-//! An artery as a program over boxes: its leaves are summed over its rows, a vertex is recovered, and an end keeps its basis.
+//! The timings of an artery, with one band a direction, as what is sought: the root begins from its opening tableau, and each part from
+//! the basic variables that its parent ended with.
 
-ghost use Rattle.std.specs.Prelude.{◌≡◌, IfOk};
+ghost use Rattle.std.specs.Prelude.{◌≡◌, IfOk, OnOk};
 ghost use Rattle.linear_theory.specs.Boxes.{IsBoxOf};
 ghost use Rattle.offset_recovery.specs.Outcomes.{Outcome};
+ghost use Rattle.plan_text.specs.Warrants.{IsCertificate};
+ghost use Rattle.branch_tree.specs.Certified.{warrant_from};
 
+use crate::copying::copied_plan;
 use crate::kept::Kept;
-use crate::program::{BoxProgram, Read, Summed};
-use crate::relaxed::Relaxed;
+use crate::program::{Read, Summed};
+use crate::room::Room;
 use crate::site::SitePart;
+use crate::sought::Sought;
+use crate::starting::start_leaf;
+use artery_model::Artery;
+use certificate_checker::{check, law_accepted_or_refused};
 use fraction_tableau::Tableau;
-use loop_rows::{SumFault, leaf_sum};
-use named_row::{Leaf, Place, Point};
-use narrow_fraction::Memory;
+use loop_rows::{SumFault, column_count, leaf_sum};
+use named_row::{Leaf, Place, Point, Row};
+use narrow_fraction::{Frac, Memory};
 use offset_recovery::{RecoverFault, Recovered, recover};
+use plan_text::{CertNode, Certificate, Claim};
+use program_builder::{
+    ArteryTable, EntryMemory, enter_remembering, make_loaded, make_tableau, reset_from,
+};
 use search_box::SearchBox;
 use std::alloc::Global;
-use time_space::Timing;
+use time_space::{Timing, value};
 
-impl<'a> BoxProgram for Relaxed<'a> {
+/// A tableau in which the rows of an artery stay as they are loaded, and the entry of one part, which serves the other part of its
+/// split.
+#[derive(Drop)]
+pub struct LoadedRows {
+    pub loaded: Tableau,
+    pub memory: EntryMemory,
+}
+
+/// An artery, whose timings are sought.
+#[derive(Drop)]
+pub struct WholeBands<'a> {
+    pub artery: &'a Artery,
+}
+
+impl<'a> Sought for WholeBands<'a> {
     ghost use Rattle.branch_tree.specs.ArteryProgram.{program_of};
     ghost use Rattle.branch_tree.specs.ArteryRules.{meaning_of};
+    ghost use Rattle.branch_tree.specs.Rooms.{AreLoadedRows};
+    ghost use Rattle.branch_tree.specs.WholeBands.{whole_bands};
 
     type Timing = Timing;
 
     type Kept = Kept;
 
-    ghost program = { λ relaxed. program_of relaxed.artery.now };
+    type Spare = LoadedRows;
 
-    ghost meaning = { λ relaxed. meaning_of relaxed.artery.now };
+    type Certificate = Certificate;
 
-    ghost IsFor = { λ relaxed. IsBoxOf relaxed.artery.now };
+    ghost program = { λ bands. program_of bands.artery.now };
+
+    ghost meaning = { λ bands. meaning_of bands.artery.now };
+
+    ghost kind = { λ bands. whole_bands bands.artery.now };
+
+    ghost IsFor = { λ bands. IsBoxOf bands.artery.now };
+
+    ghost IsSpare = { λ bands. AreLoadedRows bands.artery.now };
+
+    ghost warrant = { λ certificate. certificate };
 
     fn known_program(&self) {
         // its contract says that the artery is valid
         self.artery.known_valid();
+    }
+
+    fn root(&self, alloc: Global) -> Result<SearchBox, Memory> {
+        SearchBox::root(alloc, self.artery)
+    }
+
+    fn start_leaf(&self, alloc: Global) -> Result<(Leaf, Frac), Memory> {
+        start_leaf(alloc, self.artery)
+    }
+
+    fn make_room(&self, alloc: Global) -> Result<Room<LoadedRows>, Memory> {
+        // its contract says that the artery is valid
+        self.artery.known_valid();
+        // its contract says that the root box is one of the artery's
+        let area = SearchBox::root(alloc, self.artery)?;
+        let artery = self.artery;
+        let tableau = make_tableau(alloc, &ArteryTable { artery })?;
+        let mut row = Row::zero(alloc, column_count(artery))?;
+        let loaded = make_loaded(alloc, artery, &area, &mut row)?;
+        let memory = EntryMemory::new(alloc, artery)?;
+        let spare = LoadedRows { loaded, memory };
+        Ok(Room { tableau, spare })
+    }
+
+    fn begin_root(&self, tableau: &mut Tableau, spare: &mut LoadedRows, area: &SearchBox) {
+        reset_from(tableau, &spare.loaded, self.artery, area);
+    }
+
+    fn begin_part(
+        &self,
+        alloc: Global,
+        tableau: &mut Tableau,
+        spare: &mut LoadedRows,
+        kept: &Kept,
+        area: &SearchBox,
+    ) -> Result<(), Memory> {
+        let basis = kept.basis.as_slice();
+        // false says that an operation left 128 bits, and then it is the opening tableau
+        let _entered = enter_remembering(
+            tableau,
+            &spare.loaded,
+            self.artery,
+            area,
+            basis,
+            &mut spare.memory,
+        )?;
+        Ok(())
     }
 
     fn sum(&self, alloc: Global, area: &SearchBox, leaf: &Leaf) -> Result<Summed, Memory> {
@@ -62,5 +147,37 @@ impl<'a> BoxProgram for Relaxed<'a> {
     fn keep(&self, alloc: Global, tableau: &Tableau) -> Result<Kept, Memory> {
         let basis = tableau.basis(alloc)?;
         Ok(Kept { basis })
+    }
+
+    fn worth(&self, timing: &Timing) -> Frac {
+        value(self.artery, timing)
+    }
+
+    fn copied(&self, alloc: Global, timing: &Timing) -> Result<Timing, Memory> {
+        copied_plan(alloc, timing)
+    }
+
+    fn certificate(&self, claim: Claim, timing: Option<Timing>, nodes: Vec<CertNode>) -> Certificate
+        requires { IsCertificate (warrant_from claim timing nodes.items) }
+        ensures { result ≡ warrant_from claim timing nodes.items }
+    {
+        Certificate {
+            claim,
+            timing,
+            nodes,
+        }
+    }
+
+    fn confirm(&self, alloc: Global, certificate: &Certificate) -> Result<(), Memory> {
+        match check(alloc, self.artery, certificate) {
+            Ok(()) => Ok(()),
+            Err(reject) => {
+                if !reject.is_memory() {
+                    law_accepted_or_refused();
+                    unreachable!()
+                }
+                Err(Memory)
+            }
+        }
     }
 }

@@ -1,16 +1,19 @@
 //! The certificate of what a search found.
 
-ghost use Rattle.std.specs.Prelude.{◌≡◌, ◌++◌, [], ◌∷◌, ℕ, Option, map, IfOk, OnOk};
+ghost use Rattle.std.specs.Prelude.{◌≡◌, ◌++◌, [], ◌∷◌, ℕ, Option, map, option_map, IfOk, OnOk};
 ghost use Rattle.plan_text.specs.Warrants as warrants;
 ghost use Rattle.certificate_checker.specs.Accepted.{IsAccepted};
 ghost use Rattle.branch_tree.specs.Searches.{IsSearch};
-ghost use Rattle.branch_tree.specs.Told.{IsCertifiable};
+ghost use Rattle.branch_tree.specs.Meaning.{rules_from};
+ghost use Rattle.branch_tree.specs.Told.{IsAnswered, IsCertifiableIn, IsCertifiable};
 ghost use Rattle.branch_tree.specs.Trees as trees;
 ghost use Rattle.branch_tree.specs.Certified as certified;
-ghost use Rattle.branch_tree.specs.Certified.{warrant_of};
+ghost use Rattle.branch_tree.specs.Certified.{warrant_by, warrant_of};
 
-use crate::copying::{copied_leaf, copied_timing};
-use crate::found::{Found, TreeNode, Verdict};
+use crate::artery::WholeBands;
+use crate::copying::copied_leaf;
+use crate::found::{Found, FoundOf, TreeNode, Verdict};
+use crate::sought::Sought;
 use artery_model::Artery;
 use named_row::Leaf;
 use narrow_fraction::{Frac, Memory};
@@ -39,7 +42,7 @@ fn best_claim(value: Option<Frac>) -> Claim
 }
 
 /// What a verdict claims, with the value of the timing, where there is one.
-pub fn claim_by(verdict: &Verdict, bound: Frac, value: Option<Frac>) -> Claim
+fn claim_by(verdict: &Verdict, bound: Frac, value: Option<Frac>) -> Claim
     ensures { result ≡ certified.claim_by verdict.now bound value }
 {
     match verdict {
@@ -77,7 +80,7 @@ fn push(nodes: &mut Vec<CertNode>, node: CertNode) -> Result<(), Memory>
 }
 
 /// The nodes of a tree without their vertices, as a certificate has them. The error is want of memory.
-pub fn nodes_of(alloc: Global, nodes: &[TreeNode]) -> Result<Vec<CertNode>, Memory>
+fn nodes_of(alloc: Global, nodes: &[TreeNode]) -> Result<Vec<CertNode>, Memory>
     ensures { IfOk result (λ made. map warrants.node_of made.items ≡ map trees.node_of nodes.now) }
 {
     let mut made = Vec::new(alloc);
@@ -88,20 +91,57 @@ pub fn nodes_of(alloc: Global, nodes: &[TreeNode]) -> Result<Vec<CertNode>, Memo
     Ok(made)
 }
 
-/// The certificate of an answer: what it claims, its timing, and its nodes without the vertices. The claimed value is the
-/// timing's weighted band. The certificate of an answer that a search gave is accepted. The error is want of memory.
+/// What a timing is worth, where there is one.
+fn worth_of<S: Sought>(sought: &S, timing: &Option<S::Timing>) -> Option<Frac>
+    ensures { result ≡ option_map (S.kind sought.now).worth timing.now }
+{
+    match timing {
+        Some(timing) => Some(sought.worth(timing)),
+        None => None,
+    }
+}
+
+/// The same timing again, where there is one.
+fn copied_timing<S: Sought>(
+    alloc: Global,
+    sought: &S,
+    timing: &Option<S::Timing>,
+) -> Result<Option<S::Timing>, Memory>
+    ensures { IfOk result (λ copy. copy ≡ timing.now) }
+{
+    match timing {
+        Some(timing) => Ok(Some(sought.copied(alloc, timing)?)),
+        None => Ok(None),
+    }
+}
+
+/// The certificate of an answer: what it claims, its timing, and its nodes without the vertices. The claimed value is what the
+/// timing is worth. The certificate of an answer that a search gave is accepted. The error is want of memory.
+pub fn certificate_for<S: Sought>(
+    alloc: Global,
+    sought: &S,
+    found: &FoundOf<S::Timing>,
+) -> Result<S::Certificate, Memory>
+    requires { IsCertifiableIn (S.kind sought.now).names found.now }
+    ensures certificate { IfOk result (λ certificate. S.warrant certificate ≡ warrant_by (S.kind sought.now).worth found.now) }
+    ensures accepted { IfOk result (λ certificate. (limit : Option ℕ) → IsAnswered (rules_from (S.program sought.now) (S.meaning sought.now)) (S.kind sought.now).worth limit found.now
+        → (S.kind sought.now).IsAccepted (S.warrant certificate)) }
+{
+    // its contract says which certificates are accepted
+    sought.known_program();
+    let value = worth_of(sought, &found.timing);
+    let claim = claim_by(&found.verdict, found.bound, value);
+    let timing = copied_timing(alloc, sought, &found.timing)?;
+    let nodes = nodes_of(alloc, found.nodes.as_slice())?;
+    Ok(sought.certificate(claim, timing, nodes))
+}
+
+/// The certificate of an answer, as `certificate_for` makes it; the claimed value is the timing's weighted band. The certificate of an
+/// answer that a search gave is accepted. The error is want of memory.
 pub fn certificate_of(alloc: Global, artery: &Artery, found: &Found) -> Result<Certificate, Memory>
     requires { IsCertifiable found.now }
     ensures certificate { IfOk result (λ certificate. certificate ≡ warrant_of artery.now found.now) }
     ensures accepted { IfOk result (λ certificate. (limit : Option ℕ) → IsSearch artery.now limit found.now → IsAccepted artery.now certificate) }
 {
-    let value = value_of(artery, &found.timing);
-    let claim = claim_by(&found.verdict, found.bound, value);
-    let timing = copied_timing(alloc, &found.timing)?;
-    let nodes = nodes_of(alloc, found.nodes.as_slice())?;
-    Ok(Certificate {
-        claim,
-        timing,
-        nodes,
-    })
+    certificate_for(alloc, &WholeBands { artery }, found)
 }

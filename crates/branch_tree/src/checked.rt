@@ -1,46 +1,52 @@
-//! A search of an artery together with the check of its own certificate: what is found is told only once the certificate of it
-//! was accepted, which it always is.
+//! A search together with the check of its own certificate: what is found is told only once the certificate of it was accepted,
+//! which it always is.
 
-ghost use Rattle.std.specs.Prelude.{◌≡◌, IfOk, IfSome, OnOk};
+ghost use Rattle.std.specs.Prelude.{◌≡◌, IfOk, IfSome};
 ghost use Rattle.progression.specs.Good.{Good};
 ghost use Rattle.work_meter.specs.Work.{IsBelow};
-ghost use Rattle.certificate_checker.specs.Accepted.{IsAccepted};
-ghost use Rattle.certificate_checker.specs.Claims.{ClaimHolds};
-ghost use Rattle.branch_tree.specs.Certified.{warrant_of};
+ghost use Rattle.branch_tree.specs.Certified.{warrant_by, warrant_of};
+ghost use Rattle.branch_tree.specs.Kinds.{IsSearchedOf};
 ghost use Rattle.branch_tree.specs.Told.{IsTimed};
 ghost use Rattle.branch_tree.specs.Searched.{IsSearched};
 
-use crate::certifying::certificate_of;
-use crate::found::Found;
-use crate::searching::search;
+use crate::artery::WholeBands;
+use crate::certifying::certificate_for;
+use crate::found::FoundOf;
+use crate::searching::search_sought;
+use crate::sought::Sought;
 use artery_model::Artery;
-use certificate_checker::{check, law_accepted_or_refused};
 use narrow_fraction::Memory;
 use plan_text::Certificate;
 use std::alloc::Global;
+use time_space::Timing;
 
-/// What a search found, and the certificate of it that was accepted.
+/// What a search for timings of a type found, and the certificate of it that was accepted.
 #[derive(Drop)]
-pub struct Searched {
-    pub found: Found,
-    pub certificate: Certificate,
+pub struct SearchedOf<T, C> {
+    pub found: FoundOf<T>,
+    pub certificate: C,
 }
 
-/// Checks a certificate that can't be refused.
-fn confirm(alloc: Global, artery: &Artery, certificate: &Certificate) -> Result<(), Memory>
-    requires { IsAccepted artery.now certificate.now }
-    ensures { OnOk result (ClaimHolds artery.now certificate.now.claim certificate.now.timing) }
+/// What a search found, and the certificate of it that was accepted.
+pub type Searched = SearchedOf<Timing, Certificate>;
+
+/// Searches for a best timing of what is sought, within the limit of units of work where there is one, and checks the certificate
+/// of what is found. A limit is at least 1. The error is want of memory.
+pub fn search_and_confirm<S: Sought>(
+    alloc: Global,
+    sought: &S,
+    limit: Option<u64>,
+) -> Result<SearchedOf<S::Timing, S::Certificate>, Memory>
+    requires { IsBelow 0 limit }
+    ensures searched { IfOk result (λ s. IsSearchedOf (S.kind sought.now) limit s.found) }
+    ensures certificate { IfOk result (λ s. S.warrant s.certificate ≡ warrant_by (S.kind sought.now).worth s.found) }
+    ensures timed { IfOk result (λ s. IsTimed s.found.timing s.found.verdict) }
+    ensures good { IfOk result (λ s. IfSome s.found.timing (λ timing. (S.kind sought.now).IsGood timing)) }
 {
-    match check(alloc, artery, certificate) {
-        Ok(()) => Ok(()),
-        Err(reject) => {
-            if !reject.is_memory() {
-                law_accepted_or_refused();
-                unreachable!()
-            }
-            Err(Memory)
-        }
-    }
+    let found = search_sought(alloc, sought, limit)?;
+    let certificate = certificate_for(alloc, sought, &found)?;
+    sought.confirm(alloc, &certificate)?;
+    Ok(SearchedOf { found, certificate })
 }
 
 /// Searches for a best timing of the artery, within the limit of units of work where there is one, and checks the certificate
@@ -56,8 +62,5 @@ pub fn search_and_check(
     ensures timed { IfOk result (λ s. IsTimed s.found.timing s.found.verdict) }
     ensures good { IfOk result (λ s. IfSome s.found.timing (λ plan. Good artery.now plan)) }
 {
-    let found = search(alloc, artery, limit)?;
-    let certificate = certificate_of(alloc, artery, &found)?;
-    confirm(alloc, artery, &certificate)?;
-    Ok(Searched { found, certificate })
+    search_and_confirm(alloc, &WholeBands { artery }, limit)
 }

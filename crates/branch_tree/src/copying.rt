@@ -26,7 +26,7 @@ pub fn copied_leaf(alloc: Global, leaf: &Leaf) -> Result<Leaf, Memory>
 }
 
 /// The same timing again.
-fn copied_plan(alloc: Global, timing: &Timing) -> Result<Timing, Memory>
+pub fn copied_plan(alloc: Global, timing: &Timing) -> Result<Timing, Memory>
     ensures { IfOk result (λ copy. copy ≡ timing.now) }
 {
     let patterns = copied(alloc, timing.patterns())?;
@@ -47,15 +47,5 @@ fn copied_plan(alloc: Global, timing: &Timing) -> Result<Timing, Memory>
     ) {
         Some(copy) => Ok(copy),
         None => unreachable!(),
-    }
-}
-
-/// The same timing again, where there is one.
-pub fn copied_timing(alloc: Global, timing: &Option<Timing>) -> Result<Option<Timing>, Memory>
-    ensures { IfOk result (λ copy. copy ≡ timing.now) }
-{
-    match timing {
-        Some(timing) => Ok(Some(copied_plan(alloc, timing)?)),
-        None => Ok(None),
     }
 }

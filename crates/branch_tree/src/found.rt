@@ -14,8 +14,11 @@ pub type Stop = engine::Stop<SitePart>;
 /// What is claimed of the timing.
 pub type Verdict = engine::Verdict<SitePart>;
 
+/// The answer of a search for timings of a type.
+pub type FoundOf<T> = engine::Found<T, SitePart>;
+
 /// The answer of a search: the tree in preorder, the best timing that was found, and the units that were spent.
 ///
 /// Under `Best` the bound is the timing's weighted band. Under `NoTiming` it is 0 and means nothing. Under `Stopped` no
 /// timing of the artery has a greater weighted band.
-pub type Found = engine::Found<Timing, SitePart>;
+pub type Found = FoundOf<Timing>;

@@ -16,8 +16,11 @@
 //!   `SitePart` names it. `specs/Starts.antt`: the leaf that bounds the root before any step.
 //! - `specs/Meaning.antt`: what a program means to a search, and `rules_from`, both as a relaxation for `branch_and_bound`.
 //!   `specs/ArteryRules.antt`: `meaning_of` and `rules_of`, those of an artery, over the words of `specs/Relaxed.antt`.
-//!   `specs/Trees.antt`: its trees are those that `certificate_checker` accepts. A `BoxProgram` is a program's code, and `open` opens
-//!   a box of any; `specs/BoxRuns.antt` has what it answers.
+//!   `specs/Trees.antt`: its trees are those that `certificate_checker` accepts. `open` opens a box of any; `specs/BoxRuns.antt` has
+//!   what it answers.
+//! - `Sought` is the code of a kind of timing that is sought, with its certificates: `search_sought` searches, `certificate_for` makes the
+//!   certificate and `search_and_confirm` does both for any. `specs/Kinds.antt` says what a kind is, what a search of it rests on and what
+//!   it answers; `specs/WholeBands.antt` is the kind of this crate.
 //! - `specs/Enough.antt`: how many units of work are enough for an artery.
 //! - What is promised of lines of boxes stands in `specs/Promises.antt`, and `law_boxes_end` keeps it. The files of `specs/laws` are lemmas alone, which `program_of` and `rules_of` carry.
 //!
@@ -40,17 +43,20 @@ mod laws;
 mod opening;
 mod program;
 mod relaxed;
+mod room;
 mod searching;
 mod site;
+mod sought;
 mod starting;
 
-pub use certifying::{certificate_of, claim_by, nodes_of, value_of};
-pub use checked::{Searched, search_and_check};
+pub use certifying::{certificate_for, certificate_of, value_of};
+pub use checked::{Searched, SearchedOf, search_and_check, search_and_confirm};
 pub use copying::copied;
-pub use found::{Found, Site, Stop, TreeNode, Verdict};
+pub use found::{Found, FoundOf, Site, Stop, TreeNode, Verdict};
 pub use kept::Kept;
 pub use laws::{law_boxes_end, law_trees_are_proofs};
-pub use opening::open;
-pub use program::{BoxProgram, Read, Summed};
-pub use searching::search;
+pub use program::{Read, Summed};
+pub use room::Room;
+pub use searching::{search, search_sought};
 pub use site::SitePart;
+pub use sought::Sought;

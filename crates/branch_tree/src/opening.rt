@@ -1,18 +1,17 @@
 //! Opens one line's box: the steps from its first tableau to the end, and what is read off there.
 
-ghost use Rattle.std.specs.Prelude.{◌≡◌, IfOk, None};
-ghost use Rattle.simplex_theory.specs.Tableau.{goal_bound};
-ghost use Rattle.dual_leaf.specs.Leaves.{goal_multipliers};
+ghost use Rattle.std.specs.Prelude.{◌≡◌, IfOk};
 ghost use Rattle.branch_and_bound.specs.Lines.{BoxLine};
 ghost use Rattle.program_builder.specs.Loading.{HasRoomFor};
 ghost use Rattle.work_meter.specs.Work.{HasWork};
 ghost use Rattle.branch_tree.specs.Ends.{named_first};
 ghost use Rattle.branch_tree.specs.Runs.{IsRun, HasFirst, HasRun, HasOptimalRun, HasInfeasibleRun};
-ghost use Rattle.branch_tree.specs.BoxRuns.{table_of, IsCutBy};
+ghost use Rattle.branch_tree.specs.BoxRuns.{table_of, IsCutBy, IsCovering};
 ghost use Rattle.branch_tree.specs.OpenedBoxes.{IsReadOff, IsEmptyOff, IsWideOff, IsOpenedBy, IsOpened};
 
-use crate::program::{BoxProgram, Read, Summed};
+use crate::program::{Read, Summed};
 use crate::site::SitePart;
+use crate::sought::Sought;
 use branch_and_bound::{Meter, Opened};
 use dual_leaf::{leaf_of, point_of, refuter_of};
 use dual_simplex::{NodeEnd, solve_node};
@@ -30,7 +29,7 @@ struct Run {
 }
 
 /// The steps from a line's first tableau to their end: a unit for the box, and one for each pivot.
-fn make_steps<P: BoxProgram>(program: &P, tableau: &mut Tableau, meter: &mut Meter) -> Run
+fn make_steps<P: Sought>(program: &P, tableau: &mut Tableau, meter: &mut Meter) -> Run
     requires first { (line : BoxLine) × (tableau.old ≡ named_first (P.program program.now) line) }
     requires work { HasWork meter.old }
     ensures made { HasRoomFor (table_of (P.program program.now)) tableau.new }
@@ -55,7 +54,7 @@ struct Covering {
 }
 
 /// The answer at a vertex that shows where its box is split.
-fn split_end<P: BoxProgram>(
+fn split_end<P: Sought>(
     alloc: Global,
     program: &P,
     tableau: &Tableau,
@@ -76,7 +75,7 @@ fn split_end<P: BoxProgram>(
 }
 
 /// What is read off a last vertex: a timing, the place where the box is split, or a refusal.
-fn read_end<P: BoxProgram>(
+fn read_end<P: Sought>(
     alloc: Global,
     program: &P,
     area: &SearchBox,
@@ -86,9 +85,7 @@ fn read_end<P: BoxProgram>(
 ) -> Result<Opened<P::Timing, P::Kept, SitePart>, Memory>
     requires boxed { P.IsFor program.now area.now }
     requires run { HasOptimalRun (P.program program.now) area.now tableau.now }
-    requires leaf { covering.leaf.multipliers.items ≡ goal_multipliers tableau.now }
-    requires fits { (P.program program.now).leaf_fault area.now covering.leaf.multipliers.items ≡ None }
-    requires bound { covering.bound ≡ goal_bound tableau.now.table }
+    requires covering { IsCovering (P.program program.now) area.now tableau.now covering.leaf covering.bound }
     ensures { IfOk result (IsReadOff (P.program program.now) (P.meaning program.now) area.now tableau.now pivots) }
 {
     // its contract says that the program is sound
@@ -111,7 +108,7 @@ fn read_end<P: BoxProgram>(
 }
 
 /// The answer at an optimal end.
-fn optimal_end<P: BoxProgram>(
+fn optimal_end<P: Sought>(
     alloc: Global,
     program: &P,
     area: &SearchBox,
@@ -138,7 +135,7 @@ fn optimal_end<P: BoxProgram>(
 }
 
 /// The answer where a row shows that the box is empty.
-fn infeasible_end<P: BoxProgram>(
+fn infeasible_end<P: Sought>(
     alloc: Global,
     program: &P,
     area: &SearchBox,
@@ -163,7 +160,7 @@ fn infeasible_end<P: BoxProgram>(
 }
 
 /// The answer where an operation of a step was refused.
-fn wide_step<P: BoxProgram>(
+fn wide_step<P: Sought>(
     program: &P,
     ratio: bool,
     cell: WideCell,
@@ -187,7 +184,7 @@ fn wide_step<P: BoxProgram>(
 }
 
 /// The answer at the end of a box's steps.
-fn ended<P: BoxProgram>(
+fn ended<P: Sought>(
     alloc: Global,
     program: &P,
     area: &SearchBox,
@@ -210,7 +207,7 @@ fn ended<P: BoxProgram>(
 /// Opens a line's box, from the tableau that the line's steps begin from: the dual simplex method runs to the end, the leaf of
 /// the end is summed, and at a last vertex the timing is read or the place found where the box is split. A unit is spent
 /// for the box, and one for each pivot. The error is want of memory.
-pub fn open<P: BoxProgram>(
+pub fn open<P: Sought>(
     alloc: Global,
     program: &P,
     tableau: &mut Tableau,

@@ -1,114 +1,67 @@
-//! An artery as a relaxation that is solved along lines of boxes: the root from its opening tableau on, and each part from the
-//! basic variables that its parent ended with.
+//! What is sought as a relaxation that is solved along lines of boxes: the root, and each part from what its parent kept.
 
-ghost use Rattle.std.specs.Prelude.{IfOk};
-ghost use Rattle.branch_tree.specs.BoxRuns.{IsRoomFor};
-
-use crate::kept::Kept;
 use crate::opening::open;
+use crate::room::Room;
 use crate::site::SitePart;
-use crate::starting::start_leaf;
-use artery_model::Artery;
+use crate::sought::Sought;
 use branch_and_bound::{Meter, Opened, Relaxation};
-use fraction_tableau::Tableau;
-use loop_rows::column_count;
-use named_row::{Leaf, Row};
+use named_row::Leaf;
 use narrow_fraction::{Frac, Memory};
-use program_builder::{
-    ArteryTable, EntryMemory, enter_remembering, make_loaded, make_tableau, reset_from,
-};
 use search_box::SearchBox;
 use std::alloc::Global;
-use time_space::Timing;
 
-/// Where the boxes of an artery are opened: a tableau with its rows and columns, another one in which its rows stay as they are
-/// loaded, a spare row, and the entry of one part, which serves the other part of its split.
+/// What is sought, whose boxes are opened one at a time.
 #[derive(Drop)]
-pub struct Room {
-    pub tableau: Tableau,
-    pub loaded: Tableau,
-    pub row: Row,
-    pub memory: EntryMemory,
+pub struct Relaxed<'a, S> {
+    pub sought: &'a S,
 }
 
-/// Room for the boxes of an artery.
-pub fn make_room(alloc: Global, artery: &Artery) -> Result<Room, Memory>
-    ensures { IfOk result (λ room. IsRoomFor artery.now room) }
-{
-    // its contract says that the artery is valid
-    artery.known_valid();
-    // its contract says that the root box is one of the artery's
-    let area = SearchBox::root(alloc, artery)?;
-    let tableau = make_tableau(alloc, &ArteryTable { artery })?;
-    let mut row = Row::zero(alloc, column_count(artery))?;
-    let loaded = make_loaded(alloc, artery, &area, &mut row)?;
-    let memory = EntryMemory::new(alloc, artery)?;
-    Ok(Room {
-        tableau,
-        loaded,
-        row,
-        memory,
-    })
-}
+impl<'a, S: Sought> Relaxation for Relaxed<'a, S> {
+    ghost use Rattle.branch_tree.specs.Meaning.{rules_from};
+    ghost use Rattle.branch_tree.specs.Rooms.{IsRoomFor};
 
-/// An artery whose boxes are opened one at a time.
-#[derive(Drop)]
-pub struct Relaxed<'a> {
-    pub artery: &'a Artery,
-}
+    type Room = Room<S::Spare>;
 
-impl<'a> Relaxation for Relaxed<'a> {
-    ghost use Rattle.branch_tree.specs.ArteryRules.{rules_of};
+    type Kept = S::Kept;
 
-    type Room = Room;
-
-    type Kept = Kept;
-
-    type Timing = Timing;
+    type Timing = S::Timing;
 
     type Part = SitePart;
 
-    ghost rules = { λ relaxed. rules_of relaxed.artery.now };
+    ghost rules = { λ relaxed. rules_from (S.program relaxed.sought.now) (S.meaning relaxed.sought.now) };
 
-    ghost Ready = { λ relaxed room. IsRoomFor relaxed.artery.now room };
+    ghost Ready = { λ relaxed room. IsRoomFor (S.program relaxed.sought.now) (S.meaning relaxed.sought.now) (S.IsSpare relaxed.sought.now) room };
 
     fn root(&self, alloc: Global) -> Result<SearchBox, Memory> {
-        SearchBox::root(alloc, self.artery)
+        self.sought.root(alloc)
     }
 
     fn start_leaf(&self, alloc: Global) -> Result<(Leaf, Frac), Memory> {
-        start_leaf(alloc, self.artery)
+        self.sought.start_leaf(alloc)
     }
 
     fn open_root(
         &self,
         alloc: Global,
-        room: &mut Room,
+        room: &mut Room<S::Spare>,
         area: &SearchBox,
         meter: &mut Meter,
-    ) -> Result<Opened<Timing, Kept, SitePart>, Memory> {
-        reset_from(&mut room.tableau, &room.loaded, self.artery, area);
-        open(alloc, self, &mut room.tableau, area, meter)
+    ) -> Result<Opened<S::Timing, S::Kept, SitePart>, Memory> {
+        self.sought
+            .begin_root(&mut room.tableau, &mut room.spare, area);
+        open(alloc, self.sought, &mut room.tableau, area, meter)
     }
 
     fn open_part(
         &self,
         alloc: Global,
-        room: &mut Room,
-        kept: &Kept,
+        room: &mut Room<S::Spare>,
+        kept: &S::Kept,
         area: &SearchBox,
         meter: &mut Meter,
-    ) -> Result<Opened<Timing, Kept, SitePart>, Memory> {
-        let basis = kept.basis.as_slice();
-        // false says that an operation left 128 bits, and then it is the opening tableau
-        let _entered = enter_remembering(
-            &mut room.tableau,
-            &room.loaded,
-            self.artery,
-            area,
-            basis,
-            &mut room.memory,
-        )?;
-        open(alloc, self, &mut room.tableau, area, meter)
+    ) -> Result<Opened<S::Timing, S::Kept, SitePart>, Memory> {
+        self.sought
+            .begin_part(alloc, &mut room.tableau, &mut room.spare, kept, area)?;
+        open(alloc, self.sought, &mut room.tableau, area, meter)
     }
 }

@@ -1,10 +1,8 @@
 //! The leaf that bounds the root before any pivot.
 
-ghost use Rattle.std.specs.Prelude.{◌≡◌, ◌++◌, [], ◌∷◌, None, IfOk, OnOk};
-ghost use Rattle.linear_theory.specs.Boxes.{IsBoxOf, root_box};
-ghost use Rattle.loop_rows.specs.Weights.{leaf_fault};
+ghost use Rattle.std.specs.Prelude.{◌≡◌, ◌++◌, [], ◌∷◌, IfOk, OnOk};
+ghost use Rattle.linear_theory.specs.Boxes.{root_box};
 ghost use Rattle.dual_leaf.specs.Leaves.{multiplier};
-ghost use Rattle.branch_tree.specs.LeafRows.{sum_of};
 ghost use Rattle.branch_tree.specs.Starts.{start_bound};
 ghost use Rattle.branch_tree.specs.Relaxed.{IsStartLeaf, CoversBox};
 
@@ -44,18 +42,15 @@ fn first_waits(alloc: Global, artery: &Artery) -> Result<Leaf, Memory>
     Ok(Leaf { multipliers })
 }
 
-/// The bound of the sum of these rows, which fits.
-fn first_bound(
-    alloc: Global,
-    artery: &Artery,
-    area: &SearchBox,
-    leaf: &Leaf,
-) -> Result<Frac, Memory>
-    requires boxed { IsBoxOf artery.now area.now }
-    requires fits { leaf_fault artery.now area.now leaf.now.multipliers.items ≡ None }
-    ensures { IfOk result (λ bound. bound ≡ (sum_of artery.now area.now leaf.now.multipliers.items).bound) }
+/// The bound of the sum of these rows over the root box, which fits.
+fn first_bound(alloc: Global, artery: &Artery, leaf: &Leaf) -> Result<Frac, Memory>
+    requires { IsStartLeaf artery.now leaf.now }
+    ensures { IfOk result (λ bound. bound ≡ start_bound artery.now) }
 {
-    match leaf_sum(alloc, artery, area, leaf) {
+    // its contract says that the artery is valid
+    artery.known_valid();
+    let area = SearchBox::root(alloc, artery)?;
+    match leaf_sum(alloc, artery, &area, leaf) {
         Ok(sum) => Ok(sum.get(Place::Bound)),
         Err(SumFault::Memory) => Err(Memory),
         Err(SumFault::NoSuchRow { .. }) => unreachable!(),
@@ -73,8 +68,7 @@ pub fn start_leaf(alloc: Global, artery: &Artery) -> Result<(Leaf, Frac), Memory
 {
     // its contract says that the artery is valid
     artery.known_valid();
-    let area = SearchBox::root(alloc, artery)?;
     let leaf = first_waits(alloc, artery)?;
-    let bound = first_bound(alloc, artery, &area, &leaf)?;
+    let bound = first_bound(alloc, artery, &leaf)?;
     Ok((leaf, bound))
 }

@@ -42,17 +42,6 @@ module _ (a : Street) where
       up_to_from (is_link_there a) 30 (count a - 1) (λ i. let d = link_row_decided a (LinkRatioRow i) in
       (λ b. let h = (d.0 b).0 in (h.0, let l = h.1 in omega arith), λ h. d.1 ((h.0, let l = h.0 in let m = h.1 in omega arith), n)))
 
-  ends_from : through 29 ≡ through 23 + 6 * (count a - 1)
-  ends_from =
-      let n = count a - 1 in
-      let b = family_rows 23 n (far_rows a Outbound) (omega arith) in
-      let c = family_rows 24 n (up_to_from (is_link_there a) 25 n (λ i. link_to a i _ (link_row_decided a (FarRow Outbound Next i)))) (omega arith) in
-      let d = family_rows 25 n (up_to_from (is_link_there a) 26 n (λ i. link_to a i _ (link_row_decided a (NearRow Inbound Here i)))) (omega arith) in
-      let e = family_rows 26 n (up_to_from (is_link_there a) 27 n (λ i. link_to a i _ (link_row_decided a (NearRow Inbound Next i)))) (omega arith) in
-      let f = family_rows 27 n (far_rows a Inbound) (omega arith) in
-      let g = family_rows 28 n (up_to_from (is_link_there a) 29 n (λ i. link_to a i _ (link_row_decided a (FarRow Inbound Next i)))) (omega arith) in
-      omega (arith, b, c, d, e, f, g)
-
   between : through 27 ≡ through 23 + 4 * (count a - 1)
   between =
       let n = count a - 1 in
@@ -61,6 +50,14 @@ module _ (a : Street) where
       let d = family_rows 25 n (up_to_from (is_link_there a) 26 n (λ i. link_to a i _ (link_row_decided a (NearRow Inbound Here i)))) (omega arith) in
       let e = family_rows 26 n (up_to_from (is_link_there a) 27 n (λ i. link_to a i _ (link_row_decided a (NearRow Inbound Next i)))) (omega arith) in
       omega (arith, b, c, d, e)
+
+  ends_from : through 29 ≡ through 23 + 6 * (count a - 1)
+  ends_from =
+      let n = count a - 1 in
+      let b = between in
+      let c = family_rows 27 n (far_rows a Inbound) (omega arith) in
+      let d = family_rows 28 n (up_to_from (is_link_there a) 29 n (λ i. link_to a i _ (link_row_decided a (FarRow Inbound Next i)))) (omega arith) in
+      omega (arith, b, c, d)
 
   -- all rows of links, with those of the ratio
   all_rows : (k : ℕ) → (a.head.ratio ≡ number 1 → k ≡ 0) → (a.head.ratio ≢ number 1 → k ≡ count a - 1) → length (names_of_links a) ≡ through 29 + k

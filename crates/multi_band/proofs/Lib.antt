@@ -10,12 +10,12 @@ mod LinkLeafProofs
 mod LinkKeptLeaves
 mod LinkSitesNamed
 mod LinkAnswers
-mod LinksSolved
 pub mod LinkEnds
 pub mod LinkStarts
 pub mod FarRows
 pub mod LinkLeaves
 pub mod LinkRecoveries
+pub mod LinkSoundness
 pub mod LinkLines
 pub mod LinkOpenings
 pub mod LinkTables

@@ -19,7 +19,6 @@ use Rattle.branch_and_bound.specs.Answer.{IsSite}
 use Rattle.branch_and_bound.specs.declared.found.Site.{Site}
 use Rattle.branch_tree.specs.declared.site.SitePart.{SitePart}
 use Rattle.branch_tree.specs.Ends.{end_leaf, end_point}
-use Rattle.branch_tree.specs.Lineage.{IsSearchable}
 use Rattle.branch_tree.specs.Sites.{refusal_at}
 use Rattle.branch_tree.specs.SiteNames.{IsTimingPartIn}
 use Rattle.branch_tree.specs.laws.RunLaws.{point_columns}
@@ -30,7 +29,7 @@ use Rattle.multi_band.specs.LinkRecovered.{half_tests, link_column_tests, link_n
 use Rattle.multi_band.specs.LinkRules.{link_rules}
 use Rattle.multi_band.specs.LinkSites.{IsLinkPartOf, IsLinkSiteOf}
 use Rattle.multi_band.specs.LinkTables.{names_of_links}
-use Rattle.multi_band.specs.laws.LinkLines.{link_boxed}
+use Rattle.multi_band.specs.laws.LinkLines.{link_boxed, link_searchable}
 
 module _ (a : Street) (v : IsValid a) (box : Area) (x : List ℚ) (e : length x ≡ link_width (count a)) where
   abbrev IsThere : WideTiming → Type 0
@@ -68,8 +67,8 @@ link_part_named a line v k =
     (vertex_named a (length (names_of_links a)) (link_width (count a)) (λ row. HasLinkRow a (link_name_at row)) (link_recovered a line.area (end_point (link_program a) line))
     (link_outcome_named a v line.area (end_point (link_program a) line) (point_columns (link_program a) line v))) k
 
-pub link_site_of : (a : Street) → IsSearchable a → (line : BoxLine) (k : ℕ) (site : Site SitePart) → IsMet (link_rules a) line → IsSite (link_rules a) line k site → IsLinkSiteOf a site
-link_site_of a sound line k site m h = record {
+pub link_site_of : (a : Street) (line : BoxLine) (k : ℕ) (site : Site SitePart) → IsMet (link_rules a) line → IsSite (link_rules a) line k site → IsLinkSiteOf a site
+link_site_of a line k site m h = record {
   boxed = subst (IsBoxOf a) (sym h.area_is) (link_boxed a line m);
-  part = link_part_named a line sound.valid k site.part h.part_is.refused;
+  part = link_part_named a line (link_searchable a line m).valid k site.part h.part_is.refused;
 }

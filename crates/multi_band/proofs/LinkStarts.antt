@@ -160,24 +160,28 @@ module _ (a : Street) (box : Area) where
     goal_low : (j : ℕ) → j < width (count a) → goal_coef j ≡ number 0
     goal_low j h = let e = length-replicate (width (count a)) (number 0) in get_or_append_left zeros _ (number 0) j (omega arith) ∙ get-zeros (width (count a)) j
 
-    goal_out : (t : ℕ) → HasLink a t → goal_coef (half_place (count a) Outbound t) ≡ number 2
-    goal_out t h =
+    -- past the artery's own columns
+    goal_past : (j : ℕ) → width (count a) ≤ j → goal_coef j ≡ get_or (twos ++ replicate (count a - 1) (twice_ratio a)) (j - width (count a)) (number 0)
+    goal_past j h = get_or-append_right zeros _ (width (count a)) j (number 0) (length-replicate (width (count a)) (number 0)) h
+
+    -- what a half is worth
+    abbrev half_worth : Dir → ℚ
+    half_worth Outbound = number 2
+    half_worth Inbound = twice_ratio a
+
+    goal_half : (d : Dir) (t : ℕ) → HasLink a t → goal_coef (half_place (count a) d t) ≡ half_worth d
+    goal_half Outbound t h =
         let l = h.0 in
         let m = h.1 in
-        let e = length-replicate (width (count a)) (number 0) in
         let f = length-replicate (count a - 1) (number 2) in
         let j = half_place (count a) Outbound t in
-        get_or-append_right zeros _ (width (count a)) j (number 0) e (omega arith) ∙ get_or_append_left twos _ (number 0) (j - width (count a)) (omega arith)
-        ∙ replicate_at (count a - 1) (number 2) (j - width (count a)) (omega arith)
-
-    goal_in : (t : ℕ) → HasLink a t → goal_coef (half_place (count a) Inbound t) ≡ twice_ratio a
-    goal_in t h =
+        goal_past j (omega arith) ∙ get_or_append_left twos _ (number 0) (j - width (count a)) (omega arith) ∙ replicate_at (count a - 1) (number 2) (j - width (count a)) (omega arith)
+    goal_half Inbound t h =
         let l = h.0 in
         let m = h.1 in
-        let e = length-replicate (width (count a)) (number 0) in
         let f = length-replicate (count a - 1) (number 2) in
         let j = half_place (count a) Inbound t in
-        get_or-append_right zeros _ (width (count a)) j (number 0) e (omega arith) ∙ get_or-append_right twos _ (count a - 1) (j - width (count a)) (number 0) f (omega arith)
+        goal_past j (omega arith) ∙ get_or-append_right twos _ (count a - 1) (j - width (count a)) (number 0) f (omega arith)
         ∙ replicate_at (count a - 1) (twice_ratio a) (j - width (count a) - (count a - 1)) (omega arith)
 
     goal_under : (j : ℕ) → j < link_width (count a) → goal_coef j ≤ℚ weighted (link_start_leaf a) j
@@ -192,12 +196,12 @@ module _ (a : Street) (box : Area) where
             let t = j - 5 * count a in
             let e : half_place (count a) Outbound t ≡ j = omega arith in
             let g : HasLink a t = (omega arith, omega arith) in
-            subst (λ n. goal_coef n ≤ℚ weighted (link_start_leaf a) n) e (rw (goal_out t g) (outbound_most t g))
+            subst (λ n. goal_coef n ≤ℚ weighted (link_start_leaf a) n) e (rw (goal_half Outbound t g) (outbound_most t g))
         pick (inr p) (inr q) =
             let t = j - (6 * count a - 1) in
             let e : half_place (count a) Inbound t ≡ j = omega arith in
             let g : HasLink a t = (omega arith, omega arith) in
-            subst (λ n. goal_coef n ≤ℚ weighted (link_start_leaf a) n) e (rw (goal_in t g) (inbound_most t g))
+            subst (λ n. goal_coef n ≤ℚ weighted (link_start_leaf a) n) e (rw (goal_half Inbound t g) (inbound_most t g))
 
 -- the artery has the rows
 far_there : (a : Street) (d : Dir) (by : ℚ) (i k : ℕ) → number 0 ≤ℚ by → 1 ≤ i → i + k ≤ count a → AreLinkWeights a (map link_named (far_weights d by i k))

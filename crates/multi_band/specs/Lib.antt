@@ -1,6 +1,7 @@
 pub mod LinkReady
 pub mod LinkRecovered
 pub mod LinkMeaning
+pub mod LinkSoundness
 pub mod Worked
 pub mod LinkTables
 pub mod LinkOpening
@@ -8,12 +9,12 @@ pub mod LinkStarts
 pub mod LinkProgram
 pub mod LinkRelaxed
 pub mod LinkRules
-pub mod LinkRooms
 pub mod LinkSearches
 pub mod LinkTold
 pub mod LinkEnough
 pub mod LinkSites
 pub mod LinkCertified
+pub mod LinkKind
 pub mod LinksSearched
 pub mod LinkReport
 pub mod laws

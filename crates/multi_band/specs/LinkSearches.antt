@@ -4,8 +4,7 @@ use Rattle.progression.specs.Street.{Street}
 use Rattle.link_theory.specs.LinkPlan.{LinkPlan}
 use Rattle.link_theory.specs.BestLinks.{link_value}
 use Rattle.branch_and_bound.specs.declared.incumbent.Incumbent.{Incumbent}
-use Rattle.branch_and_bound.specs.Answer.{IsAnswer}
-use Rattle.branch_tree.specs.Told.{valued}
+use Rattle.branch_tree.specs.Told.{valued, IsAnswered}
 use Rattle.multi_band.specs.LinkTold.{LinkFound}
 use Rattle.multi_band.specs.LinkRules.{link_rules}
 
@@ -15,4 +14,4 @@ link_incumbent_of a = valued (link_value a)
 
 -- an accepted tree that was needed, its units, and why the search stopped
 abbrev pub IsLinkSearch : Street → Option ℕ → LinkFound → Type 0
-IsLinkSearch a limit found = IsAnswer (link_rules a) limit found.nodes.items (link_incumbent_of a found.timing) found.bound found.spent found.verdict
+IsLinkSearch a = IsAnswered (link_rules a) (link_value a)

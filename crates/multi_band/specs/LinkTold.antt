@@ -1,16 +1,14 @@
 -- What the answer of a search of links tells of its link timing, and what a certificate keeps of it.
-use Rattle.std.specs.Prelude.{All, map, Option}
+use Rattle.std.specs.Prelude.{Option}
 use Rattle.rational_theory.specs.Rational.{ℚ}
 use Rattle.progression.specs.Street.{Street}
-use Rattle.plan_text.specs.Warrants.{AreTrees, IsNodeIn}
 use Rattle.link_theory.specs.LinkPlan.{LinkPlan}
 use Rattle.link_theory.specs.BestLinks.{link_value}
 use Rattle.link_proof.specs.LinkFamilies.{links}
 use Rattle.branch_and_bound.specs.declared.found.Found as engine
 use Rattle.branch_and_bound.specs.declared.found.Verdict.{Verdict}
 use Rattle.branch_tree.specs.declared.site.SitePart.{SitePart}
-use Rattle.branch_tree.specs.Told.{TellsOf, IsTimed}
-use Rattle.branch_tree.specs.Trees.{node_of}
+use Rattle.branch_tree.specs.Told.{TellsOf, IsCertifiableIn}
 
 -- what a search of links finds
 abbrev pub LinkFound : Type 0
@@ -21,7 +19,5 @@ abbrev pub LinksTell : Street → Option LinkPlan → ℚ → Verdict SitePart �
 LinksTell a = TellsOf (link_value a)
 
 -- one whole tree in preorder, of splits and leaves that a link certificate keeps, and the link timing that the verdict wants
-pub record AreLinksCertifiable (found : LinkFound) : Type 0 where
-  pub timing : IsTimed found.timing found.verdict
-  pub tree : AreTrees 1 (map node_of found.nodes.items)
-  pub nodes : All (IsNodeIn links) (map node_of found.nodes.items)
+abbrev pub AreLinksCertifiable : LinkFound → Type 0
+AreLinksCertifiable found = IsCertifiableIn links found

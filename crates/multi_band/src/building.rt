@@ -3,15 +3,10 @@
 ghost use Rattle.std.specs.Prelude.{◌≡◌, ◌≢◌, ◌-◌, ◌<◌, ◌≤◌, length, false, IfOk};
 ghost use Rattle.progression.specs.Street.{count};
 ghost use Rattle.progression.specs.Speeds.{number};
-ghost use Rattle.linear_theory.specs.Places as places;
 ghost use Rattle.linear_theory.specs.Boxes.{IsBoxOf};
 ghost use Rattle.simplex_theory.specs.Tableau.{height};
-ghost use Rattle.simplex_theory.specs.DualSteps.{IsDual};
-ghost use Rattle.simplex_theory.specs.RowLists.{StandsForRows};
-ghost use Rattle.link_theory.specs.LinkColumns.{link_width};
-ghost use Rattle.link_theory.specs.LinkRows.{link_goal};
-ghost use Rattle.multi_band.specs.LinkTables.{names_of_links, link_box_rows};
-ghost use Rattle.multi_band.specs.LinkOpening.{rows_before, half_pivot, IsMadeForLinks, loaded_links, opened_links};
+ghost use Rattle.multi_band.specs.LinkTables.{names_of_links};
+ghost use Rattle.multi_band.specs.LinkOpening.{rows_before, half_pivot, IsMadeForLinks, AreSpareRows, loaded_links, opened_links, IsOpenedForLinks};
 
 use crate::table::LinkBandsTable;
 use artery_model::{Artery, Dir};
@@ -23,6 +18,22 @@ use narrow_fraction::{Frac, Memory};
 use program_builder::{StartPivot, load, make_tableau, pivot};
 use search_box::SearchBox;
 use std::alloc::Global;
+
+/// A spare row as wide as the artery's own rows, and one as wide as those of links.
+#[derive(Drop)]
+pub struct SpareRows {
+    pub spare: Row,
+    pub row: Row,
+}
+
+/// Spare rows for an artery's links. The error is want of memory.
+pub fn make_spare(alloc: Global, artery: &Artery) -> Result<SpareRows, Memory>
+    ensures { IfOk result (λ rows. AreSpareRows artery.now rows) }
+{
+    let spare = Row::zero(alloc, column_count(artery))?;
+    let row = Row::zero(alloc, link_column_count(artery))?;
+    Ok(SpareRows { spare, row })
+}
 
 /// How many rows there are of the ratio: one for each link, and none where it is 1.
 #[tactic(auto, using(rational_theory::proofs::Compare::eq_true, rational_theory::proofs::Compare::eq_false))]
@@ -85,30 +96,24 @@ fn enter_halves(tableau: &mut Tableau, artery: &Artery, area: &SearchBox)
     }
 }
 
-/// Makes the state that `start_links` gives for a box, in a tableau that `start_links` made for this artery, spent or not.
-/// `spare` is as wide as the artery's own rows, and `room` as the rows of links; afterwards both are so wide still, with any
-/// contents. Takes no memory.
-pub fn reset_links(
-    tableau: &mut Tableau,
-    artery: &Artery,
-    area: &SearchBox,
-    spare: &mut Row,
-    room: &mut Row,
-)
+/// Makes the state that `start_links` gives for a box, in a tableau that `start_links` made for this artery, spent or not. The
+/// spare rows have any contents afterwards. Takes no memory.
+pub fn reset_links(tableau: &mut Tableau, artery: &Artery, area: &SearchBox, rows: &mut SpareRows)
     requires boxed { IsBoxOf artery.now area.now }
     requires made { IsMadeForLinks artery.now tableau.old }
-    requires spare { length spare.old.coefs ≡ places.width (count artery.now) }
-    requires room { length room.old.coefs ≡ link_width (count artery.now) }
-    ensures opened { tableau.new ≡ opened_links artery.now area.now }
-    ensures dual { IsDual tableau.new.table }
-    ensures stands { StandsForRows tableau.new.table (link_box_rows artery.now area.now) (link_goal artery.now) }
-    ensures made { IsMadeForLinks artery.now tableau.new }
-    ensures spare { length spare.new.coefs ≡ places.width (count artery.now) }
-    ensures room { length room.new.coefs ≡ link_width (count artery.now) }
-    ensures unspent { room.new.spent ≡ false }
+    requires rows { AreSpareRows artery.now rows.old }
+    ensures opened { IsOpenedForLinks artery.now area.now tableau.new }
+    ensures rows { AreSpareRows artery.now rows.new }
+    ensures unspent { rows.new.row.spent ≡ false }
 {
     artery.known_valid();
-    load(tableau, &LinkBandsTable { artery }, area, spare, room);
+    load(
+        tableau,
+        &LinkBandsTable { artery },
+        area,
+        &mut rows.spare,
+        &mut rows.row,
+    );
     enter_halves(tableau, artery, area);
 }
 
@@ -117,14 +122,10 @@ pub fn reset_links(
 /// number leaves 128 bits. The error is want of memory.
 pub fn start_links(alloc: Global, artery: &Artery, area: &SearchBox) -> Result<Tableau, Memory>
     requires boxed { IsBoxOf artery.now area.now }
-    ensures opened { IfOk result (λ tableau. tableau ≡ opened_links artery.now area.now) }
-    ensures dual { IfOk result (λ tableau. IsDual tableau.table) }
-    ensures stands { IfOk result (λ tableau. StandsForRows tableau.table (link_box_rows artery.now area.now) (link_goal artery.now)) }
-    ensures made { IfOk result (λ tableau. IsMadeForLinks artery.now tableau) }
+    ensures { IfOk result (λ tableau. IsOpenedForLinks artery.now area.now tableau) }
 {
     let mut tableau = make_tableau(alloc, &LinkBandsTable { artery })?;
-    let mut spare = Row::zero(alloc, column_count(artery))?;
-    let mut room = Row::zero(alloc, link_column_count(artery))?;
-    reset_links(&mut tableau, artery, area, &mut spare, &mut room);
+    let mut rows = make_spare(alloc, artery)?;
+    reset_links(&mut tableau, artery, area, &mut rows);
     Ok(tableau)
 }

@@ -1,22 +1,39 @@
-//! The links of an artery as a program over boxes: a leaf is summed over their rows, a vertex is recovered, and an end keeps nothing.
+//! The link timings of an artery as what is sought: each box begins from its own opening, and keeps nothing for its parts.
 
-ghost use Rattle.std.specs.Prelude.{◌≡◌, IfOk};
+ghost use Rattle.std.specs.Prelude.{◌≡◌, IfOk, OnOk};
 ghost use Rattle.linear_theory.specs.Boxes.{IsBoxOf};
 ghost use Rattle.link_theory.specs.LinkPlan.{LinkPlan};
+ghost use Rattle.link_proof.specs.LinkWarrants.{IsLinkCertificate};
+ghost use Rattle.branch_tree.specs.Certified.{warrant_from};
 
+use crate::building::{SpareRows, make_spare, reset_links};
+use crate::copying::copied_links;
 use crate::recovery::recover_links;
-use crate::relaxed::RelaxedLinks;
-use branch_tree::{BoxProgram, Read, SitePart, Summed};
+use crate::starting::start_link_leaf;
+use crate::table::LinkBandsTable;
+use artery_model::Artery;
+use branch_tree::{Read, Room, SitePart, Sought, Summed};
 use fraction_tableau::Tableau;
-use link_space::{LinkTiming, link_sum};
+use link_proof::{LinkCertificate, law_link_accepted_or_refused, link_check};
+use link_space::{LinkTiming, link_sum, link_value};
 use loop_rows::SumFault;
 use named_row::{Leaf, Place, Point};
-use narrow_fraction::Memory;
+use narrow_fraction::{Frac, Memory};
 use offset_recovery::{RecoverFault, Recovered};
+use plan_text::{CertNode, Claim};
+use program_builder::make_tableau;
 use search_box::SearchBox;
 use std::alloc::Global;
 
-impl<'a> BoxProgram for RelaxedLinks<'a> {
+/// An artery, whose link timings are sought.
+#[derive(Drop)]
+pub struct ArteryLinks<'a> {
+    pub artery: &'a Artery,
+}
+
+impl<'a> Sought for ArteryLinks<'a> {
+    ghost use Rattle.multi_band.specs.LinkKind.{link_bands};
+    ghost use Rattle.multi_band.specs.LinkOpening.{AreSpareRows};
     ghost use Rattle.multi_band.specs.LinkProgram.{link_program};
     ghost use Rattle.multi_band.specs.LinkRules.{link_meaning};
 
@@ -24,15 +41,63 @@ impl<'a> BoxProgram for RelaxedLinks<'a> {
 
     type Kept = ();
 
-    ghost program = { λ relaxed. link_program relaxed.artery.now };
+    type Spare = SpareRows;
 
-    ghost meaning = { λ relaxed. link_meaning relaxed.artery.now };
+    type Certificate = LinkCertificate;
 
-    ghost IsFor = { λ relaxed. IsBoxOf relaxed.artery.now };
+    ghost program = { λ links. link_program links.artery.now };
+
+    ghost meaning = { λ links. link_meaning links.artery.now };
+
+    ghost kind = { λ links. link_bands links.artery.now };
+
+    ghost IsFor = { λ links. IsBoxOf links.artery.now };
+
+    ghost IsSpare = { λ links. AreSpareRows links.artery.now };
+
+    ghost warrant = { λ certificate. certificate };
 
     fn known_program(&self) {
         // its contract says that the artery is valid
         self.artery.known_valid();
+    }
+
+    fn root(&self, alloc: Global) -> Result<SearchBox, Memory> {
+        SearchBox::root(alloc, self.artery)
+    }
+
+    fn start_leaf(&self, alloc: Global) -> Result<(Leaf, Frac), Memory> {
+        // its contract says that the artery is valid
+        self.artery.known_valid();
+        let start = start_link_leaf(alloc, self.artery)?;
+        Ok(start)
+    }
+
+    fn make_room(&self, alloc: Global) -> Result<Room<SpareRows>, Memory> {
+        let artery = self.artery;
+        // its contract says that the artery is valid
+        artery.known_valid();
+        // its contract says that the root box is one of the artery's
+        let _area = SearchBox::root(alloc, artery)?;
+        let tableau = make_tableau(alloc, &LinkBandsTable { artery })?;
+        let spare = make_spare(alloc, artery)?;
+        Ok(Room { tableau, spare })
+    }
+
+    fn begin_root(&self, tableau: &mut Tableau, spare: &mut SpareRows, area: &SearchBox) {
+        reset_links(tableau, self.artery, area, spare);
+    }
+
+    fn begin_part(
+        &self,
+        _alloc: Global,
+        tableau: &mut Tableau,
+        spare: &mut SpareRows,
+        _kept: &(),
+        area: &SearchBox,
+    ) -> Result<(), Memory> {
+        reset_links(tableau, self.artery, area, spare);
+        Ok(())
     }
 
     fn sum(&self, alloc: Global, area: &SearchBox, leaf: &Leaf) -> Result<Summed, Memory> {
@@ -65,5 +130,42 @@ impl<'a> BoxProgram for RelaxedLinks<'a> {
 
     fn keep(&self, _alloc: Global, _tableau: &Tableau) -> Result<(), Memory> {
         Ok(())
+    }
+
+    fn worth(&self, timing: &LinkTiming) -> Frac {
+        link_value(self.artery, timing)
+    }
+
+    fn copied(&self, alloc: Global, timing: &LinkTiming) -> Result<LinkTiming, Memory> {
+        copied_links(alloc, timing)
+    }
+
+    fn certificate(
+        &self,
+        claim: Claim,
+        timing: Option<LinkTiming>,
+        nodes: Vec<CertNode>,
+    ) -> LinkCertificate
+        requires { IsLinkCertificate (warrant_from claim timing nodes.items) }
+        ensures { result ≡ warrant_from claim timing nodes.items }
+    {
+        LinkCertificate {
+            claim,
+            timing,
+            nodes,
+        }
+    }
+
+    fn confirm(&self, alloc: Global, certificate: &LinkCertificate) -> Result<(), Memory> {
+        match link_check(alloc, self.artery, certificate) {
+            Ok(()) => Ok(()),
+            Err(reject) => {
+                if !reject.is_memory() {
+                    law_link_accepted_or_refused();
+                    unreachable!()
+                }
+                Err(Memory)
+            }
+        }
     }
 }

@@ -9,18 +9,15 @@ ghost use Rattle.multi_band.specs.LinkSites.{HasLinkSite};
 ghost use Rattle.multi_band.specs.LinkEnough.{IsWithinLinkEnough};
 
 use crate::found::LinkFound;
-use crate::relaxed::{RelaxedLinks, make_link_room};
+use crate::program::ArteryLinks;
 use artery_model::Artery;
-use branch_and_bound as engine;
+use branch_tree::search_sought;
 use narrow_fraction::Memory;
 use std::alloc::Global;
 
-/// Searches for the artery's best link timing: the root box is opened first, and then, while a waiting box has a bound of more
-/// than the best value, the one with the greatest bound is split and its two parts are opened, each from its own opening on.
-///
-/// A unit of work is a box that is opened or a pivot. The search stops where all units of the limit are spent and one more is
-/// wanted, or at the first number that leaves 128 bits. A limit, where there is one, is at least 1; without a limit, or with
-/// one that is enough for the artery's links, no search stops by work. The error is want of memory.
+/// Searches for the artery's best link timing, the one with the greatest value, as `search_sought` of `branch_tree` does, each box
+/// from its own opening on. A limit of units of work, where there is one, is at least 1; without a limit, or with one that is enough for
+/// the artery's links, no search stops by work. The error is want of memory.
 pub fn link_search(alloc: Global, artery: &Artery, limit: Option<u64>) -> Result<LinkFound, Memory>
     requires limit { IsBelow 0 limit }
     ensures answer { IfOk result (λ found. IsLinkSearch artery.now limit found) }
@@ -30,8 +27,5 @@ pub fn link_search(alloc: Global, artery: &Artery, limit: Option<u64>) -> Result
     ensures site { IfOk result (λ found. HasLinkSite artery.now found.verdict) }
     ensures enough { IfOk result (λ found. IsWithinLinkEnough artery.now limit found.verdict) }
 {
-    let links = RelaxedLinks { artery };
-    engine::law_enough(&links);
-    let mut room = make_link_room(alloc, artery)?;
-    engine::search(alloc, &links, &mut room, limit)
+    search_sought(alloc, &ArteryLinks { artery }, limit)
 }

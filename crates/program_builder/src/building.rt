@@ -25,7 +25,10 @@ use std::alloc::Global;
 pub fn enter_bands(tableau: &mut Tableau, artery: &Artery, area: &SearchBox)
     requires boxed { IsBoxOf artery.now area.now }
     requires loaded { tableau.old ≡ loaded_box artery.now area.now }
-    ensures { tableau.new ≡ opened_box artery.now area.now }
+    ensures opened { tableau.new ≡ opened_box artery.now area.now }
+    ensures dual { IsDual tableau.new.table }
+    ensures stands { StandsForRows tableau.new.table (box_rows artery.now area.now) (goal_of artery.now) }
+    ensures made { IsMadeFor artery.now tableau.new }
 {
     artery.known_valid();
     tableau.known_named();

@@ -6,7 +6,7 @@ use Rattle.branch_tree.proofs.opening.wide_step.Goals as goal
 
 pub returns-then-ratio : goal.returns-then-ratio
 returns-then-ratio g c = λ line k left r e.
-    let p = g.P.BoxProgram.program c.args.program.now in (
+    let p = g.P.Sought.program c.args.program.now in (
       inl left,
       subst (IsWide p line k) (c.known_program.ensures.ends.ratios_named c.args.cell) (wide_ratio p line k c.args.cell r (subst (λ b. step_at p line k ≡ steps.Wide b c.args.cell) c.if-ratio.true e)),
       refl,
@@ -14,7 +14,7 @@ returns-then-ratio g c = λ line k left r e.
 
 pub returns-else-ratio : goal.returns-else-ratio
 returns-else-ratio g c = λ line k left r e.
-    let p = g.P.BoxProgram.program c.args.program.now in (
+    let p = g.P.Sought.program c.args.program.now in (
       inl left,
       subst (IsWide p line k) (c.known_program.ensures.ends.pivots_named c.args.cell) (wide_pivot p line k c.args.cell r (subst (λ b. step_at p line k ≡ steps.Wide b c.args.cell) c.if-ratio.false e)),
       refl,
