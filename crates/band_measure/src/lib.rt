@@ -28,5 +28,5 @@ mod ways;
 
 pub use laws::{law_finer_pairs, law_one_widest, law_own_pair, law_pairs_make_good};
 pub use measure::widest;
-pub use pair::Widest;
+pub use pair::{BothPairs, GridScale, Widest, timing_with};
 pub use time_space::base_holds;

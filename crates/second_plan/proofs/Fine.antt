@@ -100,6 +100,11 @@ module _ (a : Street) (t : Plan) (k : ℕ) (offsets : List ℕ) where
     pub run_out_are : run_out ≡ map (λ n. n * fineness a) t.run_out
     pub run_in_are : run_in ≡ map (λ n. n * fineness a) t.run_in
 
+  pub parts_of : {grid unit : ℕ} {patterns reds run_out run_in : List ℕ} → grid ≡ t.grid * fineness a → unit ≡ 2 * k * t.grid → patterns ≡ t.patterns
+      → reds ≡ map (λ offset. offset * (t.grid * fineness a)) offsets → run_out ≡ map (λ n. n * fineness a) t.run_out → run_in ≡ map (λ n. n * fineness a) t.run_in
+      → AreParts grid unit patterns reds run_out run_in
+  parts_of d e f g h i = record { grid_is = d; unit_is = e; patterns_are = f; reds_are = g; run_out_are = h; run_in_are = i }
+
   module _ (f b g c : ℕ) where
     pub plan_is : (grid unit : ℕ) (patterns reds run_out run_in : List ℕ) → AreParts grid unit patterns reds run_out run_in
         → plan_of grid unit patterns reds run_out run_in f g b c ≡ with_pairs (pos f) b (pos g) c (in_seconds a t k offsets)

@@ -6,7 +6,6 @@ ghost use Rattle.progression.specs.Speeds.{number};
 ghost use Rattle.second_plan.specs.Cut.{whole_part, IsCutByRatio, IsCut};
 
 use artery_model::Artery;
-use band_measure::Widest;
 use narrow_fraction::Frac;
 
 /// The widths of the bands, in ticks.
@@ -14,13 +13,6 @@ use narrow_fraction::Frac;
 pub struct Bands {
     pub outbound: u128,
     pub inbound: u128,
-}
-
-/// The widest pair of each direction.
-#[derive(Clone, Copy)]
-pub struct Pairs {
-    pub outbound: Widest,
-    pub inbound: Widest,
 }
 
 /// The lesser of two widths.

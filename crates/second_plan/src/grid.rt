@@ -8,9 +8,9 @@ ghost use Rattle.band_measure.specs.Pairs.{with_pairs};
 ghost use Rattle.second_plan.specs.Grid.{fineness, in_seconds, too_fine};
 ghost use Rattle.second_plan.specs.Seconds.{IsRounded};
 
-use crate::bands::Pairs;
 use crate::seconds::Rounded;
 use artery_model::Artery;
+use band_measure::{BothPairs, GridScale, timing_with};
 use narrow_fraction::Memory;
 use std::alloc::Global;
 use time_space::{LIMIT, Timing};
@@ -100,22 +100,13 @@ fn reds(alloc: Global, offsets: &[u64], grid: u128) -> Result<Vec<u128>, Memory>
     Ok(made)
 }
 
-fn patterns(alloc: Global, timing: &Timing) -> Result<Vec<u32>, Memory>
-    ensures value { IfOk result (λ copy. copy.items ≡ timing.now.patterns) }
-    ensures each { IfOk result (λ copy. All (λ p. (1 ≤ p) × (p ≤ 4)) copy.items) }
-{
-    let mut copy = Vec::new(alloc);
-    copy.extend_from_slice(timing.patterns())?;
-    Ok(copy)
-}
-
 /// The timing of the plan with these pairs.
 pub fn timed(
     alloc: Global,
     artery: &Artery,
     timing: &Timing,
     rounded: &Rounded,
-    pairs: Pairs,
+    pairs: BothPairs,
 ) -> Result<Timing, Memory>
     requires rounded { IsRounded rounded.now.seconds rounded.now.offsets.items }
     requires fine { too_fine artery.now timing.now rounded.now.seconds ≡ None }
@@ -134,22 +125,12 @@ pub fn timed(
     let fineness = fineness(artery);
     let grid = grid(artery, timing);
     let unit = unit(timing, rounded.seconds);
-    let patterns = patterns(alloc, timing)?;
+    let patterns = Vec::from_slice(alloc, timing.patterns())?;
     let reds = reds(alloc, rounded.offsets.as_slice(), grid)?;
     let run_out = multiples(alloc, timing.run_out(), fineness)?;
     let run_in = multiples(alloc, timing.run_in(), fineness)?;
-    match Timing::new(
-        grid,
-        unit,
-        patterns,
-        reds,
-        run_out,
-        run_in,
-        pairs.outbound.first,
-        pairs.inbound.first,
-        pairs.outbound.band,
-        pairs.inbound.band,
-    ) {
+    let scale = GridScale { grid, unit };
+    match timing_with(scale, patterns, reds, run_out, run_in, pairs) {
         Some(plan) => Ok(plan),
         None => unreachable!(),
     }

@@ -14,11 +14,11 @@ ghost use Rattle.second_plan.specs.Ends.{Faults};
 ghost use Rattle.second_plan.specs.Seconds.{IsRounded};
 
 use crate::answer::{Plan, PlanEnd, PlanFault};
-use crate::bands::{Bands, Pairs, cut};
+use crate::bands::{Bands, cut};
 use crate::grid::{timed, too_fine};
 use crate::seconds::{Rounded, offsets, whole_cycle};
 use artery_model::Artery;
-use band_measure::{Widest, law_finer_pairs, law_own_pair, law_pairs_make_good, widest};
+use band_measure::{BothPairs, Widest, law_finer_pairs, law_own_pair, law_pairs_make_good, widest};
 use narrow_fraction::Frac;
 use progression::Dir;
 use std::alloc::Global;
@@ -30,7 +30,7 @@ fn with_cut_bands(
     artery: &Artery,
     timing: &Timing,
     rounded: &Rounded,
-    pairs: Pairs,
+    pairs: BothPairs,
 ) -> Result<Timing, PlanFault>
     requires base { IsBase artery.now timing.now }
     requires whole { AreWhole artery.now timing.now rounded.now.seconds rounded.now.offsets.items }
@@ -55,7 +55,7 @@ fn with_cut_bands(
             inbound: pairs.inbound.band,
         },
     );
-    let kept = Pairs {
+    let kept = BothPairs {
         outbound: Widest {
             first: pairs.outbound.first,
             band: bands.outbound,
@@ -88,7 +88,7 @@ fn planned(
     ensures faults { IfErr result (λ f. (claim : ℚ) → Faults artery.now claim timing.now f) }
 {
     let line = Widest { first: 0, band: 0 };
-    let lines = Pairs {
+    let lines = BothPairs {
         outbound: line,
         inbound: line,
     };
@@ -99,7 +99,7 @@ fn planned(
     let Some(inbound) = widest(artery, &frame, Dir::Inbound) else {
         return Err(PlanFault::End(PlanEnd::NoLine { dir: Dir::Inbound }));
     };
-    let pairs = Pairs { outbound, inbound };
+    let pairs = BothPairs { outbound, inbound };
     with_cut_bands(alloc, artery, timing, rounded, pairs)
 }
 

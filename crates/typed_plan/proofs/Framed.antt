@@ -1,5 +1,5 @@
 -- The numbers of the least timing are those of a timing that the program can hold.
-use Rattle.std.proofs.Common.{◌≡◌, ℕ, ◌+◌, ◌-◌, ◌*◌, ◌^◌, ◌<◌, ◌≤◌, pos, List, length, map, sym, ◌∙◌, ap, subst, arith}
+use Rattle.std.proofs.Common.{◌≡◌, ℕ, ◌+◌, ◌-◌, ◌*◌, ◌^◌, ◌<◌, ◌≤◌, pos, List, length, map, refl, sym, ◌∙◌, ap, subst, arith}
 use Rattle.std.specs.Prelude.{None, All}
 use Rattle.std.proofs.Math.Nat.{mul-le-mul_right}
 use Rattle.linear_theory.proofs.Points.{length-numbered}
@@ -12,7 +12,7 @@ use Rattle.time_space.specs.Timing.{IsTiming, plan_of}
 use Rattle.band_measure.specs.Pairs.{with_pairs}
 use Rattle.description_reader.specs.Typed.{Typed, IsTyped}
 use Rattle.typed_plan.specs.Counts.{HasCounts}
-use Rattle.typed_plan.specs.Grid.{least_grid, least_unit, red_tick, runs, size, too_fine, frame}
+use Rattle.typed_plan.specs.Grid.{AreLeast, least_grid, least_unit, red_tick, runs, size, too_fine, frame}
 use Rattle.typed_plan.specs.declared.times.Times.TheVariants.{Run}
 use Rattle.typed_plan.proofs.Fine.{is_fine}
 use Rattle.typed_plan.proofs.Forward.{begun}
@@ -26,21 +26,22 @@ pub record AreParts (a : Street) (p : Typed) (grid unit : ℕ) (patterns reds ru
   pub run_out_are : run_out ≡ runs a p Outbound
   pub run_in_are : run_in ≡ runs a p Inbound
 
--- what is known of the sizes of these numbers
-pub record FitsFrame (a : Street) (p : Typed) : Type 0 where
-  pub grid : least_grid a p < 2 ^ 80
-  pub unit_some : 1 ≤ least_unit a p
-  pub unit : least_unit a p < 2 ^ 80
-  pub cycle : a.head.parts * least_unit a p < 2 ^ 80
+pub parts_of : (a : Street) (p : Typed) {grid unit : ℕ} {patterns reds run_out run_in : List ℕ} → grid ≡ least_grid a p → unit ≡ least_unit a p → patterns ≡ p.patterns
+    → reds ≡ numbered (count a) 1 (red_tick a p) → run_out ≡ runs a p Outbound → run_in ≡ runs a p Inbound → AreParts a p grid unit patterns reds run_out run_in
+parts_of a p d e f g h i = record { grid_is = d; unit_is = e; patterns_are = f; reds_are = g; run_out_are = h; run_in_are = i }
 
-pub fits_frame : (a : Street) (p : Typed) → IsValid a → IsTyped p → too_fine a p ≡ None → FitsFrame a p
-fits_frame a p valid typed fine =
+-- what is known of the sizes of the least grid and a part on it
+pub least_sizes : (a : Street) (p : Typed) → IsValid a → IsTyped p → too_fine a p ≡ None → AreLeast a p (least_grid a p) (least_unit a p)
+least_sizes a p valid typed fine =
     let parts : 1 ≤ a.head.parts = let l = valid.least_parts in omega (arith, l) in
     let limits = is_fine a p fine in
     let two = unit_least a p parts (begun a p typed parts) in
     let m : 1 * least_unit a p ≤ a.head.parts * least_unit a p = mul-le-mul_right (least_unit a p) parts in
     let l = limits.cycle in
-    record { grid = limits.grid; unit_some = omega (arith, two); unit = omega (arith, m, l); cycle = l }
+    record { grid_is = refl; unit_is = refl; grid_small = limits.grid; unit_some = omega (arith, two); unit_small = omega (arith, m, l); cycle_small = l }
+
+pub are_least : (a : Street) (p : Typed) (grid unit : ℕ) → grid ≡ least_grid a p → unit ≡ least_unit a p → IsValid a → IsTyped p → too_fine a p ≡ None → AreLeast a p grid unit
+are_least a p grid unit d e valid typed fine = subst (λ g. AreLeast a p g unit) (sym d) (subst (λ u. AreLeast a p (least_grid a p) u) (sym e) (least_sizes a p valid typed fine))
 
 one_back : (n : ℕ) → 1 ≤ n → n - 1 + 1 ≡ n
 one_back n h = omega arith
@@ -67,7 +68,7 @@ module _ (a : Street) (p : Typed) (grid unit : ℕ) (patterns reds run_out run_i
         let few : 1 ≤ count a = let l = valid.few in omega (arith, l) in
         let limits = is_fine a p fine in
         let begins = begun a p typed parts in
-        let unit_small = (fits_frame a p valid typed fine).unit in
+        let unit_small = (least_sizes a p valid typed fine).unit_small in
         let AllSmall : List ℕ → Type 0 = λ xs. All (λ n. n < 2 ^ 80) xs in
         let wide : length patterns ≡ count a = ap length h.patterns_are ∙ counts.patterns in
         let count_of = λ (d : Dir). ap (λ n. n + 1) (length-numbered (count a - 1) 1 (size a p (Run d))) ∙ one_back (count a) few ∙ sym wide in

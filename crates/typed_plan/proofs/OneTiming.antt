@@ -120,19 +120,23 @@ module _ (a : Street) (p : Typed) (t s : Plan) (valid : IsValid a) (h : IsTiming
       ext_get_or (pos 0) t.reds s.reds (omega (arith, own, other, pats)) (λ i l.
       subst (λ j. get_or t.reds j (pos 0) ≡ get_or s.reds j (pos 0)) (back_again i) (same_red (i + 1) (omega arith, omega (arith, l, own, w))))
 
-  same_bare : bare t ≡ bare s
-  same_bare = λ i. record {
+  -- with the same pairs they are the same
+  same_with : (x u : ℤ) (b c : ℕ) (y v : ℤ) (e f : ℕ) → x ≡ u → b ≡ c → y ≡ v → e ≡ f → with_pairs x b y e t ≡ with_pairs u c v f s
+  same_with x u b c y v e f out_first out_band in_first in_band = λ i. record {
     grid = same_grid i;
     unit = same_unit i;
     patterns = same_patterns i;
     reds = same_reds i;
     run_out = same_out i;
     run_in = same_in_runs i;
-    first_out = pos 0;
-    first_in = pos 0;
-    band_out = 0;
-    band_in = 0;
+    first_out = out_first i;
+    first_in = in_first i;
+    band_out = out_band i;
+    band_in = in_band i;
   }
+
+  same_bare : bare t ≡ bare s
+  same_bare = same_with (pos 0) (pos 0) 0 0 (pos 0) (pos 0) 0 0 refl refl refl refl
 
   some_runs : (d : Dir) (first band : ℕ) → IsWidest a (bare t) d first band → NoneRuns a (bare t) d → ⊥
   some_runs d first band w none =
@@ -157,18 +161,9 @@ module _ (a : Street) (p : Typed) (t s : Plan) (valid : IsValid a) (h : IsTiming
       (x.first ∙ ap pos e.0 ∙ sym y.first, e.1)
 
   same_timing : t ≡ s
-  same_timing = λ i. record {
-    grid = same_grid i;
-    unit = same_unit i;
-    patterns = same_patterns i;
-    reds = same_reds i;
-    run_out = same_out i;
-    run_in = same_in_runs i;
-    first_out = (same_pair Outbound).0 i;
-    first_in = (same_pair Inbound).0 i;
-    band_out = (same_pair Outbound).1 i;
-    band_in = (same_pair Inbound).1 i;
-  }
+  same_timing =
+      let there = same_pair Outbound in let back = same_pair Inbound in
+      same_with t.first_out s.first_out t.band_out s.band_out t.first_in s.first_in t.band_in s.band_in there.0 there.1 back.0 back.1
 
 pub one_timing : OneTiming
 one_timing a p t s valid h k = same_timing a p t s valid h k

@@ -1,5 +1,5 @@
 -- The least grid of a plan: its numbers, and the first of them that is too large.
-use Rattle.std.specs.Prelude.{ℕ, zero, suc, ◌-◌, ◌*◌, ◌/◌, ◌^◌, ◌==◌, nat_le, List, [], ◌∷◌, ◌++◌, map, find, Option, ℤ, pos, ◌+ℤ◌, ◌*ℤ◌, unsigned_abs, if◌then◌else◌}
+use Rattle.std.specs.Prelude.{◌≡◌, ℕ, zero, suc, ◌<◌, ◌≤◌, ◌-◌, ◌*◌, ◌/◌, ◌^◌, ◌==◌, nat_le, List, [], ◌∷◌, ◌++◌, map, find, Option, ℤ, pos, ◌+ℤ◌, ◌*ℤ◌, unsigned_abs, if◌then◌else◌}
 use Rattle.rational_theory.specs.Rational.{ℚ, ◌/ℚ◌}
 use Rattle.rational_theory.specs.Gcd.{lcm}
 use Rattle.progression.specs.Columns.{numbered}
@@ -81,6 +81,15 @@ module _ (a : Street) (p : Typed) where
 
   abbrev pub too_fine : Option ℕ
   too_fine = find (λ n. nat_le (2 ^ 80) n) all_sizes
+
+  -- the least grid, and a part on it, whose cycle a timing can hold
+  pub record AreLeast (grid unit : ℕ) : Type 0 where
+    pub grid_is : grid ≡ least_grid
+    pub unit_is : unit ≡ least_unit
+    pub grid_small : grid < 2 ^ 80
+    pub unit_some : 1 ≤ unit
+    pub unit_small : unit < 2 ^ 80
+    pub cycle_small : a.head.parts * unit < 2 ^ 80
 
   -- ---- the timing
   -- by how many ticks the common red starts before the moment from which the offset counts

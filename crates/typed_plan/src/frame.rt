@@ -6,23 +6,16 @@ ghost use Rattle.progression.specs.Green.{mod_ℤ};
 ghost use Rattle.progression.specs.Street.{count};
 ghost use Rattle.band_measure.specs.Pairs.{with_pairs};
 ghost use Rattle.typed_plan.specs.Counts.{HasCounts};
-ghost use Rattle.typed_plan.specs.Grid.{lead, least_grid, least_unit, red_tick, runs, too_fine, frame};
+ghost use Rattle.typed_plan.specs.Grid.{AreLeast, lead, least_grid, least_unit, red_tick, runs, too_fine, frame};
 
 use crate::grid::{size, ticks};
 use crate::times::{Times, time};
 use artery_model::{Artery, Dir};
-use band_measure::Widest;
+use band_measure::{BothPairs, GridScale, timing_with};
 use description_reader::{Reference, TypedPlan};
 use narrow_fraction::Memory;
 use std::alloc::Global;
 use time_space::Timing;
-
-/// The first line and the band of each direction.
-#[derive(Clone, Copy)]
-pub struct Pairs {
-    pub outbound: Widest,
-    pub inbound: Widest,
-}
 
 /// By how many ticks the common red of a signal starts before the moment from which its offset counts.
 fn lead(artery: &Artery, plan: &TypedPlan, unit: u128, signal: u32) -> i128
@@ -82,24 +75,19 @@ fn cycle(artery: &Artery, unit: u128) -> u128
 }
 
 /// Where the common red of a signal starts, that of signal 1 at 0.
-fn red_tick(artery: &Artery, plan: &TypedPlan, grid: u128, unit: u128, signal: u32) -> u128
+fn red_tick(artery: &Artery, plan: &TypedPlan, scale: GridScale, signal: u32) -> u128
     requires counts { HasCounts artery.now plan.now }
-    requires grid { grid ≡ least_grid artery.now plan.now }
-    requires unit { unit ≡ least_unit artery.now plan.now }
-    requires grid_small { grid < 2 ^ 80 }
-    requires unit_some { 1 ≤ unit }
-    requires unit_small { unit < 2 ^ 80 }
-    requires cycle_small { artery.now.head.parts * unit < 2 ^ 80 }
+    requires least { AreLeast artery.now plan.now scale.grid scale.unit }
     requires first { 1 ≤ signal }
     requires last { signal ≤ count artery.now }
     ensures value { result ≡ red_tick artery.now plan.now signal }
     ensures small { result < 2 ^ 80 }
 {
-    let after = ticks(grid, time(artery, plan, Times::After, signal));
-    let here = lead(artery, plan, unit, signal);
-    let first = lead(artery, plan, unit, 1);
+    let after = ticks(scale.grid, time(artery, plan, Times::After, signal));
+    let here = lead(artery, plan, scale.unit, signal);
+    let first = lead(artery, plan, scale.unit, 1);
     let tick = difference(sum(after, first), here);
-    in_cycle(cycle(artery, unit), tick)
+    in_cycle(cycle(artery, scale.unit), tick)
 }
 
 /// Where the common red of each signal starts.
@@ -107,22 +95,16 @@ fn reds(
     alloc: Global,
     artery: &Artery,
     plan: &TypedPlan,
-    grid: u128,
-    unit: u128,
+    scale: GridScale,
 ) -> Result<Vec<u128>, Memory>
     requires counts { HasCounts artery.now plan.now }
-    requires grid { grid ≡ least_grid artery.now plan.now }
-    requires unit { unit ≡ least_unit artery.now plan.now }
-    requires grid_small { grid < 2 ^ 80 }
-    requires unit_some { 1 ≤ unit }
-    requires unit_small { unit < 2 ^ 80 }
-    requires cycle_small { artery.now.head.parts * unit < 2 ^ 80 }
+    requires least { AreLeast artery.now plan.now scale.grid scale.unit }
     ensures value { IfOk result (λ v. v.items ≡ numbered (count artery.now) 1 (red_tick artery.now plan.now)) }
     ensures small { IfOk result (λ v. All (λ n. n < 2 ^ 80) v.items) }
 {
     let mut reds = Vec::new(alloc);
     for place in 0..artery.count() {
-        reds.push(red_tick(artery, plan, grid, unit, place + 1))?;
+        reds.push(red_tick(artery, plan, scale, place + 1))?;
     }
     Ok(reds)
 }
@@ -147,22 +129,13 @@ fn runs(
     Ok(runs)
 }
 
-fn patterns(alloc: Global, plan: &TypedPlan) -> Result<Vec<u32>, Memory>
-    ensures value { IfOk result (λ copy. copy.items ≡ plan.now.patterns) }
-    ensures each { IfOk result (λ copy. All (λ p. (1 ≤ p) × (p ≤ 4)) copy.items) }
-{
-    let mut copy = Vec::new(alloc);
-    copy.extend_from_slice(plan.patterns())?;
-    Ok(copy)
-}
-
 /// The least timing of a plan, with these firsts and bands.
 pub fn framed(
     alloc: Global,
     artery: &Artery,
     plan: &TypedPlan,
     grid: u128,
-    pairs: Pairs,
+    pairs: BothPairs,
 ) -> Result<Timing, Memory>
     requires counts { HasCounts artery.now plan.now }
     requires grid { grid ≡ least_grid artery.now plan.now }
@@ -177,22 +150,12 @@ pub fn framed(
     artery.known_valid();
     plan.known_within();
     let unit = size(artery, plan, grid, Times::Part, 1);
-    let patterns = patterns(alloc, plan)?;
-    let reds = reds(alloc, artery, plan, grid, unit)?;
+    let patterns = Vec::from_slice(alloc, plan.patterns())?;
+    let scale = GridScale { grid, unit };
+    let reds = reds(alloc, artery, plan, scale)?;
     let run_out = runs(alloc, artery, plan, grid, Dir::Outbound)?;
     let run_in = runs(alloc, artery, plan, grid, Dir::Inbound)?;
-    match Timing::new(
-        grid,
-        unit,
-        patterns,
-        reds,
-        run_out,
-        run_in,
-        pairs.outbound.first,
-        pairs.inbound.first,
-        pairs.outbound.band,
-        pairs.inbound.band,
-    ) {
+    match timing_with(scale, patterns, reds, run_out, run_in, pairs) {
         Some(timing) => Ok(timing),
         None => unreachable!(),
     }

@@ -9,10 +9,10 @@ ghost use Rattle.typed_plan.specs.Grid.{least_grid, too_fine};
 ghost use Rattle.typed_plan.specs.Ends.{IsTimingOf, Refuses};
 
 use crate::counts::check_counts;
-use crate::frame::{Pairs, framed};
+use crate::frame::framed;
 use crate::grid::fitting_grid;
 use artery_model::{Artery, Dir, Flaw, Refusal};
-use band_measure::{Widest, widest};
+use band_measure::{BothPairs, Widest, widest};
 use description_reader::TypedPlan;
 use narrow_fraction::Memory;
 use std::alloc::Global;
@@ -66,14 +66,14 @@ fn timed(alloc: Global, artery: &Artery, plan: &TypedPlan, grid: u128) -> Result
 {
     artery.known_valid();
     plan.known_within();
-    let lines = Pairs {
+    let lines = BothPairs {
         outbound: NO_LINE,
         inbound: NO_LINE,
     };
     let frame = framed(alloc, artery, plan, grid, lines)?;
     let outbound = widest_or_none(artery, &frame, Dir::Outbound);
     let inbound = widest_or_none(artery, &frame, Dir::Inbound);
-    framed(alloc, artery, plan, grid, Pairs { outbound, inbound })
+    framed(alloc, artery, plan, grid, BothPairs { outbound, inbound })
 }
 
 /// The timing of a plan on an artery.

@@ -1,6 +1,6 @@
 use Rattle.std.proofs.Common.{◌∙◌, ◌*◌, map, ap₂, subst}
 use Rattle.std.specs.Prelude.{All, ◌≤◌}
-use Rattle.second_plan.proofs.Fine.{plan_is, is_timing}
+use Rattle.second_plan.proofs.Fine.{parts_of, plan_is, is_timing}
 use Rattle.second_plan.proofs.grid.timed.Goals as goal
 
 pub unreachable-requires : goal.unreachable-requires
@@ -8,17 +8,13 @@ unreachable-requires c =
     let a = c.args.artery.now in let t = c.args.timing.now in
     c.in-None.ensures.none
     (is_timing a t c.args.rounded.now.seconds c.args.rounded.now.offsets.items c.args.pairs.outbound.first c.args.pairs.outbound.band c.args.pairs.inbound.first c.args.pairs.inbound.band
-    c.known_valid.ensures c.count.ensures.plan c.requires.fine c.requires.rounded.some c.requires.shape (subst (λ xs. All (λ p. (1 ≤ p) × (p ≤ 4)) xs) c.in_ok-patterns.ensures.value c.in_ok-patterns.ensures.each)
+    c.known_valid.ensures c.count.ensures.plan c.requires.fine c.requires.rounded.some c.requires.shape (subst (λ xs. All (λ p. (1 ≤ p) × (p ≤ 4)) xs) c.patterns.ensures.value c.patterns.ensures.each)
     c.requires.offsets c.requires.rounded.below c.requires.first_out c.requires.band_out c.requires.first_in c.requires.band_in
     _ _ _ _ _ _
-    (record {
-      grid_is = c.grid-grid.ensures.value;
-      unit_is = c.unit-unit.ensures.value;
-      patterns_are = c.in_ok-patterns.ensures.value;
-      reds_are = c.in_ok-reds.ensures ∙ ap₂ (λ g xs. map (λ offset. offset * g) xs) c.grid-grid.ensures.value c.as_slice.ensures.value;
-      run_out_are = c.in_ok-run_out.ensures ∙ ap₂ (λ m xs. map (λ n. n * m) xs) c.fineness-fineness.ensures.value c.run_out.ensures.value;
-      run_in_are = c.in_ok-run_in.ensures ∙ ap₂ (λ m xs. map (λ n. n * m) xs) c.fineness-fineness.ensures.value c.run_in.ensures.value;
-    }))
+    (parts_of a t c.args.rounded.now.seconds c.args.rounded.now.offsets.items c.grid-grid.ensures.value c.unit-unit.ensures.value (c.in_ok-patterns.ensures.items ∙ c.patterns.ensures.value)
+    (c.in_ok-reds.ensures ∙ ap₂ (λ g xs. map (λ offset. offset * g) xs) c.grid-grid.ensures.value c.as_slice.ensures.value)
+    (c.in_ok-run_out.ensures ∙ ap₂ (λ m xs. map (λ n. n * m) xs) c.fineness-fineness.ensures.value c.run_out.ensures.value)
+    (c.in_ok-run_in.ensures ∙ ap₂ (λ m xs. map (λ n. n * m) xs) c.fineness-fineness.ensures.value c.run_in.ensures.value)))
 
 pub returns : goal.returns
 returns c =
@@ -26,11 +22,7 @@ returns c =
     c.in-Some.ensures.value
     ∙ plan_is a t c.args.rounded.now.seconds c.args.rounded.now.offsets.items c.args.pairs.outbound.first c.args.pairs.outbound.band c.args.pairs.inbound.first c.args.pairs.inbound.band
     _ _ _ _ _ _
-    (record {
-      grid_is = c.grid-grid.ensures.value;
-      unit_is = c.unit-unit.ensures.value;
-      patterns_are = c.in_ok-patterns.ensures.value;
-      reds_are = c.in_ok-reds.ensures ∙ ap₂ (λ g xs. map (λ offset. offset * g) xs) c.grid-grid.ensures.value c.as_slice.ensures.value;
-      run_out_are = c.in_ok-run_out.ensures ∙ ap₂ (λ m xs. map (λ n. n * m) xs) c.fineness-fineness.ensures.value c.run_out.ensures.value;
-      run_in_are = c.in_ok-run_in.ensures ∙ ap₂ (λ m xs. map (λ n. n * m) xs) c.fineness-fineness.ensures.value c.run_in.ensures.value;
-    })
+    (parts_of a t c.args.rounded.now.seconds c.args.rounded.now.offsets.items c.grid-grid.ensures.value c.unit-unit.ensures.value (c.in_ok-patterns.ensures.items ∙ c.patterns.ensures.value)
+    (c.in_ok-reds.ensures ∙ ap₂ (λ g xs. map (λ offset. offset * g) xs) c.grid-grid.ensures.value c.as_slice.ensures.value)
+    (c.in_ok-run_out.ensures ∙ ap₂ (λ m xs. map (λ n. n * m) xs) c.fineness-fineness.ensures.value c.run_out.ensures.value)
+    (c.in_ok-run_in.ensures ∙ ap₂ (λ m xs. map (λ n. n * m) xs) c.fineness-fineness.ensures.value c.run_in.ensures.value))
