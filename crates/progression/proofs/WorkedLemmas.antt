@@ -1,6 +1,6 @@
 -- The worked timings, computed.
 use Rattle.std.proofs.Common.{◌≡◌, ℕ, zero, suc, ◌<◌, ◌≤◌, Bool, true, false, refl, arith, ◌⊎◌, inl, inr, subst, sym}
-use Rattle.std.specs.Prelude.{IsTrue, ◌&&◌, ℤ, pos, ◌+ℤ◌}
+use Rattle.std.specs.Prelude.{IsTrue, ◌&&◌, ℤ, pos, ◌+ℤ◌, length}
 use Rattle.rational_theory.specs.Rational.{whole, over, inverse_ℚ, neg_ℚ, ◌+ℚ◌, ◌*ℚ◌, ◌/ℚ◌, ◌≤ℚ◌}
 use Rattle.rational_theory.specs.Gcd.{gcd}
 use Rattle.rational_theory.proofs.Arithmetic.{same_cross}
@@ -9,7 +9,7 @@ use Rattle.std.proofs.lemmas.Int.{ints}
 use Rattle.progression.specs.Street.{Street, count, HasSignal, HasLink, allows}
 use Rattle.progression.specs.Speeds.{number, run_low, run_high}
 use Rattle.progression.specs.Plan.{Plan, IsPlan, cycle, pattern_of, run, band}
-use Rattle.progression.specs.Good.{Good, RatioHolds, HasLeastBand}
+use Rattle.progression.specs.Good.{Good, IsBase, RatioHolds, HasLeastBand}
 use Rattle.progression.specs.Best.{weighted_band}
 use Rattle.progression.specs.Green.{is_green, red_start, red_ticks}
 use Rattle.progression.specs.Lines.{stop, crossing, IsGreenAt, IsGreenWay}
@@ -39,17 +39,18 @@ each_below test (suc n) t e l =
 each_to : (test : ℕ → Bool) (n t : ℕ) → all_below test (suc n) ≡ true → t ≤ n → IsTrue (test t)
 each_to test n t e l = each_below test (suc n) t e (omega arith)
 
--- what holds at both signals holds at each
-at_two : (P : ℕ → Type 0) → P 1 → P 2 → (i : ℕ) → HasSignal two_signals i → P i
-at_two P p q zero h = absurd (omega (arith, h.0))
-at_two P p q (suc zero) h = p
-at_two P p q (suc (suc zero)) h = q
-at_two P p q (suc (suc (suc i))) h = absurd (omega (arith, h.1))
+-- an artery of two signals: what holds at both holds at each, and what holds of its link holds of each
+module _ (a : Street) (two : count a ≡ 2) where
+  at_signal : (P : ℕ → Type 0) → P 1 → P 2 → (i : ℕ) → HasSignal a i → P i
+  at_signal P p q zero h = absurd (omega (arith, h.0))
+  at_signal P p q (suc zero) h = p
+  at_signal P p q (suc (suc zero)) h = q
+  at_signal P p q (suc (suc (suc i))) h = absurd (omega (arith, h.1, two))
 
-at_one : (P : ℕ → Type 0) → P 1 → (i : ℕ) → HasLink two_signals i → P i
-at_one P p zero h = absurd (omega (arith, h.0))
-at_one P p (suc zero) h = p
-at_one P p (suc (suc i)) h = absurd (omega (arith, h.1))
+  pub at_link : (P : ℕ → Type 0) → P 1 → (i : ℕ) → HasLink a i → P i
+  at_link P p zero h = absurd (omega (arith, h.0))
+  at_link P p (suc zero) h = p
+  at_link P p (suc (suc i)) h = absurd (omega (arith, h.1, two))
 
 -- a place of a way with two signals
 at_two_places : (P : ℕ → Type 0) → P 0 → P 1 → (j : ℕ) → j < 2 → P j
@@ -57,12 +58,32 @@ at_two_places P p q zero h = p
 at_two_places P p q (suc zero) h = q
 at_two_places P p q (suc (suc j)) h = absurd (omega arith)
 
-both : (P : Dir → Type 0) → P Outbound → P Inbound → (d : Dir) → P d
+pub both : (P : Dir → Type 0) → P Outbound → P Inbound → (d : Dir) → P d
 both P p q Outbound = p
 both P p q Inbound = q
 
-plan : (run : ℕ) (first_out : ℤ) (band_out band_in : ℕ) → IsPlan (timing 2 run first_out band_out band_in)
-plan run first_out band_out band_in = record { grid = omega arith; unit = omega arith; reds = refl; run_out = refl; run_in = refl }
+-- the rules that don't speak of bands, from those of the two signals and of the link
+module _ (a : Street) (p : Plan) (two : count a ≡ 2) where
+  abbrev IsFast : Dir → Type 0
+  IsFast d = (run_low a d 1 *ℚ number p.grid) ≤ℚ number (run p d 1)
+
+  abbrev IsSlow : Dir → Type 0
+  IsSlow d = number (run p d 1) ≤ℚ (run_high a d 1 *ℚ number p.grid)
+
+  base_of : IsPlan p → length p.patterns ≡ count a → IsTrue (allows a 1 (pattern_of p 1)) → IsTrue (allows a 2 (pattern_of p 2))
+      → (a.head.cycle.least *ℚ number p.grid) ≤ℚ number (cycle a p) → number (cycle a p) ≤ℚ (a.head.cycle.most *ℚ number p.grid)
+      → IsFast Outbound → IsFast Inbound → IsSlow Outbound → IsSlow Inbound → IsBase a p
+  base_of plan shape allowed_first allowed_last least most fast_out fast_in slow_out slow_in = record {
+    plan = plan;
+    shape = shape;
+    patterns = at_signal a two (λ i. IsTrue (allows a i (pattern_of p i))) allowed_first allowed_last;
+    cycle_least = least;
+    cycle_most = most;
+    fast = λ d. at_link a two (λ i. (run_low a d i *ℚ number p.grid) ≤ℚ number (run p d i)) (both IsFast fast_out fast_in d);
+    slow = λ d. at_link a two (λ i. number (run p d i) ≤ℚ (run_high a d i *ℚ number p.grid)) (both IsSlow slow_out slow_in d);
+    rise = λ d i h k. absurd (omega (arith, h.0, k.1, two));
+    drop = λ d i h k. absurd (omega (arith, h.0, k.1, two));
+  }
 
 -- a timing of two ticks a second whose bands are green
 good : (first_out : ℤ) (band_out band_in : ℕ)
@@ -72,21 +93,10 @@ good : (first_out : ℤ) (band_out band_in : ℕ)
     → Good two_signals (timing 2 100 first_out band_out band_in)
 unfolding whole over inverse_ℚ ◌*ℚ◌ gcd
 good first_out band_out band_in r out back = record {
-  base = record {
-    plan = plan 100 first_out band_out band_in;
-    shape = refl;
-    patterns = at_two (λ i. IsTrue (allows two_signals i (pattern_of (timing 2 100 first_out band_out band_in) i))) refl refl;
-    cycle_least = record { cross = omega (arith, ints) };
-    cycle_most = record { cross = omega (arith, ints) };
-    fast = both (λ d. (i : ℕ) → HasLink two_signals i → (run_low two_signals d i *ℚ number 2) ≤ℚ number (run (timing 2 100 first_out band_out band_in) d i))
-        (at_one (λ i. (run_low two_signals Outbound i *ℚ number 2) ≤ℚ number (run (timing 2 100 first_out band_out band_in) Outbound i)) (record { cross = omega (arith, ints) }))
-        (at_one (λ i. (run_low two_signals Inbound i *ℚ number 2) ≤ℚ number (run (timing 2 100 first_out band_out band_in) Inbound i)) (record { cross = omega (arith, ints) }));
-    slow = both (λ d. (i : ℕ) → HasLink two_signals i → number (run (timing 2 100 first_out band_out band_in) d i) ≤ℚ (run_high two_signals d i *ℚ number 2))
-        (at_one (λ i. number (run (timing 2 100 first_out band_out band_in) Outbound i) ≤ℚ (run_high two_signals Outbound i *ℚ number 2)) (record { cross = omega (arith, ints) }))
-        (at_one (λ i. number (run (timing 2 100 first_out band_out band_in) Inbound i) ≤ℚ (run_high two_signals Inbound i *ℚ number 2)) (record { cross = omega (arith, ints) }));
-    rise = λ d i h k. absurd (omega (arith, h.0, k.1));
-    drop = λ d i h k. absurd (omega (arith, h.0, k.1));
-  };
+  base = base_of two_signals (timing 2 100 first_out band_out band_in) refl
+      (record { grid = omega arith; unit = omega arith; reds = refl; run_out = refl; run_in = refl }) refl refl refl
+      (record { cross = omega (arith, ints) }) (record { cross = omega (arith, ints) })
+      (record { cross = omega (arith, ints) }) (record { cross = omega (arith, ints) }) (record { cross = omega (arith, ints) }) (record { cross = omega (arith, ints) });
   ratio = r;
   least = both (HasLeastBand two_signals (timing 2 100 first_out band_out band_in)) (record { cross = omega (arith, ints) }) (record { cross = omega (arith, ints) });
   equal = λ e. absurd cc;
@@ -143,21 +153,10 @@ lagging_left g = true≢false (sym (g.outbound 1 (omega arith) 81 (omega arith))
 pub leading_lefts : Good with_lefts (one_way 3)
 unfolding whole over inverse_ℚ ◌+ℚ◌ neg_ℚ ◌*ℚ◌ gcd
 leading_lefts = let p = one_way 3 in record {
-  base = record {
-    plan = record { grid = omega arith; unit = omega arith; reds = refl; run_out = refl; run_in = refl };
-    shape = refl;
-    patterns = at_two (λ i. IsTrue (allows with_lefts i (pattern_of p i))) refl refl;
-    cycle_least = record { cross = omega (arith, ints) };
-    cycle_most = record { cross = omega (arith, ints) };
-    fast = both (λ d. (i : ℕ) → HasLink with_lefts i → (run_low with_lefts d i *ℚ number 2) ≤ℚ number (run p d i))
-        (at_one (λ i. (run_low with_lefts Outbound i *ℚ number 2) ≤ℚ number (run p Outbound i)) (record { cross = omega (arith, ints) }))
-        (at_one (λ i. (run_low with_lefts Inbound i *ℚ number 2) ≤ℚ number (run p Inbound i)) (record { cross = omega (arith, ints) }));
-    slow = both (λ d. (i : ℕ) → HasLink with_lefts i → number (run p d i) ≤ℚ (run_high with_lefts d i *ℚ number 2))
-        (at_one (λ i. number (run p Outbound i) ≤ℚ (run_high with_lefts Outbound i *ℚ number 2)) (record { cross = omega (arith, ints) }))
-        (at_one (λ i. number (run p Inbound i) ≤ℚ (run_high with_lefts Inbound i *ℚ number 2)) (record { cross = omega (arith, ints) }));
-    rise = λ d i h k. absurd (omega (arith, h.0, k.1));
-    drop = λ d i h k. absurd (omega (arith, h.0, k.1));
-  };
+  base = base_of with_lefts p refl
+      (record { grid = omega arith; unit = omega arith; reds = refl; run_out = refl; run_in = refl }) refl refl refl
+      (record { cross = omega (arith, ints) }) (record { cross = omega (arith, ints) })
+      (record { cross = omega (arith, ints) }) (record { cross = omega (arith, ints) }) (record { cross = omega (arith, ints) }) (record { cross = omega (arith, ints) });
   ratio = record { cross = omega (arith, ints) };
   least = both (HasLeastBand with_lefts p) (record { cross = omega (arith, ints) }) (record { cross = omega (arith, ints) });
   equal = λ e. absurd cc;
@@ -178,21 +177,10 @@ turning : (pattern red first_out band_out first_in band_in : ℕ)
     → Good unequal_lefts (two_way pattern red first_out band_out first_in band_in)
 unfolding whole over inverse_ℚ ◌+ℚ◌ neg_ℚ ◌*ℚ◌ gcd
 turning pattern red first_out band_out first_in band_in allowed r out back = let p = two_way pattern red first_out band_out first_in band_in in record {
-  base = record {
-    plan = record { grid = omega arith; unit = omega arith; reds = refl; run_out = refl; run_in = refl };
-    shape = refl;
-    patterns = at_two (λ i. IsTrue (allows unequal_lefts i (pattern_of p i))) refl allowed;
-    cycle_least = record { cross = omega (arith, ints) };
-    cycle_most = record { cross = omega (arith, ints) };
-    fast = both (λ d. (i : ℕ) → HasLink unequal_lefts i → (run_low unequal_lefts d i *ℚ number 2) ≤ℚ number (run p d i))
-        (at_one (λ i. (run_low unequal_lefts Outbound i *ℚ number 2) ≤ℚ number (run p Outbound i)) (record { cross = omega (arith, ints) }))
-        (at_one (λ i. (run_low unequal_lefts Inbound i *ℚ number 2) ≤ℚ number (run p Inbound i)) (record { cross = omega (arith, ints) }));
-    slow = both (λ d. (i : ℕ) → HasLink unequal_lefts i → number (run p d i) ≤ℚ (run_high unequal_lefts d i *ℚ number 2))
-        (at_one (λ i. number (run p Outbound i) ≤ℚ (run_high unequal_lefts Outbound i *ℚ number 2)) (record { cross = omega (arith, ints) }))
-        (at_one (λ i. number (run p Inbound i) ≤ℚ (run_high unequal_lefts Inbound i *ℚ number 2)) (record { cross = omega (arith, ints) }));
-    rise = λ d i h k. absurd (omega (arith, h.0, k.1));
-    drop = λ d i h k. absurd (omega (arith, h.0, k.1));
-  };
+  base = base_of unequal_lefts p refl
+      (record { grid = omega arith; unit = omega arith; reds = refl; run_out = refl; run_in = refl }) refl refl allowed
+      (record { cross = omega (arith, ints) }) (record { cross = omega (arith, ints) })
+      (record { cross = omega (arith, ints) }) (record { cross = omega (arith, ints) }) (record { cross = omega (arith, ints) }) (record { cross = omega (arith, ints) });
   ratio = r;
   least = both (HasLeastBand unequal_lefts p) (record { cross = omega (arith, ints) }) (record { cross = omega (arith, ints) });
   equal = λ e. absurd cc;

@@ -192,79 +192,69 @@ record Clash (p : ℕ → Tableau) (r j : ℕ → ℕ) (n b c : ℕ) : Type 0 wh
   is : leaves p r b ≡ enters p j c
   most : (k : ℕ) → k < n → enters p j k ≤ enters p j c
 
-clash_term : (p : ℕ → Tableau) (r j : ℕ → ℕ) (n b c : ℕ) → Clash p r j n b c → (k : ℕ) → k < width (p c) → whole (pos 0) ≤ℚ (cell (p c) (r c) k *ℚ vertex (p b) (standing_at (p c) k))
-clash_term p r j n b c q k h = pick (found_or_none (λ i. enters p j i ≡ standing_at (p c) k) (λ i. same_or_other (enters p j i) (standing_at (p c) k)) n)
-  where
-    before : IsDual (p b)
-    before = dual_along p r j n q.path b (let l = q.leaving in omega arith)
+module _ (p : ℕ → Tableau) (r j : ℕ → ℕ) (n b c : ℕ) (q : Clash p r j n b c) where
+  -- the tableaux of both times, and what is chosen there
+  before : IsDual (p b)
+  before = dual_along p r j n q.path b (let l = q.leaving in omega arith)
 
-    after : IsDual (p c)
-    after = dual_along p r j n q.path c (let l = q.entering in omega arith)
+  after : IsDual (p c)
+  after = dual_along p r j n q.path c (let l = q.entering in omega arith)
 
-    there : IsChoice (p b) (r b) (j b)
-    there = q.path.choice b q.leaving
+  there : IsChoice (p b) (r b) (j b)
+  there = q.path.choice b q.leaving
 
-    here : IsChoice (p c) (r c) (j c)
-    here = q.path.choice c q.entering
+  here : IsChoice (p c) (r c) (j c)
+  here = q.path.choice c q.entering
 
-    smaller : Found (λ i. enters p j i ≡ standing_at (p c) k) n → (standing_at (p c) k ≡ enters p j c → ⊥) → (cell (p c) (r c) k <ℚ whole (pos 0)) ⊎ (whole (pos 0) ≤ℚ cell (p c) (r c) k)
-        → whole (pos 0) ≤ℚ (cell (p c) (r c) k *ℚ vertex (p b) (standing_at (p c) k))
-    smaller f d (inl l) =
-        let zero_ratios : ratio (p c) (r c) (j c) ≡ ratio (p c) (r c) k =
-        zero_ratio (p c) (r c) (j c) ((zero_along p r j n q.path q.same c c q.entering (let l = q.entering in omega arith)).zero_goal (j c) here.place refl)
-        ∙ sym (zero_ratio (p c) (r c) k ((zero_along p r j n q.path q.same f.at c f.within (let l = q.entering in omega arith)).zero_goal k h (sym f.holds))) in
-        absurd (d (let e = here.least_place k h l zero_ratios in let g = q.most f.at f.within in let i = f.holds in omega arith))
-    smaller f d (inr l) =
-        product_not_negative _ _ l (vertex_low (p b) (r b) (j b) (standing_at (p c) k) before.shaped before.placed there (let g = q.most f.at f.within in let i = f.holds in let e = q.is in grind arith))
+  clash_term : (k : ℕ) → k < width (p c) → whole (pos 0) ≤ℚ (cell (p c) (r c) k *ℚ vertex (p b) (standing_at (p c) k))
+  clash_term k h = pick (found_or_none (λ i. enters p j i ≡ standing_at (p c) k) (λ i. same_or_other (enters p j i) (standing_at (p c) k)) n)
+    where
+      smaller : Found (λ i. enters p j i ≡ standing_at (p c) k) n → (standing_at (p c) k ≡ enters p j c → ⊥) → (cell (p c) (r c) k <ℚ whole (pos 0)) ⊎ (whole (pos 0) ≤ℚ cell (p c) (r c) k)
+          → whole (pos 0) ≤ℚ (cell (p c) (r c) k *ℚ vertex (p b) (standing_at (p c) k))
+      smaller f d (inl l) =
+          let zero_ratios : ratio (p c) (r c) (j c) ≡ ratio (p c) (r c) k =
+          zero_ratio (p c) (r c) (j c) ((zero_along p r j n q.path q.same c c q.entering (let l = q.entering in omega arith)).zero_goal (j c) here.place refl)
+          ∙ sym (zero_ratio (p c) (r c) k ((zero_along p r j n q.path q.same f.at c f.within (let l = q.entering in omega arith)).zero_goal k h (sym f.holds))) in
+          absurd (d (let e = here.least_place k h l zero_ratios in let g = q.most f.at f.within in let i = f.holds in omega arith))
+      smaller f d (inr l) =
+          product_not_negative _ _ l (vertex_low (p b) (r b) (j b) (standing_at (p c) k) before.shaped before.placed there (let g = q.most f.at f.within in let i = f.holds in let e = q.is in grind arith))
 
-    fickle : Found (λ i. enters p j i ≡ standing_at (p c) k) n → (standing_at (p c) k ≡ enters p j c) ⊎ (standing_at (p c) k ≡ enters p j c → ⊥)
-        → whole (pos 0) ≤ℚ (cell (p c) (r c) k *ℚ vertex (p b) (standing_at (p c) k))
-    fickle f (inl e) =
-        product_of_negatives _ _
-        (rw (after.placed.places k (j c) h here.place e) (<ℚ-≤ℚ _ _ here.entering))
-        (rw (e ∙ sym q.is, vertex_basic (p b) (r b) before.shaped before.placed there.row) (<ℚ-≤ℚ _ _ there.negative))
-    fickle f (inr d) = smaller f d (below_or_not (cell (p c) (r c) k) (whole (pos 0)))
+      fickle : Found (λ i. enters p j i ≡ standing_at (p c) k) n → (standing_at (p c) k ≡ enters p j c) ⊎ (standing_at (p c) k ≡ enters p j c → ⊥)
+          → whole (pos 0) ≤ℚ (cell (p c) (r c) k *ℚ vertex (p b) (standing_at (p c) k))
+      fickle f (inl e) =
+          product_of_negatives _ _
+          (rw (after.placed.places k (j c) h here.place e) (<ℚ-≤ℚ _ _ here.entering))
+          (rw (e ∙ sym q.is, vertex_basic (p b) (r b) before.shaped before.placed there.row) (<ℚ-≤ℚ _ _ there.negative))
+      fickle f (inr d) = smaller f d (below_or_not (cell (p c) (r c) k) (whole (pos 0)))
 
-    pick : Found (λ i. enters p j i ≡ standing_at (p c) k) n ⊎ ((i : ℕ) → i < n → enters p j i ≡ standing_at (p c) k → ⊥) → whole (pos 0) ≤ℚ (cell (p c) (r c) k *ℚ vertex (p b) (standing_at (p c) k))
-    pick (inl f) = fickle f (same_or_other (standing_at (p c) k) (enters p j c))
-    pick (inr f) =
-        rw
-        (vertex_other (p b) (standing_at (p c) k) before.shaped
-        (λ i l e. standing_not_basic (p c) k after.placed h
-        (never_enters p r j n q.path q.same (standing_at (p c) k) f b c (let l = q.leaving in omega arith) (let l = q.entering in omega arith) (record { row = i; within = l; is = e }))))
-        (rw (*ℚ-zero (cell (p c) (r c) k)) (≤ℚ_refl _))
+      pick : Found (λ i. enters p j i ≡ standing_at (p c) k) n ⊎ ((i : ℕ) → i < n → enters p j i ≡ standing_at (p c) k → ⊥) → whole (pos 0) ≤ℚ (cell (p c) (r c) k *ℚ vertex (p b) (standing_at (p c) k))
+      pick (inl f) = fickle f (same_or_other (standing_at (p c) k) (enters p j c))
+      pick (inr f) =
+          rw
+          (vertex_other (p b) (standing_at (p c) k) before.shaped
+          (λ i l e. standing_not_basic (p c) k after.placed h
+          (never_enters p r j n q.path q.same (standing_at (p c) k) f b c (let l = q.leaving in omega arith) (let l = q.entering in omega arith) (record { row = i; within = l; is = e }))))
+          (rw (*ℚ-zero (cell (p c) (r c) k)) (≤ℚ_refl _))
 
-clash : (p : ℕ → Tableau) (r j : ℕ → ℕ) (n b c : ℕ) → Clash p r j n b c → ⊥
-clash p r j n b c q =
-    no_row (p c) (r c) (vertex (p b)) after.shaped here.row
-    (meets_along p r j n q.path (vertex (p b)) (whole (pos 1)) b c (let l = q.leaving in omega arith) (let l = q.entering in omega arith) (vertex_meets (p b) before.shaped before.placed))
-    here.negative
-    (pick (found_or_none (λ i. enters p j i ≡ leaves p r c) (λ i. same_or_other (enters p j i) (leaves p r c)) n))
-    (clash_term p r j n b c q)
-  where
-    before : IsDual (p b)
-    before = dual_along p r j n q.path b (let l = q.leaving in omega arith)
+  clash : ⊥
+  clash =
+      no_row (p c) (r c) (vertex (p b)) after.shaped here.row
+      (meets_along p r j n q.path (vertex (p b)) (whole (pos 1)) b c (let l = q.leaving in omega arith) (let l = q.entering in omega arith) (vertex_meets (p b) before.shaped before.placed))
+      here.negative
+      (pick (found_or_none (λ i. enters p j i ≡ leaves p r c) (λ i. same_or_other (enters p j i) (leaves p r c)) n))
+      clash_term
+    where
+      left : IsBasic (p (suc c)) (leaves p r c) → ⊥
+      left = subst (λ v. IsBasic (p (suc c)) v → ⊥)
+          (ap (λ (t : Tableau). standing_at t (j c)) (q.path.next c q.entering) ∙ standing_same (r c) (j c) (p c) here.place)
+          (standing_not_basic (p (suc c)) (j c) (dual_along p r j n q.path (suc c) q.entering).placed (rw (q.path.next c q.entering, width-exchange (r c) (j c) (p c)) here.place))
 
-    after : IsDual (p c)
-    after = dual_along p r j n q.path c (let l = q.entering in omega arith)
-
-    there : IsChoice (p b) (r b) (j b)
-    there = q.path.choice b q.leaving
-
-    here : IsChoice (p c) (r c) (j c)
-    here = q.path.choice c q.entering
-
-    left : IsBasic (p (suc c)) (leaves p r c) → ⊥
-    left = subst (λ v. IsBasic (p (suc c)) v → ⊥)
-        (ap (λ (t : Tableau). standing_at t (j c)) (q.path.next c q.entering) ∙ standing_same (r c) (j c) (p c) here.place)
-        (standing_not_basic (p (suc c)) (j c) (dual_along p r j n q.path (suc c) q.entering).placed (rw (q.path.next c q.entering, width-exchange (r c) (j c) (p c)) here.place))
-
-    pick : Found (λ i. enters p j i ≡ leaves p r c) n ⊎ ((i : ℕ) → i < n → enters p j i ≡ leaves p r c → ⊥) → whole (pos 0) ≤ℚ vertex (p b) (leaves p r c)
-    pick (inr f) =
-        absurd (left (never_enters p r j n q.path q.same (leaves p r c) f c (suc c) (let l = q.entering in omega arith) q.entering (record { row = r c; within = here.row; is = refl })))
-    pick (inl f) =
-        vertex_low (p b) (r b) (j b) (leaves p r c) before.shaped before.placed there
-        (let g = q.most f.at f.within in let i = f.holds in let e = q.is in let d = after.placed.apart (r c) (j c) here.row here.place in grind arith)
+      pick : Found (λ i. enters p j i ≡ leaves p r c) n ⊎ ((i : ℕ) → i < n → enters p j i ≡ leaves p r c → ⊥) → whole (pos 0) ≤ℚ vertex (p b) (leaves p r c)
+      pick (inr f) =
+          absurd (left (never_enters p r j n q.path q.same (leaves p r c) f c (suc c) (let l = q.entering in omega arith) q.entering (record { row = r c; within = here.row; is = refl })))
+      pick (inl f) =
+          vertex_low (p b) (r b) (j b) (leaves p r c) before.shaped before.placed there
+          (let g = q.most f.at f.within in let i = f.holds in let e = q.is in let d = after.placed.apart (r c) (j c) here.row here.place in grind arith)
 
 pub no_return : (p : ℕ → Tableau) (r j : ℕ → ℕ) (n : ℕ) → IsPath p r j (suc n) → HaveSameBasics (p 0) (p (suc n)) → ⊥
 no_return p r j n a s =
