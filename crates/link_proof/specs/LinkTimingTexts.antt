@@ -22,8 +22,8 @@ link_lines t = base_lines (lines t) ++ spelled half_out_key t.half_out ∷ spell
 unfoldable pub link_plan_at : ℕ → List ℕ → Result (LinkPlan × List ℕ) BadText
 link_plan_at line bytes = do
   base ← base_at line bytes
-  halves ← both_ways_at half_out_key half_in_key (line + 7) (length base.0.patterns - 1) base.1
-  Ok (with_halves base.0 halves.0 halves.1, halves.2)
+  halves ← both_ways_at half_out_key half_in_key (line + 7) (length (base.0 0 0).patterns - 1) base.1
+  Ok (with_halves (base.0 0 0) halves.0 halves.1, halves.2)
 
 -- a link plan that a link timing of the program can be
 pub record IsHeldLinks (t : LinkPlan) : Type 0 where

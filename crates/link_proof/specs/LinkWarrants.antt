@@ -4,7 +4,8 @@ use Rattle.std.specs.Prelude.{ℕ, List, codes, Result}
 use Rattle.link_theory.specs.LinkPlan.{LinkPlan}
 use Rattle.plan_text.specs.declared.fault.BadText.{BadText}
 use Rattle.plan_text.specs.Warrants.{WarrantWith, IsCertificateIn}
-use Rattle.plan_text.specs.CertificateText.{first_text, IsHeldWith}
+use Rattle.plan_text.specs.CertificateText.{IsHeldWith}
+use Rattle.plan_text.specs.FirstText.{first_text}
 use Rattle.plan_text.specs.CertificateReading.{headed_of}
 use Rattle.link_proof.specs.LinkTimingTexts.{link_bands}
 use Rattle.link_proof.specs.LinkFamilies.{links}

@@ -17,13 +17,12 @@ pub struct LinkCertificate {
 }
 
 impl Model for LinkCertificate {
-    ghost use Rattle.std.specs.Prelude.{map};
-    ghost use Rattle.plan_text.specs.Warrants.{node_of};
+    ghost use Rattle.plan_text.specs.Warrants.{warrant_of};
     ghost use Rattle.link_proof.specs.LinkWarrants.{LinkWarrant, IsLinkCertificate};
 
     ghost Value = { LinkWarrant };
 
-    ghost view = { λ c. record { claim = c.claim; timing = c.timing; nodes = map node_of c.nodes.items } };
+    ghost view = { λ c. warrant_of c.claim c.timing c.nodes.items };
 
-    ghost invariant = { λ c. IsLinkCertificate (record { claim = c.claim; timing = c.timing; nodes = map node_of c.nodes.items }) };
+    ghost invariant = { λ c. IsLinkCertificate (warrant_of c.claim c.timing c.nodes.items) };
 }

@@ -3,11 +3,16 @@
 ghost use Rattle.std.specs.Prelude.{◌≡◌, ◌+◌, ◌<◌, ◌++◌, ◌^◌, OnOk};
 ghost use Rattle.plan_text.specs.Lines.{Gives};
 ghost use Rattle.plan_text.specs.Spelling.{ended};
+ghost use Rattle.link_proof.specs.LinkFamilies.{links};
 ghost use Rattle.link_proof.specs.LinkTimingTexts.{link_lines, link_plan_at, IsHeldLinks, link_bands};
 
+use crate::families::link_families;
 use link_space::LinkTiming;
 use narrow_fraction::Memory;
-use plan_text::{TextEnd, TimingKind, base_at, both_ways_at, push_base, push_numbers};
+use plan_text::{
+    CertNode, Naming, TextEnd, TimingKind, base_at, both_ways_at, push_base, push_numbers,
+    push_tree, tree_at,
+};
 use std::alloc::Global;
 
 /// The link timing of the nine lines from the one with this number on, and what follows them.
@@ -18,25 +23,18 @@ fn link_plan_at(alloc: Global, line: u64, bytes: &[u8]) -> Result<(LinkTiming, &
 {
     let (base, rest) = base_at(alloc, line, bytes)?;
     let links = base.patterns.len() - 1;
-    let (half_out, half_in, rest) = both_ways_at(
-        alloc,
-        b"half_out",
-        b"half_in",
-        line + 7,
-        links,
-        rest,
-    )?;
+    let (halves, rest) = both_ways_at(alloc, b"half_out", b"half_in", line + 7, links, rest)?;
     match LinkTiming::new(
         base.grid,
         base.unit,
         base.patterns,
         base.reds,
-        base.run_out,
-        base.run_in,
-        base.first_out,
-        base.first_in,
-        half_out,
-        half_in,
+        base.runs.outbound,
+        base.runs.inbound,
+        base.first.outbound,
+        base.first.inbound,
+        halves.outbound,
+        halves.inbound,
     ) {
         Some(timing) => Ok((timing, rest)),
         None => unreachable!(),
@@ -62,6 +60,8 @@ impl TimingKind for LinkBands {
 
     ghost text = { link_bands };
 
+    ghost table = { links };
+
     fn height() -> u64 {
         9
     }
@@ -72,5 +72,15 @@ impl TimingKind for LinkBands {
 
     fn push_timing(alloc: Global, out: &mut Vec<u8>, timing: &LinkTiming) -> Result<(), Memory> {
         push_link_plan(alloc, out, timing)
+    }
+
+    fn named_tree_at(alloc: Global, line: u64, bytes: &[u8]) -> Result<Vec<CertNode>, TextEnd> {
+        let names = link_families(alloc)?;
+        tree_at(alloc, Naming::Named(names.as_slice()), line, bytes)
+    }
+
+    fn push_named_tree(alloc: Global, out: &mut Vec<u8>, nodes: &[CertNode]) -> Result<(), Memory> {
+        let names = link_families(alloc)?;
+        push_tree(alloc, out, Naming::Named(names.as_slice()), nodes)
     }
 }

@@ -19,10 +19,12 @@ use Rattle.plan_text.specs.Spelling.{end_line}
 use Rattle.plan_text.specs.Lines.{◌>>=◌, Gives, fault, line_at, fixed_at, nothing_at}
 use Rattle.plan_text.specs.Families.{Table, ordinary, IsNamedIn}
 use Rattle.plan_text.specs.TimingTexts.{TimingText, one_band}
-use Rattle.plan_text.specs.Warrants.{Node, SplitAt, LeafOf, WarrantWith, Warrant, AreTrees, IsNodeIn, IsNode, IsCertificateIn, IsCertificate}
-use Rattle.plan_text.specs.CertificateText.{certificate_line, tree_line, claim_lines, node_lines, tree_lines, first_lines, first_text, certificate_text, IsHeldWeight, IsHeldNode, IsHeldWith, IsHeldWarrant}
-use Rattle.plan_text.specs.SecondText.{second_line, AscendRows, IsWhole, form_of, rows_of, row_lines, listed_node_lines, second_lines, second_text}
-use Rattle.plan_text.specs.Namings.{Naming, Named, Listed, IsFormed, same_row, is_list}
+use Rattle.plan_text.specs.Warrants.{Node, SplitAt, LeafOf, WarrantWith, Warrant, AreTrees, IsNodeIn, IsNode}
+use Rattle.plan_text.specs.CertificateText.{certificate_line, tree_line, claim_lines, IsHeldWeight, IsHeldNode, IsHeldWith, IsHeldWarrant}
+use Rattle.plan_text.specs.FirstText.{first_lines, first_text, certificate_text}
+use Rattle.plan_text.specs.SecondText.{second_line, row_lines, second_lines, second_text}
+use Rattle.plan_text.specs.Leaves.{AscendRows, IsWhole, form_of, rows_of}
+use Rattle.plan_text.specs.Namings.{Naming, Named, Listed, IsFormed, same_row, is_list, node_lines, tree_lines}
 use Rattle.plan_text.specs.CertificateReading.{nodes_at, rows_at, Beginning, claim_at, ends_after, tree_at, first_of, second_of, text_by, certificate_of, headed_of}
 use Rattle.plan_text.proofs.Fields.{bind_ok, guard_ok, moved, same_text, line_takes, line_again, fixed_takes, fixed_again, nothing_takes}
 use Rattle.plan_text.proofs.Pieces.{lacks}
@@ -34,7 +36,7 @@ use Rattle.plan_text.proofs.ListedRows.{IsListed, AreListed, rows_ascend, rows_h
 use Rattle.plan_text.proofs.Multipliers.{Suits, each_divides}
 use Rattle.plan_text.proofs.NamedRows.{IsOver}
 use Rattle.plan_text.proofs.RowLists.{list_lines, rows_take, rows_again, all_rows, few_rows}
-use Rattle.plan_text.proofs.NodeLines.{lines_by, ToldWeight, ToldNode, nodes_take, nodes_again, enough, line_after_all}
+use Rattle.plan_text.proofs.NodeLines.{ToldWeight, ToldNode, nodes_take, nodes_again, enough, line_after_all}
 use Rattle.plan_text.proofs.TimingLaws.{TimingLaws, one_band_laws}
 use Rattle.plan_text.proofs.Claims.{claim_takes, claim_again, claim_end}
 
@@ -42,7 +44,7 @@ use Rattle.plan_text.proofs.Claims.{claim_takes, claim_again, claim_end}
 
 -- the lines of the nodes, and the last line
 abbrev pub tree_and_end : Naming → List Node → List ℕ
-tree_and_end names ns = tree_line ++ 10 ∷ ended_and (flat_map (lines_by names) ns) (end_line ++ 10 ∷ [])
+tree_and_end names ns = tree_line ++ 10 ∷ ended_and (flat_map (node_lines names) ns) (end_line ++ 10 ∷ [])
 
 pub record TreeOf (names : Naming) (table : Table) (bytes : List ℕ) (ns : List Node) : Type 0 where
   pub parts : bytes ≡ tree_and_end names ns
@@ -62,7 +64,7 @@ tree_takes names table line bytes ns over e =
     let n = nodes_take names table over (length a.0) 1 (line + 1) a.0 b.0 b.1 in
     let last : b.0.2 ≡ end_line ++ 10 ∷ [] = fixed_takes b.0.1 end_line b.0.2 d.0 d.1 ∙ ap (λ (r : List ℕ). end_line ++ 10 ∷ r) (nothing_takes (b.0.1 + 1) d.0 f.0 f.1) in
     moved (TreeOf names table bytes) b.0.0 ns f.2 (record {
-      parts = fixed_takes line tree_line bytes a.0 a.1 ∙ ap (λ (y : List ℕ). tree_line ++ 10 ∷ y) (n.parts ∙ ap (ended_and (flat_map (lines_by names) b.0.0)) last);
+      parts = fixed_takes line tree_line bytes a.0 a.1 ∙ ap (λ (y : List ℕ). tree_line ++ 10 ∷ y) (n.parts ∙ ap (ended_and (flat_map (node_lines names) b.0.0)) last);
       trees = n.trees;
       kept = All-from_recursion (IsNodeIn table) b.0.0 n.kept;
       held = All-from_recursion IsHeldNode b.0.0 n.held;
@@ -73,7 +75,7 @@ pub tree_again : (names : Naming) (line : ℕ) (ns : List Node) → AreTrees 1 n
 unfolding tree_at nothing_at
 tree_again names line ns trees told list =
     let last = end_line ++ 10 ∷ [] in
-    let rest = ended_and (flat_map (lines_by names) ns) last in
+    let rest = ended_and (flat_map (node_lines names) ns) last in
     let first = fixed_again line tree_line rest refl in
     let second = enough names (length rest) (length rest + length ns) 1 (line + 1) rest (omega arith) (omega arith)
     ∙ nodes_again names (length rest + length ns) 1 (line + 1) ns last (omega arith) trees told in
@@ -153,8 +155,8 @@ claim_and_tree text table c = ended_and (claim_lines text c.claim c.timing) (tre
 pub first_is : {T : Type 0} (text : TimingText T) (table : Table) (head : List ℕ) (c : WarrantWith T) → head ++ 10 ∷ claim_and_tree text table c ≡ first_text text table head c
 first_is text table head c =
     ap (λ (y : List ℕ). head ++ 10 ∷ y)
-    (ap (λ (y : List ℕ). ended_and (claim_lines text c.claim c.timing) (tree_line ++ 10 ∷ y)) (sym (ended_more (flat_map (node_lines table) c.nodes) (end_line ∷ []) []))
-    ∙ sym (ended_more (claim_lines text c.claim c.timing) (tree_lines table c.nodes) []))
+    (ap (λ (y : List ℕ). ended_and (claim_lines text c.claim c.timing) (tree_line ++ 10 ∷ y)) (sym (ended_more (flat_map (node_lines (Named table)) c.nodes) (end_line ∷ []) []))
+    ∙ sym (ended_more (claim_lines text c.claim c.timing) (tree_lines (Named table) c.nodes) []))
     ∙ ended_is (first_lines text table head c)
 
 pub record FirstOf {T : Type 0} (text : TimingText T) (table : Table) (bytes : List ℕ) (c : WarrantWith T) : Type 0 where
@@ -195,15 +197,14 @@ module _ {T : Type 0} (text : TimingText T) (laws : TimingLaws text) (table : Ta
   unfolding headed_of
   headed_again tells head one c h = ap (headed_of text table head) (sym (first_is text table head c)) ∙ rw (fixed_again 1 head (claim_and_tree text table c) one) (first_again tells c h)
 
-  -- what the code read keeps what each certificate keeps
-  pub first_kept : (line : ℕ) (first second : List ℕ) (x : Beginning T) (ns : List Node) → claim_at text first ≡ Ok x → tree_at (Named table) line second ≡ Ok ns → IsCertificateIn table (record { claim = x.0; timing = x.1; nodes = ns })
-  first_kept line first second x ns e f =
-      let t = tree_takes (Named table) table line second ns refl f in
-      record { timing = (claim_takes text laws first x e).timing; tree = t.trees; nodes = t.kept }
+-- what the code read
+pub first_read : {T : Type 0} (text : TimingText T) (table : Table) (bytes : List ℕ) (x : Beginning T) (ns : List Node) → claim_at text bytes ≡ Ok x → tree_at (Named table) x.2 x.3 ≡ Ok ns → first_of text table bytes ≡ Ok (record { claim = x.0; timing = x.1; nodes = ns })
+unfolding first_of
+first_read text table bytes x ns e f = rw (e, f) refl
 
-  pub first_read : (bytes : List ℕ) (x : Beginning T) (ns : List Node) → claim_at text bytes ≡ Ok x → tree_at (Named table) x.2 x.3 ≡ Ok ns → first_of text table bytes ≡ Ok (record { claim = x.0; timing = x.1; nodes = ns })
-  unfolding first_of
-  first_read bytes x ns e f = rw (e, f) refl
+pub second_read : (bytes : List ℕ) (x : Beginning Plan) (rows : List RowId × ℕ × List ℕ) (ns : List Node) → claim_at one_band bytes ≡ Ok x → rows_at ordinary x.2 x.3 ≡ Ok rows → tree_at (Listed rows.0) rows.1 rows.2 ≡ Ok ns → second_of bytes ≡ Ok (record { claim = x.0; timing = x.1; nodes = ns })
+unfolding second_of
+second_read bytes x rows ns e g f = rw (e, g, f) refl
 
 -- ---- the second text
 
@@ -213,7 +214,7 @@ rows_and_tree rows ns = ended_and (list_lines ordinary rows) (tree_and_end (List
 second_is : (c : Warrant) → second_line ++ 10 ∷ ended_and (claim_lines one_band c.claim c.timing) (rows_and_tree (rows_of c.nodes) c.nodes) ≡ second_text c
 second_is c =
     let rows = rows_of c.nodes in
-    let nodes = flat_map (listed_node_lines rows) c.nodes in
+    let nodes = flat_map (node_lines (Listed rows)) c.nodes in
     ap (λ (y : List ℕ). second_line ++ 10 ∷ y)
     (ap (λ (y : List ℕ). ended_and (claim_lines one_band c.claim c.timing) (ended_and (row_lines rows) (tree_line ++ 10 ∷ y))) (sym (ended_more nodes (end_line ∷ []) []))
     ∙ ap (ended_and (claim_lines one_band c.claim c.timing)) (sym (ended_more (row_lines rows) (tree_line ∷ (nodes ++ end_line ∷ [])) []))
@@ -289,12 +290,3 @@ second_text_again c h =
 pub is_found : (bytes : List ℕ) (r : Result Warrant TextEnd) → Gives (λ c. c) r (certificate_of bytes) → IfOk r (λ c. (bytes ≡ certificate_text c) ⊎ (bytes ≡ second_text c))
 is_found bytes (Ok c) given = (certificate_takes bytes c given).parts
 is_found bytes (Err e) given = tt
-
--- ---- what the code read
-
--- the second text keeps what each certificate keeps
-pub second_kept : (line : ℕ) (first second : List ℕ) (x : Beginning Plan) (rows : List RowId × ℕ × List ℕ) (ns : List Node) → claim_at one_band first ≡ Ok x → rows_at ordinary line second ≡ Ok rows → tree_at (Listed rows.0) rows.1 rows.2 ≡ Ok ns → IsCertificate (record { claim = x.0; timing = x.1; nodes = ns })
-second_kept line first second x rows ns e g f =
-    let r = rows_take ordinary line second rows g in
-    let t = tree_takes (Listed rows.0) ordinary rows.1 rows.2 ns (r.ascend, r.rows) f in
-    record { timing = (claim_takes one_band one_band_laws first x e).timing; tree = t.trees; nodes = t.kept }

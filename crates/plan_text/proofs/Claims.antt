@@ -64,13 +64,13 @@ module _ {T : Type 0} (text : TimingText T) (laws : TimingLaws text) where
       let b = bind_ok (fraction_of value_key 3 a.0.0) (λ value. text.read 4 a.0.1 >>= λ timing. Ok (Best value, Some timing.0, 4 + text.height, timing.1)) x a.2 in
       let d = bind_ok (text.read 4 a.0.1) (λ timing. Ok (Best b.0, Some timing.0, 4 + text.height, timing.1)) x b.2 in
       let f = fraction_takes value_key 3 a.0.0 b.0 b.1 in
-      let spelled = laws.spelled 4 a.0.1 d.0 d.1 in
+      let timing = laws.takes 4 a.0.1 d.0 d.1 in
       let made : Beginning T = (Best b.0, Some d.0.0, 4 + text.height, d.0.1) in
       moved (ClaimOf text (best_line ++ 10 ∷ bytes)) made x d.2 (record {
-        parts = ap (λ (y : List ℕ). best_line ++ 10 ∷ y) (words_take 3 bytes a.0 a.1 ∙ (λ i. line_of (f.spelled i) ++ 10 ∷ spelled i));
+        parts = ap (λ (y : List ℕ). best_line ++ 10 ∷ y) (words_take 3 bytes a.0 a.1 ∙ (λ i. line_of (f.spelled i) ++ 10 ∷ timing.parts i));
         timing = tt;
         claim = f.fits;
-        held = laws.held 4 a.0.1 d.0 d.1;
+        held = timing.held;
       })
 
   found_takes : (bound : ℚ) (ws : List (List ℕ)) (bytes : List ℕ) (x : Beginning T) → FitsFrac bound → found_at text bound ws bytes ≡ Ok x → ClaimOf text (bounded bound (line_of ws ++ 10 ∷ bytes)) x
@@ -79,13 +79,13 @@ module _ {T : Type 0} (text : TimingText T) (laws : TimingLaws text) where
       let b = bind_ok (fraction_of value_key 4 ws) (λ value. text.read 5 bytes >>= λ timing. Ok (Stopped bound (Some value), Some timing.0, 5 + text.height, timing.1)) x e in
       let d = bind_ok (text.read 5 bytes) (λ timing. Ok (Stopped bound (Some b.0), Some timing.0, 5 + text.height, timing.1)) x b.2 in
       let f = fraction_takes value_key 4 ws b.0 b.1 in
-      let spelled = laws.spelled 5 bytes d.0 d.1 in
+      let timing = laws.takes 5 bytes d.0 d.1 in
       let made : Beginning T = (Stopped bound (Some b.0), Some d.0.0, 5 + text.height, d.0.1) in
       moved (ClaimOf text (bounded bound (line_of ws ++ 10 ∷ bytes))) made x d.2 (record {
-        parts = λ i. open_line ++ 10 ∷ (line_of (fraction_words bound_key bound) ++ 10 ∷ (line_of (f.spelled i) ++ 10 ∷ spelled i));
+        parts = λ i. open_line ++ 10 ∷ (line_of (fraction_words bound_key bound) ++ 10 ∷ (line_of (f.spelled i) ++ 10 ∷ timing.parts i));
         timing = tt;
         claim = (fits, f.fits);
-        held = laws.held 5 bytes d.0 d.1;
+        held = timing.held;
       })
 
   missing_takes : (bound : ℚ) (bytes : List ℕ) (x : Beginning T) → FitsFrac bound → missing_at bound bytes ≡ Ok x → ClaimOf text (bounded bound bytes) x

@@ -4,7 +4,7 @@ use Rattle.std.proofs.lemmas.List.{drop_all}
 use Rattle.rational_theory.specs.Gcd.{lcm}
 use Rattle.rational_theory.proofs.Multiples.{IsMultiple, multiple_on, lcm_first, lcm_above}
 use Rattle.named_row.specs.declared.leaves.Weight.{Weight}
-use Rattle.plan_text.specs.SecondText.{denominator_from}
+use Rattle.plan_text.specs.Leaves.{denominator_from}
 
 -- it is above 0
 pub denominator_above : (d : ℕ) (ws : List Weight) → 0 < d → 0 < denominator_from d ws

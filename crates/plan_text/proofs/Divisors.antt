@@ -10,7 +10,7 @@ use Rattle.rational_theory.specs.laws.Coprime.{gcd-IsGcd}
 use Rattle.rational_theory.specs.laws.Fractions.{times_part}
 use Rattle.rational_theory.proofs.Multiples.{IsMultiple, lcm_first, lcm_second, lcm_least}
 use Rattle.named_row.specs.declared.leaves.Weight.{Weight}
-use Rattle.plan_text.specs.SecondText.{denominator_from, denominator_of}
+use Rattle.plan_text.specs.Leaves.{denominator_from, denominator_of}
 use Rattle.plan_text.specs.DivisorRule.{divisor_from, AreOver, DivisorRule}
 use Rattle.plan_text.proofs.Multipliers.{times_over}
 

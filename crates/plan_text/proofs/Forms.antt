@@ -7,7 +7,7 @@ use Rattle.std.proofs.lemmas.Bool.Decides.{leb_tells}
 use Rattle.named_row.specs.declared.leaves.Weight.{Weight}
 use Rattle.plan_text.specs.declared.form.LeafForm.{LeafForm}
 use Rattle.plan_text.specs.declared.form.LeafForm.TheVariants.{Over, Plain}
-use Rattle.plan_text.specs.SecondText.{denominator_of, times_denominator, IsWhole, is_wide, form_of, IsWritable}
+use Rattle.plan_text.specs.Leaves.{denominator_of, times_denominator, IsWhole, is_wide, form_of, IsWritable}
 
 -- a number fits or is wide
 fits_or_wide : (n : ℕ) → ((is_wide n ≡ true) × (2 ^ 127 ≤ n)) ⊎ ((is_wide n ≡ false) × (n < 2 ^ 127))

@@ -7,7 +7,7 @@ use Rattle.plan_text.specs.declared.fault.BadText.{BadText}
 use Rattle.plan_text.specs.declared.lines.NumberLine.{NumberLine}
 use Rattle.plan_text.specs.Spelling.{grid_key, unit_key, pattern_key, red_key, run_out_key, run_in_key, first_key, band_key}
 use Rattle.plan_text.specs.Lines.{◌>>=◌, numbers_at}
-use Rattle.plan_text.specs.Reading.{place_of, pattern_place, scale_at, signals_at, both_ways_at, pair_at, base_at, with_bands, plan_at}
+use Rattle.plan_text.specs.Reading.{place_of, pattern_place, scale_at, signals_at, both_ways_at, pair_at, Unbanded, base_at, plan_at}
 use Rattle.plan_text.specs.FirstBad.{lines_in}
 use Rattle.plan_text.proofs.Grown.{Part, Grows, Reaches, grows_then, reaches_then, one_and, two_and, numbers_grow, numbers_later}
 
@@ -98,16 +98,16 @@ Scale = ℕ × ℕ × List ℕ
 abbrev Pair : Type 0
 Pair = List ℕ × List ℕ × List ℕ
 
-abbrev base_is : Scale → Pair → Pair → ℕ × ℕ × List ℕ → Plan × List ℕ
-base_is scale signals runs first = (plan_of scale.0 scale.1 signals.0 signals.1 runs.0 runs.1 first.0 first.1 0 0, first.2)
+abbrev base_is : Scale → Pair → Pair → ℕ × ℕ × List ℕ → Unbanded × List ℕ
+base_is scale signals runs first = (plan_of scale.0 scale.1 signals.0 signals.1 runs.0 runs.1 first.0 first.1, first.2)
 
-abbrev from_first : ℕ → Scale → Pair → Pair → Result (Plan × List ℕ) BadText
+abbrev from_first : ℕ → Scale → Pair → Pair → Result (Unbanded × List ℕ) BadText
 from_first line scale signals runs = pair_at first_key (line + 6) runs.2 >>= λ first. Ok (base_is scale signals runs first)
 
-abbrev from_runs : ℕ → Scale → Pair → Result (Plan × List ℕ) BadText
+abbrev from_runs : ℕ → Scale → Pair → Result (Unbanded × List ℕ) BadText
 from_runs line scale signals = both_ways_at run_out_key run_in_key (line + 4) (length signals.0 - 1) signals.2 >>= from_first line scale signals
 
-abbrev from_signals : ℕ → Scale → Result (Plan × List ℕ) BadText
+abbrev from_signals : ℕ → Scale → Result (Unbanded × List ℕ) BadText
 from_signals line scale = signals_at (line + 2) scale.2 >>= from_runs line scale
 
 first_then : (last line : ℕ) (scale : Scale) (signals runs : Pair) (z : List ℕ) → line + 6 + lines_in runs.2 ≡ last → Grows (one_and (line + 7)) last z (from_first line scale signals runs) (from_first line scale signals (runs.0, runs.1, runs.2 ++ z))
@@ -157,18 +157,18 @@ base_later last line bytes here =
 
 -- ---- the eight lines
 
-abbrev band_then : ℕ → Plan × List ℕ → Result (Plan × List ℕ) BadText
-band_then line base = pair_at band_key (line + 7) base.1 >>= λ band. Ok (with_bands base.0 band.0 band.1, band.2)
+abbrev band_then : ℕ → Unbanded × List ℕ → Result (Plan × List ℕ) BadText
+band_then line base = pair_at band_key (line + 7) base.1 >>= λ band. Ok (base.0 band.0 band.1, band.2)
 
-band_grows : (last line : ℕ) (base : Plan × List ℕ) (z : List ℕ) → line + 7 + lines_in base.1 ≡ last → Grows (one_and (line + 8)) last z (band_then line base) (band_then line (base.0, base.1 ++ z))
+band_grows : (last line : ℕ) (base : Unbanded × List ℕ) (z : List ℕ) → line + 7 + lines_in base.1 ≡ last → Grows (one_and (line + 8)) last z (band_then line base) (band_then line (base.0, base.1 ++ z))
 band_grows last line base z e =
-    grows_then (two_and (line + 7 + 1)) (one_and (line + 8)) last z (pair_at band_key (line + 7) base.1) (pair_at band_key (line + 7) (base.1 ++ z)) (λ band. Ok (with_bands base.0 band.0 band.1, band.2)) (pair_grows band_key last (line + 7) base.1 z e)
+    grows_then (two_and (line + 7 + 1)) (one_and (line + 8)) last z (pair_at band_key (line + 7) base.1) (pair_at band_key (line + 7) (base.1 ++ z)) (λ band. Ok (base.0 band.0 band.1, band.2)) (pair_grows band_key last (line + 7) base.1 z e)
     (λ b end. (omega arith, refl))
     (λ b here. omega arith)
 
-band_later : (last line : ℕ) (base : Plan × List ℕ) → last ≤ line + 7 → Reaches (one_and (line + 8)) last (band_then line base)
+band_later : (last line : ℕ) (base : Unbanded × List ℕ) → last ≤ line + 7 → Reaches (one_and (line + 8)) last (band_then line base)
 band_later last line base here =
-    reaches_then (two_and (line + 7 + 1)) (one_and (line + 8)) last (pair_at band_key (line + 7) base.1) (λ band. Ok (with_bands base.0 band.0 band.1, band.2)) (pair_later band_key last (line + 7) base.1 here) (λ b more. omega arith)
+    reaches_then (two_and (line + 7 + 1)) (one_and (line + 8)) last (pair_at band_key (line + 7) base.1) (λ band. Ok (base.0 band.0 band.1, band.2)) (pair_later band_key last (line + 7) base.1 here) (λ b more. omega arith)
 
 pub plan_grows : (last line : ℕ) (bytes z : List ℕ) → line + lines_in bytes ≡ last → Grows (one_and (line + 8)) last z (plan_at line bytes) (plan_at line (bytes ++ z))
 unfolding plan_at

@@ -4,9 +4,9 @@ pub mod RowOrder
 pub mod ListedRows
 pub mod Places
 pub mod Loop
-pub mod SecondLines
 pub mod Pieces
 pub mod Fields
+pub mod TextLaws
 pub mod Timings
 pub mod OneText
 pub mod Written

@@ -22,7 +22,7 @@ use Rattle.quantity_text.specs.Exact.{exact_spelling, denominator_text}
 use Rattle.plan_text.specs.declared.form.LeafForm.{LeafForm}
 use Rattle.plan_text.specs.declared.form.LeafForm.TheVariants.{Over, Plain}
 use Rattle.plan_text.specs.Fractions.{exact}
-use Rattle.plan_text.specs.SecondText.{denominator_from, times_denominator, multiplier_word}
+use Rattle.plan_text.specs.Leaves.{denominator_from, times_denominator, multiplier_word}
 use Rattle.plan_text.specs.Namings.{IsFormed}
 use Rattle.plan_text.specs.CertificateReading.{or_number, over_whole, multiplier_of, above_zero}
 use Rattle.plan_text.proofs.Fields.{IsKey}

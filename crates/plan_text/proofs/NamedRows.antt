@@ -10,9 +10,8 @@ use Rattle.plan_text.specs.Words.{line_of}
 use Rattle.plan_text.specs.Numbers.{number}
 use Rattle.plan_text.specs.Lines.{◌>>=◌, ranged, words_at}
 use Rattle.plan_text.specs.Families.{Table, IsNamedIn}
-use Rattle.plan_text.specs.CertificateText.{row_words_in}
-use Rattle.plan_text.specs.SecondText.{AscendRows, place_of_row, multiplier_word}
-use Rattle.plan_text.specs.Namings.{Naming, Named, Listed, IsFormed}
+use Rattle.plan_text.specs.Leaves.{AscendRows, place_of_row, multiplier_word}
+use Rattle.plan_text.specs.Namings.{Naming, Named, Listed, IsFormed, name_words, weight_words}
 use Rattle.plan_text.specs.CertificateReading.{or_number, range_of, listed_row, row_in, multiplier_of, cut_last, weight_by, weight_of}
 use Rattle.plan_text.proofs.Fields.{bind_ok, moved, number_takes, number_again}
 use Rattle.plan_text.proofs.ExactWords.{decimal_word}
@@ -58,10 +57,6 @@ pub record IsRowIn (table : Table) (row : RowId) : Type 0 where
 abbrev pub IsOver : Naming → Table → Type 0
 IsOver (Named own) table = own ≡ table
 IsOver (Listed rows) table = AscendRows None rows × AllByRecursion (IsRowIn table) rows
-
-abbrev pub name_words : Naming → RowId → List (List ℕ)
-name_words (Named table) row = row_words_in table row
-name_words (Listed rows) row = decimal (place_of_row rows row) ∷ []
 
 record NameOf (names : Naming) (table : Table) (ws : List (List ℕ)) (row : RowId) : Type 0 where
   spelled : ws ≡ name_words names row
@@ -112,14 +107,11 @@ name_line (Listed rows) line row more rest told k =
 
 -- ---- a row and its multiplier
 
-abbrev pub weight_words_by : Naming → LeafForm → Weight → List (List ℕ)
-weight_words_by names form w = name_words names w.row ++ multiplier_word form w ∷ []
-
 pub record KeptWeight (table : Table) (w : Weight) : Type 0 where
   pub row : IsRowIn table w.row
   pub by : FitsFrac w.by
 
-weight_by_takes : (names : Naming) (table : Table) (form : LeafForm) (line : ℕ) (ws : List (List ℕ)) (w : Weight) (o : Option (List (List ℕ) × List ℕ)) → IsOver names table → IsFormed form → cut_last ws ≡ o → weight_by names form line o ≡ Ok w → (ws ≡ weight_words_by names form w) × KeptWeight table w
+weight_by_takes : (names : Naming) (table : Table) (form : LeafForm) (line : ℕ) (ws : List (List ℕ)) (w : Weight) (o : Option (List (List ℕ) × List ℕ)) → IsOver names table → IsFormed form → cut_last ws ≡ o → weight_by names form line o ≡ Ok w → (ws ≡ weight_words names form w) × KeptWeight table w
 weight_by_takes names table form line ws w None is formed k e = absurd cc
 weight_by_takes names table form line ws w (Some p) is formed k e =
     let a = bind_ok (row_in names line p.0) (λ row. multiplier_of form line p.1 >>= λ by. Ok (record { row = row; by = by })) w e in
@@ -128,19 +120,19 @@ weight_by_takes names table form line ws w (Some p) is formed k e =
     let r = row_in_takes names table line p.0 a.0 is a.1 in
     let m = multiplier_takes form line p.1 b.0 formed b.1 in
     let value = m.spelled made refl in
-    moved (λ (v : Weight). (ws ≡ weight_words_by names form v) × KeptWeight table v) made w b.2
+    moved (λ (v : Weight). (ws ≡ weight_words names form v) × KeptWeight table v) made w b.2
     (cut_last_takes ws p k ∙ (λ i. r.spelled i ++ value i ∷ []), record { row = r.kept; by = m.fits })
 
-pub weight_takes : (names : Naming) (table : Table) (form : LeafForm) → IsOver names table → IsFormed form → (line : ℕ) (ws : List (List ℕ)) (w : Weight) → weight_of names form line ws ≡ Ok w → (ws ≡ weight_words_by names form w) × KeptWeight table w
+pub weight_takes : (names : Naming) (table : Table) (form : LeafForm) → IsOver names table → IsFormed form → (line : ℕ) (ws : List (List ℕ)) (w : Weight) → weight_of names form line ws ≡ Ok w → (ws ≡ weight_words names form w) × KeptWeight table w
 unfolding weight_of
 weight_takes names table form is formed line ws w e = weight_by_takes names table form line ws w (cut_last ws) is formed refl e
 
-weight_again : (names : Naming) (form : LeafForm) (line : ℕ) (w : Weight) → IsTold names w.row → Suits form w → weight_of names form line (weight_words_by names form w) ≡ Ok w
+weight_again : (names : Naming) (form : LeafForm) (line : ℕ) (w : Weight) → IsTold names w.row → Suits form w → weight_of names form line (weight_words names form w) ≡ Ok w
 unfolding weight_of
 weight_again names form line w told suits =
     ap (weight_by names form line) (cut_last_again (name_words names w.row) (multiplier_word form w)) ∙ rw (row_in_again names line w.row told, multiplier_again form line w suits) refl
 
-pub weight_reads : (names : Naming) (form : LeafForm) (w : Weight) → IsTold names w.row → Suits form w → ReadsAs (weight_of names form) (weight_words_by names form) w
+pub weight_reads : (names : Naming) (form : LeafForm) (w : Weight) → IsTold names w.row → Suits form w → ReadsAs (weight_of names form) (weight_words names form) w
 weight_reads names form w told suits = record {
   again = λ line. weight_again names form line w told suits;
   words = λ line rest. name_line names line w.row (multiplier_word form w ∷ []) rest told (multiplier_is_word form w suits, tt);

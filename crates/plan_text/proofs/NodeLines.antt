@@ -21,16 +21,16 @@ use Rattle.plan_text.specs.Fractions.{integer, exact}
 use Rattle.plan_text.specs.Lines.{◌>>=◌, fault, ranged, line_at, words_at}
 use Rattle.plan_text.specs.Families.{Table, IsNamedIn}
 use Rattle.plan_text.specs.Warrants.{Node, SplitAt, LeafOf, AreTrees, Ascend, IsNodeIn, IsNode}
-use Rattle.plan_text.specs.CertificateText.{split_key, loop_key, turn_key, leaf_key, split_words, node_lines, IsHeldWeight, IsHeldNode}
-use Rattle.plan_text.specs.SecondText.{plain_key, head_words, form_of, listed_node_lines}
-use Rattle.plan_text.specs.Namings.{Naming, Named, Listed, fractions_key, IsFormed, same_form, is_form}
+use Rattle.plan_text.specs.CertificateText.{split_key, loop_key, turn_key, leaf_key, split_words, IsHeldWeight, IsHeldNode}
+use Rattle.plan_text.specs.Leaves.{form_of}
+use Rattle.plan_text.specs.Namings.{Naming, Named, Listed, fractions_key, IsFormed, same_form, is_form, weight_words, weight_line, first_words, leaf_lines, form_by, node_lines}
 use Rattle.plan_text.specs.CertificateReading.{row_of_weight, weight_of, above_zero, leaf_count, over_head, or_number, range_of, index_of, split_of, head_of, rest_of, node_at, weights_at, owed_after, nodes_at}
-use Rattle.plan_text.proofs.Fields.{bind_ok, guard_ok, moved, same_text, number_takes, number_again}
+use Rattle.plan_text.proofs.Fields.{bind_ok, guard_ok, moved, same_text, text_same, number_takes, number_again, IsKey}
 use Rattle.plan_text.proofs.ExactWords.{integer_takes, integer_again, integer_word, decimal_word}
 use Rattle.plan_text.proofs.WordLines.{number_ok, words_take, words_shorter, words_again, ended_and, ended_more}
 use Rattle.plan_text.proofs.WeightLines.{index_takes, index_again}
 use Rattle.plan_text.proofs.Multipliers.{Suits, whole_word, denominator_takes, denominator_again}
-use Rattle.plan_text.proofs.NamedRows.{IsOver, IsTold, weight_words_by, KeptWeight, weight_takes, weight_reads}
+use Rattle.plan_text.proofs.NamedRows.{IsOver, IsTold, KeptWeight, weight_takes, weight_reads}
 use Rattle.plan_text.proofs.RowLoop.{AscendBy, ReadsAs, rising_lengths, rising_takes, rising_again}
 
 -- ---- the first line of a node
@@ -81,18 +81,23 @@ split_takes : (line : ℕ) (kind i place : List ℕ) (at : At) → split_of line
 unfolding split_of
 split_takes line kind i place at e = split_by line kind i place at (is_text kind loop_key) (same_text kind loop_key) e
 
--- what a node's first line says, where leaves go by names or by places
-abbrev pub first_words : Naming → LeafForm → ℕ → List (List ℕ)
-first_words (Named table) form n = leaf_key ∷ decimal n ∷ []
-first_words (Listed rows) form n = head_words form n
+-- by names a leaf is always of fractions
+abbrev FormSuits : Naming → LeafForm → Type 0
+FormSuits (Named table) form = form ≡ Plain
+FormSuits (Listed rows) form = Unit {0}
 
+form_suits : (names : Naming) (ws : List Weight) → FormSuits names (form_by names ws)
+form_suits (Named table) ws = refl
+form_suits (Listed rows) ws = tt
+
+plain_suits : (names : Naming) → FormSuits names Plain
+plain_suits (Named table) = refl
+plain_suits (Listed rows) = tt
+
+-- what a node's first line says, where leaves go by names or by places
 abbrev pub HeadOf : Naming → List (List ℕ) → Head → Type 0
 HeadOf names ws (heads.Split at) = SplitOf ws at
-HeadOf names ws (heads.Leaf n form) = (ws ≡ first_words names form n) × (n ≤ 10000) × IsFormed form
-
-plain_words : (names : Naming) (n : ℕ) → fractions_key names ∷ decimal n ∷ [] ≡ first_words names Plain n
-plain_words (Named table) n = refl
-plain_words (Listed rows) n = refl
+HeadOf names ws (heads.Leaf n form) = (ws ≡ first_words names form n) × (n ≤ 10000) × IsFormed form × FormSuits names form
 
 leaf_head : (names : Naming) (line : ℕ) (key n : List ℕ) (h : Head) → (if is_text key (fractions_key names) then (leaf_count line n >>= λ count. Ok (heads.Leaf count Plain)) else fault line Shape) ≡ Ok h → HeadOf names (key ∷ n ∷ []) h
 leaf_head names line key n h e =
@@ -100,7 +105,7 @@ leaf_head names line key n h e =
     let a = bind_ok (leaf_count line n) (λ count. Ok (heads.Leaf count Plain)) h g.1 in
     let t = number_takes (range_of line 0 10000) n a.0 a.1 in
     let k = same_text key (fractions_key names) g.0 in
-    moved (HeadOf names (key ∷ n ∷ [])) (heads.Leaf a.0 Plain) h a.2 ((λ j. k j ∷ t.0 j ∷ []) ∙ plain_words names a.0, t.1.greatest, tt)
+    moved (HeadOf names (key ∷ n ∷ [])) (heads.Leaf a.0 Plain) h a.2 ((λ j. k j ∷ t.0 j ∷ []), t.1.greatest, tt, plain_suits names)
 
 over_takes : (names : Naming) (line : ℕ) (key d n : List ℕ) (h : Head) → over_head names line key d n ≡ Ok h → HeadOf names (key ∷ d ∷ n ∷ []) h
 unfolding over_head
@@ -112,7 +117,7 @@ over_takes (Listed rows) line key d n h e =
     let f = denominator_takes line d a.0 a.1 in
     let t = number_takes (range_of line 0 10000) n b.0 b.1 in
     let k = same_text key leaf_key g.0 in
-    moved (HeadOf (Listed rows) (key ∷ d ∷ n ∷ [])) (heads.Leaf b.0 (Over a.0)) h b.2 ((λ j. k j ∷ f.spelled j ∷ t.0 j ∷ []), t.1.greatest, f.formed)
+    moved (HeadOf (Listed rows) (key ∷ d ∷ n ∷ [])) (heads.Leaf b.0 (Over a.0)) h b.2 ((λ j. k j ∷ f.spelled j ∷ t.0 j ∷ []), t.1.greatest, f.formed, tt)
 
 split_head : (names : Naming) (line : ℕ) (key kind i place : List ℕ) (h : Head) → (if is_text key split_key then (split_of line kind i place >>= λ at. Ok (heads.Split at)) else fault line Shape) ≡ Ok h → HeadOf names (key ∷ kind ∷ i ∷ place ∷ []) h
 split_head names line key kind i place h e =
@@ -130,56 +135,6 @@ head_takes names line (a ∷ b ∷ c ∷ []) h e = over_takes names line a b c h
 head_takes names line (a ∷ b ∷ c ∷ d ∷ []) h e = split_head names line a b c d h e
 head_takes names line (a ∷ b ∷ c ∷ d ∷ f ∷ ws) h e = absurd cc
 
--- the form of a leaf where rows go by names, and where they go by places
-abbrev pub form_by : Naming → List Weight → LeafForm
-form_by (Named table) ws = Plain
-form_by (Listed rows) ws = form_of ws
-
-abbrev FormSuits : Naming → LeafForm → Type 0
-FormSuits (Named table) form = form ≡ Plain
-FormSuits (Listed rows) form = Unit {0}
-
-form_suits : (names : Naming) (ws : List Weight) → FormSuits names (form_by names ws)
-form_suits (Named table) ws = refl
-form_suits (Listed rows) ws = tt
-
--- by names a leaf is always of fractions
-abbrev pub HeadSuits : Naming → Head → Type 0
-HeadSuits names (heads.Split at) = Unit {0}
-HeadSuits names (heads.Leaf n form) = FormSuits names form
-
--- and so is each that is read
-suits_over : (names : Naming) (line : ℕ) (key d n : List ℕ) (h : Head) → over_head names line key d n ≡ Ok h → HeadSuits names h
-unfolding over_head
-suits_over (Named table) line key d n h e = absurd cc
-suits_over (Listed rows) line key d n (heads.Split at) e = tt
-suits_over (Listed rows) line key d n (heads.Leaf m form) e = tt
-
-plain_suits : (names : Naming) → FormSuits names Plain
-plain_suits (Named table) = refl
-plain_suits (Listed rows) = tt
-
-suits_plain : (names : Naming) (line : ℕ) (key n : List ℕ) (h : Head) → (if is_text key (fractions_key names) then (leaf_count line n >>= λ count. Ok (heads.Leaf count Plain)) else fault line Shape) ≡ Ok h → HeadSuits names h
-suits_plain names line key n h e =
-    let g = guard_ok (is_text key (fractions_key names)) line Shape (leaf_count line n >>= λ count. Ok (heads.Leaf count Plain)) h e in
-    let a = bind_ok (leaf_count line n) (λ count. Ok (heads.Leaf count Plain)) h g.1 in
-    moved (HeadSuits names) (heads.Leaf a.0 Plain) h a.2 (plain_suits names)
-
-suits_split : (names : Naming) (line : ℕ) (key kind i place : List ℕ) (h : Head) → (if is_text key split_key then (split_of line kind i place >>= λ at. Ok (heads.Split at)) else fault line Shape) ≡ Ok h → HeadSuits names h
-suits_split names line key kind i place h e =
-    let g = guard_ok (is_text key split_key) line Shape (split_of line kind i place >>= λ at. Ok (heads.Split at)) h e in
-    let a = bind_ok (split_of line kind i place) (λ at. Ok (heads.Split at)) h g.1 in
-    moved (HeadSuits names) (heads.Split a.0) h a.2 tt
-
-head_suits : (names : Naming) (line : ℕ) (ws : List (List ℕ)) (h : Head) → head_of names line ws ≡ Ok h → HeadSuits names h
-unfolding head_of
-head_suits names line [] h e = absurd cc
-head_suits names line (a ∷ []) h e = absurd cc
-head_suits names line (a ∷ b ∷ []) h e = suits_plain names line a b h e
-head_suits names line (a ∷ b ∷ c ∷ []) h e = suits_over names line a b c h e
-head_suits names line (a ∷ b ∷ c ∷ d ∷ []) h e = suits_split names line a b c d h e
-head_suits names line (a ∷ b ∷ c ∷ d ∷ f ∷ ws) h e = absurd cc
-
 split_again : (names : Naming) (line : ℕ) (at : At) → IsNode (SplitAt at) → IsHeldNode (SplitAt at) → head_of names line (split_words at) ≡ Ok (heads.Split at)
 unfolding head_of split_of
 split_again names line (Loop link at) kept held = rw (index_again line link kept held.0, integer_again at held.1) refl
@@ -189,8 +144,8 @@ split_again names line (Turn signal rank) kept held =
 
 leaf_again : (names : Naming) (form : LeafForm) (line n : ℕ) → FormSuits names form → IsFormed form → n ≤ 10000 → head_of names line (first_words names form n) ≡ Ok (heads.Leaf n form)
 unfolding head_of over_head
-leaf_again (Named table) form line n suits formed few = rw (number_again (range_of line 0 10000) n (record { least = omega arith; greatest = few; limit = omega arith })) (ap (λ (f : LeafForm). Ok (heads.Leaf n f)) (sym suits))
-leaf_again (Listed rows) Plain line n suits formed few = rw (number_again (range_of line 0 10000) n (record { least = omega arith; greatest = few; limit = omega arith })) refl
+leaf_again names Plain line n suits formed few = rw (text_same (fractions_key names), number_again (range_of line 0 10000) n (record { least = omega arith; greatest = few; limit = omega arith })) refl
+leaf_again (Named table) (Over d) line n suits formed few = absurd cc
 leaf_again (Listed rows) (Over d) line n suits formed few = rw (denominator_again line d formed, number_again (range_of line 0 10000) n (record { least = omega arith; greatest = few; limit = omega arith })) refl
 
 split_line : (line : ℕ) (at : At) (rest : List ℕ) → IsHeldNode (SplitAt at) → words_at line (line_of (split_words at) ++ 10 ∷ rest) ≡ Ok (split_words at, rest)
@@ -204,30 +159,15 @@ split_line line (Turn signal rank) rest held =
     words_again line split_key (turn_key ∷ decimal signal ∷ decimal rank ∷ []) rest
     (record { spaces = refl; feeds = refl }, (record { spaces = refl; feeds = refl }, (decimal_word signal (omega arith), (decimal_word rank (omega arith), tt))))
 
+fractions_is_key : (names : Naming) → IsKey (fractions_key names)
+fractions_is_key (Named table) = record { spaces = refl; feeds = refl }
+fractions_is_key (Listed rows) = record { spaces = refl; feeds = refl }
+
 leaf_line : (names : Naming) (form : LeafForm) (line n : ℕ) (rest : List ℕ) → IsFormed form → n ≤ 10000 → words_at line (line_of (first_words names form n) ++ 10 ∷ rest) ≡ Ok (first_words names form n, rest)
-leaf_line (Named table) form line n rest formed few = words_again line leaf_key (decimal n ∷ []) rest (record { spaces = refl; feeds = refl }, (decimal_word n (omega arith), tt))
-leaf_line (Listed rows) Plain line n rest formed few = words_again line plain_key (decimal n ∷ []) rest (record { spaces = refl; feeds = refl }, (decimal_word n (omega arith), tt))
-leaf_line (Listed rows) (Over d) line n rest formed few = words_again line leaf_key (decimal d ∷ decimal n ∷ []) rest (record { spaces = refl; feeds = refl }, (whole_word (pos d) formed.1, (decimal_word n (omega arith), tt)))
+leaf_line names Plain line n rest formed few = words_again line (fractions_key names) (decimal n ∷ []) rest (fractions_is_key names, (decimal_word n (omega arith), tt))
+leaf_line names (Over d) line n rest formed few = words_again line leaf_key (decimal d ∷ decimal n ∷ []) rest (record { spaces = refl; feeds = refl }, (whole_word (pos d) formed.1, (decimal_word n (omega arith), tt)))
 
 -- ---- a node
-
--- the lines of a node, where leaves go by names or by places
-abbrev pub lines_by : Naming → Node → List (List ℕ)
-lines_by (Named table) n = node_lines table n
-lines_by (Listed rows) n = listed_node_lines rows n
-
-leaf_lines_by : Naming → LeafForm → List Weight → List (List ℕ)
-leaf_lines_by names form ws = line_of (first_words names form (length ws)) ∷ map (λ w. line_of (weight_words_by names form w)) ws
-
-split_is : (names : Naming) (at : At) → line_of (split_words at) ∷ [] ≡ lines_by names (SplitAt at)
-unfolding node_lines listed_node_lines
-split_is (Named table) at = refl
-split_is (Listed rows) at = refl
-
-leaf_is : (names : Naming) (ws : List Weight) → leaf_lines_by names (form_by names ws) ws ≡ lines_by names (LeafOf ws)
-unfolding node_lines listed_node_lines leaf_lines_by
-leaf_is (Named table) ws = refl
-leaf_is (Listed rows) ws = refl
 
 -- how much a node takes
 pub record NodeLengths (line : ℕ) (bytes : List ℕ) (x : Node × ℕ × List ℕ) : Type 0 where
@@ -252,7 +192,7 @@ node_lengths names line bytes x e =
 
 -- what was read of a node
 pub record NodeOf (names : Naming) (table : Table) (bytes : List ℕ) (x : Node × ℕ × List ℕ) : Type 0 where
-  pub parts : bytes ≡ ended_and (lines_by names x.0) x.2
+  pub parts : bytes ≡ ended_and (node_lines names x.0) x.2
   pub kept : IsNodeIn table x.0
   pub held : IsHeldNode x.0
 
@@ -282,27 +222,27 @@ ascend_to : (last : Option RowId) (ws : List Weight) → Ascend last ws → Asce
 ascend_to last [] a = tt
 ascend_to last (w ∷ ws) a = (a.0, ascend_to (Some w.row) ws a.1)
 
--- the lines of a leaf that was read in the form in which it had to be written
-leaf_parts : (names : Naming) (form : LeafForm) (ws : List Weight) → FormSuits names form → is_form names form ws ≡ true → leaf_lines_by names form ws ≡ lines_by names (LeafOf ws)
-leaf_parts (Named table) form ws suits e = ap (λ (f : LeafForm). leaf_lines_by (Named table) f ws) suits ∙ leaf_is (Named table) ws
-leaf_parts (Listed rows) form ws suits e = ap (λ (f : LeafForm). leaf_lines_by (Listed rows) f ws) (sym (same_form_is (form_of ws) form e)) ∙ leaf_is (Listed rows) ws
+-- a leaf was read in the form in which it had to be written
+leaf_parts : (names : Naming) (form : LeafForm) (ws : List Weight) → FormSuits names form → is_form names form ws ≡ true → form ≡ form_by names ws
+leaf_parts (Named table) form ws suits e = suits
+leaf_parts (Listed rows) form ws suits e = sym (same_form_is (form_of ws) form e)
 
-node_from : (names : Naming) (table : Table) (line : ℕ) (bytes : List ℕ) (ws : List (List ℕ)) (after : List ℕ) (h : Head) (x : Node × ℕ × List ℕ) → IsOver names table → bytes ≡ line_of ws ++ 10 ∷ after → HeadOf names ws h → HeadSuits names h → rest_of names h line after ≡ Ok x → NodeOf names table bytes x
-unfolding rest_of leaf_lines_by
-node_from names table line bytes ws after (heads.Split at) x over parts h suits e =
+node_from : (names : Naming) (table : Table) (line : ℕ) (bytes : List ℕ) (ws : List (List ℕ)) (after : List ℕ) (h : Head) (x : Node × ℕ × List ℕ) → IsOver names table → bytes ≡ line_of ws ++ 10 ∷ after → HeadOf names ws h → rest_of names h line after ≡ Ok x → NodeOf names table bytes x
+unfolding rest_of node_lines
+node_from names table line bytes ws after (heads.Split at) x over parts h e =
     moved (NodeOf names table bytes) (SplitAt at, line + 1, after) x e (record {
-      parts = parts ∙ ap (λ (v : List (List ℕ)). line_of v ++ 10 ∷ after) h.spelled ∙ ap (λ (v : List (List ℕ)). ended_and v after) (split_is names at);
+      parts = parts ∙ ap (λ (v : List (List ℕ)). line_of v ++ 10 ∷ after) h.spelled;
       kept = h.kept;
       held = h.held;
     })
-node_from names table line bytes ws after (heads.Leaf n form) x over parts h suits e =
+node_from names table line bytes ws after (heads.Leaf n form) x over parts h e =
     let a = bind_ok (weights_at names form n None (line + 1) after) (λ ws. if is_form names form ws.0 then Ok (LeafOf ws.0, line + 1 + n, ws.1) else fault (line + n) Number) x e in
     let g = guard_ok (is_form names form a.0.0) (line + n) Number (Ok (LeafOf a.0.0, line + 1 + n, a.0.1)) x a.2 in
     let count = (rising_lengths row_of_weight (weight_of names form) n None (line + 1) after a.0 a.1).0 in
-    let t = rising_takes row_of_weight (weight_of names form) (weight_words_by names form) (KeptWeight table) (weight_takes names table form over h.2) n None (line + 1) after a.0 a.1 in
+    let t = rising_takes row_of_weight (weight_of names form) (weight_words names form) (KeptWeight table) (weight_takes names table form over h.2) n None (line + 1) after a.0 a.1 in
     let words : ws ≡ first_words names form (length a.0.0) = h.0 ∙ ap (first_words names form) (sym count) in
     moved (NodeOf names table bytes) (LeafOf a.0.0, line + 1 + n, a.0.1) x g.1 (record {
-      parts = parts ∙ (λ i. line_of (words i) ++ 10 ∷ t.parts i) ∙ ap (λ (v : List (List ℕ)). ended_and v a.0.1) (leaf_parts names form a.0.0 suits g.0);
+      parts = parts ∙ (λ i. line_of (words i) ++ 10 ∷ t.parts i) ∙ ap (λ (f : LeafForm). ended_and (leaf_lines names f a.0.0) a.0.1) (leaf_parts names form a.0.0 h.3 g.0);
       kept = (omega (arith, count, h.1), ascend_from None a.0.0 t.ascend, All-from_recursion (λ w. IsNamedIn table w.row) a.0.0 (kept_rows table a.0.0 t.kept));
       held = All-from_recursion IsHeldWeight a.0.0 (held_rows table a.0.0 t.kept);
     })
@@ -312,7 +252,7 @@ unfolding node_at
 node_takes names table line bytes x over e =
     let a = bind_ok (words_at line bytes) (λ l. head_of names line l.0 >>= λ head. rest_of names head line l.1) x e in
     let b = bind_ok (head_of names line a.0.0) (λ head. rest_of names head line a.0.1) x a.2 in
-    node_from names table line bytes a.0.0 a.0.1 b.0 x over (words_take line bytes a.0 a.1) (head_takes names line a.0.0 b.0 b.1) (head_suits names line a.0.0 b.0 b.1) b.2
+    node_from names table line bytes a.0.0 a.0.1 b.0 x over (words_take line bytes a.0 a.1) (head_takes names line a.0.0 b.0 b.1) b.2
 
 -- the number of the line after a node, and after many
 abbrev pub line_after : Node → ℕ → ℕ
@@ -331,7 +271,7 @@ abbrev pub ToldNode : Naming → Node → Type 0
 ToldNode names (SplitAt at) = IsNode (SplitAt at) × IsHeldNode (SplitAt at)
 ToldNode names (LeafOf ws) = (length ws ≤ 10000) × Ascend None ws × IsFormed (form_by names ws) × AllByRecursion (ToldWeight names (form_by names ws)) ws
 
-reads_all : (names : Naming) (form : LeafForm) (ws : List Weight) → AllByRecursion (ToldWeight names form) ws → AllByRecursion (ReadsAs (weight_of names form) (weight_words_by names form)) ws
+reads_all : (names : Naming) (form : LeafForm) (ws : List Weight) → AllByRecursion (ToldWeight names form) ws → AllByRecursion (ReadsAs (weight_of names form) (weight_words names form)) ws
 reads_all names form [] all = tt
 reads_all names form (w ∷ ws) all = (weight_reads names form w all.0.0 all.0.1, reads_all names form ws all.1)
 
@@ -339,29 +279,22 @@ form_again : (names : Naming) (ws : List Weight) → is_form names (form_by name
 form_again (Named table) ws = refl
 form_again (Listed rows) ws = same_form_again (form_of ws)
 
-leaf_node_again : (names : Naming) (line : ℕ) (ws : List Weight) (rest : List ℕ) → ToldNode names (LeafOf ws) → node_at names line (ended_and (leaf_lines_by names (form_by names ws) ws) rest) ≡ Ok (LeafOf ws, line + 1 + length ws, rest)
-unfolding node_at rest_of leaf_lines_by
-leaf_node_again names line ws rest told =
+pub node_again : (names : Naming) (line : ℕ) (n : Node) (rest : List ℕ) → ToldNode names n → node_at names line (ended_and (node_lines names n) rest) ≡ Ok (n, line_after n line, rest)
+unfolding node_at rest_of node_lines
+node_again names line (SplitAt at) rest told = rw (split_line line at rest told.1, split_again names line at told.0 told.1) refl
+node_again names line (LeafOf ws) rest told =
     let form = form_by names ws in
     rw (
-      leaf_line names form line (length ws) (ended_and (map (λ w. line_of (weight_words_by names form w)) ws) rest) told.2 told.0,
+      leaf_line names form line (length ws) (ended_and (map (weight_line names form) ws) rest) told.2 told.0,
       leaf_again names form line (length ws) (form_suits names ws) told.2 told.0,
-      rising_again row_of_weight (weight_of names form) (weight_words_by names form) ws None (line + 1) rest (ascend_to None ws told.1) (reads_all names form ws told.3),
+      rising_again row_of_weight (weight_of names form) (weight_words names form) ws None (line + 1) rest (ascend_to None ws told.1) (reads_all names form ws told.3),
       form_again names ws,
     ) refl
-
-split_node_again : (names : Naming) (line : ℕ) (at : At) (rest : List ℕ) → ToldNode names (SplitAt at) → node_at names line (line_of (split_words at) ++ 10 ∷ rest) ≡ Ok (SplitAt at, line + 1, rest)
-unfolding node_at rest_of
-split_node_again names line at rest told = rw (split_line line at rest told.1, split_again names line at told.0 told.1) refl
-
-pub node_again : (names : Naming) (line : ℕ) (n : Node) (rest : List ℕ) → ToldNode names n → node_at names line (ended_and (lines_by names n) rest) ≡ Ok (n, line_after n line, rest)
-node_again names line (SplitAt at) rest told = ap (λ (v : List (List ℕ)). node_at names line (ended_and v rest)) (sym (split_is names at)) ∙ split_node_again names line at rest told
-node_again names line (LeafOf ws) rest told = ap (λ (v : List (List ℕ)). node_at names line (ended_and v rest)) (sym (leaf_is names ws)) ∙ leaf_node_again names line ws rest told
 
 -- ---- trees
 
 pub record NodesOf (names : Naming) (table : Table) (owed : ℕ) (bytes : List ℕ) (x : List Node × ℕ × List ℕ) : Type 0 where
-  pub parts : bytes ≡ ended_and (flat_map (lines_by names) x.0) x.2
+  pub parts : bytes ≡ ended_and (flat_map (node_lines names) x.0) x.2
   pub trees : AreTrees owed x.0
   pub kept : AllByRecursion (IsNodeIn table) x.0
   pub held : AllByRecursion IsHeldNode x.0
@@ -386,14 +319,14 @@ nodes_take names table over (suc steps) (suc others) line bytes x e =
     let n = node_takes names table line bytes a.0 over a.1 in
     let more = nodes_take names table over steps (owed_after a.0.0 others) a.0.1 a.0.2 b.0 b.1 in
     moved (NodesOf names table (suc others) bytes) (a.0.0 ∷ b.0.0, b.0.1, b.0.2) x b.2 (record {
-      parts = n.parts ∙ ap (ended_and (lines_by names a.0.0)) more.parts ∙ sym (ended_more (lines_by names a.0.0) (flat_map (lines_by names) b.0.0) b.0.2);
+      parts = n.parts ∙ ap (ended_and (node_lines names a.0.0)) more.parts ∙ sym (ended_more (node_lines names a.0.0) (flat_map (node_lines names) b.0.0) b.0.2);
       trees = trees_more a.0.0 others b.0.0 more.trees;
       kept = (n.kept, more.kept);
       held = (n.held, more.held);
     })
 
 pub nodes_again : (names : Naming) (steps owed line : ℕ) (ns : List Node) (rest : List ℕ) → length ns ≤ steps → AreTrees owed ns → AllByRecursion (ToldNode names) ns
-    → nodes_at names steps owed line (ended_and (flat_map (lines_by names) ns) rest) ≡ Ok (ns, line_after_all ns line, rest)
+    → nodes_at names steps owed line (ended_and (flat_map (node_lines names) ns) rest) ≡ Ok (ns, line_after_all ns line, rest)
 unfolding nodes_at
 nodes_again names zero zero line [] rest few trees told = refl
 nodes_again names (suc steps) zero line [] rest few trees told = refl
@@ -402,8 +335,8 @@ nodes_again names steps (suc others) line [] rest few trees told = absurd trees
 nodes_again names zero (suc others) line (n ∷ ns) rest few trees told = absurd (omega arith)
 nodes_again names (suc steps) (suc others) line (n ∷ ns) rest few trees told =
     rw (
-      ended_more (lines_by names n) (flat_map (lines_by names) ns) rest,
-      node_again names line n (ended_and (flat_map (lines_by names) ns) rest) told.0,
+      ended_more (node_lines names n) (flat_map (node_lines names) ns) rest,
+      node_again names line n (ended_and (flat_map (node_lines names) ns) rest) told.0,
       nodes_again names steps (owed_after n others) (line_after n line) ns rest (omega arith) (trees_less n others ns trees) told.1,
     ) refl
 

@@ -3,7 +3,7 @@ use Rattle.std.proofs.Common.{◌≡◌, ℕ, zero, suc, ◌+◌, ◌<◌, ◌�
 use Rattle.std.specs.Prelude.{◌⊎◌, if◌then◌else◌}
 use Rattle.named_row.specs.declared.names.RowId.{RowId}
 use Rattle.named_row.specs.Order.{is_below}
-use Rattle.plan_text.specs.SecondText.{AscendRows, place_of_row}
+use Rattle.plan_text.specs.Leaves.{AscendRows, place_of_row}
 use Rattle.plan_text.proofs.RowOrder.{below_through, below_itself}
 use Rattle.plan_text.proofs.ListedRows.{IsListed}
 

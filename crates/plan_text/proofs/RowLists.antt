@@ -14,7 +14,8 @@ use Rattle.plan_text.specs.Lines.{◌>>=◌, ranged, words_at}
 use Rattle.plan_text.specs.Families.{Table, ordinary, IsNamed, IsNamedIn}
 use Rattle.plan_text.specs.Warrants.{Node, SplitAt, LeafOf, IsNode}
 use Rattle.plan_text.specs.CertificateText.{row_words_in, IsHeldWeight, IsHeldNode}
-use Rattle.plan_text.specs.SecondText.{rows_key, rows_of, AscendRows}
+use Rattle.plan_text.specs.SecondText.{rows_key}
+use Rattle.plan_text.specs.Leaves.{rows_of, AscendRows}
 use Rattle.plan_text.specs.CertificateReading.{range_of, row_of, own_row, names_at, row_count, rows_at}
 use Rattle.plan_text.proofs.Fields.{bind_ok, guard_ok, moved, same_text, number_takes, number_again}
 use Rattle.plan_text.proofs.ExactWords.{decimal_word}

@@ -3,14 +3,14 @@ use Rattle.std.proofs.Common.{◌≡◌, ℕ, ◌+◌, ◌≤◌, List, ◌++◌
 use Rattle.plan_text.specs.TimingTexts.{TimingText, one_band}
 use Rattle.plan_text.specs.FirstBad.{lines_in}
 use Rattle.plan_text.proofs.WordLines.{ended_and}
+use Rattle.plan_text.proofs.TextLaws.{IsTextOf}
 use Rattle.plan_text.proofs.Timings.{plan_takes, plan_again}
 use Rattle.plan_text.proofs.Grown.{Grows, Reaches, one_and}
 use Rattle.plan_text.proofs.GrownTimings.{plan_grows, plan_later}
 
 pub record TimingLaws {T : Type 0} (text : TimingText T) : Type 0 where
   -- what is read is spelled so, and the program can hold it
-  pub spelled : (line : ℕ) (bytes : List ℕ) (x : T × List ℕ) → text.read line bytes ≡ Ok x → bytes ≡ ended_and (text.lines x.0) x.1
-  pub held : (line : ℕ) (bytes : List ℕ) (x : T × List ℕ) → text.read line bytes ≡ Ok x → text.IsHeld x.0
+  pub takes : (line : ℕ) (bytes : List ℕ) (x : T × List ℕ) → text.read line bytes ≡ Ok x → IsTextOf text bytes x
   -- what is spelled so is read
   pub again : (line : ℕ) (t : T) (rest : List ℕ) → text.IsHeld t → text.read line (ended_and (text.lines t) rest) ≡ Ok (t, rest)
   -- and the same with more bytes
@@ -18,10 +18,4 @@ pub record TimingLaws {T : Type 0} (text : TimingText T) : Type 0 where
   pub later : (last line : ℕ) (bytes : List ℕ) → last ≤ line → Reaches (one_and (line + text.height)) last (text.read line bytes)
 
 pub one_band_laws : TimingLaws one_band
-one_band_laws = record {
-  spelled = λ line bytes x e. (plan_takes line bytes x e).parts;
-  held = λ line bytes x e. (plan_takes line bytes x e).held;
-  again = plan_again;
-  grows = plan_grows;
-  later = plan_later;
-}
+one_band_laws = record { takes = plan_takes; again = plan_again; grows = plan_grows; later = plan_later }

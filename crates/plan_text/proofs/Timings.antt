@@ -9,8 +9,10 @@ use Rattle.plan_text.specs.declared.fault.TextEnd.{TextEnd}
 use Rattle.plan_text.specs.declared.lines.NumberLine.{NumberLine}
 use Rattle.plan_text.specs.Spelling.{spelled, head_line, grid_key, unit_key, pattern_key, red_key, run_out_key, run_in_key, first_key, band_key, end_line, base_lines, plan_lines, timing_text, IsHeld}
 use Rattle.plan_text.specs.Lines.{◌>>=◌, Gives, fixed_at, nothing_at, numbers_at}
-use Rattle.plan_text.specs.Reading.{place_of, pattern_place, scale_at, signals_at, both_ways_at, pair_at, base_at, with_bands, plan_at, timing_of}
+use Rattle.plan_text.specs.Reading.{place_of, pattern_place, scale_at, signals_at, both_ways_at, pair_at, Unbanded, base_at, plan_at, timing_of}
+use Rattle.plan_text.specs.TimingTexts.{one_band}
 use Rattle.plan_text.proofs.WordLines.{ended_and}
+use Rattle.plan_text.proofs.TextLaws.{IsTextOf}
 use Rattle.plan_text.proofs.Fields.{bind_ok, ok_is, moved, fixed_takes, fixed_again, nothing_takes, numbers_take, numbers_again, IsKey, Suits, IsWithin}
 
 -- ---- numbers at a place
@@ -149,8 +151,8 @@ pair_takes key line bytes x e =
 -- ---- the lines that speak of no band
 
 fits : (line : ℕ) (b0 b1 b2 b3 : List ℕ) (s : ℕ × ℕ × List ℕ) (g r : List ℕ × List ℕ × List ℕ) (f : ℕ × ℕ × List ℕ) → scale_at line b0 ≡ Ok s → signals_at (line + 2) b1 ≡ Ok g → both_ways_at run_out_key run_in_key (line + 4) (length g.0 - 1) b2 ≡ Ok r → pair_at first_key (line + 6) b3 ≡ Ok f
-    → IsTiming s.0 s.1 g.0 g.1 r.0 r.1 f.0 f.1 0 0
-fits line b0 b1 b2 b3 s g r f es eg er ef =
+    → (band_out band_in : ℕ) → IsSmall band_out → IsSmall band_in → IsTiming s.0 s.1 g.0 g.1 r.0 r.1 f.0 f.1 band_out band_in
+fits line b0 b1 b2 b3 s g r f es eg er ef band_out band_in out in' =
     let scale = scale_takes line b0 s es in
     let signals = signals_take (line + 2) b1 g eg in
     let runs = ways_take run_out_key run_in_key (line + 4) (length g.0 - 1) b2 r er in
@@ -175,31 +177,9 @@ fits line b0 b1 b2 b3 s g r f es eg er ef =
       run_in_each = small_of (place_of (line + 4 + 1) (length g.0 - 1) 0) r.1 i;
       first_out_most = first.first;
       first_in_most = first.second;
-      band_out_most = omega arith;
-      band_in_most = omega arith;
+      band_out_most = out;
+      band_in_most = in';
     }
-
--- the same numbers with other bands
-rebanded : (grid unit : ℕ) (patterns reds run_out run_in : List ℕ) (first_out first_in b c band_out band_in : ℕ) → IsTiming grid unit patterns reds run_out run_in first_out first_in b c → IsSmall band_out → IsSmall band_in → IsTiming grid unit patterns reds run_out run_in first_out first_in band_out band_in
-rebanded grid unit patterns reds run_out run_in first_out first_in b c band_out band_in k out in' = record {
-  grid_least = k.grid_least;
-  grid_most = k.grid_most;
-  unit_least = k.unit_least;
-  unit_most = k.unit_most;
-  few = k.few;
-  many = k.many;
-  reds_count = k.reds_count;
-  run_out_count = k.run_out_count;
-  run_in_count = k.run_in_count;
-  patterns_each = k.patterns_each;
-  reds_each = k.reds_each;
-  run_out_each = k.run_out_each;
-  run_in_each = k.run_in_each;
-  first_out_most = k.first_out_most;
-  first_in_most = k.first_in_most;
-  band_out_most = out;
-  band_in_most = in';
-}
 
 pub abs_pos : (ns : List ℕ) → map unsigned_abs (map pos ns) ≡ ns
 abs_pos [] = refl
@@ -218,23 +198,11 @@ timing_is_held t reds first_out first_in ranges is out in' =
       first_in = in' ∙ ap pos in_is;
     }
 
--- and it is held with other bands too
-pub banded_is_held : (t : Plan) (band_out band_in : ℕ) → IsHeld t → IsSmall band_out → IsSmall band_in → IsHeld (with_bands t band_out band_in)
-banded_is_held t band_out band_in h out in' = record {
-  ranges = rebanded t.grid t.unit t.patterns (map unsigned_abs t.reds) t.run_out t.run_in (unsigned_abs t.first_out) (unsigned_abs t.first_in) t.band_out t.band_in band_out band_in h.ranges out in';
-  reds = h.reds;
-  first_out = h.first_out;
-  first_in = h.first_in;
-}
-
--- what these lines are, and that the program can hold it
-pub record BaseOf (bytes : List ℕ) (x : Plan × List ℕ) : Type 0 where
-  pub parts : bytes ≡ ended_and (base_lines x.0) x.1
-  pub held : IsHeld x.0
-
-pub record PlanOf (bytes : List ℕ) (x : Plan × List ℕ) : Type 0 where
-  pub parts : bytes ≡ ended_and (plan_lines x.0) x.1
-  pub held : IsHeld x.0
+-- what these lines are, and that the program can hold a timing of them, whatever its bands are
+pub record BaseOf (bytes : List ℕ) (x : Unbanded × List ℕ) : Type 0 where
+  pub parts : (band_out band_in : ℕ) → bytes ≡ ended_and (base_lines (x.0 band_out band_in)) x.1
+  pub held : (band_out band_in : ℕ) → IsSmall band_out → IsSmall band_in → IsHeld (x.0 band_out band_in)
+  pub bands : (band_out band_in : ℕ) → ((x.0 band_out band_in).band_out ≡ band_out) × ((x.0 band_out band_in).band_in ≡ band_in)
 
 -- numbers from 0 on make a plan that is held
 is_held : (grid unit : ℕ) (patterns reds run_out run_in : List ℕ) (first_out first_in band_out band_in : ℕ) → IsTiming grid unit patterns reds run_out run_in first_out first_in band_out band_in → IsHeld (plan_of grid unit patterns reds run_out run_in first_out first_in band_out band_in)
@@ -246,16 +214,16 @@ is_held grid unit patterns reds run_out run_in first_out first_in band_out band_
       first_in = refl;
     }
 
-pub base_takes : (line : ℕ) (bytes : List ℕ) (x : Plan × List ℕ) → base_at line bytes ≡ Ok x → BaseOf bytes x
+pub base_takes : (line : ℕ) (bytes : List ℕ) (x : Unbanded × List ℕ) → base_at line bytes ≡ Ok x → BaseOf bytes x
 unfolding base_at
 base_takes line bytes x e =
-    let a = bind_ok (scale_at line bytes) (λ s. signals_at (line + 2) s.2 >>= λ g. both_ways_at run_out_key run_in_key (line + 4) (length g.0 - 1) g.2 >>= λ r. pair_at first_key (line + 6) r.2 >>= λ f. Ok (plan_of s.0 s.1 g.0 g.1 r.0 r.1 f.0 f.1 0 0, f.2)) x e in
+    let a = bind_ok (scale_at line bytes) (λ s. signals_at (line + 2) s.2 >>= λ g. both_ways_at run_out_key run_in_key (line + 4) (length g.0 - 1) g.2 >>= λ r. pair_at first_key (line + 6) r.2 >>= λ f. Ok (plan_of s.0 s.1 g.0 g.1 r.0 r.1 f.0 f.1, f.2)) x e in
     let s = a.0 in
-    let c = bind_ok (signals_at (line + 2) s.2) (λ g. both_ways_at run_out_key run_in_key (line + 4) (length g.0 - 1) g.2 >>= λ r. pair_at first_key (line + 6) r.2 >>= λ f. Ok (plan_of s.0 s.1 g.0 g.1 r.0 r.1 f.0 f.1 0 0, f.2)) x a.2 in
+    let c = bind_ok (signals_at (line + 2) s.2) (λ g. both_ways_at run_out_key run_in_key (line + 4) (length g.0 - 1) g.2 >>= λ r. pair_at first_key (line + 6) r.2 >>= λ f. Ok (plan_of s.0 s.1 g.0 g.1 r.0 r.1 f.0 f.1, f.2)) x a.2 in
     let g = c.0 in
-    let d = bind_ok (both_ways_at run_out_key run_in_key (line + 4) (length g.0 - 1) g.2) (λ r. pair_at first_key (line + 6) r.2 >>= λ f. Ok (plan_of s.0 s.1 g.0 g.1 r.0 r.1 f.0 f.1 0 0, f.2)) x c.2 in
+    let d = bind_ok (both_ways_at run_out_key run_in_key (line + 4) (length g.0 - 1) g.2) (λ r. pair_at first_key (line + 6) r.2 >>= λ f. Ok (plan_of s.0 s.1 g.0 g.1 r.0 r.1 f.0 f.1, f.2)) x c.2 in
     let r = d.0 in
-    let h = bind_ok (pair_at first_key (line + 6) r.2) (λ f. Ok (plan_of s.0 s.1 g.0 g.1 r.0 r.1 f.0 f.1 0 0, f.2)) x d.2 in
+    let h = bind_ok (pair_at first_key (line + 6) r.2) (λ f. Ok (plan_of s.0 s.1 g.0 g.1 r.0 r.1 f.0 f.1, f.2)) x d.2 in
     let f = h.0 in
     let scale = scale_takes line bytes s a.1 in
     let signals = signals_take (line + 2) s.2 g c.1 in
@@ -264,39 +232,43 @@ base_takes line bytes x e =
     let third : g.2 ≡ spelled run_out_key r.0 ++ 10 ∷ (spelled run_in_key r.1 ++ 10 ∷ (spelled first_key (f.0 ∷ f.1 ∷ []) ++ 10 ∷ f.2)) = runs.parts ∙ ap (λ (y : List ℕ). spelled run_out_key r.0 ++ 10 ∷ (spelled run_in_key r.1 ++ 10 ∷ y)) first.parts in
     let second = signals.parts ∙ (λ i. spelled pattern_key g.0 ++ 10 ∷ (spelled red_key (sym (abs_pos g.1) i) ++ 10 ∷ third i)) in
     let all = scale.parts ∙ ap (λ (y : List ℕ). spelled grid_key (s.0 ∷ []) ++ 10 ∷ (spelled unit_key (s.1 ∷ []) ++ 10 ∷ y)) second in
-    moved (BaseOf bytes) (plan_of s.0 s.1 g.0 g.1 r.0 r.1 f.0 f.1 0 0, f.2) x h.2 (record {
-      parts = all;
-      held = is_held s.0 s.1 g.0 g.1 r.0 r.1 f.0 f.1 0 0 (fits line bytes s.2 g.2 r.2 s g r f a.1 c.1 d.1 h.1);
+    moved (BaseOf bytes) (plan_of s.0 s.1 g.0 g.1 r.0 r.1 f.0 f.1, f.2) x h.2 (record {
+      parts = λ band_out band_in. all;
+      held = λ band_out band_in out in'. is_held s.0 s.1 g.0 g.1 r.0 r.1 f.0 f.1 band_out band_in (fits line bytes s.2 g.2 r.2 s g r f a.1 c.1 d.1 h.1 band_out band_in out in');
+      bands = λ band_out band_in. (refl, refl);
     })
 
 -- ---- the eight lines
 
-pub plan_takes : (line : ℕ) (bytes : List ℕ) (x : Plan × List ℕ) → plan_at line bytes ≡ Ok x → PlanOf bytes x
+pub plan_takes : (line : ℕ) (bytes : List ℕ) (x : Plan × List ℕ) → plan_at line bytes ≡ Ok x → IsTextOf one_band bytes x
 unfolding plan_at
 plan_takes line bytes x e =
-    let a = bind_ok (base_at line bytes) (λ base. pair_at band_key (line + 7) base.1 >>= λ band. Ok (with_bands base.0 band.0 band.1, band.2)) x e in
-    let c = bind_ok (pair_at band_key (line + 7) a.0.1) (λ band. Ok (with_bands a.0.0 band.0 band.1, band.2)) x a.2 in
+    let a = bind_ok (base_at line bytes) (λ base. pair_at band_key (line + 7) base.1 >>= λ band. Ok (base.0 band.0 band.1, band.2)) x e in
+    let c = bind_ok (pair_at band_key (line + 7) a.0.1) (λ band. Ok (a.0.0 band.0 band.1, band.2)) x a.2 in
     let base = base_takes line bytes a.0 a.1 in
     let band = pair_takes band_key (line + 7) a.0.1 c.0 c.1 in
-    moved (PlanOf bytes) (with_bands a.0.0 c.0.0 c.0.1, c.0.2) x c.2 (record {
-      parts = base.parts ∙ ap (ended_and (base_lines a.0.0)) band.parts;
-      held = banded_is_held a.0.0 c.0.0 c.0.1 base.held band.first band.second;
+    let made : Plan = a.0.0 c.0.0 c.0.1 in
+    let own = base.bands c.0.0 c.0.1 in
+    moved (IsTextOf one_band bytes) (made, c.0.2) x c.2 (record {
+      parts = base.parts c.0.0 c.0.1 ∙ ap (ended_and (base_lines made)) (band.parts ∙ (λ i. spelled band_key (sym own.0 i ∷ sym own.1 i ∷ []) ++ 10 ∷ c.0.2));
+      held = base.held c.0.0 c.0.1 band.first band.second;
     })
 
 -- the numbers that the code read
-pub base_fits : (line : ℕ) (bytes rest : List ℕ) (grid unit : ℕ) (patterns reds run_out run_in : List ℕ) (first_out first_in : ℕ) → base_at line bytes ≡ Ok (plan_of grid unit patterns reds run_out run_in first_out first_in 0 0, rest)
-    → IsTiming grid unit patterns reds run_out run_in first_out first_in 0 0
-base_fits line bytes rest grid unit patterns reds run_out run_in first_out first_in e =
-    subst (λ (ns : List ℕ). IsTiming grid unit patterns ns run_out run_in first_out first_in 0 0) (abs_pos reds)
-    (base_takes line bytes (plan_of grid unit patterns reds run_out run_in first_out first_in 0 0, rest) e).held.ranges
+pub base_fits : (line : ℕ) (bytes rest : List ℕ) (grid unit : ℕ) (patterns reds run_out run_in : List ℕ) (first_out first_in band_out band_in : ℕ) → base_at line bytes ≡ Ok (plan_of grid unit patterns reds run_out run_in first_out first_in, rest) → IsSmall band_out → IsSmall band_in
+    → IsTiming grid unit patterns reds run_out run_in first_out first_in band_out band_in
+base_fits line bytes rest grid unit patterns reds run_out run_in first_out first_in band_out band_in e out in' =
+    subst (λ (ns : List ℕ). IsTiming grid unit patterns ns run_out run_in first_out first_in band_out band_in) (abs_pos reds)
+    ((base_takes line bytes (plan_of grid unit patterns reds run_out run_in first_out first_in, rest) e).held band_out band_in out in').ranges
 
-pub plan_fits : (line : ℕ) (bytes rest more : List ℕ) (grid unit : ℕ) (patterns reds run_out run_in : List ℕ) (first_out first_in band_out band_in : ℕ) → base_at line bytes ≡ Ok (plan_of grid unit patterns reds run_out run_in first_out first_in 0 0, rest) → pair_at band_key (line + 7) rest ≡ Ok (band_out, band_in, more)
+pub plan_fits : (line : ℕ) (bytes rest more : List ℕ) (grid unit : ℕ) (patterns reds run_out run_in : List ℕ) (first_out first_in band_out band_in : ℕ) → base_at line bytes ≡ Ok (plan_of grid unit patterns reds run_out run_in first_out first_in, rest) → pair_at band_key (line + 7) rest ≡ Ok (band_out, band_in, more)
     → IsTiming grid unit patterns reds run_out run_in first_out first_in band_out band_in
 plan_fits line bytes rest more grid unit patterns reds run_out run_in first_out first_in band_out band_in e f =
     let band = pair_takes band_key (line + 7) rest (band_out, band_in, more) f in
-    rebanded grid unit patterns reds run_out run_in first_out first_in 0 0 band_out band_in (base_fits line bytes rest grid unit patterns reds run_out run_in first_out first_in e) band.first band.second
+    base_fits line bytes rest grid unit patterns reds run_out run_in first_out first_in band_out band_in e band.first band.second
 
-pub timing_takes : (bytes : List ℕ) (t : Plan) → timing_of bytes ≡ Ok t → bytes ≡ timing_text t
+-- the whole text, and that the program can hold the timing
+pub timing_takes : (bytes : List ℕ) (t : Plan) → timing_of bytes ≡ Ok t → (bytes ≡ timing_text t) × IsHeld t
 unfolding timing_of
 timing_takes bytes t e =
     let a = bind_ok (fixed_at 1 head_line bytes) (λ rest. plan_at 2 rest >>= λ timing. fixed_at 10 end_line timing.1 >>= λ more. nothing_at 11 more >>= λ nothing. Ok timing.0) t e in
@@ -304,9 +276,12 @@ timing_takes bytes t e =
     let d = bind_ok (fixed_at 10 end_line b.0.1) (λ more. nothing_at 11 more >>= λ nothing. Ok b.0.0) t b.2 in
     let f = bind_ok (nothing_at 11 d.0) (λ nothing. Ok b.0.0) t d.2 in
     let last : b.0.1 ≡ end_line ++ 10 ∷ [] = fixed_takes 10 end_line b.0.1 d.0 d.1 ∙ ap (λ (r : List ℕ). end_line ++ 10 ∷ r) (nothing_takes 11 d.0 f.0 f.1) in
-    fixed_takes 1 head_line bytes a.0 a.1
-    ∙ ap (λ (y : List ℕ). head_line ++ 10 ∷ y) ((plan_takes 2 a.0 b.0 b.1).parts ∙ ap (ended_and (plan_lines b.0.0)) last)
-    ∙ ap timing_text (ok_is b.0.0 t f.2)
+    let plan = plan_takes 2 a.0 b.0 b.1 in (
+      fixed_takes 1 head_line bytes a.0 a.1
+          ∙ ap (λ (y : List ℕ). head_line ++ 10 ∷ y) (plan.parts ∙ ap (ended_and (plan_lines b.0.0)) last)
+          ∙ ap timing_text (ok_is b.0.0 t f.2),
+      moved IsHeld b.0.0 t f.2 plan.held,
+    )
 
 -- ---- and again
 
@@ -338,8 +313,16 @@ pair_again : (key : List ℕ) (line first second : ℕ) (rest : List ℕ) → Is
 unfolding pair_at
 pair_again key line first second rest is f s = rw (numbers_again key (place_of line 2 0) (first ∷ second ∷ []) rest is (suits_two line first second f s)) refl
 
+-- the numbers of a timing that speak of no band
+abbrev pub numbers_of : Plan → Unbanded
+numbers_of t = plan_of t.grid t.unit t.patterns (map unsigned_abs t.reds) t.run_out t.run_in (unsigned_abs t.first_out) (unsigned_abs t.first_in)
+
+-- with its bands they are the timing
+pub held_is : (t : Plan) → IsHeld t → numbers_of t t.band_out t.band_in ≡ t
+held_is t held = rw (← held.reds, ← held.first_out, ← held.first_in) refl
+
 -- the bands aren't read
-pub base_again : (line : ℕ) (t : Plan) (rest : List ℕ) → IsHeld t → base_at line (ended_and (base_lines t) rest) ≡ Ok (with_bands t 0 0, rest)
+pub base_again : (line : ℕ) (t : Plan) (rest : List ℕ) → IsHeld t → base_at line (ended_and (base_lines t) rest) ≡ Ok (numbers_of t, rest)
 unfolding base_at
 base_again line t rest held =
     let k = held.ranges in
@@ -355,21 +338,7 @@ base_again line t rest held =
     let second = signals_again (line + 2) t.patterns reds rest2 p (suits_small (line + 2 + 1) reds (length t.patterns) k.reds_count k.reds_each) in
     let third = ways_again run_out_key run_in_key (line + 4) links t.run_out t.run_in rest3 (record { spaces = refl; feeds = refl }) (record { spaces = refl; feeds = refl }) (suits_small (line + 4) t.run_out links (omega arith) k.run_out_each) (suits_small (line + 4 + 1) t.run_in links (omega arith) k.run_in_each) in
     let fourth = pair_again first_key (line + 6) first_out first_in rest (record { spaces = refl; feeds = refl }) k.first_out_most k.first_in_most in
-    rw (first, second, third, fourth) (λ i. Ok (
-      record {
-        grid = t.grid;
-        unit = t.unit;
-        patterns = t.patterns;
-        reds = sym held.reds i;
-        run_out = t.run_out;
-        run_in = t.run_in;
-        first_out = sym held.first_out i;
-        first_in = sym held.first_in i;
-        band_out = 0;
-        band_in = 0;
-      },
-      rest,
-    ))
+    rw (first, second, third, fourth) refl
 
 pub plan_again : (line : ℕ) (t : Plan) (rest : List ℕ) → IsHeld t → plan_at line (ended_and (plan_lines t) rest) ≡ Ok (t, rest)
 unfolding plan_at
@@ -377,7 +346,7 @@ plan_again line t rest held =
     let k = held.ranges in
     let first = base_again line t (spelled band_key (t.band_out ∷ t.band_in ∷ []) ++ 10 ∷ rest) held in
     let second = pair_again band_key (line + 7) t.band_out t.band_in rest (record { spaces = refl; feeds = refl }) k.band_out_most k.band_in_most in
-    rw (first, second) refl
+    rw (first, second) (ap (λ (p : Plan). Ok (p, rest)) (held_is t held))
 
 pub timing_again : (t : Plan) → IsHeld t → timing_of (timing_text t) ≡ Ok t
 unfolding timing_of nothing_at
@@ -388,5 +357,5 @@ timing_again t held =
     rw (first, second, third) refl
 
 pub is_found : (bytes : List ℕ) (r : Result Plan TextEnd) → Gives (λ t. t) r (timing_of bytes) → IfOk r (λ t. bytes ≡ timing_text t)
-is_found bytes (Ok t) given = timing_takes bytes t given
+is_found bytes (Ok t) given = (timing_takes bytes t given).0
 is_found bytes (Err e) given = tt

@@ -1,5 +1,5 @@
--- The first text of a certificate: its claim, its timing, its tree and a last line, each line ended by a line feed.
-use Rattle.std.specs.Prelude.{ℕ, ◌<◌, ◌^◌, List, [], ◌∷◌, ◌++◌, length, map, flat_map, All, codes, Option, None, Some, FitsSigned, if◌then◌else◌}
+-- The words and lines of a certificate's texts, but for the lines of its tree.
+use Rattle.std.specs.Prelude.{ℕ, ◌<◌, ◌^◌, List, [], ◌∷◌, All, codes, Option, None, Some, FitsSigned, if◌then◌else◌}
 use Rattle.std.specs.Int.{w64}
 use Rattle.std.specs.Fmt.{decimal, signed_decimal}
 use Rattle.rational_theory.specs.Rational.{ℚ}
@@ -12,7 +12,6 @@ use Rattle.search_box.specs.declared.span.At.TheVariants.{Loop, Turn}
 use Rattle.plan_text.specs.declared.certificate.Claim.{Claim}
 use Rattle.plan_text.specs.declared.certificate.Claim.TheVariants.{Best, NoTiming, Stopped}
 use Rattle.plan_text.specs.Words.{line_of}
-use Rattle.plan_text.specs.Spelling.{ended, end_line}
 use Rattle.plan_text.specs.TimingTexts.{TimingText, one_band}
 use Rattle.plan_text.specs.Families.{Table, ordinary, family_name_in, is_lone_in}
 use Rattle.plan_text.specs.Warrants.{Node, SplitAt, LeafOf, WarrantWith, Warrant, IsCertificateIn}
@@ -66,23 +65,9 @@ row_words_in table row = if is_lone_in table row.family then family_name_in tabl
 abbrev pub row_words : RowId → List (List ℕ)
 row_words row = row_words_in ordinary row
 
-abbrev pub weight_words : Table → Weight → List (List ℕ)
-weight_words table w = row_words_in table w.row ++ exact_spelling w.by ∷ []
-
 abbrev pub split_words : At → List (List ℕ)
 split_words (Loop link at) = split_key ∷ loop_key ∷ decimal link ∷ signed_decimal at ∷ []
 split_words (Turn signal rank) = split_key ∷ turn_key ∷ decimal signal ∷ decimal rank ∷ []
-
-abbrev pub weight_line : Table → Weight → List ℕ
-weight_line table w = line_of (weight_words table w)
-
-unfoldable pub node_lines : Table → Node → List (List ℕ)
-node_lines table (SplitAt at) = line_of (split_words at) ∷ []
-node_lines table (LeafOf ws) = line_of (leaf_key ∷ decimal (length ws) ∷ []) ∷ map (weight_line table) ws
-
--- the line `tree`, the nodes, and the line `end`
-abbrev pub tree_lines : Table → List Node → List (List ℕ)
-tree_lines table ns = tree_line ∷ (flat_map (node_lines table) ns ++ end_line ∷ [])
 
 abbrev pub timing_part : {T : Type 0} → TimingText T → Option T → List (List ℕ)
 timing_part text None = []
@@ -94,16 +79,6 @@ claim_lines text (Best value) timing = best_line ∷ line_of (fraction_words val
 claim_lines text NoTiming timing = none_line ∷ []
 claim_lines text (Stopped bound None) timing = open_line ∷ line_of (fraction_words bound_key bound) ∷ no_timing_line ∷ []
 claim_lines text (Stopped bound (Some value)) timing = open_line ∷ line_of (fraction_words bound_key bound) ∷ line_of (fraction_words value_key value) ∷ timing_part text timing
-
--- with this first line, and the rows named over a table
-abbrev pub first_lines : {T : Type 0} → TimingText T → Table → List ℕ → WarrantWith T → List (List ℕ)
-first_lines text table head c = head ∷ (claim_lines text c.claim c.timing ++ tree_lines table c.nodes)
-
-abbrev pub first_text : {T : Type 0} → TimingText T → Table → List ℕ → WarrantWith T → List ℕ
-first_text text table head c = ended (first_lines text table head c)
-
-abbrev pub certificate_text : Warrant → List ℕ
-certificate_text c = first_text one_band ordinary certificate_line c
 
 -- ---- certificates that the program can hold
 

@@ -5,7 +5,7 @@ use Prim.Native.Nat.{◌∣◌}
 use Rattle.rational_theory.specs.Gcd.{gcd}
 use Rattle.rational_theory.specs.Rational.{over}
 use Rattle.named_row.specs.declared.leaves.Weight.{Weight}
-use Rattle.plan_text.specs.SecondText.{denominator_of, times_denominator}
+use Rattle.plan_text.specs.Leaves.{denominator_of, times_denominator}
 
 -- the greatest common divisor of a number and others, without their signs
 unfoldable pub divisor_from : ℕ → List ℤ → ℕ

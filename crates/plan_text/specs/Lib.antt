@@ -8,8 +8,10 @@ pub mod TimingTexts
 pub mod Families
 pub mod Warrants
 pub mod CertificateText
-pub mod SecondText
+pub mod Leaves
 pub mod Namings
+pub mod FirstText
+pub mod SecondText
 pub mod DivisorRule
 pub mod CertificateReading
 pub mod Promises

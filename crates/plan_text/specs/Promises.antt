@@ -4,7 +4,8 @@ use Rattle.progression.specs.Plan.{Plan}
 use Rattle.plan_text.specs.Spelling.{timing_text, IsHeld}
 use Rattle.plan_text.specs.Reading.{timing_of}
 use Rattle.plan_text.specs.Warrants.{Warrant}
-use Rattle.plan_text.specs.CertificateText.{certificate_text, IsHeldWarrant}
+use Rattle.plan_text.specs.CertificateText.{IsHeldWarrant}
+use Rattle.plan_text.specs.FirstText.{certificate_text}
 use Rattle.plan_text.specs.SecondText.{second_text}
 use Rattle.plan_text.specs.CertificateReading.{certificate_of}
 

@@ -44,40 +44,29 @@ pair_at key line bytes = do
   pair ← numbers_at key (place_of line 2 0) bytes
   Ok (slice_index pair.0 0, slice_index pair.0 1, pair.1)
 
--- these numbers, as a timing whose bands are lines
-abbrev pub base_of : Base → Plan
-base_of b = plan_of b.grid b.unit b.patterns.items b.reds.items b.run_out.items b.run_in.items b.first_out b.first_in 0 0
+-- a timing that waits for its bands
+abbrev pub Unbanded : Type 0
+Unbanded = ℕ → ℕ → Plan
+
+-- that of these numbers
+abbrev pub base_of : Base → Unbanded
+base_of b = plan_of b.grid b.unit b.patterns.items b.reds.items b.runs.outbound.items b.runs.inbound.items b.first.outbound b.first.inbound
 
 -- the seven lines of a timing's numbers that speak of no band, the first of which has this number
-unfoldable pub base_at : ℕ → List ℕ → Result (Plan × List ℕ) BadText
+unfoldable pub base_at : ℕ → List ℕ → Result (Unbanded × List ℕ) BadText
 base_at line bytes = do
   scale ← scale_at line bytes
   signals ← signals_at (line + 2) scale.2
   runs ← both_ways_at run_out_key run_in_key (line + 4) (length signals.0 - 1) signals.2
   first ← pair_at first_key (line + 6) runs.2
-  Ok (plan_of scale.0 scale.1 signals.0 signals.1 runs.0 runs.1 first.0 first.1 0 0, first.2)
-
--- the timing with other bands
-abbrev pub with_bands : Plan → ℕ → ℕ → Plan
-with_bands t band_out band_in = record {
-  grid = t.grid;
-  unit = t.unit;
-  patterns = t.patterns;
-  reds = t.reds;
-  run_out = t.run_out;
-  run_in = t.run_in;
-  first_out = t.first_out;
-  first_in = t.first_in;
-  band_out = band_out;
-  band_in = band_in;
-}
+  Ok (plan_of scale.0 scale.1 signals.0 signals.1 runs.0 runs.1 first.0 first.1, first.2)
 
 -- the eight lines of a timing's numbers, the first of which has this number
 unfoldable pub plan_at : ℕ → List ℕ → Result (Plan × List ℕ) BadText
 plan_at line bytes = do
   base ← base_at line bytes
   band ← pair_at band_key (line + 7) base.1
-  Ok (with_bands base.0 band.0 band.1, band.2)
+  Ok (base.0 band.0 band.1, band.2)
 
 unfoldable pub timing_of : List ℕ → Result Plan BadText
 timing_of bytes = do

@@ -1,5 +1,5 @@
 -- A certificate as contracts see it: a claim, a timing of some kind where the claim has a value, and a tree of splits and leaves.
-use Rattle.std.specs.Prelude.{◌≡◌, ℕ, suc, zero, ◌≤◌, List, [], ◌∷◌, length, All, true, Option, None, Some}
+use Rattle.std.specs.Prelude.{◌≡◌, ℕ, suc, zero, ◌≤◌, List, [], ◌∷◌, length, map, All, true, Option, None, Some}
 use Rattle.progression.specs.Plan.{Plan}
 use Rattle.named_row.specs.declared.leaves.Weight.{Weight}
 use Rattle.named_row.specs.declared.names.RowId.{RowId}
@@ -28,6 +28,10 @@ Warrant = WarrantWith Plan
 abbrev pub node_of : CertNode → Node
 node_of (Split at) = SplitAt at
 node_of (Leaf leaf) = LeafOf leaf.multipliers.items
+
+-- the one of these parts
+abbrev pub warrant_of : {T : Type 0} → Claim → Option T → List CertNode → WarrantWith T
+warrant_of claim timing nodes = record { claim = claim; timing = timing; nodes = map node_of nodes }
 
 -- Whole trees in preorder, so many of them. A split takes the place of one tree by two, and a leaf is one.
 abbrev pub AreTrees : ℕ → List Node → Type 0

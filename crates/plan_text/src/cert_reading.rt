@@ -1,35 +1,26 @@
 //! The text of a certificate, read.
 
-ghost use Rattle.std.specs.Prelude.{◌≡◌, ◌+◌, ◌≤◌, ◌⊎◌, map, length, IfOk, Ok};
+ghost use Rattle.std.specs.Prelude.{◌≡◌, ◌+◌, ◌≤◌, ◌⊎◌, length, IfOk, Ok};
 ghost use Rattle.plan_text.specs.Lines.{Gives};
 ghost use Rattle.plan_text.specs.Families.{ordinary};
-ghost use Rattle.plan_text.specs.Warrants.{Warrant, node_of};
-ghost use Rattle.plan_text.specs.Namings.{Named};
+ghost use Rattle.plan_text.specs.Warrants.{Warrant, warrant_of};
+ghost use Rattle.plan_text.specs.FirstText.{certificate_text};
 ghost use Rattle.plan_text.specs.SecondText.{second_text};
-ghost use Rattle.plan_text.specs.CertificateText.{certificate_text, IsHeldWarrant};
-ghost use Rattle.plan_text.specs.CertificateReading.{rows_at, tree_at, first_of, second_of, certificate_of};
-ghost use Rattle.plan_text.specs.TimingTexts.{one_band};
+ghost use Rattle.plan_text.specs.CertificateText.{IsHeldWarrant};
+ghost use Rattle.plan_text.specs.CertificateReading.{rows_at, first_of, second_of, certificate_of, headed_of};
 
-use crate::certificate::{CertNode, Certificate};
-use crate::claim::claim_at;
+use crate::certificate::Certificate;
+use crate::claim::{Parts, claim_at};
 use crate::family::FAMILIES;
 use crate::fault::{TextEnd, TextFault};
-use crate::lines::{bad, line_at};
+use crate::lines::{bad, fixed_at, line_at};
 use crate::naming::Naming;
 use crate::row_list::rows_at;
-use crate::timing_text::OneBand;
+use crate::timing_text::{OneBand, TimingKind};
 use crate::tree::tree_at;
 use named_row::RowId;
 use std::alloc::Global;
-
-/// The tree of an ordinary certificate that names its rows.
-#[tactic(auto, unfolding(crate::specs::Families::ordinary))]
-fn named_tree_at(alloc: Global, line: u64, bytes: &[u8]) -> Result<Vec<CertNode>, TextEnd>
-    requires { line ≤ 21 }
-    ensures { Gives (λ x. map node_of x.items) result (tree_at (Named ordinary) line bytes.now) }
-{
-    tree_at(alloc, Naming::Named(&FAMILIES), line, bytes)
-}
+use time_space::Timing;
 
 /// The list of rows of an ordinary certificate, the number of the line after it, and what follows.
 #[tactic(auto, unfolding(crate::specs::Families::ordinary))]
@@ -47,45 +38,62 @@ fn ordinary_rows_at(
 
 /// What follows the first line of a certificate that names its rows.
 #[tactic(auto, unfolding(crate::specs::CertificateReading::first_of))]
-fn first_of(alloc: Global, bytes: &[u8]) -> Result<Certificate, TextEnd>
-    ensures { Gives (λ c. c) result (first_of one_band ordinary bytes.now) }
+fn first_of<K: TimingKind>(alloc: Global, bytes: &[u8]) -> Result<Parts<K::Timing>, TextEnd>
+    ensures { Gives (λ p. warrant_of p.claim p.timing p.nodes.items) result (first_of K.text K.table bytes.now) }
 {
-    let opening = claim_at::<OneBand>(alloc, bytes)?;
-    let nodes = named_tree_at(alloc, opening.line, opening.rest)?;
-    Ok(Certificate {
-        claim: opening.claim,
-        timing: opening.timing,
-        nodes,
-    })
+    let opening = claim_at::<K>(alloc, bytes)?;
+    let nodes = K::named_tree_at(alloc, opening.line, opening.rest)?;
+    Ok(opening.and_nodes(nodes))
 }
 
 /// What follows the first line of a certificate that lists its rows.
 #[tactic(auto, unfolding(crate::specs::CertificateReading::second_of))]
-fn second_of(alloc: Global, bytes: &[u8]) -> Result<Certificate, TextEnd>
-    ensures { Gives (λ c. c) result (second_of bytes.now) }
+fn second_of(alloc: Global, bytes: &[u8]) -> Result<Parts<Timing>, TextEnd>
+    ensures { Gives (λ p. warrant_of p.claim p.timing p.nodes.items) result (second_of bytes.now) }
 {
     let opening = claim_at::<OneBand>(alloc, bytes)?;
     let (rows, line, rest) = ordinary_rows_at(alloc, opening.line, opening.rest)?;
     let nodes = tree_at(alloc, Naming::Listed(rows.as_slice()), line, rest)?;
-    Ok(Certificate {
-        claim: opening.claim,
-        timing: opening.timing,
-        nodes,
-    })
+    Ok(opening.and_nodes(nodes))
 }
 
+/// The parts of an ordinary certificate, which has either text.
 #[tactic(auto, unfolding(crate::specs::CertificateReading::certificate_of))]
-fn certificate_of(alloc: Global, bytes: &[u8]) -> Result<Certificate, TextEnd>
-    ensures { Gives (λ c. c) result (certificate_of bytes.now) }
+fn parts_of(alloc: Global, bytes: &[u8]) -> Result<Parts<Timing>, TextEnd>
+    ensures { Gives (λ p. warrant_of p.claim p.timing p.nodes.items) result (certificate_of bytes.now) }
 {
     let (first, rest) = line_at(1, bytes)?;
     if first == b"maxband-certificate 1".as_slice() {
-        first_of(alloc, rest)
+        first_of::<OneBand>(alloc, rest)
     } else if first == b"maxband-certificate 2".as_slice() {
         second_of(alloc, rest)
     } else {
         Err(bad(1, TextFault::Shape))
     }
+}
+
+fn certificate_of(alloc: Global, bytes: &[u8]) -> Result<Certificate, TextEnd>
+    ensures { Gives (λ c. c) result (certificate_of bytes.now) }
+{
+    let parts = parts_of(alloc, bytes)?;
+    Ok(Certificate {
+        claim: parts.claim,
+        timing: parts.timing,
+        nodes: parts.nodes,
+    })
+}
+
+/// The parts of a certificate of a kind that names its rows, which has one text, with this first line.
+#[tactic(auto, unfolding(crate::specs::CertificateReading::headed_of))]
+pub fn headed_at<K: TimingKind>(
+    alloc: Global,
+    head: &[u8],
+    bytes: &[u8],
+) -> Result<Parts<K::Timing>, TextEnd>
+    ensures { Gives (λ p. warrant_of p.claim p.timing p.nodes.items) result (headed_of K.text K.table head.now bytes.now) }
+{
+    let rest = fixed_at(1, head, bytes)?;
+    first_of::<K>(alloc, rest)
 }
 
 /// The certificate that a text spells, all of its bytes: a certificate has two texts, one that names its rows in each

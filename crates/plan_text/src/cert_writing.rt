@@ -1,20 +1,21 @@
 //! The text of a certificate, written.
 
-ghost use Rattle.std.specs.Prelude.{◌≡◌, ◌++◌, ◌∷◌, [], ◌<◌, ◌^◌, All, map, flat_map, length, Ok, IfOk, OnOk, string_bytes};
+ghost use Rattle.std.specs.Prelude.{◌≡◌, ◌++◌, ◌∷◌, [], ◌<◌, ◌^◌, Ok, IfOk, OnOk};
 ghost use Rattle.std.specs.Fmt.{decimal};
 ghost use Rattle.narrow_fraction.specs.Fraction.{FitsFrac};
 ghost use Rattle.quantity_text.specs.Exact.{exact_spelling};
 ghost use Rattle.plan_text.specs.Words.{line_of};
 ghost use Rattle.plan_text.specs.Spelling.{ended};
-ghost use Rattle.plan_text.specs.Families.{table_of, ordinary, IsNamedIn};
-ghost use Rattle.plan_text.specs.Warrants.{node_of, SplitAt, IsNodeIn, IsNode, HasTiming};
-ghost use Rattle.plan_text.specs.CertificateText.{leaf_key, fraction_words, row_words_in, split_words, weight_line, node_lines, tree_lines, timing_part, claim_lines, certificate_text, IsHeldClaim, IsHeldTiming, IsHeldWeight, IsHeldNode};
+ghost use Rattle.plan_text.specs.Families.{table_of, IsNamedIn};
+ghost use Rattle.plan_text.specs.Warrants.{SplitAt, warrant_of, HasTiming, IsCertificateIn};
+ghost use Rattle.plan_text.specs.CertificateText.{fraction_words, row_words_in, split_words, timing_part, claim_lines, IsHeldClaim, IsHeldTiming, IsHeldNode, IsHeldWith};
+ghost use Rattle.plan_text.specs.FirstText.{first_text, certificate_text};
 ghost use Rattle.plan_text.specs.CertificateReading.{certificate_of};
 
 use crate::certificate::{CertNode, Certificate, Claim};
-use crate::family::{FAMILIES, FamilyName, family_name_in, is_lone_in};
+use crate::family::{FamilyName, family_name_in, is_lone_in};
 use crate::timing_text::{OneBand, TimingKind};
-use named_row::{RowId, Weight};
+use named_row::RowId;
 use narrow_fraction::{Frac, Memory};
 use quantity_text::exact_text;
 use search_box::At;
@@ -82,37 +83,6 @@ pub(crate) fn push_name(
     }
 }
 
-/// Writes the line of a row and its multiplier.
-fn push_weight(
-    alloc: Global,
-    out: &mut Vec<u8>,
-    names: &[FamilyName],
-    weight: &Weight,
-) -> Result<(), Memory>
-    requires { IsNamedIn (table_of names.now) weight.now.row }
-    ensures text { OnOk result (out.new.items ≡ out.old.items ++ ended (weight_line (table_of names.now) weight.now ∷ [])) }
-    ensures held { OnOk result (IsHeldWeight weight.now) }
-{
-    push_name(alloc, out, names, weight.row)?;
-    push_fraction(alloc, out, weight.by)
-}
-
-fn push_weights(
-    alloc: Global,
-    out: &mut Vec<u8>,
-    names: &[FamilyName],
-    weights: &[Weight],
-) -> Result<(), Memory>
-    requires { All (λ w. IsNamedIn (table_of names.now) w.row) weights.now }
-    ensures text { OnOk result (out.new.items ≡ out.old.items ++ ended (map (weight_line (table_of names.now)) weights.now)) }
-    ensures held { OnOk result (All IsHeldWeight weights.now) }
-{
-    for weight in weights {
-        push_weight(alloc, out, names, weight)?;
-    }
-    Ok(())
-}
-
 /// Writes the line of a split.
 pub(crate) fn push_split(alloc: Global, out: &mut Vec<u8>, place: At) -> Result<(), Memory>
     ensures text { OnOk result (out.new.items ≡ out.old.items ++ ended (line_of (split_words place) ∷ [])) }
@@ -123,77 +93,6 @@ pub(crate) fn push_split(alloc: Global, out: &mut Vec<u8>, place: At) -> Result<
         At::Turn { signal, rank } => format!(in alloc; "split turn {signal} {rank}"),
     };
     push_line(out, text?.as_bytes())
-}
-
-/// Writes the first line of a leaf with so many rows.
-fn push_leaf(alloc: Global, out: &mut Vec<u8>, count: usize) -> Result<(), Memory>
-    ensures { OnOk result (out.new.items ≡ out.old.items ++ ended (line_of (leaf_key ∷ decimal count ∷ []) ∷ [])) }
-{
-    let text = format!(in alloc; "leaf {count}")?;
-    push_line(out, text.as_bytes())
-}
-
-/// Writes the lines of a node.
-#[tactic(auto, unfolding(crate::specs::CertificateText::node_lines))]
-fn push_node(
-    alloc: Global,
-    out: &mut Vec<u8>,
-    names: &[FamilyName],
-    node: &CertNode,
-) -> Result<(), Memory>
-    requires { IsNodeIn (table_of names.now) (node_of node.now) }
-    ensures text { OnOk result (out.new.items ≡ out.old.items ++ ended (node_lines (table_of names.now) (node_of node.now))) }
-    ensures held { OnOk result (IsHeldNode (node_of node.now)) }
-{
-    match node {
-        CertNode::Split(place) => push_split(alloc, out, *place),
-        CertNode::Leaf(leaf) => {
-            push_leaf(alloc, out, leaf.multipliers.len())?;
-            push_weights(alloc, out, names, leaf.multipliers.as_slice())
-        }
-    }
-}
-
-fn push_nodes(
-    alloc: Global,
-    out: &mut Vec<u8>,
-    names: &[FamilyName],
-    nodes: &[CertNode],
-) -> Result<(), Memory>
-    requires { All (IsNodeIn (table_of names.now)) (map node_of nodes.now) }
-    ensures text { OnOk result (out.new.items ≡ out.old.items ++ ended (flat_map (node_lines (table_of names.now)) (map node_of nodes.now))) }
-    ensures held { OnOk result (All IsHeldNode (map node_of nodes.now)) }
-{
-    for node in nodes {
-        push_node(alloc, out, names, node)?;
-    }
-    Ok(())
-}
-
-/// Writes the lines of a tree with its rows over a table, from `tree` to `end`.
-pub fn push_tree(
-    alloc: Global,
-    out: &mut Vec<u8>,
-    names: &[FamilyName],
-    nodes: &[CertNode],
-) -> Result<(), Memory>
-    requires { All (IsNodeIn (table_of names.now)) (map node_of nodes.now) }
-    ensures text { OnOk result (out.new.items ≡ out.old.items ++ ended (tree_lines (table_of names.now) (map node_of nodes.now))) }
-    ensures held { OnOk result (All IsHeldNode (map node_of nodes.now)) }
-{
-    push_line(out, b"tree")?;
-    push_nodes(alloc, out, names, nodes)?;
-    push_line(out, b"end")
-}
-
-/// Writes the lines of the tree of an ordinary certificate.
-#[tactic(auto, unfolding(crate::specs::Families::ordinary))]
-fn push_named_tree(alloc: Global, out: &mut Vec<u8>, nodes: &[CertNode]) -> Result<(), Memory>
-    requires { All IsNode (map node_of nodes.now) }
-    ensures text { OnOk result (out.new.items ≡ out.old.items ++ ended (tree_lines ordinary (map node_of nodes.now))) }
-    ensures held { OnOk result (All IsHeldNode (map node_of nodes.now)) }
-{
-    push_tree(alloc, out, &FAMILIES, nodes)
 }
 
 /// Writes the lines of a timing, if there is one.
@@ -245,14 +144,35 @@ pub fn push_claim<K: TimingKind>(
     }
 }
 
+/// The text of a certificate of a kind, with this first line and the rows named in each leaf.
+pub fn write_named<K: TimingKind>(
+    alloc: Global,
+    head: &[u8],
+    claim: &Claim,
+    timing: &Option<K::Timing>,
+    nodes: &[CertNode],
+) -> Result<Vec<u8>, Memory>
+    requires { IsCertificateIn K.table (warrant_of claim.now timing.now nodes.now) }
+    ensures text { IfOk result (λ v. v.items ≡ first_text K.text K.table head.now (warrant_of claim.now timing.now nodes.now)) }
+    ensures held { OnOk result (IsHeldWith K.text K.table (warrant_of claim.now timing.now nodes.now)) }
+{
+    let mut out = Vec::new(alloc);
+    push_line(&mut out, head)?;
+    push_claim::<K>(alloc, &mut out, claim, timing)?;
+    K::push_named_tree(alloc, &mut out, nodes)?;
+    Ok(out)
+}
+
 /// The text of a certificate that names its rows in each leaf, which is read again as that very certificate.
 pub fn write_certificate(alloc: Global, certificate: &Certificate) -> Result<Vec<u8>, Memory>
     ensures text { IfOk result (λ v. v.items ≡ certificate_text certificate.now) }
     ensures read_back { IfOk result (λ v. certificate_of v.items ≡ Ok certificate.now) }
 {
-    let mut out = Vec::new(alloc);
-    push_line(&mut out, b"maxband-certificate 1")?;
-    push_claim::<OneBand>(alloc, &mut out, &certificate.claim, &certificate.timing)?;
-    push_named_tree(alloc, &mut out, certificate.nodes.as_slice())?;
-    Ok(out)
+    write_named::<OneBand>(
+        alloc,
+        b"maxband-certificate 1",
+        &certificate.claim,
+        &certificate.timing,
+        certificate.nodes.as_slice(),
+    )
 }

@@ -39,12 +39,11 @@ pub struct Certificate {
 }
 
 impl Model for Certificate {
-    ghost use Rattle.std.specs.Prelude.{map};
-    ghost use Rattle.plan_text.specs.Warrants.{Warrant, node_of, IsCertificate};
+    ghost use Rattle.plan_text.specs.Warrants.{Warrant, warrant_of, IsCertificate};
 
     ghost Value = { Warrant };
 
-    ghost view = { λ c. record { claim = c.claim; timing = c.timing; nodes = map node_of c.nodes.items } };
+    ghost view = { λ c. warrant_of c.claim c.timing c.nodes.items };
 
-    ghost invariant = { λ c. IsCertificate (record { claim = c.claim; timing = c.timing; nodes = map node_of c.nodes.items }) };
+    ghost invariant = { λ c. IsCertificate (warrant_of c.claim c.timing c.nodes.items) };
 }

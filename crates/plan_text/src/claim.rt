@@ -2,9 +2,10 @@
 
 ghost use Rattle.std.specs.Prelude.{◌≡◌, ◌≤◌, map, IfOk};
 ghost use Rattle.plan_text.specs.Lines.{Gives};
+ghost use Rattle.plan_text.specs.Warrants.{warrant_of};
 ghost use Rattle.plan_text.specs.CertificateReading.{begins_with, best_at, found_at, missing_at, open_at, verdict_of, claim_at};
 
-use crate::certificate::Claim;
+use crate::certificate::{CertNode, Claim};
 use crate::fault::{TextEnd, TextFault};
 use crate::fraction::fraction_of;
 use crate::lines::{bad, fixed_at, line_at, words_at};
@@ -21,12 +22,30 @@ pub struct Beginning<'a, T> {
     pub rest: &'a [u8],
 }
 
+/// A claim with its timing and its tree.
+#[derive(Drop)]
+pub struct Parts<T> {
+    pub claim: Claim,
+    pub timing: Option<T>,
+    pub nodes: Vec<CertNode>,
+}
+
+impl<T: Drop> Beginning<'_, T> {
+    /// The claim and its timing with the nodes of their tree.
+    pub(crate) fn and_nodes(self, nodes: Vec<CertNode>) -> Parts<T>
+        ensures { warrant_of result.claim result.timing result.nodes.items ≡ warrant_of self.entry.claim self.entry.timing nodes.items }
+    {
+        Parts {
+            claim: self.claim,
+            timing: self.timing,
+            nodes,
+        }
+    }
+}
+
 /// What follows `verdict best`.
 #[tactic(auto, unfolding(crate::specs::CertificateReading::best_at))]
-fn best_at<'a, K: TimingKind>(
-    alloc: Global,
-    bytes: &'a [u8],
-) -> Result<Beginning<'a, K::Timing>, TextEnd>
+fn best_at<K: TimingKind>(alloc: Global, bytes: &[u8]) -> Result<Beginning<'_, K::Timing>, TextEnd>
     ensures exact { Gives (λ x. (x.claim, x.timing, x.line, x.rest.now)) result (best_at K.text bytes.now) }
     ensures line { IfOk result (λ x. x.line ≤ 21) }
 {
@@ -74,10 +93,7 @@ fn found_at<'a, K: TimingKind>(
 
 /// What follows the bound where none was found.
 #[tactic(auto, unfolding(crate::specs::CertificateReading::missing_at))]
-fn missing_at<'a, K: TimingKind>(
-    bound: Frac,
-    bytes: &'a [u8],
-) -> Result<Beginning<'a, K::Timing>, TextEnd>
+fn missing_at<K: TimingKind>(bound: Frac, bytes: &[u8]) -> Result<Beginning<'_, K::Timing>, TextEnd>
     ensures exact { Gives (λ x. (x.claim, x.timing, x.line, x.rest.now)) result (missing_at bound bytes.now) }
     ensures line { IfOk result (λ x. x.line ≤ 21) }
 {
@@ -93,10 +109,7 @@ fn missing_at<'a, K: TimingKind>(
 
 /// What follows `verdict open`.
 #[tactic(auto, unfolding(crate::specs::CertificateReading::open_at))]
-fn open_at<'a, K: TimingKind>(
-    alloc: Global,
-    bytes: &'a [u8],
-) -> Result<Beginning<'a, K::Timing>, TextEnd>
+fn open_at<K: TimingKind>(alloc: Global, bytes: &[u8]) -> Result<Beginning<'_, K::Timing>, TextEnd>
     ensures exact { Gives (λ x. (x.claim, x.timing, x.line, x.rest.now)) result (open_at K.text bytes.now) }
     ensures line { IfOk result (λ x. x.line ≤ 21) }
 {
@@ -138,10 +151,10 @@ fn verdict_of<'a, K: TimingKind>(
 
 /// The claim of a certificate and its timing, from the second line on.
 #[tactic(auto, unfolding(crate::specs::CertificateReading::claim_at))]
-pub fn claim_at<'a, K: TimingKind>(
+pub fn claim_at<K: TimingKind>(
     alloc: Global,
-    bytes: &'a [u8],
-) -> Result<Beginning<'a, K::Timing>, TextEnd>
+    bytes: &[u8],
+) -> Result<Beginning<'_, K::Timing>, TextEnd>
     ensures exact { Gives (λ x. (x.claim, x.timing, x.line, x.rest.now)) result (claim_at K.text bytes.now) }
     ensures line { IfOk result (λ x. x.line ≤ 21) }
 {

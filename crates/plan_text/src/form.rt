@@ -1,7 +1,7 @@
 //! How the multipliers of a leaf are written.
 
 ghost use Rattle.std.specs.Prelude.{◌≡◌, ◌<◌, ◌^◌, IsTrue, ◌↔◌, SomeIff, All, unsigned_abs};
-ghost use Rattle.plan_text.specs.SecondText.{denominator_of, times_denominator, IsWhole, form_of};
+ghost use Rattle.plan_text.specs.Leaves.{denominator_of, times_denominator, IsWhole, form_of};
 
 use named_row::Weight;
 use narrow_fraction::{Frac, common_multiple};
@@ -66,7 +66,7 @@ fn all_fit(denominator: u128, weights: &[Weight]) -> bool
 }
 
 /// The form of a leaf with these multipliers.
-#[tactic(auto, unfolding(crate::specs::SecondText::form_of))]
+#[tactic(auto, unfolding(crate::specs::Leaves::form_of))]
 pub fn form_of(weights: &[Weight]) -> LeafForm
     ensures { result ≡ form_of weights.now }
 {

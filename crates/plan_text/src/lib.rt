@@ -2,12 +2,12 @@
 //! refused, its first bad line is named with what is wrong there.
 //!
 //! Contracts see a timing as the `Plan` of the model, and a certificate as a `Warrant`: a claim, a timing where the
-//! claim has a value, and one tree of splits and leaves in preorder. `specs/Spelling`, `specs/CertificateText` and
+//! claim has a value, and one tree of splits and leaves in preorder. `specs/Spelling`, `specs/FirstText` and
 //! `specs/SecondText` have their texts, and `specs/Lines`, `specs/Reading` and `specs/CertificateReading` say which fault
 //! comes at which line. Start with `read_timing` and `read_certificate`.
 //!
-//! For certificates with another kind of timing or with other rows: `TimingKind` is such a kind, `claim_at` and `push_claim`
-//! read and write a claim with its timing, and `tree_at` and `push_tree` a tree with its rows over a table of families.
+//! For certificates with another kind of timing or with other rows: `TimingKind` is such a kind, `headed_at` and `write_named`
+//! read and write its certificates, and `tree_at` and `push_tree` a tree with its rows over a table of families.
 //!
 //! `read_timing` answers a timing exactly where the bytes are its text (`found`, `only`), and otherwise the first bad line with the
 //! first fault that applies to it (`exact`). `write_timing` writes that text, and what it writes is read back as that very timing
@@ -47,21 +47,22 @@ mod row_list;
 mod second_writing;
 mod timing_text;
 mod tree;
+mod tree_writing;
 mod writing;
 
-pub use cert_reading::read_certificate;
-pub use cert_writing::{push_claim, push_line, push_tree, write_certificate};
+pub use cert_reading::{headed_at, read_certificate};
+pub use cert_writing::{write_certificate, write_named};
 pub use certificate::{CertNode, Certificate, Claim};
-pub use claim::{Beginning, claim_at};
+pub use claim::Parts;
 pub use divisor_law::law_divisor_rule;
 pub use family::{FAMILIES, FamilyName, family_name_in, is_lone, is_lone_in};
 pub use fault::{BadText, TextEnd, TextFault};
 pub use laws::{law_first_bad, law_one_text, law_reads_back};
-pub use lines::fixed_at;
 pub use naming::Naming;
 pub use number::is_numeral;
-pub use reading::{Base, base_at, both_ways_at, read_timing};
+pub use reading::{Base, BothWays, base_at, both_ways_at, read_timing};
 pub use second_writing::write_second;
 pub use timing_text::{OneBand, TimingKind};
 pub use tree::tree_at;
+pub use tree_writing::push_tree;
 pub use writing::{push_base, push_numbers, write_timing};

@@ -12,6 +12,13 @@ use artery_model::bounds::{LEAST_SIGNALS, MOST_SIGNALS};
 use std::alloc::{AllocError, Global};
 use time_space::{LIMIT, Timing};
 
+/// What is said of each direction.
+#[derive(Drop)]
+pub struct BothWays<T> {
+    pub outbound: T,
+    pub inbound: T,
+}
+
 /// The numbers of a timing that speak of no band, as `Timing::new` wants them.
 #[derive(Drop)]
 pub struct Base {
@@ -19,10 +26,8 @@ pub struct Base {
     pub unit: u128,
     pub patterns: Vec<u32>,
     pub reds: Vec<u128>,
-    pub run_out: Vec<u128>,
-    pub run_in: Vec<u128>,
-    pub first_out: u128,
-    pub first_in: u128,
+    pub runs: BothWays<Vec<u128>>,
+    pub first: BothWays<u128>,
 }
 
 /// The place of a line with so many numbers below `2^80`, of which none is less than `least`.
@@ -104,13 +109,13 @@ pub fn both_ways_at<'a>(
     line: u64,
     links: usize,
     bytes: &'a [u8],
-) -> Result<(Vec<u128>, Vec<u128>, &'a [u8]), TextEnd>
+) -> Result<(BothWays<Vec<u128>>, &'a [u8]), TextEnd>
     requires { line + 1 < 2 ^ 64 }
-    ensures { Gives (λ x. (x.0.items, x.1.items, x.2.now)) result (both_ways_at out_key.now in_key.now line links bytes.now) }
+    ensures { Gives (λ x. (x.0.outbound.items, x.0.inbound.items, x.1.now)) result (both_ways_at out_key.now in_key.now line links bytes.now) }
 {
     let (outbound, rest) = count_at(alloc, out_key, line, links, 0, bytes)?;
     let (inbound, rest) = count_at(alloc, in_key, line + 1, links, 0, rest)?;
-    Ok((outbound, inbound, rest))
+    Ok((BothWays { outbound, inbound }, rest))
 }
 
 /// The two numbers of a line, and what follows it.
@@ -120,11 +125,12 @@ fn pair_at<'a>(
     key: &[u8],
     line: u64,
     bytes: &'a [u8],
-) -> Result<(u128, u128, &'a [u8]), TextEnd>
-    ensures { Gives (λ x. (x.0, x.1, x.2.now)) result (pair_at key.now line bytes.now) }
+) -> Result<(BothWays<u128>, &'a [u8]), TextEnd>
+    ensures { Gives (λ x. (x.0.outbound, x.0.inbound, x.1.now)) result (pair_at key.now line bytes.now) }
 {
     let (pair, rest) = count_at(alloc, key, line, 2, 0, bytes)?;
-    Ok((pair[0], pair[1], rest))
+    let (outbound, inbound) = (pair[0], pair[1]);
+    Ok((BothWays { outbound, inbound }, rest))
 }
 
 fn patterns_of(alloc: Global, numbers: &[u128]) -> Result<Vec<u32>, AllocError>
@@ -147,25 +153,16 @@ pub fn base_at(alloc: Global, line: u64, bytes: &[u8]) -> Result<(Base, &[u8]), 
     let (grid, unit, rest) = scale_at(alloc, line, bytes)?;
     let (patterns, reds, rest) = signals_at(alloc, line + 2, rest)?;
     let links = patterns.len() - 1;
-    let (run_out, run_in, rest) = both_ways_at(
-        alloc,
-        b"run_out",
-        b"run_in",
-        line + 4,
-        links,
-        rest,
-    )?;
-    let (first_out, first_in, rest) = pair_at(alloc, b"first", line + 6, rest)?;
+    let (runs, rest) = both_ways_at(alloc, b"run_out", b"run_in", line + 4, links, rest)?;
+    let (first, rest) = pair_at(alloc, b"first", line + 6, rest)?;
     let patterns = patterns_of(alloc, patterns.as_slice())?;
     let base = Base {
         grid,
         unit,
         patterns,
         reds,
-        run_out,
-        run_in,
-        first_out,
-        first_in,
+        runs,
+        first,
     };
     Ok((base, rest))
 }
@@ -177,18 +174,18 @@ pub(crate) fn plan_at(alloc: Global, line: u64, bytes: &[u8]) -> Result<(Timing,
     ensures { Gives (λ x. (x.0, x.1.now)) result (plan_at line bytes.now) }
 {
     let (base, rest) = base_at(alloc, line, bytes)?;
-    let (band_out, band_in, rest) = pair_at(alloc, b"band", line + 7, rest)?;
+    let (band, rest) = pair_at(alloc, b"band", line + 7, rest)?;
     match Timing::new(
         base.grid,
         base.unit,
         base.patterns,
         base.reds,
-        base.run_out,
-        base.run_in,
-        base.first_out,
-        base.first_in,
-        band_out,
-        band_in,
+        base.runs.outbound,
+        base.runs.inbound,
+        base.first.outbound,
+        base.first.inbound,
+        band.outbound,
+        band.inbound,
     ) {
         Some(timing) => Ok((timing, rest)),
         None => unreachable!(),

@@ -1,12 +1,22 @@
 //! The timings of certificates.
 
-ghost use Rattle.std.specs.Prelude.{◌≡◌, ◌≤◌, ◌<◌, ◌+◌, ◌++◌, ◌^◌, OnOk};
+ghost use Rattle.std.specs.Prelude.{◌≡◌, ◌≤◌, ◌<◌, ◌+◌, ◌++◌, ◌^◌, All, map, OnOk};
 ghost use Rattle.plan_text.specs.Lines.{Gives};
 ghost use Rattle.plan_text.specs.Spelling.{ended};
 ghost use Rattle.plan_text.specs.TimingTexts.{TimingText, one_band};
+ghost use Rattle.plan_text.specs.Families.{Table, ordinary};
+ghost use Rattle.plan_text.specs.Warrants.{node_of, IsNodeIn};
+ghost use Rattle.plan_text.specs.CertificateText.{IsHeldNode};
+ghost use Rattle.plan_text.specs.Namings.{Named, tree_lines};
+ghost use Rattle.plan_text.specs.CertificateReading.{tree_at};
 
+use crate::certificate::CertNode;
+use crate::family::FAMILIES;
 use crate::fault::TextEnd;
+use crate::naming::Naming;
 use crate::reading::plan_at;
+use crate::tree::tree_at;
+use crate::tree_writing::push_tree;
 use crate::writing::push_plan;
 use narrow_fraction::Memory;
 use std::alloc::Global;
@@ -18,6 +28,9 @@ pub trait TimingKind {
 
     /// How one is spelled.
     ghost text: { TimingText Self.Timing };
+
+    /// The families whose rows the certificates with such timings name.
+    ghost table: { Table };
 
     /// How many lines one takes.
     fn height() -> u64
@@ -33,6 +46,17 @@ pub trait TimingKind {
     fn push_timing(alloc: Global, out: &mut Vec<u8>, timing: &Self::Timing) -> Result<(), Memory>
         ensures text { OnOk result (out.new.items ≡ out.old.items ++ ended (text.lines timing.now)) }
         ensures held { OnOk result (text.IsHeld timing.now) };
+
+    /// The tree of a certificate that names its rows, from the line `tree` on, which has this number.
+    fn named_tree_at(alloc: Global, line: u64, bytes: &[u8]) -> Result<Vec<CertNode>, TextEnd>
+        requires { line ≤ 21 }
+        ensures { Gives (λ x. map node_of x.items) result (tree_at (Named table) line bytes.now) };
+
+    /// Writes the lines of such a tree at the end.
+    fn push_named_tree(alloc: Global, out: &mut Vec<u8>, nodes: &[CertNode]) -> Result<(), Memory>
+        requires { All (IsNodeIn table) (map node_of nodes.now) }
+        ensures text { OnOk result (out.new.items ≡ out.old.items ++ ended (tree_lines (Named table) (map node_of nodes.now))) }
+        ensures held { OnOk result (All IsHeldNode (map node_of nodes.now)) };
 }
 
 /// Timings with one band a direction.
@@ -42,6 +66,8 @@ impl TimingKind for OneBand {
     type Timing = Timing;
 
     ghost text = { one_band };
+
+    ghost table = { ordinary };
 
     fn height() -> u64 {
         8
@@ -53,5 +79,15 @@ impl TimingKind for OneBand {
 
     fn push_timing(alloc: Global, out: &mut Vec<u8>, timing: &Timing) -> Result<(), Memory> {
         push_plan(alloc, out, timing)
+    }
+
+    #[tactic(auto, unfolding(crate::specs::Families::ordinary))]
+    fn named_tree_at(alloc: Global, line: u64, bytes: &[u8]) -> Result<Vec<CertNode>, TextEnd> {
+        tree_at(alloc, Naming::Named(&FAMILIES), line, bytes)
+    }
+
+    #[tactic(auto, unfolding(crate::specs::Families::ordinary))]
+    fn push_named_tree(alloc: Global, out: &mut Vec<u8>, nodes: &[CertNode]) -> Result<(), Memory> {
+        push_tree(alloc, out, Naming::Named(&FAMILIES), nodes)
     }
 }

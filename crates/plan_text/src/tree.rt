@@ -4,7 +4,7 @@ ghost use Rattle.std.specs.Prelude.{◌≡◌, ◌+◌, ◌-◌, ◌≤◌, ◌<
 ghost use Rattle.plan_text.specs.Lines.{Gives, ranged};
 ghost use Rattle.plan_text.specs.Numbers.{number};
 ghost use Rattle.plan_text.specs.Fractions.{integer};
-ghost use Rattle.plan_text.specs.Namings.{naming_of, IsSmall, fractions_key, is_form, is_list};
+ghost use Rattle.plan_text.specs.Namings.{naming_of, IsSmall, is_form, is_list};
 ghost use Rattle.plan_text.specs.Warrants.{node_of};
 ghost use Rattle.plan_text.specs.CertificateReading.{or_number, split_of, over_head, head_of, IsHead, rest_of, node_at, owed_after, nodes_at, ends_after, tree_at};
 
@@ -14,7 +14,7 @@ use crate::form::{LeafForm, form_of};
 use crate::fraction::{denominator, integer};
 use crate::lines::{bad, fixed_at, nothing_at, words_at};
 use crate::listed::rows_of;
-use crate::naming::Naming;
+use crate::naming::{Naming, fractions_key};
 use crate::row::{index_of, small, weights_at};
 use named_row::{Leaf, Weight};
 use search_box::At;
@@ -55,16 +55,6 @@ fn split_of(line: u64, kind: &[u8], index: &[u8], place: &[u8]) -> Result<At, Te
         Ok(At::Turn { signal, rank })
     } else {
         Err(bad(line, TextFault::Shape))
-    }
-}
-
-/// The first word of a leaf of fractions.
-fn fractions_key(names: Naming) -> &'static [u8]
-    ensures { result.now ≡ fractions_key (naming_of names.entry) }
-{
-    match names {
-        Naming::Named(_) => b"leaf",
-        Naming::Listed(_) => b"plain",
     }
 }
 

@@ -1,34 +1,18 @@
-use Rattle.std.proofs.Common.{◌≡◌, ◌∙◌, ◌++◌, ◌∷◌, [], ℕ, ap, subst, map, List, All}
+use Rattle.std.proofs.Common.{List, sym, subst}
 use Rattle.plan_text.specs.declared.certificate.CertNode.{CertNode}
-use Rattle.plan_text.specs.Spelling.{ended}
-use Rattle.plan_text.specs.Warrants.{node_of}
-use Rattle.plan_text.specs.CertificateText.{tree_lines, IsHeldNode}
-use Rattle.plan_text.proofs.WrittenTexts.{first_written}
-use Rattle.link_proof.specs.LinkTimingTexts.{link_bands}
-use Rattle.link_proof.specs.LinkFamilies.{links}
-use Rattle.link_proof.specs.LinkWarrants.{LinkWarrant, IsHeldLinkWarrant, links_line, links_text, links_of}
+use Rattle.plan_text.specs.Warrants.{warrant_of}
+use Rattle.plan_text.proofs.WrittenTexts.{read_again}
+use Rattle.link_proof.specs.LinkWarrants.{IsLinkCertificate, IsHeldLinkWarrant, links_text, links_of}
 use Rattle.link_proof.proofs.LinkTexts.{links_again}
 use Rattle.link_proof.proofs.writing.write_links.Goals as goal
 
-pub push_claim-requires : goal.push_claim-requires
-push_claim-requires c = c.certificate.invariant.timing
+pub write_named-requires : goal.write_named-requires
+write_named-requires c = subst (λ (ns : List CertNode). IsLinkCertificate (warrant_of c.certificate.inside.claim c.certificate.inside.timing ns)) (sym c.as_slice-nodes.ensures.value) c.certificate.invariant
 
 pub returns : goal.returns
 returns c =
     let s = c.certificate.inside in
-    let w : LinkWarrant = record { claim = s.claim; timing = s.timing; nodes = map node_of s.nodes.items } in
-    let second = c.push_claim.new.out.items in
-    let tree : c.push_link_tree.new.out.items ≡ second ++ ended (tree_lines links (map node_of s.nodes.items)) = c.in_ok-push_link_tree.ensures.text ∙ ap (λ (y : List CertNode). second ++ ended (tree_lines links (map node_of y))) c.as_slice.ensures.value in
-    let text =
-    first_written link_bands links links_line c.push_line.new.out.items second c.push_link_tree.new.out.items w (c.in_ok-push_line.ensures ∙ ap (λ (y : List ℕ). y ++ ended (links_line ∷ [])) c.new-out.ensures.items) c.in_ok-push_claim.ensures.text tree
-    ∙ ap links_text c.certificate.view_is in
-    let held : IsHeldLinkWarrant w = record {
-      kept = c.certificate.invariant;
-      claim = c.in_ok-push_claim.ensures.claim;
-      timing = c.in_ok-push_claim.ensures.timing;
-      nodes = subst (λ (y : List CertNode). All IsHeldNode (map node_of y)) c.as_slice.ensures.value c.in_ok-push_link_tree.ensures.held;
-    } in
-    record {
-      text = text;
-      read_back = ap links_of text ∙ links_again _ (subst IsHeldLinkWarrant c.certificate.view_is held);
-    }
+    let w = warrant_of s.claim s.timing s.nodes.items in
+    let text = rw (c.as_slice-nodes.ensures.value) at c.write_named.ensures.text in
+    let held = rw (c.as_slice-nodes.ensures.value) at c.write_named.ensures.held in
+    rw (← c.certificate.view_is) (record { text = text; read_back = read_again links_of links_text IsHeldLinkWarrant links_again w c.write_named.result text held })

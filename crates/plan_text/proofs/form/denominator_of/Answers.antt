@@ -2,7 +2,7 @@ use Rattle.std.proofs.Common.{◌≡◌, ◌<◌, ◌^◌, ◌+◌, ℕ, sym, �
 use Rattle.std.specs.Prelude.{SomeIff, Option}
 use Rattle.rational_theory.specs.Gcd.{lcm}
 use Rattle.rational_theory.proofs.Multiples.{lcm_above}
-use Rattle.plan_text.specs.SecondText.{denominator_of, denominator_from}
+use Rattle.plan_text.specs.Leaves.{denominator_of, denominator_from}
 use Rattle.plan_text.proofs.Denominators.{denominator_least, denominator_next, denominator_passed}
 use Rattle.plan_text.proofs.form.denominator_of.Goals as goal
 

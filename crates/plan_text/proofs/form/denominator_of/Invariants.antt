@@ -1,5 +1,5 @@
 use Rattle.std.proofs.Common.{◌≡◌, ◌<◌, ◌^◌, drop}
-use Rattle.plan_text.specs.SecondText.{denominator_of, denominator_from}
+use Rattle.plan_text.specs.Leaves.{denominator_of, denominator_from}
 use Rattle.plan_text.proofs.form.denominator_of.Given as goal
 
 abbrev pub invariant-loop-weight : goal.invariant-loop-weight

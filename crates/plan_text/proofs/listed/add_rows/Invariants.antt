@@ -1,5 +1,5 @@
 use Rattle.std.proofs.Common.{◌≡◌, drop}
-use Rattle.plan_text.specs.SecondText.{with_rows}
+use Rattle.plan_text.specs.Leaves.{with_rows}
 use Rattle.plan_text.proofs.listed.add_rows.Given as goal
 
 abbrev pub invariant-loop-weight : goal.invariant-loop-weight

@@ -3,7 +3,7 @@ use Rattle.std.specs.Result.{IfOk}
 use Rattle.std.proofs.lemmas.Result.{IfOk-weaker}
 use Rattle.named_row.specs.declared.names.RowId.{RowId}
 use Rattle.plan_text.specs.Warrants.{node_of}
-use Rattle.plan_text.specs.SecondText.{rows_from, AscendRows, with_rows}
+use Rattle.plan_text.specs.Leaves.{rows_from, AscendRows, with_rows}
 use Rattle.plan_text.proofs.ListedRows.{split_next, leaf_next, nodes_passed, rows_ascend}
 use Rattle.plan_text.proofs.listed.rows_of.Goals as goal
 use Rattle.plan_text.proofs.listed.rows_of.Goals.{in-Split, in-Leaf+in_ok-add_rows-in-Leaf}

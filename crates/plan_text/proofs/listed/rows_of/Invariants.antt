@@ -1,6 +1,6 @@
 use Rattle.std.proofs.Common.{◌≡◌, drop, map}
 use Rattle.plan_text.specs.Warrants.{node_of}
-use Rattle.plan_text.specs.SecondText.{rows_of, rows_from}
+use Rattle.plan_text.specs.Leaves.{rows_of, rows_from}
 use Rattle.plan_text.proofs.listed.rows_of.Given as goal
 
 abbrev pub invariant-loop-node : goal.invariant-loop-node

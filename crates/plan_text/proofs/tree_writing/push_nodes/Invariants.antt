@@ -3,11 +3,11 @@ use Rattle.std.specs.Prelude.{flat_map}
 use Rattle.plan_text.specs.Spelling.{ended}
 use Rattle.plan_text.specs.Warrants.{node_of}
 use Rattle.plan_text.specs.CertificateText.{IsHeldNode}
-use Rattle.plan_text.specs.SecondText.{listed_node_lines}
-use Rattle.plan_text.proofs.second_writing.push_nodes.Given as goal
+use Rattle.plan_text.specs.Namings.{naming_of, node_lines}
+use Rattle.plan_text.proofs.tree_writing.push_nodes.Given as goal
 
 abbrev pub invariant-loop-node : goal.invariant-loop-node
 invariant-loop-node l = record {
-  text : l.out.items ≡ l.fn.out.items ++ ended (flat_map (listed_node_lines l.rows) (map node_of (take l.node-index l.nodes)));
+  text : l.out.items ≡ l.fn.out.items ++ ended (flat_map (node_lines (naming_of l.names)) (map node_of (take l.node-index l.nodes)));
   held : All IsHeldNode (map node_of (take l.node-index l.nodes));
 }
