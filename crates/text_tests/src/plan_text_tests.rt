@@ -2,6 +2,5 @@
 
 mod cert_tests;
 mod limit_tests;
-mod second_reading_tests;
 mod second_tests;
 mod tests;

@@ -7,47 +7,40 @@ use super::order_tests::{
     UNKNOWN_KEYS, WRONG_TYPES,
 };
 use super::rule_tests::{RULES, TURN_RULES};
-use super::samples::{
-    BASE, EVERY_KEY, OneLine, Row, answer, first_hidden, first_wrong, first_wrong_line,
-};
+use super::samples::{Descriptions, EVERY_KEY};
 use super::table_tests::{COUNTS, TABLES};
 use super::type_tests::{TURN_TYPES, TYPES};
 use super::version_tests::VERSIONS;
 use std::rt::HostRuntime;
 use std::test::Fail;
+use test_bed::{PLAIN_STREET, Reader, all_texts_told, all_told, all_told_in_order};
 
-/// The tables of changes of one line, and the description that they change.
-fn changed_line(table: u32) -> (&'static str, &'static [OneLine]) {
+/// The tables of changes, and the description that they change.
+fn changed(table: u32) -> (&'static str, &'static [&'static str]) {
     match table {
-        0 => (BASE, &KEYS),
-        1 => (BASE, &TWO_UNKNOWN),
+        0 => (PLAIN_STREET, &KEYS),
+        1 => (PLAIN_STREET, &TWO_UNKNOWN),
         2 => (EVERY_KEY, &PLACES),
-        3 => (BASE, &TYPES),
+        3 => (PLAIN_STREET, &TYPES),
         4 => (EVERY_KEY, &TURN_TYPES),
-        5 => (BASE, &NUMBERS),
+        5 => (PLAIN_STREET, &NUMBERS),
         6 => (EVERY_KEY, &CHANGE_NUMBERS),
-        7 => (BASE, &LIMITS),
-        8 => (BASE, &ENDS),
+        7 => (PLAIN_STREET, &LIMITS),
+        8 => (PLAIN_STREET, &ENDS),
         9 => (EVERY_KEY, &TURN_LIMITS),
-        10 => (BASE, &RULES),
-        _ => (EVERY_KEY, &TURN_RULES),
+        10 => (PLAIN_STREET, &RULES),
+        11 => (EVERY_KEY, &TURN_RULES),
+        12 => (PLAIN_STREET, &TABLES),
+        13 => (PLAIN_STREET, &COUNTS),
+        14 => (PLAIN_STREET, &FEW_PARTS),
+        15 => (PLAIN_STREET, &FAULTS),
+        16 => (EVERY_KEY, &TURN_FAULTS),
+        _ => (PLAIN_STREET, &VERSIONS),
     }
 }
 
-/// The tables of changes of several lines, and the description that they change.
-fn changed_lines(table: u32) -> (&'static str, &'static [Row]) {
-    match table {
-        0 => (BASE, &TABLES),
-        1 => (BASE, &COUNTS),
-        2 => (BASE, &FEW_PARTS),
-        3 => (BASE, &FAULTS),
-        4 => (EVERY_KEY, &TURN_FAULTS),
-        _ => (BASE, &VERSIONS),
-    }
-}
-
-/// Faults in the order in which they are looked for: of two neighbours the first is named.
-fn in_order(table: u32) -> &'static [OneLine] {
+/// Faults of `EVERY_KEY` in the order in which they are looked for: of two neighbours the first is named.
+fn in_order(table: u32) -> &'static [&'static str] {
     match table {
         0 => &KINDS,
         1 => &UNKNOWN_KEYS,
@@ -61,17 +54,9 @@ fn in_order(table: u32) -> &'static [OneLine] {
 
 #[test]
 fn first_fault_is_named(rt: HostRuntime) -> Result<(), Fail> {
-    for table in 0..12 {
-        let (base, rows) = changed_line(table);
-        assert_eq!(rt;
-            first_wrong_line(rt.alloc(), base, rows)?,
-            0,
-            "table {table} of changed lines"
-        );
-    }
-    for table in 0..6 {
-        let (base, rows) = changed_lines(table);
-        assert_eq!(rt; first_wrong(rt.alloc(), base, rows)?, 0, "table {table}");
+    for table in 0..18 {
+        let (base, cases) = changed(table);
+        all_told(rt.alloc(), &Descriptions, base, cases)?;
     }
     Ok(())
 }
@@ -79,21 +64,16 @@ fn first_fault_is_named(rt: HostRuntime) -> Result<(), Fail> {
 #[test]
 fn first_of_two_faults_is_named(rt: HostRuntime) -> Result<(), Fail> {
     for table in 0..7 {
-        assert_eq!(rt;
-            first_hidden(rt.alloc(), in_order(table))?,
-            0,
-            "order {table}"
-        );
+        all_told_in_order(rt.alloc(), &Descriptions, EVERY_KEY, in_order(table))?;
     }
     Ok(())
 }
 
 #[test]
 fn bytes_without_tables(rt: HostRuntime) -> Result<(), Fail> {
-    let empty = answer(rt.alloc(), b"")?;
-    assert_eq!(rt; empty.as_str(), "Missing artery");
+    all_texts_told(rt.alloc(), &Descriptions, &[" -> Missing artery"])?;
     // Neither UTF-8 nor a document.
-    let other = answer(rt.alloc(), &[91, 255])?;
+    let other = Descriptions.answer(rt.alloc(), &[91, 255])?;
     assert_eq!(rt; other.as_str(), "NotUtf8 file");
     Ok(())
 }

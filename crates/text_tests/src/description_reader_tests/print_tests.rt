@@ -3,56 +3,18 @@
 ghost use Rattle.std.specs.Prelude.{◌≤◌, ◌<◌};
 ghost use Rattle.progression.specs.Street.{count};
 
-use super::samples::{BASE, read};
+use super::samples::{EVERY_KEY, read, read_changed};
 use artery_model::{Dir, Pair};
 use description_reader::{Artery, print_artery};
 use narrow_fraction::Memory;
 use std::alloc::Global;
 use std::rt::HostRuntime;
 use std::test::Fail;
+use test_bed::PLAIN_STREET;
 
-/// Every key of the format, quotes and letters beyond ASCII.
-const FULL: &str = "version = 1
-
-[artery]
-name = \"\\\"Main\\\" and 'Rose\u{301}'\"
-units = \"english\"
-parts = 120
-cycle = [60, \"90.5\"]
-ratio = \"0.5\"
-
-[[signal]]
-name = \"caf\u{e9} \\\"A\\\"\"
-red = 40
-left_out = 10
-left_in = 12
-patterns = [3, 1, 3]
-clear_out = 5
-clear_in = 6
-
-[[signal]]
-name = \"'''\\\\\"
-red = 50
-patterns = [2]
-
-[[signal]]
-name = \"C\"
-red = 60
-
-[[link]]
-distance_out = 1200
-distance_in = 1250
-speed_out = [20, \"30.5\"]
-speed_in = [\"24\", 36]
-change_out = [\"-7/2\", 4]
-change_in = [-10, \"10\"]
-
-[[link]]
-distance_out = 900
-distance_in = 901
-speed_out = [\"25\", \"25\"]
-speed_in = [\"25\", \"100/3\"]
-";
+/// Changes of `EVERY_KEY`: quotes and letters beyond ASCII, and other numbers.
+const FULL: &str =
+    "4 name = \"\\\"Main\\\" and 'Rose\u{301}'\"|6 parts = 120|8 ratio = \"0.5\"|11 name = \"caf\u{e9} \\\"A\\\"\"|15 patterns = [3, 1, 3]|17 clear_in = 6|20 name = \"'''\\\\\"|21 red = 50\npatterns = [2]|24 name = \"C\"|25 red = 60|26-30|33 distance_out = 1200|34 distance_in = 1250|35 speed_out = [20, \"30.5\"]|36 speed_in = [\"24\", 36]|37 change_out = [\"-7/2\", 4]|38 change_in = [-10, \"10\"]|42 distance_in = 901|43 speed_out = [\"25\", \"25\"]|44 speed_in = [\"25\", \"100/3\"]";
 
 /// What the format fixes of the lines for `FULL`.
 const FULL_LINES: [&str; 27] = [
@@ -229,7 +191,7 @@ fn base_is_printed_and_read(rt: HostRuntime) -> Result<(), Fail> {
         "patterns = [1, 2, 3, 4]",
         "clear_out = 0",
     ];
-    let artery = read(rt.alloc(), BASE.as_bytes())?;
+    let artery = read(rt.alloc(), PLAIN_STREET.as_bytes())?;
     assert_eq!(rt;
         look_at(rt.alloc(), &artery, &lines, &["change"])?,
         AS_WANTED
@@ -239,7 +201,7 @@ fn base_is_printed_and_read(rt: HostRuntime) -> Result<(), Fail> {
 
 #[test]
 fn every_key_is_printed_and_read(rt: HostRuntime) -> Result<(), Fail> {
-    let artery = read(rt.alloc(), FULL.as_bytes())?;
+    let artery = read_changed(rt.alloc(), EVERY_KEY, FULL)?;
     assert_eq!(rt; look_at(rt.alloc(), &artery, &FULL_LINES, &[])?, AS_WANTED);
     Ok(())
 }

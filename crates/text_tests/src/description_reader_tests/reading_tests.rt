@@ -3,36 +3,34 @@
 ghost use Rattle.std.specs.Prelude.{◌≤◌, ◌<◌};
 ghost use Rattle.progression.specs.Street.{count};
 
-use super::samples::{BASE, EVERY_KEY, read, read_with_lines};
+use super::samples::{EVERY_KEY, read, read_changed};
 use artery_model::{Artery, Dir, Link, Pair, Units};
 use narrow_fraction::Frac;
 use std::rt::HostRuntime;
 use std::test::Fail;
+use test_bed::PLAIN_STREET;
 
 /// Lines of the base replaced by others that mean the same.
-const SAME: [&[(usize, &str)]; 12] = [
-    &[],
-    &[(1, "\u{feff}[artery]")],
-    &[(1, "version = 1\n[artery]")],
-    &[(
-        1,
-        "[artery]\nname = 'aaaaaaaaaaaaaaaaaaaaaaaaaaaaaaaaaaaaaaaaaaaaaaaaaaaaaaaaaaaa'",
-    )],
-    &[(4, "cycle = ['200000/2000', 100]")],
-    &[(5, "ratio = '2/2'")],
-    &[(5, "ratio = 1")],
-    &[(9, "red = 0x32")],
-    &[(9, "red = 50\nleft_out = 0\nclear_in = 0")],
-    &[(13, "red = 50\nleft_in = 0\npatterns = [4, 1, 3, 2, 1]")],
-    &[(18, "speed_out = ['036', 36]")],
-    &[(19, "speed_in = ['36.0', '72/2']")],
+static SAME: [&str; 12] = [
+    "",
+    "1 \u{feff}[artery]",
+    "1 version = 1\n[artery]",
+    "1 [artery]\nname = 'aaaaaaaaaaaaaaaaaaaaaaaaaaaaaaaaaaaaaaaaaaaaaaaaaaaaaaaaaaaa'",
+    "4 cycle = ['200000/2000', 100]",
+    "5 ratio = '2/2'",
+    "5 ratio = 1",
+    "9 red = 0x32",
+    "9 red = 50\nleft_out = 0\nclear_in = 0",
+    "13 red = 50\nleft_in = 0\npatterns = [4, 1, 3, 2, 1]",
+    "18 speed_out = ['036', 36]",
+    "19 speed_in = ['36.0', '72/2']",
 ];
 
 /// A signal: its number, the outbound and the inbound red, the two left turns and the two clearances, and which of the
 /// patterns 1 to 4 it allows.
 type AtSignal = (u32, [u32; 2], [u32; 4], [bool; 4]);
 
-/// The signals of `BASE`.
+/// The signals of `PLAIN_STREET`.
 const BASE_SIGNALS: [AtSignal; 2] = [
     (1, [50, 50], [0, 0, 0, 0], [true, true, true, true]),
     (2, [50, 50], [0, 0, 0, 0], [true, true, true, true]),
@@ -178,7 +176,7 @@ fn has_no_change(artery: &Artery, link: u32) -> bool {
         && change_at(artery, Dir::Inbound, link).is_none()
 }
 
-/// Whether the artery's own values are those of `BASE`.
+/// Whether the artery's own values are those of `PLAIN_STREET`.
 fn has_base_head(artery: &Artery) -> bool {
     artery.count() == 2
         && artery.parts() == 100
@@ -187,7 +185,7 @@ fn has_base_head(artery: &Artery) -> bool {
         && artery.head().cycle.least == Frac::whole(100)
 }
 
-/// Whether the speeds of the only link are those of `BASE`.
+/// Whether the speeds of the only link are those of `PLAIN_STREET`.
 fn has_base_speeds(links: &[Link]) -> bool {
     let [link] = links else {
         return false;
@@ -197,8 +195,8 @@ fn has_base_speeds(links: &[Link]) -> bool {
 
 #[test]
 fn base_is_read(rt: HostRuntime) -> Result<(), Fail> {
-    for lines in SAME {
-        let artery = read_with_lines(rt.alloc(), BASE, lines)?;
+    for changes in SAME {
+        let artery = read_changed(rt.alloc(), PLAIN_STREET, changes)?;
         assert!(rt; has_base_head(&artery));
         assert_eq!(rt; first_other(&artery, &BASE_SIGNALS), 0);
         assert_eq!(rt; lengths_at(&artery, 1), Some([500, 500]));
@@ -234,12 +232,9 @@ fn has_greatest_speed(links: &[Link], want: Number) -> bool {
 
 #[test]
 fn english_street_is_read(rt: HostRuntime) -> Result<(), Fail> {
-    let lines = [
-        (1, "version = 1\n[artery]\nname = 'Main Street'"),
-        (2, "units = 'english'"),
-        (18, "speed_out = ['13.50', '27/2']"),
-    ];
-    let artery = read_with_lines(rt.alloc(), BASE, &lines)?;
+    let changes =
+        "1 version = 1\n[artery]\nname = 'Main Street'|2 units = 'english'|18 speed_out = ['13.50', '27/2']";
+    let artery = read_changed(rt.alloc(), PLAIN_STREET, changes)?;
     assert!(rt; artery.head().units == Units::English);
     assert!(rt; is_named(&artery, "Main Street"));
     assert!(rt; has_base_names(&artery));

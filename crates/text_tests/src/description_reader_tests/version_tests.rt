@@ -1,184 +1,48 @@
 //! Descriptions of the second version, and which keys and how many signals each version has.
 
 use super::print_tests::{AS_WANTED, look_at, printed};
-use super::samples::{BASE, Row, answer, read, read_with_lines};
+use super::samples::{Descriptions, read, read_changed};
 use artery_model::{Artery, Dir};
 use narrow_fraction::Frac;
 use std::alloc::{AllocError, Global};
 use std::rt::HostRuntime;
 use std::test::Fail;
+use test_bed::{PLAIN_STREET, Reader};
 
 /// Least bands and equal bands, known in the second version alone.
-pub static VERSIONS: [Row; 29] = [
-    (&[(1, "version = 2\n[artery]")], "described"),
-    (
-        &[
-            (1, "version = 2\n[artery]"),
-            (
-                5,
-                "ratio = 1\nleast_out = '1/4'\nleast_in = 1\nequal = true",
-            ),
-        ],
-        "described",
-    ),
-    (
-        &[
-            (1, "version = 2\n[artery]"),
-            (5, "ratio = 1\nleast_in = '0.001'\nequal = false"),
-        ],
-        "described",
-    ),
+pub static VERSIONS: [&str; 29] = [
+    "1 version = 2\n[artery] -> described",
+    "1 version = 2\n[artery]|5 ratio = 1\nleast_out = '1/4'\nleast_in = 1\nequal = true -> described",
+    "1 version = 2\n[artery]|5 ratio = 1\nleast_in = '0.001'\nequal = false -> described",
     // In any other version they are unknown.
-    (
-        &[(1, "version = 1\n[artery]"), (5, "ratio = 1\nequal = true")],
-        "UnknownKey artery.equal",
-    ),
-    (
-        &[(5, "ratio = 1\nleast_in = 0")],
-        "UnknownKey artery.least_in",
-    ),
-    (
-        &[(5, "ratio = 1\nleast_out = 0")],
-        "UnknownKey artery.least_out",
-    ),
-    (
-        &[
-            (1, "version = '2'\n[artery]"),
-            (5, "ratio = 1\nequal = true"),
-        ],
-        "UnknownKey artery.equal",
-    ),
-    (
-        &[
-            (1, "version = 2.0\n[artery]"),
-            (5, "ratio = 1\nleast_out = 0"),
-        ],
-        "UnknownKey artery.least_out",
-    ),
-    (
-        &[(1, "version = 3\n[artery]"), (5, "ratio = 1\nleast_in = 0")],
-        "UnknownKey artery.least_in",
-    ),
-    (
-        &[
-            (1, "version = 4294967298\n[artery]"),
-            (5, "ratio = 1\nequal = true"),
-        ],
-        "UnknownKey artery.equal",
-    ),
-    (
-        &[(1, "version = 2\n[artery]"), (5, "ratio = 1\nleast = 0")],
-        "UnknownKey artery.least",
-    ),
-    (
-        &[(1, "version = 2\nequal = true\n[artery]")],
-        "UnknownKey equal",
-    ),
-    (&[(1, "version = 3\n[artery]")], "OutOfRange version"),
-    (
-        &[(1, "version = 4294967298\n[artery]")],
-        "OutOfRange version",
-    ),
-    (&[(1, "version = '2'\n[artery]")], "WrongType version"),
+    "1 version = 1\n[artery]|5 ratio = 1\nequal = true -> UnknownKey artery.equal",
+    "5 ratio = 1\nleast_in = 0 -> UnknownKey artery.least_in",
+    "5 ratio = 1\nleast_out = 0 -> UnknownKey artery.least_out",
+    "1 version = '2'\n[artery]|5 ratio = 1\nequal = true -> UnknownKey artery.equal",
+    "1 version = 2.0\n[artery]|5 ratio = 1\nleast_out = 0 -> UnknownKey artery.least_out",
+    "1 version = 3\n[artery]|5 ratio = 1\nleast_in = 0 -> UnknownKey artery.least_in",
+    "1 version = 4294967298\n[artery]|5 ratio = 1\nequal = true -> UnknownKey artery.equal",
+    "1 version = 2\n[artery]|5 ratio = 1\nleast = 0 -> UnknownKey artery.least",
+    "1 version = 2\nequal = true\n[artery] -> UnknownKey equal",
+    "1 version = 3\n[artery] -> OutOfRange version",
+    "1 version = 4294967298\n[artery] -> OutOfRange version",
+    "1 version = '2'\n[artery] -> WrongType version",
     // Types, numbers and limits.
-    (
-        &[(1, "version = 2\n[artery]"), (5, "ratio = 1\nequal = 1")],
-        "WrongType artery.equal",
-    ),
-    (
-        &[
-            (1, "version = 2\n[artery]"),
-            (5, "ratio = 1\nequal = 'true'"),
-        ],
-        "WrongType artery.equal",
-    ),
-    (
-        &[
-            (1, "version = 2\n[artery]"),
-            (5, "ratio = 1\nleast_out = 0.5"),
-        ],
-        "WrongType artery.least_out",
-    ),
-    (
-        &[
-            (1, "version = 2\n[artery]"),
-            (5, "ratio = 1\nleast_in = 'x'"),
-        ],
-        "BadNumber artery.least_in",
-    ),
-    (
-        &[
-            (1, "version = 2\n[artery]"),
-            (5, "ratio = 1\nleast_out = 2"),
-        ],
-        "OutOfRange artery.least_out",
-    ),
-    (
-        &[
-            (1, "version = 2\n[artery]"),
-            (5, "ratio = 1\nleast_out = '1001/1000'"),
-        ],
-        "OutOfRange artery.least_out",
-    ),
-    (
-        &[
-            (1, "version = 2\n[artery]"),
-            (5, "ratio = 1\nleast_in = '-1/10'"),
-        ],
-        "OutOfRange artery.least_in",
-    ),
-    (
-        &[
-            (1, "version = 2\n[artery]"),
-            (5, "ratio = 1\nleast_in = '1/1001'"),
-        ],
-        "OutOfRange artery.least_in",
-    ),
+    "1 version = 2\n[artery]|5 ratio = 1\nequal = 1 -> WrongType artery.equal",
+    "1 version = 2\n[artery]|5 ratio = 1\nequal = 'true' -> WrongType artery.equal",
+    "1 version = 2\n[artery]|5 ratio = 1\nleast_out = 0.5 -> WrongType artery.least_out",
+    "1 version = 2\n[artery]|5 ratio = 1\nleast_in = 'x' -> BadNumber artery.least_in",
+    "1 version = 2\n[artery]|5 ratio = 1\nleast_out = 2 -> OutOfRange artery.least_out",
+    "1 version = 2\n[artery]|5 ratio = 1\nleast_out = '1001/1000' -> OutOfRange artery.least_out",
+    "1 version = 2\n[artery]|5 ratio = 1\nleast_in = '-1/10' -> OutOfRange artery.least_in",
+    "1 version = 2\n[artery]|5 ratio = 1\nleast_in = '1/1001' -> OutOfRange artery.least_in",
     // They stand after the ratio and before the signals.
-    (
-        &[
-            (1, "version = 2\n[artery]"),
-            (5, "ratio = 101\nleast_out = 2"),
-        ],
-        "OutOfRange artery.ratio",
-    ),
-    (
-        &[
-            (1, "version = 2\n[artery]"),
-            (5, "ratio = 1\nleast_in = 2\nleast_out = 2"),
-        ],
-        "OutOfRange artery.least_out",
-    ),
-    (
-        &[
-            (1, "version = 2\n[artery]"),
-            (5, "ratio = 1\nleast_in = 2"),
-            (8, "name = ''"),
-        ],
-        "OutOfRange artery.least_in",
-    ),
-    (
-        &[
-            (1, "version = 2\n[artery]"),
-            (5, "ratio = 1\nequal = 1\nleast_in = 0.5"),
-        ],
-        "WrongType artery.least_in",
-    ),
-    (
-        &[
-            (1, "version = 2\n[artery]"),
-            (5, "ratio = 1\nequal = 1"),
-            (8, "name = 5"),
-        ],
-        "WrongType artery.equal",
-    ),
-    (
-        &[
-            (1, "version = 1\n[artery]"),
-            (5, "ratio = 1\nleast_in = 2\nequal = 1"),
-        ],
-        "UnknownKey artery.equal",
-    ),
+    "1 version = 2\n[artery]|5 ratio = 101\nleast_out = 2 -> OutOfRange artery.ratio",
+    "1 version = 2\n[artery]|5 ratio = 1\nleast_in = 2\nleast_out = 2 -> OutOfRange artery.least_out",
+    "1 version = 2\n[artery]|5 ratio = 1\nleast_in = 2|8 name = '' -> OutOfRange artery.least_in",
+    "1 version = 2\n[artery]|5 ratio = 1\nequal = 1\nleast_in = 0.5 -> WrongType artery.least_in",
+    "1 version = 2\n[artery]|5 ratio = 1\nequal = 1|8 name = 5 -> WrongType artery.equal",
+    "1 version = 1\n[artery]|5 ratio = 1\nleast_in = 2\nequal = 1 -> UnknownKey artery.equal",
 ];
 
 /// A street of so many signals, in this version.
@@ -214,18 +78,12 @@ static SIZES: [Size; 10] = [
     ("version = 3\n", 17, "OutOfRange version"),
 ];
 
-/// Whether the answer for a street of so many signals is another than the one that is wanted.
-fn is_wrong_size(alloc: Global, size: &Size) -> Result<bool, AllocError> {
-    let (version, signals, want) = *size;
-    let description = street(alloc, version, signals)?;
-    let got = answer(alloc, description.as_bytes())?;
-    Ok(got.as_str() != want)
-}
-
 #[test]
 fn each_version_has_its_number_of_signals(rt: HostRuntime) -> Result<(), Fail> {
-    for (index, size) in SIZES.iter().enumerate() {
-        assert!(rt; !is_wrong_size(rt.alloc(), size)?, "street {index}");
+    for (version, signals, want) in SIZES {
+        let description = street(rt.alloc(), version, signals)?;
+        let got = Descriptions.answer(rt.alloc(), description.as_bytes())?;
+        assert_eq!(rt; got.as_str(), want, "{signals} signals");
     }
     Ok(())
 }
@@ -246,17 +104,14 @@ fn has_second_keys(artery: &Artery) -> bool {
 
 #[test]
 fn second_version_is_printed_and_read(rt: HostRuntime) -> Result<(), Fail> {
-    let replaced = [
-        (1, "version = 2\n[artery]"),
-        (5, "ratio = 1\nleast_out = '0.25'\nequal = true"),
-    ];
+    let changes = "1 version = 2\n[artery]|5 ratio = 1\nleast_out = '0.25'\nequal = true";
     let lines = [
         "version = 2",
         "least_out = \"1/4\"",
         "least_in = \"0\"",
         "equal = true",
     ];
-    let artery = read_with_lines(rt.alloc(), BASE, &replaced)?;
+    let artery = read_changed(rt.alloc(), PLAIN_STREET, changes)?;
     assert_eq!(rt; look_at(rt.alloc(), &artery, &lines, &[])?, AS_WANTED);
     let back = read_back(rt.alloc(), &artery)?;
     assert!(rt; has_second_keys(&back));
@@ -266,7 +121,7 @@ fn second_version_is_printed_and_read(rt: HostRuntime) -> Result<(), Fail> {
 #[test]
 fn second_version_has_all_keys_printed(rt: HostRuntime) -> Result<(), Fail> {
     let lines = ["least_out = \"0\"", "least_in = \"0\"", "equal = false"];
-    let artery = read_with_lines(rt.alloc(), BASE, &[(1, "version = 2\n[artery]")])?;
+    let artery = read_changed(rt.alloc(), PLAIN_STREET, "1 version = 2\n[artery]")?;
     assert!(rt; !artery.equal());
     assert_eq!(rt; look_at(rt.alloc(), &artery, &lines, &[])?, AS_WANTED);
     Ok(())
@@ -274,7 +129,7 @@ fn second_version_has_all_keys_printed(rt: HostRuntime) -> Result<(), Fail> {
 
 #[test]
 fn first_version_has_no_new_keys_printed(rt: HostRuntime) -> Result<(), Fail> {
-    let artery = read(rt.alloc(), BASE.as_bytes())?;
+    let artery = read(rt.alloc(), PLAIN_STREET.as_bytes())?;
     assert_eq!(rt; artery.version(), 1);
     let words = ["least", "equal"];
     assert_eq!(rt;

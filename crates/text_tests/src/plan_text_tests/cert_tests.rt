@@ -1,390 +1,249 @@
 //! Texts of certificates, written and read again, and each kind of bad line.
 
+use super::tests::told;
 use named_row::{Leaf, RowId};
-use narrow_fraction::{Frac, Unfit};
+use narrow_fraction::Frac;
 use plan_text::*;
 use search_box::At;
-use std::alloc::{AllocError, Global};
+use std::alloc::Global;
 use std::test::*;
+use test_bed::{
+    Reader, WORKED_LISTED, all_ends_told, all_texts_told, all_told, fraction, stopped_text,
+    told_again, with_changes, worked_text,
+};
 use time_space::Timing;
 
-/// No timing: the two rows add up to a bound below 0.
-const NONE: &[u8] =
-    b"maxband-certificate 1\nverdict none\ntree\nleaf 2\nloop_lo 1 1\nloop_hi 1 1\nend\n";
-
-/// Multipliers of 1/2^100 and 1/3^70.
-const NARROW: &[u8] =
-    b"maxband-certificate 1\nverdict none\ntree\nleaf 2\nwout 1 1/1267650600228229401496703205376\nwout 2 1/2503155504993241601315571986085849\nend\n";
-
-/// A bound and no timing.
-const BOUND: &[u8] =
-    b"maxband-certificate 1\nverdict open\nbound -3/4\nno timing\ntree\nleaf 0\nend\n";
-
-/// A best timing of two signals, with a split and two leaves.
-const BEST: [&[u8]; 30] = [
-    b"maxband-certificate 1",
-    b"verdict best",
-    b"value 1/2",
-    b"grid 2",
-    b"unit 2",
-    b"pattern 1 1",
-    b"red 0 50",
-    b"run_out 50",
-    b"run_in 50",
-    b"first 100 150",
-    b"band 100 0",
-    b"tree",
-    b"split loop 1 0",
-    b"leaf 7",
-    b"wout 2 1",
-    b"win 2 1",
-    b"fast_out 1 1",
-    b"fast_in 1 1",
-    b"cycle_low 50",
-    b"loop_hi 1 1",
-    b"turn_hi 2 1",
-    b"leaf 7",
-    b"wout 1 1",
-    b"win 1 1",
-    b"slow_out 1 1",
-    b"slow_in 1 1",
-    b"cycle_high 50",
-    b"loop_lo 1 1",
-    b"turn_hi 1 1",
-    b"end",
+/// No timing, where two rows add up to a bound below 0; multipliers of 1/2^100 and 1/3^70; and a bound and no timing.
+static TEXTS: [&str; 3] = [
+    "maxband-certificate 1\nverdict none\ntree\nleaf 2\nloop_lo 1 1\nloop_hi 1 1\nend\n -> read",
+    "maxband-certificate 1\nverdict none\ntree\nleaf 2\nwout 1 1/1267650600228229401496703205376\nwout 2 1/2503155504993241601315571986085849\nend\n -> read",
+    "maxband-certificate 1\nverdict open\nbound -3/4\nno timing\ntree\nleaf 0\nend\n -> read",
 ];
 
-/// A timing and a bound.
-const OPEN: [&[u8]; 15] = [
-    b"maxband-certificate 1",
-    b"verdict open",
-    b"bound 3/4",
-    b"value 1/2",
-    b"grid 2",
-    b"unit 2",
-    b"pattern 1 1",
-    b"red 0 50",
-    b"run_out 50",
-    b"run_in 50",
-    b"first 100 150",
-    b"band 100 0",
-    b"tree",
-    b"leaf 0",
-    b"end",
-];
-
-fn push_line(text: &mut Vec<u8>, line: &[u8]) -> Result<(), AllocError> {
-    text.extend_from_slice(line)?;
-    text.push(b'\n')?;
-    Ok(())
-}
-
-/// One line, or the other where both numbers are the same.
-fn other_at<'a>(number: u64, line: u64, kept: &'a [u8], other: &'a [u8]) -> &'a [u8] {
-    if number == line { other } else { kept }
-}
-
-/// The text of these lines, with another line in place of this one.
-fn replaced(
-    alloc: Global,
-    lines: &[&[u8]],
-    line: u64,
-    other: &[u8],
-) -> Result<Vec<u8>, AllocError> {
-    let mut text = Vec::new(alloc);
-    let mut number = 0u64;
-    for kept in lines {
-        number = number.wrapping_add(1);
-        push_line(&mut text, other_at(number, line, kept, other))?;
-    }
-    Ok(text)
-}
-
-/// The text of the first of these lines, so many.
-fn cut_after(alloc: Global, lines: &[&[u8]], count: u64) -> Result<Vec<u8>, AllocError> {
-    let mut text = Vec::new(alloc);
-    let mut number = 0u64;
-    for kept in lines {
-        number = number.wrapping_add(1);
-        if number <= count {
-            push_line(&mut text, kept)?;
-        }
-    }
-    Ok(text)
-}
-
-fn fault_of(alloc: Global, text: &[u8]) -> Option<BadText> {
-    match read_certificate(alloc, text) {
-        Err(TextEnd::Bad(bad)) => Some(bad),
-        _ => None,
-    }
-}
-
-/// Whether a text is read, and written again as it was.
-fn is_same(alloc: Global, text: &[u8]) -> bool {
-    let Ok(certificate) = read_certificate(alloc, text) else {
-        return false;
-    };
-    match write_certificate(alloc, &certificate) {
-        Ok(written) => written.as_slice() == text,
-        Err(_) => false,
-    }
-}
-
-/// Lines that may stand in place of those of the best timing.
-const READ: [(u64, &[u8]); 16] = [
-    (1, b"maxband-certificate 1"),
-    (3, b"value -1/2"),
-    (3, b"value 0"),
-    (3, b"value 170141183460469231731687303715884105727"),
-    (13, b"split loop 1 -9223372036854775808"),
-    (13, b"split loop 4294967295 9223372036854775807"),
-    (13, b"split turn 1 0"),
-    (13, b"split turn 4294967295 4294967295"),
-    (15, b"wout 2 -7/3"),
-    (15, b"wout 2 0"),
-    (16, b"wout 3 1"),
-    (19, b"ratio 1"),
-    (21, b"least_out 1"),
-    (21, b"least_in -1/3"),
-    (29, b"equal_lo 1"),
-    (29, b"equal_hi 2/7"),
-];
-
-#[test]
-fn texts_are_read_and_written_again(rt: HostRuntime) -> Result<(), Fail> {
-    for text in [NONE, NARROW, BOUND] {
-        assert!(rt; is_same(rt.alloc(), text));
-    }
-    for (line, other) in READ.iter() {
-        let text = replaced(rt.alloc(), &BEST, *line, other)?;
-        assert!(rt;
-            is_same(rt.alloc(), text.as_slice()),
-            "in place of line {line}"
-        );
-    }
-    let text = replaced(rt.alloc(), &OPEN, 0, b"")?;
-    assert!(rt; is_same(rt.alloc(), text.as_slice()));
-    Ok(())
-}
-
-/// A line that is put in, where, and the fault with its line.
-const REFUSED: [(u64, &[u8], u64, TextFault); 93] = [
-    (1, b"maxband-certificate 3", 1, TextFault::Shape),
-    (1, b"maxband-certificate 2", 12, TextFault::Shape),
-    (1, b"maxband-timing 1", 1, TextFault::Shape),
-    (2, b"verdict", 2, TextFault::Shape),
-    (2, b"verdict good", 2, TextFault::Shape),
-    (2, b"verdict best ", 2, TextFault::Shape),
-    (2, b"verdict none", 3, TextFault::Shape),
-    (2, b"verdict open", 3, TextFault::Shape),
-    (3, b"value", 3, TextFault::Shape),
-    (3, b"bound 1/2", 3, TextFault::Shape),
-    (3, b"value 1 2", 3, TextFault::Shape),
-    (3, b"value ", 3, TextFault::Number),
-    (3, b"value 2/4", 3, TextFault::Number),
-    (3, b"value 3/1", 3, TextFault::Number),
-    (3, b"value 0/5", 3, TextFault::Number),
-    (3, b"value -0", 3, TextFault::Number),
-    (3, b"value +1", 3, TextFault::Number),
-    (3, b"value 01", 3, TextFault::Number),
-    (3, b"value 1/02", 3, TextFault::Number),
-    (3, b"value 1/0", 3, TextFault::Number),
-    (3, b"value 1/-2", 3, TextFault::Number),
-    (3, b"value 0.5", 3, TextFault::Number),
-    (3, b"value 1/2/3", 3, TextFault::Number),
-    (
-        3,
-        b"value 170141183460469231731687303715884105728",
-        3,
-        TextFault::Number,
-    ),
-    (
-        3,
-        b"value 1/170141183460469231731687303715884105728",
-        3,
-        TextFault::Number,
-    ),
-    (
-        3,
-        b"value 1111111111111111111111111111111111111111111111111111111111111111111111111111111111111111111111111111",
-        3,
-        TextFault::Number,
-    ),
-    (4, b"grid 0", 4, TextFault::Number),
-    (5, b"unit 1", 5, TextFault::Number),
-    (6, b"pattern 1", 6, TextFault::Shape),
-    (6, b"pattern 1 9", 6, TextFault::Number),
-    (7, b"red 0", 7, TextFault::Shape),
-    (8, b"run_out", 8, TextFault::Shape),
-    (9, b"run_in x", 9, TextFault::Number),
-    (10, b"first 100", 10, TextFault::Shape),
-    (11, b"band 100", 11, TextFault::Shape),
-    (12, b"tree ", 12, TextFault::Shape),
-    (12, b"", 12, TextFault::Shape),
-    (12, b"end", 12, TextFault::Shape),
-    (13, b"split loop 1", 13, TextFault::Shape),
-    (13, b"split loop 1 0 0", 13, TextFault::Shape),
-    (13, b"split  loop 1 0", 13, TextFault::Shape),
-    (13, b"split bend 1 0", 13, TextFault::Shape),
-    (13, b"spilt loop 1 0", 13, TextFault::Shape),
-    (13, b"split loop 0 0", 13, TextFault::Number),
-    (13, b"split loop 01 0", 13, TextFault::Number),
-    (13, b"split loop 4294967296 0", 13, TextFault::Number),
-    (13, b"split loop 1 -0", 13, TextFault::Number),
-    (13, b"split loop 1 +1", 13, TextFault::Number),
-    (13, b"split loop 1 --1", 13, TextFault::Number),
-    (13, b"split loop 1 -", 13, TextFault::Number),
-    (13, b"split loop 1 ", 13, TextFault::Number),
-    (
-        13,
-        b"split loop 1 9223372036854775808",
-        13,
-        TextFault::Number,
-    ),
-    (
-        13,
-        b"split loop 1 -9223372036854775809",
-        13,
-        TextFault::Number,
-    ),
-    (13, b"split turn 0 0", 13, TextFault::Number),
-    (13, b"split turn 1 -1", 13, TextFault::Number),
-    (13, b"split turn 1 4294967296", 13, TextFault::Number),
-    (14, b"leaf", 14, TextFault::Shape),
-    (14, b"leaf 7 1", 14, TextFault::Shape),
-    (14, b"Leaf 7", 14, TextFault::Shape),
-    (14, b"leaf 07", 14, TextFault::Number),
-    (14, b"leaf -1", 14, TextFault::Number),
-    (14, b"leaf 10001", 14, TextFault::Number),
-    (14, b"leaf 6", 21, TextFault::Shape),
-    (14, b"leaf 8", 22, TextFault::Shape),
-    (15, b"wout 2", 15, TextFault::Shape),
-    (15, b"wout 2 1 1", 15, TextFault::Shape),
-    (15, b"wait 2 1", 15, TextFault::Shape),
-    (15, b"near_out_a 1 1", 15, TextFault::Shape),
-    (15, b"wait 0 x", 15, TextFault::Shape),
-    (15, b"", 15, TextFault::Shape),
-    (15, b"wout 0 1", 15, TextFault::Number),
-    (15, b"wout 4294967296 1", 15, TextFault::Number),
-    (15, b"wout 2 2/2", 15, TextFault::Number),
-    (15, b"wout -2 1", 15, TextFault::Number),
-    (16, b"wout 2 1", 16, TextFault::Order),
-    (16, b"wout 1 1", 16, TextFault::Order),
-    (16, b"wout 1 x", 16, TextFault::Number),
-    (16, b"wout 1", 16, TextFault::Shape),
-    (19, b"cycle_low 1 50", 19, TextFault::Shape),
-    (19, b"cycle_low", 19, TextFault::Shape),
-    (19, b"cycle_low 5/5", 19, TextFault::Number),
-    (19, b"fast_out 9 1", 19, TextFault::Order),
-    (20, b"cycle_low 50", 20, TextFault::Order),
-    (21, b"least_out 1 1", 21, TextFault::Shape),
-    (21, b"equal_lo", 21, TextFault::Shape),
-    (21, b"least_on 1", 21, TextFault::Shape),
-    (20, b"least_in 1", 21, TextFault::Order),
-    (22, b"end", 22, TextFault::Shape),
-    (30, b"leaf 0", 30, TextFault::Shape),
-    (
-        30,
-        b"leaf 7\nwout 1 1\nwin 1 1\nslow_out 1 1\nslow_in 1 1\ncycle_high 50\nloop_lo 1 1\nturn_hi 1 1\nend",
-        30,
-        TextFault::Shape,
-    ),
-    (30, b"end ", 30, TextFault::Shape),
-    (30, b"end\n", 31, TextFault::Shape),
-    (30, b"end\nend", 31, TextFault::Shape),
+/// Changes of the best timing: such that may stand, and such with a bad line and its fault.
+static CHANGED: [&str; 109] = [
+    "1 maxband-certificate 1 -> read",
+    "3 value -1/2 -> read",
+    "3 value 0 -> read",
+    "3 value 170141183460469231731687303715884105727 -> read",
+    "13 split loop 1 -9223372036854775808 -> read",
+    "13 split loop 4294967295 9223372036854775807 -> read",
+    "13 split turn 1 0 -> read",
+    "13 split turn 4294967295 4294967295 -> read",
+    "15 wout 2 -7/3 -> read",
+    "15 wout 2 0 -> read",
+    "16 wout 3 1 -> read",
+    "19 ratio 1 -> read",
+    "21 least_out 1 -> read",
+    "21 least_in -1/3 -> read",
+    "29 equal_lo 1 -> read",
+    "29 equal_hi 2/7 -> read",
+    // Changes of it, and the bad line with its fault.
+    "1 maxband-certificate 3 -> 1 Shape",
+    "1 maxband-certificate 2 -> 12 Shape",
+    "1 maxband-timing 1 -> 1 Shape",
+    "2 verdict -> 2 Shape",
+    "2 verdict good -> 2 Shape",
+    "2 verdict best  -> 2 Shape",
+    "2 verdict none -> 3 Shape",
+    "2 verdict open -> 3 Shape",
+    "3 value -> 3 Shape",
+    "3 bound 1/2 -> 3 Shape",
+    "3 value 1 2 -> 3 Shape",
+    "3 value  -> 3 Number",
+    "3 value 2/4 -> 3 Number",
+    "3 value 3/1 -> 3 Number",
+    "3 value 0/5 -> 3 Number",
+    "3 value -0 -> 3 Number",
+    "3 value +1 -> 3 Number",
+    "3 value 01 -> 3 Number",
+    "3 value 1/02 -> 3 Number",
+    "3 value 1/0 -> 3 Number",
+    "3 value 1/-2 -> 3 Number",
+    "3 value 0.5 -> 3 Number",
+    "3 value 1/2/3 -> 3 Number",
+    "3 value 170141183460469231731687303715884105728 -> 3 Number",
+    "3 value 1/170141183460469231731687303715884105728 -> 3 Number",
+    "3 value 1111111111111111111111111111111111111111111111111111111111111111111111111111111111111111111111111111 -> 3 Number",
+    "4 grid 0 -> 4 Number",
+    "5 unit 1 -> 5 Number",
+    "6 pattern 1 -> 6 Shape",
+    "6 pattern 1 9 -> 6 Number",
+    "7 red 0 -> 7 Shape",
+    "8 run_out -> 8 Shape",
+    "9 run_in x -> 9 Number",
+    "10 first 100 -> 10 Shape",
+    "11 band 100 -> 11 Shape",
+    "12 tree  -> 12 Shape",
+    "12 -> 12 Shape",
+    "12 end -> 12 Shape",
+    "13 split loop 1 -> 13 Shape",
+    "13 split loop 1 0 0 -> 13 Shape",
+    "13 split  loop 1 0 -> 13 Shape",
+    "13 split bend 1 0 -> 13 Shape",
+    "13 spilt loop 1 0 -> 13 Shape",
+    "13 split loop 0 0 -> 13 Number",
+    "13 split loop 01 0 -> 13 Number",
+    "13 split loop 4294967296 0 -> 13 Number",
+    "13 split loop 1 -0 -> 13 Number",
+    "13 split loop 1 +1 -> 13 Number",
+    "13 split loop 1 --1 -> 13 Number",
+    "13 split loop 1 - -> 13 Number",
+    "13 split loop 1  -> 13 Number",
+    "13 split loop 1 9223372036854775808 -> 13 Number",
+    "13 split loop 1 -9223372036854775809 -> 13 Number",
+    "13 split turn 0 0 -> 13 Number",
+    "13 split turn 1 -1 -> 13 Number",
+    "13 split turn 1 4294967296 -> 13 Number",
+    "14 leaf -> 14 Shape",
+    "14 leaf 7 1 -> 14 Shape",
+    "14 Leaf 7 -> 14 Shape",
+    "14 leaf 07 -> 14 Number",
+    "14 leaf -1 -> 14 Number",
+    "14 leaf 10001 -> 14 Number",
+    "14 leaf 6 -> 21 Shape",
+    "14 leaf 8 -> 22 Shape",
+    "15 wout 2 -> 15 Shape",
+    "15 wout 2 1 1 -> 15 Shape",
+    "15 wait 2 1 -> 15 Shape",
+    "15 near_out_a 1 1 -> 15 Shape",
+    "15 wait 0 x -> 15 Shape",
+    "15 -> 15 Shape",
+    "15 wout 0 1 -> 15 Number",
+    "15 wout 4294967296 1 -> 15 Number",
+    "15 wout 2 2/2 -> 15 Number",
+    "15 wout -2 1 -> 15 Number",
+    "16 wout 2 1 -> 16 Order",
+    "16 wout 1 1 -> 16 Order",
+    "16 wout 1 x -> 16 Number",
+    "16 wout 1 -> 16 Shape",
+    "19 cycle_low 1 50 -> 19 Shape",
+    "19 cycle_low -> 19 Shape",
+    "19 cycle_low 5/5 -> 19 Number",
+    "19 fast_out 9 1 -> 19 Order",
+    "20 cycle_low 50 -> 20 Order",
+    "21 least_out 1 1 -> 21 Shape",
+    "21 equal_lo -> 21 Shape",
+    "21 least_on 1 -> 21 Shape",
+    "20 least_in 1 -> 21 Order",
+    "22 end -> 22 Shape",
+    "30 leaf 0 -> 30 Shape",
+    "30 leaf 7\nwout 1 1\nwin 1 1\nslow_out 1 1\nslow_in 1 1\ncycle_high 50\nloop_lo 1 1\nturn_hi 1 1\nend -> 30 Shape",
+    "30 end  -> 30 Shape",
+    "30 end\n -> 31 Shape",
+    "30 end\nend -> 31 Shape",
 ];
 
 /// The same for the text with a bound.
-const REFUSED_OPEN: [(u64, &[u8], u64, TextFault); 13] = [
-    (2, b"verdict closed", 2, TextFault::Shape),
-    (3, b"value 3/4", 3, TextFault::Shape),
-    (3, b"bound 6/8", 3, TextFault::Number),
-    (4, b"value", 4, TextFault::Shape),
-    (4, b"value 2/4", 4, TextFault::Number),
-    (4, b"no timings", 4, TextFault::Shape),
-    (4, b"no timing", 5, TextFault::Shape),
-    (4, b"", 4, TextFault::Shape),
-    (5, b"grid x", 5, TextFault::Number),
-    (12, b"band 1", 12, TextFault::Shape),
-    (13, b"end", 13, TextFault::Shape),
-    (14, b"leaf 1", 15, TextFault::Shape),
-    (15, b"", 15, TextFault::Shape),
+static REFUSED_OPEN: [&str; 13] = [
+    "2 verdict closed -> 2 Shape",
+    "3 value 3/4 -> 3 Shape",
+    "3 bound 6/8 -> 3 Number",
+    "4 value -> 4 Shape",
+    "4 value 2/4 -> 4 Number",
+    "4 no timings -> 4 Shape",
+    "4 no timing -> 5 Shape",
+    "4 -> 4 Shape",
+    "5 grid x -> 5 Number",
+    "12 band 1 -> 12 Shape",
+    "13 end -> 13 Shape",
+    "14 leaf 1 -> 15 Shape",
+    "15 -> 15 Shape",
 ];
 
-/// The first of these cases, counted from 1, whose text is not refused at its line for its fault.
-pub fn first_not_refused(
-    alloc: Global,
-    lines: &[&[u8]],
-    cases: &[(u64, &[u8], u64, TextFault)],
-) -> Result<Option<u64>, AllocError> {
-    let mut number = 0u64;
-    for (line, other, bad, kind) in cases {
-        number = number.wrapping_add(1);
-        let text = replaced(alloc, lines, *line, other)?;
-        let expected = BadText {
-            line: *bad,
-            kind: *kind,
-        };
-        if fault_of(alloc, text.as_slice()) != Some(expected) {
-            return Ok(Some(number));
+/// The same for the text that lists its rows.
+static REFUSED_LISTED: [&str; 57] = [
+    "1 maxband-certificate 3 -> 1 Shape",
+    "1 maxband-certificate 1 -> 12 Shape",
+    "12 rows -> 12 Shape",
+    "12 rows 14 1 -> 12 Shape",
+    "12 row 14 -> 12 Shape",
+    "12 rows 014 -> 12 Number",
+    "12 rows -1 -> 12 Number",
+    "12 rows 18446744073709551616 -> 12 Number",
+    "12 rows 18446744073709551615 -> 27 Shape",
+    "12 rows 15 -> 27 Shape",
+    "12 rows 13 -> 26 Shape",
+    "14 wout 1 -> 14 Order",
+    "14 wout 3\nwout 2 -> 15 Order",
+    "14 wout 0 -> 14 Number",
+    "14 wait 2 -> 14 Shape",
+    "14 wout -> 14 Shape",
+    "14 wout 2 1 -> 14 Shape",
+    "14 -> 14 Shape",
+    "21 cycle_low 1 -> 21 Shape",
+    "27 tree  -> 27 Shape",
+    "28 split loop 0 0 -> 28 Number",
+    "29 leaf 7 -> 29 Shape",
+    "29 leaf 1 7 1 -> 29 Shape",
+    "29 Leaf 1 7 -> 29 Shape",
+    "29 leaf 0 7 -> 29 Number",
+    "29 leaf -1 7 -> 29 Number",
+    "29 leaf 01 7 -> 29 Number",
+    "29 leaf 1/2 7 -> 29 Number",
+    "29 leaf 170141183460469231731687303715884105728 7 -> 29 Number",
+    "29 leaf 1 10001 -> 29 Number",
+    "29 leaf 1 07 -> 29 Number",
+    "29 leaf 2 0 -> 29 Number",
+    "29 plain 0 -> 29 Number",
+    "29 plain -> 29 Shape",
+    "29 plain 1 7 -> 29 Shape",
+    "29 plain 7 -> 36 Number",
+    "29 leaf 2 7\n2 2\n4 2\n5 2\n6 2\n9 100\n12 2\n14 2 -> 36 Number",
+    "30 0 1 -> 30 Number",
+    "30 15 1 -> 30 Number",
+    "30 18446744073709551616 1 -> 30 Number",
+    "30 02 1 -> 30 Number",
+    "30 x 1 -> 30 Number",
+    "30 2 -> 30 Shape",
+    "30 2 1 1 -> 30 Shape",
+    "30 wout 2 1 -> 30 Shape",
+    "30 2 1/2 -> 30 Number",
+    "30 2 01 -> 30 Number",
+    "30 2 -0 -> 30 Number",
+    "30 2 170141183460469231731687303715884105728 -> 30 Number",
+    "31 2 1 -> 31 Order",
+    "31 1 1 -> 31 Order",
+    "31 1 x -> 31 Number",
+    "36 13 1 -> 45 Shape",
+    "45 leaf 1 0 -> 45 Shape",
+    "45 end  -> 45 Shape",
+    "45 end\n -> 46 Shape",
+    "45 end\nend -> 46 Shape",
+];
+
+/// The reader of certificates: it answers with the first bad line, or whether a certificate is written again as it was.
+#[derive(Clone, Copy, Drop)]
+struct Certificates;
+
+impl Reader for Certificates {
+    fn answer(&self, alloc: Global, text: &[u8]) -> Result<String, Fail> {
+        match read_certificate(alloc, text) {
+            Ok(certificate) => {
+                Ok(told_again(alloc, text, write_certificate(alloc, &certificate).ok())?)
+            }
+            Err(end) => told(alloc, end),
         }
     }
-    Ok(None)
 }
 
 #[test]
-fn the_first_bad_line_is_named(rt: HostRuntime) -> Result<(), Fail> {
+fn texts_are_read_and_judged(rt: HostRuntime) -> Result<(), Fail> {
     let alloc = rt.alloc();
-    assert_eq!(rt; first_not_refused(alloc, &BEST, &REFUSED)?, None);
-    assert_eq!(rt; first_not_refused(alloc, &OPEN, &REFUSED_OPEN)?, None);
-    Ok(())
+    let (best, open) = (worked_text(alloc)?, stopped_text(alloc)?);
+    all_texts_told(alloc, &Certificates, &TEXTS)?;
+    all_told(alloc, &Certificates, best.as_str(), &CHANGED)?;
+    all_told(alloc, &Certificates, open.as_str(), &[" -> read"])?;
+    all_told(alloc, &Certificates, open.as_str(), &REFUSED_OPEN)?;
+    all_told(alloc, &Certificates, WORKED_LISTED, &REFUSED_LISTED)?;
+    all_ends_told(alloc, &Certificates, best.as_str())?;
+    all_ends_told(alloc, &Certificates, WORKED_LISTED)
 }
 
-/// How many of the first lines, so many, make a text that is not refused at its next line for its end, with the first
-/// bytes of a line after them or without.
-pub fn first_not_ended(
-    alloc: Global,
-    lines: &[&[u8]],
-    count: u64,
-) -> Result<Option<u64>, AllocError> {
-    for kept in 0..count {
-        let mut text = cut_after(alloc, lines, kept)?;
-        let expected = Some(BadText {
-            line: kept.wrapping_add(1),
-            kind: TextFault::Ended,
-        });
-        let whole = fault_of(alloc, text.as_slice());
-        text.extend_from_slice(b"end")?;
-        if whole != expected || fault_of(alloc, text.as_slice()) != expected {
-            return Ok(Some(kept));
-        }
-    }
-    Ok(None)
-}
-
-#[test]
-fn a_text_that_ends_early_is_named_at_its_next_line(rt: HostRuntime) -> Result<(), Fail> {
-    assert_eq!(rt; first_not_ended(rt.alloc(), &BEST, 30)?, None);
-    Ok(())
-}
-
-fn read(alloc: Global, text: &[u8]) -> Result<Certificate, Fail> {
-    match read_certificate(alloc, text) {
+fn read(alloc: Global, text: &str) -> Result<Certificate, Fail> {
+    match read_certificate(alloc, text.as_bytes()) {
         Ok(certificate) => Ok(certificate),
         Err(_) => Err("no certificate".into()),
-    }
-}
-
-/// The quotient, with nothing said of it: what `Frac::new` says is a long term.
-fn quotient(num: i128, den: i128) -> Result<Frac, Unfit> {
-    Frac::new(num, den)
-}
-
-fn fraction(num: i128, den: i128) -> Result<Frac, Fail> {
-    match quotient(num, den) {
-        Ok(fraction) => Ok(fraction),
-        Err(_) => Err("no fraction".into()),
     }
 }
 
@@ -438,8 +297,9 @@ fn has_reds(timing: Option<&Timing>) -> bool {
 
 #[test]
 fn each_part_goes_to_its_place(rt: HostRuntime) -> Result<(), Fail> {
-    let text = replaced(rt.alloc(), &BEST, 15, b"wout 2 -7/3")?;
-    let certificate = read(rt.alloc(), text.as_slice())?;
+    let best = worked_text(rt.alloc())?;
+    let text = with_changes(rt.alloc(), best.as_str(), "15 wout 2 -7/3")?;
+    let certificate = read(rt.alloc(), text.as_str())?;
     let value = fraction(1, 2)?;
     assert_eq!(rt; certificate.claim, Claim::Best { value });
     assert!(rt; has_reds(certificate.timing.as_ref()));
@@ -449,8 +309,8 @@ fn each_part_goes_to_its_place(rt: HostRuntime) -> Result<(), Fail> {
 
 #[test]
 fn bound_and_value_go_to_their_places(rt: HostRuntime) -> Result<(), Fail> {
-    let text = replaced(rt.alloc(), &OPEN, 0, b"")?;
-    let certificate = read(rt.alloc(), text.as_slice())?;
+    let text = stopped_text(rt.alloc())?;
+    let certificate = read(rt.alloc(), text.as_str())?;
     let bound = fraction(3, 4)?;
     let value = Some(fraction(1, 2)?);
     assert_eq!(rt; certificate.claim, Claim::Stopped { bound, value });

@@ -1,0 +1,97 @@
+//! Tables of cases, and the first that is answered otherwise.
+
+use crate::changed::with_changes;
+use std::alloc::{AllocError, Global};
+use std::test::Fail;
+
+/// Who answers for a text in a line.
+pub trait Reader {
+    fn answer(&self, alloc: Global, text: &[u8]) -> Result<String, Fail>;
+}
+
+/// The answer for a text that was read: `read` where it is written again as it was.
+pub fn told_again(
+    alloc: Global,
+    text: &[u8],
+    written: Option<Vec<u8>>,
+) -> Result<String, AllocError> {
+    match written {
+        Some(written) if written.as_slice() == text => String::from_str(alloc, "read"),
+        Some(_) => String::from_str(alloc, "written otherwise"),
+        None => String::from_str(alloc, "not written"),
+    }
+}
+
+/// Fails where the answer for a text is another than that of its case.
+fn told<R: Reader>(alloc: Global, reader: &R, text: &str, case: &str) -> Result<(), Fail> {
+    let (_, want) = parts(case);
+    let got = reader.answer(alloc, text.as_bytes())?;
+    if got.as_str() == want {
+        return Ok(());
+    }
+    Err(Fail::new(format_args!("{case}, not {}", got.as_str())))
+}
+
+/// A case as what stands before the arrow and what behind it.
+fn parts(case: &str) -> (&str, &str) {
+    case.split_once(" -> ").unwrap_or((case, ""))
+}
+
+/// Fails at the first of these cases of a text that is answered otherwise.
+pub fn all_told<R: Reader>(
+    alloc: Global,
+    reader: &R,
+    base: &str,
+    cases: &[&str],
+) -> Result<(), Fail> {
+    for case in cases {
+        let (changes, _) = parts(case);
+        let text = with_changes(alloc, base, changes)?;
+        told(alloc, reader, text.as_str(), case)?;
+    }
+    Ok(())
+}
+
+/// The same of cases that give their whole texts.
+pub fn all_texts_told<R: Reader>(alloc: Global, reader: &R, cases: &[&str]) -> Result<(), Fail> {
+    for case in cases {
+        let (text, _) = parts(case);
+        told(alloc, reader, text, case)?;
+    }
+    Ok(())
+}
+
+/// The same of faults in the order in which they are looked for: each is told though the next one is there too.
+pub fn all_told_in_order<R: Reader>(
+    alloc: Global,
+    reader: &R,
+    base: &str,
+    faults: &[&str],
+) -> Result<(), Fail> {
+    for (index, fault) in faults.iter().enumerate() {
+        let (changes, want) = parts(fault);
+        let (others, _) = match faults.get(index.saturating_add(1)) {
+            Some(next) => parts(next),
+            None => ("", ""),
+        };
+        let both = format!(in alloc; "{changes}|{others} -> {want}")?;
+        all_told(alloc, reader, base, &[both.as_str()])?;
+    }
+    Ok(())
+}
+
+/// Fails where the first lines of a text, so many or fewer, aren't refused at the next line for their end, with the first bytes of a
+/// line after them or without.
+pub fn all_ends_told<R: Reader>(alloc: Global, reader: &R, base: &str) -> Result<(), Fail> {
+    let mut kept = String::new(alloc);
+    for (index, line) in base.lines().enumerate() {
+        let number = index.saturating_add(1);
+        let case = format!(in alloc; "{} lines -> {number} Ended", index)?;
+        let open = format!(in alloc; "{}end", kept.as_str())?;
+        told(alloc, reader, kept.as_str(), case.as_str())?;
+        told(alloc, reader, open.as_str(), case.as_str())?;
+        kept.push_str(line)?;
+        kept.push_str("\n")?;
+    }
+    Ok(())
+}
