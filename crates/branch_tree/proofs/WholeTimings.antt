@@ -4,7 +4,8 @@ use Rattle.progression.specs.Street.{Street}
 use Rattle.progression.specs.Plan.{Plan}
 use Rattle.artery_model.specs.Valid.{IsValid}
 use Rattle.linear_theory.specs.Boxes.{IsBoxOf, root_box}
-use Rattle.plan_text.specs.Warrants.{IsNode, LeafOf, Warrant}
+use Rattle.plan_text.specs.Warrants.{LeafOf, Warrant}
+use Rattle.plan_text.proofs.KeptNodes.{IsNode}
 use Rattle.plan_text.specs.declared.certificate.Claim.{Claim}
 use Rattle.plan_text.specs.declared.certificate.Claim.TheVariants.{Best, NoTiming, Stopped}
 use Rattle.named_row.specs.declared.leaves.Leaf.{Leaf}

@@ -5,14 +5,9 @@ use Rattle.progression.specs.Street.{Street}
 use Rattle.progression.specs.Plan.{Plan}
 use Rattle.branch_and_bound.specs.declared.found.Verdict.{Verdict}
 use Rattle.branch_tree.specs.declared.site.SitePart.{SitePart}
-use Rattle.branch_tree.specs.Kinds.{ProvesOf, IsSearchedOf}
+use Rattle.branch_tree.specs.Kinds.{IsSearchedOf}
 use Rattle.branch_tree.specs.Told.{Found}
 use Rattle.branch_tree.specs.WholeBands.{whole_bands}
-
--- The timing is best and the bound is its weighted band; or no timing is good; or no good timing has a weighted band above the bound, and a timing
--- that stands is good.
-abbrev pub Proves : Street → Option Plan → ℚ → Verdict SitePart → Type 0
-Proves a = ProvesOf (whole_bands a)
 
 -- A search of the artery within the limit of units of work, where there is one, found this, and its certificate is accepted. A stop by work comes only
 -- where there is a limit, and it is less than enough for this artery. A site that the verdict names has a box of this artery,

@@ -18,7 +18,8 @@ use Rattle.branch_tree.specs.Searches.{incumbent_of}
 use Rattle.branch_tree.specs.ArteryRules.{rules_of}
 use Rattle.branch_tree.specs.Trees.{node_of}
 use Rattle.branch_tree.specs.Certified.{value_of, claim_by}
-use Rattle.branch_tree.specs.Searched.{Proves}
+use Rattle.branch_tree.specs.Kinds.{ProvesOf}
+use Rattle.branch_tree.specs.WholeBands.{whole_bands}
 use Rattle.cycle_sweep.specs.declared.row.SweepRow.TheVariants.{Outside, Searched}
 use Rattle.cycle_sweep.specs.Rows.{at_cycle}
 use Rattle.cycle_sweep.specs.Table.{fields, number_text, verdict_text, cause_text, bound_of, outside_fields, found_fields}
@@ -42,7 +43,7 @@ why_of a limit nodes best bound spent (Wide site) h = tt
 
 says_found : (a : Street) (limit : Option ℕ) (cycle : ℚ) (nodes : List TreeNode) (timing : Option Plan) (bound : ℚ) (spent : ℕ) (verdict : Verdict SitePart)
     → IsAnswer (rules_of (at_cycle a cycle)) limit nodes (incumbent_of (at_cycle a cycle) timing) bound spent verdict
-    → Proves (at_cycle a cycle) timing bound verdict → IsAccepted (at_cycle a cycle) (certificate_of (at_cycle a cycle) timing bound verdict nodes)
+    → ProvesOf (whole_bands (at_cycle a cycle)) timing bound verdict → IsAccepted (at_cycle a cycle) (certificate_of (at_cycle a cycle) timing bound verdict nodes)
     → SaysFound a limit cycle spent verdict (texts_of a cycle timing bound verdict)
 says_found a limit cycle nodes None bound spent Best s h k = absurd h
 says_found a limit cycle nodes (Some plan) bound spent Best s h k = record {

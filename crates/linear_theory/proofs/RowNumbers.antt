@@ -36,13 +36,6 @@ scaled_low c z n =
     let f = ap (λ m. m * n) e in
     omega (arith, f)
 
--- the other way round
-scaled_high : (c z : ℤ) (n : ℕ) → (up z * n + down c * 1) * n + down (z *ℤ pos n -ℤ c) * (1 * n) ≡ (down z * n + up c * 1) * n + up (z *ℤ pos n -ℤ c) * (1 * n)
-scaled_high c z n =
-    let e : up (z *ℤ pos n -ℤ c) + (down z * n + up c) ≡ down (z *ℤ pos n -ℤ c) + (up z * n + down c) = omega (arith, ints) in
-    let f = ap (λ m. m * n) e in
-    omega (arith, f)
-
 module _ (a : Street) (p : 0 < a.head.parts) where
   -- the constant over the parts
   constant_ratio : (i : ℕ) → IsRatio (constant a i) (up (constant_parts a i)) (down (constant_parts a i)) a.head.parts
@@ -58,8 +51,3 @@ module _ (a : Street) (p : 0 < a.head.parts) where
       same_ratio _ _ _ _ _ _ _ _ (sum_ratio _ _ _ _ _ _ _ _ (constant_ratio i) (neg_ratio _ _ _ _ (whole_ratio z))) (over_ratio (constant_parts a i -ℤ z *ℤ pos a.head.parts) a.head.parts p)
       (scaled_low (constant_parts a i) z a.head.parts)
 
-  -- and of the row above
-  pub loop_high_bound_is : (i : ℕ) (z : ℤ) → whole z -ℚ constant a i ≡ over (z *ℤ pos a.head.parts -ℤ constant_parts a i) a.head.parts
-  loop_high_bound_is i z =
-      same_ratio _ _ _ _ _ _ _ _ (sum_ratio _ _ _ _ _ _ _ _ (whole_ratio z) (neg_ratio _ _ _ _ (constant_ratio i))) (over_ratio (z *ℤ pos a.head.parts -ℤ constant_parts a i) a.head.parts p)
-      (scaled_high (constant_parts a i) z a.head.parts)

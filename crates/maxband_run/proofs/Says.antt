@@ -29,14 +29,15 @@ use Rattle.branch_tree.specs.SiteNames.{IsSiteOf, EndsAt}
 use Rattle.branch_tree.specs.Enough.{enough_of, IsTooLow, IsWithin}
 use Rattle.link_theory.specs.LinkPlan.{LinkPlan}
 use Rattle.multi_band.specs.LinkCertified.{link_warrant_of}
-use Rattle.multi_band.specs.LinksSearched.{LinksProve}
+use Rattle.multi_band.specs.LinkKind.{link_bands as kind_of_links}
 use Rattle.multi_band.specs.LinkRules.{link_rules}
 use Rattle.multi_band.specs.LinkSearches.{link_incumbent_of}
 use Rattle.multi_band.specs.LinkSites.{IsLinkSiteOf}
 use Rattle.multi_band.specs.LinkEnough.{link_enough_of}
 use Rattle.maxband_run.specs.Command.{Request, Hold, Check, CheckLinks, Solve, Links, Renew}
 use Rattle.maxband_run.specs.Outside.{Outside}
-use Rattle.branch_tree.specs.Searched.{Proves}
+use Rattle.branch_tree.specs.Kinds.{ProvesOf as Proves}
+use Rattle.branch_tree.specs.WholeBands.{whole_bands as kind_of_whole}
 use Rattle.maxband_run.specs.Searched.{cause_of}
 use Rattle.maxband_run.specs.Reading.{Value, IsReadAs, Reads, Description}
 use Rattle.maxband_run.specs.Sought.{Sought, whole_bands, bands_of_links}
@@ -220,7 +221,7 @@ module _ {T K : Type 0} (r : Rules T K SitePart) (enough : ℕ) (IsNamed : Site 
       }
 
 -- ---- solve
-whole_proves : (a : Street) (timing : Option Plan) (bound : ℚ) (verdict : Verdict SitePart) → Proves a timing bound verdict → ProvesOf whole_bands a timing bound verdict
+whole_proves : (a : Street) (timing : Option Plan) (bound : ℚ) (verdict : Verdict SitePart) → Proves (kind_of_whole a) timing bound verdict → ProvesOf whole_bands a timing bound verdict
 whole_proves a None bound Best h = absurd h
 whole_proves a (Some plan) bound Best h = h
 whole_proves a timing bound NoTiming h = h
@@ -261,7 +262,7 @@ pub solve_stop_says : SolveStopSays
 solve_stop_says = stop_says whole_bands whole_stops whole_spent Solve solve_put
 
 -- ---- links
-link_proves : (a : Street) (timing : Option LinkPlan) (bound : ℚ) (verdict : Verdict SitePart) → LinksProve a timing bound verdict → ProvesOf bands_of_links a timing bound verdict
+link_proves : (a : Street) (timing : Option LinkPlan) (bound : ℚ) (verdict : Verdict SitePart) → Proves (kind_of_links a) timing bound verdict → ProvesOf bands_of_links a timing bound verdict
 link_proves a None bound Best h = absurd h
 link_proves a (Some plan) bound Best h = h
 link_proves a timing bound NoTiming h = h

@@ -33,7 +33,7 @@
 //! What the commands find:
 //!
 //! - `solve` (`specs/Solve.antt`): of the artery that the file describes an answer of the search with just the limit that the words
-//!   say, which may be none (`IsSearch` of `branch_tree`), and what follows for every good timing on any grid (`Proves`). The
+//!   say, which may be none (`IsSearch` of `branch_tree`), and what follows for every good timing on any grid (`ProvesOf`). The
 //!   certificate is accepted, the text that is put is its one spelling and is read back as that very certificate (`IsTextOf`), and
 //!   the output grew by exactly the report. Which of several best timings is found isn't determined. `links` (`specs/Links.antt`)
 //!   is the same over link timings, by `multi_band`.

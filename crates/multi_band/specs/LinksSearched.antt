@@ -5,14 +5,9 @@ use Rattle.progression.specs.Street.{Street}
 use Rattle.link_theory.specs.LinkPlan.{LinkPlan}
 use Rattle.branch_and_bound.specs.declared.found.Verdict.{Verdict}
 use Rattle.branch_tree.specs.declared.site.SitePart.{SitePart}
-use Rattle.branch_tree.specs.Kinds.{ProvesOf, IsSearchedOf}
+use Rattle.branch_tree.specs.Kinds.{IsSearchedOf}
 use Rattle.multi_band.specs.LinkKind.{link_bands}
 use Rattle.multi_band.specs.LinkTold.{LinkFound}
-
--- The link timing is best and the bound is its value; or no link timing is good; or no good link timing has a value above the bound, and a link
--- timing that stands is good.
-abbrev pub LinksProve : Street → Option LinkPlan → ℚ → Verdict SitePart → Type 0
-LinksProve a = ProvesOf (link_bands a)
 
 -- A search of the artery's links within the limit of units of work, where there is one, found this, and its certificate is accepted. A stop by work
 -- comes only where there is a limit, and it is less than enough for the links of this artery. A site that the verdict names has a box of this

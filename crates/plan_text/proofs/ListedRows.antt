@@ -13,7 +13,8 @@ use Rattle.named_row.specs.Order.{is_below}
 use Rattle.plan_text.specs.declared.certificate.CertNode.{CertNode}
 use Rattle.plan_text.specs.declared.certificate.CertNode.TheVariants as code
 use Rattle.plan_text.specs.Families.{is_after, IsNamed}
-use Rattle.plan_text.specs.Warrants.{Node, SplitAt, LeafOf, node_of, IsNode}
+use Rattle.plan_text.specs.Warrants.{Node, SplitAt, LeafOf, node_of}
+use Rattle.plan_text.proofs.KeptNodes.{IsNode}
 use Rattle.plan_text.specs.Leaves.{with_row, with_rows, rows_from, rows_of, AscendRows}
 use Rattle.plan_text.proofs.RowOrder.{row_cmp, row_cases, below_apart}
 

@@ -20,7 +20,8 @@ use Rattle.plan_text.specs.Numbers.{number}
 use Rattle.plan_text.specs.Fractions.{integer, exact}
 use Rattle.plan_text.specs.Lines.{◌>>=◌, fault, ranged, line_at, words_at}
 use Rattle.plan_text.specs.Families.{Table, IsNamedIn}
-use Rattle.plan_text.specs.Warrants.{Node, SplitAt, LeafOf, AreTrees, Ascend, IsNodeIn, IsNode}
+use Rattle.plan_text.specs.Warrants.{Node, SplitAt, LeafOf, AreTrees, Ascend, IsNodeIn}
+use Rattle.plan_text.proofs.KeptNodes.{IsNode}
 use Rattle.plan_text.specs.CertificateText.{split_key, loop_key, turn_key, leaf_key, split_words, IsHeldWeight, IsHeldNode}
 use Rattle.plan_text.specs.Leaves.{form_of}
 use Rattle.plan_text.specs.Namings.{Naming, Named, Listed, fractions_key, IsFormed, same_form, is_form, weight_words, weight_line, first_words, leaf_lines, form_by, node_lines}

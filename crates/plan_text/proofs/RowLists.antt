@@ -12,7 +12,8 @@ use Rattle.plan_text.specs.Words.{is_text, line_of}
 use Rattle.plan_text.specs.Numbers.{number}
 use Rattle.plan_text.specs.Lines.{◌>>=◌, ranged, words_at}
 use Rattle.plan_text.specs.Families.{Table, ordinary, IsNamed, IsNamedIn}
-use Rattle.plan_text.specs.Warrants.{Node, SplitAt, LeafOf, IsNode}
+use Rattle.plan_text.specs.Warrants.{Node, SplitAt, LeafOf}
+use Rattle.plan_text.proofs.KeptNodes.{IsNode}
 use Rattle.plan_text.specs.CertificateText.{row_words_in, IsHeldWeight, IsHeldNode}
 use Rattle.plan_text.specs.SecondText.{rows_key}
 use Rattle.plan_text.specs.Leaves.{rows_of, AscendRows}

@@ -63,9 +63,6 @@ IsNodeIn table (SplitAt (Loop link at)) = 1 ≤ link
 IsNodeIn table (SplitAt (Turn signal rank)) = 1 ≤ signal
 IsNodeIn table (LeafOf ws) = (length ws ≤ 10000) × Ascend None ws × All (λ w. IsNamedIn table w.row) ws
 
-abbrev pub IsNode : Node → Type 0
-IsNode n = IsNodeIn ordinary n
-
 -- what every certificate of the program keeps, whose rows have names in a table
 pub record IsCertificateIn {T : Type 0} (table : Table) (c : WarrantWith T) : Type 0 where
   pub timing : HasTiming c.claim c.timing
