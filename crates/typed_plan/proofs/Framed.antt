@@ -26,6 +26,10 @@ pub record AreParts (a : Street) (p : Typed) (grid unit : ℕ) (patterns reds ru
   pub run_out_are : run_out ≡ runs a p Outbound
   pub run_in_are : run_in ≡ runs a p Inbound
 
+pub parts_of : (a : Street) (p : Typed) (grid unit : ℕ) (patterns reds run_out run_in : List ℕ) → grid ≡ least_grid a p → unit ≡ least_unit a p → patterns ≡ p.patterns
+    → reds ≡ numbered (count a) 1 (red_tick a p) → run_out ≡ runs a p Outbound → run_in ≡ runs a p Inbound → AreParts a p grid unit patterns reds run_out run_in
+parts_of a p grid unit patterns reds run_out run_in g u q r o i = record { grid_is = g; unit_is = u; patterns_are = q; reds_are = r; run_out_are = o; run_in_are = i }
+
 -- what is known of the sizes of these numbers
 pub record FitsFrame (a : Street) (p : Typed) : Type 0 where
   pub grid : least_grid a p < 2 ^ 80

@@ -157,18 +157,7 @@ module _ (a : Street) (p : Typed) (t s : Plan) (valid : IsValid a) (h : IsTiming
       (x.first ∙ ap pos e.0 ∙ sym y.first, e.1)
 
   same_timing : t ≡ s
-  same_timing = λ i. record {
-    grid = same_grid i;
-    unit = same_unit i;
-    patterns = same_patterns i;
-    reds = same_reds i;
-    run_out = same_out i;
-    run_in = same_in_runs i;
-    first_out = (same_pair Outbound).0 i;
-    first_in = (same_pair Inbound).0 i;
-    band_out = (same_pair Outbound).1 i;
-    band_in = (same_pair Inbound).1 i;
-  }
+  same_timing = λ i. with_pairs ((same_pair Outbound).0 i) ((same_pair Outbound).1 i) ((same_pair Inbound).0 i) ((same_pair Inbound).1 i) (same_bare i)
 
 pub one_timing : OneTiming
 one_timing a p t s valid h k = same_timing a p t s valid h k

@@ -1,19 +1,12 @@
 use Rattle.std.proofs.Common.{◌≤◌, ◌<◌, ◌*◌, ◌^◌, sym, subst, ◌∙◌}
-use Rattle.typed_plan.proofs.Framed.{fits_frame, framed_is, framed_timing}
+use Rattle.typed_plan.proofs.Framed.{parts_of, fits_frame, framed_is, framed_timing}
 use Rattle.typed_plan.proofs.frame.framed.Goals as goal
 
 pub unreachable-requires : goal.unreachable-requires
 unreachable-requires c =
     c.in-None.ensures.none
     (framed_timing c.args.artery.now c.args.plan.now _ _ _ _ _ _
-    (record {
-      grid_is = c.requires.grid;
-      unit_is = c.size-unit.ensures.value;
-      patterns_are = c.in_ok-patterns.ensures.value;
-      reds_are = c.in_ok-reds.ensures.value;
-      run_out_are = c.in_ok-run_out.ensures;
-      run_in_are = c.in_ok-run_in.ensures;
-    })
+    (parts_of _ _ _ _ _ _ _ _ c.requires.grid c.size-unit.ensures.value c.in_ok-patterns.ensures.value c.in_ok-reds.ensures.value c.in_ok-run_out.ensures c.in_ok-run_in.ensures)
     _ _ _ _ c.known_valid.ensures c.known_within.ensures c.requires.counts c.requires.fine c.in_ok-reds.ensures.small
     c.requires.first_out c.requires.first_in c.requires.band_out c.requires.band_in)
 
@@ -21,14 +14,7 @@ pub returns : goal.returns
 returns c =
     c.in-Some.ensures.value
     ∙ framed_is c.args.artery.now c.args.plan.now _ _ _ _ _ _
-    (record {
-      grid_is = c.requires.grid;
-      unit_is = c.size-unit.ensures.value;
-      patterns_are = c.in_ok-patterns.ensures.value;
-      reds_are = c.in_ok-reds.ensures.value;
-      run_out_are = c.in_ok-run_out.ensures;
-      run_in_are = c.in_ok-run_in.ensures;
-    })
+    (parts_of _ _ _ _ _ _ _ _ c.requires.grid c.size-unit.ensures.value c.in_ok-patterns.ensures.value c.in_ok-reds.ensures.value c.in_ok-run_out.ensures c.in_ok-run_in.ensures)
     c.args.pairs.outbound.first c.args.pairs.inbound.first c.args.pairs.outbound.band c.args.pairs.inbound.band
 
 pub size-unit-requires-clause-small : goal.size-unit-requires-clause-small
