@@ -10,7 +10,7 @@ use Rattle.progression.specs.declared.parts.Pair.{Pair}
 use Rattle.artery_model.specs.Bounds.{first_version, second_version, least_signals, most_signals_in, least_share, most_share_in, least_parts, most_parts, least_distance, most_distance, least_speed, most_speed, least_cycle, most_cycle, least_change, most_change, least_ratio, most_ratio}
 use Rattle.artery_model.specs.Faults.{first_fault, each_numbered, artery_place, link_place}
 use Rattle.artery_model.specs.Limits.{within, in_range, is_name, is_name_if_there, pair_ranges, head_ranges, signal_tests, signal_ranges, change_ranges, link_tests, link_ranges, range_tests, rule_tests, artery_fault}
-use Rattle.description_reader.proofs.CanonicalTests.{each_none, passed}
+use Rattle.artery_model.proofs.Validity.{each_none, passes_of}
 
 -- both limits lie within theirs
 pub record AreWithin (low high : ℤ) (p : Pair) : Type 0 where
@@ -20,7 +20,7 @@ pub record AreWithin (low high : ℤ) (p : Pair) : Type 0 where
 are_within : (low high : ℤ) (p : Pair) (place : List ℕ) → first_fault (pair_ranges (whole low) (whole high) p place) ≡ None → AreWithin low high p
 are_within low high p place e =
     let tests = each_none (pair_ranges (whole low) (whole high) p place) e in
-    record { least = passed _ _ _ tests.0; most = passed _ _ _ tests.1.0 }
+    record { least = passes_of _ _ _ tests.0; most = passes_of _ _ _ tests.1.0 }
 
 -- limits of a change lie within theirs where they are given, and aren't given on the last link
 abbrev pub IsChangeWithin : Bool → Option Pair → Type 0
@@ -35,7 +35,7 @@ change_within : (is_last : Bool) (o : Option Pair) (place : List ℕ) → first_
 change_within is_last None place e = tt
 change_within is_last (Some p) place e =
     let tests = each_none (change_ranges is_last (Some p) place) e in
-    (not_out is_last (passed _ _ _ tests.0), are_within least_change most_change p place tests.1.0)
+    (not_out is_last (passes_of _ _ _ tests.0), are_within least_change most_change p place tests.1.0)
 
 pub record HeadFits (h : Head) : Type 0 where
   pub name : is_name_if_there h.name ≡ true
@@ -50,13 +50,13 @@ head_fits : (h : Head) → first_fault (head_ranges h) ≡ None → HeadFits h
 head_fits h e =
     let tests = each_none (head_ranges h) e in
     record {
-      name = passed _ _ _ tests.0;
-      parts = passed _ _ _ tests.1.0;
+      name = passes_of _ _ _ tests.0;
+      parts = passes_of _ _ _ tests.1.0;
       cycle = are_within least_cycle most_cycle h.cycle (artery_place (codes "cycle")) tests.1.1.0;
-      ratio = passed _ _ _ tests.1.1.1.0;
-      least_out = passed _ _ _ tests.1.1.1.1.0;
-      least_in = passed _ _ _ tests.1.1.1.1.1.0;
-      equal = passed _ _ _ tests.1.1.1.1.1.1.0;
+      ratio = passes_of _ _ _ tests.1.1.1.0;
+      least_out = passes_of _ _ _ tests.1.1.1.1.0;
+      least_in = passes_of _ _ _ tests.1.1.1.1.1.0;
+      equal = passes_of _ _ _ tests.1.1.1.1.1.1.0;
     }
 
 pub record SignalFits (parts : ℕ) (s : Signal) : Type 0 where
@@ -71,12 +71,12 @@ pub signal_fits : (parts i : ℕ) (s : Signal) → signal_ranges parts i s ≡ N
 signal_fits parts i s e =
     let tests = each_none (signal_tests parts i s) e in
     record {
-      name = passed _ _ _ tests.0;
-      red = passed _ _ _ tests.1.0;
-      left_out = passed _ _ _ tests.1.1.0;
-      left_in = passed _ _ _ tests.1.1.1.0;
-      clear_out = passed _ _ _ tests.1.1.1.1.0;
-      clear_in = passed _ _ _ tests.1.1.1.1.1.0;
+      name = passes_of _ _ _ tests.0;
+      red = passes_of _ _ _ tests.1.0;
+      left_out = passes_of _ _ _ tests.1.1.0;
+      left_in = passes_of _ _ _ tests.1.1.1.0;
+      clear_out = passes_of _ _ _ tests.1.1.1.1.0;
+      clear_in = passes_of _ _ _ tests.1.1.1.1.1.0;
     }
 
 pub record LinkFits (is_last : Bool) (l : Link) : Type 0 where
@@ -91,8 +91,8 @@ pub link_fits : (n i : ℕ) (l : Link) → link_ranges n i l ≡ None → LinkFi
 link_fits n i l e =
     let tests = each_none (link_tests n i l) e in
     record {
-      distance_out = passed _ _ _ tests.0;
-      distance_in = passed _ _ _ tests.1.0;
+      distance_out = passes_of _ _ _ tests.0;
+      distance_in = passes_of _ _ _ tests.1.0;
       speed_out = are_within least_speed most_speed l.speed_out (link_place i (codes "speed_out")) tests.1.1.0;
       speed_in = are_within least_speed most_speed l.speed_in (link_place i (codes "speed_in")) tests.1.1.1.0;
       change_out = change_within (i == n) l.change_out (link_place i (codes "change_out")) tests.1.1.1.1.0;
@@ -110,4 +110,4 @@ pub street_fits : (a : Street) → artery_fault a ≡ None → StreetFits a
 street_fits a e =
     let tests = each_none (first_fault (range_tests a) ∷ first_fault (rule_tests a) ∷ []) e in
     let ranges = each_none (range_tests a) tests.0 in
-    record { version = passed _ _ _ ranges.0; count = passed _ _ _ ranges.1.0; head = head_fits a.head ranges.1.1.0; signals = ranges.1.1.1.0; links = ranges.1.1.1.1.0 }
+    record { version = passes_of _ _ _ ranges.0; count = passes_of _ _ _ ranges.1.0; head = head_fits a.head ranges.1.1.0; signals = ranges.1.1.1.0; links = ranges.1.1.1.1.0 }

@@ -24,10 +24,11 @@ use Rattle.description_reader.specs.Quantity.{integer_in, number_in}
 use Rattle.description_reader.specs.Values.{items_in, text_in, flag_in}
 use Rattle.description_reader.specs.Streets.{u32_or_zero, pair_of, units_of, head_in, signal_in, link_in, street_in}
 use Rattle.description_reader.proofs.Views.{list_of_items}
-use Rattle.description_reader.proofs.CanonicalTests.{each_none, none_of, both_of}
+use Rattle.description_reader.proofs.CanonicalTests.{none_of, both_of}
 use Rattle.description_reader.proofs.CanonicalValues.{number_back, pair_back, u32_back, patterns_back}
 use Rattle.description_reader.proofs.CanonicalLimits.{IsChangeWithin, HeadFits, SignalFits, signal_fits, LinkFits, link_fits, StreetFits}
 use Rattle.description_reader.proofs.CanonicalKeys.{of_second, head_keys, link_keys}
+use Rattle.artery_model.proofs.Validity.{each_none}
 
 -- ---- sizes
 le_of : (n m : ℕ) → nat_le n m ≡ true → n ≤ m

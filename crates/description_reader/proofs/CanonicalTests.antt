@@ -4,9 +4,9 @@ use Rattle.std.specs.Prelude.{unwrap_or, option_map, if◌then◌else◌}
 use Rattle.std.specs.List.{All, list_all}
 use Rattle.std.proofs.lemmas.Bool.{true≢false}
 use Rattle.std.proofs.lemmas.List.Elements.{All-head, All-tail}
-use Rattle.std.proofs.lemmas.Option.{none-some}
 use Rattle.toml.specs.Data.{Data, array, no_items, Members, table, get}
 use Rattle.artery_model.specs.Faults.{Fault, first_fault, unless, each_numbered}
+use Rattle.artery_model.proofs.Validity.{AllNone, each_none}
 use Rattle.artery_model.specs.declared.kind.Kind.{Kind}
 use Rattle.artery_model.specs.declared.kind.Kind.TheVariants.{Missing, WrongType, BadNumber, OutOfRange}
 use Rattle.description_reader.specs.Checks.{meets, numbers_of, missing, value_fault, item_fault, items_fault, demands_fault}
@@ -26,26 +26,9 @@ use Rattle.description_reader.specs.declared.key_table.Presence.TheVariants.{Nee
 use Rattle.description_reader.specs.declared.place.Section.{Section}
 
 -- ---- lists of tests
-none_some : (f : Fault) → Some f ≡ None → ⊥
-none_some f e = none-some f (sym e)
-
--- every test passed
-abbrev pub AllNone : List (Option Fault) → Type 0
-AllNone [] = Unit {0}
-AllNone (f ∷ tests) = (f ≡ None) × AllNone tests
-
-pub each_none : (tests : List (Option Fault)) → first_fault tests ≡ None → AllNone tests
-each_none [] e = tt
-each_none (None ∷ tests) e = (refl, each_none tests e)
-each_none (Some f ∷ tests) e = absurd (none_some f e)
-
 pub none_of : (tests : List (Option Fault)) → AllNone tests → first_fault tests ≡ None
 none_of [] all = refl
 none_of (f ∷ tests) all = ap (λ o. first_fault (o ∷ tests)) all.0 ∙ none_of tests all.1
-
-pub passed : (b : Bool) (k : Kind) (place : List ℕ) → unless b k place ≡ None → b ≡ true
-passed true k place e = refl
-passed false k place e = absurd (none_some _ e)
 
 pub both_of : (a b : Bool) → (a && b) ≡ true → (a ≡ true) × (b ≡ true)
 both_of true true e = (refl, refl)

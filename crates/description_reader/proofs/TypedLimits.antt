@@ -11,7 +11,7 @@ use Rattle.artery_model.specs.Faults.{Fault, first_fault, unless, each_numbered}
 use Rattle.artery_model.specs.Valid.{IsQuantity}
 use Rattle.artery_model.specs.declared.kind.Kind.{Kind}
 use Rattle.artery_model.specs.declared.kind.Kind.TheVariants.{WrongType, OutOfRange}
-use Rattle.artery_model.proofs.Validity.{quantity_of}
+use Rattle.artery_model.proofs.Validity.{each_none, passes_of, quantity_of}
 use Rattle.description_reader.specs.Quantity.{number_in, integer_in}
 use Rattle.description_reader.specs.Values.{at_key, items_in}
 use Rattle.description_reader.specs.Checks.{meets, value_fault, item_fault, items_fault, demands_fault}
@@ -26,11 +26,11 @@ use Rattle.description_reader.specs.declared.place.Facts.{Facts}
 use Rattle.description_reader.specs.declared.place.Section.{Section}
 use Rattle.description_reader.specs.declared.place.Section.TheVariants.{Plan, PlanRoot}
 use Rattle.description_reader.proofs.CanonicalValues.{u32_back}
-use Rattle.description_reader.proofs.CanonicalTests.{each_none, none_of, passed, both_of}
+use Rattle.description_reader.proofs.CanonicalTests.{none_of, both_of}
 
 -- ---- one value
 there : (o : Option Data) (k : Kind) (place : List ℕ) → unless (is_some o) k place ≡ None → is_some o ≡ true
-there o k place e = passed (is_some o) k place e
+there o k place e = passes_of (is_some o) k place e
 
 table_there : (parts : ℤ) (o : Option Data) → is_some o ≡ true → unwrap_or (option_map (meets parts Table) o) true ≡ true → is_some (as_table (unwrap_or o (array no_items))) ≡ true
 table_there parts None h e = absurd (true≢false (sym h))
@@ -48,7 +48,7 @@ module _ (parts : ℤ) (section : Section) (name : List ℕ) where
   all_within low high i [] e = All-nil _
   all_within low high i (d ∷ ds) e =
       let both = each_none (item_fault OutOfRange parts section (Within low high) name i d ∷ each_numbered (item_fault OutOfRange parts section (Within low high) name) (i + 1) ds) e in
-      All-cons (IsQuantity low high) (number_in d) (map number_in ds) (quantity_of low high (number_in d) (passed _ _ _ both.0)) (all_within low high (i + 1) ds (none_of _ both.1))
+      All-cons (IsQuantity low high) (number_in d) (map number_in ds) (quantity_of low high (number_in d) (passes_of _ _ _ both.0)) (all_within low high (i + 1) ds (none_of _ both.1))
 
 -- ---- where a file has a key
 where_true : (b : Bool) (f : Option Fault) → b ≡ true → (if b then f else None) ≡ None → f ≡ None
@@ -72,7 +72,7 @@ module _ (parts : ℤ) (section : Section) (name : List ℕ) where
   all_between i [] e = All-nil _
   all_between i (d ∷ ds) e =
       let both = each_none (item_fault OutOfRange parts section (Between (pos 1) (pos 4)) name i d ∷ each_numbered (item_fault OutOfRange parts section (Between (pos 1) (pos 4)) name) (i + 1) ds) e in
-      All-cons (λ n. (1 ≤ n) × (n ≤ 4)) (u32_or_zero (integer_in d)) (map (λ v. u32_or_zero (integer_in v)) ds) (between (integer_in d) (passed _ _ _ both.0)) (all_between (i + 1) ds (none_of _ both.1))
+      All-cons (λ n. (1 ≤ n) × (n ≤ 4)) (u32_or_zero (integer_in d)) (map (λ v. u32_or_zero (integer_in v)) ds) (between (integer_in d) (passes_of _ _ _ both.0)) (all_between (i + 1) ds (none_of _ both.1))
 
 -- ---- the keys of a plan
 module _ (parts : ℤ) (section : Section) (d : Data) where
@@ -93,7 +93,7 @@ module _ (parts : ℤ) (section : Section) (d : Data) where
   unfolding value_fault items_fault
   cycle_within name low high h e =
       let tests = each_none (value_fault OutOfRange parts section (Within low high) name d ∷ items_fault OutOfRange parts section Anything name d ∷ []) e in
-      number_there parts low high (get name d) h (passed _ _ _ tests.0)
+      number_there parts low high (get name d) h (passes_of _ _ _ tests.0)
 
   -- speeds where no times of travel are given, and these where they are
   measured_within : (timed : Bool) (speed travel : List ℕ)
@@ -126,7 +126,7 @@ plan_there facts root needed typed h =
     let tests = each_none (map (key_fault Types facts PlanRoot root) (keys_of PlanRoot)) (where_true _ _ h typed) in
     let named = there (get (codes "plan") root) _ _ needs.1.0 in
     let types = each_none (value_fault WrongType facts.parts PlanRoot Table (codes "plan") root ∷ items_fault WrongType facts.parts PlanRoot Anything (codes "plan") root ∷ []) tests.1.0 in
-    (named, table_there facts.parts (get (codes "plan") root) named (passed _ _ _ types.0))
+    (named, table_there facts.parts (get (codes "plan") root) named (passes_of _ _ _ types.0))
 
 pub limits : (root : Data) → is_some (as_table root) ≡ true → plan_fault root ≡ None → IsTyped (typed_in root)
 limits root h e =

@@ -1,6 +1,7 @@
 pub mod Canonical
 pub mod Checks
 pub mod Described
+pub mod Inside
 pub mod Judgement
 pub mod KeyTable
 pub mod Keys

@@ -5,7 +5,7 @@ ghost use Rattle.toml.specs.Data.{get, array, no_items};
 ghost use Rattle.toml.specs.View.{view};
 ghost use Rattle.progression.specs.Street.{no_pair};
 ghost use Rattle.description_reader.specs.Quantity.{number_in};
-ghost use Rattle.description_reader.specs.Streets.{u32_or_zero, u32_at, pair_of, pair_at, has_number, patterns_of, change_at, units_of, version_of, head_in, signal_in, link_in};
+ghost use Rattle.description_reader.specs.Streets.{u32_or_zero, u32_at, pair_of, pair_at, has_number, patterns_of, change_at, version_of, head_in, signal_in, link_in};
 ghost use Rattle.description_reader.specs.Values.{at_key, text_in};
 
 use crate::quantity::{integer_in, number_in};
@@ -123,16 +123,6 @@ fn name_at(alloc: Global, table: &Value) -> Result<Option<Text>, AllocError>
     }
 }
 
-fn units_of(text: &str) -> Units
-    ensures { result ≡ units_of text.now }
-{
-    if text == "english" {
-        Units::English
-    } else {
-        Units::Metric
-    }
-}
-
 fn no_head(version: u32) -> Head
     ensures { result ≡ head_in version (array no_items) }
 {
@@ -152,9 +142,14 @@ fn no_head(version: u32) -> Head
 fn head_of(alloc: Global, version: u32, table: &Value) -> Result<Head, AllocError>
     ensures { IfOk result (λ h. h ≡ head_in version (view table.now)) }
 {
+    let units = if text_at(table, "units") == "english" {
+        Units::English
+    } else {
+        Units::Metric
+    };
     Ok(Head {
         name: name_at(alloc, table)?,
-        units: units_of(text_at(table, "units")),
+        units,
         version,
         parts: u32_at(table, "parts"),
         cycle: pair_at(table, "cycle"),

@@ -61,156 +61,132 @@ fn numbers_of(types: Demands) -> Demands
     }
 }
 
-/// Refuses a table for one kind of fault of the value at a key.
-fn check_kind(
-    alloc: Global,
-    stage: Stage,
-    parts: i64,
-    section: Section,
-    entry: &Entry,
-    table: &Value,
-) -> Result<(), Flaw>
-    ensures { Judges result (kind_fault stage parts section (view table.now) (key_of entry.now)) }
-{
-    match stage {
-        Stage::Keys => Ok(()),
-        Stage::Needed => check_needed(alloc, entry.presence, section, entry.name, table),
-        Stage::Types => TableCheck::new(alloc, Kind::WrongType, parts, section, table).demands(
-            entry.types,
-            entry.name,
-        ),
-        Stage::Numbers => TableCheck::new(alloc, Kind::BadNumber, parts, section, table).demands(
-            numbers_of(entry.types),
-            entry.name,
-        ),
-        Stage::Ranges => TableCheck::new(alloc, Kind::OutOfRange, parts, section, table).demands(
-            entry.ranges,
-            entry.name,
-        ),
-    }
-}
-
-/// Refuses a table for one kind of fault of the value at a key that such a file has.
-fn check_key(
+/// The search for one kind of fault in a file.
+#[derive(Clone, Copy)]
+struct Search {
     alloc: Global,
     stage: Stage,
     facts: Facts,
-    section: Section,
-    entry: &Entry,
-    table: &Value,
-) -> Result<(), Flaw>
-    ensures { Judges result (key_fault stage facts section (view table.now) (key_of entry.now)) }
-{
-    if is_in(facts, entry.when) {
-        check_kind(alloc, stage, facts.parts, section, entry, table)
-    } else {
+}
+
+impl Search {
+    /// The tests of a table's values that refuse by this kind.
+    fn tests<'a>(self, kind: Kind, section: Section, table: &'a Value) -> TableCheck<'a>
+        ensures kind { result.kind ≡ kind }
+        ensures parts { result.parts ≡ self.facts.parts }
+        ensures section { result.section ≡ section }
+        ensures table { result.table.now ≡ table.now }
+    {
+        TableCheck::new(self.alloc, kind, self.facts.parts, section, table)
+    }
+
+    /// Refuses a table for a fault of the value at a key.
+    fn value(self, section: Section, entry: &Entry, table: &Value) -> Result<(), Flaw>
+        ensures { Judges result (kind_fault self.stage self.facts.parts section (view table.now) (key_of entry.now)) }
+    {
+        match self.stage {
+            Stage::Keys => Ok(()),
+            Stage::Needed => check_needed(self.alloc, entry.presence, section, entry.name, table),
+            Stage::Types => {
+                let tests = self.tests(Kind::WrongType, section, table);
+                tests.demands(entry.types, entry.name)
+            }
+            Stage::Numbers => {
+                let tests = self.tests(Kind::BadNumber, section, table);
+                tests.demands(numbers_of(entry.types), entry.name)
+            }
+            Stage::Ranges => {
+                let tests = self.tests(Kind::OutOfRange, section, table);
+                tests.demands(entry.ranges, entry.name)
+            }
+        }
+    }
+
+    /// The same at a key that such a file has.
+    fn key(self, section: Section, entry: &Entry, table: &Value) -> Result<(), Flaw>
+        ensures { Judges result (key_fault self.stage self.facts section (view table.now) (key_of entry.now)) }
+    {
+        if is_in(self.facts, entry.when) {
+            self.value(section, entry, table)
+        } else {
+            Ok(())
+        }
+    }
+
+    fn each_key(self, section: Section, table: &Value) -> Result<(), Flaw>
+        ensures { Judges result (first_fault (map (key_fault self.stage self.facts section (view table.now)) (keys_of section))) }
+    {
+        for entry in entries(section) {
+            self.key(section, entry, table)?;
+        }
         Ok(())
     }
-}
 
-fn check_each_key(
-    alloc: Global,
-    stage: Stage,
-    facts: Facts,
-    section: Section,
-    table: &Value,
-) -> Result<(), Flaw>
-    ensures { Judges result (first_fault (map (key_fault stage facts section (view table.now)) (keys_of section))) }
-{
-    for entry in entries(section) {
-        check_key(alloc, stage, facts, section, entry, table)?;
+    fn table(self, section: Section, table: &Value) -> Result<(), Flaw>
+        ensures { Judges result (table_fault self.stage self.facts section (view table.now)) }
+    {
+        match self.stage {
+            Stage::Keys => check_keys(self.alloc, self.facts, section, table),
+            _ => self.each_key(section, table),
+        }
     }
-    Ok(())
-}
 
-fn check_table(
-    alloc: Global,
-    stage: Stage,
-    facts: Facts,
-    section: Section,
-    table: &Value,
-) -> Result<(), Flaw>
-    ensures { Judges result (table_fault stage facts section (view table.now)) }
-{
-    match stage {
-        Stage::Keys => check_keys(alloc, facts, section, table),
-        _ => check_each_key(alloc, stage, facts, section, table),
+    /// Looks into a value that is a table.
+    fn look_into(self, section: Section, value: &Value) -> Result<(), Flaw>
+        ensures { Judges result (in_table self.stage self.facts section (view value.now)) }
+    {
+        if value.is_table() {
+            self.table(section, value)
+        } else {
+            Ok(())
+        }
     }
-}
 
-/// Looks into a value that is a table.
-fn look_into(
-    alloc: Global,
-    stage: Stage,
-    facts: Facts,
-    section: Section,
-    value: &Value,
-) -> Result<(), Flaw>
-    ensures { Judges result (in_table stage facts section (view value.now)) }
-{
-    if value.is_table() {
-        check_table(alloc, stage, facts, section, value)
-    } else {
+    /// Looks into the table at a key of the root, where there is one.
+    fn part(self, section: Section, root: &Value, key: &str) -> Result<(), Flaw>
+        ensures { Judges result (in_table self.stage self.facts section (at_key (view root.now) key.now)) }
+    {
+        match value_at(root, key) {
+            Some(part) => self.look_into(section, part),
+            None => Ok(()),
+        }
+    }
+
+    fn signals(self, signals: &[Value]) -> Result<(), Flaw>
+        ensures { Judges result (first_fault (each_numbered (λ i. in_table self.stage self.facts (Section.Signal i)) 1 (map view signals.now))) }
+    {
+        for (index, signal) in signals.iter().enumerate() {
+            self.look_into(Section::Signal(index + 1), signal)?;
+        }
         Ok(())
     }
-}
 
-/// Looks into the table at a key of the root, where there is one.
-fn look_into_part(
-    alloc: Global,
-    stage: Stage,
-    facts: Facts,
-    section: Section,
-    root: &Value,
-    key: &str,
-) -> Result<(), Flaw>
-    ensures { Judges result (in_table stage facts section (at_key (view root.now) key.now)) }
-{
-    match value_at(root, key) {
-        Some(part) => look_into(alloc, stage, facts, section, part),
-        None => Ok(()),
+    fn links(self, links: &[Value]) -> Result<(), Flaw>
+        ensures { Judges result (first_fault (each_numbered (λ i. in_table self.stage self.facts (Section.Link i)) 1 (map view links.now))) }
+    {
+        for (index, link) in links.iter().enumerate() {
+            self.look_into(Section::Link(index + 1), link)?;
+        }
+        Ok(())
     }
-}
 
-fn look_into_signals(
-    alloc: Global,
-    stage: Stage,
-    facts: Facts,
-    signals: &[Value],
-) -> Result<(), Flaw>
-    ensures { Judges result (first_fault (each_numbered (λ i. in_table stage facts (Section.Signal i)) 1 (map view signals.now))) }
-{
-    for (index, signal) in signals.iter().enumerate() {
-        look_into(alloc, stage, facts, Section::Signal(index + 1), signal)?;
+    /// Refuses a description with a fault of this kind, at its first place.
+    fn description(self, root: &Value) -> Result<(), Flaw>
+        ensures { Judges result (first_fault (stage_tests Form.Description self.stage self.facts (view root.now))) }
+    {
+        self.look_into(Section::Root, root)?;
+        self.part(Section::Artery, root, "artery")?;
+        self.signals(items_at(root, "signal"))?;
+        self.links(items_at(root, "link"))
     }
-    Ok(())
-}
 
-fn look_into_links(alloc: Global, stage: Stage, facts: Facts, links: &[Value]) -> Result<(), Flaw>
-    ensures { Judges result (first_fault (each_numbered (λ i. in_table stage facts (Section.Link i)) 1 (map view links.now))) }
-{
-    for (index, link) in links.iter().enumerate() {
-        look_into(alloc, stage, facts, Section::Link(index + 1), link)?;
+    /// The same of a plan.
+    fn plan(self, root: &Value) -> Result<(), Flaw>
+        ensures { Judges result (first_fault (stage_tests Form.Plan self.stage self.facts (view root.now))) }
+    {
+        self.look_into(Section::PlanRoot, root)?;
+        self.part(Section::Plan, root, "plan")
     }
-    Ok(())
-}
-
-/// Refuses a description with a fault of one kind, at its first place.
-fn check_description(alloc: Global, stage: Stage, facts: Facts, root: &Value) -> Result<(), Flaw>
-    ensures { Judges result (first_fault (stage_tests Form.Description stage facts (view root.now))) }
-{
-    look_into(alloc, stage, facts, Section::Root, root)?;
-    look_into_part(alloc, stage, facts, Section::Artery, root, "artery")?;
-    look_into_signals(alloc, stage, facts, items_at(root, "signal"))?;
-    look_into_links(alloc, stage, facts, items_at(root, "link"))
-}
-
-/// The same of a plan.
-fn check_plan(alloc: Global, stage: Stage, facts: Facts, root: &Value) -> Result<(), Flaw>
-    ensures { Judges result (first_fault (stage_tests Form.Plan stage facts (view root.now))) }
-{
-    look_into(alloc, stage, facts, Section::PlanRoot, root)?;
-    look_into_part(alloc, stage, facts, Section::Plan, root, "plan")
 }
 
 fn check_stage(
@@ -222,9 +198,14 @@ fn check_stage(
 ) -> Result<(), Flaw>
     ensures { Judges result (first_fault (stage_tests form stage facts (view root.now))) }
 {
+    let search = Search {
+        alloc,
+        stage,
+        facts,
+    };
     match form {
-        Form::Description => check_description(alloc, stage, facts, root),
-        Form::Plan => check_plan(alloc, stage, facts, root),
+        Form::Description => search.description(root),
+        Form::Plan => search.plan(root),
     }
 }
 

@@ -3,8 +3,13 @@
 ghost use Rattle.std.specs.Prelude.{◌≡◌, map};
 ghost use Rattle.description_reader.specs.KeyTable.{key_of, keys_of, is_in};
 
-use crate::demand::Demand;
+use crate::demand::Demand::{
+    self, Anything, Array, BelowParts, Between, Boolean, Integer, Length, Name, Quantity,
+    Reference, Table, Text, Units, Within,
+};
 use crate::place::{Facts, Section};
+use Presence::{Needed, NotLast, Optional};
+use When::{Always, First, Second, SpeedIn, SpeedOut, TravelIn, TravelOut};
 use artery_model::bounds::{
     FIRST_VERSION, LEAST_CHANGE, LEAST_CYCLE, LEAST_DISTANCE, LEAST_PARTS, LEAST_RATIO,
     LEAST_SHARE, LEAST_SIGNALS, LEAST_SPEED, MOST_CHANGE, MOST_CYCLE, MOST_DISTANCE,
@@ -72,433 +77,130 @@ pub struct Entry {
 /// The longest time of travel on a link of a plan, in seconds.
 pub const MOST_TRAVEL: i64 = 100_000;
 
-/// No demand.
-const FREE: Demands = Demands {
-    value: Demand::Anything,
-    item: Demand::Anything,
-};
+/// A demand of a value, and one of each of its items.
+macro_rules! both {
+    ($value:expr, $item:expr) => {
+        Demands {
+            value: $value,
+            item: $item,
+        }
+    };
+}
 
-// Types.
-const INTEGER: Demands = Demands {
-    value: Demand::Integer,
-    item: Demand::Anything,
-};
+/// A demand of a value, and none of its items.
+macro_rules! alone {
+    ($value:expr) => {
+        both!($value, Anything)
+    };
+}
 
-const BOOLEAN: Demands = Demands {
-    value: Demand::Boolean,
-    item: Demand::Anything,
-};
+/// A demand of each item.
+macro_rules! items {
+    ($item:expr) => {
+        both!(Anything, $item)
+    };
+}
 
-const TEXT: Demands = Demands {
-    value: Demand::Text,
-    item: Demand::Anything,
-};
+/// A key that some files have.
+macro_rules! key_when {
+    ($when:expr, $name:literal, $presence:expr, $types:expr, $ranges:expr) => {
+        Entry {
+            name: $name,
+            when: $when,
+            presence: $presence,
+            types: $types,
+            ranges: $ranges,
+        }
+    };
+}
 
-const QUANTITY: Demands = Demands {
-    value: Demand::Quantity,
-    item: Demand::Anything,
-};
+/// A key that each file has.
+macro_rules! key {
+    ($name:literal, $presence:expr, $types:expr, $ranges:expr) => {
+        key_when!(Always, $name, $presence, $types, $ranges)
+    };
+}
 
-const TABLE: Demands = Demands {
-    value: Demand::Table,
-    item: Demand::Anything,
-};
+const TABLES: Demands = both!(Array, Table);
 
-const TABLES: Demands = Demands {
-    value: Demand::Array,
-    item: Demand::Table,
-};
+const TWO_QUANTITIES: Demands = both!(Length(2, 2), Quantity);
 
-const INTEGERS: Demands = Demands {
-    value: Demand::Array,
-    item: Demand::Integer,
-};
+const QUANTITIES: Demands = both!(Array, Quantity);
 
-const QUANTITIES: Demands = Demands {
-    value: Demand::Array,
-    item: Demand::Quantity,
-};
+const VERSIONS: Demand = Between(FIRST_VERSION as i64, SECOND_VERSION as i64);
 
-const TWO_QUANTITIES: Demands = Demands {
-    value: Demand::Length(2, 2),
-    item: Demand::Quantity,
-};
+const PARTS: Demand = Between(LEAST_PARTS as i64, MOST_PARTS as i64);
 
-// Limits.
-const VERSION: Demands = Demands {
-    value: Demand::Between(FIRST_VERSION as i64, SECOND_VERSION as i64),
-    item: Demand::Anything,
-};
+const CYCLE: Demand = Within(LEAST_CYCLE, MOST_CYCLE);
 
-const FIRST_SIGNALS: Demands = Demands {
-    value: Demand::Length(LEAST_SIGNALS, MOST_FIRST_SIGNALS),
-    item: Demand::Anything,
-};
+const SHARE: Demand = Within(LEAST_SHARE, MOST_SHARE);
 
-const SIGNALS: Demands = Demands {
-    value: Demand::Length(LEAST_SIGNALS, MOST_SIGNALS),
-    item: Demand::Anything,
-};
+const SPEED: Demand = Within(LEAST_SPEED, MOST_SPEED);
 
-const NAME: Demands = Demands {
-    value: Demand::Name,
-    item: Demand::Anything,
-};
+const CHANGE: Demand = Within(LEAST_CHANGE, MOST_CHANGE);
 
-const UNITS: Demands = Demands {
-    value: Demand::Units,
-    item: Demand::Anything,
-};
+const TRAVEL: Demand = Within(0, MOST_TRAVEL);
 
-const PARTS: Demands = Demands {
-    value: Demand::Between(LEAST_PARTS as i64, MOST_PARTS as i64),
-    item: Demand::Anything,
-};
-
-const CYCLE: Demands = Demands {
-    value: Demand::Anything,
-    item: Demand::Within(LEAST_CYCLE, MOST_CYCLE),
-};
-
-const RATIO: Demands = Demands {
-    value: Demand::Within(LEAST_RATIO, MOST_RATIO),
-    item: Demand::Anything,
-};
-
-const SHARE: Demands = Demands {
-    value: Demand::Within(LEAST_SHARE, MOST_SHARE),
-    item: Demand::Anything,
-};
-
-const RED: Demands = Demands {
-    value: Demand::BelowParts(1),
-    item: Demand::Anything,
-};
-
-const TURN: Demands = Demands {
-    value: Demand::BelowParts(0),
-    item: Demand::Anything,
-};
-
-const PATTERNS: Demands = Demands {
-    value: Demand::Anything,
-    item: Demand::Between(1, 4),
-};
-
-const DISTANCE: Demands = Demands {
-    value: Demand::Between(LEAST_DISTANCE as i64, MOST_DISTANCE as i64),
-    item: Demand::Anything,
-};
-
-const SPEED: Demands = Demands {
-    value: Demand::Anything,
-    item: Demand::Within(LEAST_SPEED, MOST_SPEED),
-};
-
-const CHANGE: Demands = Demands {
-    value: Demand::Anything,
-    item: Demand::Within(LEAST_CHANGE, MOST_CHANGE),
-};
-
-const PLAN_VERSION: Demands = Demands {
-    value: Demand::Between(1, 1),
-    item: Demand::Anything,
-};
-
-const PLAN_CYCLE: Demands = Demands {
-    value: Demand::Within(LEAST_CYCLE, MOST_CYCLE),
-    item: Demand::Anything,
-};
-
-const OFFSET: Demands = Demands {
-    value: Demand::Anything,
-    item: Demand::Within(0, MOST_CYCLE),
-};
-
-const REFERENCE: Demands = Demands {
-    value: Demand::Reference,
-    item: Demand::Anything,
-};
-
-const TRAVEL: Demands = Demands {
-    value: Demand::Anything,
-    item: Demand::Within(0, MOST_TRAVEL),
-};
+const DISTANCE: Demand = Between(LEAST_DISTANCE as i64, MOST_DISTANCE as i64);
 
 /// The keys of the root of a description.
 const ROOT: [Entry; 5] = [
-    Entry {
-        name: "version",
-        when: When::Always,
-        presence: Presence::Optional,
-        types: INTEGER,
-        ranges: VERSION,
-    },
-    Entry {
-        name: "artery",
-        when: When::Always,
-        presence: Presence::Needed,
-        types: TABLE,
-        ranges: FREE,
-    },
-    Entry {
-        name: "signal",
-        when: When::First,
-        presence: Presence::Needed,
-        types: TABLES,
-        ranges: FIRST_SIGNALS,
-    },
-    Entry {
-        name: "signal",
-        when: When::Second,
-        presence: Presence::Needed,
-        types: TABLES,
-        ranges: SIGNALS,
-    },
-    Entry {
-        name: "link",
-        when: When::Always,
-        presence: Presence::Needed,
-        types: TABLES,
-        ranges: FREE,
-    },
+    key!("version", Optional, alone!(Integer), alone!(VERSIONS)),
+    key!("artery", Needed, alone!(Table), alone!(Anything)),
+    key_when!(First, "signal", Needed, TABLES, alone!(Length(LEAST_SIGNALS, MOST_FIRST_SIGNALS))),
+    key_when!(Second, "signal", Needed, TABLES, alone!(Length(LEAST_SIGNALS, MOST_SIGNALS))),
+    key!("link", Needed, TABLES, alone!(Anything)),
 ];
 
 /// The keys of the table `artery`.
 const ARTERY: [Entry; 8] = [
-    Entry {
-        name: "name",
-        when: When::Always,
-        presence: Presence::Optional,
-        types: TEXT,
-        ranges: NAME,
-    },
-    Entry {
-        name: "units",
-        when: When::Always,
-        presence: Presence::Needed,
-        types: TEXT,
-        ranges: UNITS,
-    },
-    Entry {
-        name: "parts",
-        when: When::Always,
-        presence: Presence::Needed,
-        types: INTEGER,
-        ranges: PARTS,
-    },
-    Entry {
-        name: "cycle",
-        when: When::Always,
-        presence: Presence::Needed,
-        types: TWO_QUANTITIES,
-        ranges: CYCLE,
-    },
-    Entry {
-        name: "ratio",
-        when: When::Always,
-        presence: Presence::Needed,
-        types: QUANTITY,
-        ranges: RATIO,
-    },
-    Entry {
-        name: "least_out",
-        when: When::Second,
-        presence: Presence::Optional,
-        types: QUANTITY,
-        ranges: SHARE,
-    },
-    Entry {
-        name: "least_in",
-        when: When::Second,
-        presence: Presence::Optional,
-        types: QUANTITY,
-        ranges: SHARE,
-    },
-    Entry {
-        name: "equal",
-        when: When::Second,
-        presence: Presence::Optional,
-        types: BOOLEAN,
-        ranges: FREE,
-    },
+    key!("name", Optional, alone!(Text), alone!(Name)),
+    key!("units", Needed, alone!(Text), alone!(Units)),
+    key!("parts", Needed, alone!(Integer), alone!(PARTS)),
+    key!("cycle", Needed, TWO_QUANTITIES, items!(CYCLE)),
+    key!("ratio", Needed, alone!(Quantity), alone!(Within(LEAST_RATIO, MOST_RATIO))),
+    key_when!(Second, "least_out", Optional, alone!(Quantity), alone!(SHARE)),
+    key_when!(Second, "least_in", Optional, alone!(Quantity), alone!(SHARE)),
+    key_when!(Second, "equal", Optional, alone!(Boolean), alone!(Anything)),
 ];
 
 /// The keys of a signal.
 const SIGNAL: [Entry; 7] = [
-    Entry {
-        name: "name",
-        when: When::Always,
-        presence: Presence::Needed,
-        types: TEXT,
-        ranges: NAME,
-    },
-    Entry {
-        name: "red",
-        when: When::Always,
-        presence: Presence::Needed,
-        types: INTEGER,
-        ranges: RED,
-    },
-    Entry {
-        name: "left_out",
-        when: When::Always,
-        presence: Presence::Optional,
-        types: INTEGER,
-        ranges: TURN,
-    },
-    Entry {
-        name: "left_in",
-        when: When::Always,
-        presence: Presence::Optional,
-        types: INTEGER,
-        ranges: TURN,
-    },
-    Entry {
-        name: "patterns",
-        when: When::Always,
-        presence: Presence::Optional,
-        types: INTEGERS,
-        ranges: PATTERNS,
-    },
-    Entry {
-        name: "clear_out",
-        when: When::Always,
-        presence: Presence::Optional,
-        types: INTEGER,
-        ranges: TURN,
-    },
-    Entry {
-        name: "clear_in",
-        when: When::Always,
-        presence: Presence::Optional,
-        types: INTEGER,
-        ranges: TURN,
-    },
+    key!("name", Needed, alone!(Text), alone!(Name)),
+    key!("red", Needed, alone!(Integer), alone!(BelowParts(1))),
+    key!("left_out", Optional, alone!(Integer), alone!(BelowParts(0))),
+    key!("left_in", Optional, alone!(Integer), alone!(BelowParts(0))),
+    key!("patterns", Optional, both!(Array, Integer), items!(Between(1, 4))),
+    key!("clear_out", Optional, alone!(Integer), alone!(BelowParts(0))),
+    key!("clear_in", Optional, alone!(Integer), alone!(BelowParts(0))),
 ];
 
 /// The keys of a link.
 const LINK: [Entry; 6] = [
-    Entry {
-        name: "distance_out",
-        when: When::Always,
-        presence: Presence::Needed,
-        types: INTEGER,
-        ranges: DISTANCE,
-    },
-    Entry {
-        name: "distance_in",
-        when: When::Always,
-        presence: Presence::Needed,
-        types: INTEGER,
-        ranges: DISTANCE,
-    },
-    Entry {
-        name: "speed_out",
-        when: When::Always,
-        presence: Presence::Needed,
-        types: TWO_QUANTITIES,
-        ranges: SPEED,
-    },
-    Entry {
-        name: "speed_in",
-        when: When::Always,
-        presence: Presence::Needed,
-        types: TWO_QUANTITIES,
-        ranges: SPEED,
-    },
-    Entry {
-        name: "change_out",
-        when: When::Always,
-        presence: Presence::NotLast,
-        types: TWO_QUANTITIES,
-        ranges: CHANGE,
-    },
-    Entry {
-        name: "change_in",
-        when: When::Always,
-        presence: Presence::NotLast,
-        types: TWO_QUANTITIES,
-        ranges: CHANGE,
-    },
+    key!("distance_out", Needed, alone!(Integer), alone!(DISTANCE)),
+    key!("distance_in", Needed, alone!(Integer), alone!(DISTANCE)),
+    key!("speed_out", Needed, TWO_QUANTITIES, items!(SPEED)),
+    key!("speed_in", Needed, TWO_QUANTITIES, items!(SPEED)),
+    key!("change_out", NotLast, TWO_QUANTITIES, items!(CHANGE)),
+    key!("change_in", NotLast, TWO_QUANTITIES, items!(CHANGE)),
 ];
 
 /// The keys of the root of a plan.
 const PLAN_ROOT: [Entry; 2] = [
-    Entry {
-        name: "version",
-        when: When::Always,
-        presence: Presence::Optional,
-        types: INTEGER,
-        ranges: PLAN_VERSION,
-    },
-    Entry {
-        name: "plan",
-        when: When::Always,
-        presence: Presence::Needed,
-        types: TABLE,
-        ranges: FREE,
-    },
+    key!("version", Optional, alone!(Integer), alone!(Between(1, 1))),
+    key!("plan", Needed, alone!(Table), alone!(Anything)),
 ];
 
 /// The keys of the table `plan`. Of each direction it has either speeds or times of travel.
 const PLAN: [Entry; 8] = [
-    Entry {
-        name: "cycle",
-        when: When::Always,
-        presence: Presence::Needed,
-        types: QUANTITY,
-        ranges: PLAN_CYCLE,
-    },
-    Entry {
-        name: "offset",
-        when: When::Always,
-        presence: Presence::Needed,
-        types: QUANTITIES,
-        ranges: OFFSET,
-    },
-    Entry {
-        name: "reference",
-        when: When::Always,
-        presence: Presence::Optional,
-        types: TEXT,
-        ranges: REFERENCE,
-    },
-    Entry {
-        name: "patterns",
-        when: When::Always,
-        presence: Presence::Needed,
-        types: INTEGERS,
-        ranges: PATTERNS,
-    },
-    Entry {
-        name: "speed_out",
-        when: When::SpeedOut,
-        presence: Presence::Needed,
-        types: QUANTITIES,
-        ranges: SPEED,
-    },
-    Entry {
-        name: "travel_out",
-        when: When::TravelOut,
-        presence: Presence::Needed,
-        types: QUANTITIES,
-        ranges: TRAVEL,
-    },
-    Entry {
-        name: "speed_in",
-        when: When::SpeedIn,
-        presence: Presence::Needed,
-        types: QUANTITIES,
-        ranges: SPEED,
-    },
-    Entry {
-        name: "travel_in",
-        when: When::TravelIn,
-        presence: Presence::Needed,
-        types: QUANTITIES,
-        ranges: TRAVEL,
-    },
+    key!("cycle", Needed, alone!(Quantity), alone!(CYCLE)),
+    key!("offset", Needed, QUANTITIES, items!(Within(0, MOST_CYCLE))),
+    key!("reference", Optional, alone!(Text), alone!(Reference)),
+    key!("patterns", Needed, both!(Array, Integer), items!(Between(1, 4))),
+    key_when!(SpeedOut, "speed_out", Needed, QUANTITIES, items!(SPEED)),
+    key_when!(TravelOut, "travel_out", Needed, QUANTITIES, items!(TRAVEL)),
+    key_when!(SpeedIn, "speed_in", Needed, QUANTITIES, items!(SPEED)),
+    key_when!(TravelIn, "travel_in", Needed, QUANTITIES, items!(TRAVEL)),
 ];
 
 /// The keys of a section, in the order in which their faults are looked for. A file has those of them that are `is_in` it.

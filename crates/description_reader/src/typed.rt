@@ -43,27 +43,11 @@ impl Model for TypedPlan {
 
     ghost Value = { Typed };
 
-    ghost view = { λ p. record {
-      cycle = p.cycle;
-      offsets = p.offsets.items;
-      reference = p.reference;
-      patterns = p.patterns.items;
-      measure_out = p.measure_out;
-      out = p.out.items;
-      measure_in = p.measure_in;
-      back = p.back.items;
-    } };
+    ghost use Rattle.description_reader.specs.Inside.{typed_of};
 
-    ghost invariant = { λ p. IsTyped (record {
-      cycle = p.cycle;
-      offsets = p.offsets.items;
-      reference = p.reference;
-      patterns = p.patterns.items;
-      measure_out = p.measure_out;
-      out = p.out.items;
-      measure_in = p.measure_in;
-      back = p.back.items;
-    }) };
+    ghost view = { typed_of };
+
+    ghost invariant = { λ p. IsTyped (typed_of p) };
 }
 
 impl TypedPlan {
@@ -233,6 +217,7 @@ fn judge(alloc: Global, root: &Value) -> Result<TypedPlan, Flaw>
 /// Reads a plan as people type it, a TOML document. `Refused` comes exactly where the bytes give none, and names the kind and the
 /// place of their first fault, in the order of `Kind` and of one kind in the order of the places; `Memory` may come in place of
 /// any answer.
+#[tactic(auto, using(crate::proofs::Answers::read_of, crate::proofs::Answers::refused_of, crate::proofs::Answers::unread_by))]
 pub fn read_plan(alloc: Global, bytes: &[u8]) -> Result<TypedPlan, Flaw>
     ensures plan { IfOk result (λ p. GivesPlan bytes.now p) }
     ensures refused { IfErr result (λ e. RefusesBy plan_fault bytes.now e) }

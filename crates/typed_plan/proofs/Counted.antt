@@ -5,8 +5,8 @@ use Rattle.std.specs.Prelude.{None, codes, [], ◌∷◌}
 use Rattle.progression.specs.Street.{Street, count}
 use Rattle.progression.specs.declared.parts.Dir.TheVariants.{Outbound, Inbound}
 use Rattle.description_reader.specs.Typed.{Typed, measured}
-use Rattle.description_reader.proofs.CanonicalTests.{each_none, passed}
 use Rattle.typed_plan.specs.Counts.{counted, links_counted, count_fault, HasCounts}
+use Rattle.artery_model.proofs.Validity.{each_none, passes_of}
 
 same_of : (n m : ℕ) → (n == m) ≡ true → n ≡ m
 same_of n m e = grind (arith, nat_tests)
@@ -23,10 +23,10 @@ has_counts a p some e =
     ∷ links_counted a p Inbound
     ∷ []) e in
     record {
-      offsets = same_of _ _ (passed _ _ _ tests.0);
-      patterns = same_of _ _ (passed _ _ _ tests.1.0);
+      offsets = same_of _ _ (passes_of _ _ _ tests.0);
+      patterns = same_of _ _ (passes_of _ _ _ tests.1.0);
       links = λ d. elim d as (λ d. length (measured p d) + 1 ≡ count a) [
-        | Outbound ↦ one_more (length (measured p Outbound)) (count a) some (same_of _ _ (passed _ _ _ tests.1.1.0))
-        | Inbound ↦ one_more (length (measured p Inbound)) (count a) some (same_of _ _ (passed _ _ _ tests.1.1.1.0))
+        | Outbound ↦ one_more (length (measured p Outbound)) (count a) some (same_of _ _ (passes_of _ _ _ tests.1.1.0))
+        | Inbound ↦ one_more (length (measured p Inbound)) (count a) some (same_of _ _ (passes_of _ _ _ tests.1.1.1.0))
       ];
     }

@@ -33,6 +33,13 @@ use Rattle.typed_plan.proofs.Shared.{over_divides, shared_above, has_part, has_a
 use Rattle.typed_plan.proofs.Ticks.{cross_of, nat_ratio, same_over, over_ticks, ticks_up, cycle_of_parts, part_of_cycle}
 
 -- ---- doubling
+-- how many ticks a part has on the shared grid, and that it is what was computed
+abbrev pub part_ticks : Street → Typed → ℕ
+part_ticks a p = unsigned_abs (ticks (shared a p) (time a p Part 1))
+
+pub part_size : (a : Street) (p : Typed) (grid : ℕ) (x : ℚ) (n : ℕ) → n ≡ unsigned_abs (ticks grid x) → grid ≡ shared a p → x ≡ time a p Part 1 → n ≡ part_ticks a p
+part_size a p grid x n e g t = e ∙ ap₂ (λ k y. unsigned_abs (ticks k y)) g t
+
 pub twice_as_fine : (unit grid : ℕ) → (unit ≡ 1 → doubled unit grid ≡ 2 * grid) × (unit ≢ 1 → doubled unit grid ≡ grid)
 twice_as_fine unit grid = (λ e. by (unit == 1) refl e, λ n. other (unit == 1) refl n)
   where

@@ -3,10 +3,10 @@ use Rattle.toml.specs.View.{view}
 use Rattle.artery_model.specs.Faults.{first_fault, each_numbered}
 use Rattle.description_reader.specs.Judgement.{in_table}
 use Rattle.description_reader.specs.declared.place.Section.TheVariants.{Signal}
-use Rattle.description_reader.proofs.judge.look_into_signals.Given as goal
+use Rattle.description_reader.proofs.judge.Search.signals.Given as goal
 
 -- the signals so far have no fault of the kind
 abbrev pub invariant-loop-index : goal.invariant-loop-index
 invariant-loop-index l =
-    first_fault (each_numbered (λ i. in_table l.stage l.facts (Signal i)) 1 (map view l.signals))
-    ≡ first_fault (each_numbered (λ i. in_table l.stage l.facts (Signal i)) (l.index + 1) (map view (drop l.index l.signals)))
+    first_fault (each_numbered (λ i. in_table l.self.stage l.self.facts (Signal i)) 1 (map view l.signals))
+    ≡ first_fault (each_numbered (λ i. in_table l.self.stage l.self.facts (Signal i)) (l.index + 1) (map view (drop l.index l.signals)))
