@@ -1,6 +1,5 @@
 pub mod LinkNumbers
 pub mod LinkTimings
-pub mod LinkOutcomes
 pub mod LinkMeant
 pub mod WorkedVerticesKept
 pub mod WorkedOutcomesKept

@@ -1,40 +1,25 @@
 -- A link timing can be made of numbers that fit.
-use Rattle.std.proofs.Common.{◌≡◌, ℕ, ◌+◌, ◌-◌, ◌<◌, ◌≤◌, ◌^◌, List, None, sym, subst, arith}
-use Rattle.std.specs.Prelude.{All}
+use Rattle.std.proofs.Common.{◌≡◌, ℕ, ◌-◌, ◌≤◌, List, None, arith}
 use Rattle.rational_theory.specs.Rational.{ℚ}
 use Rattle.narrow_fraction.specs.Attempt.{earlier}
-use Rattle.narrow_fraction.proofs.Attempt.{neither, none_each}
-use Rattle.progression.specs.Street.{Street, count, HasLink}
+use Rattle.narrow_fraction.proofs.Attempt.{neither}
+use Rattle.progression.specs.Street.{Street, count}
 use Rattle.progression.specs.Columns.{Frequency}
 use Rattle.progression.specs.declared.parts.Dir.{Dir}
 use Rattle.progression.specs.declared.parts.Dir.TheVariants.{Outbound, Inbound}
 use Rattle.artery_model.specs.Bounds.{most_signals}
-use Rattle.linear_theory.proofs.Points.{length-numbered, get-numbered}
+use Rattle.linear_theory.proofs.Points.{length-numbered}
 use Rattle.recovery_theory.specs.Ticks.{unit_of, ticks_of}
 use Rattle.recovery_theory.specs.Placing.{pattern_at}
 use Rattle.link_theory.specs.LinkColumns.{half_place}
 use Rattle.link_theory.specs.LinkVertices.{half_ticks}
 use Rattle.link_space.specs.LinkTiming.{AreHalves, IsLinkTiming}
-use Rattle.offset_recovery.specs.Tests.{number_test}
 use Rattle.offset_recovery.specs.Recovered.{line_tests, placed_tests, first_out_at, first_in_at}
 use Rattle.offset_recovery.specs.Numbers.{IsReady, RunsFit, patterns_at, runs_at, reds_at}
-use Rattle.offset_recovery.proofs.Making.{column_fits, line_runs_fit, is_timing}
+use Rattle.offset_recovery.proofs.Making.{each_link, line_runs_fit, is_timing}
 use Rattle.multi_band.specs.LinkRecovered.{half_tests, link_column_tests, halves_at}
 
 module _ (a : Street) (x : List ℚ) where
-  -- ---- the tests, one by one
-  half_fits : (d : Dir) → half_tests a x d ≡ None → (i : ℕ) → HasLink a i → half_ticks a x d i < 2 ^ 80
-  half_fits d h i k =
-      let l = k.1 in let m = k.0 in
-      let e : i - 1 + 1 ≡ i = omega arith in
-      let f = none_each (λ j. number_test (half_place (count a) d (j + 1)) (half_ticks a x d (j + 1))) (count a - 1) h (i - 1) (omega arith) in
-      column_fits a x (half_place (count a) d i) (half_ticks a x d i) (subst (λ n. number_test (half_place (count a) d n) (half_ticks a x d n) ≡ None) e f)
-
-  each_half : (d : Dir) → half_tests a x d ≡ None → All (λ n. n < 2 ^ 80) (halves_at a x d)
-  each_half dir h k d l =
-      let n = length-numbered (count a - 1) 1 (half_ticks a x dir) in
-      subst (λ n. n < 2 ^ 80) (sym (get-numbered (count a - 1) 1 k (half_ticks a x dir) d (omega arith))) (half_fits dir h (1 + k) (omega arith, omega arith))
-
   module _ (h : link_column_tests a x ≡ None) where
     abbrev both : (line_tests a x ≡ None) × (earlier (half_tests a x Outbound) (half_tests a x Inbound) ≡ None)
     both = neither (line_tests a x) (earlier (half_tests a x Outbound) (half_tests a x Inbound)) h
@@ -51,7 +36,7 @@ module _ (a : Street) (x : List ℚ) where
     are_halves few d =
         let n = length-numbered (count a) 1 (pattern_at a x) in
         let m = length-numbered (count a - 1) 1 (half_ticks a x d) in
-        record { count = omega arith; each = each_half d (fit d) }
+        record { count = omega arith; each = each_link a x (half_place (count a) d) (fit d) }
 
     is_link_timing : 2 ≤ count a → count a ≤ most_signals → IsReady a x → placed_tests a x ≡ None
         → IsLinkTiming (ticks_of a x Frequency) (unit_of a x) (patterns_at a x) (reds_at a x) (runs_at a x Outbound) (runs_at a x Inbound) (first_out_at a x) (first_in_at a x) (halves_at a x Outbound) (halves_at a x Inbound)

@@ -1,12 +1,11 @@
 -- The link timing of a vertex of links, the place where it splits its box, or the first number that does not fit: the tests in their order.
 -- Up to the halves they are those of its two lines.
-use Rattle.std.specs.Prelude.{◌≡◌, ℕ, ◌+◌, ◌-◌, List, Option}
+use Rattle.std.specs.Prelude.{◌≡◌, ℕ, List, Option}
 use Rattle.rational_theory.specs.Rational.{ℚ}
 use Rattle.rational_theory.specs.Rows.{dot}
-use Rattle.narrow_fraction.specs.Attempt.{earlier, first_below}
+use Rattle.narrow_fraction.specs.Attempt.{earlier}
 use Rattle.progression.specs.Street.{Street, count}
 use Rattle.progression.specs.Plan.{Plan}
-use Rattle.progression.specs.Columns.{numbered}
 use Rattle.progression.specs.declared.parts.Dir.{Dir}
 use Rattle.progression.specs.declared.parts.Dir.TheVariants.{Outbound, Inbound}
 use Rattle.linear_theory.specs.Boxes.{Area}
@@ -15,31 +14,30 @@ use Rattle.link_theory.specs.GoodLinks.{GoodLinks}
 use Rattle.link_theory.specs.BestLinks.{link_value}
 use Rattle.link_theory.specs.LinkColumns.{half_place}
 use Rattle.link_theory.specs.LinkRows.{link_goal}
-use Rattle.link_theory.specs.LinkVertices.{half_ticks}
 use Rattle.search_box.specs.Places.{IsPlace}
 use Rattle.offset_recovery.specs.declared.outcome.WideTiming.{WideTiming}
 use Rattle.offset_recovery.specs.declared.outcome.Recovered.{Recovered}
 use Rattle.offset_recovery.specs.declared.outcome.Recovered.TheVariants as is
 use Rattle.offset_recovery.specs.Outcomes.{Outcome, with_timing}
-use Rattle.offset_recovery.specs.Tests.{number_test}
-use Rattle.offset_recovery.specs.Recovered.{unit_tests, line_tests, placed_tests, recovered_by}
+use Rattle.offset_recovery.specs.ByLink.{tests_by_link, ticks_by_link}
+use Rattle.offset_recovery.specs.Recovered.{line_tests, number_tests_by, recovered_by}
 
 -- ---- numbers
 -- the ticks of a direction's halves, in order of the columns
 abbrev pub half_tests : Street → List ℚ → Dir → Option WideTiming
-half_tests a x d = first_below (λ j. number_test (half_place (count a) d (j + 1)) (half_ticks a x d (j + 1))) (count a - 1)
+half_tests a x d = tests_by_link a x (half_place (count a) d)
 
 -- those of frequency and runs before them
 abbrev pub link_column_tests : Street → List ℚ → Option WideTiming
 link_column_tests a x = earlier (line_tests a x) (earlier (half_tests a x Outbound) (half_tests a x Inbound))
 
 abbrev pub link_number_tests : Street → List ℚ → Option WideTiming
-link_number_tests a x = earlier (unit_tests a x) (earlier (link_column_tests a x) (placed_tests a x))
+link_number_tests a x = number_tests_by a x (link_column_tests a x)
 
 -- ---- the whole
 -- the halves of a direction
 abbrev pub halves_at : Street → List ℚ → Dir → List ℕ
-halves_at a x d = numbered (count a - 1) 1 (half_ticks a x d)
+halves_at a x d = ticks_by_link a x (half_place (count a) d)
 
 -- about the lines of a timing
 abbrev pub linked : Street → List ℚ → Plan → LinkPlan

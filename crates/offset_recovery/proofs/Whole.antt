@@ -1,5 +1,5 @@
 -- The outcome, from the tests in their order; and what they say of the vertex.
-use Rattle.std.proofs.Common.{◌≡◌, ℕ, zero, suc, ◌+◌, ◌-◌, ◌<◌, ◌⊎◌, inl, inr, List, Option, Some, None, Err, Bool, true, false, refl, ap, subst, arith}
+use Rattle.std.proofs.Common.{◌≡◌, ℕ, zero, suc, ◌+◌, ◌-◌, ◌<◌, ◌⊎◌, inl, inr, List, Option, Some, None, Bool, true, false, refl, ap, subst, arith}
 use Rattle.std.specs.Prelude.{not, option_map, unwrap_or}
 use Rattle.progression.specs.Plan.{Plan}
 use Rattle.rational_theory.specs.Rational.{ℚ}
@@ -23,10 +23,7 @@ use Rattle.search_box.specs.Places.{IsPlace}
 use Rattle.loop_rows.specs.Totals.{block_wide}
 use Rattle.offset_recovery.specs.declared.outcome.WideTiming.{WideTiming}
 use Rattle.offset_recovery.specs.declared.outcome.WideTiming.TheVariants as wide
-use Rattle.offset_recovery.specs.declared.outcome.RecoverFault.{RecoverFault}
-use Rattle.offset_recovery.specs.declared.outcome.RecoverFault.TheVariants as fault
 use Rattle.offset_recovery.specs.Inside.{SplitsInside}
-use Rattle.offset_recovery.specs.Answers.{Answers, IsOutcome}
 use Rattle.offset_recovery.specs.Outcomes.{Outcome, Refused, Splits, Gives, with_timing}
 use Rattle.offset_recovery.specs.Tests.{product_test, link_test, signal_test}
 use Rattle.offset_recovery.specs.Recovered.{link_tests, signal_tests, box_tests, number_tests, recovered_by, recovered}
@@ -41,22 +38,6 @@ by_wide a box x numbers w h k = rw (h, k) refl
 
 pub by_timing : (a : Street) (box : Area) (x : List ℚ) (numbers : Option WideTiming) → box_tests a box x ≡ None → numbers ≡ None → recovered_by a box x numbers ≡ Gives (timing_of a x)
 by_timing a box x numbers h k = rw (h, k) refl
-
-pub recovered_first : (a : Street) (box : Area) (x : List ℚ) (o : Outcome Plan) → box_tests a box x ≡ Some o → recovered a box x ≡ o
-unfolding recovered
-recovered_first a box x o h = by_first a box x (number_tests a x) o h
-
-pub recovered_wide : (a : Street) (box : Area) (x : List ℚ) (w : WideTiming) → box_tests a box x ≡ None → number_tests a x ≡ Some w → recovered a box x ≡ Refused w
-unfolding recovered
-recovered_wide a box x w h k = by_wide a box x (number_tests a x) w h k
-
-pub recovered_timing : (a : Street) (box : Area) (x : List ℚ) → box_tests a box x ≡ None → number_tests a x ≡ None → recovered a box x ≡ Gives (timing_of a x)
-unfolding recovered
-recovered_timing a box x h k = by_timing a box x (number_tests a x) h k
-
-pub refused_outcome : (a : Street) (box : Area) (x : List ℚ) (f : RecoverFault) → box_tests a box x ≡ None → Answers (number_tests a x) (λ (t : Plan). t ≡ timing_of a x) (Err f) → IsOutcome (recovered a box x) (Err f)
-refused_outcome a box x (fault.Wide w) h k = recovered_wide a box x w h k
-refused_outcome a box x fault.Memory h k = tt
 
 -- ---- nothing splits
 kept_true : {E : Type 0} (b : Bool) (e : E) → refusal_if (not b) e ≡ None → b ≡ true

@@ -14,6 +14,7 @@ use Rattle.recovery_theory.specs.Placing.{pattern_at, first_out_of, red_of, firs
 use Rattle.offset_recovery.specs.declared.outcome.WideTiming.{WideTiming}
 use Rattle.offset_recovery.specs.Outcomes.{Outcome, Refused, Gives}
 use Rattle.offset_recovery.specs.Tests.{product_test, unit_test, number_test, column_test, link_test, signal_test}
+use Rattle.offset_recovery.specs.ByLink.{tests_by_link}
 
 -- ---- the box
 -- the block sums in order of the links, then the shifts in order of the signals
@@ -33,7 +34,7 @@ unit_tests a x = earlier (first_below (product_test a x) (length x)) (first_belo
 
 -- the ticks of frequency and runs, in order of the columns
 abbrev pub run_tests : Street → List ℚ → Dir → Option WideTiming
-run_tests a x d = first_below (λ j. column_test a x (RunOf d (j + 1))) (count a - 1)
+run_tests a x d = tests_by_link a x (λ i. place (count a) (RunOf d i))
 
 abbrev pub line_tests : Street → List ℚ → Option WideTiming
 line_tests a x = earlier (column_test a x Frequency) (earlier (run_tests a x Outbound) (run_tests a x Inbound))
@@ -63,8 +64,12 @@ placed_tests a x =
     earlier (number_test (place (count a) (WaitOf Outbound 1)) (first_out_at a x))
     (earlier (red_tests a x) (first_in_test a x))
 
+-- those of all numbers, where these are the tests of its columns
+abbrev pub number_tests_by : Street → List ℚ → Option WideTiming → Option WideTiming
+number_tests_by a x columns = earlier (unit_tests a x) (earlier columns (placed_tests a x))
+
 abbrev pub number_tests : Street → List ℚ → Option WideTiming
-number_tests a x = earlier (unit_tests a x) (earlier (column_tests a x) (placed_tests a x))
+number_tests a x = number_tests_by a x (column_tests a x)
 
 -- ---- the whole
 -- where these are the tests of its numbers

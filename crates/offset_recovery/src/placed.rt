@@ -9,7 +9,8 @@ ghost use Rattle.offset_recovery.specs.Numbers.{IsReady, RunsFit, reds_at, reds_
 ghost use Rattle.offset_recovery.specs.Placed.{ArePlaced};
 ghost use Rattle.offset_recovery.specs.Answers.{Answers};
 
-use crate::lists::{patterns, runs};
+use crate::links::{Runs, ticks_by_link};
+use crate::lists::patterns;
 use crate::outcome::RecoverFault;
 use crate::placing::{checked_first_in, checked_first_out, reds};
 use artery_model::{Artery, Dir};
@@ -56,8 +57,8 @@ pub fn place_lines(
     ensures { Answers (placed_tests artery.now point.now.values.items) (ArePlaced artery.now point.now.values.items) result }
 {
     let patterns = patterns(alloc, artery, point)?;
-    let run_out = runs(alloc, artery, point, unit, Dir::Outbound)?;
-    let run_in = runs(alloc, artery, point, unit, Dir::Inbound)?;
+    let run_out = ticks_by_link::<Runs>(alloc, artery, point, unit, Dir::Outbound)?;
+    let run_in = ticks_by_link::<Runs>(alloc, artery, point, unit, Dir::Inbound)?;
     let first_out = checked_first_out(artery, point, unit)?;
     let reds = match reds(alloc, artery, point, unit, first_out) {
         Ok(reds) => reds,

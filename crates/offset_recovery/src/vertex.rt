@@ -3,98 +3,86 @@
 ghost use Rattle.std.specs.Prelude.{◌≡◌, ◌<◌, ◌^◌, length, None, IfOk};
 ghost use Rattle.linear_theory.specs.Boxes.{IsBoxOf};
 ghost use Rattle.recovery_theory.specs.Ticks.{unit_of};
-ghost use Rattle.recovery_theory.specs.Placing.{timing_of};
-ghost use Rattle.recovery_theory.specs.Vertices.{IsVertex, IsLongVertex, IsWhole};
-ghost use Rattle.offset_recovery.specs.Recovered.{recovered, column_tests, placed_tests, number_tests};
-ghost use Rattle.offset_recovery.specs.Numbers.{IsReady, ProductsFit};
-ghost use Rattle.offset_recovery.specs.Placed.{ArePlaced};
-ghost use Rattle.offset_recovery.specs.Answers.{Answers, IsOutcome, IsSound};
+ghost use Rattle.recovery_theory.specs.Vertices.{IsVertex, IsWhole};
+ghost use Rattle.offset_recovery.specs.Inside.{SplitsInside};
+ghost use Rattle.offset_recovery.specs.Recovered.{recovered, placed_tests, number_tests_by};
+ghost use Rattle.offset_recovery.specs.Numbers.{IsReady, RunsFit};
+ghost use Rattle.offset_recovery.specs.Answers.{Answers, IsRead, IsOutcome, IsSound};
 
+use crate::kinds::{BandKind, WholeBands};
 use crate::outcome::{RecoverFault, Recovered};
-use crate::placed::{Lines, place_lines};
-use crate::splits::split_place;
-use crate::ticks::{band, check_columns, grid};
+use crate::placed::place_lines;
+use crate::splits::{Vertex, split_place};
 use crate::unit::common_unit;
-use artery_model::bounds::{LEAST_SIGNALS, MOST_SIGNALS};
-use artery_model::{Artery, Dir};
+use artery_model::Artery;
 use named_row::Point;
 use search_box::{SearchBox, law_valid_street};
 use std::alloc::Global;
 use time_space::Timing;
 
-/// What is known of a vertex's numbers where its unit fits.
-fn ready(artery: &Artery, area: &SearchBox, point: &Point)
-    requires vertex { IsLongVertex artery.now area.now point.now.values.items }
-    requires whole { IsWhole artery.now point.now.values.items }
-    requires products { ProductsFit artery.now point.now.values.items }
-    requires unit { unit_of artery.now point.now.values.items < 2 ^ 80 }
-    ensures { IsReady artery.now point.now.values.items }
-{
-    // its contract says that the artery is valid
-    artery.known_valid();
-    law_valid_street();
-}
-
-/// The timing of these lines, whose numbers fit.
-fn timing(artery: &Artery, point: &Point, unit: u128, lines: Lines) -> Timing
-    requires ready { IsReady artery.now point.now.values.items }
-    requires unit { unit ≡ unit_of artery.now point.now.values.items }
-    requires lines { ArePlaced artery.now point.now.values.items lines }
-    requires columns { column_tests artery.now point.now.values.items ≡ None }
-    requires placed { placed_tests artery.now point.now.values.items ≡ None }
-    ensures { result ≡ timing_of artery.now point.now.values.items }
-{
-    let count = artery.count() as usize;
-    prove!(LEAST_SIGNALS <= count && count <= MOST_SIGNALS);
-    let grid = grid(artery, point, unit);
-    let band_out = band(artery, point, unit, Dir::Outbound);
-    let band_in = band(artery, point, unit, Dir::Inbound);
-    match Timing::new(
-        grid,
-        unit,
-        lines.patterns,
-        lines.reds,
-        lines.run_out,
-        lines.run_in,
-        lines.first_out,
-        lines.first_in,
-        band_out,
-        band_in,
-    ) {
-        Some(timing) => timing,
-        None => unreachable!(),
-    }
-}
-
 /// The timing of a vertex whose columns fit, where its reds and first crossings fit too.
-fn placed(alloc: Global, artery: &Artery, point: &Point, unit: u128) -> Result<Timing, RecoverFault>
+fn placed<K: BandKind>(
+    alloc: Global,
+    artery: &Artery,
+    point: &Point,
+    unit: u128,
+) -> Result<K::Timing, RecoverFault>
+    requires known { K.IsKnown artery.now point.now.values.items }
     requires ready { IsReady artery.now point.now.values.items }
     requires unit { unit ≡ unit_of artery.now point.now.values.items }
-    requires columns { column_tests artery.now point.now.values.items ≡ None }
-    ensures { Answers (placed_tests artery.now point.now.values.items) (λ t. t ≡ timing_of artery.now point.now.values.items) result }
+    requires columns { K.tests artery.now point.now.values.items ≡ None }
+    requires runs { RunsFit artery.now point.now.values.items }
+    ensures { Answers (placed_tests artery.now point.now.values.items) (λ t. t ≡ K.timing artery.now point.now.values.items) result }
 {
     match place_lines(alloc, artery, point, unit) {
-        Ok(lines) => Ok(timing(artery, point, unit, lines)),
+        Ok(lines) => Ok(K::around(alloc, artery, point, unit, lines)?),
         Err(fault) => Err(fault),
     }
 }
 
 /// The timing of a vertex whose block sums are whole and whose shifts are the signals', where its numbers fit.
-fn timing_of(
+fn timing_of<K: BandKind>(
     alloc: Global,
     artery: &Artery,
     area: &SearchBox,
     point: &Point,
-) -> Result<Timing, RecoverFault>
-    requires vertex { IsLongVertex artery.now area.now point.now.values.items }
+) -> Result<K::Timing, RecoverFault>
+    requires vertex { K.IsVertexOf artery.now area.now point.now.values.items }
     requires whole { IsWhole artery.now point.now.values.items }
     requires few { length point.now.values.items < 2 ^ 32 }
-    ensures { Answers (number_tests artery.now point.now.values.items) (λ t. t ≡ timing_of artery.now point.now.values.items) result }
+    ensures { Answers (number_tests_by artery.now point.now.values.items (K.tests artery.now point.now.values.items)) (λ t. t ≡ K.timing artery.now point.now.values.items) result }
 {
     let unit = common_unit(artery, point)?;
-    ready(artery, area, point);
-    check_columns(artery, point, unit)?;
-    placed(alloc, artery, point, unit)
+    K::known_numbers(artery, area, point);
+    K::check_kind(artery, point, unit)?;
+    placed::<K>(alloc, artery, point, unit)
+}
+
+/// What becomes of a vertex, whatever the kind of its bands: a timing in whole ticks, or the place where its box is split.
+pub fn read_vertex<K: BandKind>(
+    alloc: Global,
+    artery: &Artery,
+    area: &SearchBox,
+    point: &Point,
+) -> Result<Recovered<K::Timing>, RecoverFault>
+    requires boxed { IsBoxOf artery.now area.now }
+    requires inside { SplitsInside artery.now area.now point.now.values.items }
+    requires vertex { K.IsVertexOf artery.now area.now point.now.values.items }
+    requires few { length point.now.values.items < 2 ^ 32 }
+    ensures { IsRead artery.now area.now point.now.values.items (K.tests artery.now point.now.values.items) (K.timing artery.now point.now.values.items) result }
+{
+    let vertex = Vertex {
+        artery,
+        area,
+        point,
+    };
+    if let Some(place) = split_place(&vertex)? {
+        return Ok(Recovered::SplitAt(place));
+    }
+    match timing_of::<K>(alloc, artery, area, point) {
+        Ok(timing) => Ok(Recovered::Timing(timing)),
+        Err(fault) => Err(fault),
+    }
 }
 
 /// What becomes of a vertex of a box: a timing in whole ticks, which is good and has the vertex's weighted band, or the
@@ -117,30 +105,6 @@ pub fn recover(
 {
     // its contract says that the artery is valid
     artery.known_valid();
-    recover_long(alloc, artery, area, point)
-}
-
-/// The same of a vertex with values for further columns, of which no row speaks: they are whole ticks too.
-pub fn recover_long(
-    alloc: Global,
-    artery: &Artery,
-    area: &SearchBox,
-    point: &Point,
-) -> Result<Recovered<Timing>, RecoverFault>
-    requires boxed { IsBoxOf artery.now area.now }
-    requires vertex { IsLongVertex artery.now area.now point.now.values.items }
-    requires few { length point.now.values.items < 2 ^ 32 }
-    ensures outcome { IsOutcome (recovered artery.now area.now point.now.values.items) result }
-    ensures sound { IfOk result (λ found. IsSound artery.now area.now point.now.values.items found) }
-{
-    // its contract says that the artery is valid
-    artery.known_valid();
     law_valid_street();
-    if let Some(place) = split_place(artery, area, point)? {
-        return Ok(Recovered::SplitAt(place));
-    }
-    match timing_of(alloc, artery, area, point) {
-        Ok(timing) => Ok(Recovered::Timing(timing)),
-        Err(fault) => Err(fault),
-    }
+    read_vertex::<WholeBands>(alloc, artery, area, point)
 }
