@@ -2,7 +2,7 @@
 use Rattle.std.proofs.Common.{◌≡◌, ℕ, ◌+◌, ◌*◌, ◌<◌, ◌≤◌, List, [], ◌∷◌, refl, sym, ◌∙◌, arith}
 use Rattle.rational_theory.specs.Rational.{ℚ, whole, ◌≤ℚ◌}
 use Rattle.rational_theory.proofs.Order.{whole-≤ℤ}
-use Rattle.rational_theory.proofs.Ring.{at, minus, Term, ◌⊕◌, ◌⊗◌}
+use Rattle.rational_theory.proofs.Ring.{at, minus, ◌⊕◌, ◌⊗◌}
 use Rattle.rational_theory.proofs.Linear.{linear}
 use Rattle.rational_theory.specs.Rows.{IsMet}
 use Rattle.progression.specs.Street.{Street, count, HasSignal, HasLink}
@@ -21,7 +21,15 @@ use Rattle.linear_theory.proofs.SparseSums.{InOrder, line_met}
 use Rattle.linear_theory.proofs.Shares.{share_part, part_grows}
 use Rattle.linear_theory.proofs.BlockSums.{block_shares, block_sum_shares}
 use Rattle.linear_theory.proofs.Ranges.{some_signal, parts_above, unit_above}
-use Rattle.linear_theory.proofs.Terms.{one, less_one, zero_term, fact, block_term}
+use Rattle.linear_theory.proofs.Terms.{one, less_one, zero_term, fact, whole_term, cells_term, constant_term}
+
+-- the columns of a block sum stand in order
+pub block_in_order : (a : Street) (i : ℕ) → HasLink a i → (p m : ℚ) → InOrder (count a) 0 (block_entries i p m)
+block_in_order a i k p m =
+    let l = k.1 in
+    let here : (1 ≤ i) × (i ≤ count a) = (k.0, omega arith) in
+    let next : (1 ≤ i + 1) × (i + 1 ≤ count a) = (omega arith, omega arith) in
+    (omega arith, here, (omega arith, next, (omega arith, here, (omega arith, next, (omega arith, k, (omega arith, k, (omega arith, here, (omega arith, next, tt))))))))
 
 module _ (a : Street) (box : Area) (t : Plan) (c : Counts a box t) where
   module _ (i : ℕ) (k : HasLink a i) where
@@ -36,14 +44,6 @@ module _ (a : Street) (box : Area) (t : Plan) (c : Counts a box t) where
     sum_most : block_shares a t i ≤ℚ whole (loop_span box i).most
     sum_most = rw sum_is (whole-≤ℤ _ _ (c.inside.loops i k).most)
 
-    -- its columns stand in order
-    block_in_order : (p m : ℚ) → InOrder (count a) 0 (block_entries i p m)
-    block_in_order p m =
-        let l = k.1 in
-        let here : (1 ≤ i) × (i ≤ count a) = (k.0, omega arith) in
-        let next : (1 ≤ i + 1) × (i + 1 ≤ count a) = (omega arith, omega arith) in
-        (omega arith, here, (omega arith, next, (omega arith, here, (omega arith, next, (omega arith, k, (omega arith, k, (omega arith, here, (omega arith, next, tt))))))))
-
     -- the values of its columns, then its reds and clearances, then a number of the box
     abbrev block_values : ℚ → List ℚ
     block_values z =
@@ -51,27 +51,16 @@ module _ (a : Street) (box : Area) (t : Plan) (c : Counts a box t) where
         ∷ share a t (run t Outbound i) ∷ share a t (run t Inbound i) ∷ share a t (shift a t i * t.unit) ∷ share a t (shift a t (i + 1) * t.unit)
         ∷ red_here a i ∷ red_here a (i + 1) ∷ clear_next a i ∷ clear_here a i ∷ z ∷ []
 
-    -- the block sum, its columns, and the rest of it, as terms
-    abbrev whole_term : Term
-    whole_term = block_term (at 0) (at 1) (at 2) (at 3) (at 4) (at 5) (at 6) (at 7) (at 8) (at 9) (at 10) (at 11)
-
-    abbrev cells_term : Term → Term → Term
-    cells_term p m =
-        p ⊗ at 0 ⊕ (m ⊗ at 2 ⊕ (p ⊗ at 1 ⊕ (m ⊗ at 3 ⊕ (p ⊗ at 4 ⊕ (p ⊗ at 5 ⊕ (p ⊗ at 6 ⊕ (m ⊗ at 7 ⊕ zero_term)))))))
-
-    abbrev constant_term : Term
-    constant_term = at 8 ⊕ minus (at 9) ⊕ minus (at 10) ⊕ minus (at 11)
-
     -- the block sum is at least the span's least number
     pub loop_low_law : IsMet (point a t) (line a (loop_low_form a box i))
     loop_low_law =
-        line_met a t (loop_low_form a box i) (some_signal a c.street) (block_in_order minus_one (number 1))
+        line_met a t (loop_low_form a box i) (some_signal a c.street) (block_in_order a i k minus_one (number 1))
         (linear (record { count = 1; low = at 12; high = whole_term } ∷ []) 0 (cells_term less_one one) (constant_term ⊕ minus (at 12)) (block_values (whole (loop_span box i).least)) (sum_least, tt) refl)
 
     -- and at most its greatest
     pub loop_high_law : IsMet (point a t) (line a (loop_high_form a box i))
     loop_high_law =
-        line_met a t (loop_high_form a box i) (some_signal a c.street) (block_in_order (number 1) minus_one)
+        line_met a t (loop_high_form a box i) (some_signal a c.street) (block_in_order a i k (number 1) minus_one)
         (linear (record { count = 1; low = whole_term; high = at 12 } ∷ []) 0 (cells_term one less_one) (at 12 ⊕ minus constant_term) (block_values (whole (loop_span box i).most)) (sum_most, tt) refl)
 
   module _ (i : ℕ) (k : HasSignal a i) where

@@ -8,25 +8,11 @@ use Rattle.rational_theory.proofs.Arithmetic.{IsRatio, own_ratio, over_ratio, re
 use Rattle.rational_theory.proofs.Order.{≤ℚ_refl, zero_num, above_not_zero, <ℚ_not-≤ℚ, *ℚ_cancel}
 use Rattle.rational_theory.proofs.Lowest.{over-neg_ℤ}
 use Rattle.rational_theory.specs.Floor.{floor_ℚ, ceil_ℚ}
-use Rattle.rational_theory.proofs.Floor.{floor_is}
+use Rattle.rational_theory.proofs.Floor.{down_out, down_in, floor_is}
 use Rattle.rational_theory.proofs.Shares.{quotient_times}
 use Rattle.progression.specs.Speeds.{number}
 
 -- ---- floors
--- z * d ≤ a exactly where z ≤ a / d
-down_out : (z a : ℤ) (d : ℕ) → 0 < d → up z * d + down a * 1 ≤ down z * d + up a * 1 → z ≤ℤ int_div_euclid a (pos d)
-down_out (pos n) (pos a) d h k = let m : n ≤ a / d = (le-div_iff_mul-le h).1 (omega arith) in omega (arith, ints)
-down_out (pos n) (negsuc a) d h k = absurd (omega arith)
-down_out (negsuc n) (pos a) d h k = omega (arith, ints)
-down_out (negsuc n) (negsuc a) d h k = let m : a / d < suc n = (div-lt_iff_lt-mul h).1 (omega arith) in omega (arith, ints)
-
--- and back
-down_in : (z a : ℤ) (d : ℕ) → 0 < d → z ≤ℤ int_div_euclid a (pos d) → up z * d + down a * 1 ≤ down z * d + up a * 1
-down_in (pos n) (pos a) d h k = let m : n * d ≤ a = (le-div_iff_mul-le h).0 (omega (arith, ints)) in omega arith
-down_in (pos n) (negsuc a) d h k = absurd (omega (arith, ints))
-down_in (negsuc n) (pos a) d h k = omega arith
-down_in (negsuc n) (negsuc a) d h k = let m : a < suc n * d = (div-lt_iff_lt-mul h).0 (omega (arith, ints)) in omega arith
-
 -- two integers above the same integers are equal
 same_by_below : (x y : ℤ) → ((z : ℤ) → (z ≤ℤ x) ↔ (z ≤ℤ y)) → x ≡ y
 same_by_below x y f =

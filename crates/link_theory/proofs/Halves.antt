@@ -5,15 +5,4 @@ use Rattle.link_theory.specs.LinkPlan.{lines, with_halves}
 
 -- a timing whose bands are lines is what halves about it have as their lines
 pub lines_of : (t : Plan) (half_out half_in : List ℕ) → t.band_out ≡ 0 → t.band_in ≡ 0 → t ≡ lines (with_halves t half_out half_in)
-lines_of t half_out half_in out back = λ i. record {
-  grid = t.grid;
-  unit = t.unit;
-  patterns = t.patterns;
-  reds = t.reds;
-  run_out = t.run_out;
-  run_in = t.run_in;
-  first_out = t.first_out;
-  first_in = t.first_in;
-  band_out = out i;
-  band_in = back i;
-}
+lines_of t half_out half_in out back = λ i. record t { band_out = out i; band_in = back i }

@@ -1,7 +1,8 @@
--- What an artery has in common with the same artery without least bands and equal bands: all but these.
-use Rattle.std.proofs.Common.{◌≡◌, ◌<◌, ◌≤◌, ℕ, zero, suc, ◌+ℤ◌, ◌-ℤ◌, pos, refl, ap, sym, ◌∙◌}
+-- What an artery has in common with the same artery without least bands and equal bands: all but these. It is shown of any least bands, so that it
+-- holds of both ways between the two.
+use Rattle.std.proofs.Common.{◌≡◌, ◌<◌, ◌≤◌, ℕ, zero, suc, ◌+ℤ◌, ◌-ℤ◌, pos, refl, ap, ◌∙◌, Bool, false}
 use Rattle.std.specs.Prelude.{map, IfSome, ◌+◌, ◌-◌}
-use Rattle.rational_theory.specs.Rational.{◌*ℚ◌, ◌≤ℚ◌, ◌<ℚ◌}
+use Rattle.rational_theory.specs.Rational.{ℚ, ◌*ℚ◌, ◌≤ℚ◌, ◌<ℚ◌}
 use Rattle.progression.specs.Street.{Street, count, HasSignal, HasLink, red_parts, speed}
 use Rattle.progression.specs.Speeds.{number, run_low, run_high, change}
 use Rattle.progression.specs.Plan.{Plan, cycle, run}
@@ -20,151 +21,168 @@ use Rattle.linear_theory.proofs.Points.{share}
 use Rattle.link_theory.specs.Plain.{plain}
 use Rattle.link_theory.specs.LinkNames.{NamesNoBand}
 
--- ---- lines and points
-module _ (a : Street) (t : Plan) where
-  pub same_crossing : (d : Dir) (j : ℕ) → crossing (plain a) t d j ≡ crossing a t d j
-  same_crossing d zero = refl
-  same_crossing Outbound (suc j) = ap (λ z. z +ℤ advance a t Outbound j) (same_crossing Outbound j)
-  same_crossing Inbound (suc j) = ap (λ z. z +ℤ advance a t Inbound j) (same_crossing Inbound j)
+-- the artery with other least bands, and with equal bands or without
+abbrev with_leasts : Street → ℚ → ℚ → Bool → Street
+with_leasts a out back e = record a { head = record a.head { least_out = out; least_in = back; equal = e } }
 
-  same_line : (d : Dir) (i : ℕ) → line_at (plain a) t d i ≡ line_at a t d i
-  same_line Outbound i = same_crossing Outbound (i - 1)
-  same_line Inbound i = same_crossing Inbound (count a - i)
+module _ (a : Street) (out back : ℚ) (e : Bool) where
+  abbrev other : Street
+  other = with_leasts a out back e
 
-  pub same_ticks : (c : Column) → ticks (plain a) t c ≡ ticks a t c
-  same_ticks (BandOf d) = refl
-  same_ticks Frequency = refl
-  same_ticks (WaitOf Outbound i) = ap (λ z. mod_ℤ (z -ℤ (red_start a t Outbound i +ℤ pos (red_ticks a t Outbound i))) (cycle a t)) (same_line Outbound i)
-  same_ticks (WaitOf Inbound i) = ap (λ z. mod_ℤ (red_start a t Inbound i -ℤ z -ℤ pos t.band_in) (cycle a t)) (same_line Inbound i)
-  same_ticks (RunOf d i) = refl
-  same_ticks (ShiftOf i) = refl
+  -- ---- lines and points
+  module _ (t : Plan) where
+    other_crossing : (d : Dir) (j : ℕ) → crossing other t d j ≡ crossing a t d j
+    other_crossing d zero = refl
+    other_crossing Outbound (suc j) = ap (λ z. z +ℤ advance a t Outbound j) (other_crossing Outbound j)
+    other_crossing Inbound (suc j) = ap (λ z. z +ℤ advance a t Inbound j) (other_crossing Inbound j)
 
-  pub same_point : point (plain a) t ≡ point a t
-  same_point = λ i. map (λ c. share a t (same_ticks c i)) (columns (count a))
+    other_line : (d : Dir) (i : ℕ) → line_at other t d i ≡ line_at a t d i
+    other_line Outbound i = other_crossing Outbound (i - 1)
+    other_line Inbound i = other_crossing Inbound (count a - i)
+
+    other_ticks : (c : Column) → ticks other t c ≡ ticks a t c
+    other_ticks (BandOf d) = refl
+    other_ticks Frequency = refl
+    other_ticks (WaitOf Outbound i) = ap (λ z. mod_ℤ (z -ℤ (red_start a t Outbound i +ℤ pos (red_ticks a t Outbound i))) (cycle a t)) (other_line Outbound i)
+    other_ticks (WaitOf Inbound i) = ap (λ z. mod_ℤ (red_start a t Inbound i -ℤ z -ℤ pos t.band_in) (cycle a t)) (other_line Inbound i)
+    other_ticks (RunOf d i) = refl
+    other_ticks (ShiftOf i) = refl
+
+    other_point : point other t ≡ point a t
+    other_point = λ i. map (λ c. share a t (other_ticks c i)) (columns (count a))
+
+  -- ---- the rules that don't speak of bands
+  module _ (t : Plan) (g : IsBase a t) where
+    fast_there : (d : Dir) (i : ℕ) → HasLink a i → (run_low other d i *ℚ number t.grid) ≤ℚ number (run t d i)
+    fast_there Outbound i k = g.fast Outbound i k
+    fast_there Inbound i k = g.fast Inbound i k
+
+    slow_there : (d : Dir) (i : ℕ) → HasLink a i → number (run t d i) ≤ℚ (run_high other d i *ℚ number t.grid)
+    slow_there Outbound i k = g.slow Outbound i k
+    slow_there Inbound i k = g.slow Inbound i k
+
+    rise_there : (d : Dir) (i : ℕ) → HasLink a i → HasLink a (i + 1) → IfSome (change other d i) (λ (c : Pair). pace_change other t d i ≤ℚ (c.most *ℚ number t.grid))
+    rise_there Outbound i k l = g.rise Outbound i k l
+    rise_there Inbound i k l = g.rise Inbound i k l
+
+    drop_there : (d : Dir) (i : ℕ) → HasLink a i → HasLink a (i + 1) → IfSome (change other d i) (λ (c : Pair). (c.least *ℚ number t.grid) ≤ℚ pace_change other t d i)
+    drop_there Outbound i k l = g.drop Outbound i k l
+    drop_there Inbound i k l = g.drop Inbound i k l
+
+    other_base : IsBase other t
+    other_base = record {
+      plan = g.plan;
+      shape = g.shape;
+      patterns = g.patterns;
+      cycle_least = g.cycle_least;
+      cycle_most = g.cycle_most;
+      fast = fast_there;
+      slow = slow_there;
+      rise = rise_there;
+      drop = drop_there;
+    }
+
+  -- ---- boxes
+  module _ (box : Area) where
+    other_box : IsBoxOf a box → IsBoxOf other box
+    other_box b = record { loops_count = b.loops_count; turns_count = b.turns_count; spans = b.spans; ranks_order = b.ranks_order; ranks_most = b.ranks_most }
+
+    other_loop : (t : Plan) (i : ℕ) → LoopIn a box t i → LoopIn other box t i
+    other_loop t i l = record { number = l.number; is = ap (λ x. block_sum a x i) (other_point t) ∙ l.is; least = l.least; most = l.most }
+
+    other_turn : (t : Plan) (i : ℕ) → TurnIn a box t i → TurnIn other box t i
+    other_turn t i l = record { rank = l.rank; is = l.is; least = l.least; most = l.most }
+
+    other_inside : (t : Plan) → InBox a box t → InBox other box t
+    other_inside t m = record { loops = λ i k. other_loop t i (m.loops i k); turns = λ i k. other_turn t i (m.turns i k) }
+
+  -- ---- rows that name no band
+  other_has : (n : Name) → NamesNoBand n → HasRow a n → HasRow other n
+  other_has (WaitRow d i) m h = absurd m
+  other_has (FastRow d i) m h = h
+  other_has (SlowRow d i) m h = h
+  other_has (RiseRow Outbound i) m h = h
+  other_has (RiseRow Inbound i) m h = h
+  other_has (DropRow Outbound i) m h = h
+  other_has (DropRow Inbound i) m h = h
+  other_has (CycleLowRow i) m h = h
+  other_has (CycleHighRow i) m h = h
+  other_has (RatioRow i) m h = absurd m
+  other_has (LoopLowRow i) m h = h
+  other_has (LoopHighRow i) m h = h
+  other_has (TurnLowRow i) m h = h
+  other_has (TurnHighRow i) m h = h
+  other_has (LeastRow d i) m h = absurd m
+  other_has (EqualLowRow i) m h = absurd m
+  other_has (EqualHighRow i) m h = absurd m
+  other_has NoRow m h = absurd m
+
+-- ---- without least bands and equal bands
+module _ (a : Street) where
+  pub same_crossing : (t : Plan) (d : Dir) (j : ℕ) → crossing (plain a) t d j ≡ crossing a t d j
+  same_crossing = other_crossing a (number 0) (number 0) false
+
+  pub same_ticks : (t : Plan) (c : Column) → ticks (plain a) t c ≡ ticks a t c
+  same_ticks = other_ticks a (number 0) (number 0) false
+
+  pub same_point : (t : Plan) → point (plain a) t ≡ point a t
+  same_point = other_point a (number 0) (number 0) false
+
+  pub plain_base : (t : Plan) → IsBase a t → IsBase (plain a) t
+  plain_base = other_base a (number 0) (number 0) false
+
+  pub from_plain_base : (t : Plan) → IsBase (plain a) t → IsBase a t
+  from_plain_base = other_base (plain a) a.head.least_out a.head.least_in a.head.equal
+
+  pub plain_box : (box : Area) → IsBoxOf a box → IsBoxOf (plain a) box
+  plain_box = other_box a (number 0) (number 0) false
+
+  pub from_plain_box : (box : Area) → IsBoxOf (plain a) box → IsBoxOf a box
+  from_plain_box = other_box (plain a) a.head.least_out a.head.least_in a.head.equal
+
+  pub plain_inside : (box : Area) (t : Plan) → InBox a box t → InBox (plain a) box t
+  plain_inside = other_inside a (number 0) (number 0) false
+
+  pub from_plain_inside : (box : Area) (t : Plan) → InBox (plain a) box t → InBox a box t
+  from_plain_inside = other_inside (plain a) a.head.least_out a.head.least_in a.head.equal
+
+  pub plain_has : (n : Name) → NamesNoBand n → HasRow a n → HasRow (plain a) n
+  plain_has = other_has a (number 0) (number 0) false
+
+  pub from_plain_has : (n : Name) → NamesNoBand n → HasRow (plain a) n → HasRow a n
+  from_plain_has = other_has (plain a) a.head.least_out a.head.least_in a.head.equal
+
+  pub plain_root : (box : Area) → IsRoot a box → IsRoot (plain a) box
+  plain_root box r = record { loops_count = r.loops_count; turns_count = r.turns_count; loops = r.loops; turns = r.turns }
 
 -- ---- the artery
 module _ (a : Street) (h : IsStreet a) where
-  red_there : (d : Dir) (i : ℕ) → HasSignal a i → 1 ≤ red_parts (plain a) d i
-  red_there Outbound i s = h.red Outbound i s
-  red_there Inbound i s = h.red Inbound i s
+  red_plain : (d : Dir) (i : ℕ) → HasSignal a i → 1 ≤ red_parts (plain a) d i
+  red_plain Outbound i s = h.red Outbound i s
+  red_plain Inbound i s = h.red Inbound i s
 
-  green_there : (d : Dir) (i : ℕ) → HasSignal a i → red_parts (plain a) d i < a.head.parts
-  green_there Outbound i s = h.green Outbound i s
-  green_there Inbound i s = h.green Inbound i s
+  green_plain : (d : Dir) (i : ℕ) → HasSignal a i → red_parts (plain a) d i < a.head.parts
+  green_plain Outbound i s = h.green Outbound i s
+  green_plain Inbound i s = h.green Inbound i s
 
-  least_there : (d : Dir) (i : ℕ) → HasLink a i → number 0 <ℚ (speed (plain a) d i).least
-  least_there Outbound i k = h.speed_least Outbound i k
-  least_there Inbound i k = h.speed_least Inbound i k
+  least_plain : (d : Dir) (i : ℕ) → HasLink a i → number 0 <ℚ (speed (plain a) d i).least
+  least_plain Outbound i k = h.speed_least Outbound i k
+  least_plain Inbound i k = h.speed_least Inbound i k
 
-  most_there : (d : Dir) (i : ℕ) → HasLink a i → number 0 <ℚ (speed (plain a) d i).most
-  most_there Outbound i k = h.speed_most Outbound i k
-  most_there Inbound i k = h.speed_most Inbound i k
+  most_plain : (d : Dir) (i : ℕ) → HasLink a i → number 0 <ℚ (speed (plain a) d i).most
+  most_plain Outbound i k = h.speed_most Outbound i k
+  most_plain Inbound i k = h.speed_most Inbound i k
 
   pub plain_street : IsStreet (plain a)
   plain_street = record {
     signals = h.signals;
-    red = red_there;
-    green = green_there;
+    red = red_plain;
+    green = green_plain;
     cycle_least = h.cycle_least;
     cycle_most = h.cycle_most;
-    speed_least = least_there;
-    speed_most = most_there;
+    speed_least = least_plain;
+    speed_most = most_plain;
   }
-
--- ---- the rules that don't speak of bands
-module _ (a : Street) (t : Plan) (g : IsBase a t) where
-  fast_there : (d : Dir) (i : ℕ) → HasLink a i → (run_low (plain a) d i *ℚ number t.grid) ≤ℚ number (run t d i)
-  fast_there Outbound i k = g.fast Outbound i k
-  fast_there Inbound i k = g.fast Inbound i k
-
-  slow_there : (d : Dir) (i : ℕ) → HasLink a i → number (run t d i) ≤ℚ (run_high (plain a) d i *ℚ number t.grid)
-  slow_there Outbound i k = g.slow Outbound i k
-  slow_there Inbound i k = g.slow Inbound i k
-
-  rise_there : (d : Dir) (i : ℕ) → HasLink a i → HasLink a (i + 1) → IfSome (change (plain a) d i) (λ (c : Pair). pace_change (plain a) t d i ≤ℚ (c.most *ℚ number t.grid))
-  rise_there Outbound i k l = g.rise Outbound i k l
-  rise_there Inbound i k l = g.rise Inbound i k l
-
-  drop_there : (d : Dir) (i : ℕ) → HasLink a i → HasLink a (i + 1) → IfSome (change (plain a) d i) (λ (c : Pair). (c.least *ℚ number t.grid) ≤ℚ pace_change (plain a) t d i)
-  drop_there Outbound i k l = g.drop Outbound i k l
-  drop_there Inbound i k l = g.drop Inbound i k l
-
-  pub plain_base : IsBase (plain a) t
-  plain_base = record {
-    plan = g.plan;
-    shape = g.shape;
-    patterns = g.patterns;
-    cycle_least = g.cycle_least;
-    cycle_most = g.cycle_most;
-    fast = fast_there;
-    slow = slow_there;
-    rise = rise_there;
-    drop = drop_there;
-  }
-
-module _ (a : Street) (t : Plan) (g : IsBase (plain a) t) where
-  fast_here : (d : Dir) (i : ℕ) → HasLink a i → (run_low a d i *ℚ number t.grid) ≤ℚ number (run t d i)
-  fast_here Outbound i k = g.fast Outbound i k
-  fast_here Inbound i k = g.fast Inbound i k
-
-  slow_here : (d : Dir) (i : ℕ) → HasLink a i → number (run t d i) ≤ℚ (run_high a d i *ℚ number t.grid)
-  slow_here Outbound i k = g.slow Outbound i k
-  slow_here Inbound i k = g.slow Inbound i k
-
-  rise_here : (d : Dir) (i : ℕ) → HasLink a i → HasLink a (i + 1) → IfSome (change a d i) (λ (c : Pair). pace_change a t d i ≤ℚ (c.most *ℚ number t.grid))
-  rise_here Outbound i k l = g.rise Outbound i k l
-  rise_here Inbound i k l = g.rise Inbound i k l
-
-  drop_here : (d : Dir) (i : ℕ) → HasLink a i → HasLink a (i + 1) → IfSome (change a d i) (λ (c : Pair). (c.least *ℚ number t.grid) ≤ℚ pace_change a t d i)
-  drop_here Outbound i k l = g.drop Outbound i k l
-  drop_here Inbound i k l = g.drop Inbound i k l
-
-  -- and back
-  pub from_plain_base : IsBase a t
-  from_plain_base = record {
-    plan = g.plan;
-    shape = g.shape;
-    patterns = g.patterns;
-    cycle_least = g.cycle_least;
-    cycle_most = g.cycle_most;
-    fast = fast_here;
-    slow = slow_here;
-    rise = rise_here;
-    drop = drop_here;
-  }
-
--- ---- boxes
-module _ (a : Street) (box : Area) where
-  pub plain_root : IsRoot a box → IsRoot (plain a) box
-  plain_root r = record { loops_count = r.loops_count; turns_count = r.turns_count; loops = r.loops; turns = r.turns }
-
-  pub plain_box : IsBoxOf a box → IsBoxOf (plain a) box
-  plain_box b = record { loops_count = b.loops_count; turns_count = b.turns_count; spans = b.spans; ranks_order = b.ranks_order; ranks_most = b.ranks_most }
-
-  pub from_plain_box : IsBoxOf (plain a) box → IsBoxOf a box
-  from_plain_box b = record { loops_count = b.loops_count; turns_count = b.turns_count; spans = b.spans; ranks_order = b.ranks_order; ranks_most = b.ranks_most }
-
-  module _ (t : Plan) where
-    same_block : (i : ℕ) → block_sum (plain a) (point (plain a) t) i ≡ block_sum a (point a t) i
-    same_block i = ap (λ x. block_sum a x i) (same_point a t)
-
-    loop_to : (i : ℕ) → LoopIn a box t i → LoopIn (plain a) box t i
-    loop_to i l = record { number = l.number; is = same_block i ∙ l.is; least = l.least; most = l.most }
-
-    loop_from : (i : ℕ) → LoopIn (plain a) box t i → LoopIn a box t i
-    loop_from i l = record { number = l.number; is = sym (same_block i) ∙ l.is; least = l.least; most = l.most }
-
-    turn_to : (i : ℕ) → TurnIn a box t i → TurnIn (plain a) box t i
-    turn_to i l = record { rank = l.rank; is = l.is; least = l.least; most = l.most }
-
-    turn_from : (i : ℕ) → TurnIn (plain a) box t i → TurnIn a box t i
-    turn_from i l = record { rank = l.rank; is = l.is; least = l.least; most = l.most }
-
-    pub plain_inside : InBox a box t → InBox (plain a) box t
-    plain_inside m = record { loops = λ i k. loop_to i (m.loops i k); turns = λ i k. turn_to i (m.turns i k) }
-
-    pub from_plain_inside : InBox (plain a) box t → InBox a box t
-    from_plain_inside m = record { loops = λ i k. loop_from i (m.loops i k); turns = λ i k. turn_from i (m.turns i k) }
 
 -- ---- rows
 module _ (a : Street) (box : Area) where
@@ -189,44 +207,3 @@ module _ (a : Street) (box : Area) where
   same_form (EqualLowRow i) m = absurd m
   same_form (EqualHighRow i) m = absurd m
   same_form NoRow m = absurd m
-
--- the artery has the same of these rows
-pub plain_has : (a : Street) (n : Name) → NamesNoBand n → HasRow a n → HasRow (plain a) n
-plain_has a (WaitRow d i) m h = absurd m
-plain_has a (FastRow d i) m h = h
-plain_has a (SlowRow d i) m h = h
-plain_has a (RiseRow Outbound i) m h = h
-plain_has a (RiseRow Inbound i) m h = h
-plain_has a (DropRow Outbound i) m h = h
-plain_has a (DropRow Inbound i) m h = h
-plain_has a (CycleLowRow i) m h = h
-plain_has a (CycleHighRow i) m h = h
-plain_has a (RatioRow i) m h = absurd m
-plain_has a (LoopLowRow i) m h = h
-plain_has a (LoopHighRow i) m h = h
-plain_has a (TurnLowRow i) m h = h
-plain_has a (TurnHighRow i) m h = h
-plain_has a (LeastRow d i) m h = absurd m
-plain_has a (EqualLowRow i) m h = absurd m
-plain_has a (EqualHighRow i) m h = absurd m
-plain_has a NoRow m h = absurd m
-
-pub from_plain_has : (a : Street) (n : Name) → NamesNoBand n → HasRow (plain a) n → HasRow a n
-from_plain_has a (WaitRow d i) m h = absurd m
-from_plain_has a (FastRow d i) m h = h
-from_plain_has a (SlowRow d i) m h = h
-from_plain_has a (RiseRow Outbound i) m h = h
-from_plain_has a (RiseRow Inbound i) m h = h
-from_plain_has a (DropRow Outbound i) m h = h
-from_plain_has a (DropRow Inbound i) m h = h
-from_plain_has a (CycleLowRow i) m h = h
-from_plain_has a (CycleHighRow i) m h = h
-from_plain_has a (RatioRow i) m h = absurd m
-from_plain_has a (LoopLowRow i) m h = h
-from_plain_has a (LoopHighRow i) m h = h
-from_plain_has a (TurnLowRow i) m h = h
-from_plain_has a (TurnHighRow i) m h = h
-from_plain_has a (LeastRow d i) m h = absurd m
-from_plain_has a (EqualLowRow i) m h = absurd m
-from_plain_has a (EqualHighRow i) m h = absurd m
-from_plain_has a NoRow m h = absurd m

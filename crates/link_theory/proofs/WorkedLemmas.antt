@@ -1,19 +1,17 @@
 -- The worked link timings, computed.
-use Rattle.std.proofs.Common.{◌≡◌, ℕ, zero, suc, ◌+◌, ℤ, pos, refl, arith}
+use Rattle.std.proofs.Common.{◌≡◌, ℕ, ◌+◌, ℤ, pos, refl, arith}
 use Rattle.std.proofs.Common.{true, ap}
 use Rattle.std.specs.Ordering.{is_lt}
 use Rattle.rational_theory.specs.Rational.{whole, over, inverse_ℚ, neg_ℚ, ◌+ℚ◌, ◌*ℚ◌, ◌/ℚ◌}
 use Rattle.rational_theory.specs.Compare.{cmp_ℚ}
 use Rattle.rational_theory.specs.Gcd.{gcd}
 use Rattle.rational_theory.proofs.Arithmetic.{same_cross}
-use Rattle.progression.specs.Street.{HasLink}
 use Rattle.progression.specs.Speeds.{number}
 use Rattle.progression.specs.Good.{RatioHolds}
 use Rattle.progression.specs.Worked.{two_signals}
-use Rattle.progression.proofs.WorkedLemmas.{whole_greens}
-use Rattle.progression.specs.declared.parts.Dir.{Dir}
+use Rattle.progression.proofs.WorkedLemmas.{at_link, both, whole_greens}
 use Rattle.progression.specs.declared.parts.Dir.TheVariants.{Outbound, Inbound}
-use Rattle.link_theory.specs.LinkPlan.{half}
+use Rattle.link_theory.specs.LinkPlan.{LinkPlan, half}
 use Rattle.link_theory.specs.GoodLinks.{GoodLinks, IsGreenAround}
 use Rattle.link_theory.specs.BestLinks.{link_value}
 use Rattle.linear_theory.proofs.Ratios.{at_one}
@@ -24,22 +22,19 @@ use Rattle.linear_theory.specs.Rows.{minus_one}
 use Rattle.link_theory.specs.LinkNames.{link_name_of, link_row}
 use Rattle.link_theory.specs.Worked.{link_timing, half_as_much, row_of_cells, WorkedLinks}
 
--- a rule of the only link
-at_link : (P : ℕ → Type 0) → P 1 → (i : ℕ) → HasLink two_signals i → P i
-at_link P p zero h = absurd (omega (arith, h.0))
-at_link P p (suc zero) h = p
-at_link P p (suc (suc i)) h = absurd (omega (arith, h.1))
+module _ (first_out : ℤ) (half_out : ℕ) where
+  abbrev worked : LinkPlan
+  worked = link_timing first_out half_out 50
 
-both : (P : Dir → Type 0) → P Outbound → P Inbound → (d : Dir) → P d
-both P p q Outbound = p
-both P p q Inbound = q
+  in_here : IsGreenAround two_signals worked Inbound 1 50
+  in_here = (around_before 200 100 (pos 0) (pos 350) 50 (omega arith) (omega arith)).1 (omega arith, omega arith)
 
-module _ (first_out : ℤ) (half_out half_in : ℕ) where
+  in_next : IsGreenAround two_signals worked Inbound 2 50
+  in_next = (around_before 200 100 (pos 100) (pos 250) 50 (omega arith) (omega arith)).1 (omega arith, omega arith)
+
   -- the rules that name no half are those of the worked timing
-  good : ((d : Dir) → IsGreenAround two_signals (link_timing first_out half_out half_in) d 1 (half (link_timing first_out half_out half_in) d 1))
-      → ((d : Dir) → IsGreenAround two_signals (link_timing first_out half_out half_in) d 2 (half (link_timing first_out half_out half_in) d 1))
-      → GoodLinks two_signals (link_timing first_out half_out half_in)
-  good p q = let g = whole_greens.base in record {
+  good : IsGreenAround two_signals worked Outbound 1 half_out → IsGreenAround two_signals worked Outbound 2 half_out → GoodLinks two_signals worked
+  good out_here out_next = let g = whole_greens.base in record {
     plan = record { lines = record { grid = omega arith; unit = omega arith; reds = refl; run_out = refl; run_in = refl }; half_out = refl; half_in = refl };
     base = record {
       plan = record { grid = omega arith; unit = omega arith; reds = refl; run_out = refl; run_in = refl };
@@ -52,21 +47,17 @@ module _ (first_out : ℤ) (half_out half_in : ℕ) where
       rise = g.rise;
       drop = g.drop;
     };
-    ratio = at_link (λ i. RatioHolds (number 1) (half (link_timing first_out half_out half_in) Outbound i) (half (link_timing first_out half_out half_in) Inbound i)) (at_one (number 1) half_out half_in refl);
-    here = λ d. at_link (λ i. IsGreenAround two_signals (link_timing first_out half_out half_in) d i (half (link_timing first_out half_out half_in) d i)) (p d);
-    there = λ d. at_link (λ i. IsGreenAround two_signals (link_timing first_out half_out half_in) d (i + 1) (half (link_timing first_out half_out half_in) d i)) (q d);
+    ratio = at_link two_signals refl (λ i. RatioHolds (number 1) (half worked Outbound i) (half worked Inbound i)) (at_one (number 1) half_out 50 refl);
+    here = λ d. at_link two_signals refl (λ i. IsGreenAround two_signals worked d i (half worked d i)) (both (λ d. IsGreenAround two_signals worked d 1 (half worked d 1)) out_here in_here d);
+    there = λ d. at_link two_signals refl (λ i. IsGreenAround two_signals worked d (i + 1) (half worked d i)) (both (λ d. IsGreenAround two_signals worked d 2 (half worked d 1)) out_next in_next d);
   }
 
 -- ---- each of them
 in_the_middle : GoodLinks two_signals (link_timing (pos 150) 50 50)
 in_the_middle =
-    good (pos 150) 50 50
-    (both (λ d. IsGreenAround two_signals (link_timing (pos 150) 50 50) d 1 (half (link_timing (pos 150) 50 50) d 1))
+    good (pos 150) 50
     ((around_after 200 100 (pos 0) (pos 150) 50 (omega arith) (omega arith)).1 (omega arith, omega arith))
-    ((around_before 200 100 (pos 0) (pos 350) 50 (omega arith) (omega arith)).1 (omega arith, omega arith)))
-    (both (λ d. IsGreenAround two_signals (link_timing (pos 150) 50 50) d 2 (half (link_timing (pos 150) 50 50) d 1))
     ((around_after 200 100 (pos 100) (pos 250) 50 (omega arith) (omega arith)).1 (omega arith, omega arith))
-    ((around_before 200 100 (pos 100) (pos 250) 50 (omega arith) (omega arith)).1 (omega arith, omega arith)))
 
 their_value : link_value two_signals (link_timing (pos 150) 50 50) ≡ number 1
 unfolding whole over inverse_ℚ ◌+ℚ◌ ◌*ℚ◌ gcd
@@ -77,13 +68,9 @@ too_wide g = let w = ((around_after 200 100 (pos 0) (pos 150) 51 (omega arith) (
 
 at_the_red : GoodLinks two_signals (link_timing (pos 200) 0 50)
 at_the_red =
-    good (pos 200) 0 50
-    (both (λ d. IsGreenAround two_signals (link_timing (pos 200) 0 50) d 1 (half (link_timing (pos 200) 0 50) d 1))
+    good (pos 200) 0
     ((around_after 200 100 (pos 0) (pos 200) 0 (omega arith) (omega arith)).1 (omega arith, omega arith))
-    ((around_before 200 100 (pos 0) (pos 350) 50 (omega arith) (omega arith)).1 (omega arith, omega arith)))
-    (both (λ d. IsGreenAround two_signals (link_timing (pos 200) 0 50) d 2 (half (link_timing (pos 200) 0 50) d 1))
     ((around_after 200 100 (pos 100) (pos 300) 0 (omega arith) (omega arith)).1 (omega arith, omega arith))
-    ((around_before 200 100 (pos 100) (pos 250) 50 (omega arith) (omega arith)).1 (omega arith, omega arith)))
 
 not_around : ¬ GoodLinks two_signals (link_timing (pos 200) 1 50)
 not_around g = let w = ((around_after 200 100 (pos 0) (pos 200) 1 (omega arith) (omega arith)).0 (g.here Outbound 1 (omega arith, omega arith))).1 in absurd (omega arith)

@@ -9,13 +9,14 @@ use Rattle.rational_theory.proofs.Arithmetic.{own_ratio, whole_ratio, ≤ℚ_in,
 use Rattle.rational_theory.specs.Floor.{floor_ℚ, ceil_ℚ}
 
 -- z * d ≤ a exactly where z ≤ a / d
-down_out : (z a : ℤ) (d : ℕ) → 0 < d → up z * d + down a * 1 ≤ down z * d + up a * 1 → z ≤ℤ int_div_euclid a (pos d)
+pub down_out : (z a : ℤ) (d : ℕ) → 0 < d → up z * d + down a * 1 ≤ down z * d + up a * 1 → z ≤ℤ int_div_euclid a (pos d)
 down_out (pos n) (pos a) d h k = let m : n ≤ a / d = (le-div_iff_mul-le h).1 (omega arith) in omega (arith, ints)
 down_out (pos n) (negsuc a) d h k = absurd (omega arith)
 down_out (negsuc n) (pos a) d h k = omega (arith, ints)
 down_out (negsuc n) (negsuc a) d h k = let m : a / d < suc n = (div-lt_iff_lt-mul h).1 (omega arith) in omega (arith, ints)
 
-down_in : (z a : ℤ) (d : ℕ) → 0 < d → z ≤ℤ int_div_euclid a (pos d) → up z * d + down a * 1 ≤ down z * d + up a * 1
+-- and back
+pub down_in : (z a : ℤ) (d : ℕ) → 0 < d → z ≤ℤ int_div_euclid a (pos d) → up z * d + down a * 1 ≤ down z * d + up a * 1
 down_in (pos n) (pos a) d h k = let m : n * d ≤ a = (le-div_iff_mul-le h).0 (omega (arith, ints)) in omega arith
 down_in (pos n) (negsuc a) d h k = absurd (omega (arith, ints))
 down_in (negsuc n) (pos a) d h k = omega arith

@@ -10,7 +10,7 @@ use Rattle.rational_theory.specs.Compare.{cmp_ℚ}
 use Rattle.rational_theory.proofs.Compare.{lt_true, lt_false, eq_true, eq_false}
 use Rattle.rational_theory.specs.Floor.{floor_ℚ}
 use Rattle.rational_theory.proofs.Floor.{floor_is}
-use Rattle.rational_theory.proofs.Ring.{at, minus, Term, ◌⊕◌, ◌⊗◌}
+use Rattle.rational_theory.proofs.Ring.{at, minus, ◌⊕◌, ◌⊗◌}
 use Rattle.rational_theory.proofs.Linear.{linear}
 use Rattle.rational_theory.proofs.Shares.{quotient_times}
 use Rattle.progression.specs.Street.{Street, count, HasSignal, HasLink}
@@ -21,10 +21,11 @@ use Rattle.linear_theory.specs.Places.{value_at}
 use Rattle.linear_theory.specs.Shifts.{shifts_of, shift_at, shift_count}
 use Rattle.linear_theory.specs.Blocks.{part, red_here, clear_next, clear_here, block_sum}
 use Rattle.linear_theory.specs.Boxes.{Area, IsBoxOf, loop_span, turn_span, IsLoopPlace, IsTurnPlace}
-use Rattle.linear_theory.specs.Rows.{minus_one, block_entries, loop_low_form, loop_high_form, turn_low_form, turn_high_form}
+use Rattle.linear_theory.specs.Rows.{minus_one, loop_low_form, loop_high_form, turn_low_form, turn_high_form}
 use Rattle.linear_theory.specs.Names.{LoopLowRow, LoopHighRow, TurnLowRow, TurnHighRow}
-use Rattle.linear_theory.proofs.Terms.{one, less_one, zero_term, block_term}
-use Rattle.linear_theory.proofs.SparseSums.{InOrder, line_total}
+use Rattle.linear_theory.proofs.Terms.{one, less_one, zero_term, whole_term, cells_term, constant_term}
+use Rattle.linear_theory.proofs.SparseSums.{line_total}
+use Rattle.linear_theory.proofs.BoxRowLaws.{block_in_order}
 use Rattle.linear_theory.specs.Counts.{IsStreet}
 use Rattle.linear_theory.proofs.RankedShifts.{shifts_ascend, rising, rising_strictly}
 use Rattle.linear_theory.proofs.Ranges.{parts_above, some_signal}
@@ -134,14 +135,6 @@ last_in a i parts (suc n) h =
 
 module _ (a : Street) (box : Area) (x : List ℚ) (h : IsStreet a) (b : IsBoxOf a box) (v : IsLongVertex a box x) where
   module _ (i : ℕ) (k : HasLink a i) where
-    -- the columns of a block sum stand in order
-    in_order : (p m : ℚ) → InOrder (count a) 0 (block_entries i p m)
-    in_order p m =
-        let l = k.1 in
-        let here : (1 ≤ i) × (i ≤ count a) = (k.0, omega arith) in
-        let next : (1 ≤ i + 1) × (i + 1 ≤ count a) = (omega arith, omega arith) in
-        (omega arith, here, (omega arith, next, (omega arith, here, (omega arith, next, (omega arith, k, (omega arith, k, (omega arith, here, (omega arith, next, tt))))))))
-
     -- the values of its columns, then its reds and clearances, then a number of the box
     abbrev block_values : ℚ → List ℚ
     block_values z = let n = count a in
@@ -149,27 +142,17 @@ module _ (a : Street) (box : Area) (x : List ℚ) (h : IsStreet a) (b : IsBoxOf 
         ∷ value_at n x (RunOf Outbound i) ∷ value_at n x (RunOf Inbound i) ∷ value_at n x (ShiftOf i) ∷ value_at n x (ShiftOf (i + 1))
         ∷ red_here a i ∷ red_here a (i + 1) ∷ clear_next a i ∷ clear_here a i ∷ z ∷ []
 
-    abbrev whole_term : Term
-    whole_term = block_term (at 0) (at 1) (at 2) (at 3) (at 4) (at 5) (at 6) (at 7) (at 8) (at 9) (at 10) (at 11)
-
-    abbrev cells_term : Term → Term → Term
-    cells_term p m =
-        p ⊗ at 0 ⊕ (m ⊗ at 2 ⊕ (p ⊗ at 1 ⊕ (m ⊗ at 3 ⊕ (p ⊗ at 4 ⊕ (p ⊗ at 5 ⊕ (p ⊗ at 6 ⊕ (m ⊗ at 7 ⊕ zero_term)))))))
-
-    abbrev constant_term : Term
-    constant_term = at 8 ⊕ minus (at 9) ⊕ minus (at 10) ⊕ minus (at 11)
-
     -- the block sum lies in the span
     sum_least : whole (loop_span box i).least ≤ℚ block_sum a x i
     sum_least =
         let f = loop_low_form a box i in
-        let row = subst (λ y. y ≤ℚ f.bound) (line_total a f x (some_signal a h) (in_order minus_one (number 1))) (v.rows (LoopLowRow i) k).met in
+        let row = subst (λ y. y ≤ℚ f.bound) (line_total a f x (some_signal a h) (block_in_order a i k minus_one (number 1))) (v.rows (LoopLowRow i) k).met in
         linear (record { count = 1; low = cells_term less_one one; high = constant_term ⊕ minus (at 12) } ∷ []) 0 (at 12) whole_term (block_values (whole (loop_span box i).least)) (row, tt) refl
 
     sum_most : block_sum a x i ≤ℚ whole (loop_span box i).most
     sum_most =
         let f = loop_high_form a box i in
-        let row = subst (λ y. y ≤ℚ f.bound) (line_total a f x (some_signal a h) (in_order (number 1) minus_one)) (v.rows (LoopHighRow i) k).met in
+        let row = subst (λ y. y ≤ℚ f.bound) (line_total a f x (some_signal a h) (block_in_order a i k (number 1) minus_one)) (v.rows (LoopHighRow i) k).met in
         linear (record { count = 1; low = cells_term one less_one; high = at 12 ⊕ minus constant_term } ∷ []) 0 whole_term (at 12) (block_values (whole (loop_span box i).most)) (row, tt) refl
 
     -- so the span has a number

@@ -3,7 +3,7 @@ use Rattle.std.proofs.Common.{◌≡◌, ℕ, pos, ◌+◌, ◌-◌, ◌*◌, �
 use Rattle.std.proofs.lemmas.Int.{ints}
 use Rattle.std.specs.Prelude.{Option, None, Some, IfSome, is_some, if◌then◌else◌}
 use Rattle.std.specs.Ordering.{is_lt, MatchOrdering}
-use Rattle.rational_theory.specs.Rational.{ℚ, inverse_ℚ, ◌-ℚ◌, ◌*ℚ◌, ◌/ℚ◌, ◌≤ℚ◌, ◌<ℚ◌}
+use Rattle.rational_theory.specs.Rational.{ℚ, neg_ℚ, inverse_ℚ, ◌-ℚ◌, ◌*ℚ◌, ◌/ℚ◌, ◌≤ℚ◌, ◌<ℚ◌}
 use Rattle.rational_theory.proofs.Arithmetic.{*ℚ_assoc, *ℚ-zero}
 use Rattle.rational_theory.proofs.Order.{≤ℚ_refl, <ℚ-≤ℚ, <ℚ_not-≤ℚ, *ℚ-inverse, above_not_zero, inverse_not_zero, ≤ℤ_whole}
 use Rattle.rational_theory.specs.Compare.{cmp_ℚ}
@@ -20,14 +20,16 @@ use Rattle.progression.specs.Green.{BandIsGreen, red_start, red_ticks}
 use Rattle.progression.specs.Lines.{crossing, line_at, IsGreenWay}
 use Rattle.progression.specs.Good.{Good, RatioHolds, pace_change, HasEqualBands, HasLeastBand}
 use Rattle.progression.specs.Best.{weighted_band}
+use Rattle.progression.specs.Columns.{Frequency, RunOf}
 use Rattle.progression.specs.declared.parts.Pair.{Pair}
 use Rattle.progression.specs.declared.parts.Dir.{Dir}
 use Rattle.progression.specs.declared.parts.Dir.TheVariants.{Outbound, Inbound}
 use Rattle.linear_theory.proofs.Ranges.{some_signal}
 use Rattle.linear_theory.specs.Boxes.{Area}
-use Rattle.linear_theory.specs.Rows.{Form, line, fast_form, slow_form, rise_form, drop_form, cycle_low_form, cycle_high_form, ratio_below_form, ratio_above_form, goal_form, least_form, equal_low_form, equal_high_form}
+use Rattle.linear_theory.specs.Rows.{Form, minus_one, one_over, line, fast_form, slow_form, rise_form, drop_form, cycle_low_form, cycle_high_form, ratio_below_form, ratio_above_form, goal_form, least_form, equal_low_form, equal_high_form}
 use Rattle.linear_theory.specs.Names.{FastRow, SlowRow, RiseRow, DropRow, CycleLowRow, CycleHighRow, RatioRow, LeastRow, EqualLowRow, EqualHighRow, limits_form}
 use Rattle.linear_theory.proofs.Terms.{one, less_one, zero_term}
+use Rattle.linear_theory.proofs.SparseSums.{InOrder}
 use Rattle.linear_theory.specs.Counts.{IsStreet}
 use Rattle.linear_theory.proofs.Points.{share, length-numbered}
 use Rattle.linear_theory.proofs.Divided.{number_above, inverse_not_negative, number_not_negative}
@@ -104,25 +106,22 @@ module _ (a : Street) (box : Area) (x : List ℚ) (h : IsStreet a) (v : IsLongVe
       absurd (omega (arith, ints)))
 
   -- ---- runs
+  -- the columns of a run's row stand in order
+  run_in_order : (d : Dir) (i : ℕ) → HasLink a i → (f p : ℚ) → InOrder (count a) 0 ((Frequency, f) ∷ (RunOf d i, p) ∷ [])
+  run_in_order Outbound i k f p = (omega arith, tt, (omega arith, k, tt))
+  run_in_order Inbound i k f p = (omega arith, tt, (omega arith, k, tt))
+
   fast : (d : Dir) (i : ℕ) → HasLink a i → (run_low a d i *ℚ number timing.grid) ≤ℚ number (run timing d i)
-  fast Outbound i s =
-      let row = row_shown a box x h v w (fast_form a Outbound i) (omega arith, tt, (omega arith, s, tt)) (v.rows (FastRow Outbound i) s) in
+  fast d i s =
+      let row = row_shown a box x h v w (fast_form a d i) (run_in_order d i s (run_low a d i) minus_one) (v.rows (FastRow d i) s) in
       undivided _ _ (linear (record { count = 1; low = at 0 ⊗ (at 1 ⊗ at 3) ⊕ (less_one ⊗ (at 2 ⊗ at 3) ⊕ zero_term); high = zero_term } ∷ []) 0
-      (at 0 ⊗ at 1 ⊗ at 3) (at 2 ⊗ at 3) (run_low a Outbound i ∷ number timing.grid ∷ number (run timing Outbound i) ∷ per_cycle ∷ []) (row, tt) refl)
-  fast Inbound i s =
-      let row = row_shown a box x h v w (fast_form a Inbound i) (omega arith, tt, (omega arith, s, tt)) (v.rows (FastRow Inbound i) s) in
-      undivided _ _ (linear (record { count = 1; low = at 0 ⊗ (at 1 ⊗ at 3) ⊕ (less_one ⊗ (at 2 ⊗ at 3) ⊕ zero_term); high = zero_term } ∷ []) 0
-      (at 0 ⊗ at 1 ⊗ at 3) (at 2 ⊗ at 3) (run_low a Inbound i ∷ number timing.grid ∷ number (run timing Inbound i) ∷ per_cycle ∷ []) (row, tt) refl)
+      (at 0 ⊗ at 1 ⊗ at 3) (at 2 ⊗ at 3) (run_low a d i ∷ number timing.grid ∷ number (run timing d i) ∷ per_cycle ∷ []) (row, tt) refl)
 
   pub slow : (d : Dir) (i : ℕ) → HasLink a i → number (run timing d i) ≤ℚ (run_high a d i *ℚ number timing.grid)
-  slow Outbound i s =
-      let row = row_shown a box x h v w (slow_form a Outbound i) (omega arith, tt, (omega arith, s, tt)) (v.rows (SlowRow Outbound i) s) in
+  slow d i s =
+      let row = row_shown a box x h v w (slow_form a d i) (run_in_order d i s (neg_ℚ (run_high a d i)) (number 1)) (v.rows (SlowRow d i) s) in
       undivided _ _ (linear (record { count = 1; low = minus (at 0) ⊗ (at 1 ⊗ at 3) ⊕ (one ⊗ (at 2 ⊗ at 3) ⊕ zero_term); high = zero_term } ∷ []) 0
-      (at 2 ⊗ at 3) (at 0 ⊗ at 1 ⊗ at 3) (run_high a Outbound i ∷ number timing.grid ∷ number (run timing Outbound i) ∷ per_cycle ∷ []) (row, tt) refl)
-  slow Inbound i s =
-      let row = row_shown a box x h v w (slow_form a Inbound i) (omega arith, tt, (omega arith, s, tt)) (v.rows (SlowRow Inbound i) s) in
-      undivided _ _ (linear (record { count = 1; low = minus (at 0) ⊗ (at 1 ⊗ at 3) ⊕ (one ⊗ (at 2 ⊗ at 3) ⊕ zero_term); high = zero_term } ∷ []) 0
-      (at 2 ⊗ at 3) (at 0 ⊗ at 1 ⊗ at 3) (run_high a Inbound i ∷ number timing.grid ∷ number (run timing Inbound i) ∷ per_cycle ∷ []) (row, tt) refl)
+      (at 2 ⊗ at 3) (at 0 ⊗ at 1 ⊗ at 3) (run_high a d i ∷ number timing.grid ∷ number (run timing d i) ∷ per_cycle ∷ []) (row, tt) refl)
 
   -- ---- changes of pace
   abbrev pace_values : Dir → ℕ → ℚ → List ℚ
@@ -142,22 +141,21 @@ module _ (a : Street) (box : Area) (x : List ℚ) (h : IsStreet a) (v : IsLongVe
   abbrev drop_term : Term
   drop_term = at 0 ⊗ (at 1 ⊗ at 6) ⊕ ((one ⊗ at 3) ⊗ (at 2 ⊗ at 6) ⊕ (minus (one ⊗ at 5) ⊗ (at 4 ⊗ at 6) ⊕ zero_term))
 
+  -- the columns of a change of pace stand in order
+  pace_in_order : (d : Dir) (i : ℕ) → HasLink a i → HasLink a (i + 1) → (f p q : ℚ) → InOrder (count a) 0 ((Frequency, f) ∷ (RunOf d i, p) ∷ (RunOf d (i + 1), q) ∷ [])
+  pace_in_order Outbound i k l f p q = (omega arith, tt, (omega arith, k, (omega arith, l, tt)))
+  pace_in_order Inbound i k l f p q = (omega arith, tt, (omega arith, k, (omega arith, l, tt)))
+
   module _ (i : ℕ) (k : HasLink a i) (l : HasLink a (i + 1)) (c : Pair) where
     rise_holds : (d : Dir) → IsMet x (line a (rise_form a d i c)) → pace_change a timing d i ≤ℚ (c.most *ℚ number timing.grid)
-    rise_holds Outbound m =
-        let row = row_shown a box x h v w (rise_form a Outbound i c) (omega arith, tt, (omega arith, k, (omega arith, l, tt))) m in
-        undivided _ _ (linear (record { count = 1; low = rise_term; high = zero_term } ∷ []) 0 change_term limit_term (pace_values Outbound i c.most) (row, tt) refl)
-    rise_holds Inbound m =
-        let row = row_shown a box x h v w (rise_form a Inbound i c) (omega arith, tt, (omega arith, k, (omega arith, l, tt))) m in
-        undivided _ _ (linear (record { count = 1; low = rise_term; high = zero_term } ∷ []) 0 change_term limit_term (pace_values Inbound i c.most) (row, tt) refl)
+    rise_holds d m =
+        let row = row_shown a box x h v w (rise_form a d i c) (pace_in_order d i k l (neg_ℚ c.most) (neg_ℚ (one_over a d i)) (one_over a d (i + 1))) m in
+        undivided _ _ (linear (record { count = 1; low = rise_term; high = zero_term } ∷ []) 0 change_term limit_term (pace_values d i c.most) (row, tt) refl)
 
     drop_holds : (d : Dir) → IsMet x (line a (drop_form a d i c)) → (c.least *ℚ number timing.grid) ≤ℚ pace_change a timing d i
-    drop_holds Outbound m =
-        let row = row_shown a box x h v w (drop_form a Outbound i c) (omega arith, tt, (omega arith, k, (omega arith, l, tt))) m in
-        undivided _ _ (linear (record { count = 1; low = drop_term; high = zero_term } ∷ []) 0 limit_term change_term (pace_values Outbound i c.least) (row, tt) refl)
-    drop_holds Inbound m =
-        let row = row_shown a box x h v w (drop_form a Inbound i c) (omega arith, tt, (omega arith, k, (omega arith, l, tt))) m in
-        undivided _ _ (linear (record { count = 1; low = drop_term; high = zero_term } ∷ []) 0 limit_term change_term (pace_values Inbound i c.least) (row, tt) refl)
+    drop_holds d m =
+        let row = row_shown a box x h v w (drop_form a d i c) (pace_in_order d i k l c.least (one_over a d i) (neg_ℚ (one_over a d (i + 1)))) m in
+        undivided _ _ (linear (record { count = 1; low = drop_term; high = zero_term } ∷ []) 0 limit_term change_term (pace_values d i c.least) (row, tt) refl)
 
   -- where limits are given
   where_given : (P : Pair → Type 0) (f : Pair → Form) (o : Option Pair) → ((c : Pair) → IsMet x (line a (f c)) → P c) → (IsTrue (is_some o) → IsMet x (line a (limits_form f o))) → IfSome o P

@@ -26,7 +26,7 @@ use Rattle.recovery_theory.proofs.Wholes.{floor_whole, ticks_from_parts}
 use Rattle.recovery_theory.proofs.Placed.{run_is, pattern_is}
 use Rattle.recovery_theory.proofs.Waits.{turned_mod, out_turned, in_turned}
 use Rattle.recovery_theory.proofs.Fitting.{fitting_allowed, fitting_shift}
-use Rattle.recovery_theory.proofs.Ticked.{num_whole, den_whole, some_cycle, column_is, block_ticks, wait_ticks}
+use Rattle.recovery_theory.proofs.Ticked.{num_whole, den_whole, some_cycle, column_is, block_ticks, wait_less}
 
 module _ (a : Street) (box : Area) (x : List ℚ) (h : IsStreet a) (v : IsLongVertex a box x) (w : IsWhole a x) where
   abbrev pub timing : Plan
@@ -66,17 +66,10 @@ module _ (a : Street) (box : Area) (x : List ℚ) (h : IsStreet a) (v : IsLongVe
       ticks_from_parts a x (parts_above a h) v.not_negative j l ∙ ap₂ (λ n u. n * u) top (sym unit) ∙ ap (λ n. n * unit_of a x) (sym (shift_is i s))
 
   -- ---- waits
-  pub below : (d : Dir) (i : ℕ) → HasSignal a i → ticks_of a x (WaitOf d i) < a.head.parts * unit_of a x
-  below d i s =
-      let e = wait_ticks a box x h v d i s in
-      let u = unit_least a x in
-      let r : 0 < red_parts a d i * unit_of a x = mul-pos (h.red d i s) (omega arith) in
-      omega arith
-
   pub wait_is : (d : Dir) (i : ℕ) → HasSignal a i → wait a timing d i ≡ ticks_of a x (WaitOf d i)
-  wait_is Outbound i s = turned_mod (out_turned a (unit_of a x) (ticks_of a x) (pattern_at a x) (some_cycle a box x h v) i s) (below Outbound i s)
+  wait_is Outbound i s = turned_mod (out_turned a (unit_of a x) (ticks_of a x) (pattern_at a x) (some_cycle a box x h v) i s) (wait_less a box x h v Outbound i s)
   wait_is Inbound i s =
-      turned_mod (in_turned a (unit_of a x) (ticks_of a x) (pattern_at a x) (some_cycle a box x h v) allowed shift_ticks (λ j k. block_ticks a box x h v j k (w.blocks j k)) i s) (below Inbound i s)
+      turned_mod (in_turned a (unit_of a x) (ticks_of a x) (pattern_at a x) (some_cycle a box x h v) allowed shift_ticks (λ j k. block_ticks a box x h v j k (w.blocks j k)) i s) (wait_less a box x h v Inbound i s)
 
   -- ---- all columns
   ticks_are : (c : Column) → IsColumn (count a) c → ticks a timing c ≡ ticks_of a x c

@@ -25,14 +25,7 @@ number-≤ : (m n : ℕ) → number m ≤ℚ number n → m ≤ n
 number-≤ m n h = let e = ≤ℤ_whole (pos m) (pos n) h in omega (arith, ints)
 
 module _ (a : Street) (box : Area) (x : List ℚ) (h : IsStreet a) (v : IsLongVertex a box x) where
-  -- a wait and a band are shorter than the cycle
-  pub wait_less : (d : Dir) (i : ℕ) → HasSignal a i → ticks_of a x (WaitOf d i) < a.head.parts * unit_of a x
-  wait_less d i s =
-      let e = wait_ticks a box x h v d i s in
-      let u = unit_least a x in
-      let r : 0 < red_parts a d i * unit_of a x = mul-pos (h.red d i s) (omega arith) in
-      omega arith
-
+  -- a band is shorter than the cycle
   pub band_less : (d : Dir) → ticks_of a x (BandOf d) < a.head.parts * unit_of a x
   band_less d =
       let e = wait_ticks a box x h v d 1 (omega arith, (some_signal a h)) in

@@ -106,3 +106,11 @@ module _ (a : Street) (box : Area) (x : List ℚ) (h : IsStreet a) (v : IsLongVe
     where
       of_signal : (d : Dir) (i : ℕ) → HasSignal a i → IsColumn (count a) (WaitOf d i)
       of_signal d i s = s
+
+  -- so a wait is shorter than the cycle
+  pub wait_less : (d : Dir) (i : ℕ) → HasSignal a i → ticks_of a x (WaitOf d i) < cycle_of
+  wait_less d i s =
+      let e = wait_ticks d i s in
+      let u = unit_least a x in
+      let r : 0 < red_parts a d i * unit_of a x = mul-pos (h.red d i s) (omega arith) in
+      omega arith
