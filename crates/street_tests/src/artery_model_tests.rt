@@ -121,7 +121,11 @@ fn head(record: Record<'_>) -> Result<Head, Fail> {
     let is_metric = record.behind("units")? == "metric";
     Ok(Head {
         name: None,
-        units: if is_metric { Units::Metric } else { Units::English },
+        units: if is_metric {
+            Units::Metric
+        } else {
+            Units::English
+        },
         version: record.small("version", 0)?,
         parts: record.small("parts", 0)?,
         cycle: pair(record, "cycle")?,
@@ -167,7 +171,8 @@ impl Reader for Arteries {
 }
 
 /// Three signals with left turns, and units of feet and miles.
-static FEET: &str = "units english|signals 3|links 2|red 40|left 5 10|distance 264|speed 30 60|change -33 66";
+static FEET: &str =
+    "units english|signals 3|links 2|red 40|left 5 10|distance 264|speed 30 60|change -33 66";
 
 /// A least outbound band of the whole cycle, and equal bands.
 static SECOND_VERSION: &str = "version 2|least 1 0|equal 1";

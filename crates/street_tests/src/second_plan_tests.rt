@@ -108,7 +108,10 @@ fn plan_text(alloc: Global, plan: &Plan) -> Result<String, Fail> {
     let (seconds, offset) = (plan.seconds, number(plan.offsets.as_slice(), 1)?);
     let numbers = numbers_of(alloc, &plan.timing)?;
     let (num, den) = (plan.loss.num(), plan.loss.den());
-    Ok(format!(in alloc; "seconds {seconds} offset {offset} {} loss {num}/{den}", numbers.as_str())?)
+    Ok(format!(in alloc;
+        "seconds {seconds} offset {offset} {} loss {num}/{den}",
+        numbers.as_str()
+    )?)
 }
 
 /// Why there is no plan.

@@ -149,14 +149,26 @@ fn long_artery(alloc: Global) -> Result<Artery, Fail> {
     let plain = parts_of(50);
     let signals = [signal("A", plain), signal("B", plain), signal("C", plain)];
     let halved = with_changes(alloc, street_text(alloc)?.as_str(), "halves 1")?;
-    street_of(alloc, Record::new(halved.as_bytes())?, &signals, &[before, after])
+    street_of(
+        alloc,
+        Record::new(halved.as_bytes())?,
+        &signals,
+        &[before, after],
+    )
 }
 
 #[test]
 fn the_first_broken_rule_is_named(rt: HostRuntime) -> Result<(), Fail> {
     let alloc = rt.alloc();
     let street = street_text(alloc)?;
-    let (all, no_band) = (Rules { speak_of_bands: true }, Rules { speak_of_bands: false });
+    let (all, no_band) = (
+        Rules {
+            speak_of_bands: true,
+        },
+        Rules {
+            speak_of_bands: false,
+        },
+    );
     all_told(alloc, &all, street.as_str(), &TWO_SIGNALS)?;
     // The limits of three signals alone, and then two rules broken at once, or one at two places: the first is named.
     let artery = long_artery(alloc)?;

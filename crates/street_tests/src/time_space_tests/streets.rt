@@ -1,7 +1,9 @@
 //! The streets and timings of the worked rows: two signals, parts 100, unless a row says otherwise.
 
 use artery_model::Artery;
-use sample_streets::{SampleHead, SampleLink, SampleSignal, plain_head, plain_link, plain_signal, sample_street};
+use sample_streets::{
+    SampleHead, SampleLink, SampleSignal, plain_head, plain_link, plain_signal, sample_street,
+};
 use std::alloc::{AllocError, Global};
 use std::test::Fail;
 use test_bed::{Record, WHOLE_GREEN, fraction};

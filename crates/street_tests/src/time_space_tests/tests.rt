@@ -1,6 +1,6 @@
 //! What a timing is worth, what is seen at a signal, and its numbers.
 
-use super::streets::{HALF_BAND, street_text, artery, timing};
+use super::streets::{HALF_BAND, artery, street_text, timing};
 use artery_model::Artery;
 use progression::Dir;
 use std::alloc::Global;
@@ -30,7 +30,12 @@ static WEIGHTED: [&str; 3] = [
 
 #[test]
 fn weighted_bands(rt: HostRuntime) -> Result<(), Fail> {
-    all_told(rt.alloc(), &Weighted, street_text(rt.alloc())?.as_str(), &WEIGHTED)
+    all_told(
+        rt.alloc(),
+        &Weighted,
+        street_text(rt.alloc())?.as_str(),
+        &WEIGHTED,
+    )
 }
 
 /// Whether signal 1 is green outbound at the tick, and whether the inbound band is there 200 ticks later. None where the
