@@ -11,3 +11,5 @@ mod link_space_tests;
 mod loop_rows_tests;
 #[cfg(test)]
 mod offset_recovery_tests;
+#[cfg(test)]
+mod row_texts;

@@ -6,20 +6,22 @@ ghost use Rattle.rational_theory.specs.Rational.{◌/ℚ◌};
 ghost use Rattle.progression.specs.Speeds.{number};
 ghost use Rattle.progression.specs.Worked.{half_red};
 ghost use Rattle.sample_streets.specs.Samples.{signal_of};
-ghost use Rattle.linear_theory.specs.Boxes.{IsBoxOf, root_box};
+ghost use Rattle.linear_theory.specs.Boxes.{IsBoxOf};
 ghost use Rattle.linear_theory.specs.Worked.{apart};
 ghost use Rattle.recovery_theory.specs.Worked.{quarter_point, quarter_box};
 
-use artery_model::{Artery, Dir};
+use artery_model::Artery;
 use named_row::Point;
 use narrow_fraction::{Frac, Op, Wide};
 use offset_recovery::{RecoverFault, Recovered, WideTiming, check_number, common_unit, recover};
+use plan_text::write_timing;
 use recovery_theory::law_worked_vertices;
 use sample_streets::{SampleSignal, plain_head, plain_link, plain_signal, sample_street};
 use search_box::{At, SearchBox};
 use std::alloc::Global;
 use std::rt::HostRuntime;
 use std::test::Fail;
+use test_bed::{HALF_BAND, fraction};
 use time_space::Timing;
 
 const THREE_51: i128 = 2_153_693_963_075_557_766_310_747;
@@ -71,21 +73,11 @@ fn point(alloc: Global, wait_in: Frac) -> Result<Point, Fail>
     Ok(Point { values })
 }
 
-fn root(alloc: Global, artery: &Artery) -> Result<SearchBox, Fail>
-    ensures value { IfOk result (λ area. area ≡ root_box artery.now) }
-    ensures boxed { IfOk result (λ area. IsBoxOf artery.now area) }
-{
-    match SearchBox::root(alloc, artery) {
-        Ok(area) => Ok(area),
-        Err(_) => Err("no memory".into()),
-    }
-}
-
 /// What becomes of the vertex without the inbound wait in the root box.
 fn outcome_in_root(alloc: Global) -> Result<Result<Recovered<Timing>, RecoverFault>, Fail> {
     law_worked_vertices();
     let artery = artery(alloc)?;
-    let area = root(alloc, &artery)?;
+    let area = SearchBox::root(alloc, &artery)?;
     let point = point(alloc, Frac::whole(0))?;
     Ok(recover(alloc, &artery, &area, &point))
 }
@@ -96,7 +88,7 @@ fn low_box(alloc: Global, artery: &Artery) -> Result<SearchBox, Fail>
     ensures value { IfOk result (λ area. area ≡ quarter_box) }
     ensures boxed { IfOk result (λ area. IsBoxOf artery.now area) }
 {
-    let root = root(alloc, artery)?;
+    let root = SearchBox::root(alloc, artery)?;
     match root.split(alloc, At::Loop { link: 1, at: 0 }) {
         Ok(Some((low, _high))) => Ok(low),
         _ => Err("no parts".into()),
@@ -113,28 +105,15 @@ fn outcome_in_part(alloc: Global) -> Result<Result<Recovered<Timing>, RecoverFau
 }
 
 /// Two ticks a second and a part, and the second signal a quarter of a cycle after the first.
-fn is_quarter_apart(timing: &Timing) -> bool {
-    timing.grid() == 2
-        && timing.unit() == 2
-        && timing.patterns() == [1, 1].as_slice()
-        && timing.reds() == [0, 50].as_slice()
-        && timing.run_out() == [50].as_slice()
-        && timing.run_in() == [50].as_slice()
-        && timing.first(Dir::Outbound) == 100
-        && timing.first(Dir::Inbound) == 150
-        && timing.band(Dir::Outbound) == 100
-        && timing.band(Dir::Inbound) == 0
-}
-
 #[test]
 fn a_whole_vertex_is_a_timing(rt: HostRuntime) -> Result<(), Fail> {
-    match outcome_in_part(rt.alloc())? {
-        Ok(Recovered::Timing(timing)) => {
-            assert!(rt; is_quarter_apart(&timing));
-            Ok(())
-        }
-        _ => Err("no timing".into()),
-    }
+    let Ok(Recovered::Timing(timing)) = outcome_in_part(rt.alloc())? else {
+        return Err("no timing".into());
+    };
+    let text = write_timing(rt.alloc(), &timing)?;
+    let expected = format!(in rt.alloc(); "maxband-timing 1\n{}end\n", HALF_BAND)?;
+    assert!(rt; text.as_slice() == expected.as_bytes());
+    Ok(())
 }
 
 #[test]
@@ -158,13 +137,6 @@ fn wide_point(alloc: Global, band: Frac, frequency: Frac) -> Result<Point, Fail>
         band, zero, frequency, zero, zero, zero, zero, quarter, quarter, zero, zero,
     ]?;
     Ok(Point { values })
-}
-
-fn fraction(top: i128, bottom: i128) -> Result<Frac, Fail> {
-    match Frac::new(top, bottom) {
-        Ok(fraction) => Ok(fraction),
-        Err(_) => Err("no fraction".into()),
-    }
 }
 
 #[test]

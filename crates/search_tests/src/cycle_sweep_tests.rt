@@ -7,12 +7,12 @@ ghost use Rattle.artery_model.specs.Bounds.{least_cycle, most_cycle};
 ghost use Rattle.artery_model.specs.Valid.{IsQuantity};
 ghost use Rattle.work_meter.specs.Work.{IsBelow};
 
-use artery_model::Artery;
 use cycle_sweep::{is_cycle, sweep_rows, sweep_table};
 use narrow_fraction::Frac;
-use sample_streets::{SampleHead, plain_head, plain_link, plain_signal, range, sample_street};
+use sample_streets::{SampleHead, plain_head, range};
 use std::alloc::Global;
 use std::test::Fail;
+use test_bed::two_signals;
 
 struct Case {
     /// The red of both signals, of 100 parts.
@@ -76,14 +76,6 @@ fn head() -> SampleHead {
     }
 }
 
-fn street(alloc: Global, red: u32) -> Result<Artery, Fail> {
-    let signals = [plain_signal("A", red), plain_signal("B", red)];
-    match sample_street(alloc, head(), &signals, &[plain_link(250)]) {
-        Ok(artery) => Ok(artery),
-        Err(_) => Err("no artery".into()),
-    }
-}
-
 fn limit_of(work: u64) -> Option<u64>
     ensures { IsBelow 0 result }
 {
@@ -111,7 +103,7 @@ fn cycles_of(alloc: Global, numbers: &[(i128, i128)]) -> Result<Vec<Frac>, Fail>
 }
 
 fn table_of(alloc: Global, case: &Case) -> Result<Vec<u8>, Fail> {
-    let artery = street(alloc, case.red)?;
+    let artery = two_signals(alloc, head(), case.red, 250)?;
     let cycles = cycles_of(alloc, case.cycles)?;
     let Ok(rows) = sweep_rows(alloc, &artery, limit_of(case.work), cycles.as_slice()) else {
         return Err("no memory".into());

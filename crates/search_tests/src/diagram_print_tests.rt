@@ -10,7 +10,7 @@ use branch_tree::{Found, Site, SitePart, Stop, Verdict};
 use diagram_print::{column_text, diagram, place_text, report, row_text, row_text_in};
 use fraction_tableau::WideCell;
 use named_row::{Place, RowId, WideAt};
-use narrow_fraction::{Frac, Op, Unfit, Wide};
+use narrow_fraction::{Frac, Op, Wide};
 use offset_recovery::WideTiming;
 use plan_text::FamilyName;
 use sample_streets::{
@@ -19,6 +19,7 @@ use sample_streets::{
 use search_box::SearchBox;
 use std::alloc::Global;
 use std::test::Fail;
+use test_bed::{Record, WHOLE_GREEN, fraction};
 use time_space::{Timing, holds};
 
 /// What differs between the arteries. The cycle is in seconds and has one length; a pair is outbound and inbound.
@@ -33,17 +34,6 @@ struct Street {
     speeds: [i64; 2],
 }
 
-/// What differs between the timings, in ticks. A pair is of the signals, or outbound and inbound.
-#[derive(Clone, Copy)]
-struct Times {
-    grid: u128,
-    unit: u128,
-    reds: [u128; 2],
-    runs: [u128; 2],
-    firsts: [u128; 2],
-    bands: [u128; 2],
-}
-
 const HALF_RED: Street = Street {
     names: ["A", "B"],
     units: Units::Metric,
@@ -52,16 +42,6 @@ const HALF_RED: Street = Street {
     red: 50,
     distances: [500, 500],
     speeds: [36, 36],
-};
-
-/// Both bands take the whole green.
-const WHOLE_GREEN: Times = Times {
-    grid: 2,
-    unit: 2,
-    reds: [0, 100],
-    runs: [100, 100],
-    firsts: [100, 200],
-    bands: [100, 100],
 };
 
 const METRES: Street = Street {
@@ -81,16 +61,10 @@ const FEET: Street = Street {
 };
 
 /// The second red comes 20 ticks of a third of a second after the first, in the next cycle.
-const NARROW: Times = Times {
-    grid: 3,
-    unit: 3,
-    reds: [170, 10],
-    runs: [100, 95],
-    firsts: [80, 165],
-    bands: [10, 20],
-};
+static NARROW: &str =
+    "grid 3\nunit 3\npattern 1 1\nred 170 10\nrun_out 100\nrun_in 95\nfirst 80 165\nband 10 20\n";
 
-const WHOLE_GREEN_REPORT: &str = "\
+static WHOLE_GREEN_REPORT: &str = "\
 verdict best
 weighted 1 = 1.000000
 band out 1/2 = 0.500000
@@ -100,21 +74,16 @@ signal 1 pattern 1 offset 0 = 0.000 A
 signal 2 pattern 1 offset 50 = 50.000 B
 link 1 out 36 = 36.000
 link 1 in 36 = 36.000
-diagram
+";
+
+static WHOLE_GREEN_DIAGRAM: &str = "\
 2 out >>>>>>>>>>>>>>>>>>>>>>>>>>>>>>>#############################
 2 in <<<<<<<<<<<<<<<<<<<<<<<<<<<<<<<#############################
 1 out >#############################>>>>>>>>>>>>>>>>>>>>>>>>>>>>>>
 1 in <#############################<<<<<<<<<<<<<<<<<<<<<<<<<<<<<<
 ";
 
-const WHOLE_GREEN_DIAGRAM: &str = "\
-2 out >>>>>>>>>>>>>>>>>>>>>>>>>>>>>>>#############################
-2 in <<<<<<<<<<<<<<<<<<<<<<<<<<<<<<<#############################
-1 out >#############################>>>>>>>>>>>>>>>>>>>>>>>>>>>>>>
-1 in <#############################<<<<<<<<<<<<<<<<<<<<<<<<<<<<<<
-";
-
-const METRES_REPORT: &str = "\
+static NARROW_REPORT: &str = "\
 verdict best
 weighted 1/6 = 0.166666
 band out 1/18 = 0.055555
@@ -122,43 +91,19 @@ band in 1/9 = 0.111111
 cycle 60 = 60.000
 signal 1 pattern 1 offset 0 = 0.000 Oak
 signal 2 pattern 1 offset 20/3 = 6.666 Elm
-link 1 out 216/5 = 43.200
-link 1 in 4428/95 = 46.610
-diagram
+";
+
+/// The speeds in kilometres an hour, and those of the same runs in miles an hour.
+static METRES_LINKS: &str = "link 1 out 216/5 = 43.200\nlink 1 in 4428/95 = 46.610\n";
+
+static FEET_LINKS: &str = "link 1 out 45/2 = 22.500\nlink 1 in 540/19 = 28.421\n";
+
+static NARROW_DIAGRAM: &str = "\
 2 out >>>>##############################==========================
 2 in <<==##############################=====================<<<<<
 1 out ###########################>>>>==========================###
 1 in ###########################<<<<<<<=======================###
 ";
-
-const FEET_REPORT: &str = "\
-verdict best
-weighted 1/6 = 0.166666
-band out 1/18 = 0.055555
-band in 1/9 = 0.111111
-cycle 60 = 60.000
-signal 1 pattern 1 offset 0 = 0.000 Oak
-signal 2 pattern 1 offset 20/3 = 6.666 Elm
-link 1 out 45/2 = 22.500
-link 1 in 540/19 = 28.421
-diagram
-2 out >>>>##############################==========================
-2 in <<==##############################=====================<<<<<
-1 out ###########################>>>>==========================###
-1 in ###########################<<<<<<<=======================###
-";
-
-/// The quotient, with nothing said of it: what `Frac::new` says is a long term.
-fn quotient(num: i128, den: i128) -> Result<Frac, Unfit> {
-    Frac::new(num, den)
-}
-
-fn fraction(num: i128, den: i128) -> Result<Frac, Fail> {
-    match quotient(num, den) {
-        Ok(fraction) => Ok(fraction),
-        Err(_) => Err("no fraction".into()),
-    }
-}
 
 fn head(street: Street) -> SampleHead {
     SampleHead {
@@ -189,24 +134,13 @@ fn artery(alloc: Global, street: Street) -> Result<Artery, Fail> {
     }
 }
 
-fn timing(alloc: Global, times: Times) -> Result<Timing, Fail> {
-    let made = Timing::new(
-        times.grid,
-        times.unit,
-        vec![in alloc; 1, 1]?,
-        vec![in alloc; times.reds[0], times.reds[1]]?,
-        vec![in alloc; times.runs[0]]?,
-        vec![in alloc; times.runs[1]]?,
-        times.firsts[0],
-        times.firsts[1],
-        times.bands[0],
-        times.bands[1],
-    );
-    Ok(made.ok_or("no timing")?)
+fn timing(alloc: Global, times: &str) -> Result<Timing, Fail> {
+    let times = Record::new(times.as_bytes())?;
+    Ok(times.timing(alloc)?.ok_or("no timing")?)
 }
 
 /// The timing, which is good on this artery.
-fn good_timing(alloc: Global, artery: &Artery, times: Times) -> Result<Timing, Fail>
+fn good_timing(alloc: Global, artery: &Artery, times: &str) -> Result<Timing, Fail>
     ensures { IfOk result (λ timing. Good artery.now timing) }
 {
     let timing = timing(alloc, times)?;
@@ -233,7 +167,7 @@ fn best_report(alloc: Global, artery: &Artery, timing: Timing) -> Result<Vec<u8>
     }
 }
 
-fn reported(alloc: Global, street: Street, times: Times) -> Result<Vec<u8>, Fail> {
+fn reported(alloc: Global, street: Street, times: &str) -> Result<Vec<u8>, Fail> {
     let artery = artery(alloc, street)?;
     let timing = good_timing(alloc, &artery, times)?;
     best_report(alloc, &artery, timing)
@@ -242,19 +176,20 @@ fn reported(alloc: Global, street: Street, times: Times) -> Result<Vec<u8>, Fail
 #[test]
 fn reports_of_timings(rt: HostRuntime) -> Result<(), Fail> {
     let cases = [
-        (HALF_RED, WHOLE_GREEN, WHOLE_GREEN_REPORT),
-        (METRES, NARROW, METRES_REPORT),
-        (FEET, NARROW, FEET_REPORT),
+        (HALF_RED, WHOLE_GREEN, [WHOLE_GREEN_REPORT, "", WHOLE_GREEN_DIAGRAM]),
+        (METRES, NARROW, [NARROW_REPORT, METRES_LINKS, NARROW_DIAGRAM]),
+        (FEET, NARROW, [NARROW_REPORT, FEET_LINKS, NARROW_DIAGRAM]),
     ];
-    for (street, times, expected) in cases {
+    for (street, times, [report, links, diagram]) in cases {
         let lines = reported(rt.alloc(), street, times)?;
+        let expected = format!(in rt.alloc(); "{report}{links}diagram\n{diagram}")?;
         assert_eq!(rt; lines.as_slice(), expected.as_bytes());
     }
     Ok(())
 }
 
 /// The diagram alone, which needs no good timing.
-fn drawn(alloc: Global, street: Street, times: Times) -> Result<Vec<u8>, Fail> {
+fn drawn(alloc: Global, street: Street, times: &str) -> Result<Vec<u8>, Fail> {
     let artery = artery(alloc, street)?;
     let timing = timing(alloc, times)?;
     if timing.count() != artery.count() {

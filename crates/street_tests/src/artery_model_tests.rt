@@ -1,134 +1,185 @@
 //! Arteries that break one rule each, and runs that were worked by hand.
 
-use artery_model::{Artery, Dir, Flaw, Head, Kind, Link, Pair, Signal, Text, Units};
+use artery_model::{Artery, Dir, Flaw, Head, Link, Pair, Signal, Text, Units};
 use narrow_fraction::Frac;
 use std::alloc::Global;
-use std::process::Abort;
+use std::test::Fail;
+use test_bed::{Reader, Record, all_told, flaw_text, with_changes};
 
-/// The names of the signals.
-#[derive(Clone, Copy)]
-enum Names {
-    Different,
-    Same,
-    Empty,
-    /// Two lines in a name.
-    Control,
-}
+/// Signals that are alike, and so are their links; a change is that behind link 1 alone, outbound.
+static STREET: &str = "units metric
+version 1
+parts 100
+cycle 100 100
+least 0 0
+equal 0
+signals 2
+links 1
+names different
+red 50
+left 0 0
+allowed 1
+distance 500
+speed 36 36
+change none
+";
 
-/// The numbers of an artery whose signals are alike, and so are its links.
-#[derive(Clone, Copy)]
-struct Numbers {
-    units: Units,
-    version: u32,
-    parts: u32,
-    cycle: Pair,
-    least_out: Frac,
-    least_in: Frac,
-    equal: bool,
-    signals: usize,
-    links: usize,
-    names: Names,
-    red: u32,
-    left_out: u32,
-    left_in: u32,
-    allowed: bool,
-    distance: u32,
-    speed: Pair,
-    /// Of link 1 alone, outbound.
-    change: Option<Pair>,
-}
+/// Values outside their limits, and broken rules: the first is named.
+static FAULTS: [&str; 25] = [
+    "signals 1|parts 1 -> OutOfRange signal",
+    "signals 17|links 16 -> OutOfRange signal",
+    "parts 1 -> OutOfRange artery.parts",
+    "cycle 0 3601 -> OutOfRange artery.cycle[1]",
+    "names empty -> OutOfRange signal[1].name",
+    "names control -> OutOfRange signal[1].name",
+    "red 100|left 0 100 -> OutOfRange signal[1].red",
+    "distance 30001|links 2 -> OutOfRange link[1].distance_out",
+    "speed 36 301 -> OutOfRange link[1].speed_out[2]",
+    "change 0 1 -> OutOfRange link[1].change_out",
+    // The same of the second version. So many signals pass, and then a name stands twice.
+    "version 2|least 1 0|equal 1|signals 24|links 23 -> RepeatedName signal[4].name",
+    "version 2|least 1 0|equal 1|signals 25|links 24 -> OutOfRange signal",
+    // What each version has.
+    "version 0|signals 1 -> OutOfRange version",
+    "version 3|signals 1 -> OutOfRange version",
+    "least 1 0|equal 1 -> OutOfRange artery.least_out",
+    "least 0 1|equal 1 -> OutOfRange artery.least_in",
+    "equal 1|names empty -> OutOfRange artery.equal",
+    "version 2|least 2 0 -> OutOfRange artery.least_out",
+    "version 2|least 0 -1 -> OutOfRange artery.least_in",
+    // Broken rules: the first is named.
+    "links 2|names same -> CountMismatch link",
+    "allowed 0|names same -> RepeatedName signal[2].name",
+    "allowed 0|red 60|left 0 40 -> NoPattern signal[1].patterns",
+    "red 60|left 0 40|cycle 90 60 -> NoGreen signal[1].left_in",
+    "cycle 90 60|speed 50 36 -> LimitsCrossed artery.cycle",
+    "speed 50 36 -> LimitsCrossed link[1].speed_out",
+];
 
-fn pair(least: i64, most: i64) -> Pair {
-    Pair {
-        least: Frac::whole(least),
-        most: Frac::whole(most),
+fn whole(record: Record<'_>, name: &str, place: usize) -> Result<Frac, Fail> {
+    match i64::try_from(record.number(name, place)?) {
+        Ok(number) => Ok(Frac::whole(number)),
+        Err(_) => Err("a great number".into()),
     }
 }
 
-fn two_signals() -> Numbers {
-    Numbers {
-        units: Units::Metric,
-        version: 1,
-        parts: 100,
-        cycle: pair(100, 100),
-        least_out: Frac::whole(0),
-        least_in: Frac::whole(0),
-        equal: false,
-        signals: 2,
-        links: 1,
-        names: Names::Different,
-        red: 50,
-        left_out: 0,
-        left_in: 0,
-        allowed: true,
-        distance: 500,
-        speed: pair(36, 36),
-        change: None,
+fn pair(record: Record<'_>, name: &str) -> Result<Pair, Fail> {
+    Ok(Pair {
+        least: whole(record, name, 0)?,
+        most: whole(record, name, 1)?,
+    })
+}
+
+/// The name of the signal at this place, counted from 0. A control name has two lines.
+fn name(names: &str, index: usize) -> &'static str {
+    match names {
+        "different" => match index {
+            0 => "A",
+            1 => "B",
+            _ => "C",
+        },
+        "same" => "A",
+        "control" => "A\nB",
+        _ => "",
     }
 }
 
-fn name(names: Names, index: usize) -> &'static str {
-    match (names, index) {
-        (Names::Different, 0) | (Names::Same, _) => "A",
-        (Names::Different, 1) => "B",
-        (Names::Different, _) => "C",
-        (Names::Empty, _) => "",
-        (Names::Control, _) => "A\nB",
-    }
+fn signal(alloc: Global, record: Record<'_>, index: usize) -> Result<Signal, Fail> {
+    let allowed = record.small("allowed", 0)? == 1;
+    Ok(Signal {
+        name: Text::new(alloc, name(record.behind("names")?, index))?,
+        red: record.small("red", 0)?,
+        left_out: record.small("left", 0)?,
+        left_in: record.small("left", 1)?,
+        patterns: [allowed, false, false, allowed],
+        clear_out: 3,
+        clear_in: 4,
+    })
 }
 
-fn signal(alloc: Global, numbers: Numbers, index: usize) -> Result<Signal, Flaw> {
-    match Text::new(alloc, name(numbers.names, index)) {
-        Ok(name) => Ok(Signal {
-            name,
-            red: numbers.red,
-            left_out: numbers.left_out,
-            left_in: numbers.left_in,
-            patterns: [numbers.allowed, false, false, numbers.allowed],
-            clear_out: 3,
-            clear_in: 4,
-        }),
-        Err(_) => Err(Flaw::Memory),
+fn change(record: Record<'_>, index: u32) -> Result<Option<Pair>, Fail> {
+    if index == 0 && record.behind("change")? != "none" {
+        return Ok(Some(pair(record, "change")?));
     }
+    Ok(None)
 }
 
-fn make(alloc: Global, numbers: Numbers) -> Result<Artery, Flaw> {
+fn link(record: Record<'_>, index: u32) -> Result<Link, Fail> {
+    let distance = record.small("distance", 0)?;
+    let speed = pair(record, "speed")?;
+    Ok(Link {
+        distance_out: distance,
+        distance_in: distance,
+        speed_out: speed,
+        speed_in: speed,
+        change_out: change(record, index)?,
+        change_in: None,
+    })
+}
+
+fn head(record: Record<'_>) -> Result<Head, Fail> {
+    let is_metric = record.behind("units")? == "metric";
+    Ok(Head {
+        name: None,
+        units: if is_metric {
+            Units::Metric
+        } else {
+            Units::English
+        },
+        version: record.small("version", 0)?,
+        parts: record.small("parts", 0)?,
+        cycle: pair(record, "cycle")?,
+        ratio: Frac::whole(1),
+        least_out: whole(record, "least", 0)?,
+        least_in: whole(record, "least", 1)?,
+        equal: record.small("equal", 0)? == 1,
+    })
+}
+
+fn made(alloc: Global, record: Record<'_>) -> Result<Result<Artery, Flaw>, Fail> {
     let mut signals = Vec::new(alloc);
-    for index in 0..numbers.signals {
-        let made = signal(alloc, numbers, index)?;
-        signals.push(made).map_err(|_| Flaw::Memory)?;
+    for index in 0..record.small("signals", 0)? {
+        signals.push(signal(alloc, record, index as usize)?)?;
     }
     let mut links = Vec::new(alloc);
-    for index in 0..numbers.links {
-        let link = Link {
-            distance_out: numbers.distance,
-            distance_in: numbers.distance,
-            speed_out: numbers.speed,
-            speed_in: numbers.speed,
-            change_out: if index == 0 { numbers.change } else { None },
-            change_in: None,
-        };
-        links.push(link).map_err(|_| Flaw::Memory)?;
+    for index in 0..record.small("links", 0)? {
+        links.push(link(record, index)?)?;
     }
-    let head = Head {
-        name: None,
-        units: numbers.units,
-        version: numbers.version,
-        parts: numbers.parts,
-        cycle: numbers.cycle,
-        ratio: Frac::whole(1),
-        least_out: numbers.least_out,
-        least_in: numbers.least_in,
-        equal: numbers.equal,
-    };
-    Artery::new(alloc, head, signals, links)
+    Ok(Artery::new(alloc, head(record)?, signals, links))
 }
 
+/// The artery of `STREET` with these changes.
+fn changed(alloc: Global, changes: &str) -> Result<Artery, Fail> {
+    let text = with_changes(alloc, STREET, changes)?;
+    match made(alloc, Record::new(text.as_bytes())?)? {
+        Ok(artery) => Ok(artery),
+        Err(_) => Err("no artery".into()),
+    }
+}
+
+/// Makes an artery, and tells why there is none.
+#[derive(Clone, Copy, Drop)]
+struct Arteries;
+
+impl Reader for Arteries {
+    fn answer(&self, alloc: Global, text: &[u8]) -> Result<String, Fail> {
+        match made(alloc, Record::new(text)?)? {
+            Ok(_) => Ok(String::from_str(alloc, "made")?),
+            Err(flaw) => Ok(flaw_text(alloc, flaw)?),
+        }
+    }
+}
+
+/// Three signals with left turns, and units of feet and miles.
+static FEET: &str =
+    "units english|signals 3|links 2|red 40|left 5 10|distance 264|speed 30 60|change -33 66";
+
+/// A least outbound band of the whole cycle, and equal bands.
+static SECOND_VERSION: &str = "version 2|least 1 0|equal 1";
+
 #[test]
-fn two_signals_500_metres_apart(rt: HostRuntime) {
-    let Ok(artery) = make(rt.alloc(), two_signals()) else {
-        panic!(rt; "no artery");
-    };
+fn two_signals_500_metres_apart(rt: HostRuntime) -> Result<(), Fail> {
+    let artery = changed(rt.alloc(), "")?;
     assert_eq!(rt; artery.count(), 2);
     assert_eq!(rt; artery.parts(), 100);
     assert_eq!(rt; artery.head().parts, 100);
@@ -143,21 +194,7 @@ fn two_signals_500_metres_apart(rt: HostRuntime) {
         assert!(rt; artery.run_high(dir, 1) == Frac::whole(50));
         assert!(rt; artery.change(dir, 1).is_none());
     }
-}
-
-fn three_signals() -> Numbers {
-    Numbers {
-        units: Units::English,
-        signals: 3,
-        links: 2,
-        red: 40,
-        left_out: 5,
-        left_in: 10,
-        distance: 264,
-        speed: pair(30, 60),
-        change: Some(pair(-33, 66)),
-        ..two_signals()
-    }
+    Ok(())
 }
 
 /// Whether signal 3 has its reds, and signal 1 its left turns and clearances.
@@ -208,266 +245,26 @@ fn has_changes(artery: &Artery) -> bool {
 }
 
 #[test]
-fn three_signals_with_left_turns_in_feet(rt: HostRuntime) {
-    let Ok(artery) = make(rt.alloc(), three_signals()) else {
-        panic!(rt; "no artery");
-    };
+fn three_signals_with_left_turns_in_feet(rt: HostRuntime) -> Result<(), Fail> {
+    let artery = changed(rt.alloc(), FEET)?;
     assert!(rt; has_signals(&artery));
     assert!(rt; has_patterns(&artery));
     assert!(rt; has_runs(&artery));
     assert!(rt; has_changes(&artery));
-}
-
-fn expect(rt: &impl Abort, made: Result<Artery, Flaw>, kind: Kind, place: &str) {
-    match made {
-        Err(Flaw::Refused(refusal)) => {
-            assert_eq!(rt; refusal.kind, kind, "{place}");
-            assert_eq!(rt; refusal.place.as_str(), place);
-        }
-        Ok(_) | Err(Flaw::Memory) => panic!(rt; "not refused: {place}"),
-    }
+    Ok(())
 }
 
 #[test]
-fn a_value_outside_its_limits_is_named_first(rt: HostRuntime) {
-    let base = two_signals();
-    let made = make(
-        rt.alloc(),
-        Numbers {
-            signals: 1,
-            parts: 1,
-            ..base
-        },
-    );
-    expect(&rt, made, Kind::OutOfRange, "signal");
-    let made = make(
-        rt.alloc(),
-        Numbers {
-            signals: 17,
-            links: 16,
-            ..base
-        },
-    );
-    expect(&rt, made, Kind::OutOfRange, "signal");
-    let made = make(rt.alloc(), Numbers { parts: 1, ..base });
-    expect(&rt, made, Kind::OutOfRange, "artery.parts");
-    let made = make(
-        rt.alloc(),
-        Numbers {
-            cycle: pair(0, 3601),
-            ..base
-        },
-    );
-    expect(&rt, made, Kind::OutOfRange, "artery.cycle[1]");
-    let made = make(
-        rt.alloc(),
-        Numbers {
-            names: Names::Empty,
-            ..base
-        },
-    );
-    expect(&rt, made, Kind::OutOfRange, "signal[1].name");
-    let made = make(
-        rt.alloc(),
-        Numbers {
-            names: Names::Control,
-            ..base
-        },
-    );
-    expect(&rt, made, Kind::OutOfRange, "signal[1].name");
-    let made = make(
-        rt.alloc(),
-        Numbers {
-            red: 100,
-            left_in: 100,
-            ..base
-        },
-    );
-    expect(&rt, made, Kind::OutOfRange, "signal[1].red");
-    let made = make(
-        rt.alloc(),
-        Numbers {
-            distance: 30_001,
-            links: 2,
-            ..base
-        },
-    );
-    expect(&rt, made, Kind::OutOfRange, "link[1].distance_out");
-    let made = make(
-        rt.alloc(),
-        Numbers {
-            speed: pair(36, 301),
-            ..base
-        },
-    );
-    expect(&rt, made, Kind::OutOfRange, "link[1].speed_out[2]");
-    let made = make(
-        rt.alloc(),
-        Numbers {
-            change: Some(pair(0, 1)),
-            ..base
-        },
-    );
-    expect(&rt, made, Kind::OutOfRange, "link[1].change_out");
-}
-
-/// A least outbound band of the whole cycle, and equal bands.
-fn second_version() -> Numbers {
-    Numbers {
-        version: 2,
-        least_out: Frac::whole(1),
-        equal: true,
-        ..two_signals()
-    }
-}
-
-#[test]
-fn the_second_version_has_more(rt: HostRuntime) {
-    let Ok(artery) = make(rt.alloc(), second_version()) else {
-        panic!(rt; "no artery");
-    };
+fn the_second_version_has_more(rt: HostRuntime) -> Result<(), Fail> {
+    let artery = changed(rt.alloc(), SECOND_VERSION)?;
     assert_eq!(rt; artery.version(), 2);
     assert!(rt; artery.least_band(Dir::Outbound) == Frac::whole(1));
     assert!(rt; artery.least_band(Dir::Inbound) == Frac::whole(0));
     assert!(rt; artery.equal());
-    // So many signals pass, and then a name stands twice.
-    let made = make(
-        rt.alloc(),
-        Numbers {
-            signals: 24,
-            links: 23,
-            ..second_version()
-        },
-    );
-    expect(&rt, made, Kind::RepeatedName, "signal[4].name");
-    let made = make(
-        rt.alloc(),
-        Numbers {
-            signals: 25,
-            links: 24,
-            ..second_version()
-        },
-    );
-    expect(&rt, made, Kind::OutOfRange, "signal");
+    Ok(())
 }
 
 #[test]
-fn each_version_has_its_limits(rt: HostRuntime) {
-    let base = two_signals();
-    for version in [0, 3] {
-        let made = make(
-            rt.alloc(),
-            Numbers {
-                version,
-                signals: 1,
-                ..base
-            },
-        );
-        expect(&rt, made, Kind::OutOfRange, "version");
-    }
-    let made = make(
-        rt.alloc(),
-        Numbers {
-            least_out: Frac::whole(1),
-            equal: true,
-            ..base
-        },
-    );
-    expect(&rt, made, Kind::OutOfRange, "artery.least_out");
-    let made = make(
-        rt.alloc(),
-        Numbers {
-            least_in: Frac::whole(1),
-            equal: true,
-            ..base
-        },
-    );
-    expect(&rt, made, Kind::OutOfRange, "artery.least_in");
-    let made = make(
-        rt.alloc(),
-        Numbers {
-            equal: true,
-            names: Names::Empty,
-            ..base
-        },
-    );
-    expect(&rt, made, Kind::OutOfRange, "artery.equal");
-    let made = make(
-        rt.alloc(),
-        Numbers {
-            version: 2,
-            least_out: Frac::whole(2),
-            ..base
-        },
-    );
-    expect(&rt, made, Kind::OutOfRange, "artery.least_out");
-    let made = make(
-        rt.alloc(),
-        Numbers {
-            version: 2,
-            least_in: Frac::whole(-1),
-            ..base
-        },
-    );
-    expect(&rt, made, Kind::OutOfRange, "artery.least_in");
-}
-
-#[test]
-fn the_first_broken_rule_is_named(rt: HostRuntime) {
-    let base = two_signals();
-    let made = make(
-        rt.alloc(),
-        Numbers {
-            links: 2,
-            names: Names::Same,
-            ..base
-        },
-    );
-    expect(&rt, made, Kind::CountMismatch, "link");
-    let made = make(
-        rt.alloc(),
-        Numbers {
-            allowed: false,
-            names: Names::Same,
-            ..base
-        },
-    );
-    expect(&rt, made, Kind::RepeatedName, "signal[2].name");
-    let made = make(
-        rt.alloc(),
-        Numbers {
-            allowed: false,
-            red: 60,
-            left_in: 40,
-            ..base
-        },
-    );
-    expect(&rt, made, Kind::NoPattern, "signal[1].patterns");
-    let made = make(
-        rt.alloc(),
-        Numbers {
-            red: 60,
-            left_in: 40,
-            cycle: pair(90, 60),
-            ..base
-        },
-    );
-    expect(&rt, made, Kind::NoGreen, "signal[1].left_in");
-    let made = make(
-        rt.alloc(),
-        Numbers {
-            cycle: pair(90, 60),
-            speed: pair(50, 36),
-            ..base
-        },
-    );
-    expect(&rt, made, Kind::LimitsCrossed, "artery.cycle");
-    let made = make(
-        rt.alloc(),
-        Numbers {
-            speed: pair(50, 36),
-            ..base
-        },
-    );
-    expect(&rt, made, Kind::LimitsCrossed, "link[1].speed_out");
+fn the_first_fault_is_named(rt: HostRuntime) -> Result<(), Fail> {
+    all_told(rt.alloc(), &Arteries, STREET, &FAULTS)
 }

@@ -7,110 +7,81 @@ use sample_streets::{SampleHead, SampleLink, plain_head, plain_link, plain_signa
 use second_plan::{Plan, PlanEnd, PlanFault, plan};
 use std::alloc::Global;
 use std::test::Fail;
-use time_space::{Failing, Timing, holds};
+use test_bed::{Reader, Record, all_told, fraction, with_changes};
+use time_space::{Timing, holds};
 
-/// What differs between the streets: the red of both signals in parts, the distances outbound and inbound, the limits of the cycle in
-/// tenths of a second, the ratio as a fraction, and the least bands in hundredths of the cycle.
-#[derive(Clone, Copy)]
-struct Street {
-    red: u32,
-    distances: [u32; 2],
-    tenths: [i128; 2],
-    ratio: [i128; 2],
-    least_out: i128,
-    least_in: i128,
-    equal: bool,
-}
+/// A street with red at both signals for so many parts, so far apart outbound and inbound, whose cycle stands in tenths of a second, the
+/// ratio as a fraction, and the least bands in hundredths of the cycle. Its timing has reds of half a cycle, the second 50.5 seconds
+/// after the first, and runs of 50.5 seconds.
+static STREET: &str = "parts 50
+apart 500 500
+cycle 1000 1000
+ratio 1 1
+least 0 0
+equal 0
+grid 2
+unit 2
+pattern 1 1
+red 0 101
+run_out 101
+run_in 101
+first 100 1
+band 100 98
+";
 
-/// What differs between the timings: the start of the second red, and the numbers of both directions.
-#[derive(Clone, Copy)]
-struct Times {
-    grid: u128,
-    unit: u128,
-    red: u128,
-    runs: [u128; 2],
-    firsts: [u128; 2],
-    bands: [u128; 2],
-}
+/// Changes of `STREET`, and its plan, or why there is none.
+static PLANS: [&str; 16] = [
+    "apart 505 505 -> seconds 100 offset 50 grid 400 unit 400 red 20000 runs 20200 20200 firsts 20000 0 bands 19800 19800 loss 1/100",
+    // a cycle of 100.5 seconds: none is whole, and of two the lesser
+    "cycle 1003 1007|grid 200|unit 201|red 0 10000|run_out 10000|run_in 10000|first 10050 50|band 0 0 -> no whole cycle",
+    "cycle 1000 1010|grid 200|unit 201|red 0 10000|run_out 10000|run_in 10000|first 10050 50|band 0 0 -> seconds 100 offset 50 grid 40000 unit 40000 red 2000000 runs 2000000 2000000 firsts 2000000 0 bands 2000000 2000000 loss 0/1",
+    // a cycle of 100.75 seconds
+    "cycle 1000 1010|grid 400|unit 403|red 0 20000|run_out 20000|run_in 20000|first 20150 150|band 0 0 -> seconds 101 offset 50 grid 80000 unit 80800 red 4000000 runs 4000000 4000000 firsts 4040000 40000 bands 4040000 3960000 loss 1/101",
+    // an offset of 99.75 seconds
+    "grid 20|unit 20|red 0 1995|run_out 1000|run_in 1000|first 2000 995|band 0 0 -> seconds 100 offset 0 grid 4000 unit 4000 red 0 runs 200000 200000 firsts 0 0 bands 0 0 loss 1/1",
+    // bands that the ratio cuts, or equality, or nothing
+    "apart 250 250|ratio 3 7|red 0 70|run_out 50|run_in 50|first 120 50|band 0 0 -> seconds 100 offset 35 grid 400 unit 400 red 14000 runs 10000 10000 firsts 24000 10000 bands 9333 4000 loss 202669/280000",
+    "apart 250 250|ratio 7 3|red 0 130|run_out 50|run_in 50|first 180 50|band 0 0 -> seconds 100 offset 65 grid 400 unit 400 red 26000 runs 10000 10000 firsts 36000 10000 bands 4000 9333 loss 14223/40000",
+    "apart 250 250|equal 1|red 0 70|run_out 50|run_in 50|first 120 50|band 0 0 -> seconds 100 offset 35 grid 400 unit 400 red 14000 runs 10000 10000 firsts 24000 10000 bands 4000 4000 loss 4/5",
+    "apart 250 250|ratio 0 1|red 0 70|run_out 50|run_in 50|first 120 50|band 0 0 -> seconds 100 offset 35 grid 400 unit 400 red 14000 runs 10000 10000 firsts 24000 10000 bands 16000 4000 loss 3/5",
+    // Changes of it that leave no plan, and why.
+    // the grid, a run and the cycle, of 2^73, 2^72 and 2^66 ticks a second
+    "grid 9444732965739290427392|unit 9444732965739290427392|red 0 472236648286964521369600|run_out 472236648286964521369600|run_in 472236648286964521369600|first 472236648286964521369600 0|band 0 0 -> ticks 1888946593147858085478400",
+    "grid 4722366482869645213696|unit 4722366482869645213696|red 0 236118324143482260684800|run_out 236118324143482260684800|run_in 236118324143482260684800|first 236118324143482260684800 0|band 0 0 -> ticks 47223664828696452136960000",
+    "grid 73786976294838206464|unit 73786976294838206464|red 0 3689348814741910323200|run_out 3689348814741910323200|run_in 3689348814741910323200|first 3689348814741910323200 0|band 0 0 -> ticks 1475739525896764129280000",
+    // reds of 80 seconds, of which the second begins half a second too early
+    "parts 80|apart 505 505|red 0 61|first 160 59|band 0 0 -> no line outbound",
+    "parts 80|apart 190 605|red 0 39|run_out 38|run_in 121|first 161 39|band 0 0 -> no line inbound",
+    // least bands of half a cycle
+    "apart 505 505|least 50 0 -> Least { dir: Outbound }",
+    "apart 505 505|least 0 50|red 0 99|first 100 199|band 98 100 -> Least { dir: Inbound }",
+];
 
-/// The numbers of a plan: outbound and inbound, or of signals 1 and 2.
-#[derive(Clone, Copy, Debug, PartialEq, Eq)]
-struct Numbers {
-    seconds: u64,
-    offset: u64,
-    grid: u128,
-    unit: u128,
-    red: u128,
-    runs: [u128; 2],
-    firsts: [i128; 2],
-    bands: [u128; 2],
-    loss: [i128; 2],
-}
-
-/// A ratio of 1, no least bands, and a cycle of 100 seconds.
-fn plain_street(red: u32, out: u32, back: u32) -> Street {
-    Street {
-        red,
-        distances: [out, back],
-        tenths: [1000, 1000],
-        ratio: [1, 1],
-        least_out: 0,
-        least_in: 0,
-        equal: false,
-    }
-}
-
-fn frac(num: i128, den: i128) -> Result<Frac, Fail> {
-    match Frac::new(num, den) {
-        Ok(made) => Ok(made),
-        Err(_) => Err("no fraction".into()),
-    }
-}
-
-fn head(street: Street) -> Result<SampleHead, Fail> {
+fn head(record: Record<'_>) -> Result<SampleHead, Fail> {
     Ok(SampleHead {
         version: 2,
         cycle: Pair {
-            least: frac(street.tenths[0], 10)?,
-            most: frac(street.tenths[1], 10)?,
+            least: fraction(record.number("cycle", 0)?, 10)?,
+            most: fraction(record.number("cycle", 1)?, 10)?,
         },
-        ratio: frac(street.ratio[0], street.ratio[1])?,
-        least_out: frac(street.least_out, 100)?,
-        least_in: frac(street.least_in, 100)?,
-        equal: street.equal,
+        ratio: fraction(record.number("ratio", 0)?, record.number("ratio", 1)?)?,
+        least_out: fraction(record.number("least", 0)?, 100)?,
+        least_in: fraction(record.number("least", 1)?, 100)?,
+        equal: record.small("equal", 0)? == 1,
         ..plain_head()
     })
 }
 
-fn artery(alloc: Global, street: Street) -> Result<Artery, Fail> {
+fn artery(alloc: Global, record: Record<'_>) -> Result<Artery, Fail> {
     let link = SampleLink {
-        distance_out: street.distances[0],
-        distance_in: street.distances[1],
-        ..plain_link(500)
+        distance_in: record.small("apart", 1)?,
+        ..plain_link(record.small("apart", 0)?)
     };
-    let signals = [plain_signal("A", street.red), plain_signal("B", street.red)];
-    match sample_street(alloc, head(street)?, &signals, &[link]) {
+    let red = record.small("parts", 0)?;
+    let signals = [plain_signal("A", red), plain_signal("B", red)];
+    match sample_street(alloc, head(record)?, &signals, &[link]) {
         Ok(artery) => Ok(artery),
         Err(_) => Err("no artery".into()),
-    }
-}
-
-fn timing(alloc: Global, times: Times) -> Result<Timing, Fail> {
-    let made = Timing::new(
-        times.grid,
-        times.unit,
-        vec![in alloc; 1, 1]?,
-        vec![in alloc; 0, times.red]?,
-        vec![in alloc; times.runs[0]]?,
-        vec![in alloc; times.runs[1]]?,
-        times.firsts[0],
-        times.firsts[1],
-        times.bands[0],
-        times.bands[1],
-    );
-    match made {
-        Some(timing) => Ok(timing),
-        None => Err("no timing".into()),
     }
 }
 
@@ -121,325 +92,87 @@ fn number<T: Copy>(numbers: &[T], place: usize) -> Result<T, Fail> {
     }
 }
 
-fn numbers_of(plan: &Plan) -> Result<Numbers, Fail> {
-    let timing = &plan.timing;
-    Ok(Numbers {
-        seconds: plan.seconds,
-        offset: number(plan.offsets.as_slice(), 1)?,
-        grid: timing.grid(),
-        unit: timing.unit(),
-        red: number(timing.reds(), 1)?,
-        runs: [number(timing.run_out(), 0)?, number(timing.run_in(), 0)?],
-        firsts: [timing.first(Dir::Outbound), timing.first(Dir::Inbound)],
-        bands: [timing.band(Dir::Outbound), timing.band(Dir::Inbound)],
-        loss: [plan.loss.num(), plan.loss.den()],
+/// The numbers of a timing's lines: the second red, and what is outbound and inbound.
+fn numbers_of(alloc: Global, timing: &Timing) -> Result<String, Fail> {
+    let (grid, unit, red) = (timing.grid(), timing.unit(), number(timing.reds(), 1)?);
+    let (run_out, run_in) = (number(timing.run_out(), 0)?, number(timing.run_in(), 0)?);
+    let (first_out, first_in) = (timing.first(Dir::Outbound), timing.first(Dir::Inbound));
+    let (band_out, band_in) = (timing.band(Dir::Outbound), timing.band(Dir::Inbound));
+    Ok(format!(in alloc;
+        "grid {grid} unit {unit} red {red} runs {run_out} {run_in} firsts {first_out} {first_in} bands {band_out} {band_in}"
+    )?)
+}
+
+/// A plan in words: its cycle and the offset of signal 2 in seconds, its timing, and what its bands lose.
+fn plan_text(alloc: Global, plan: &Plan) -> Result<String, Fail> {
+    let (seconds, offset) = (plan.seconds, number(plan.offsets.as_slice(), 1)?);
+    let numbers = numbers_of(alloc, &plan.timing)?;
+    let (num, den) = (plan.loss.num(), plan.loss.den());
+    Ok(format!(in alloc;
+        "seconds {seconds} offset {offset} {} loss {num}/{den}",
+        numbers.as_str()
+    )?)
+}
+
+/// Why there is no plan.
+fn end_text(alloc: Global, end: PlanEnd) -> Result<String, Fail> {
+    Ok(match end {
+        PlanEnd::NoTimingGiven => String::from_str(alloc, "no timing given")?,
+        PlanEnd::NoWholeCycle => String::from_str(alloc, "no whole cycle")?,
+        PlanEnd::TooFine { ticks } => format!(in alloc; "ticks {ticks}")?,
+        PlanEnd::NoLine { dir: Dir::Outbound } => String::from_str(alloc, "no line outbound")?,
+        PlanEnd::NoLine { dir: Dir::Inbound } => String::from_str(alloc, "no line inbound")?,
+        PlanEnd::Fails(failing) => format!(in alloc; "{failing:?}")?,
+        PlanEnd::Wide(wide) => format!(in alloc; "{wide:?}")?,
     })
 }
 
-fn planned(
-    alloc: Global,
-    street: Street,
-    claim: Frac,
-    times: Times,
-) -> Result<Result<Numbers, PlanEnd>, Fail> {
-    let artery = artery(alloc, street)?;
-    let timing = timing(alloc, times)?;
+fn planned(alloc: Global, record: Record<'_>, claim: Frac) -> Result<Result<Plan, PlanEnd>, Fail> {
+    let artery = artery(alloc, record)?;
+    let timing = record.timing(alloc)?.ok_or("no timing")?;
     match holds(&artery, &timing) {
         Err(_) => Err("not good".into()),
         Ok(()) => match plan(alloc, &artery, claim, &timing) {
-            Ok(plan) => Ok(Ok(numbers_of(&plan)?)),
+            Ok(plan) => Ok(Ok(plan)),
             Err(PlanFault::End(end)) => Ok(Err(end)),
             Err(PlanFault::Memory) => Err("no memory".into()),
         },
     }
 }
 
-/// Reds of half a cycle, the second 50.5 seconds after the first, and runs of 50.5 seconds.
-fn half_cycle() -> Times {
-    Times {
-        grid: 2,
-        unit: 2,
-        red: 101,
-        runs: [101, 101],
-        firsts: [100, 1],
-        bands: [100, 98],
-    }
-}
+/// Plans the timing of a street, whose value is claimed to be 1.
+#[derive(Clone, Copy, Drop)]
+struct Planner;
 
-/// Runs of 25 seconds and reds of half a cycle, the second 35 seconds after the first: at most 40 seconds outbound and 10 inbound.
-fn wide_outbound() -> Times {
-    Times {
-        grid: 2,
-        unit: 2,
-        red: 70,
-        runs: [50, 50],
-        firsts: [120, 50],
-        bands: [0, 0],
-    }
-}
-
-fn outbound_numbers(bands: [u128; 2], loss: [i128; 2]) -> Numbers {
-    Numbers {
-        seconds: 100,
-        offset: 35,
-        grid: 400,
-        unit: 400,
-        red: 14000,
-        runs: [10000, 10000],
-        firsts: [24000, 10000],
-        bands,
-        loss,
-    }
-}
-
-/// Reds and runs of half a cycle, on a grid of so many ticks a second.
-fn grid_of(grid: u128, half: u128) -> Times {
-    Times {
-        grid,
-        unit: grid,
-        red: half,
-        runs: [half, half],
-        firsts: [half, 0],
-        bands: [0, 0],
+impl Reader for Planner {
+    fn answer(&self, alloc: Global, text: &[u8]) -> Result<String, Fail> {
+        match planned(alloc, Record::new(text)?, Frac::whole(1))? {
+            Ok(plan) => plan_text(alloc, &plan),
+            Err(end) => end_text(alloc, end),
+        }
     }
 }
 
 #[test]
 fn plans(rt: HostRuntime) -> Result<(), Fail> {
-    let quarters = Times {
-        grid: 200,
-        unit: 201,
-        red: 10000,
-        runs: [10000, 10000],
-        firsts: [10050, 50],
-        bands: [0, 0],
-    };
-    let rows = [
-        (
-            plain_street(50, 505, 505),
-            half_cycle(),
-            Ok(Numbers {
-                seconds: 100,
-                offset: 50,
-                grid: 400,
-                unit: 400,
-                red: 20000,
-                runs: [20200, 20200],
-                firsts: [20000, 0],
-                bands: [19800, 19800],
-                loss: [1, 100],
-            }),
-        ),
-        // a cycle of 100.5 seconds: none is whole, and of two the lesser
-        (
-            Street {
-                tenths: [1003, 1007],
-                ..plain_street(50, 500, 500)
-            },
-            quarters,
-            Err(PlanEnd::NoWholeCycle),
-        ),
-        (
-            Street {
-                tenths: [1000, 1010],
-                ..plain_street(50, 500, 500)
-            },
-            quarters,
-            Ok(Numbers {
-                seconds: 100,
-                offset: 50,
-                grid: 40000,
-                unit: 40000,
-                red: 2000000,
-                runs: [2000000, 2000000],
-                firsts: [2000000, 0],
-                bands: [2000000, 2000000],
-                loss: [0, 1],
-            }),
-        ),
-        // a cycle of 100.75 seconds
-        (
-            Street {
-                tenths: [1000, 1010],
-                ..plain_street(50, 500, 500)
-            },
-            Times {
-                grid: 400,
-                unit: 403,
-                red: 20000,
-                runs: [20000, 20000],
-                firsts: [20150, 150],
-                bands: [0, 0],
-            },
-            Ok(Numbers {
-                seconds: 101,
-                offset: 50,
-                grid: 80000,
-                unit: 80800,
-                red: 4000000,
-                runs: [4000000, 4000000],
-                firsts: [4040000, 40000],
-                bands: [4040000, 3960000],
-                loss: [1, 101],
-            }),
-        ),
-        // an offset of 99.75 seconds
-        (
-            plain_street(50, 500, 500),
-            Times {
-                grid: 20,
-                unit: 20,
-                red: 1995,
-                runs: [1000, 1000],
-                firsts: [2000, 995],
-                bands: [0, 0],
-            },
-            Ok(Numbers {
-                seconds: 100,
-                offset: 0,
-                grid: 4000,
-                unit: 4000,
-                red: 0,
-                runs: [200000, 200000],
-                firsts: [0, 0],
-                bands: [0, 0],
-                loss: [1, 1],
-            }),
-        ),
-        // bands that the ratio cuts, or equality, or nothing
-        (
-            Street {
-                ratio: [3, 7],
-                ..plain_street(50, 250, 250)
-            },
-            wide_outbound(),
-            Ok(outbound_numbers([9333, 4000], [202669, 280000])),
-        ),
-        (
-            Street {
-                ratio: [7, 3],
-                ..plain_street(50, 250, 250)
-            },
-            Times {
-                red: 130,
-                firsts: [180, 50],
-                ..wide_outbound()
-            },
-            Ok(Numbers {
-                offset: 65,
-                red: 26000,
-                firsts: [36000, 10000],
-                ..outbound_numbers([4000, 9333], [14223, 40000])
-            }),
-        ),
-        (
-            Street {
-                equal: true,
-                ..plain_street(50, 250, 250)
-            },
-            wide_outbound(),
-            Ok(outbound_numbers([4000, 4000], [4, 5])),
-        ),
-        (
-            Street {
-                ratio: [0, 1],
-                ..plain_street(50, 250, 250)
-            },
-            wide_outbound(),
-            Ok(outbound_numbers([16000, 4000], [3, 5])),
-        ),
-    ];
-    for (street, times, expected) in rows {
-        assert!(rt; planned(rt.alloc(), street, Frac::whole(1), times)? == expected);
-    }
-    Ok(())
+    all_told(rt.alloc(), &Planner, STREET, &PLANS)
 }
 
+/// A claim that is too small for the loss to be told.
 #[test]
-fn ends(rt: HostRuntime) -> Result<(), Fail> {
-    let one = Frac::whole(1);
-    let small = frac(1, 1 << 126)?;
-    let rows = [
-        // the grid, a run and the cycle
-        (
-            plain_street(50, 500, 500),
-            one,
-            grid_of(1 << 73, 50 << 73),
-            PlanEnd::TooFine { ticks: 200 << 73 },
-        ),
-        (
-            plain_street(50, 500, 500),
-            one,
-            grid_of(1 << 72, 50 << 72),
-            PlanEnd::TooFine { ticks: 10000 << 72 },
-        ),
-        (
-            plain_street(50, 500, 500),
-            one,
-            grid_of(1 << 66, 50 << 66),
-            PlanEnd::TooFine { ticks: 20000 << 66 },
-        ),
-        // reds of 80 seconds, of which the second begins half a second too early
-        (
-            plain_street(80, 505, 505),
-            one,
-            Times {
-                red: 61,
-                firsts: [160, 59],
-                bands: [0, 0],
-                ..half_cycle()
-            },
-            PlanEnd::NoLine { dir: Dir::Outbound },
-        ),
-        (
-            plain_street(80, 190, 605),
-            one,
-            Times {
-                red: 39,
-                runs: [38, 121],
-                firsts: [161, 39],
-                bands: [0, 0],
-                ..half_cycle()
-            },
-            PlanEnd::NoLine { dir: Dir::Inbound },
-        ),
-        // least bands of half a cycle
-        (
-            Street {
-                least_out: 50,
-                ..plain_street(50, 505, 505)
-            },
-            one,
-            half_cycle(),
-            PlanEnd::Fails(Failing::Least { dir: Dir::Outbound }),
-        ),
-        (
-            Street {
-                least_in: 50,
-                ..plain_street(50, 505, 505)
-            },
-            one,
-            Times {
-                red: 99,
-                firsts: [100, 199],
-                bands: [98, 100],
-                ..half_cycle()
-            },
-            PlanEnd::Fails(Failing::Least { dir: Dir::Inbound }),
-        ),
-        (
-            plain_street(50, 505, 505),
-            small,
-            half_cycle(),
-            PlanEnd::Wide(Wide {
-                op: Op::Sub,
-                left: small,
-                right: frac(99, 100)?,
-            }),
-        ),
-    ];
-    for (street, claim, times, expected) in rows {
-        assert!(rt; planned(rt.alloc(), street, claim, times)? == Err(expected));
+fn a_small_claim_is_refused(rt: HostRuntime) -> Result<(), Fail> {
+    let small = fraction(1, 1 << 126)?;
+    let wide = Wide {
+        op: Op::Sub,
+        left: small,
+        right: fraction(99, 100)?,
+    };
+    let text = with_changes(rt.alloc(), STREET, "apart 505 505")?;
+    match planned(rt.alloc(), Record::new(text.as_bytes())?, small)? {
+        Ok(_) => Err("a plan".into()),
+        Err(end) => {
+            assert!(rt; end == PlanEnd::Wide(wide));
+            Ok(())
+        }
     }
-    Ok(())
 }

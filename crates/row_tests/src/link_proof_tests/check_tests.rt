@@ -1,15 +1,15 @@
 //! Worked link certificates of two signals 500 metres apart, 100 parts and 100 seconds, half of the cycle red, driven in 50 seconds. Two ticks
 //! a part and a second: each band can be 100 ticks wide, half of the cycle, and no value is above 1.
 
-use artery_model::Artery;
 use link_proof::{LinkReject, link_check, read_links};
 use link_space::LinkFailing;
 use named_row::{Place, RowId, WideAt};
-use narrow_fraction::{Frac, Op, Unfit, Wide};
-use sample_streets::{plain_head, plain_link, plain_signal, sample_street};
+use narrow_fraction::{Frac, Op, Wide};
+use sample_streets::plain_head;
 use std::alloc::Global;
 use std::rt::HostRuntime;
 use std::test::Fail;
+use test_bed::{fraction, two_signals};
 
 /// Bands that fill the greens.
 const FULL: &str =
@@ -31,26 +31,6 @@ const TOO_WIDE: &str =
 
 const BEST: &str = "verdict best\nvalue 1\n";
 
-fn artery(alloc: Global) -> Result<Artery, Fail> {
-    let signals = [plain_signal("A", 50), plain_signal("B", 50)];
-    match sample_street(alloc, plain_head(), &signals, &[plain_link(500)]) {
-        Ok(artery) => Ok(artery),
-        Err(_) => Err("no artery".into()),
-    }
-}
-
-/// The quotient, with nothing said of it: what `Frac::new` says is a long term.
-fn quotient(num: i128, den: i128) -> Result<Frac, Unfit> {
-    Frac::new(num, den)
-}
-
-fn fraction(num: i128, den: i128) -> Result<Frac, Fail> {
-    match quotient(num, den) {
-        Ok(fraction) => Ok(fraction),
-        Err(_) => Err("no fraction".into()),
-    }
-}
-
 /// What the check answers for a claim with its link timing and its nodes.
 fn answer(
     alloc: Global,
@@ -58,7 +38,7 @@ fn answer(
     timing: &str,
     nodes: &str,
 ) -> Result<Result<(), LinkReject>, Fail> {
-    let artery = artery(alloc)?;
+    let artery = two_signals(alloc, plain_head(), 50, 500)?;
     let mut text = Vec::new(alloc);
     text.extend_from_slice(b"maxband-links 1\n")?;
     text.extend_from_slice(claim.as_bytes())?;

@@ -3,16 +3,17 @@
 ghost use Rattle.std.specs.Prelude.{◌≡◌, IfOk, length};
 ghost use Rattle.progression.specs.Street.{count};
 
+use crate::row_texts::{leaf_of, row_text, weight};
 use artery_model::Artery;
 use link_space::{fill_link_goal, fill_link_row, link_sum, next_link_row};
 use loop_rows::SumFault;
-use named_row::{Leaf, Place, Row, RowId, Weight};
-use narrow_fraction::{Frac, Unfit};
-use sample_streets::{SampleHead, plain_head, plain_link, plain_signal, sample_street};
+use named_row::{Place, Row, RowId, Weight};
+use narrow_fraction::Frac;
 use search_box::SearchBox;
 use std::alloc::Global;
 use std::rt::HostRuntime;
 use std::test::Fail;
+use test_bed::{fraction_or_zero, two_signals, with_ratio};
 
 /// The columns are b_out, b_in, z, w_out 1 and 2, w_in 1 and 2, y_out 1, y_in 1, s 1 and 2, h_out 1, h_in 1.
 const WIDTH: u32 = 13;
@@ -20,79 +21,30 @@ const WIDTH: u32 = 13;
 /// How many of them the artery's own rows have.
 const LINE_WIDTH: u32 = 11;
 
-/// A row, its coefficients in halves, and its bound as a fraction.
-#[derive(Clone, Copy)]
-struct Expected {
-    row: RowId,
-    halves: [i128; 13],
-    bound: (i128, i128),
-}
-
-fn row_of(family: u8, index: u32, halves: [i128; 13], num: i128, den: i128) -> Expected {
-    Expected {
-        row: RowId { family, index },
-        halves,
-        bound: (num, den),
-    }
-}
-
 /// All rows of the root box where the inbound bands count half, its link having the block sums 0 to 2 and its signals the shift 0.
-fn root_rows() -> [Expected; 21] {
-    [
-        row_of(3, 1, [0, 0, 100, 0, 0, 0, 0, -2, 0, 0, 0, 0, 0], 0, 1),
-        row_of(4, 1, [0, 0, 100, 0, 0, 0, 0, 0, -2, 0, 0, 0, 0], 0, 1),
-        row_of(5, 1, [0, 0, -100, 0, 0, 0, 0, 2, 0, 0, 0, 0, 0], 0, 1),
-        row_of(6, 1, [0, 0, -100, 0, 0, 0, 0, 0, 2, 0, 0, 0, 0], 0, 1),
-        row_of(11, 0, [0, 0, -2, 0, 0, 0, 0, 0, 0, 0, 0, 0, 0], -1, 100),
-        row_of(12, 0, [0, 0, 2, 0, 0, 0, 0, 0, 0, 0, 0, 0, 0], 1, 100),
-        row_of(14, 1, [0, 0, 0, -2, 2, -2, 2, -2, -2, -2, 2, 0, 0], 0, 1),
-        row_of(15, 1, [0, 0, 0, 2, -2, 2, -2, 2, 2, 2, -2, 0, 0], 2, 1),
-        row_of(16, 1, [0, 0, 0, 0, 0, 0, 0, 0, 0, -2, 0, 0, 0], 0, 1),
-        row_of(16, 2, [0, 0, 0, 0, 0, 0, 0, 0, 0, 0, -2, 0, 0], 0, 1),
-        row_of(17, 1, [0, 0, 0, 0, 0, 0, 0, 0, 0, 2, 0, 0, 0], 0, 1),
-        row_of(17, 2, [0, 0, 0, 0, 0, 0, 0, 0, 0, 0, 2, 0, 0], 0, 1),
-        row_of(22, 1, [0, 0, 0, -2, 0, 0, 0, 0, 0, 0, 0, 2, 0], 0, 1),
-        row_of(23, 1, [0, 0, 0, 0, -2, 0, 0, 0, 0, 0, 0, 2, 0], 0, 1),
-        row_of(24, 1, [0, 0, 0, 2, 0, 0, 0, 0, 0, 0, 0, 2, 0], 1, 2),
-        row_of(25, 1, [0, 0, 0, 0, 2, 0, 0, 0, 0, 0, 0, 2, 0], 1, 2),
-        row_of(26, 1, [0, 0, 0, 0, 0, -2, 0, 0, 0, 0, 0, 0, 2], 0, 1),
-        row_of(27, 1, [0, 0, 0, 0, 0, 0, -2, 0, 0, 0, 0, 0, 2], 0, 1),
-        row_of(28, 1, [0, 0, 0, 0, 0, 2, 0, 0, 0, 0, 0, 0, 2], 1, 2),
-        row_of(29, 1, [0, 0, 0, 0, 0, 0, 2, 0, 0, 0, 0, 0, 2], 1, 2),
-        row_of(30, 1, [0, 0, 0, 0, 0, 0, 0, 0, 0, 0, 0, 1, -2], 0, 1),
-    ]
-}
-
-/// The quotient, with nothing said of it: what `Frac::new` says is a long term.
-fn quotient(num: i128, den: i128) -> Result<Frac, Unfit> {
-    Frac::new(num, den)
-}
-
-fn fraction(num: i128, den: i128) -> Frac {
-    match quotient(num, den) {
-        Ok(fraction) => fraction,
-        Err(_) => Frac::whole(0),
-    }
-}
-
-/// The inbound bands count so many halves.
-fn head(halves: i128) -> SampleHead {
-    SampleHead {
-        ratio: fraction(halves, 2),
-        ..plain_head()
-    }
-}
-
-/// The artery whose inbound bands count so many halves.
-fn artery(alloc: Global, halves: i128) -> Result<Artery, Fail>
-    ensures { IfOk result (λ a. count a ≡ 2) }
-{
-    let signals = [plain_signal("A", 50), plain_signal("B", 50)];
-    match sample_street(alloc, head(halves), &signals, &[plain_link(500)]) {
-        Ok(artery) => Ok(artery),
-        Err(_) => Err("no artery".into()),
-    }
-}
+static ROOT_ROWS: [&str; 21] = [
+    "3.1: 0 0 50 0 0 0 0 -1 0 0 0 0 0 <= 0",
+    "4.1: 0 0 50 0 0 0 0 0 -1 0 0 0 0 <= 0",
+    "5.1: 0 0 -50 0 0 0 0 1 0 0 0 0 0 <= 0",
+    "6.1: 0 0 -50 0 0 0 0 0 1 0 0 0 0 <= 0",
+    "11.0: 0 0 -1 0 0 0 0 0 0 0 0 0 0 <= -1/100",
+    "12.0: 0 0 1 0 0 0 0 0 0 0 0 0 0 <= 1/100",
+    "14.1: 0 0 0 -1 1 -1 1 -1 -1 -1 1 0 0 <= 0",
+    "15.1: 0 0 0 1 -1 1 -1 1 1 1 -1 0 0 <= 2",
+    "16.1: 0 0 0 0 0 0 0 0 0 -1 0 0 0 <= 0",
+    "16.2: 0 0 0 0 0 0 0 0 0 0 -1 0 0 <= 0",
+    "17.1: 0 0 0 0 0 0 0 0 0 1 0 0 0 <= 0",
+    "17.2: 0 0 0 0 0 0 0 0 0 0 1 0 0 <= 0",
+    "22.1: 0 0 0 -1 0 0 0 0 0 0 0 1 0 <= 0",
+    "23.1: 0 0 0 0 -1 0 0 0 0 0 0 1 0 <= 0",
+    "24.1: 0 0 0 1 0 0 0 0 0 0 0 1 0 <= 1/2",
+    "25.1: 0 0 0 0 1 0 0 0 0 0 0 1 0 <= 1/2",
+    "26.1: 0 0 0 0 0 -1 0 0 0 0 0 0 1 <= 0",
+    "27.1: 0 0 0 0 0 0 -1 0 0 0 0 0 1 <= 0",
+    "28.1: 0 0 0 0 0 1 0 0 0 0 0 0 1 <= 1/2",
+    "29.1: 0 0 0 0 0 0 1 0 0 0 0 0 1 <= 1/2",
+    "30.1: 0 0 0 0 0 0 0 0 0 0 0 1/2 -1 <= 0",
+];
 
 /// A row of so many numbers, all 0.
 fn empty(alloc: Global, width: u32) -> Result<Row, Fail>
@@ -109,7 +61,7 @@ fn is_row(row: &Row, halves: &[i128; 13], bound: Frac) -> bool
     requires { length row.now.coefs ≡ 13 }
 {
     for column in 0..WIDTH {
-        if row.get(Place::Cell(column)) != fraction(halves[column as usize], 2) {
+        if row.get(Place::Cell(column)) != fraction_or_zero(halves[column as usize], 2) {
             return false;
         }
     }
@@ -118,18 +70,16 @@ fn is_row(row: &Row, halves: &[i128; 13], bound: Frac) -> bool
 
 #[test]
 fn rows_of_the_root_in_order(rt: HostRuntime) -> Result<(), Fail> {
-    let artery = artery(rt.alloc(), 1)?;
+    let artery = two_signals(rt.alloc(), with_ratio(fraction_or_zero(1, 2)), 50, 500)?;
     let area = SearchBox::root(rt.alloc(), &artery)?;
     let mut after = None;
-    for expected in root_rows() {
-        let next = next_link_row(&artery, after);
-        assert_eq!(rt; next, Some(expected.row));
-        after = next;
+    for expected in ROOT_ROWS {
+        let name = next_link_row(&artery, after).ok_or("a row is missing")?;
+        after = Some(name);
         let mut room = empty(rt.alloc(), LINE_WIDTH)?;
         let mut row = empty(rt.alloc(), WIDTH)?;
-        assert!(rt; fill_link_row(&artery, &area, expected.row, &mut room, &mut row));
-        let (num, den) = expected.bound;
-        assert!(rt; is_row(&row, &expected.halves, fraction(num, den)));
+        assert!(rt; fill_link_row(&artery, &area, name, &mut room, &mut row));
+        assert_eq!(rt; row_text(rt.alloc(), name, &row, WIDTH)?.as_str(), expected);
     }
     assert_eq!(rt; next_link_row(&artery, after), None);
     Ok(())
@@ -138,7 +88,7 @@ fn rows_of_the_root_in_order(rt: HostRuntime) -> Result<(), Fail> {
 /// With the ratio 1 there is no row of it.
 #[test]
 fn rows_that_are_not_there(rt: HostRuntime) -> Result<(), Fail> {
-    let artery = artery(rt.alloc(), 2)?;
+    let artery = two_signals(rt.alloc(), with_ratio(fraction_or_zero(2, 2)), 50, 500)?;
     let area = SearchBox::root(rt.alloc(), &artery)?;
     let names = [
         (0, 0),
@@ -188,7 +138,7 @@ fn rows_that_are_not_there(rt: HostRuntime) -> Result<(), Fail> {
 /// The goal, at several ratios.
 #[test]
 fn goals(rt: HostRuntime) -> Result<(), Fail> {
-    let artery = artery(rt.alloc(), 1)?;
+    let artery = two_signals(rt.alloc(), with_ratio(fraction_or_zero(1, 2)), 50, 500)?;
     let mut row = empty(rt.alloc(), WIDTH)?;
     row.set(Place::Cell(4), Frac::whole(7));
     row.set(Place::Bound, Frac::whole(7));
@@ -203,27 +153,19 @@ fn goals(rt: HostRuntime) -> Result<(), Fail> {
     Ok(())
 }
 
-fn weight(family: u8, index: u32, by: Frac) -> Weight {
-    Weight {
-        row: RowId { family, index },
-        by,
-    }
-}
-
 /// The sum of these rows of the root box.
 fn sum_of(alloc: Global, artery: &Artery, weights: &[Weight]) -> Result<Result<Row, SumFault>, Fail>
     requires { count artery.now ≡ 2 }
     ensures { IfOk result (λ sum. IfOk sum (λ row. length row.coefs ≡ 13)) }
 {
     let area = SearchBox::root(alloc, artery)?;
-    let multipliers = weights.to_vec(alloc)?;
-    Ok(link_sum(alloc, artery, &area, &Leaf { multipliers }))
+    Ok(link_sum(alloc, artery, &area, &leaf_of(alloc, weights)?))
 }
 
 #[test]
 fn sums_of_leaves(rt: HostRuntime) -> Result<(), Fail> {
     let alloc = rt.alloc();
-    let artery = artery(alloc, 1)?;
+    let artery = two_signals(alloc, with_ratio(fraction_or_zero(1, 2)), 50, 500)?;
     // twice the outbound row, and twice the ratio times the inbound one, cover the goal
     let weights = [weight(24, 1, Frac::whole(2)), weight(28, 1, Frac::whole(1))];
     match sum_of(alloc, &artery, &weights)? {
@@ -232,7 +174,7 @@ fn sums_of_leaves(rt: HostRuntime) -> Result<(), Fail> {
                 is_row(
                     &sum,
                     &[0, 0, 0, 4, 0, 2, 0, 0, 0, 0, 0, 4, 2],
-                    fraction(3, 2)
+                    fraction_or_zero(3, 2)
                 )
             );
         }

@@ -3,22 +3,100 @@
 
 use artery_model::Artery;
 use link_space::{LinkFailing, LinkTiming, link_holds, link_value};
-use narrow_fraction::Frac;
-use progression::Dir;
-use sample_streets::{
-    SampleHead, SampleLink, SampleSignal, plain_head, plain_link, plain_signal, sample_street,
-};
-use std::alloc::Global;
+use sample_streets::{SampleLink, SampleSignal, plain_link, plain_signal, sample_street};
+use std::alloc::{AllocError, Global};
 use std::test::Fail;
-use time_space::{Failing, LIMIT};
+use test_bed::{Reader, Record, all_told, fraction, with_ratio};
+use time_space::LIMIT;
 
-/// The inbound bands count so many halves.
-fn head(halves: i128) -> Result<SampleHead, Fail> {
-    Ok(SampleHead {
-        ratio: Frac::new(halves, 2).ok().ok_or("no ratio")?,
-        ..plain_head()
-    })
-}
+/// Two signals: the inbound bands count so many halves; the red in parts, the left turns and the clearance are those of signal 2.
+static SHORT: &str = "links 1
+halves 2
+parts 50
+left 0 0
+clear 0
+apart 500 500
+grid 2
+unit 2
+pattern 1 1
+red 0 100
+run_out 100
+run_in 100
+first 150 250
+half_out 50
+half_in 50
+";
+
+/// Three signals, the last with a red of so many parts.
+static LONG: &str = "links 2
+halves 2
+parts 50
+grid 2
+unit 2
+pattern 1 1 1
+red 0 100 0
+run_out 100 100
+run_in 100 100
+first 150 350
+half_out 50 50
+half_in 50 50
+";
+
+/// Changes of `SHORT`, and what becomes of the timing.
+static ONE_LINK: [&str; 28] = [
+    " -> 1/1",
+    "grid 1 -> CycleLong",
+    "run_out 99 -> Fast { dir: Outbound, link: 1 }",
+    // One tick wider than the green, at both signals: the one that the line comes to first.
+    "half_out 51 -> outbound link 1 signal 1 tick 99",
+    "half_in 51 -> inbound link 1 signal 2 tick 199",
+    "half_out 51|half_in 51 -> outbound link 1 signal 1 tick 99",
+    // Wider at the farther signal alone, before its green and after.
+    "red 0 110 -> outbound link 1 signal 2 tick 200",
+    "red 0 90 -> outbound link 1 signal 2 tick 291",
+    "red 0 90|first 150 235|half_out 0|half_in 45 -> inbound link 1 signal 1 tick 290",
+    // A line at the first tick of a red, and a band about it.
+    "first 200 250|half_out 0 -> 1/2",
+    "first 200 250|half_out 1 -> outbound link 1 signal 1 tick 201",
+    // The inbound band is at least half of the outbound one, or at most twice.
+    "halves 1|half_in 25 -> 5/8",
+    "halves 1|half_in 24 -> ratio 1",
+    "halves 4|half_out 20|half_in 40 -> 1/1",
+    "halves 4|half_out 20|half_in 41 -> ratio 1",
+    // Two rules broken: the first of them.
+    "halves 1|run_out 99|half_in 24 -> Fast { dir: Outbound, link: 1 }",
+    "halves 1|half_out 60|half_in 24 -> ratio 1",
+    // The queue at the second signal wants ten parts to clear before the outbound band comes, so that the line crosses it after 80 ticks.
+    "clear 10|red 0 80|first 150 240|half_in 40 -> 9/10",
+    "clear 10|red 0 80|first 150 240|half_in 41 -> inbound link 1 signal 2 tick 281",
+    "red 0 80|first 150 240|half_in 40 -> outbound link 1 signal 2 tick 281",
+    // Beside 40 parts of common red the second signal has a left turn of 10 parts against the inbound traffic, and one of 20 against the
+    // outbound: inbound it is red for 100 ticks, outbound for 120.
+    // Outbound the red begins before the common one, inbound with it.
+    "parts 40|left 10 20|red 0 130|first 150 265|half_out 40|half_in 35 -> 3/4",
+    "parts 40|left 10 20|red 0 130|first 150 265|half_out 41|half_in 35 -> outbound link 1 signal 2 tick 209",
+    "parts 40|left 10 20|red 0 130|first 150 265|half_out 40|half_in 36 -> inbound link 1 signal 2 tick 229",
+    // The other way round, and both before: the band lies in that green too.
+    "parts 40|left 10 20|pattern 1 2|red 0 130|first 150 265|half_out 40|half_in 35 -> outbound link 1 signal 2 tick 210",
+    "parts 40|left 10 20|pattern 1 4|red 0 130|first 150 265|half_out 40|half_in 35 -> 3/4",
+    // 500 metres one way, and 600 the other.
+    "apart 500 600|run_in 120|first 150 240|half_in 40 -> 9/10",
+    "apart 500 600|run_in 120|first 150 240|half_in 41 -> inbound link 1 signal 2 tick 199",
+    "apart 500 600|first 150 240|half_in 40 -> Fast { dir: Inbound, link: 1 }",
+];
+
+/// Which of two links is named, and what two links are worth.
+static TWO_LINKS: [&str; 8] = [
+    " -> 2/1",
+    // The last signal is green for 40 ticks alone.
+    "parts 80|red 0 100 170|half_out 50 20|half_in 50 20 -> 7/5",
+    "parts 80|red 0 100 170|half_out 50 21|half_in 50 20 -> outbound link 2 signal 3 tick 329",
+    "half_out 51 51 -> outbound link 1 signal 1 tick 99",
+    "half_out 50 51|half_in 51 50 -> outbound link 2 signal 2 tick 199",
+    "half_in 51 51 -> inbound link 1 signal 2 tick 399",
+    "half_in 50 51 -> inbound link 2 signal 3 tick 299",
+    "halves 1|half_out 51 50|half_in 50 24 -> ratio 2",
+];
 
 fn signal(name: &'static str, red: u32) -> SampleSignal {
     SampleSignal {
@@ -27,460 +105,105 @@ fn signal(name: &'static str, red: u32) -> SampleSignal {
     }
 }
 
-fn short_artery(alloc: Global, halves: i128) -> Result<Artery, Fail> {
-    let head = head(halves)?;
-    let signals = [signal("A", 50), signal("B", 50)];
-    match sample_street(alloc, head, &signals, &[plain_link(500)]) {
+/// The street of these signals and links, with the record's ratio.
+fn street(
+    alloc: Global,
+    record: Record<'_>,
+    signals: &[SampleSignal],
+    links: &[SampleLink],
+) -> Result<Artery, Fail> {
+    let head = with_ratio(fraction(record.number("halves", 0)?, 2)?);
+    match sample_street(alloc, head, signals, links) {
         Ok(artery) => Ok(artery),
         Err(_) => Err("no artery".into()),
     }
 }
 
-/// The second signal and the link as given, in place of the plain ones.
-fn artery_with(alloc: Global, next: SampleSignal, link: SampleLink) -> Result<Artery, Fail> {
-    match sample_street(alloc, plain_head(), &[signal("A", 50), next], &[link]) {
-        Ok(artery) => Ok(artery),
-        Err(_) => Err("no artery".into()),
-    }
-}
-
-/// The third signal is red for so many parts.
-fn long_artery(alloc: Global, halves: i128, red: u32) -> Result<Artery, Fail> {
-    let head = head(halves)?;
-    let signals = [signal("A", 50), signal("B", 50), signal("C", red)];
-    let links = [plain_link(500), plain_link(500)];
-    match sample_street(alloc, head, &signals, &links) {
-        Ok(artery) => Ok(artery),
-        Err(_) => Err("no artery".into()),
-    }
-}
-
-/// What differs between the timings of two signals: the second one's pattern and red, among others. The first red starts at tick 0.
-#[derive(Clone, Copy)]
-struct Short {
-    grid: u128,
-    pattern: u32,
-    red: u128,
-    runs: [u128; 2],
-    firsts: [u128; 2],
-    halves: [u128; 2],
-}
-
-const SHORT: Short = Short {
-    grid: 2,
-    pattern: 1,
-    red: 100,
-    runs: [100, 100],
-    firsts: [150, 250],
-    halves: [50, 50],
-};
-
-fn short_timing(alloc: Global, times: Short) -> Result<LinkTiming, Fail> {
-    let made = LinkTiming::new(
-        times.grid,
-        2,
-        vec![in alloc; 1, times.pattern]?,
-        vec![in alloc; 0, times.red]?,
-        vec![in alloc; times.runs[0]]?,
-        vec![in alloc; times.runs[1]]?,
-        times.firsts[0],
-        times.firsts[1],
-        vec![in alloc; times.halves[0]]?,
-        vec![in alloc; times.halves[1]]?,
-    );
-    Ok(made.ok_or("no timing")?)
-}
-
-/// What differs between the timings of three signals.
-#[derive(Clone, Copy)]
-struct Long {
-    red: u128,
-    halves_out: [u128; 2],
-    halves_in: [u128; 2],
-}
-
-const LONG: Long = Long {
-    red: 0,
-    halves_out: [50, 50],
-    halves_in: [50, 50],
-};
-
-fn long_timing(alloc: Global, times: Long) -> Result<LinkTiming, Fail> {
-    let made = LinkTiming::new(
-        2,
-        2,
-        vec![in alloc; 1, 1, 1]?,
-        vec![in alloc; 0, 100, times.red]?,
-        vec![in alloc; 100, 100]?,
-        vec![in alloc; 100, 100]?,
-        150,
-        350,
-        vec![in alloc; times.halves_out[0], times.halves_out[1]]?,
-        vec![in alloc; times.halves_in[0], times.halves_in[1]]?,
-    );
-    Ok(made.ok_or("no timing")?)
-}
-
-/// The numerator and the denominator of its value where the timing is good, and else the first rule that it breaks.
-fn answer(artery: &Artery, timing: &LinkTiming) -> Result<[i128; 2], LinkFailing> {
-    match link_holds(artery, timing) {
-        Ok(()) => {
-            let value = link_value(artery, timing);
-            Ok([value.num(), value.den()])
-        }
-        Err(failing) => Err(failing),
-    }
-}
-
-fn outbound(link: u32, signal: u32, tick: i128) -> Result<[i128; 2], LinkFailing> {
-    Err(LinkFailing::Outbound { link, signal, tick })
-}
-
-fn inbound(link: u32, signal: u32, tick: i128) -> Result<[i128; 2], LinkFailing> {
-    Err(LinkFailing::Inbound { link, signal, tick })
-}
-
-fn base(failing: Failing) -> Result<[i128; 2], LinkFailing> {
-    Err(LinkFailing::Base(failing))
-}
-
-fn fast(link: u32) -> Failing {
-    Failing::Fast {
-        dir: Dir::Outbound,
-        link,
-    }
-}
-
-#[test]
-fn rules_of_one_link(rt: HostRuntime) -> Result<(), Fail> {
-    let alloc = rt.alloc();
-    let good = SHORT;
-    let rows = [
-        (2, good, Ok([1, 1])),
-        (2, Short { grid: 1, ..good }, base(Failing::CycleLong)),
-        (
-            2,
-            Short {
-                runs: [99, 100],
-                ..good
-            },
-            base(fast(1)),
-        ),
-        // One tick wider than the green, at both signals: the one that the line comes to first.
-        (
-            2,
-            Short {
-                halves: [51, 50],
-                ..good
-            },
-            outbound(1, 1, 99),
-        ),
-        (
-            2,
-            Short {
-                halves: [50, 51],
-                ..good
-            },
-            inbound(1, 2, 199),
-        ),
-        (
-            2,
-            Short {
-                halves: [51, 51],
-                ..good
-            },
-            outbound(1, 1, 99),
-        ),
-        // Wider at the farther signal alone, before its green and after.
-        (2, Short { red: 110, ..good }, outbound(1, 2, 200)),
-        (2, Short { red: 90, ..good }, outbound(1, 2, 291)),
-        (
-            2,
-            Short {
-                red: 90,
-                firsts: [150, 235],
-                halves: [0, 45],
-                ..good
-            },
-            inbound(1, 1, 290),
-        ),
-        // A line at the first tick of a red, and a band about it.
-        (
-            2,
-            Short {
-                firsts: [200, 250],
-                halves: [0, 50],
-                ..good
-            },
-            Ok([1, 2]),
-        ),
-        (
-            2,
-            Short {
-                firsts: [200, 250],
-                halves: [1, 50],
-                ..good
-            },
-            outbound(1, 1, 201),
-        ),
-        // The inbound band is at least half of the outbound one, or at most twice.
-        (
-            1,
-            Short {
-                halves: [50, 25],
-                ..good
-            },
-            Ok([5, 8]),
-        ),
-        (
-            1,
-            Short {
-                halves: [50, 24],
-                ..good
-            },
-            Err(LinkFailing::Ratio { link: 1 }),
-        ),
-        (
-            4,
-            Short {
-                halves: [20, 40],
-                ..good
-            },
-            Ok([1, 1]),
-        ),
-        (
-            4,
-            Short {
-                halves: [20, 41],
-                ..good
-            },
-            Err(LinkFailing::Ratio { link: 1 }),
-        ),
-        // Two rules broken: the first of them.
-        (
-            1,
-            Short {
-                runs: [99, 100],
-                halves: [50, 24],
-                ..good
-            },
-            base(fast(1)),
-        ),
-        (
-            1,
-            Short {
-                halves: [60, 24],
-                ..good
-            },
-            Err(LinkFailing::Ratio { link: 1 }),
-        ),
-    ];
-    for (halves, times, expected) in rows {
-        let artery = short_artery(alloc, halves)?;
-        let timing = short_timing(alloc, times)?;
-        assert!(rt; answer(&artery, &timing) == expected);
-    }
-    let longer = long_artery(alloc, 2, 50)?;
-    let timing = short_timing(alloc, good)?;
-    assert!(rt; answer(&longer, &timing) == base(Failing::Shape));
-    Ok(())
-}
-
-/// The queue at the second signal wants ten parts to clear before the outbound band comes, so that the line crosses it after 80 ticks.
-#[test]
-fn a_link_with_a_clearance(rt: HostRuntime) -> Result<(), Fail> {
-    let alloc = rt.alloc();
+fn short_artery(alloc: Global, record: Record<'_>) -> Result<Artery, Fail> {
     let next = SampleSignal {
-        clear_out: 10,
-        ..signal("B", 50)
+        left_out: record.small("left", 0)?,
+        left_in: record.small("left", 1)?,
+        clear_out: record.small("clear", 0)?,
+        ..signal("B", record.small("parts", 0)?)
     };
-    let good = Short {
-        red: 80,
-        firsts: [150, 240],
-        halves: [50, 40],
-        ..SHORT
-    };
-    let wider = Short {
-        halves: [50, 41],
-        ..good
-    };
-    let cleared = artery_with(alloc, next, plain_link(500))?;
-    let plain = short_artery(alloc, 2)?;
-    assert!(rt; answer(&cleared, &short_timing(alloc, good)?) == Ok([9, 10]));
-    assert!(rt; answer(&cleared, &short_timing(alloc, wider)?) == inbound(1, 2, 281));
-    assert!(rt; answer(&plain, &short_timing(alloc, good)?) == outbound(1, 2, 281));
-    Ok(())
-}
-
-/// Beside 40 parts of common red the second signal has a left turn of 10 parts against the inbound traffic, and one of 20 against the
-/// outbound: inbound it is red for 100 ticks, outbound for 120.
-#[test]
-fn a_link_with_left_turns(rt: HostRuntime) -> Result<(), Fail> {
-    let alloc = rt.alloc();
-    let next = SampleSignal {
-        left_out: 10,
-        left_in: 20,
-        ..signal("B", 40)
-    };
-    let artery = artery_with(alloc, next, plain_link(500))?;
-    let good = Short {
-        red: 130,
-        firsts: [150, 265],
-        halves: [40, 35],
-        ..SHORT
-    };
-    let rows = [
-        // Outbound the red begins before the common one, inbound with it.
-        (good, Ok([3, 4])),
-        (
-            Short {
-                halves: [41, 35],
-                ..good
-            },
-            outbound(1, 2, 209),
-        ),
-        (
-            Short {
-                halves: [40, 36],
-                ..good
-            },
-            inbound(1, 2, 229),
-        ),
-        // The other way round, and both before: the band lies in that green too.
-        (Short { pattern: 2, ..good }, outbound(1, 2, 210)),
-        (Short { pattern: 4, ..good }, Ok([3, 4])),
-    ];
-    for (times, expected) in rows {
-        let timing = short_timing(alloc, times)?;
-        assert!(rt; answer(&artery, &timing) == expected);
-    }
-    Ok(())
-}
-
-/// 500 metres one way, and 600 the other.
-#[test]
-fn a_link_of_unequal_ways(rt: HostRuntime) -> Result<(), Fail> {
-    let alloc = rt.alloc();
     let link = SampleLink {
-        distance_in: 600,
-        ..plain_link(500)
+        distance_in: record.small("apart", 1)?,
+        ..plain_link(record.small("apart", 0)?)
     };
-    let artery = artery_with(alloc, signal("B", 50), link)?;
-    let good = Short {
-        runs: [100, 120],
-        firsts: [150, 240],
-        halves: [50, 40],
-        ..SHORT
-    };
-    let rows = [
-        (good, Ok([9, 10])),
-        (
-            Short {
-                halves: [50, 41],
-                ..good
-            },
-            inbound(1, 2, 199),
-        ),
-        (
-            Short {
-                runs: [100, 100],
-                ..good
-            },
-            base(Failing::Fast {
-                dir: Dir::Inbound,
-                link: 1,
-            }),
-        ),
-    ];
-    for (times, expected) in rows {
-        let timing = short_timing(alloc, times)?;
-        assert!(rt; answer(&artery, &timing) == expected);
-    }
-    Ok(())
+    street(alloc, record, &[signal("A", 50), next], &[link])
 }
 
-/// Which of two links is named, and what two links are worth.
-#[test]
-fn rules_of_two_links(rt: HostRuntime) -> Result<(), Fail> {
-    let alloc = rt.alloc();
-    let good = LONG;
-    let rows = [
-        (2, 50, good, Ok([2, 1])),
-        // The last signal is green for 40 ticks alone.
-        (
-            2,
-            80,
-            Long {
-                red: 170,
-                halves_out: [50, 20],
-                halves_in: [50, 20],
-            },
-            Ok([7, 5]),
-        ),
-        (
-            2,
-            80,
-            Long {
-                red: 170,
-                halves_out: [50, 21],
-                halves_in: [50, 20],
-            },
-            outbound(2, 3, 329),
-        ),
-        (
-            2,
-            50,
-            Long {
-                halves_out: [51, 51],
-                ..good
-            },
-            outbound(1, 1, 99),
-        ),
-        (
-            2,
-            50,
-            Long {
-                halves_out: [50, 51],
-                halves_in: [51, 50],
-                ..good
-            },
-            outbound(2, 2, 199),
-        ),
-        (
-            2,
-            50,
-            Long {
-                halves_in: [51, 51],
-                ..good
-            },
-            inbound(1, 2, 399),
-        ),
-        (
-            2,
-            50,
-            Long {
-                halves_in: [50, 51],
-                ..good
-            },
-            inbound(2, 3, 299),
-        ),
-        (
-            1,
-            50,
-            Long {
-                halves_out: [51, 50],
-                halves_in: [50, 24],
-                ..good
-            },
-            Err(LinkFailing::Ratio { link: 2 }),
-        ),
-    ];
-    for (halves, red, times, expected) in rows {
-        let artery = long_artery(alloc, halves, red)?;
-        let timing = long_timing(alloc, times)?;
-        assert!(rt; answer(&artery, &timing) == expected);
+fn long_artery(alloc: Global, record: Record<'_>) -> Result<Artery, Fail> {
+    let last = signal("C", record.small("parts", 0)?);
+    let signals = [signal("A", 50), signal("B", 50), last];
+    street(alloc, record, &signals, &[plain_link(500), plain_link(500)])
+}
+
+fn timing(alloc: Global, record: Record<'_>) -> Result<Option<LinkTiming>, Fail> {
+    Ok(LinkTiming::new(
+        record.natural("grid", 0)?,
+        record.natural("unit", 0)?,
+        record.smalls(alloc, "pattern")?,
+        record.naturals(alloc, "red")?,
+        record.naturals(alloc, "run_out")?,
+        record.naturals(alloc, "run_in")?,
+        record.natural("first", 0)?,
+        record.natural("first", 1)?,
+        record.naturals(alloc, "half_out")?,
+        record.naturals(alloc, "half_in")?,
+    ))
+}
+
+fn failing_text(alloc: Global, failing: LinkFailing) -> Result<String, AllocError> {
+    match failing {
+        LinkFailing::Base(failing) => format!(in alloc; "{failing:?}"),
+        LinkFailing::Ratio { link } => format!(in alloc; "ratio {link}"),
+        LinkFailing::Outbound { link, signal, tick } => {
+            format!(in alloc; "outbound link {link} signal {signal} tick {tick}")
+        }
+        LinkFailing::Inbound { link, signal, tick } => {
+            format!(in alloc; "inbound link {link} signal {signal} tick {tick}")
+        }
     }
-    Ok(())
+}
+
+/// The value of the record's timing where it is good, and else the first rule that it breaks.
+fn judged(alloc: Global, artery: &Artery, record: Record<'_>) -> Result<String, Fail> {
+    let timing = timing(alloc, record)?.ok_or("no timing")?;
+    match link_holds(artery, &timing) {
+        Ok(()) => {
+            let value = link_value(artery, &timing);
+            let (num, den) = (value.num(), value.den());
+            Ok(format!(in alloc; "{num}/{den}")?)
+        }
+        Err(failing) => Ok(failing_text(alloc, failing)?),
+    }
+}
+
+/// Judges a street's timing.
+#[derive(Clone, Copy, Drop)]
+struct Judge;
+
+impl Reader for Judge {
+    fn answer(&self, alloc: Global, text: &[u8]) -> Result<String, Fail> {
+        let record = Record::new(text)?;
+        let artery = match record.small("links", 0)? {
+            1 => short_artery(alloc, record)?,
+            _ => long_artery(alloc, record)?,
+        };
+        judged(alloc, &artery, record)
+    }
+}
+
+#[test]
+fn the_first_broken_rule_is_named(rt: HostRuntime) -> Result<(), Fail> {
+    let alloc = rt.alloc();
+    all_told(alloc, &Judge, SHORT, &ONE_LINK)?;
+    // A timing of two signals on a street of three.
+    let longer = long_artery(alloc, Record::new(LONG.as_bytes())?)?;
+    let judged = judged(alloc, &longer, Record::new(SHORT.as_bytes())?)?;
+    assert_eq!(rt; judged.as_str(), "Shape");
+    all_told(alloc, &Judge, LONG, &TWO_LINKS)
 }
 
 #[test]

@@ -3,40 +3,24 @@
 ghost use Rattle.std.specs.Prelude.{◌≡◌, IfOk, length};
 ghost use Rattle.progression.specs.Street.{count};
 
+use crate::row_texts::{leaf_of, weight};
 use artery_model::Artery;
 use loop_rows::{SumFault, leaf_sum};
-use named_row::{Leaf, Place, Row, RowId, Weight, WideAt};
+use named_row::{Place, Row, RowId, Weight, WideAt};
 use narrow_fraction::{Frac, Op, Wide};
-use sample_streets::{plain_head, plain_link, plain_signal, sample_street};
+use sample_streets::plain_head;
 use search_box::SearchBox;
 use std::alloc::Global;
 use std::rt::HostRuntime;
 use std::test::Fail;
+use test_bed::{fraction, two_signals};
 
 const TWO_100: i128 = 1_267_650_600_228_229_401_496_703_205_376;
 
 const THREE_70: i128 = 2_503_155_504_993_241_601_315_571_986_085_849;
 
-/// The artery with this red at both signals.
-fn artery(alloc: Global, red: u32) -> Result<Artery, Fail>
-    ensures { IfOk result (λ a. count a ≡ 2) }
-{
-    let signals = [plain_signal("A", red), plain_signal("B", red)];
-    match sample_street(alloc, plain_head(), &signals, &[plain_link(250)]) {
-        Ok(artery) => Ok(artery),
-        Err(_) => Err("no artery".into()),
-    }
-}
-
 fn row(family: u8, index: u32) -> RowId {
     RowId { family, index }
-}
-
-fn weight(family: u8, index: u32, by: Frac) -> Weight {
-    Weight {
-        row: row(family, index),
-        by,
-    }
 }
 
 /// The sum of these rows of the root box.
@@ -45,8 +29,7 @@ fn sum_of(alloc: Global, artery: &Artery, weights: &[Weight]) -> Result<Result<R
     ensures { IfOk result (λ sum. IfOk sum (λ row. length row.coefs ≡ 11)) }
 {
     let area = SearchBox::root(alloc, artery)?;
-    let multipliers = weights.to_vec(alloc)?;
-    Ok(leaf_sum(alloc, artery, &area, &Leaf { multipliers }))
+    Ok(leaf_sum(alloc, artery, &area, &leaf_of(alloc, weights)?))
 }
 
 /// Whether all coefficients are 0 and the bound is this number.
@@ -68,7 +51,7 @@ fn given(
     weights: &[Weight],
     expected: Result<i64, SumFault>,
 ) -> Result<bool, Fail> {
-    let artery = artery(alloc, red)?;
+    let artery = two_signals(alloc, plain_head(), red, 250)?;
     Ok(match sum_of(alloc, &artery, weights)? {
         Ok(sum) => match expected {
             Ok(bound) => has_bound_alone(&sum, bound),
@@ -94,8 +77,8 @@ fn sums_of_leaves(rt: HostRuntime) -> Result<(), Fail> {
     let weights = [weight(1, 1, one), weight(1, 2, below), weight(13, 0, below)];
     assert!(rt; given(alloc, 50, &weights, Err(no_sign))?);
     // in column 0 the second sum needs the denominator 2^100 * 3^70
-    let left = Frac::new(1, TWO_100).ok().ok_or("too wide")?;
-    let right = Frac::new(1, THREE_70).ok().ok_or("too wide")?;
+    let left = fraction(1, TWO_100)?;
+    let right = fraction(1, THREE_70)?;
     let at = WideAt {
         place: Place::Cell(0),
         wide: Wide {

@@ -1,11 +1,12 @@
 //! What the ends of the two streets of `tests` show: their leaves and vertices, worked by hand.
 
-use super::tests::{artery, fraction};
+use super::tests::artery;
 use branch_tree::{Found, TreeNode, search};
 use named_row::{Leaf, RowId, Weight};
 use narrow_fraction::Frac;
 use std::rt::HostRuntime;
 use std::test::Fail;
+use test_bed::fraction;
 
 /// Whether a leaf has these rows, each once.
 fn has_rows(leaf: &Leaf, rows: [(u8, u32); 2]) -> bool {
@@ -35,13 +36,15 @@ fn is_leaf_of(found: &Found, rows: [(u8, u32); 2]) -> bool {
     }
 }
 
-/// The block sum of the root's vertex is 1/2, so that a search of 4 units leaves it waiting with its own leaf.
+/// The block sum of the root's vertex is 1/2, so that a search of 4 units leaves it waiting with its own leaf. Long reds are refuted.
 #[test]
-fn leaf_of_the_shared_green(rt: HostRuntime) -> Result<(), Fail> {
+fn leaves_of_the_root(rt: HostRuntime) -> Result<(), Fail> {
     let alloc = rt.alloc();
-    let artery = artery(alloc, 50, 250)?;
-    let found = search(alloc, &artery, Some(4)).ok().ok_or("no memory")?;
-    assert!(rt; is_leaf_of(&found, WAITS));
+    for (red, limit, rows) in [(50, 4, WAITS), (80, 5, LOOP)] {
+        let artery = artery(alloc, red, 250)?;
+        let found = search(alloc, &artery, Some(limit)).ok().ok_or("no memory")?;
+        assert!(rt; is_leaf_of(&found, rows), "reds of {red}");
+    }
     Ok(())
 }
 
@@ -72,14 +75,5 @@ fn vertex_of_the_shared_green(rt: HostRuntime) -> Result<(), Fail> {
     for (value, wanted) in values.iter().zip(expected.iter()) {
         assert!(rt; *value == *wanted);
     }
-    Ok(())
-}
-
-#[test]
-fn refuter_of_long_reds(rt: HostRuntime) -> Result<(), Fail> {
-    let alloc = rt.alloc();
-    let artery = artery(alloc, 80, 250)?;
-    let found = search(alloc, &artery, Some(5)).ok().ok_or("no memory")?;
-    assert!(rt; is_leaf_of(&found, LOOP));
     Ok(())
 }

@@ -9,36 +9,16 @@ use artery_model::Artery;
 use branch_tree::{Found, Stop, TreeNode, Verdict, certificate_of, search};
 use certificate_checker::check;
 use named_row::RowId;
-use narrow_fraction::{Frac, Unfit};
-use sample_streets::{SampleHead, plain_head, plain_link, plain_signal, sample_street};
+use narrow_fraction::Frac;
+use sample_streets::{SampleHead, plain_head};
 use std::alloc::Global;
 use std::rt::HostRuntime;
 use std::test::Fail;
+use test_bed::{fraction, two_signals, with_least};
 use time_space::value;
 
 pub(crate) fn artery(alloc: Global, red: u32, distance: u32) -> Result<Artery, Fail> {
-    artery_of(alloc, plain_head(), red, distance)
-}
-
-/// The artery with this head.
-fn artery_of(alloc: Global, head: SampleHead, red: u32, distance: u32) -> Result<Artery, Fail> {
-    let signals = [plain_signal("A", red), plain_signal("B", red)];
-    match sample_street(alloc, head, &signals, &[plain_link(distance)]) {
-        Ok(artery) => Ok(artery),
-        Err(_) => Err("no artery".into()),
-    }
-}
-
-/// The quotient, with nothing said of it: what `Frac::new` says is a long term.
-fn quotient(num: i128, den: i128) -> Result<Frac, Unfit> {
-    Frac::new(num, den)
-}
-
-pub(crate) fn fraction(num: i128, den: i128) -> Result<Frac, Fail> {
-    match quotient(num, den) {
-        Ok(fraction) => Ok(fraction),
-        Err(_) => Err("no fraction".into()),
-    }
+    two_signals(alloc, plain_head(), red, distance)
 }
 
 pub(crate) fn searched(alloc: Global, artery: &Artery, limit: u64) -> Result<Found, Fail>
@@ -155,20 +135,10 @@ fn equal_bands_are_best(rt: HostRuntime) -> Result<(), Fail> {
     let alloc = rt.alloc();
     let cases = [(1, fraction(1, 2)?), (2, fraction(3, 4)?)];
     for (ratio, best) in cases {
-        let artery = artery_of(alloc, equal(ratio), 50, 250)?;
+        let artery = two_signals(alloc, equal(ratio), 50, 250)?;
         assert!(rt; finds_best(alloc, &artery, best)?);
     }
     Ok(())
-}
-
-/// Each band is to be at least so wide.
-fn at_least(share: Frac) -> SampleHead {
-    SampleHead {
-        version: 2,
-        least_out: share,
-        least_in: share,
-        ..plain_head()
-    }
 }
 
 /// Each band is asked to be three tenths of the cycle, which is more than they share.
@@ -176,7 +146,7 @@ fn at_least(share: Frac) -> SampleHead {
 fn least_bands_leave_no_timing(rt: HostRuntime) -> Result<(), Fail> {
     let alloc = rt.alloc();
     let least = fraction(3, 10)?;
-    let artery = artery_of(alloc, at_least(least), 50, 250)?;
+    let artery = two_signals(alloc, with_least(least), 50, 250)?;
     let found = searched(alloc, &artery, 1000)?;
     assert!(rt; is_none(&found));
     assert!(rt; found.timing.is_none());

@@ -7,7 +7,7 @@
 //! The four speeds and the cycle have five different prime numbers of thousandths. A common denominator of 2^80 or more has to
 //! have all five, since any four of them and the number of parts make less.
 
-use super::tests::{fraction, is_accepted, is_first_waits, searched};
+use super::tests::{is_accepted, is_first_waits, searched};
 use artery_model::{Artery, Pair};
 use branch_tree::{Found, Site, SitePart, Stop, Verdict};
 use narrow_fraction::Frac;
@@ -16,6 +16,7 @@ use sample_streets::{SampleHead, SampleLink, plain_head, plain_link, plain_signa
 use std::alloc::Global;
 use std::rt::HostRuntime;
 use std::test::Fail;
+use test_bed::fraction;
 
 /// The speeds in thousandths of a kilometre an hour, and the cycle in thousandths of a second.
 const PRIMES: [u32; 5] = [99991, 99989, 99971, 99961, 99929];

@@ -5,7 +5,6 @@ ghost use Rattle.std.specs.Prelude.{◌≡◌, ◌<◌, IfOk};
 ghost use Rattle.rational_theory.specs.Rational.{ℚ, ◌/ℚ◌};
 ghost use Rattle.progression.specs.Speeds.{number};
 ghost use Rattle.progression.specs.Worked.{half_red, two_signals};
-ghost use Rattle.linear_theory.specs.Boxes.{IsBoxOf, root_box};
 ghost use Rattle.sample_streets.specs.Samples.{signal_of};
 ghost use Rattle.multi_band.specs.Worked.{worked_vertex, amid, late};
 
@@ -68,20 +67,10 @@ fn point(alloc: Global, wait_in: Frac, half_in: Frac) -> Result<Point, Fail>
     Ok(Point { values })
 }
 
-fn root(alloc: Global, artery: &Artery) -> Result<SearchBox, Fail>
-    ensures value { IfOk result (λ area. area ≡ root_box artery.now) }
-    ensures boxed { IfOk result (λ area. IsBoxOf artery.now area) }
-{
-    match SearchBox::root(alloc, artery) {
-        Ok(area) => Ok(area),
-        Err(_) => Err("no memory".into()),
-    }
-}
-
 fn outcome_amid(alloc: Global) -> Result<Result<RecoveredLinks, RecoverFault>, Fail> {
     law_worked_link_vertices();
     let artery = artery(alloc)?;
-    let area = root(alloc, &artery)?;
+    let area = SearchBox::root(alloc, &artery)?;
     let wait = fraction(1, 4)?;
     let half = fraction(1, 4)?;
     let point = point(alloc, wait, half)?;
@@ -91,7 +80,7 @@ fn outcome_amid(alloc: Global) -> Result<Result<RecoveredLinks, RecoverFault>, F
 fn outcome_late(alloc: Global) -> Result<Result<RecoveredLinks, RecoverFault>, Fail> {
     law_worked_link_vertices();
     let artery = artery(alloc)?;
-    let area = root(alloc, &artery)?;
+    let area = SearchBox::root(alloc, &artery)?;
     let wait = fraction(3, 8)?;
     let half = fraction(1, 8)?;
     let point = point(alloc, wait, half)?;

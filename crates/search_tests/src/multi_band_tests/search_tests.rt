@@ -9,58 +9,41 @@ use branch_tree::Verdict;
 use link_proof::{link_check, write_links};
 use multi_band::{LinkFound, link_certificate, link_search, search_links_and_check};
 use narrow_fraction::Frac;
-use sample_streets::{SampleHead, plain_head, plain_link, plain_signal, sample_street};
+use sample_streets::{plain_head, plain_link, plain_signal, sample_street};
 use std::alloc::Global;
 use std::rt::HostRuntime;
 use std::test::Fail;
+use test_bed::{Reader, Record, all_told, fraction, two_signals, with_ratio};
 
-/// Both bands are whole greens.
-const WHOLE: &str =
-    "maxband-links 1\nverdict best\nvalue 1\ngrid 2\nunit 2\npattern 1 1\nred 0 100\nrun_out 100\nrun_in 100\nfirst 150 50\nhalf_out 50\nhalf_in 50\ntree\nleaf 4\nnear_out_a 1 1\nfar_out_a 1 1\nnear_in_a 1 1\nfar_in_a 1 1\nend\n";
+/// Two signals with this red and so far apart, how much the inbound bands count, and a limit of work.
+static STREET: &str = "red 50
+apart 500
+ratio 1 1
+limit 0
+";
 
-/// Inbound bands count half.
-const HALF: &str =
-    "maxband-links 1\nverdict best\nvalue 3/4\ngrid 2\nunit 2\npattern 1 1\nred 0 100\nrun_out 100\nrun_in 100\nfirst 150 50\nhalf_out 50\nhalf_in 50\ntree\nleaf 4\nnear_out_a 1 1\nfar_out_a 1 1\nnear_in_a 1 1/2\nfar_in_a 1 1/2\nend\n";
-
-/// Inbound bands don't count.
-const ZERO: &str =
-    "maxband-links 1\nverdict best\nvalue 1/2\ngrid 2\nunit 2\npattern 1 1\nred 0 100\nrun_out 100\nrun_in 100\nfirst 150 50\nhalf_out 50\nhalf_in 50\ntree\nleaf 2\nnear_out_a 1 1\nfar_out_a 1 1\nend\n";
-
-/// The start leaf alone: at signal 1 a wait and a half fit into the green.
-const START: &str =
-    "maxband-links 1\nverdict open\nbound 2\nno timing\ntree\nleaf 2\nfar_out_a 1 2\nfar_in_a 1 2\nend\n";
-
-/// At 250 metres the block sum is 0 or 1, and both bands share the green.
-const SHARED: &str =
-    "maxband-links 1\nverdict best\nvalue 1/2\ngrid 2\nunit 2\npattern 1 1\nred 0 150\nrun_out 50\nrun_in 50\nfirst 100 100\nhalf_out 0\nhalf_in 50\ntree\nsplit loop 1 0\nleaf 9\nfast_out 1 1\nfast_in 1 1\ncycle_low 50\nloop_hi 1 1\nturn_hi 2 1\nnear_out_a 1 1\nfar_out_b 1 1\nnear_in_a 1 1\nfar_in_b 1 1\nleaf 9\nslow_out 1 1\nslow_in 1 1\ncycle_high 50\nloop_lo 1 1\nturn_hi 1 1\nnear_out_b 1 1\nfar_out_a 1 1\nnear_in_b 1 1\nfar_in_a 1 1\nend\n";
-
-/// The low part gave its link timing, and no unit is left for the high one.
-const LOW_PART: &str =
-    "maxband-links 1\nverdict open\nbound 1\nvalue 1/2\ngrid 2\nunit 2\npattern 1 1\nred 0 150\nrun_out 50\nrun_in 50\nfirst 100 100\nhalf_out 0\nhalf_in 50\ntree\nleaf 4\nnear_out_a 1 1\nfar_out_a 1 1\nnear_in_a 1 1\nfar_in_a 1 1\nend\n";
-
-/// Greens of 20 meet no line of the other direction.
-const BLOCKED: &str =
-    "maxband-links 1\nverdict none\ntree\nleaf 2\nloop_lo 1 1\nloop_hi 1 1\nend\n";
+/// Changes of `STREET`, and the certificate.
+static FOUND: [&str; 8] = [
+    // Both bands are whole greens.
+    "limit 8 -> maxband-links 1\nverdict best\nvalue 1\ngrid 2\nunit 2\npattern 1 1\nred 0 100\nrun_out 100\nrun_in 100\nfirst 150 50\nhalf_out 50\nhalf_in 50\ntree\nleaf 4\nnear_out_a 1 1\nfar_out_a 1 1\nnear_in_a 1 1\nfar_in_a 1 1\nend\n",
+    // Inbound bands count half.
+    "ratio 1 2|limit 8 -> maxband-links 1\nverdict best\nvalue 3/4\ngrid 2\nunit 2\npattern 1 1\nred 0 100\nrun_out 100\nrun_in 100\nfirst 150 50\nhalf_out 50\nhalf_in 50\ntree\nleaf 4\nnear_out_a 1 1\nfar_out_a 1 1\nnear_in_a 1 1/2\nfar_in_a 1 1/2\nend\n",
+    // Inbound bands don't count.
+    "ratio 0 1|limit 8 -> maxband-links 1\nverdict best\nvalue 1/2\ngrid 2\nunit 2\npattern 1 1\nred 0 100\nrun_out 100\nrun_in 100\nfirst 150 50\nhalf_out 50\nhalf_in 50\ntree\nleaf 2\nnear_out_a 1 1\nfar_out_a 1 1\nend\n",
+    // The start leaf alone: at signal 1 a wait and a half fit into the green.
+    "limit 1 -> maxband-links 1\nverdict open\nbound 2\nno timing\ntree\nleaf 2\nfar_out_a 1 2\nfar_in_a 1 2\nend\n",
+    "limit 7 -> maxband-links 1\nverdict open\nbound 2\nno timing\ntree\nleaf 2\nfar_out_a 1 2\nfar_in_a 1 2\nend\n",
+    // At 250 metres the block sum is 0 or 1, and both bands share the green.
+    "apart 250|limit 30 -> maxband-links 1\nverdict best\nvalue 1/2\ngrid 2\nunit 2\npattern 1 1\nred 0 150\nrun_out 50\nrun_in 50\nfirst 100 100\nhalf_out 0\nhalf_in 50\ntree\nsplit loop 1 0\nleaf 9\nfast_out 1 1\nfast_in 1 1\ncycle_low 50\nloop_hi 1 1\nturn_hi 2 1\nnear_out_a 1 1\nfar_out_b 1 1\nnear_in_a 1 1\nfar_in_b 1 1\nleaf 9\nslow_out 1 1\nslow_in 1 1\ncycle_high 50\nloop_lo 1 1\nturn_hi 1 1\nnear_out_b 1 1\nfar_out_a 1 1\nnear_in_b 1 1\nfar_in_a 1 1\nend\n",
+    // The low part gave its link timing, and no unit is left for the high one.
+    "apart 250|limit 18 -> maxband-links 1\nverdict open\nbound 1\nvalue 1/2\ngrid 2\nunit 2\npattern 1 1\nred 0 150\nrun_out 50\nrun_in 50\nfirst 100 100\nhalf_out 0\nhalf_in 50\ntree\nleaf 4\nnear_out_a 1 1\nfar_out_a 1 1\nnear_in_a 1 1\nfar_in_a 1 1\nend\n",
+    // Greens of 20 meet no line of the other direction.
+    "red 80|apart 250|limit 5 -> maxband-links 1\nverdict none\ntree\nleaf 2\nloop_lo 1 1\nloop_hi 1 1\nend\n",
+];
 
 /// Each link has a band of its own: those of link 1 are not cut by signal C.
-const THREE: &str =
+static THREE: &str =
     "maxband-links 1\nverdict best\nvalue 7/5\ngrid 2\nunit 2\npattern 1 1 1\nred 0 100 170\nrun_out 100 100\nrun_in 100 100\nfirst 150 150\nhalf_out 50 20\nhalf_in 50 20\ntree\nleaf 9\nslow_out 2 2\nslow_in 2 2\ncycle_high 200\nloop_lo 2 2\nturn_hi 2 2\nnear_out_b 2 2\nfar_out_b 1 2\nnear_in_b 2 2\nfar_in_b 1 2\nend\n";
-
-fn head(ratio: Frac) -> SampleHead {
-    SampleHead {
-        ratio,
-        ..plain_head()
-    }
-}
-
-/// Two signals of the same red.
-fn two(alloc: Global, red: u32, distance: u32, ratio: Frac) -> Result<Artery, Fail> {
-    let signals = [plain_signal("A", red), plain_signal("B", red)];
-    match sample_street(alloc, head(ratio), &signals, &[plain_link(distance)]) {
-        Ok(artery) => Ok(artery),
-        Err(_) => Err("no artery".into()),
-    }
-}
 
 /// Reds of 50, 50 and 80.
 fn three(alloc: Global) -> Result<Artery, Fail> {
@@ -102,49 +85,53 @@ fn text(alloc: Global, artery: &Artery, found: &LinkFound) -> Result<Vec<u8>, Fa
     }
 }
 
-/// Whether a search within this limit spends all of it and has a certificate with this text.
-fn finds(alloc: Global, artery: &Artery, limit: u64, expected: &str) -> Result<bool, Fail>
+/// The text of the certificate of a search within this limit, which spends all of it.
+fn found_text(alloc: Global, artery: &Artery, limit: u64) -> Result<String, Fail>
     requires { 0 < limit }
 {
     let found = searched(alloc, artery, limit)?;
+    if found.spent != limit {
+        return Err("another limit".into());
+    }
     let text = text(alloc, artery, &found)?;
-    Ok(found.spent == limit && text.as_slice() == expected.as_bytes())
+    Ok(String::from_utf8(text)?)
+}
+
+/// Searches the links of two signals with the same red within a limit, and tells the certificate.
+#[derive(Clone, Copy, Drop)]
+struct Searches;
+
+impl Reader for Searches {
+    fn answer(&self, alloc: Global, text: &[u8]) -> Result<String, Fail> {
+        let record = Record::new(text)?;
+        let ratio = fraction(record.number("ratio", 0)?, record.number("ratio", 1)?)?;
+        let (red, distance) = (record.small("red", 0)?, record.small("apart", 0)?);
+        let artery = two_signals(alloc, with_ratio(ratio), red, distance)?;
+        let limit = u64::from(record.small("limit", 0)?);
+        if limit == 0 {
+            return Err("no limit".into());
+        }
+        found_text(alloc, &artery, limit)
+    }
 }
 
 #[test]
 fn what_searches_of_two_signals_find(rt: HostRuntime) -> Result<(), Fail> {
-    let alloc = rt.alloc();
-    let (none, all) = (Frac::whole(0), Frac::whole(1));
-    let half = Frac::new(1, 2).ok().ok_or("no fraction")?;
-    let rows = [
-        (50, 500, all, 8, WHOLE),
-        (50, 500, half, 8, HALF),
-        (50, 500, none, 8, ZERO),
-        (50, 500, all, 1, START),
-        (50, 500, all, 7, START),
-        (50, 250, all, 30, SHARED),
-        (50, 250, all, 18, LOW_PART),
-        (80, 250, all, 5, BLOCKED),
-    ];
-    for (red, distance, ratio, limit, expected) in rows {
-        let artery = two(alloc, red, distance, ratio)?;
-        assert!(rt; 0 < limit && finds(alloc, &artery, limit, expected)?);
-    }
-    Ok(())
+    all_told(rt.alloc(), &Searches, STREET, &FOUND)
 }
 
 #[test]
 fn each_link_has_its_own_band(rt: HostRuntime) -> Result<(), Fail> {
     let alloc = rt.alloc();
     let artery = three(alloc)?;
-    assert!(rt; finds(alloc, &artery, 22, THREE)?);
+    assert_eq!(rt; found_text(alloc, &artery, 22)?.as_str(), THREE);
     Ok(())
 }
 
 #[test]
 fn an_answer_is_checked(rt: HostRuntime) -> Result<(), Fail> {
     let alloc = rt.alloc();
-    let artery = two(alloc, 50, 500, Frac::whole(1))?;
+    let artery = two_signals(alloc, plain_head(), 50, 500)?;
     match search_links_and_check(alloc, &artery, None) {
         Ok(searched) => {
             assert!(rt; matches!(&searched.found.verdict, Verdict::Best));

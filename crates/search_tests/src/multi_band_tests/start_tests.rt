@@ -7,30 +7,15 @@ use fraction_tableau::Tableau;
 use multi_band::{start_link_leaf, start_links};
 use named_row::{RowId, Weight};
 use narrow_fraction::Frac;
-use sample_streets::{SampleHead, plain_head, plain_link, plain_signal, sample_street};
 use search_box::SearchBox;
 use std::alloc::Global;
 use std::rt::HostRuntime;
 use std::test::Fail;
-
-fn head(ratio: Frac) -> SampleHead {
-    SampleHead {
-        ratio,
-        ..plain_head()
-    }
-}
+use test_bed::{fraction_or_zero, two_signals, with_ratio};
 
 /// The street with this ratio.
 fn artery(alloc: Global, ratio: Frac) -> Result<Artery, Fail> {
-    let signals = [plain_signal("A", 50), plain_signal("B", 50)];
-    match sample_street(alloc, head(ratio), &signals, &[plain_link(500)]) {
-        Ok(artery) => Ok(artery),
-        Err(_) => Err("no artery".into()),
-    }
-}
-
-fn fraction(num: i128, den: i128) -> Frac {
-    Frac::new(num, den).unwrap_or(Frac::whole(0))
+    two_signals(alloc, with_ratio(ratio), 50, 500)
 }
 
 /// The opening tableau of the street with this ratio.
@@ -76,15 +61,10 @@ fn has_cells(tableau: &Tableau, row: u32, numbers: &[i64]) -> bool {
     true
 }
 
-const FAR_OUT: RowId = RowId {
-    family: 24,
-    index: 1,
-};
-
-const FAR_IN: RowId = RowId {
-    family: 28,
-    index: 1,
-};
+/// The row of this family at link 1: far_out_a is of family 24, far_in_a of family 28.
+fn row(family: u8) -> RowId {
+    RowId { family, index: 1 }
+}
 
 /// The goal row: 2 at the waits at signal 1 and at the slacks that stand in the columns of the halves, and the bound 2.
 const GOAL: [i64; 14] = [0, 0, 0, 2, 0, 2, 0, 0, 0, 0, 0, 2, 2, 2];
@@ -98,27 +78,27 @@ fn halves_are_in_the_basis(rt: HostRuntime) -> Result<(), Fail> {
     assert_eq!(rt; tableau.width(), 13);
     assert_eq!(rt; tableau.rows(), 20);
     assert!(rt; !tableau.is_spent());
-    assert!(rt; name(&tableau, 14) == Some(FAR_OUT));
-    assert!(rt; name(&tableau, 18) == Some(FAR_IN));
+    assert!(rt; name(&tableau, 14) == Some(row(24)));
+    assert!(rt; name(&tableau, 18) == Some(row(28)));
     assert_eq!(rt; basic(&tableau, 14), Some(11));
     assert_eq!(rt; basic(&tableau, 18), Some(12));
     assert_eq!(rt; basic(&tableau, 12), Some(25));
     assert!(rt; has_cells(&tableau, 20, &GOAL));
     assert!(rt; has_cells(&tableau, 12, &NEAR_OUT));
-    assert_eq!(rt; cell(&tableau, 12, 13), Some(fraction(-1, 2)));
-    assert_eq!(rt; cell(&tableau, 14, 13), Some(fraction(1, 2)));
+    assert_eq!(rt; cell(&tableau, 12, 13), Some(fraction_or_zero(-1, 2)));
+    assert_eq!(rt; cell(&tableau, 14, 13), Some(fraction_or_zero(1, 2)));
     Ok(())
 }
 
 /// Where there is a row of the ratio, the rows of the halves stand as far from the front as without it.
 #[test]
 fn ratio_rows_stand_behind(rt: HostRuntime) -> Result<(), Fail> {
-    let tableau = opened(rt.alloc(), fraction(1, 2))?;
+    let tableau = opened(rt.alloc(), fraction_or_zero(1, 2))?;
     assert_eq!(rt; tableau.rows(), 21);
     assert_eq!(rt; basic(&tableau, 14), Some(11));
     assert_eq!(rt; basic(&tableau, 18), Some(12));
     assert_eq!(rt; cell(&tableau, 21, 5), Some(Frac::whole(1)));
-    assert_eq!(rt; cell(&tableau, 21, 13), Some(fraction(3, 2)));
+    assert_eq!(rt; cell(&tableau, 21, 13), Some(fraction_or_zero(3, 2)));
     Ok(())
 }
 
@@ -131,11 +111,11 @@ fn halves_are_bounded_by_the_greens(rt: HostRuntime) -> Result<(), Fail> {
     assert_eq!(rt; bound, two);
     let both = [
         Weight {
-            row: FAR_OUT,
+            row: row(24),
             by: two,
         },
         Weight {
-            row: FAR_IN,
+            row: row(28),
             by: two,
         },
     ];

@@ -1,39 +1,41 @@
 //! What a timing is worth, what is seen at a signal, and its numbers.
 
-use super::streets::{
-    BASE, HALF_BAND, HALVED, NEAR, Street, Times, WHOLE_BAND, artery, make_timing, signal, timing,
-};
+use super::streets::{HALF_BAND, artery, street_text, timing};
 use artery_model::Artery;
 use progression::Dir;
 use std::alloc::Global;
 use std::test::Fail;
+use test_bed::{Reader, Record, all_told, with_changes};
 use time_space::{Timing, green, in_band, value};
 
-/// The numerator and the denominator of the weighted band.
-fn weighted_band(alloc: Global, street: Street, times: Times) -> Result<(i128, i128), Fail> {
-    let found = value(&artery(alloc, street)?, &timing(alloc, times)?);
-    Ok((found.num(), found.den()))
+/// Tells the numerator and the denominator of the weighted band.
+#[derive(Clone, Copy, Drop)]
+struct Weighted;
+
+impl Reader for Weighted {
+    fn answer(&self, alloc: Global, text: &[u8]) -> Result<String, Fail> {
+        let record = Record::new(text)?;
+        let found = value(&artery(alloc, record)?, &timing(alloc, record)?);
+        let (num, den) = (found.num(), found.den());
+        Ok(format!(in alloc; "{num}/{den}")?)
+    }
 }
 
-const WEIGHTED: [(Street, Times, (i128, i128)); 3] = [
-    (BASE, WHOLE_BAND, (1, 1)),
-    (NEAR, HALF_BAND, (1, 2)),
-    (
-        HALVED,
-        Times {
-            bands: [100, 50],
-            ..WHOLE_BAND
-        },
-        (5, 8),
-    ),
+/// Changes of `street_text`, and what its timing is worth.
+static WEIGHTED: [&str; 3] = [
+    " -> 1/1",
+    "apart 250|red 0 50|run_out 50|run_in 50|first 100 150|band 100 0 -> 1/2",
+    "halves 1|band 100 50 -> 5/8",
 ];
 
 #[test]
 fn weighted_bands(rt: HostRuntime) -> Result<(), Fail> {
-    for (street, times, expected) in &WEIGHTED {
-        assert!(rt; weighted_band(rt.alloc(), *street, *times)? == *expected);
-    }
-    Ok(())
+    all_told(
+        rt.alloc(),
+        &Weighted,
+        street_text(rt.alloc())?.as_str(),
+        &WEIGHTED,
+    )
 }
 
 /// Whether signal 1 is green outbound at the tick, and whether the inbound band is there 200 ticks later. None where the
@@ -48,7 +50,7 @@ fn seen(artery: &Artery, timing: &Timing, tick: i32) -> Option<(bool, bool)> {
     Some((is_green, is_in_band))
 }
 
-const SEEN: [(i32, bool, bool); 6] = [
+static SEEN: [(i32, bool, bool); 6] = [
     (-100, true, true),
     (0, true, true),
     (1, false, false),
@@ -59,8 +61,10 @@ const SEEN: [(i32, bool, bool); 6] = [
 
 #[test]
 fn what_is_seen_at_a_signal(rt: HostRuntime) -> Result<(), Fail> {
-    let artery = artery(rt.alloc(), BASE)?;
-    let timing = timing(rt.alloc(), WHOLE_BAND)?;
+    let text = street_text(rt.alloc())?;
+    let street = Record::new(text.as_bytes())?;
+    let artery = artery(rt.alloc(), street)?;
+    let timing = timing(rt.alloc(), street)?;
     for (tick, is_green, is_in_band) in &SEEN {
         assert!(rt; seen(&artery, &timing, *tick) == Some((*is_green, *is_in_band)));
     }
@@ -94,23 +98,17 @@ fn has_lists(timing: &Timing, patterns: &[u32], reds: &[u128], runs: [&[u128]; 2
 
 #[test]
 fn a_timing_is_read_back(rt: HostRuntime) -> Result<(), Fail> {
-    let read = timing(rt.alloc(), HALF_BAND)?;
+    let alloc = rt.alloc();
+    let half_band = with_changes(alloc, street_text(alloc)?.as_str(), HALF_BAND)?;
+    let read = timing(alloc, Record::new(half_band.as_bytes())?)?;
     assert_eq!(rt; measures(&read), (2, 2, 2));
     assert_eq!(rt; at_signal_two(&read), (1, 50));
     assert_eq!(rt; one_way(&read, Dir::Outbound), (50, 100, 100));
     assert_eq!(rt; one_way(&read, Dir::Inbound), (50, 150, 0));
     assert!(rt; has_lists(&read, &[1, 1], &[0, 50], [&[50], &[50]]));
-    for outside in [
-        Times {
-            grid: 0,
-            ..HALF_BAND
-        },
-        Times {
-            pattern: 5,
-            ..HALF_BAND
-        },
-    ] {
-        assert!(rt; make_timing(rt.alloc(), outside)?.is_none());
+    for outside in ["grid 0", "pattern 1 5"] {
+        let text = with_changes(alloc, half_band.as_str(), outside)?;
+        assert!(rt; Record::new(text.as_bytes())?.timing(alloc)?.is_none());
     }
     Ok(())
 }
