@@ -147,8 +147,20 @@ const DISTANCE: Demand = Between(LEAST_DISTANCE as i64, MOST_DISTANCE as i64);
 const ROOT: [Entry; 5] = [
     key!("version", Optional, alone!(Integer), alone!(VERSIONS)),
     key!("artery", Needed, alone!(Table), alone!(Anything)),
-    key_when!(First, "signal", Needed, TABLES, alone!(Length(LEAST_SIGNALS, MOST_FIRST_SIGNALS))),
-    key_when!(Second, "signal", Needed, TABLES, alone!(Length(LEAST_SIGNALS, MOST_SIGNALS))),
+    key_when!(
+        First,
+        "signal",
+        Needed,
+        TABLES,
+        alone!(Length(LEAST_SIGNALS, MOST_FIRST_SIGNALS))
+    ),
+    key_when!(
+        Second,
+        "signal",
+        Needed,
+        TABLES,
+        alone!(Length(LEAST_SIGNALS, MOST_SIGNALS))
+    ),
     key!("link", Needed, TABLES, alone!(Anything)),
 ];
 
@@ -158,9 +170,26 @@ const ARTERY: [Entry; 8] = [
     key!("units", Needed, alone!(Text), alone!(Units)),
     key!("parts", Needed, alone!(Integer), alone!(PARTS)),
     key!("cycle", Needed, TWO_QUANTITIES, items!(CYCLE)),
-    key!("ratio", Needed, alone!(Quantity), alone!(Within(LEAST_RATIO, MOST_RATIO))),
-    key_when!(Second, "least_out", Optional, alone!(Quantity), alone!(SHARE)),
-    key_when!(Second, "least_in", Optional, alone!(Quantity), alone!(SHARE)),
+    key!(
+        "ratio",
+        Needed,
+        alone!(Quantity),
+        alone!(Within(LEAST_RATIO, MOST_RATIO))
+    ),
+    key_when!(
+        Second,
+        "least_out",
+        Optional,
+        alone!(Quantity),
+        alone!(SHARE)
+    ),
+    key_when!(
+        Second,
+        "least_in",
+        Optional,
+        alone!(Quantity),
+        alone!(SHARE)
+    ),
     key_when!(Second, "equal", Optional, alone!(Boolean), alone!(Anything)),
 ];
 
@@ -170,8 +199,18 @@ const SIGNAL: [Entry; 7] = [
     key!("red", Needed, alone!(Integer), alone!(BelowParts(1))),
     key!("left_out", Optional, alone!(Integer), alone!(BelowParts(0))),
     key!("left_in", Optional, alone!(Integer), alone!(BelowParts(0))),
-    key!("patterns", Optional, both!(Array, Integer), items!(Between(1, 4))),
-    key!("clear_out", Optional, alone!(Integer), alone!(BelowParts(0))),
+    key!(
+        "patterns",
+        Optional,
+        both!(Array, Integer),
+        items!(Between(1, 4))
+    ),
+    key!(
+        "clear_out",
+        Optional,
+        alone!(Integer),
+        alone!(BelowParts(0))
+    ),
     key!("clear_in", Optional, alone!(Integer), alone!(BelowParts(0))),
 ];
 
@@ -196,7 +235,12 @@ const PLAN: [Entry; 8] = [
     key!("cycle", Needed, alone!(Quantity), alone!(CYCLE)),
     key!("offset", Needed, QUANTITIES, items!(Within(0, MOST_CYCLE))),
     key!("reference", Optional, alone!(Text), alone!(Reference)),
-    key!("patterns", Needed, both!(Array, Integer), items!(Between(1, 4))),
+    key!(
+        "patterns",
+        Needed,
+        both!(Array, Integer),
+        items!(Between(1, 4))
+    ),
     key_when!(SpeedOut, "speed_out", Needed, QUANTITIES, items!(SPEED)),
     key_when!(TravelOut, "travel_out", Needed, QUANTITIES, items!(TRAVEL)),
     key_when!(SpeedIn, "speed_in", Needed, QUANTITIES, items!(SPEED)),

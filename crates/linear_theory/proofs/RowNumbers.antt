@@ -50,4 +50,3 @@ module _ (a : Street) (p : 0 < a.head.parts) where
   loop_low_bound_is i z =
       same_ratio _ _ _ _ _ _ _ _ (sum_ratio _ _ _ _ _ _ _ _ (constant_ratio i) (neg_ratio _ _ _ _ (whole_ratio z))) (over_ratio (constant_parts a i -ℤ z *ℤ pos a.head.parts) a.head.parts p)
       (scaled_low (constant_parts a i) z a.head.parts)
-

@@ -15,7 +15,7 @@ use link_space::{LinkTiming, half_column};
 use named_row::Point;
 use narrow_fraction::Memory;
 use offset_recovery::{
-    BandKind, LinkColumn, Lines, RecoverFault, Recovered, WideTiming, check_by_link, check_lines,
+    BandKind, Lines, LinkColumn, RecoverFault, Recovered, WideTiming, check_by_link, check_lines,
     column_ticks, grid, read_vertex, ticks_by_link,
 };
 use search_box::{SearchBox, law_valid_street};

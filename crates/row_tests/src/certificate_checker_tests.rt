@@ -84,17 +84,21 @@ fn node(name: &str) -> &'static str {
         "low" => LOW_LEAF,
         "high" => HIGH_LEAF,
         // The rows of the two leaves, and those of both least bands: no band is as wide as both ask.
-        "narrow_low" => "leaf 9\nwout 2 1\nwin 2 1\nfast_out 1 1\nfast_in 1 1\ncycle_low 50\nloop_hi 1 1\nturn_hi 2 1\nleast_out 1\nleast_in 1\n",
-        "narrow_high" => "leaf 9\nwout 1 1\nwin 1 1\nslow_out 1 1\nslow_in 1 1\ncycle_high 50\nloop_lo 1 1\nturn_hi 1 1\nleast_out 1\nleast_in 1\n",
+        "narrow_low" =>
+            "leaf 9\nwout 2 1\nwin 2 1\nfast_out 1 1\nfast_in 1 1\ncycle_low 50\nloop_hi 1 1\nturn_hi 2 1\nleast_out 1\nleast_in 1\n",
+        "narrow_high" =>
+            "leaf 9\nwout 1 1\nwin 1 1\nslow_out 1 1\nslow_in 1 1\ncycle_high 50\nloop_lo 1 1\nturn_hi 1 1\nleast_out 1\nleast_in 1\n",
         // No weighted band is above 1, in any box.
         "leaf" => "leaf 2\nwout 1 1\nwin 1 1\n",
         "two_leaves" => "leaf 2\nwout 1 1\nwin 1 1\nleaf 2\nwout 1 1\nwin 1 1\n",
         // Of the block sums 0 to 2 those up to 1 come first, and of these 0.
         "split_twice" => "split loop 1 1\nsplit loop 1 0\n",
         // In column 0 the sum with the second row needs the denominator 2^100 * 3^70.
-        "wide" => "leaf 2\nwout 1 1/1267650600228229401496703205376\nwout 2 1/2503155504993241601315571986085849\n",
+        "wide" =>
+            "leaf 2\nwout 1 1/1267650600228229401496703205376\nwout 2 1/2503155504993241601315571986085849\n",
         // The second row's multiplier is below 0, and the sum with it needs that denominator.
-        "negative_wide" => "leaf 2\nwout 1 1/1267650600228229401496703205376\nwout 2 -1/2503155504993241601315571986085849\n",
+        "negative_wide" =>
+            "leaf 2\nwout 1 1/1267650600228229401496703205376\nwout 2 -1/2503155504993241601315571986085849\n",
         // With reds of 80 the two rows of the link add up to 0 <= -1.
         "no_sum" => "leaf 2\nloop_lo 1 1\nloop_hi 1 1\n",
         "unknown_ratio" => "leaf 2\nwout 1 1\nratio 1\n",

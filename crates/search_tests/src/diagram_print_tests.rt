@@ -176,8 +176,16 @@ fn reported(alloc: Global, street: Street, times: &str) -> Result<Vec<u8>, Fail>
 #[test]
 fn reports_of_timings(rt: HostRuntime) -> Result<(), Fail> {
     let cases = [
-        (HALF_RED, WHOLE_GREEN, [WHOLE_GREEN_REPORT, "", WHOLE_GREEN_DIAGRAM]),
-        (METRES, NARROW, [NARROW_REPORT, METRES_LINKS, NARROW_DIAGRAM]),
+        (
+            HALF_RED,
+            WHOLE_GREEN,
+            [WHOLE_GREEN_REPORT, "", WHOLE_GREEN_DIAGRAM],
+        ),
+        (
+            METRES,
+            NARROW,
+            [NARROW_REPORT, METRES_LINKS, NARROW_DIAGRAM],
+        ),
         (FEET, NARROW, [NARROW_REPORT, FEET_LINKS, NARROW_DIAGRAM]),
     ];
     for (street, times, [report, links, diagram]) in cases {

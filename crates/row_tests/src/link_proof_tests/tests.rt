@@ -5,7 +5,7 @@ use named_row::{Leaf, RowId};
 use plan_text::{BadText, CertNode, Claim, TextEnd};
 use std::alloc::Global;
 use std::test::*;
-use test_bed::{Reader, all_ends_told, all_told, all_texts_told, fraction, told_again};
+use test_bed::{Reader, all_ends_told, all_texts_told, all_told, fraction, told_again};
 
 /// A best link timing of three signals, with a split and two leaves.
 static BEST: &str = "maxband-links 1
@@ -41,7 +41,8 @@ end
 ";
 
 /// A link timing and a bound.
-static OPEN: &str = "maxband-links 1\nverdict open\nbound 2\nvalue 1\ngrid 2\nunit 2\npattern 1 1\nred 0 50\nrun_out 50\nrun_in 50\nfirst 100 150\nhalf_out 50\nhalf_in 50\ntree\nleaf 0\nend\n";
+static OPEN: &str =
+    "maxband-links 1\nverdict open\nbound 2\nvalue 1\ngrid 2\nunit 2\npattern 1 1\nred 0 50\nrun_out 50\nrun_in 50\nfirst 100 150\nhalf_out 50\nhalf_in 50\ntree\nleaf 0\nend\n";
 
 /// No link timing, where the two rows add up to a bound below 0; a bound and no link timing; and both.
 static TEXTS: [&str; 3] = [
