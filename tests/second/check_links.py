@@ -20,7 +20,7 @@ class Rejected(Exception):
     """The first reason against a certificate."""
 
 
-class LinkPlan:
+class LinkRecord:
     """The timing of a certificate, of whole numbers by the first word of their line."""
 
     def __init__(self, street, said):
@@ -108,7 +108,7 @@ class LinkCertificate:
         self.verdict = said["verdict"][0]
         self.value, self.bound = (Fraction(said[word][0]) if word in said else None for word in ("value", "bound"))
         whole = {word: list(map(int, rest)) for word, rest in said.items() if word not in ("maxband-links", "verdict", "value", "bound", "no")}
-        self.plan = LinkPlan(street, whole) if whole else None
+        self.plan = LinkRecord(street, whole) if whole else None
         self.at, self.node, self.leaf = tree + 1, 0, 0
 
     def check(self):

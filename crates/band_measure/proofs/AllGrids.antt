@@ -4,7 +4,7 @@ use Rattle.std.proofs.Math.Nat.{mul-le-mul_right}
 use Rattle.std.proofs.lemmas.Bool.{cases_lt}
 use Rattle.std.proofs.lemmas.Int.{ints}
 use Rattle.progression.specs.Street.{Street, count}
-use Rattle.progression.specs.Plan.{Plan, cycle}
+use Rattle.progression.specs.TimingRecord.{TimingRecord, cycle}
 use Rattle.progression.proofs.Remainders.{quot_ℤ, split_ℤ, mod_unique}
 use Rattle.progression.specs.declared.parts.Dir.{Dir}
 use Rattle.artery_model.specs.Valid.{IsValid}
@@ -29,7 +29,7 @@ gap_once c red s x b g =
     let i : s *ℤ pos 1 ≡ s = once s in
     rw (e, f, i) g
 
-module _ (a : Street) (t : Plan) (h : IsValid a) (u : 2 ≤ t.unit) (d : Dir) where
+module _ (a : Street) (t : TimingRecord) (h : IsValid a) (u : 2 ≤ t.unit) (d : Dir) where
   some_cycle : 0 < cycle a t
   some_cycle = let p = h.least_parts in grind arith
 

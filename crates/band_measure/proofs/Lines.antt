@@ -3,7 +3,7 @@ use Rattle.std.proofs.Common.{◌≡◌, ℕ, zero, suc, ℤ, pos, ◌+ℤ◌, �
 use Rattle.std.specs.Prelude.{◌↔◌}
 use Rattle.std.proofs.lemmas.Int.{ints}
 use Rattle.progression.specs.Street.{Street, count, red_parts}
-use Rattle.progression.specs.Plan.{Plan, cycle, first, band}
+use Rattle.progression.specs.TimingRecord.{TimingRecord, cycle, first, band}
 use Rattle.progression.specs.Green.{red_start, red_ticks}
 use Rattle.progression.specs.Lines.{stop, advance, crossing, IsGreenAt}
 use Rattle.progression.specs.declared.parts.Dir.{Dir}
@@ -16,11 +16,11 @@ use Rattle.band_measure.specs.Pairs.{with_pair, RunsOn, OwnPair}
 use Rattle.band_measure.specs.Edges.{way, IsGreenFrom}
 use Rattle.band_measure.proofs.Gaps.{Gap, gap_from_green, green_from_gap, gap_later}
 
-pub way_next : (a : Street) (t : Plan) (d : Dir) (j : ℕ) → way a t d (j + 1) ≡ way a t d j +ℤ advance a t d j
+pub way_next : (a : Street) (t : TimingRecord) (d : Dir) (j : ℕ) → way a t d (j + 1) ≡ way a t d j +ℤ advance a t d j
 way_next a t d j = ap (way a t d) (add-one j)
 
 -- ---- a pair's crossings
-module _ (a : Street) (t : Plan) (x : ℤ) (b : ℕ) where
+module _ (a : Street) (t : TimingRecord) (x : ℤ) (b : ℕ) where
   advance_with : (d : Dir) (j : ℕ) → advance a (with_pair x b t) d j ≡ advance a t d j
   advance_with Outbound j = refl
   advance_with Inbound j = refl
@@ -40,7 +40,7 @@ module _ (a : Street) (t : Plan) (x : ℤ) (b : ℕ) where
   runs_is d = ((λ g j l. (green_both d j).0 (g j l)), (λ g j l. (green_both d j).1 (g j l)))
 
 -- the crossings of the timing's own line
-crossing_own : (a : Street) (t : Plan) (d : Dir) (j : ℕ) → crossing a t d j ≡ first t d +ℤ way a t d j
+crossing_own : (a : Street) (t : TimingRecord) (d : Dir) (j : ℕ) → crossing a t d j ≡ first t d +ℤ way a t d j
 crossing_own a t Outbound zero = omega (arith, ints)
 crossing_own a t Inbound zero = omega (arith, ints)
 crossing_own a t d (suc j) = let e = crossing_own a t d j in omega (arith, ints, e)
@@ -53,14 +53,14 @@ own_pair a t d = (
 )
 
 -- the start of the j-th signal's red, seen from the first crossing, and the red's length
-abbrev pub seen : Street → Plan → Dir → ℕ → ℤ
+abbrev pub seen : Street → TimingRecord → Dir → ℕ → ℤ
 seen a t d j = red_start a t d (stop d (count a) j) -ℤ way a t d j
 
-abbrev pub long : Street → Plan → Dir → ℕ → ℕ
+abbrev pub long : Street → TimingRecord → Dir → ℕ → ℕ
 long a t d j = red_ticks a t d (stop d (count a) j)
 
 -- the same on a finer grid
-module _ (a : Street) (t : Plan) (m : ℕ) (d : Dir) where
+module _ (a : Street) (t : TimingRecord) (m : ℕ) (d : Dir) where
   way_finer : (j : ℕ) → way a (finer m t) d j ≡ way a t d j *ℤ pos m
   way_finer zero = omega (arith, ints)
   way_finer (suc j) = rw (way_finer j, advance_finer a t m d j) (plus_scale (way a t d j) (advance a t d j) m)
@@ -88,7 +88,7 @@ stop_below : (d : Dir) (n j : ℕ) → j < n → stop d n j - 1 < n
 stop_below Outbound n j l = omega arith
 stop_below Inbound n j l = omega arith
 
-module _ (a : Street) (t : Plan) (h : IsValid a) (u : 2 ≤ t.unit) (d : Dir) (j : ℕ) (l : j < count a) where
+module _ (a : Street) (t : TimingRecord) (h : IsValid a) (u : 2 ≤ t.unit) (d : Dir) (j : ℕ) (l : j < count a) where
   pub long_least : 2 ≤ long a t d j
   long_least = let r = red_bounds a h d (stop d (count a) j) (stop_below d (count a) j l) in
       let some : 1 * 2 ≤ red_parts a d (stop d (count a) j) * t.unit = mul-le r.0 u in omega (arith, some)
@@ -108,7 +108,7 @@ module _ (a : Street) (t : Plan) (h : IsValid a) (u : 2 ≤ t.unit) (d : Dir) (j
       green_from_gap (cycle a t) (long a t d j) (red_start a t d (stop d (count a) j)) (x +ℤ w) b long_least long_most
       (gap_later (cycle a t) (long a t d j) (seen a t d j) x b g (red_start a t d (stop d (count a) j)) (x +ℤ w) w (omega (arith, ints)) (omega (arith, ints)))
 
-module _ (a : Street) (t : Plan) (h : IsValid a) (u : 2 ≤ t.unit) (d : Dir) where
+module _ (a : Street) (t : TimingRecord) (h : IsValid a) (u : 2 ≤ t.unit) (d : Dir) where
   pub gaps_of : (x : ℤ) (b : ℕ) → RunsOn a t d x b → (k : ℕ) → k < count a → Gap (cycle a t) (seen a t d k) (long a t d k) x b
   gaps_of x b g k l = gap_from_line a t h u d k l x b ((runs_is a t x b d).0 g k l)
 

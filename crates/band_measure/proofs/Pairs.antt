@@ -4,7 +4,7 @@ use Rattle.std.specs.Prelude.{IfSome}
 use Rattle.rational_theory.specs.Rational.{◌*ℚ◌, ◌≤ℚ◌}
 use Rattle.progression.specs.Street.{Street}
 use Rattle.progression.specs.Speeds.{number, run_low, run_high, change}
-use Rattle.progression.specs.Plan.{Plan, run}
+use Rattle.progression.specs.TimingRecord.{TimingRecord, run}
 use Rattle.progression.specs.Good.{Good, IsBase, pace_change}
 use Rattle.progression.specs.declared.parts.Pair.{Pair}
 use Rattle.progression.specs.declared.parts.Dir.{Dir}
@@ -12,7 +12,7 @@ use Rattle.progression.specs.declared.parts.Dir.TheVariants.{Outbound, Inbound}
 use Rattle.band_measure.specs.Pairs.{with_pairs, AreGoodPairs, PairsMakeGood}
 use Rattle.band_measure.proofs.Lines.{own_pair}
 
-module _ (a : Street) (t : Plan) (x : ℤ) (b : ℕ) (y : ℤ) (c : ℕ) where
+module _ (a : Street) (t : TimingRecord) (x : ℤ) (b : ℕ) (y : ℤ) (c : ℕ) where
   run_with : (d : Dir) (i : ℕ) → run (with_pairs x b y c t) d i ≡ run t d i
   run_with Outbound i = refl
   run_with Inbound i = refl
@@ -35,10 +35,10 @@ module _ (a : Street) (t : Plan) (x : ℤ) (b : ℕ) (y : ℤ) (c : ℕ) where
   }
 
 -- the rules without bands look at no pair: with its own pairs the timing is the one that it was
-base_without : (a : Street) (t : Plan) (x : ℤ) (b : ℕ) (y : ℤ) (c : ℕ) → IsBase a (with_pairs x b y c t) → IsBase a t
+base_without : (a : Street) (t : TimingRecord) (x : ℤ) (b : ℕ) (y : ℤ) (c : ℕ) → IsBase a (with_pairs x b y c t) → IsBase a t
 base_without a t x b y c h = base_with a (with_pairs x b y c t) t.first_out t.band_out t.first_in t.band_in h
 
-module _ (a : Street) (t : Plan) (x : ℤ) (b : ℕ) (y : ℤ) (c : ℕ) where
+module _ (a : Street) (t : TimingRecord) (x : ℤ) (b : ℕ) (y : ℤ) (c : ℕ) where
   good_with : AreGoodPairs a t x b y c → Good a (with_pairs x b y c t)
   good_with h = record {
     base = base_with a t x b y c h.base;

@@ -2,7 +2,7 @@
 use Rattle.std.proofs.Common.{◌≡◌, ℕ, ℤ, ◌+ℤ◌, ◌+◌, ◌-◌, ◌<◌, ◌≤◌, inl, inr, subst, arith}
 use Rattle.std.proofs.lemmas.Bool.{cases_lt}
 use Rattle.progression.specs.Street.{Street, count}
-use Rattle.progression.specs.Plan.{Plan, cycle}
+use Rattle.progression.specs.TimingRecord.{TimingRecord, cycle}
 use Rattle.progression.specs.Green.{since, BandIsGreen, red_start, red_ticks}
 use Rattle.progression.specs.Lines.{stop}
 use Rattle.progression.proofs.Fits.{fits_from_band, band_from_fits}
@@ -38,7 +38,7 @@ pub narrower : (c : ℕ) (s : ℤ) (red : ℕ) (x : ℤ) (b w : ℕ) → w ≤ b
 narrower c s red x b w l g = λ t k. g t (omega arith)
 
 -- ---- along the way
-module _ (a : Street) (t : Plan) (d : Dir) (x : ℤ) where
+module _ (a : Street) (t : TimingRecord) (d : Dir) (x : ℤ) where
   pub narrower_from : (b w j : ℕ) → w ≤ b → IsGreenFrom a t d x b j → IsGreenFrom a t d x w j
   narrower_from b w j l g = narrower (cycle a t) (red_start a t d (stop d (count a) j)) (red_ticks a t d (stop d (count a) j)) (x +ℤ way a t d j) b w l g
 

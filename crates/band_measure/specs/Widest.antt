@@ -1,18 +1,18 @@
 -- The widest band on given offsets, over all finer grids.
 use Rattle.std.specs.Prelude.{◌≡◌, ℕ, ◌*◌, ◌<◌, ◌≤◌, ℤ, pos}
 use Rattle.progression.specs.Street.{Street}
-use Rattle.progression.specs.Plan.{Plan, cycle}
+use Rattle.progression.specs.TimingRecord.{TimingRecord, cycle}
 use Rattle.progression.specs.declared.parts.Dir.{Dir}
 use Rattle.artery_model.specs.Valid.{IsValid}
 use Rattle.time_space.specs.Finer.{finer}
 use Rattle.band_measure.specs.Pairs.{RunsOn}
 
 -- No pair runs, however fine the grid.
-abbrev pub NoneRuns : Street → Plan → Dir → Type 0
+abbrev pub NoneRuns : Street → TimingRecord → Dir → Type 0
 NoneRuns a t d = (m : ℕ) (x : ℤ) (b : ℕ) → 1 ≤ m → ¬ RunsOn a (finer m t) d x b
 
 -- The pair runs, no pair on a finer grid is wider, and no lesser first has the band.
-pub record IsWidest (a : Street) (t : Plan) (d : Dir) (first band : ℕ) : Type 0 where
+pub record IsWidest (a : Street) (t : TimingRecord) (d : Dir) (first band : ℕ) : Type 0 where
   pub runs : RunsOn a t d (pos first) band
   pub below : first < cycle a t
   pub widest : (m : ℕ) (x : ℤ) (b : ℕ) → 1 ≤ m → RunsOn a (finer m t) d x b → b ≤ m * band
@@ -20,5 +20,5 @@ pub record IsWidest (a : Street) (t : Plan) (d : Dir) (first band : ℕ) : Type 
 
 -- At most one pair is the widest.
 abbrev pub OneWidest : Type 0
-OneWidest = (a : Street) (t : Plan) (d : Dir) (first band other_first other_band : ℕ) → IsValid a → 2 ≤ t.unit
+OneWidest = (a : Street) (t : TimingRecord) (d : Dir) (first band other_first other_band : ℕ) → IsValid a → 2 ≤ t.unit
     → IsWidest a t d first band → IsWidest a t d other_first other_band → (first ≡ other_first) × (band ≡ other_band)

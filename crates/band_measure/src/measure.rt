@@ -2,7 +2,7 @@
 
 ghost use Rattle.std.specs.Prelude.{◌≡◌, ◌+◌, ◌*◌, ◌<◌, ◌≤◌, ◌^◌, length, true, false, unsigned_abs, MatchOption, IfSome};
 ghost use Rattle.progression.specs.Street.{count};
-ghost use Rattle.progression.specs.Plan.{cycle};
+ghost use Rattle.progression.specs.TimingRecord.{cycle};
 ghost use Rattle.band_measure.specs.Edges.{way};
 ghost use Rattle.band_measure.specs.Widest.{NoneRuns, IsWidest};
 ghost use Rattle.band_measure.specs.Tried.{FoundOfEdges};

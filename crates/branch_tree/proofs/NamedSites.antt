@@ -11,7 +11,7 @@ use Rattle.narrow_fraction.specs.declared.wide.Op.TheVariants.{Mul}
 use Rattle.narrow_fraction.specs.declared.wide.Wide.{Wide}
 use Rattle.progression.specs.Street.{Street, count}
 use Rattle.progression.specs.Speeds.{number}
-use Rattle.progression.specs.Plan.{Plan}
+use Rattle.progression.specs.TimingRecord.{TimingRecord}
 use Rattle.progression.specs.Columns.{Column, BandOf, Frequency, WaitOf, RunOf, ShiftOf}
 use Rattle.progression.specs.declared.parts.Dir.{Dir}
 use Rattle.progression.specs.declared.parts.Dir.TheVariants.{Outbound, Inbound}
@@ -126,15 +126,15 @@ module _ (a : Street) (v : IsValid a) (columns : ℕ) (enough : width (count a) 
   box_named = each_earlier (IsNamedOutcome a columns) (link_tests a x) (signal_tests a box x) links_named signals_named
 
   -- by the tests of its numbers
-  pub outcome_by_named : (numbers : Option WideTiming) → Each IsThere numbers → (o : Outcome Plan) → recovered_by a box x numbers ≡ o → IsNamedOutcome a columns o
+  pub outcome_by_named : (numbers : Option WideTiming) → Each IsThere numbers → (o : Outcome TimingRecord) → recovered_by a box x numbers ≡ o → IsNamedOutcome a columns o
   outcome_by_named numbers named o e = pick (earlier (box_tests a box x) (option_map Refused numbers)) e
       (each_earlier (IsNamedOutcome a columns) (box_tests a box x) _ box_named (each_map (IsNamedOutcome a columns) Refused numbers named))
     where
-      pick : (p : Option (Outcome Plan)) → unwrap_or p (Gives (timing_of a x)) ≡ o → Each (IsNamedOutcome a columns) p → IsNamedOutcome a columns o
+      pick : (p : Option (Outcome TimingRecord)) → unwrap_or p (Gives (timing_of a x)) ≡ o → Each (IsNamedOutcome a columns) p → IsNamedOutcome a columns o
       pick None q h = subst (IsNamedOutcome a columns) q tt
       pick (Some r) q h = subst (IsNamedOutcome a columns) q (h r refl)
 
-  outcome_named : length x ≡ columns → (o : Outcome Plan) → recovered a box x ≡ o → IsNamedOutcome a columns o
+  outcome_named : length x ≡ columns → (o : Outcome TimingRecord) → recovered a box x ≡ o → IsNamedOutcome a columns o
   unfolding recovered
   outcome_named l o e = outcome_by_named (number_tests a x) (numbers_named l) o e
 

@@ -1,7 +1,7 @@
 -- The timings of an artery are a kind that can be sought.
 use Rattle.std.proofs.Common.{◌≡◌, ℕ, [], ◌∷◌, Option, Some, None, subst, sym}
 use Rattle.progression.specs.Street.{Street}
-use Rattle.progression.specs.Plan.{Plan}
+use Rattle.progression.specs.TimingRecord.{TimingRecord}
 use Rattle.artery_model.specs.Valid.{IsValid}
 use Rattle.linear_theory.specs.Boxes.{IsBoxOf, root_box}
 use Rattle.plan_text.specs.Warrants.{LeafOf, Warrant}
@@ -56,7 +56,7 @@ can_be_sought a v = record {
 }
 
 -- what a claim of an artery's certificates says
-pub claim_holds : (a : Street) (claim : Claim) (timing : Option Plan) → ClaimHolds a claim timing → ClaimHoldsOf (whole_bands a) claim timing
+pub claim_holds : (a : Street) (claim : Claim) (timing : Option TimingRecord) → ClaimHolds a claim timing → ClaimHoldsOf (whole_bands a) claim timing
 claim_holds a (Best value) timing h = h
 claim_holds a NoTiming timing h = h
 claim_holds a (Stopped bound value) timing h = h

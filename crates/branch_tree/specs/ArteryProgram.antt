@@ -1,6 +1,6 @@
 -- An artery as a program over boxes: its rows and the weighted band, with the entry of each line's box as its first tableau.
 use Rattle.progression.specs.Street.{Street, count}
-use Rattle.progression.specs.Plan.{Plan}
+use Rattle.progression.specs.TimingRecord.{TimingRecord}
 use Rattle.artery_model.specs.Valid.{IsValid}
 use Rattle.linear_theory.specs.Places.{width}
 use Rattle.loop_rows.specs.Weights.{leaf_fault}
@@ -19,7 +19,7 @@ outcome_of (vertices.Refused wide) = Refused (Timing wide)
 outcome_of (vertices.Splits place) = Splits place
 outcome_of (vertices.Gives timing) = Gives timing
 
-abbrev pub program_of : Street → Program Plan SitePart
+abbrev pub program_of : Street → Program TimingRecord SitePart
 program_of a = record {
   IsSound = IsValid a;
   names = rows_of a;

@@ -1,7 +1,7 @@
 -- An artery as the rules of a relaxation that is searched by branch and bound, as Little searched his mixed-integer program of 1966.
 use Rattle.std.specs.Prelude.{◌≡◌}
 use Rattle.progression.specs.Street.{Street}
-use Rattle.progression.specs.Plan.{Plan}
+use Rattle.progression.specs.TimingRecord.{TimingRecord}
 use Rattle.linear_theory.specs.Boxes.{root_box}
 use Rattle.entry_theory.specs.Basics.{basics_of}
 use Rattle.branch_and_bound.specs.Rules.{Rules}
@@ -34,5 +34,5 @@ meaning_of a = record {
 }
 
 -- ---- the relaxation
-abbrev pub rules_of : Street → Rules Plan Kept SitePart
+abbrev pub rules_of : Street → Rules TimingRecord Kept SitePart
 rules_of a = rules_from (program_of a) (meaning_of a)

@@ -2,7 +2,7 @@
 use Rattle.std.specs.Prelude.{map, option_map, List, Option, Some, None}
 use Rattle.rational_theory.specs.Rational.{ℚ}
 use Rattle.progression.specs.Street.{Street}
-use Rattle.progression.specs.Plan.{Plan}
+use Rattle.progression.specs.TimingRecord.{TimingRecord}
 use Rattle.progression.specs.Best.{weighted_band}
 use Rattle.plan_text.specs.Warrants as warrants
 use Rattle.plan_text.specs.Warrants.{Warrant, WarrantWith}
@@ -15,7 +15,7 @@ use Rattle.branch_and_bound.specs.declared.found.Verdict.TheVariants.{Best, NoTi
 use Rattle.branch_tree.specs.Told.{Found}
 use Rattle.branch_tree.specs.Trees.{node_of}
 
-abbrev pub value_of : Street → Option Plan → Option ℚ
+abbrev pub value_of : Street → Option TimingRecord → Option ℚ
 value_of a = option_map (weighted_band a)
 
 -- a best timing's value is claimed; without one there is nothing to claim

@@ -2,7 +2,7 @@
 use Rattle.std.specs.Prelude.{◌≡◌, ℕ, ◌<◌, ◌≤◌, List, [], ◌∷◌, Option, None, Some, map}
 use Rattle.rational_theory.specs.Rational.{ℚ, ◌≤ℚ◌}
 use Rattle.progression.specs.Street.{Street}
-use Rattle.progression.specs.Plan.{Plan}
+use Rattle.progression.specs.TimingRecord.{TimingRecord}
 use Rattle.progression.specs.Good.{Good}
 use Rattle.progression.specs.Best.{weighted_band}
 use Rattle.artery_model.specs.Valid.{IsValid}
@@ -68,7 +68,7 @@ pub record BoxesEnd : Type 0 where
   pub comes : (a : Street) (line : BoxLine) → IsValid a → ComesToAnEnd a line
   pub empty : (a : Street) (line : BoxLine) → IsValid a → ending_of (program_of a) line ≡ Empty → IsRefuted a line
   pub bounded : (a : Street) (line : BoxLine) → IsValid a → IsOptimal (ending_of (program_of a) line) → IsBounded a line
-  pub reads : (a : Street) (line : BoxLine) (t : Plan) → IsValid a → IsBoxOf a line.area → ending_of (program_of a) line ≡ Reads → recovered a line.area (end_point (program_of a) line) ≡ Gives t → Good a t × (weighted_band a t ≡ end_bound (program_of a) line)
+  pub reads : (a : Street) (line : BoxLine) (t : TimingRecord) → IsValid a → IsBoxOf a line.area → ending_of (program_of a) line ≡ Reads → recovered a line.area (end_point (program_of a) line) ≡ Gives t → Good a t × (weighted_band a t ≡ end_bound (program_of a) line)
   pub cuts : (a : Street) (line : BoxLine) (place : At) → IsValid a → IsBoxOf a line.area → ending_of (program_of a) line ≡ Cuts place → IsShared a line place
   -- before the end and at it no set of basic variables comes twice
   pub no_basis_twice : (a : Street) (line : BoxLine) (i k : ℕ) → IsValid a → i < k → k ≤ steps_of (program_of a) line → HaveSameBasics (table_after (program_of a) line i) (table_after (program_of a) line k) → ⊥

@@ -3,7 +3,7 @@
 use Rattle.std.specs.Prelude.{◌≡◌, Some, None}
 use Rattle.rational_theory.specs.Rational.{ℚ}
 use Rattle.progression.specs.Street.{Street}
-use Rattle.progression.specs.Plan.{Plan}
+use Rattle.progression.specs.TimingRecord.{TimingRecord}
 use Rattle.progression.specs.Good.{Good}
 use Rattle.progression.specs.Best.{weighted_band}
 use Rattle.linear_theory.specs.Boxes.{Area}
@@ -15,7 +15,7 @@ abbrev pub IsStartLeaf : Street → Leaf → Type 0
 IsStartLeaf a leaf = leaf.multipliers.items ≡ start_leaf a
 
 -- the timing is good, and has the value
-abbrev pub IsTiming : Street → Plan → ℚ → Type 0
+abbrev pub IsTiming : Street → TimingRecord → ℚ → Type 0
 IsTiming a plan value = Good a plan × (weighted_band a plan ≡ value)
 
 -- what the checker of certificates accepts as a leaf

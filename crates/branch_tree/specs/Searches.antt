@@ -1,7 +1,7 @@
 -- What a search of an artery answers.
 use Rattle.std.specs.Prelude.{ℕ, Option}
 use Rattle.progression.specs.Street.{Street}
-use Rattle.progression.specs.Plan.{Plan}
+use Rattle.progression.specs.TimingRecord.{TimingRecord}
 use Rattle.progression.specs.Best.{weighted_band}
 use Rattle.branch_and_bound.specs.declared.incumbent.Incumbent.{Incumbent}
 use Rattle.branch_tree.specs.ArteryRules.{rules_of}
@@ -11,7 +11,7 @@ pub use Rattle.branch_tree.specs.Told.{Tells, IsCertifiable}
 pub use Rattle.branch_tree.specs.SiteNames.{IsPartOf, HasSite}
 
 -- a timing with its value
-abbrev pub incumbent_of : Street → Option Plan → Option (Incumbent Plan)
+abbrev pub incumbent_of : Street → Option TimingRecord → Option (Incumbent TimingRecord)
 incumbent_of a = valued (weighted_band a)
 
 -- an accepted tree that was needed, its units, and why the search stopped

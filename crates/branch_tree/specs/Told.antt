@@ -2,7 +2,7 @@
 use Rattle.std.specs.Prelude.{◌≡◌, ℕ, All, map, Option, Some, None, IfSome, IsSome}
 use Rattle.rational_theory.specs.Rational.{ℚ, ◌≤ℚ◌}
 use Rattle.progression.specs.Street.{Street}
-use Rattle.progression.specs.Plan.{Plan}
+use Rattle.progression.specs.TimingRecord.{TimingRecord}
 use Rattle.progression.specs.Best.{weighted_band}
 use Rattle.plan_text.specs.Families.{Table, ordinary}
 use Rattle.plan_text.specs.Warrants.{AreTrees, IsNodeIn}
@@ -17,7 +17,7 @@ use Rattle.branch_tree.specs.Trees.{node_of}
 
 -- what a search of an artery finds
 abbrev pub Found : Type 0
-Found = engine.Found Plan SitePart
+Found = engine.Found TimingRecord SitePart
 
 -- ---- of timings of any type, by their values
 -- a timing with its value
@@ -41,7 +41,7 @@ IsAnswered r value limit found = IsAnswer r limit found.nodes.items (valued valu
 
 -- ---- of an artery's
 
-abbrev pub Tells : Street → Option Plan → ℚ → Verdict SitePart → Type 0
+abbrev pub Tells : Street → Option TimingRecord → ℚ → Verdict SitePart → Type 0
 Tells a = TellsOf (weighted_band a)
 
 -- ---- the tree

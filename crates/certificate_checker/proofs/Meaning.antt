@@ -4,7 +4,7 @@ use Rattle.rational_theory.specs.Rational.{ℚ}
 use Rattle.rational_theory.specs.Rows as maths
 use Rattle.rational_theory.specs.Rows.{IsMet}
 use Rattle.progression.specs.Street.{Street}
-use Rattle.progression.specs.Plan.{Plan}
+use Rattle.progression.specs.TimingRecord.{TimingRecord}
 use Rattle.progression.specs.Good.{Good}
 use Rattle.progression.specs.Best.{weighted_band, Bounded}
 use Rattle.progression.specs.Columns.{point}
@@ -32,14 +32,14 @@ use Rattle.certificate_checker.proofs.LeafMeaning.{IsWithin}
 use Rattle.certificate_checker.specs.Claims.{IsBest, ClaimHolds}
 
 -- a box of the artery that holds the timing, and one of several
-abbrev pub HoldsTiming : Street → Plan → Area → Type 0
+abbrev pub HoldsTiming : Street → TimingRecord → Area → Type 0
 HoldsTiming a t box = IsBoxOf a box × InBox a box t
 
-abbrev pub InSome : Street → Plan → List Area → Type 0
+abbrev pub InSome : Street → TimingRecord → List Area → Type 0
 InSome a t [] = ⊥
 InSome a t (box ∷ boxes) = HoldsTiming a t box ⊎ InSome a t boxes
 
-module _ (a : Street) (t : Plan) where
+module _ (a : Street) (t : TimingRecord) where
   in_part : (box : Area) (at : At) → IsPlace box at → HoldsTiming a t box → InBox a (low_part box at) t ⊎ InBox a (high_part box at) t
   in_part box (Loop i at) p k = loop_split a box t i at k.0 p k.1
   in_part box (Turn i rank) p k = turn_split a box t i rank k.0 p k.1
@@ -60,7 +60,7 @@ module _ (a : Street) (t : Plan) where
     trees_say (box ∷ boxes) (LeafOf ws ∷ ns) c (inl k) = leaf box ws k c.0
     trees_say (box ∷ boxes) (LeafOf ws ∷ ns) c (inr k) = trees_say boxes ns c.1 k
 
-module _ (a : Street) (t : Plan) (h : IsStreet a) (g : Good a t) where
+module _ (a : Street) (t : TimingRecord) (h : IsStreet a) (g : Good a t) where
   sum_says : (limit : Option ℚ) (r : maths.Row) → IsMet (point a t) r → Shows a limit r → IsWithin limit (weighted_band a t)
   sum_says None r m s = refutes_law a t h g r m s
   sum_says (Some limit) r m (inl s) = covers_law a t h g r limit m s
@@ -78,12 +78,12 @@ module _ (a : Street) (t : Plan) (h : IsStreet a) (g : Good a t) where
       trees_say a t (IsProof a limit) (IsWithin limit (weighted_band a t)) (leaf_says limit) (root_box a ∷ []) ns c
       (inl (root_boxed a (root_box a) (shift_there a t h g) root, root_law a t h g (root_box a) root))
 
-best_timed : (a : Street) (value : ℚ) (timing : Option Plan) → Bounded a value → IsTimed a timing (Some value) → IsBest a timing value
+best_timed : (a : Street) (value : ℚ) (timing : Option TimingRecord) → Bounded a value → IsTimed a timing (Some value) → IsBest a timing value
 best_timed a value None b h = h
 best_timed a value (Some t) b h = (record { good = h.0; greatest = subst (Bounded a) (sym h.1) b }, h.1)
 
 -- what an accepted certificate claims holds
-claim_holds : (a : Street) (claim : Claim) (timing : Option Plan) (ns : List Node) → IsStreet a → IsTimed a timing (value_of claim) → AreProofs a (limit_of claim) (root_box a ∷ []) ns → ClaimHolds a claim timing
+claim_holds : (a : Street) (claim : Claim) (timing : Option TimingRecord) (ns : List Node) → IsStreet a → IsTimed a timing (value_of claim) → AreProofs a (limit_of claim) (root_box a ∷ []) ns → ClaimHolds a claim timing
 claim_holds a (Best value) timing ns h i c = best_timed a value timing (λ t g. root_says a t h g (Some value) ns c) i
 claim_holds a NoTiming timing ns h i c = λ t g. root_says a t h g None ns c
 claim_holds a (Stopped bound value) timing ns h i c = (λ t g. root_says a t h g (Some bound) ns c, i)

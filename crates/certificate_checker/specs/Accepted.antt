@@ -3,7 +3,7 @@ use Rattle.std.specs.Prelude.{◌≡◌, ◌⊎◌, List, [], ◌∷◌, map, Op
 use Rattle.rational_theory.specs.Rational.{ℚ, ◌≤ℚ◌}
 use Rattle.rational_theory.specs.Rows as maths
 use Rattle.progression.specs.Street.{Street, count}
-use Rattle.progression.specs.Plan.{Plan}
+use Rattle.progression.specs.TimingRecord.{TimingRecord}
 use Rattle.progression.specs.Good.{Good}
 use Rattle.progression.specs.Best.{weighted_band}
 use Rattle.linear_theory.specs.Places.{width}
@@ -38,7 +38,7 @@ IsTimedBy good worth (Some t) None = ⊥
 IsTimedBy good worth (Some t) (Some value) = good t × (worth t ≡ value)
 
 -- of an artery
-abbrev pub IsTimed : Street → Option Plan → Option ℚ → Type 0
+abbrev pub IsTimed : Street → Option TimingRecord → Option ℚ → Type 0
 IsTimed a = IsTimedBy (Good a) (weighted_band a)
 
 -- a claimed bound is not less than a claimed value

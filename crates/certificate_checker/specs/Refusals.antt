@@ -2,7 +2,7 @@
 use Rattle.std.specs.Prelude.{List, Option}
 use Rattle.rational_theory.specs.Rational.{ℚ}
 use Rattle.progression.specs.Street.{Street}
-use Rattle.progression.specs.Plan.{Plan}
+use Rattle.progression.specs.TimingRecord.{TimingRecord}
 use Rattle.progression.specs.Good.{Good}
 use Rattle.progression.specs.Best.{weighted_band}
 use Rattle.linear_theory.specs.Boxes.{root_box}
@@ -22,10 +22,10 @@ abbrev pub Reject : Type 0
 Reject = RejectOf Failing
 
 -- the timings with one band a direction
-abbrev pub one_band : Street → Checked Plan Failing
+abbrev pub one_band : Street → Checked TimingRecord Failing
 one_band a = record { IsGood = Good a; worth = weighted_band a; FailsFirst = IsFirstFailing a; root = root_box a; rows = artery_rows a; goal = written a (goal_form a) }
 
-abbrev pub numbers_refusal : Street → Claim → Option Plan → Option Reject
+abbrev pub numbers_refusal : Street → Claim → Option TimingRecord → Option Reject
 numbers_refusal a = numbers_refusal_of (one_band a)
 
 abbrev pub nodes_refusal : Street → Option ℚ → List Node → Option Reject
@@ -35,10 +35,10 @@ nodes_refusal a = nodes_refusal_of (one_band a)
 abbrev pub refusal_of : Street → Warrant → Option Reject
 refusal_of a = first_refusal (one_band a)
 
-abbrev pub IsGoodIfThere : Street → Option Plan → Type 0
+abbrev pub IsGoodIfThere : Street → Option TimingRecord → Type 0
 IsGoodIfThere a = IfThere (Good a)
 
-abbrev pub FailsFirst : Street → Option Plan → Reject → Type 0
+abbrev pub FailsFirst : Street → Option TimingRecord → Reject → Type 0
 FailsFirst a = TimingFailsFirst (one_band a)
 
 -- the timing breaks a rule and r names the first; or it is good, and r is the first of all others

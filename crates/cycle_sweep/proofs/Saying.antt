@@ -3,7 +3,7 @@ use Rattle.std.proofs.Common.{ℕ, List, map, Option, Some, None, refl, sym, ap,
 use Rattle.std.proofs.lemmas.Option.{none-some}
 use Rattle.rational_theory.specs.Rational.{ℚ}
 use Rattle.progression.specs.Street.{Street}
-use Rattle.progression.specs.Plan.{Plan}
+use Rattle.progression.specs.TimingRecord.{TimingRecord}
 use Rattle.plan_text.specs.Warrants.{Warrant}
 use Rattle.certificate_checker.specs.Accepted.{IsAccepted}
 use Rattle.branch_and_bound.specs.declared.node.TreeNode.{TreeNode}
@@ -27,21 +27,21 @@ use Rattle.cycle_sweep.specs.Says.{IsWhy, SaysFound, RowsSay}
 use Rattle.quantity_text.specs.Exact.{exact_spelling}
 
 -- the certificate of what was found
-abbrev certificate_of : Street → Option Plan → ℚ → Verdict SitePart → List TreeNode → Warrant
+abbrev certificate_of : Street → Option TimingRecord → ℚ → Verdict SitePart → List TreeNode → Warrant
 certificate_of a timing bound verdict nodes = record { claim = claim_by verdict bound (value_of a timing); timing = timing; nodes = map node_of nodes }
 
 -- the fields after the cycle
-abbrev texts_of : Street → ℚ → Option Plan → ℚ → Verdict SitePart → List (List ℕ)
+abbrev texts_of : Street → ℚ → Option TimingRecord → ℚ → Verdict SitePart → List (List ℕ)
 texts_of a cycle timing bound verdict =
     fields (exact_spelling cycle) (verdict_text verdict) (number_text (value_of a timing)) (number_text (bound_of verdict bound (value_of a timing))) (cause_text verdict)
 
 -- a stop by work comes at the limit
-why_of : (a : Street) (limit : Option ℕ) (nodes : List TreeNode) (best : Option (Incumbent Plan)) (bound : ℚ) (spent : ℕ) (stop : Stop SitePart)
+why_of : (a : Street) (limit : Option ℕ) (nodes : List TreeNode) (best : Option (Incumbent TimingRecord)) (bound : ℚ) (spent : ℕ) (stop : Stop SitePart)
     → IsAnswer (rules_of a) limit nodes best bound spent (Stopped stop) → IsWhy limit spent stop
 why_of a limit nodes best bound spent (Work units) h = (h.cause.0, h.cause.1)
 why_of a limit nodes best bound spent (Wide site) h = tt
 
-says_found : (a : Street) (limit : Option ℕ) (cycle : ℚ) (nodes : List TreeNode) (timing : Option Plan) (bound : ℚ) (spent : ℕ) (verdict : Verdict SitePart)
+says_found : (a : Street) (limit : Option ℕ) (cycle : ℚ) (nodes : List TreeNode) (timing : Option TimingRecord) (bound : ℚ) (spent : ℕ) (verdict : Verdict SitePart)
     → IsAnswer (rules_of (at_cycle a cycle)) limit nodes (incumbent_of (at_cycle a cycle) timing) bound spent verdict
     → ProvesOf (whole_bands (at_cycle a cycle)) timing bound verdict → IsAccepted (at_cycle a cycle) (certificate_of (at_cycle a cycle) timing bound verdict nodes)
     → SaysFound a limit cycle spent verdict (texts_of a cycle timing bound verdict)

@@ -2,7 +2,7 @@
 use Rattle.std.specs.Prelude.{◌≡◌, ℕ, List, Option, Some, None, IfSome, codes}
 use Rattle.rational_theory.specs.Rational.{ℚ, ◌≤ℚ◌}
 use Rattle.progression.specs.Street.{Street}
-use Rattle.progression.specs.Plan.{Plan}
+use Rattle.progression.specs.TimingRecord.{TimingRecord}
 use Rattle.progression.specs.Good.{Good}
 use Rattle.progression.specs.Best as best
 use Rattle.progression.specs.Best.{Best, Bounded, weighted_band}
@@ -23,7 +23,7 @@ use Rattle.cycle_sweep.specs.Rows.{at_cycle, IsAllowed, IsRow}
 use Rattle.cycle_sweep.specs.Table.{fields, dash, number_text, stop_text, row_fields}
 
 -- a certificate with this claim and this timing is accepted
-pub record HasCertificate (a : Street) (claimed : Claim) (timing : Option Plan) : Type 0 where
+pub record HasCertificate (a : Street) (claimed : Claim) (timing : Option TimingRecord) : Type 0 where
   pub certificate : Warrant
   pub accepted : IsAccepted a certificate
   pub claim_is : certificate.claim ≡ claimed
@@ -31,7 +31,7 @@ pub record HasCertificate (a : Street) (claimed : Claim) (timing : Option Plan) 
 
 -- `best`: this timing is best at the cycle, and its weighted band is in both columns
 pub record SaysBest (a : Street) (cycle : ℚ) (texts : List (List ℕ)) : Type 0 where
-  pub plan : Plan
+  pub plan : TimingRecord
   pub best : Best (at_cycle a cycle) plan
   pub certified : HasCertificate (at_cycle a cycle) (claim.Best (weighted_band (at_cycle a cycle) plan)) (Some plan)
   pub texts_are : texts
@@ -51,7 +51,7 @@ IsWhy limit spent (Wide site) = Unit {0}
 -- `open`: no good timing at the cycle has a weighted band above the bound, and a timing that was found is good
 pub record SaysOpen (a : Street) (limit : Option ℕ) (cycle : ℚ) (spent : ℕ) (stop : Stop SitePart) (texts : List (List ℕ)) : Type 0 where
   pub bound : ℚ
-  pub timing : Option Plan
+  pub timing : Option TimingRecord
   pub bounded : Bounded (at_cycle a cycle) bound
   pub good : IfSome timing (λ plan. Good (at_cycle a cycle) plan × (weighted_band (at_cycle a cycle) plan ≤ℚ bound))
   pub certified : HasCertificate (at_cycle a cycle) (claim.Stopped bound (value_of (at_cycle a cycle) timing)) timing

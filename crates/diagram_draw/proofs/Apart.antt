@@ -5,7 +5,7 @@ use Rattle.std.specs.Int.{int_div_euclid}
 use Rattle.std.proofs.lemmas.Int.{ints}
 use Rattle.std.proofs.lemmas.Nat.{div-add-mod'}
 use Rattle.progression.specs.Street.{Street, count, red_parts, HasSignal}
-use Rattle.progression.specs.Plan.{Plan, cycle, band, common_red}
+use Rattle.progression.specs.TimingRecord.{TimingRecord, cycle, band, common_red}
 use Rattle.progression.specs.Green.{BandIsGreen, mod_ℤ, red_start, red_ticks}
 use Rattle.progression.specs.Lines.{line_at, IsGreenWay}
 use Rattle.progression.specs.Good.{Good}
@@ -62,7 +62,7 @@ module _ (c red b : ℕ) (s x o : ℤ) (h : 0 < c) (g : Gap c s red x b) (m n : 
       apart_by (g.turns +ℤ qs -ℤ qx +ℤ pos m -ℤ pos n) _ _ c red g.after b (omega (arith, ints, p, q, one, two, three, four, place)) g.free g.room
 
 -- the place of a signal in travel order
-green_there : (a : Street) (t : Plan) (d : Dir) (i : ℕ) → HasSignal a i → IsGreenWay a t d
+green_there : (a : Street) (t : TimingRecord) (d : Dir) (i : ℕ) → HasSignal a i → IsGreenWay a t d
     → BandIsGreen (cycle a t) (red_start a t d i) (red_ticks a t d i) (line_at a t d i) (band t d)
 green_there a t Outbound i h g =
     let e : i - 1 + 1 ≡ i = let l = h.0 in omega (arith, l) in
@@ -73,7 +73,7 @@ green_there a t Inbound i h g =
     let l : count a - i < count a = let p = h.0 in let q = h.1 in omega (arith, p, q) in
     subst (λ k. BandIsGreen (cycle a t) (red_start a t Inbound k) (red_ticks a t Inbound k) (line_at a t Inbound i) (band t Inbound)) e (g (count a - i) l)
 
-good_way : (a : Street) (t : Plan) (d : Dir) → Good a t → IsGreenWay a t d
+good_way : (a : Street) (t : TimingRecord) (d : Dir) → Good a t → IsGreenWay a t d
 good_way a t Outbound g = g.outbound
 good_way a t Inbound g = g.inbound
 
@@ -81,7 +81,7 @@ mul-lt : {a b c : ℕ} → a < b → 0 < c → a * c < b * c
 mul-lt {a} {b} {c} h k = grind arith
 
 -- the gap of a signal's band
-gap_there : (a : Street) (t : Plan) (d : Dir) (i : ℕ) → IsValid a → 2 ≤ t.unit → HasSignal a i → Good a t
+gap_there : (a : Street) (t : TimingRecord) (d : Dir) (i : ℕ) → IsValid a → 2 ≤ t.unit → HasSignal a i → Good a t
     → Gap (cycle a t) (red_start a t d i) (red_ticks a t d i) (line_at a t d i) (band t d)
 gap_there a t d i v u h g =
     let r = red_bounds a v d i (let p = h.0 in let q = h.1 in omega (arith, p, q)) in

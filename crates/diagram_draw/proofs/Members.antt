@@ -6,7 +6,7 @@ use Rattle.std.proofs.lemmas.Bool.{cases_lt}
 use Rattle.std.proofs.lemmas.Bool.Decides.{eqb_tells}
 use Rattle.std.proofs.lemmas.List.Elements.{Contains-append_left, Contains-append_right, Contains-append_cases}
 use Rattle.progression.specs.Street.{Street, count, left_against, HasSignal, HasLink}
-use Rattle.progression.specs.Plan.{Plan}
+use Rattle.progression.specs.TimingRecord.{TimingRecord}
 use Rattle.progression.specs.declared.parts.Dir.{Dir}
 use Rattle.progression.specs.declared.parts.Dir.TheVariants.{Outbound, Inbound}
 use Rattle.diagram_draw.specs.declared.shape.Shape.{Shape}
@@ -105,7 +105,7 @@ module _ (f : Frame) (part : BarPart) (s : Shape) where
       let l = h.shown in
       each_in (λ m. block f (bar_in_cycle f part m)) 0 (f.cycles + 1) h.cycle s (omega arith) (omega (arith, l)) h.is
 
-module _ (f : Frame) (a : Street) (t : Plan) (s : Shape) where
+module _ (f : Frame) (a : Street) (t : TimingRecord) (s : Shape) where
   in_link : (d : Dir) (l : ℕ) → Contains (pieces f a t d l) s → IsPiece f a t d l s
   in_link d l h =
       let q = in_each (λ m. piece f (band_in_cycle f (band_part f a t d l) m)) 0 _ s h in
@@ -207,7 +207,7 @@ field_is_exact f a t s = (field_one f a t s, one_field f a t s)
 not_both : (s : Shape) → is_red s ≡ false → is_red s ≡ true → ⊥
 not_both s e h = let f : true ≡ false = sym h ∙ e in cc
 
-the_red : (f : Frame) (a : Street) (t : Plan) (s : Shape) → IsFieldShape f a t s → is_red s ≡ true → (d : Dir) × (i : ℕ) × HasSignal a i × IsRed f a t d i s
+the_red : (f : Frame) (a : Street) (t : TimingRecord) (s : Shape) → IsFieldShape f a t s → is_red s ≡ true → (d : Dir) × (i : ℕ) × HasSignal a i × IsRed f a t d i s
 the_red f a t s (Piece Outbound l there h) r = absurd (not_both s (ap is_red h.is) r)
 the_red f a t s (Piece Inbound l there h) r = absurd (not_both s (ap is_red h.is) r)
 the_red f a t s (Ground d i here h) r = absurd (not_both s (ap is_red h) r)

@@ -2,7 +2,7 @@
 use Rattle.std.proofs.Common.{◌≡◌, ℕ, ℤ, pos, ◌+ℤ◌, ◌-ℤ◌, ◌+◌, ◌*◌, refl, arith, inl, inr, Bool, true, false, if◌then◌else◌}
 use Rattle.std.specs.Prelude.{◌⊎◌}
 use Rattle.std.proofs.lemmas.Int.{ints}
-use Rattle.progression.specs.Plan.{pattern_of, common_red}
+use Rattle.progression.specs.TimingRecord.{pattern_of, common_red}
 use Rattle.progression.specs.Green.{is_early}
 use Rattle.diagram_draw.specs.Bars.{common_ticks, turn_ticks, common_wait}
 use Rattle.diagram_draw.specs.Laws.{RedsHaveTwoParts}

@@ -2,7 +2,7 @@
 use Rattle.std.specs.Prelude.{ℕ, ◌+◌, ◌-◌, ◌/◌, min, ℤ, pos, ◌+ℤ◌, ◌-ℤ◌, List, ◌++◌, map}
 use Rattle.std.specs.List.{flat_map, range_with_len}
 use Rattle.progression.specs.Street.{Street, count}
-use Rattle.progression.specs.Plan.{Plan, run, band}
+use Rattle.progression.specs.TimingRecord.{TimingRecord, run, band}
 use Rattle.progression.specs.Lines.{line_at}
 use Rattle.progression.specs.declared.parts.Dir.{Dir}
 use Rattle.progression.specs.declared.parts.Dir.TheVariants.{Outbound, Inbound}
@@ -56,11 +56,11 @@ abbrev pub some_pieces : Frame → BandPart → ℕ → List Shape
 some_pieces f part cycles = map (λ m. piece f (band_in_cycle f part m)) (range_with_len 0 cycles)
 
 -- when the band leaves the link's first signal in the first of these cycles
-abbrev pub first_leaving : Frame → Street → Plan → Dir → ℕ → ℤ
+abbrev pub first_leaving : Frame → Street → TimingRecord → Dir → ℕ → ℤ
 first_leaving f a t d l = earlier f (cycles_back f (run t d l + band t d)) (after_start a t (line_at a t d (tail d l)))
 
 -- a direction's band on a link in the first of these cycles
-abbrev pub band_part : Frame → Street → Plan → Dir → ℕ → BandPart
+abbrev pub band_part : Frame → Street → TimingRecord → Dir → ℕ → BandPart
 band_part f a t d l = record {
   paint = band_paint d;
   from = leaving_level f a d l;
@@ -70,12 +70,12 @@ band_part f a t d l = record {
   band = band t d;
 }
 
-abbrev pub pieces : Frame → Street → Plan → Dir → ℕ → List Shape
+abbrev pub pieces : Frame → Street → TimingRecord → Dir → ℕ → List Shape
 pieces f a t d l = some_pieces f (band_part f a t d l) (f.cycles + cycles_back f (run t d l + band t d))
 
 -- on a link, outbound and inbound
-abbrev pub link_pieces : Frame → Street → Plan → ℕ → List Shape
+abbrev pub link_pieces : Frame → Street → TimingRecord → ℕ → List Shape
 link_pieces f a t l = pieces f a t Outbound l ++ pieces f a t Inbound l
 
-abbrev pub all_pieces : Frame → Street → Plan → List Shape
+abbrev pub all_pieces : Frame → Street → TimingRecord → List Shape
 all_pieces f a t = flat_map (link_pieces f a t) (range_with_len 1 (count a - 1))

@@ -3,7 +3,7 @@
 use Rattle.std.specs.Prelude.{ℕ, ◌+◌, ◌*◌, ◌==◌, if◌then◌else◌, ℤ, pos, ◌+ℤ◌, ◌-ℤ◌, List, [], ◌∷◌, ◌++◌, map}
 use Rattle.std.specs.List.{flat_map, range_with_len}
 use Rattle.progression.specs.Street.{Street, count, signal_of, left_against}
-use Rattle.progression.specs.Plan.{Plan, band, pattern_of}
+use Rattle.progression.specs.TimingRecord.{TimingRecord, band, pattern_of}
 use Rattle.progression.specs.Green.{is_early, red_start}
 use Rattle.progression.specs.Lines.{line_at}
 use Rattle.progression.specs.declared.parts.Dir.{Dir}
@@ -41,24 +41,24 @@ blocks f part = some_blocks f part (f.cycles + 1)
 
 -- ---- what they show
 -- where the direction's red and its band begin in the cycle before the first
-abbrev pub first_red : Frame → Street → Plan → Dir → ℕ → ℤ
+abbrev pub first_red : Frame → Street → TimingRecord → Dir → ℕ → ℤ
 first_red f a t d i = earlier f 1 (after_start a t (red_start a t d i))
 
-abbrev pub first_window : Frame → Street → Plan → Dir → ℕ → ℤ
+abbrev pub first_window : Frame → Street → TimingRecord → Dir → ℕ → ℤ
 first_window f a t d i = earlier f 1 (after_start a t (line_at a t d i))
 
 -- the two parts of a direction's red, in ticks
-abbrev pub common_ticks : Street → Plan → ℕ → ℕ
+abbrev pub common_ticks : Street → TimingRecord → ℕ → ℕ
 common_ticks a t i = (signal_of a i).red * t.unit
 
-abbrev pub turn_ticks : Street → Plan → Dir → ℕ → ℕ
+abbrev pub turn_ticks : Street → TimingRecord → Dir → ℕ → ℕ
 turn_ticks a t d i = left_against a d i * t.unit
 
 -- how long after the start of the direction's red each of them begins: the left turn that lags comes first
-abbrev pub common_wait : Street → Plan → Dir → ℕ → ℕ
+abbrev pub common_wait : Street → TimingRecord → Dir → ℕ → ℕ
 common_wait a t d i = if is_early d (pattern_of t i) then turn_ticks a t d i else 0
 
-abbrev pub turn_wait : Street → Plan → Dir → ℕ → ℕ
+abbrev pub turn_wait : Street → TimingRecord → Dir → ℕ → ℕ
 turn_wait a t d i = if is_early d (pattern_of t i) then 0 else common_ticks a t i
 
 abbrev pub window_paint : Dir → Paint
@@ -66,10 +66,10 @@ window_paint Outbound = paint.OutWindow
 window_paint Inbound = paint.InWindow
 
 -- the direction's band and the two parts of its red in the cycle before the first
-abbrev pub window_part : Frame → Street → Plan → Dir → ℕ → BarPart
+abbrev pub window_part : Frame → Street → TimingRecord → Dir → ℕ → BarPart
 window_part f a t d i = record { paint = window_paint d; top = bar_top f a d i; begin = first_window f a t d i; ticks = band t d }
 
-abbrev pub common_part : Frame → Street → Plan → Dir → ℕ → BarPart
+abbrev pub common_part : Frame → Street → TimingRecord → Dir → ℕ → BarPart
 common_part f a t d i = record {
   paint = paint.CommonRed;
   top = bar_top f a d i;
@@ -77,7 +77,7 @@ common_part f a t d i = record {
   ticks = common_ticks a t i;
 }
 
-abbrev pub turn_part : Frame → Street → Plan → Dir → ℕ → BarPart
+abbrev pub turn_part : Frame → Street → TimingRecord → Dir → ℕ → BarPart
 turn_part f a t d i = record {
   paint = paint.TurnRed;
   top = bar_top f a d i;
@@ -89,22 +89,22 @@ turn_part f a t d i = record {
 abbrev pub ground : Frame → Street → Dir → ℕ → Shape
 ground f a d i = shape.Rect paint.Ground (pos f.left) (bar_top f a d i) (pos (plot_right f)) (bar_top f a d i +ℤ pos bar_height)
 
-abbrev pub windows : Frame → Street → Plan → Dir → ℕ → List Shape
+abbrev pub windows : Frame → Street → TimingRecord → Dir → ℕ → List Shape
 windows f a t d i = blocks f (window_part f a t d i)
 
-abbrev pub common_reds : Frame → Street → Plan → Dir → ℕ → List Shape
+abbrev pub common_reds : Frame → Street → TimingRecord → Dir → ℕ → List Shape
 common_reds f a t d i = blocks f (common_part f a t d i)
 
 -- none where no left turn is against the direction
-abbrev pub turn_reds : Frame → Street → Plan → Dir → ℕ → List Shape
+abbrev pub turn_reds : Frame → Street → TimingRecord → Dir → ℕ → List Shape
 turn_reds f a t d i = if left_against a d i == 0 then [] else blocks f (turn_part f a t d i)
 
-abbrev pub bar : Frame → Street → Plan → Dir → ℕ → List Shape
+abbrev pub bar : Frame → Street → TimingRecord → Dir → ℕ → List Shape
 bar f a t d i = ground f a d i ∷ (windows f a t d i ++ (common_reds f a t d i ++ turn_reds f a t d i))
 
-abbrev pub signal_bars : Frame → Street → Plan → ℕ → List Shape
+abbrev pub signal_bars : Frame → Street → TimingRecord → ℕ → List Shape
 signal_bars f a t i = bar f a t Outbound i ++ bar f a t Inbound i
 
 -- of the signals from the first on
-abbrev pub all_bars : Frame → Street → Plan → List Shape
+abbrev pub all_bars : Frame → Street → TimingRecord → List Shape
 all_bars f a t = flat_map (signal_bars f a t) (range_with_len 1 (count a))

@@ -6,7 +6,7 @@ use Rattle.std.specs.Fmt.{decimal}
 use Rattle.rational_theory.specs.Rational.{ℚ, over}
 use Rattle.quantity_text.specs.Decimal.{decimal_spelling}
 use Rattle.progression.specs.Street.{Street, count, signal_of, distance}
-use Rattle.progression.specs.Plan.{Plan, cycle, band, pattern_of}
+use Rattle.progression.specs.TimingRecord.{TimingRecord, cycle, band, pattern_of}
 use Rattle.progression.specs.declared.parts.Units.{Units}
 use Rattle.progression.specs.declared.parts.Units.TheVariants.{Metric, English}
 use Rattle.progression.specs.declared.parts.Dir.{Dir}
@@ -28,14 +28,14 @@ caption l x y words = record { letter = l; x = x; y = y; words = words }
 abbrev pub tenths : ℚ → List ℕ
 tenths x = decimal_spelling x 1
 
-abbrev pub seconds_text : Plan → ℕ → List ℕ
+abbrev pub seconds_text : TimingRecord → ℕ → List ℕ
 seconds_text t ticks = tenths (seconds t ticks)
 
 -- a direction's band in hundredths of the cycle
-abbrev pub percent_text : Street → Plan → Dir → List ℕ
+abbrev pub percent_text : Street → TimingRecord → Dir → List ℕ
 percent_text a t d = tenths (over (pos (100 * band t d)) (cycle a t))
 
-abbrev pub offset_text : Street → Plan → ℕ → List ℕ
+abbrev pub offset_text : Street → TimingRecord → ℕ → List ℕ
 offset_text a t i = tenths (offset a t i)
 
 -- ---- above the field
@@ -47,18 +47,18 @@ title_of (Some name) = escaped name
 abbrev pub title_text : Street → List ℕ
 title_text a = title_of a.head.name
 
-unfoldable pub band_facts : Street → Plan → Dir → List ℕ
+unfoldable pub band_facts : Street → TimingRecord → Dir → List ℕ
 band_facts a t d = seconds_text t (band t d) ++ (codes " s = " ++ percent_text a t d)
 
 -- `&#183;` is a point in the middle
-unfoldable pub cycle_facts : Street → Plan → List ℕ
+unfoldable pub cycle_facts : Street → TimingRecord → List ℕ
 cycle_facts a t = codes "cycle " ++ (seconds_text t (cycle a t) ++ codes " s &#183; outbound band ")
 
-unfoldable pub inbound_facts : Street → Plan → List ℕ
+unfoldable pub inbound_facts : Street → TimingRecord → List ℕ
 inbound_facts a t = codes " % of the cycle &#183; inbound band " ++ (band_facts a t Inbound ++ codes " %")
 
 -- the cycle and both bands
-unfoldable pub facts_text : Street → Plan → List ℕ
+unfoldable pub facts_text : Street → TimingRecord → List ℕ
 facts_text a t = cycle_facts a t ++ (band_facts a t Outbound ++ inbound_facts a t)
 
 abbrev pub unit_of_length : Units → List ℕ
@@ -72,7 +72,7 @@ unit_of_speed English = codes "mph"
 abbrev pub head_level : ℤ
 head_level = pos (plot_top - 90)
 
-unfoldable pub title_heads : Street → Plan → List Caption
+unfoldable pub title_heads : Street → TimingRecord → List Caption
 title_heads a t = caption letter.Title (pos 220) (pos 480) (title_text a) ∷ caption letter.Facts (pos 220) (pos 830) (facts_text a t) ∷ []
 
 unfoldable pub signal_heads : Frame → List Caption
@@ -99,10 +99,10 @@ cycle_number f m = caption letter.HeadMiddle (x_at f (pos (m * f.cycle))) head_l
 abbrev pub cycle_numbers : Frame → List Caption
 cycle_numbers f = map (cycle_number f) (range_with_len 1 f.cycles)
 
-abbrev pub second_number : Frame → Plan → ℕ → Caption
+abbrev pub second_number : Frame → TimingRecord → ℕ → Caption
 second_number f t k = caption letter.Axis (x_at f (pos (second_at f t k * t.grid))) (pos (plot_bottom f + 210)) (decimal (second_at f t k))
 
-abbrev pub second_numbers : Frame → Plan → List Caption
+abbrev pub second_numbers : Frame → TimingRecord → List Caption
 second_numbers f t = map (second_number f t) (range_with_len 0 (steps_shown f t))
 
 -- ---- the signals
@@ -119,14 +119,14 @@ name_caption f a i = caption (name_letter (length (signal_of a i).name)) (pos na
 abbrev pub names : Frame → Street → List Caption
 names f a = map (name_caption f a) (range_with_len 1 (count a))
 
-unfoldable pub signal_row : Frame → Street → Plan → ℕ → List Caption
+unfoldable pub signal_row : Frame → Street → TimingRecord → ℕ → List Caption
 signal_row f a t i =
     caption letter.Number (pos 330) (row_level f a i) (decimal i)
     ∷ caption letter.Number (pos (f.left - 810)) (row_level f a i) (decimal (pattern_of t i))
     ∷ caption letter.Number (pos (f.left - 170)) (row_level f a i) (offset_text a t i)
     ∷ []
 
-abbrev pub signal_rows : Frame → Street → Plan → List Caption
+abbrev pub signal_rows : Frame → Street → TimingRecord → List Caption
 signal_rows f a t = flat_map (signal_row f a t) (range_with_len 1 (count a))
 
 -- ---- the links
@@ -138,17 +138,17 @@ link_level f a l = pos ((level f a l + level f a (l + 1)) / 2 + 50)
 abbrev pub lengths_text : ℕ → ℕ → List ℕ
 lengths_text out back = if out == back then decimal out else decimal out ++ (codes "/" ++ decimal back)
 
-abbrev pub link_speed_text : Street → Plan → Dir → ℕ → List ℕ
+abbrev pub link_speed_text : Street → TimingRecord → Dir → ℕ → List ℕ
 link_speed_text a t d l = tenths (link_speed a t d l)
 
-unfoldable pub link_row : Frame → Street → Plan → ℕ → List Caption
+unfoldable pub link_row : Frame → Street → TimingRecord → ℕ → List Caption
 link_row f a t l =
     caption letter.Number (pos (plot_right f + 880)) (link_level f a l) (lengths_text (distance a Outbound l) (distance a Inbound l))
     ∷ caption letter.Number (pos (plot_right f + 1480)) (link_level f a l) (link_speed_text a t Outbound l)
     ∷ caption letter.Number (pos (plot_right f + 2060)) (link_level f a l) (link_speed_text a t Inbound l)
     ∷ []
 
-abbrev pub link_rows : Frame → Street → Plan → List Caption
+abbrev pub link_rows : Frame → Street → TimingRecord → List Caption
 link_rows f a t = flat_map (link_row f a t) (range_with_len 1 (count a - 1))
 
 -- ---- below the field
@@ -180,14 +180,14 @@ notes f =
     ∷ []
 
 -- ---- all of them but the names
-unfoldable pub above : Frame → Street → Plan → List Caption
+unfoldable pub above : Frame → Street → TimingRecord → List Caption
 above f a t = title_heads a t ++ (signal_heads f ++ (link_heads f a.head.units ++ cycle_numbers f))
 
-unfoldable pub beside : Frame → Street → Plan → List Caption
+unfoldable pub beside : Frame → Street → TimingRecord → List Caption
 beside f a t = signal_rows f a t ++ link_rows f a t
 
-unfoldable pub below : Frame → Plan → List Caption
+unfoldable pub below : Frame → TimingRecord → List Caption
 below f t = second_numbers f t ++ (red_words f ++ (band_words f ++ notes f))
 
-unfoldable pub captions : Frame → Street → Plan → List Caption
+unfoldable pub captions : Frame → Street → TimingRecord → List Caption
 captions f a t = above f a t ++ (beside f a t ++ below f t)

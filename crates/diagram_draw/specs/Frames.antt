@@ -2,7 +2,7 @@
 use Rattle.std.specs.Prelude.{ℕ, zero, suc, ◌+◌, ◌-◌, ◌*◌, ◌/◌, ◌<◌, ◌≤◌, ◌^◌, min, max, length, ℤ, pos, ◌+ℤ◌, ◌-ℤ◌, ◌*ℤ◌}
 use Rattle.std.specs.Int.{int_div_euclid}
 use Rattle.progression.specs.Street.{Street, count, signal_of, distance}
-use Rattle.progression.specs.Plan.{Plan, cycle, run, band}
+use Rattle.progression.specs.TimingRecord.{TimingRecord, cycle, run, band}
 use Rattle.progression.specs.declared.parts.Dir.{Dir}
 use Rattle.progression.specs.declared.parts.Dir.TheVariants.{Outbound, Inbound}
 use Rattle.diagram_draw.specs.declared.frame.Frame.{Frame}
@@ -28,15 +28,15 @@ both_bars = 180
 
 -- ---- the others
 -- how many ticks the runs of the first links take together
-abbrev pub trip : Plan → Dir → ℕ → ℕ
+abbrev pub trip : TimingRecord → Dir → ℕ → ℕ
 trip t d zero = 0
 trip t d (suc j) = trip t d j + run t d (suc j)
 
 -- so many ticks at most lie between a band's first tick anywhere and its last
-abbrev pub reach : Street → Plan → Dir → ℕ
+abbrev pub reach : Street → TimingRecord → Dir → ℕ
 reach a t d = trip t d (count a - 1) + band t d
 
-abbrev pub longest_reach : Street → Plan → ℕ
+abbrev pub longest_reach : Street → TimingRecord → ℕ
 longest_reach a t = max (reach a t Outbound) (reach a t Inbound)
 
 -- How many cycles are shown: one more than the band's way takes, begun ones too, so that a band is seen whole; from 2 to 12.
@@ -76,7 +76,7 @@ name_room a = 78 * min 40 (longest_name a (count a))
 abbrev pub name_left : ℕ
 name_left = 430
 
-abbrev pub frame_of : Street → Plan → Frame
+abbrev pub frame_of : Street → TimingRecord → Frame
 frame_of a t = record {
   left = name_room a + 1570;
   cycles = cycles_for (longest_reach a t) (cycle a t);

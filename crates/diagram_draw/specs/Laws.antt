@@ -2,7 +2,7 @@
 -- between two signals.
 use Rattle.std.specs.Prelude.{◌≡◌, ◌⊎◌, ◌↔◌, Contains, ℕ, ◌+◌, ◌-◌, ◌*◌, ◌<◌, ◌≤◌, ℤ, pos, ◌+ℤ◌, ◌≤ℤ◌, true, false}
 use Rattle.progression.specs.Street.{Street, count, HasSignal, HasLink, clearance}
-use Rattle.progression.specs.Plan.{Plan, cycle, run, band, common_red}
+use Rattle.progression.specs.TimingRecord.{TimingRecord, cycle, run, band, common_red}
 use Rattle.progression.specs.Green.{is_green, red_start, red_ticks}
 use Rattle.progression.specs.Lines.{line_at}
 use Rattle.progression.specs.Good.{Good}
@@ -25,29 +25,29 @@ PlacesAscend = (f : Frame) (early late : ℤ) → IsFrame f → early ≤ℤ lat
 
 -- ---- reds
 -- The two parts of a direction's red are the whole of it, one after the other, and one begins with the signal's common red.
-pub record AreRedParts (a : Street) (t : Plan) (d : Dir) (i : ℕ) : Type 0 where
+pub record AreRedParts (a : Street) (t : TimingRecord) (d : Dir) (i : ℕ) : Type 0 where
   pub begun : red_start a t d i +ℤ pos (common_wait a t d i) ≡ common_red t i
   pub whole : common_ticks a t i + turn_ticks a t d i ≡ red_ticks a t d i
   pub order : ((common_wait a t d i ≡ 0) × (turn_wait a t d i ≡ common_ticks a t i)) ⊎ ((turn_wait a t d i ≡ 0) × (common_wait a t d i ≡ turn_ticks a t d i))
 
 abbrev pub RedsHaveTwoParts : Type 0
-RedsHaveTwoParts = (a : Street) (t : Plan) (d : Dir) (i : ℕ) → AreRedParts a t d i
+RedsHaveTwoParts = (a : Street) (t : TimingRecord) (d : Dir) (i : ℕ) → AreRedParts a t d i
 
 -- ---- bands
 -- the red and the band of a direction at a signal, in any two cycles: one is over where the other begins, and so it is drawn
-pub record AreApart (f : Frame) (a : Street) (t : Plan) (d : Dir) (i m n : ℕ) : Type 0 where
+pub record AreApart (f : Frame) (a : Street) (t : TimingRecord) (d : Dir) (i m n : ℕ) : Type 0 where
   pub apart : (x_at f (later f (first_window f a t d i) m +ℤ pos (band t d)) ≤ℤ x_at f (later f (first_red f a t d i) n))
       ⊎ (x_at f (later f (first_red f a t d i) n +ℤ pos (red_ticks a t d i)) ≤ℤ x_at f (later f (first_window f a t d i) m))
 
 abbrev pub BandsMissReds : Type 0
 BandsMissReds =
-    (f : Frame) (a : Street) (t : Plan) (d : Dir) (i m n : ℕ) → IsFrame f → f.cycle ≡ cycle a t → IsValid a → 2 ≤ t.unit → HasSignal a i → Good a t
+    (f : Frame) (a : Street) (t : TimingRecord) (d : Dir) (i m n : ℕ) → IsFrame f → f.cycle ≡ cycle a t → IsValid a → 2 ≤ t.unit → HasSignal a i → Good a t
     → AreApart f a t d i m n
 
 -- At a moment within the cycles that are shown a direction is red at a signal exactly where it is strictly inside one of the reds that are drawn.
 abbrev pub RedsAreShown : Type 0
 RedsAreShown =
-    (f : Frame) (a : Street) (t : Plan) (d : Dir) (i n : ℕ) → IsFrame f → f.cycle ≡ cycle a t → IsValid a → 2 ≤ t.unit → HasSignal a i → n < f.cycles * f.cycle
+    (f : Frame) (a : Street) (t : TimingRecord) (d : Dir) (i n : ℕ) → IsFrame f → f.cycle ≡ cycle a t → IsValid a → 2 ≤ t.unit → HasSignal a i → n < f.cycles * f.cycle
     → (is_green (cycle a t) (red_start a t d i) (red_ticks a t d i) (common_red t 1 +ℤ pos n) ≡ false)
     ↔ ((m : ℕ) × (m < f.cycles + 1) × IsInside (later f (first_red f a t d i) m) (red_ticks a t d i) (pos n))
 
@@ -55,7 +55,7 @@ RedsAreShown =
 -- clear. (Both are drawn in every cycle.)
 abbrev pub PiecesMeetWindows : Type 0
 PiecesMeetWindows =
-    (a : Street) (t : Plan) (d : Dir) (l : ℕ) → HasLink a l
+    (a : Street) (t : TimingRecord) (d : Dir) (l : ℕ) → HasLink a l
     → line_at a t d (head d l) +ℤ pos (clearance a d (head d l) * t.unit) ≡ line_at a t d (tail d l) +ℤ pos (run t d l)
 
 -- ---- levels
@@ -88,8 +88,8 @@ PiecesMissBars =
 -- ---- shapes
 -- What is seen through the field are just the pieces, the grounds, the bands at the signals and both parts of the reds, in the cycles that are shown.
 abbrev pub FieldIsExact : Type 0
-FieldIsExact = (f : Frame) (a : Street) (t : Plan) (s : Shape) → Contains (drawn f a t).field s ↔ IsFieldShape f a t s
+FieldIsExact = (f : Frame) (a : Street) (t : TimingRecord) (s : Shape) → Contains (drawn f a t).field s ↔ IsFieldShape f a t s
 
 -- and what is painted as a red there is one of the model
 abbrev pub RedsAreReds : Type 0
-RedsAreReds = (f : Frame) (a : Street) (t : Plan) (s : Shape) → Contains (drawn f a t).field s → is_red s ≡ true → (d : Dir) × (i : ℕ) × HasSignal a i × IsRed f a t d i s
+RedsAreReds = (f : Frame) (a : Street) (t : TimingRecord) (s : Shape) → Contains (drawn f a t).field s → is_red s ≡ true → (d : Dir) × (i : ℕ) × HasSignal a i × IsRed f a t d i s

@@ -1,7 +1,7 @@
 -- Which shapes are seen through the field of a drawing.
 use Rattle.std.specs.Prelude.{◌≡◌, ◌⊎◌, ℕ, ◌+◌, ◌<◌, ◌≤◌, Bool, true, false}
 use Rattle.progression.specs.Street.{Street, HasSignal, HasLink, left_against}
-use Rattle.progression.specs.Plan.{Plan, run, band}
+use Rattle.progression.specs.TimingRecord.{TimingRecord, run, band}
 use Rattle.progression.specs.declared.parts.Dir.{Dir}
 use Rattle.diagram_draw.specs.declared.paint.Paint.{Paint}
 use Rattle.diagram_draw.specs.declared.paint.Paint.TheVariants as paint
@@ -19,27 +19,27 @@ pub record IsBlock (f : Frame) (part : BarPart) (s : Shape) : Type 0 where
   pub is : s ≡ block f (bar_in_cycle f part cycle)
 
 -- ---- what stands at a signal
-abbrev pub IsWindow : Frame → Street → Plan → Dir → ℕ → Shape → Type 0
+abbrev pub IsWindow : Frame → Street → TimingRecord → Dir → ℕ → Shape → Type 0
 IsWindow f a t d i s = IsBlock f (window_part f a t d i) s
 
-abbrev pub IsCommonRed : Frame → Street → Plan → Dir → ℕ → Shape → Type 0
+abbrev pub IsCommonRed : Frame → Street → TimingRecord → Dir → ℕ → Shape → Type 0
 IsCommonRed f a t d i s = IsBlock f (common_part f a t d i) s
 
 -- the rest of a red, where some left turn is against the direction
-abbrev pub IsTurnRed : Frame → Street → Plan → Dir → ℕ → Shape → Type 0
+abbrev pub IsTurnRed : Frame → Street → TimingRecord → Dir → ℕ → Shape → Type 0
 IsTurnRed f a t d i s = (1 ≤ left_against a d i) × IsBlock f (turn_part f a t d i) s
 
-abbrev pub IsRed : Frame → Street → Plan → Dir → ℕ → Shape → Type 0
+abbrev pub IsRed : Frame → Street → TimingRecord → Dir → ℕ → Shape → Type 0
 IsRed f a t d i s = IsCommonRed f a t d i s ⊎ IsTurnRed f a t d i s
 
 -- ---- what stands on a link
-pub record IsPiece (f : Frame) (a : Street) (t : Plan) (d : Dir) (l : ℕ) (s : Shape) : Type 0 where
+pub record IsPiece (f : Frame) (a : Street) (t : TimingRecord) (d : Dir) (l : ℕ) (s : Shape) : Type 0 where
   pub cycle : ℕ
   pub shown : cycle < f.cycles + cycles_back f (run t d l + band t d)
   pub is : s ≡ piece f (band_in_cycle f (band_part f a t d l) cycle)
 
 -- ---- all of them
-pub data IsFieldShape (f : Frame) (a : Street) (t : Plan) (s : Shape) : Type 0 where
+pub data IsFieldShape (f : Frame) (a : Street) (t : TimingRecord) (s : Shape) : Type 0 where
   Piece : (d : Dir) (l : ℕ) → HasLink a l → IsPiece f a t d l s → IsFieldShape f a t s
   Ground : (d : Dir) (i : ℕ) → HasSignal a i → s ≡ ground f a d i → IsFieldShape f a t s
   Window : (d : Dir) (i : ℕ) → HasSignal a i → IsWindow f a t d i s → IsFieldShape f a t s

@@ -3,7 +3,7 @@ use Rattle.std.specs.Prelude.{ℕ, ◌+◌, ◌-◌, pos, List, [], ◌∷◌, �
 use Rattle.std.specs.List.{flat_map, range_with_len}
 use Rattle.std.specs.Fmt.{decimal}
 use Rattle.progression.specs.Street.{Street, count, signal_of}
-use Rattle.progression.specs.Plan.{Plan}
+use Rattle.progression.specs.TimingRecord.{TimingRecord}
 use Rattle.diagram_draw.specs.declared.paint.Paint.{Paint}
 use Rattle.diagram_draw.specs.declared.paint.Paint.TheVariants as paint
 use Rattle.diagram_draw.specs.declared.shape.Shape.{Shape}
@@ -50,21 +50,21 @@ key_shapes f =
     ++ (key_piece f 4100 paint.OutBand (key_top f + 170) (key_top f - 80) ∷ (key_piece f 6500 paint.InBand (key_top f - 80) (key_top f + 170) ∷ [])))
 
 -- ---- what is read aloud
-unfoldable pub signal_about : Street → Plan → ℕ → List ℕ
+unfoldable pub signal_about : Street → TimingRecord → ℕ → List ℕ
 signal_about a t i = codes "; signal " ++ (decimal i ++ (codes ", " ++ (escaped (signal_of a i).name ++ (codes ", offset " ++ (offset_text a t i ++ codes " s")))))
 
-abbrev pub signals_about : Street → Plan → List ℕ
+abbrev pub signals_about : Street → TimingRecord → List ℕ
 signals_about a t = flat_map (signal_about a t) (range_with_len 1 (count a))
 
-unfoldable pub about_text : Street → Plan → List ℕ
+unfoldable pub about_text : Street → TimingRecord → List ℕ
 about_text a t = facts_text a t ++ signals_about a t
 
 -- ---- the drawing of a timing
 -- the bands, and over them the bars
-unfoldable pub field_shapes : Frame → Street → Plan → List Shape
+unfoldable pub field_shapes : Frame → Street → TimingRecord → List Shape
 field_shapes f a t = all_pieces f a t ++ all_bars f a t
 
-abbrev pub drawn : Frame → Street → Plan → Drawing
+abbrev pub drawn : Frame → Street → TimingRecord → Drawing
 drawn f a t = record {
   frame = f;
   name_room = name_room a;
@@ -77,7 +77,7 @@ drawn f a t = record {
   words = captions f a t;
 }
 
-abbrev pub drawing : Street → Plan → Drawing
+abbrev pub drawing : Street → TimingRecord → Drawing
 drawing a t = drawn (frame_of a t) a t
 
 -- ---- its text

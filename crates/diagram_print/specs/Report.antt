@@ -4,7 +4,7 @@ use Rattle.std.specs.Fmt.{decimal, signed_decimal}
 use Rattle.rational_theory.specs.Rational.{ℚ}
 use Rattle.quantity_text.specs.Exact.{exact_spelling}
 use Rattle.progression.specs.Street.{Street, count}
-use Rattle.progression.specs.Plan.{Plan}
+use Rattle.progression.specs.TimingRecord.{TimingRecord}
 use Rattle.linear_theory.specs.Boxes.{Area, Span, Ranks}
 use Rattle.plan_text.specs.Families.{Table, ordinary}
 use Rattle.branch_and_bound.specs.declared.found.Site.{Site}
@@ -68,7 +68,7 @@ verdict_lines table signals timing bound NoTiming = codes "verdict none\n"
 verdict_lines table signals timing bound (Stopped stop) = open_lines table signals timing bound stop
 
 -- ---- the report
-abbrev pub timing_lines : Street → Plan → List ℕ
+abbrev pub timing_lines : Street → TimingRecord → List ℕ
 timing_lines a t = measure_lines a t ++ (signal_lines a t ++ (link_lines a t ++ (codes "diagram\n" ++ diagram_lines a t)))
 
 abbrev pub report_lines : Street → Found → List ℕ

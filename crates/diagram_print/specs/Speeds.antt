@@ -3,7 +3,7 @@ use Rattle.std.specs.Prelude.{ℕ, ◌-◌, List, ◌++◌, codes}
 use Rattle.std.specs.List.{flat_map, range_with_len}
 use Rattle.std.specs.Fmt.{decimal}
 use Rattle.progression.specs.Street.{Street, count}
-use Rattle.progression.specs.Plan.{Plan}
+use Rattle.progression.specs.TimingRecord.{TimingRecord}
 use Rattle.progression.specs.declared.parts.Dir.{Dir}
 use Rattle.progression.specs.declared.parts.Dir.TheVariants.{Outbound, Inbound}
 use Rattle.timing_measures.specs.Measures.{link_speed}
@@ -12,12 +12,12 @@ use Rattle.diagram_print.specs.Measures.{dir_name, measure_line}
 abbrev pub link_name : Dir → ℕ → List ℕ
 link_name d i = codes "link " ++ (decimal i ++ (codes " " ++ dir_name d))
 
-abbrev pub speed_line : Street → Plan → Dir → ℕ → List ℕ
+abbrev pub speed_line : Street → TimingRecord → Dir → ℕ → List ℕ
 speed_line a t d i = measure_line (link_name d i) (link_speed a t d i) 3
 
 -- outbound and inbound
-abbrev pub speed_lines : Street → Plan → ℕ → List ℕ
+abbrev pub speed_lines : Street → TimingRecord → ℕ → List ℕ
 speed_lines a t i = speed_line a t Outbound i ++ speed_line a t Inbound i
 
-abbrev pub link_lines : Street → Plan → List ℕ
+abbrev pub link_lines : Street → TimingRecord → List ℕ
 link_lines a t = flat_map (speed_lines a t) (range_with_len 1 (count a - 1))

@@ -1,6 +1,6 @@
 //! What is printed of a search: the verdict, why it stopped, the bound and the timing with its time-space diagram.
 //!
-//! Contracts see an `Artery` as a `Street` and a `Timing` as a `Plan`. `specs/Report` has the lines, each a function to
+//! Contracts see an `Artery` as a `Street` and a `Timing` as a `TimingRecord`. `specs/Report` has the lines, each a function to
 //! bytes, and `specs/Diagram` those of the diagram. Start with `report`. The other calls are for other lines that print the same:
 //! names of rows and columns, measures, and, with the lines of a timing of any kind, what a verdict says.
 //!

@@ -4,7 +4,7 @@ use Rattle.std.proofs.lemmas.List.{length-map}
 use Rattle.std.proofs.lemmas.Int.{ints}
 use Rattle.rational_theory.proofs.Integers.{neg_ℤ-*ℤ}
 use Rattle.progression.specs.Street.{Street, count, HasSignal}
-use Rattle.progression.specs.Plan.{Plan, cycle, common_red}
+use Rattle.progression.specs.TimingRecord.{TimingRecord, cycle, common_red}
 use Rattle.progression.specs.Green.{ahead, red_start, red_ticks}
 use Rattle.progression.specs.Columns.{numbered}
 use Rattle.progression.proofs.Remainders.{split_ℤ, quot_ℤ}
@@ -25,7 +25,7 @@ get-numbered zero i j f h = absurd (omega arith)
 get-numbered (suc n) i zero f h = ap (λ k. pos (f k)) (omega arith)
 get-numbered (suc n) i (suc j) f h = get-numbered n (i + 1) j f (omega arith) ∙ ap (λ k. pos (f k)) (omega arith)
 
-module _ (a : Street) (t : Plan) (c : 0 < cycle a t) (shape : length t.patterns ≡ count a) (x : ℤ) (b : ℕ) where
+module _ (a : Street) (t : TimingRecord) (c : 0 < cycle a t) (shape : length t.patterns ≡ count a) (x : ℤ) (b : ℕ) where
   pub half_plan_keeps : Keeps t 2 (half_plan a t x b)
   half_plan_keeps = record {
     grid = refl;

@@ -5,7 +5,7 @@ use Rattle.std.proofs.lemmas.Int.{ints}
 use Rattle.std.proofs.lemmas.Bool.{cases_eq}
 use Rattle.std.proofs.Math.Nat.{le_of_mul-le-mul_right}
 use Rattle.progression.specs.Street.{Street, signal_of, left_against}
-use Rattle.progression.specs.Plan.{Plan, pattern_of, common_red}
+use Rattle.progression.specs.TimingRecord.{TimingRecord, pattern_of, common_red}
 use Rattle.progression.specs.Green.{is_early, ahead}
 use Rattle.progression.specs.declared.parts.Dir.TheVariants.{Outbound, Inbound}
 use Rattle.mirror_theory.specs.EqualBands.{IsOneRed}
@@ -61,7 +61,7 @@ no_ticks x m e = rw e (omega arith)
 none_of : (x m : ℕ) → 1 ≤ m → x * m ≡ 0 → x ≡ 0
 none_of x m h e = same_factor x 0 m h (omega (arith, e))
 
-module _ (a : Street) (t : Plan) (i : ℕ) (u : 1 ≤ t.unit) (l : 1 ≤ pattern_of t i) (m : pattern_of t i ≤ 4) where
+module _ (a : Street) (t : TimingRecord) (i : ℕ) (u : 1 ≤ t.unit) (l : 1 ≤ pattern_of t i) (m : pattern_of t i ≤ 4) where
   one_red : left_against a Outbound i ≡ left_against a Inbound i → (left_against a Outbound i ≡ 0) ⊎ ¬ IsSplit (pattern_of t i) → IsOneRed a t i
   one_red e w =
       let ticks : left_against a Outbound i * t.unit ≡ left_against a Inbound i * t.unit = ap (λ k. k * t.unit) e in

@@ -1,7 +1,7 @@
 -- The numbers of the timing that is made, and what it is.
 use Rattle.std.proofs.Common.{◌≡◌, ℕ, ℤ, ◌+◌, ◌*◌, ◌<◌, ◌≤◌, ◌^◌, List, All, length, refl, ap, sym, ◌∙◌, arith}
 use Rattle.progression.specs.Street.{Street, count}
-use Rattle.progression.specs.Plan.{Plan, cycle}
+use Rattle.progression.specs.TimingRecord.{TimingRecord, cycle}
 use Rattle.artery_model.specs.Valid.{IsValid}
 use Rattle.time_space.specs.Timing.{IsTiming, plan_of}
 use Rattle.mirror_theory.specs.EqualBands.{IsEven, HasNone, IsHalfCycleBest}
@@ -16,7 +16,7 @@ use Rattle.half_integer.specs.Bands.{IsBestBand}
 use Rattle.half_integer.specs.Fitting.{FitsTwice, IsListTo, twice_at}
 use Rattle.half_integer.proofs.Lists.{twice_whole}
 
-pub made_known : (a : Street) (t : Plan) (x : ℤ) (b grid unit : ℕ) (patterns reds ro ri run_out run_in : List ℕ) (first_out first_in : ℕ)
+pub made_known : (a : Street) (t : TimingRecord) (x : ℤ) (b grid unit : ℕ) (patterns reds ro ri run_out run_in : List ℕ) (first_out first_in : ℕ)
     → grid ≡ t.grid → 1 ≤ grid → unit ≡ t.unit → 2 ≤ unit → FitsTwice a t
     → patterns ≡ t.patterns → All (λ p. (1 ≤ p) × (p ≤ 4)) patterns → 2 ≤ length patterns → length patterns ≤ 24 → length t.patterns ≡ count a
     → IsListTo (red_tick a t x) 1 (count a) reds
@@ -44,7 +44,7 @@ made_known a t x b grid unit patterns reds ro ri run_out run_in first_out first_
   band_in_most = bs;
 }
 
-pub made_is : (a : Street) (t : Plan) (x : ℤ) (b grid unit : ℕ) (patterns reds ro ri run_out run_in : List ℕ) (first_out first_in : ℕ)
+pub made_is : (a : Street) (t : TimingRecord) (x : ℤ) (b grid unit : ℕ) (patterns reds ro ri run_out run_in : List ℕ) (first_out first_in : ℕ)
     → grid ≡ t.grid → unit ≡ t.unit → patterns ≡ t.patterns → IsListTo (red_tick a t x) 1 (count a) reds
     → ro ≡ t.run_out → IsListTo (twice_at ro) 0 (length ro) run_out → ri ≡ t.run_in → IsListTo (twice_at ri) 0 (length ri) run_in
     → first_out ≡ first_out_tick a t x → first_in ≡ first_in_tick a t x b
@@ -52,10 +52,10 @@ pub made_is : (a : Street) (t : Plan) (x : ℤ) (b grid unit : ℕ) (patterns re
 made_is a t x b grid unit patterns reds ro ri run_out run_in first_out first_in g u p rs o rol i ril fo fi =
     rw (g, u, p, rs.value, twice_whole ro run_out rol, o, twice_whole ri run_in ril, i, fo, fi) refl
 
-pub half_none : (a : Street) (t : Plan) (unit : ℕ) → IsValid a → unit ≡ t.unit → 2 ≤ unit → IsEven a t → ((x : ℤ) → ¬ Runs a t x 0) → HasNone a t
+pub half_none : (a : Street) (t : TimingRecord) (unit : ℕ) → IsValid a → unit ≡ t.unit → 2 ≤ unit → IsEven a t → ((x : ℤ) → ¬ Runs a t x 0) → HasNone a t
 half_none a t unit v e u even h = none_runs a t v (omega (arith, e)) even h
 
-pub half_is : (a : Street) (t s : Plan) (unit : ℕ) (band : OutboundBand) → IsValid a → unit ≡ t.unit → 2 ≤ unit → IsEven a t → length t.patterns ≡ count a → IsBestBand a t band
+pub half_is : (a : Street) (t s : TimingRecord) (unit : ℕ) (band : OutboundBand) → IsValid a → unit ≡ t.unit → 2 ≤ unit → IsEven a t → length t.patterns ≡ count a → IsBestBand a t band
     → s ≡ half_plan a t band.first band.width → IsHalfCycleBest a t s
 half_is a t s unit band v e u even shape best is =
     let two : 2 ≤ t.unit = omega (arith, e) in

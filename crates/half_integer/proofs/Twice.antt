@@ -3,7 +3,7 @@ use Rattle.std.proofs.Common.{◌≡◌, ℕ, zero, suc, ◌*◌, ◌<◌, ◌�
 use Rattle.std.proofs.lemmas.Bool.{cases_lt}
 use Rattle.std.proofs.lemmas.Bool.Decides.{nat_tests}
 use Rattle.progression.specs.Street.{Street, count, HasSignal, HasLink}
-use Rattle.progression.specs.Plan.{Plan, cycle}
+use Rattle.progression.specs.TimingRecord.{TimingRecord, cycle}
 use Rattle.artery_model.specs.Valid.{IsValid}
 use Rattle.time_space.proofs.FinerGrids.{mul-le}
 use Rattle.mirror_theory.specs.EqualBands.{IsEven}
@@ -37,7 +37,7 @@ neither (Some n) y e = absurd (cc)
 le_same : (n : ℕ) → n ≤ n
 le_same n = omega arith
 
-pub fits_twice : (a : Street) (t : Plan) → IsValid a → first_too_fine a t ≡ None → FitsTwice a t
+pub fits_twice : (a : Street) (t : TimingRecord) → IsValid a → first_too_fine a t ≡ None → FitsTwice a t
 fits_twice a t v e =
     let one = neither (first_past (t.grid * 2 ∷ [])) _ e in
     let two = neither (first_past (map (λ n. n * 2) t.run_out)) _ one.1 in
@@ -53,7 +53,7 @@ fits_twice a t v e =
     }
 
 -- a timing without uneven signals and unequal links
-pub is_even : (a : Street) (t : Plan) → length t.patterns ≡ count a → All (λ p. (1 ≤ p) × (p ≤ 4)) t.patterns → 1 ≤ t.unit
+pub is_even : (a : Street) (t : TimingRecord) → length t.patterns ≡ count a → All (λ p. (1 ≤ p) × (p ≤ 4)) t.patterns → 1 ≤ t.unit
     → ((i : ℕ) → HasSignal a i → ¬ IsUneven a t i) → ((i : ℕ) → HasLink a i → IsEqualLink a t i) → IsEven a t
 is_even a t shape each u reds links = record {
   reds = λ i at.

@@ -1,7 +1,7 @@
 -- The timing that is built for a line and a band, number by number.
 use Rattle.std.specs.Prelude.{ℕ, ◌+◌, ◌*◌, map, ℤ, pos, ◌+ℤ◌}
 use Rattle.progression.specs.Street.{Street, count}
-use Rattle.progression.specs.Plan.{Plan, cycle}
+use Rattle.progression.specs.TimingRecord.{TimingRecord, cycle}
 use Rattle.progression.specs.Green.{since, ahead, red_ticks}
 use Rattle.progression.specs.Columns.{numbered}
 use Rattle.progression.specs.declared.parts.Dir.TheVariants.{Outbound}
@@ -9,17 +9,17 @@ use Rattle.mirror_theory.specs.Runs.{far}
 use Rattle.mirror_theory.specs.Built.{phase_of}
 
 -- from 0 to the cycle of the doubled grid: where the common red of signal i begins
-abbrev pub red_tick : Street → Plan → ℤ → ℕ → ℕ
+abbrev pub red_tick : Street → TimingRecord → ℤ → ℕ → ℕ
 red_tick a t x i = since (cycle a t + cycle a t) (pos (red_ticks a t Outbound i)) (pos (phase_of a t x i + ahead a t Outbound i * 2))
 
 -- and where the two lines begin
-abbrev pub first_out_tick : Street → Plan → ℤ → ℕ
+abbrev pub first_out_tick : Street → TimingRecord → ℤ → ℕ
 first_out_tick a t x = since (cycle a t + cycle a t) (pos 0) x
 
-abbrev pub first_in_tick : Street → Plan → ℤ → ℕ → ℕ
+abbrev pub first_in_tick : Street → TimingRecord → ℤ → ℕ → ℕ
 first_in_tick a t x b = since (cycle a t + cycle a t) (x +ℤ far a t (count a) +ℤ pos b) (pos 0)
 
-abbrev pub half_plan : Street → Plan → ℤ → ℕ → Plan
+abbrev pub half_plan : Street → TimingRecord → ℤ → ℕ → TimingRecord
 half_plan a t x b = record {
   grid = t.grid * 2;
   unit = t.unit * 2;

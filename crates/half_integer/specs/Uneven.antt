@@ -1,7 +1,7 @@
 -- The first signal whose reds aren't one interval, and the first link on which the directions take unequal times.
 use Rattle.std.specs.Prelude.{◌≡◌, ◌≢◌, ◌↔◌, ◌⊎◌, ℕ, ◌<◌, ◌≤◌}
 use Rattle.progression.specs.Street.{Street, HasSignal, HasLink, left_against}
-use Rattle.progression.specs.Plan.{Plan, pattern_of}
+use Rattle.progression.specs.TimingRecord.{TimingRecord, pattern_of}
 use Rattle.progression.specs.declared.parts.Dir.TheVariants.{Outbound, Inbound}
 use Rattle.mirror_theory.specs.EqualBands.{IsOneRed, travel}
 
@@ -10,24 +10,24 @@ abbrev pub IsSplit : ℕ → Type 0
 IsSplit pattern = (pattern ≡ 1) ⊎ (pattern ≡ 2)
 
 -- its left turns differ in length, or they are as long and go at different times
-abbrev pub IsUneven : Street → Plan → ℕ → Type 0
+abbrev pub IsUneven : Street → TimingRecord → ℕ → Type 0
 IsUneven a t i = (left_against a Outbound i ≢ left_against a Inbound i)
     ⊎ ((left_against a Outbound i ≡ left_against a Inbound i) × (left_against a Outbound i ≢ 0) × IsSplit (pattern_of t i))
 
 -- such signals are those whose reds aren't one interval
 abbrev pub UnevenIsTwoReds : Type 0
-UnevenIsTwoReds = (a : Street) (t : Plan) (i : ℕ) → 1 ≤ t.unit → 1 ≤ pattern_of t i → pattern_of t i ≤ 4 → IsUneven a t i ↔ ¬ IsOneRed a t i
+UnevenIsTwoReds = (a : Street) (t : TimingRecord) (i : ℕ) → 1 ≤ t.unit → 1 ≤ pattern_of t i → pattern_of t i ≤ 4 → IsUneven a t i ↔ ¬ IsOneRed a t i
 
-pub record IsFirstUneven (a : Street) (t : Plan) (i : ℕ) : Type 0 where
+pub record IsFirstUneven (a : Street) (t : TimingRecord) (i : ℕ) : Type 0 where
   pub there : HasSignal a i
   pub uneven : IsUneven a t i
   pub before : (k : ℕ) → 1 ≤ k → k < i → ¬ IsUneven a t k
 
 -- both directions take as long on the link
-abbrev pub IsEqualLink : Street → Plan → ℕ → Type 0
+abbrev pub IsEqualLink : Street → TimingRecord → ℕ → Type 0
 IsEqualLink a t i = travel a t Outbound i ≡ travel a t Inbound i
 
-pub record IsFirstUnequal (a : Street) (t : Plan) (i : ℕ) : Type 0 where
+pub record IsFirstUnequal (a : Street) (t : TimingRecord) (i : ℕ) : Type 0 where
   pub there : HasLink a i
   pub unequal : ¬ IsEqualLink a t i
   pub before : (k : ℕ) → 1 ≤ k → k < i → IsEqualLink a t k

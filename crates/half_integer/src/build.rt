@@ -2,7 +2,7 @@
 
 ghost use Rattle.std.specs.Prelude.{◌≡◌, ◌+◌, ◌*◌, ◌<◌, ◌≤◌, ◌^◌, ◌++◌, [], ◌∷◌, ℕ, ℤ, pos, All, length, map, IfOk, OnOk, MatchOption, unsigned_abs, ◌+ℤ◌};
 ghost use Rattle.progression.specs.Street.{count};
-ghost use Rattle.progression.specs.Plan.{cycle};
+ghost use Rattle.progression.specs.TimingRecord.{cycle};
 ghost use Rattle.progression.specs.Green.{ahead, red_ticks};
 ghost use Rattle.progression.specs.Columns.{numbered};
 ghost use Rattle.progression.specs.declared.parts.Dir.TheVariants.{Outbound, Inbound};

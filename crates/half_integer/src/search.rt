@@ -2,7 +2,7 @@
 
 ghost use Rattle.std.specs.Prelude.{◌≡◌, ◌≢◌, ◌+◌, ◌-◌, ◌*◌, ◌<◌, ◌≤◌, ◌^◌, ℕ, ℤ, pos, min, max, length, MatchOption, IfSome, unsigned_abs, ◌+ℤ◌, ◌-ℤ◌};
 ghost use Rattle.progression.specs.Street.{count, HasSignal};
-ghost use Rattle.progression.specs.Plan.{cycle};
+ghost use Rattle.progression.specs.TimingRecord.{cycle};
 ghost use Rattle.progression.specs.Green.{red_ticks};
 ghost use Rattle.progression.specs.declared.parts.Dir.TheVariants.{Outbound, Inbound};
 ghost use Rattle.artery_model.specs.Bounds.{most_signals};

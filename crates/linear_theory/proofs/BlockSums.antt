@@ -5,7 +5,7 @@ use Rattle.rational_theory.specs.Rational.{ℚ, whole, ◌+ℚ◌, ◌-ℚ◌}
 use Rattle.rational_theory.proofs.Arithmetic.{IsRatio, rebase, same_ratio, whole_ratio}
 use Rattle.rational_theory.proofs.Shares.{joined_ticks, less_ticks}
 use Rattle.progression.specs.Street.{Street, count, signal_of, clearance, allows, HasLink}
-use Rattle.progression.specs.Plan.{Plan, cycle, pattern_of, run}
+use Rattle.progression.specs.TimingRecord.{TimingRecord, cycle, pattern_of, run}
 use Rattle.progression.specs.Columns.{WaitOf, RunOf, ShiftOf, wait, shift, point}
 use Rattle.progression.specs.declared.parts.Dir.TheVariants.{Outbound, Inbound}
 use Rattle.linear_theory.specs.Blocks.{block_of, red_here, clear_next, clear_here, block_sum}
@@ -14,14 +14,14 @@ use Rattle.linear_theory.proofs.WholeBlocks.{block_plus, block_minus, turns_betw
 use Rattle.linear_theory.proofs.Shares.{cycle_above, ticked, parted}
 
 -- the block sum of a timing in shares of the cycle
-abbrev pub block_shares : Street → Plan → ℕ → ℚ
+abbrev pub block_shares : Street → TimingRecord → ℕ → ℚ
 block_shares a t i =
     block_of (share a t (wait a t Outbound i)) (share a t (wait a t Inbound i)) (share a t (wait a t Outbound (i + 1))) (share a t (wait a t Inbound (i + 1)))
     (share a t (run t Outbound i)) (share a t (run t Inbound i)) (share a t (shift a t i * t.unit)) (share a t (shift a t (i + 1) * t.unit))
     (red_here a i) (red_here a (i + 1)) (clear_next a i) (clear_here a i)
 
 -- it is the block sum of the timing's point
-pub block_sum_shares : (a : Street) (t : Plan) (i : ℕ) → HasLink a i → block_sum a (point a t) i ≡ block_shares a t i
+pub block_sum_shares : (a : Street) (t : TimingRecord) (i : ℕ) → HasLink a i → block_sum a (point a t) i ≡ block_shares a t i
 block_sum_shares a t i h =
     let k = h.0 in let m = h.1 in
     let l : 1 ≤ count a = omega arith in
@@ -38,7 +38,7 @@ block_sum_shares a t i h =
       point_at a t (ShiftOf (i + 1)) l next,
     ) refl
 
-module _ (a : Street) (t : Plan) (some_parts : 0 < a.head.parts) (some_unit : 0 < t.unit) where
+module _ (a : Street) (t : TimingRecord) (some_parts : 0 < a.head.parts) (some_unit : 0 < t.unit) where
   -- sums and differences over the cycle
   plus : {x y : ℚ} {p n q m : ℕ} → IsRatio x p n (cycle a t) → IsRatio y q m (cycle a t) → IsRatio (x +ℚ y) (p + q) (n + m) (cycle a t)
   plus {x} {y} {p} {n} {q} {m} k l = joined_ticks (cycle a t) (cycle_above a t some_parts some_unit) x y p n q m k l

@@ -9,7 +9,7 @@ use Rattle.rational_theory.specs.Rows.{dot, AllNonNegative, IsMet}
 use Rattle.rational_theory.proofs.Rows.{≤ℚ-sum}
 use Rattle.progression.specs.Street.{Street, count}
 use Rattle.progression.specs.Speeds.{number}
-use Rattle.progression.specs.Plan.{Plan, cycle}
+use Rattle.progression.specs.TimingRecord.{TimingRecord, cycle}
 use Rattle.progression.specs.Good.{Good}
 use Rattle.progression.specs.Best.{weighted_band}
 use Rattle.progression.specs.Columns.{Column, columns, ticks, point}
@@ -52,11 +52,11 @@ module _ (width : ℕ) (x : List ℚ) (w : length x ≡ width) (p : AllNonNegati
   refuted r m c = <ℚ_not-≤ℚ _ _ c.bound (≤ℚ_trans _ _ _ (dot_grows r.coefs [] x (λ j l. c.coefs j (omega arith)) p) m.met)
 
 -- ---- the point of a timing
-shares_not_negative : (a : Street) (t : Plan) → ((k : ℕ) → number 0 ≤ℚ share a t k) → (cs : List Column) → AllNonNegative (map (λ c. share a t (ticks a t c)) cs)
+shares_not_negative : (a : Street) (t : TimingRecord) → ((k : ℕ) → number 0 ≤ℚ share a t k) → (cs : List Column) → AllNonNegative (map (λ c. share a t (ticks a t c)) cs)
 shares_not_negative a t h [] = tt
 shares_not_negative a t h (c ∷ cs) = (h (ticks a t c), shares_not_negative a t h cs)
 
-module _ (a : Street) (t : Plan) (h : IsStreet a) (g : Good a t) where
+module _ (a : Street) (t : TimingRecord) (h : IsStreet a) (g : Good a t) where
   -- no column is below 0
   pub point_not_negative : AllNonNegative (point a t)
   point_not_negative = shares_not_negative a t (λ k. share_not_negative a t (parts_above a h) (unit_above a t g) k) (columns (count a))

@@ -7,7 +7,7 @@ use Rattle.rational_theory.proofs.Linear.{linear}
 use Rattle.rational_theory.specs.Rows.{IsMet}
 use Rattle.progression.specs.Street.{Street, count, HasSignal, HasLink}
 use Rattle.progression.specs.Speeds.{number}
-use Rattle.progression.specs.Plan.{Plan, run}
+use Rattle.progression.specs.TimingRecord.{TimingRecord, run}
 use Rattle.progression.specs.Columns.{wait, shift, point}
 use Rattle.progression.specs.declared.parts.Dir.TheVariants.{Outbound, Inbound}
 use Rattle.linear_theory.specs.Shifts.{shifts_of, shift_at}
@@ -31,7 +31,7 @@ block_in_order a i k p m =
     let next : (1 ≤ i + 1) × (i + 1 ≤ count a) = (omega arith, omega arith) in
     (omega arith, here, (omega arith, next, (omega arith, here, (omega arith, next, (omega arith, k, (omega arith, k, (omega arith, here, (omega arith, next, tt))))))))
 
-module _ (a : Street) (box : Area) (t : Plan) (c : Counts a box t) where
+module _ (a : Street) (box : Area) (t : TimingRecord) (c : Counts a box t) where
   module _ (i : ℕ) (k : HasLink a i) where
     -- the block sum in shares is the box's whole number
     sum_is : block_shares a t i ≡ whole (c.inside.loops i k).number

@@ -10,7 +10,7 @@ use Rattle.rational_theory.proofs.Linear.{product_not_negative}
 use Rattle.rational_theory.proofs.Shares.{≤ℚ_cancel}
 use Rattle.progression.specs.Street.{Street, HasLink, distance}
 use Rattle.progression.specs.Speeds.{number, seconds, run_low, run_high}
-use Rattle.progression.specs.Plan.{Plan, cycle, run}
+use Rattle.progression.specs.TimingRecord.{TimingRecord, cycle, run}
 use Rattle.progression.specs.Good.{Good}
 use Rattle.progression.specs.declared.parts.Dir.{Dir}
 use Rattle.progression.specs.declared.parts.Units.{Units}
@@ -48,7 +48,7 @@ seconds_not_negative Metric d v h =
 seconds_not_negative English d v h =
     product_not_negative _ _ (number_not_negative (15 * d)) (inverse_not_negative _ (product_above (number 22) v (number_above 22 (omega arith)) h))
 
-module _ (a : Street) (t : Plan) (h : IsStreet a) (g : Good a t) where
+module _ (a : Street) (t : TimingRecord) (h : IsStreet a) (g : Good a t) where
   -- the cycle is above 0
   cycle_some : number 0 <ℚ number (cycle a t)
   cycle_some = number_above (cycle a t) (cycle_above a t (parts_above a h) (unit_above a t g))

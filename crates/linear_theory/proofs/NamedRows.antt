@@ -5,7 +5,7 @@ use Rattle.rational_theory.specs.Rational.{ℚ}
 use Rattle.rational_theory.specs.Rows.{IsMet}
 use Rattle.progression.specs.Street.{Street}
 use Rattle.progression.specs.Speeds.{change}
-use Rattle.progression.specs.Plan.{Plan}
+use Rattle.progression.specs.TimingRecord.{TimingRecord}
 use Rattle.progression.specs.Columns.{point}
 use Rattle.progression.specs.declared.parts.Pair.{Pair}
 use Rattle.linear_theory.specs.Boxes.{Area}
@@ -15,7 +15,7 @@ use Rattle.linear_theory.specs.Counts.{Counts, IsGoodPoint}
 use Rattle.linear_theory.proofs.RowLaws.{wait_law, fast_law, slow_law, rise_law, drop_law, cycle_low_law, cycle_high_law, ratio_law, least_law, equal_low_law, equal_high_law}
 use Rattle.linear_theory.proofs.BoxRowLaws.{loop_low_law, loop_high_law, turn_low_law, turn_high_law}
 
-module _ (a : Street) (box : Area) (t : Plan) (c : Counts a box t) where
+module _ (a : Street) (box : Area) (t : TimingRecord) (c : Counts a box t) where
   -- where limits are given, the row is theirs
   limits_law : (f : Pair → Form) (o : Option Pair) → IsSome o → ((m : Pair) → o ≡ Some m → IsMet (point a t) (line a (f m))) → IsMet (point a t) (line a (limits_form f o))
   limits_law f None g h = absurd (true≢false (sym g))

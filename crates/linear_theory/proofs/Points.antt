@@ -4,14 +4,14 @@ use Rattle.std.proofs.lemmas.List.{length-map, get_or-map, get_or_append_left, g
 use Rattle.rational_theory.specs.Rational.{ℚ, ◌/ℚ◌}
 use Rattle.progression.specs.Street.{Street, count}
 use Rattle.progression.specs.Speeds.{number}
-use Rattle.progression.specs.Plan.{Plan, cycle}
+use Rattle.progression.specs.TimingRecord.{TimingRecord, cycle}
 use Rattle.progression.specs.Columns.{Column, BandOf, Frequency, WaitOf, RunOf, ShiftOf, numbered, columns, ticks, point}
 use Rattle.progression.specs.declared.parts.Dir.TheVariants.{Outbound, Inbound}
 use Rattle.linear_theory.specs.Places.{place, width, value_at}
 use Rattle.linear_theory.proofs.Places.{IsColumn}
 
 -- some ticks as a fraction of the cycle
-abbrev pub share : Street → Plan → ℕ → ℚ
+abbrev pub share : Street → TimingRecord → ℕ → ℚ
 share a t k = number k /ℚ number (cycle a t)
 
 -- ---- the list of columns
@@ -89,11 +89,11 @@ place_below n (ShiftOf i) l h = omega (arith, h.1)
 
 -- ---- the point
 -- in each column it has the column's ticks over the cycle
-pub point_at : (a : Street) (t : Plan) (c : Column) → 1 ≤ count a → IsColumn (count a) c → value_at (count a) (point a t) c ≡ share a t (ticks a t c)
+pub point_at : (a : Street) (t : TimingRecord) (c : Column) → 1 ≤ count a → IsColumn (count a) c → value_at (count a) (point a t) c ≡ share a t (ticks a t c)
 point_at a t c l h =
     get_or-map (λ e. share a t (ticks a t e)) (columns (count a)) (place (count a) c) Frequency (number 0) (omega (arith, length-columns (count a) l, place_below (count a) c l h))
     ∙ ap (λ e. share a t (ticks a t e)) (column_there (count a) c Frequency h)
 
 -- it is as long as the width
-pub point_width : (a : Street) (t : Plan) → 1 ≤ count a → length (point a t) ≡ width (count a)
+pub point_width : (a : Street) (t : TimingRecord) → 1 ≤ count a → length (point a t) ≡ width (count a)
 point_width a t l = length-map (columns (count a)) (λ c. share a t (ticks a t c)) ∙ length-columns (count a) l

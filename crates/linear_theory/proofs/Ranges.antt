@@ -6,7 +6,7 @@ use Rattle.rational_theory.proofs.Linear.{linear}
 use Rattle.rational_theory.proofs.Shares.{one_cycle, less_ticks, joined_ticks, at_most_ticks}
 use Rattle.std.proofs.Common.{pos}
 use Rattle.progression.specs.Street.{Street, count, HasSignal, red_parts}
-use Rattle.progression.specs.Plan.{Plan, cycle, band}
+use Rattle.progression.specs.TimingRecord.{TimingRecord, cycle, band}
 use Rattle.progression.specs.Green.{BandIsGreen, red_start, red_ticks}
 use Rattle.progression.specs.Lines.{line_at}
 use Rattle.progression.specs.Good.{Good}
@@ -28,7 +28,7 @@ pub parts_above : (a : Street) → IsStreet a → 0 < a.head.parts
 parts_above a h = let g = h.green Outbound 1 (omega arith, (some_signal a h)) in omega arith
 
 -- and a timing some units in a part
-pub unit_above : (a : Street) (t : Plan) → Good a t → 0 < t.unit
+pub unit_above : (a : Street) (t : TimingRecord) → Good a t → 0 < t.unit
 unit_above a t g = let p = g.base.plan in let u = p.unit in omega arith
 
 -- products keep the order
@@ -39,7 +39,7 @@ below : {a b c : ℕ} → a < b → 0 < c → a * c < b * c
 below {a} {b} {c} h k = grind arith
 
 -- ---- reds, of any timing with two units or more in a part
-module _ (a : Street) (t : Plan) (h : IsStreet a) (u : 2 ≤ t.unit) where
+module _ (a : Street) (t : TimingRecord) (h : IsStreet a) (u : 2 ≤ t.unit) where
   -- each red is two ticks long or more
   pub red_some : (d : Dir) (i : ℕ) → HasSignal a i → 2 ≤ red_ticks a t d i
   red_some d i s = let e : 1 * 2 ≤ red_parts a d i * t.unit = mul-le (h.red d i s) u in omega (arith, e)
@@ -49,7 +49,7 @@ module _ (a : Street) (t : Plan) (h : IsStreet a) (u : 2 ≤ t.unit) where
   red_less d i s = below (h.green d i s) (omega arith)
 
 -- ---- bands and waits, of good timings
-module _ (a : Street) (t : Plan) (h : IsStreet a) (g : Good a t) where
+module _ (a : Street) (t : TimingRecord) (h : IsStreet a) (g : Good a t) where
   -- the bands are green at each signal, by its number
   green_at : (d : Dir) (i : ℕ) → HasSignal a i → BandIsGreen (cycle a t) (red_start a t d i) (red_ticks a t d i) (line_at a t d i) (band t d)
   green_at Outbound i s =

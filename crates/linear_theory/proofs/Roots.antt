@@ -5,7 +5,7 @@ use Rattle.rational_theory.proofs.Floor.{floor_is, ceil_is}
 use Rattle.rational_theory.proofs.Ring.{at}
 use Rattle.rational_theory.proofs.Linear.{linear}
 use Rattle.progression.specs.Street.{Street, HasSignal, HasLink}
-use Rattle.progression.specs.Plan.{Plan, pattern_of}
+use Rattle.progression.specs.TimingRecord.{TimingRecord, pattern_of}
 use Rattle.progression.specs.Good.{Good}
 use Rattle.progression.specs.Columns.{shift}
 use Rattle.progression.specs.declared.parts.Dir.TheVariants.{Outbound, Inbound}
@@ -33,7 +33,7 @@ block_grows w w' v v' y y' s s' r r' k k' W W' V V' Y Y' S S' h1 h2 h3 h4 h5 h6 
     (w ∷ w' ∷ v ∷ v' ∷ y ∷ y' ∷ s ∷ s' ∷ W ∷ W' ∷ V ∷ V' ∷ Y ∷ Y' ∷ S ∷ S' ∷ r ∷ r' ∷ k ∷ k' ∷ [])
     (h1, (h2, (h3, (h4, (h5, (h6, (h7, (h8, tt)))))))) refl
 
-module _ (a : Street) (t : Plan) (h : IsStreet a) (g : Good a t) where
+module _ (a : Street) (t : TimingRecord) (h : IsStreet a) (g : Good a t) where
   -- ---- shifts
   -- the shift of a timing is at least the least allowed one
   shift_low : (i : ℕ) → HasSignal a i → shift_least a i ≤ℚ share a t (shift a t i * t.unit)

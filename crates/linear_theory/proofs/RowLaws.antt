@@ -11,7 +11,7 @@ use Rattle.rational_theory.proofs.Linear.{linear}
 use Rattle.rational_theory.specs.Rows.{IsMet}
 use Rattle.progression.specs.Street.{Street, distance, HasSignal, HasLink}
 use Rattle.progression.specs.Speeds.{number, run_low, run_high, change}
-use Rattle.progression.specs.Plan.{Plan, cycle, run}
+use Rattle.progression.specs.TimingRecord.{TimingRecord, cycle, run}
 use Rattle.progression.specs.Good.{Good}
 use Rattle.progression.specs.Columns.{wait, point}
 use Rattle.progression.specs.declared.parts.Pair.{Pair}
@@ -31,7 +31,7 @@ use Rattle.linear_theory.proofs.Ratios.{ratio_below, ratio_above}
 some_holds : {X : Type 0} (P : X → Type 0) (o : Option X) (x : X) → o ≡ Some x → IfSome o P → P x
 some_holds P o x e h = subst (λ o. IfSome o P) e h
 
-module _ (a : Street) (t : Plan) (h : IsStreet a) (g : Good a t) where
+module _ (a : Street) (t : TimingRecord) (h : IsStreet a) (g : Good a t) where
   -- a wait and its band fit into the green
   pub wait_law : (d : Dir) (i : ℕ) → HasSignal a i → IsMet (point a t) (line a (wait_form a d i))
   wait_law Outbound i s =

@@ -4,7 +4,7 @@ use Rattle.rational_theory.specs.Rational.{whole, over, inverse_ℚ, ◌/ℚ◌,
 use Rattle.rational_theory.proofs.Arithmetic.{IsRatio, over_ratio, rebase, product_ratio, whole_ratio, same_ratio, ≤ℚ_in, *ℚ-zero}
 use Rattle.progression.specs.Street.{Street}
 use Rattle.progression.specs.Speeds.{number}
-use Rattle.progression.specs.Plan.{Plan, cycle}
+use Rattle.progression.specs.TimingRecord.{TimingRecord, cycle}
 use Rattle.linear_theory.specs.Blocks.{part}
 use Rattle.linear_theory.proofs.Points.{share}
 
@@ -32,7 +32,7 @@ number_over n (suc d) = same_ratio _ _ _ _ _ _ _ _ (quotient_ratio n (suc d) (ze
 pub part_ratio : (a : Street) → 0 < a.head.parts → (r : ℕ) → IsRatio (part a r) r 0 a.head.parts
 part_ratio a h r = quotient_ratio r a.head.parts h
 
-module _ (a : Street) (t : Plan) (p : 0 < a.head.parts) (u : 0 < t.unit) where
+module _ (a : Street) (t : TimingRecord) (p : 0 < a.head.parts) (u : 0 < t.unit) where
   -- the cycle has ticks
   pub cycle_above : 0 < cycle a t
   cycle_above = mul-pos p u

@@ -5,7 +5,7 @@ use Rattle.rational_theory.specs.Rows as maths
 use Rattle.rational_theory.specs.Rows.{dot}
 use Rattle.progression.specs.Street.{Street, count}
 use Rattle.progression.specs.Speeds.{number}
-use Rattle.progression.specs.Plan.{Plan}
+use Rattle.progression.specs.TimingRecord.{TimingRecord}
 use Rattle.progression.specs.Columns.{ticks, point}
 use Rattle.linear_theory.specs.Places.{place, width}
 use Rattle.linear_theory.proofs.Places.{IsColumn}
@@ -28,7 +28,7 @@ abbrev pub total : ℕ → List Entry → List ℚ → ℚ
 total n es x = cells_sum x (places_of n es)
 
 -- the sum of the entries at the point of a timing
-abbrev pub shares_of : Street → Plan → List Entry → ℚ
+abbrev pub shares_of : Street → TimingRecord → List Entry → ℚ
 shares_of a t [] = number 0
 shares_of a t (e ∷ es) = e.1 *ℚ share a t (ticks a t e.0) +ℚ shares_of a t es
 
@@ -41,14 +41,14 @@ pub line_total : (a : Street) (f : Form) (x : List ℚ) → 1 ≤ count a → In
 line_total a f x h r = placed_total (width (count a)) (places_of (count a) f.entries) f.bound x (entries_rise (count a) 0 f.entries h r)
 
 -- at the point of a timing each entry counts its share
-total_shares : (a : Street) (t : Plan) (low : ℕ) (es : List Entry) → 1 ≤ count a → InOrder (count a) low es → total (count a) es (point a t) ≡ shares_of a t es
+total_shares : (a : Street) (t : TimingRecord) (low : ℕ) (es : List Entry) → 1 ≤ count a → InOrder (count a) low es → total (count a) es (point a t) ≡ shares_of a t es
 total_shares a t low [] h r = refl
 total_shares a t low (e ∷ es) h r = ap₂ (λ u v. e.1 *ℚ u +ℚ v) (point_at a t e.0 h r.1) (total_shares a t (place (count a) e.0 + 1) es h r.2)
 
 -- the sum of a row at the point of a timing
-pub line_value : (a : Street) (t : Plan) (f : Form) → 1 ≤ count a → InOrder (count a) 0 f.entries → dot (line a f).coefs (point a t) ≡ shares_of a t f.entries
+pub line_value : (a : Street) (t : TimingRecord) (f : Form) → 1 ≤ count a → InOrder (count a) 0 f.entries → dot (line a f).coefs (point a t) ≡ shares_of a t f.entries
 line_value a t f h r = line_total a f (point a t) h r ∙ total_shares a t 0 f.entries h r
 
 -- the point of a timing meets a row where its entries' shares do
-pub line_met : (a : Street) (t : Plan) (f : Form) → 1 ≤ count a → InOrder (count a) 0 f.entries → shares_of a t f.entries ≤ℚ f.bound → maths.IsMet (point a t) (line a f)
+pub line_met : (a : Street) (t : TimingRecord) (f : Form) → 1 ≤ count a → InOrder (count a) 0 f.entries → shares_of a t f.entries ≤ℚ f.bound → maths.IsMet (point a t) (line a f)
 line_met a t f h r l = record { met = rw (line_value a t f h r) l }

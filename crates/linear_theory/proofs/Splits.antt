@@ -6,7 +6,7 @@ use Rattle.std.proofs.lemmas.Bool.{cases_eq}
 use Rattle.rational_theory.specs.Rational.{whole}
 use Rattle.rational_theory.proofs.Order.{≤ℤ_whole, ≤ℚ_refl}
 use Rattle.progression.specs.Street.{Street, HasLink}
-use Rattle.progression.specs.Plan.{Plan}
+use Rattle.progression.specs.TimingRecord.{TimingRecord}
 use Rattle.linear_theory.specs.Boxes.{Area, Span, IsBoxOf, InBox, LoopIn, loop_span, no_span, with_loop, low_loop, high_loop, IsLoopPlace}
 
 -- the span that was put for link i
@@ -24,7 +24,7 @@ whole_once m n e =
     let k = ≤ℤ_whole n m (rw e (≤ℚ_refl (whole n))) in
     omega (arith, ints)
 
-module _ (a : Street) (box : Area) (t : Plan) (i : ℕ) (k : HasLink a i) (l : i - 1 < length box.loops) (s : Span) where
+module _ (a : Street) (box : Area) (t : TimingRecord) (i : ℕ) (k : HasLink a i) (l : i - 1 < length box.loops) (s : Span) where
   -- a timing of the box lies in the box with another span, where its block sum does
   loop_changed : InBox a box t → (m : LoopIn a box t i) → s.least ≤ℤ m.number → m.number ≤ℤ s.most → InBox a (with_loop box i s) t
   loop_changed h m low high = record {
@@ -59,7 +59,7 @@ place_link a box i at b p = let n = b.loops_count in let m = p.1 in (p.0, omega 
 pub loop_inside : (box : Area) (i : ℕ) (at : ℤ) → IsLoopPlace box i at → i - 1 < length box.loops
 loop_inside box i at p = let k = p.0 in let m = p.1 in omega arith
 
-module _ (a : Street) (box : Area) (t : Plan) (i : ℕ) (at : ℤ) (b : IsBoxOf a box) (p : IsLoopPlace box i at) where
+module _ (a : Street) (box : Area) (t : TimingRecord) (i : ℕ) (at : ℤ) (b : IsBoxOf a box) (p : IsLoopPlace box i at) where
   -- the place's link and its span
   link : HasLink a i
   link = place_link a box i at b p

@@ -5,7 +5,7 @@ use Rattle.rational_theory.specs.Rows as maths
 use Rattle.rational_theory.proofs.Rows.{combine_met}
 use Rattle.rational_theory.specs.Rows.{AllMet, AllNonNegative, IsMet}
 use Rattle.progression.specs.Street.{Street}
-use Rattle.progression.specs.Plan.{Plan}
+use Rattle.progression.specs.TimingRecord.{TimingRecord}
 use Rattle.progression.specs.Good.{Good}
 use Rattle.progression.specs.Best.{weighted_band, Bounded, NoTiming}
 use Rattle.progression.specs.Columns.{point}
@@ -24,7 +24,7 @@ use Rattle.linear_theory.proofs.RootBoxes.{root_boxed}
 use Rattle.linear_theory.proofs.Bounds.{covers_law, refutes_law}
 
 -- ---- trees of any leaves
-module _ (a : Street) (t : Plan) {L : Type 0} (P : Area → L → Type 0) (Q : Type 0)
+module _ (a : Street) (t : TimingRecord) {L : Type 0} (P : Area → L → Type 0) (Q : Type 0)
     (leaf : (box : Area) → IsBoxOf a box → InBox a box t → (l : L) → P box l → Q) where
   -- what each leaf proves of a timing of its box, the tree proves of a timing of the whole
   pub tree_law : (tree : BoxTree L) (box : Area) → IsBoxOf a box → InBox a box t → AcceptedBy P box tree → Q
@@ -60,7 +60,7 @@ module _ {N : Type 0} (row : N → maths.Row) (has : N → Type 0) (x : List ℚ
 
 -- ---- those of an artery's rows
 -- the point of a good timing of the box meets a leaf's sum
-pub leaf_met : (a : Street) (box : Area) (t : Plan) → Counts a box t → (ws : List Weight) → AreWeights a ws → IsMet (point a t) (leaf_sum a box ws)
+pub leaf_met : (a : Street) (box : Area) (t : TimingRecord) → Counts a box t → (ws : List Weight) → AreWeights a ws → IsMet (point a t) (leaf_sum a box ws)
 leaf_met a box t c ws h = sum_met (λ n. line a (form_of a box n)) (HasRow a) (point a t) (row_law a box t c) ws h
 
 -- where every leaf covers the goal with the value, or refutes, no good timing has a greater weighted band

@@ -3,7 +3,7 @@ use Rattle.std.proofs.Common.{◌≡◌, ℕ, ◌+◌, ◌-◌, ◌<◌, ◌≤�
 use Rattle.std.proofs.lemmas.List.{get_or-set_other, get_or-set_same}
 use Rattle.std.proofs.lemmas.Bool.{cases_eq, cases_lt}
 use Rattle.progression.specs.Street.{Street, HasSignal}
-use Rattle.progression.specs.Plan.{Plan}
+use Rattle.progression.specs.TimingRecord.{TimingRecord}
 use Rattle.linear_theory.specs.Shifts.{shifts_of}
 use Rattle.linear_theory.specs.Boxes.{Area, Ranks, IsBoxOf, InBox, TurnIn, turn_span, no_ranks, with_turn, low_turn, high_turn, IsTurnPlace}
 use Rattle.linear_theory.proofs.RankedShifts.{shifts_ascend, rising_strictly}
@@ -16,7 +16,7 @@ turn_put box i j s l e = rw e (get_or-set_same box.turns (i - 1) s no_ranks l)
 pub turn_kept : (box : Area) (i j : ℕ) (s : Ranks) → 1 ≤ i → 1 ≤ j → ¬ (j ≡ i) → turn_span (with_turn box i s) j ≡ turn_span box j
 turn_kept box i j s h k n = get_or-set_other box.turns (i - 1) (j - 1) s no_ranks (λ e. n (omega arith))
 
-module _ (a : Street) (box : Area) (t : Plan) (i : ℕ) (k : HasSignal a i) (l : i - 1 < length box.turns) (s : Ranks) where
+module _ (a : Street) (box : Area) (t : TimingRecord) (i : ℕ) (k : HasSignal a i) (l : i - 1 < length box.turns) (s : Ranks) where
   -- a timing of the box lies in the box with other ranks, where its rank does
   turn_changed : InBox a box t → (m : TurnIn a box t i) → s.least ≤ m.rank → m.rank ≤ s.most → InBox a (with_turn box i s) t
   turn_changed h m low high = record {
@@ -51,7 +51,7 @@ place_signal a box i rank b p = let n = b.turns_count in let m = p.1 in (p.0, om
 pub turn_inside : (box : Area) (i rank : ℕ) → IsTurnPlace box i rank → i - 1 < length box.turns
 turn_inside box i rank p = let k = p.0 in let m = p.1 in omega arith
 
-module _ (a : Street) (box : Area) (t : Plan) (i rank : ℕ) (b : IsBoxOf a box) (p : IsTurnPlace box i rank) where
+module _ (a : Street) (box : Area) (t : TimingRecord) (i rank : ℕ) (b : IsBoxOf a box) (p : IsTurnPlace box i rank) where
   -- the place's signal and its ranks
   signal : HasSignal a i
   signal = place_signal a box i rank b p

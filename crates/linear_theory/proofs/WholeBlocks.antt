@@ -5,7 +5,7 @@ use Rattle.std.proofs.lemmas.Int.{ints}
 use Rattle.std.proofs.lemmas.Bool.Decides.{nat_tests}
 use Rattle.rational_theory.proofs.Integers.{+ℤ-*ℤ, neg_ℤ-*ℤ}
 use Rattle.progression.specs.Street.{Street, count, signal_of, clearance, allows}
-use Rattle.progression.specs.Plan.{Plan, cycle, pattern_of, common_red, run}
+use Rattle.progression.specs.TimingRecord.{TimingRecord, cycle, pattern_of, common_red, run}
 use Rattle.progression.specs.Green.{is_early, red_start, red_ticks}
 use Rattle.progression.specs.Lines.{crossing, line_at}
 use Rattle.progression.specs.Columns.{shift, wait}
@@ -15,7 +15,7 @@ use Rattle.progression.proofs.Crossings.{crossing_next}
 
 -- ---- the lines
 -- the outbound line from signal i to the next
-pub line_out : (a : Street) (t : Plan) (i : ℕ) → 1 ≤ i → line_at a t Outbound (i + 1) ≡ line_at a t Outbound i +ℤ (pos (run t Outbound i) -ℤ pos (clearance a Outbound (i + 1) * t.unit))
+pub line_out : (a : Street) (t : TimingRecord) (i : ℕ) → 1 ≤ i → line_at a t Outbound (i + 1) ≡ line_at a t Outbound i +ℤ (pos (run t Outbound i) -ℤ pos (clearance a Outbound (i + 1) * t.unit))
 line_out a t i h =
     let e : i + 1 - 1 ≡ i - 1 + 1 = omega arith in
     let f : i - 1 + 1 ≡ i = omega arith in
@@ -23,7 +23,7 @@ line_out a t i h =
     ∙ ap (λ k. crossing a t Outbound (i - 1) +ℤ (pos (run t Outbound k) -ℤ pos (clearance a Outbound (k + 1) * t.unit))) f
 
 -- the inbound line from the next signal to signal i
-pub line_in : (a : Street) (t : Plan) (i : ℕ) → 1 ≤ i → i < count a → line_at a t Inbound i ≡ line_at a t Inbound (i + 1) +ℤ (pos (run t Inbound i) -ℤ pos (clearance a Inbound i * t.unit))
+pub line_in : (a : Street) (t : TimingRecord) (i : ℕ) → 1 ≤ i → i < count a → line_at a t Inbound i ≡ line_at a t Inbound (i + 1) +ℤ (pos (run t Inbound i) -ℤ pos (clearance a Inbound i * t.unit))
 line_in a t i h l =
     let e : count a - i ≡ count a - (i + 1) + 1 = omega arith in
     let f : count a - 1 - (count a - (i + 1)) ≡ i = omega arith in
@@ -58,20 +58,20 @@ allowed_range a i p h =
     (grind (arith, nat_tests), grind (arith, nat_tests))
 
 -- at signal i of a timing
-pub ends : (a : Street) (t : Plan) (i : ℕ) → IsTrue (allows a i (pattern_of t i))
+pub ends : (a : Street) (t : TimingRecord) (i : ℕ) → IsTrue (allows a i (pattern_of t i))
     → red_start a t Outbound i +ℤ pos (red_ticks a t Outbound i) ≡ red_start a t Inbound i +ℤ pos (((signal_of a i).red + shift a t i) * t.unit)
 ends a t i h = let r = allowed_range a i (pattern_of t i) h in
     ends_by (common_red t i) (signal_of a i).red (signal_of a i).left_out (signal_of a i).left_in t.unit (pattern_of t i) r.0 r.1
 
 -- ---- the block sum
 -- the whole cycles in the waits at signal i
-abbrev pub turns_at : Street → Plan → ℕ → ℤ
+abbrev pub turns_at : Street → TimingRecord → ℕ → ℤ
 turns_at a t i =
     quot_ℤ (line_at a t Outbound i -ℤ (red_start a t Outbound i +ℤ pos (red_ticks a t Outbound i))) (cycle a t)
     +ℤ quot_ℤ (red_start a t Inbound i -ℤ line_at a t Inbound i -ℤ pos t.band_in) (cycle a t)
 
 -- the waits, the common red and the shift at signal i, and these cycles, reach from the inbound band's edge to the outbound line
-balance : (a : Street) (t : Plan) (i : ℕ) → 0 < cycle a t → IsTrue (allows a i (pattern_of t i))
+balance : (a : Street) (t : TimingRecord) (i : ℕ) → 0 < cycle a t → IsTrue (allows a i (pattern_of t i))
     → pos (wait a t Outbound i + wait a t Inbound i + ((signal_of a i).red + shift a t i) * t.unit) +ℤ turns_at a t i *ℤ pos (cycle a t) ≡ line_at a t Outbound i -ℤ line_at a t Inbound i -ℤ pos t.band_in
 balance a t i h w =
     let e = split_ℤ (line_at a t Outbound i -ℤ (red_start a t Outbound i +ℤ pos (red_ticks a t Outbound i))) (cycle a t) h in
@@ -81,21 +81,21 @@ balance a t i h w =
     omega (arith, ints, e, f, d, g)
 
 -- what the block sum adds, in ticks
-abbrev pub block_plus : Street → Plan → ℕ → ℕ
+abbrev pub block_plus : Street → TimingRecord → ℕ → ℕ
 block_plus a t i = wait a t Outbound i + wait a t Inbound i + run t Outbound i + run t Inbound i + shift a t i * t.unit + (signal_of a i).red * t.unit
 
 -- and what it takes away
-abbrev pub block_minus : Street → Plan → ℕ → ℕ
+abbrev pub block_minus : Street → TimingRecord → ℕ → ℕ
 block_minus a t i =
     wait a t Outbound (i + 1) + wait a t Inbound (i + 1) + shift a t (i + 1) * t.unit + (signal_of a (i + 1)).red * t.unit
     + clearance a Outbound (i + 1) * t.unit + clearance a Inbound i * t.unit
 
 -- the whole cycles between them
-abbrev pub turns_between : Street → Plan → ℕ → ℤ
+abbrev pub turns_between : Street → TimingRecord → ℕ → ℤ
 turns_between a t i = turns_at a t (i + 1) -ℤ turns_at a t i
 
 -- they differ by whole cycles
-pub block_whole : (a : Street) (t : Plan) (i : ℕ) → 0 < cycle a t → 1 ≤ i → i < count a → IsTrue (allows a i (pattern_of t i)) → IsTrue (allows a (i + 1) (pattern_of t (i + 1)))
+pub block_whole : (a : Street) (t : TimingRecord) (i : ℕ) → 0 < cycle a t → 1 ≤ i → i < count a → IsTrue (allows a i (pattern_of t i)) → IsTrue (allows a (i + 1) (pattern_of t (i + 1)))
     → pos (block_plus a t i) ≡ turns_between a t i *ℤ pos (cycle a t) +ℤ pos (block_minus a t i)
 block_whole a t i h k l v w =
     let e = balance a t i h v in

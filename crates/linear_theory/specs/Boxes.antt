@@ -4,7 +4,7 @@ use Rattle.rational_theory.specs.Rational.{ℚ, whole, ◌/ℚ◌}
 use Rattle.rational_theory.specs.Floor.{floor_ℚ, ceil_ℚ}
 use Rattle.progression.specs.Street.{Street, count, HasSignal, HasLink}
 use Rattle.progression.specs.Speeds.{number, run_low, run_high}
-use Rattle.progression.specs.Plan.{Plan}
+use Rattle.progression.specs.TimingRecord.{TimingRecord}
 use Rattle.progression.specs.Columns.{shift, point, numbered}
 use Rattle.progression.specs.declared.parts.Dir.{Dir}
 use Rattle.progression.specs.declared.parts.Dir.TheVariants.{Outbound, Inbound}
@@ -100,20 +100,20 @@ pub record IsBoxOf (a : Street) (box : Area) : Type 0 where
 
 -- ---- timings of a box
 -- the block sum of link i is a whole number of its span
-pub record LoopIn (a : Street) (box : Area) (t : Plan) (i : ℕ) : Type 0 where
+pub record LoopIn (a : Street) (box : Area) (t : TimingRecord) (i : ℕ) : Type 0 where
   pub number : ℤ
   pub is : block_sum a (point a t) i ≡ whole number
   pub least : (loop_span box i).least ≤ℤ number
   pub most : number ≤ℤ (loop_span box i).most
 
 -- the shift of signal i has a rank of its span
-pub record TurnIn (a : Street) (box : Area) (t : Plan) (i : ℕ) : Type 0 where
+pub record TurnIn (a : Street) (box : Area) (t : TimingRecord) (i : ℕ) : Type 0 where
   pub rank : ℕ
   pub is : shift_at a i rank ≡ shift a t i
   pub least : (turn_span box i).least ≤ rank
   pub most : rank ≤ (turn_span box i).most
 
-pub record InBox (a : Street) (box : Area) (t : Plan) : Type 0 where
+pub record InBox (a : Street) (box : Area) (t : TimingRecord) : Type 0 where
   pub loops : (i : ℕ) → HasLink a i → LoopIn a box t i
   pub turns : (i : ℕ) → HasSignal a i → TurnIn a box t i
 

@@ -3,7 +3,7 @@ use Rattle.std.specs.Prelude.{◌≡◌, ℕ, ◌<◌, ◌≤◌, List}
 use Rattle.rational_theory.specs.Rational.{ℚ, ◌<ℚ◌}
 use Rattle.progression.specs.Street.{Street, count, HasSignal, HasLink, red_parts, speed}
 use Rattle.progression.specs.Speeds.{number}
-use Rattle.progression.specs.Plan.{Plan}
+use Rattle.progression.specs.TimingRecord.{TimingRecord}
 use Rattle.progression.specs.Good.{Good}
 use Rattle.progression.specs.Columns.{point}
 use Rattle.progression.specs.declared.parts.Dir.{Dir}
@@ -20,7 +20,7 @@ pub record IsStreet (a : Street) : Type 0 where
   pub speed_most : (d : Dir) (i : ℕ) → HasLink a i → number 0 <ℚ (speed a d i).most
 
 -- a good timing whose block sums and shift ranks are those of the box
-pub record Counts (a : Street) (box : Area) (t : Plan) : Type 0 where
+pub record Counts (a : Street) (box : Area) (t : TimingRecord) : Type 0 where
   pub street : IsStreet a
   pub good : Good a t
   pub boxed : IsBoxOf a box
@@ -28,6 +28,6 @@ pub record Counts (a : Street) (box : Area) (t : Plan) : Type 0 where
 
 -- the point of such a timing
 pub record IsGoodPoint (a : Street) (box : Area) (x : List ℚ) : Type 0 where
-  pub timing : Plan
+  pub timing : TimingRecord
   pub counts : Counts a box timing
   pub is : x ≡ point a timing

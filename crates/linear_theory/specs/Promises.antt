@@ -3,7 +3,7 @@ use Rattle.std.specs.Prelude.{ℕ, ℤ, List, ◌⊎◌, ◌↔◌}
 use Rattle.rational_theory.specs.Rational.{ℚ}
 use Rattle.rational_theory.specs.Rows.{IsMet}
 use Rattle.progression.specs.Street.{Street}
-use Rattle.progression.specs.Plan.{Plan}
+use Rattle.progression.specs.TimingRecord.{TimingRecord}
 use Rattle.progression.specs.Good.{Good}
 use Rattle.progression.specs.Best.{Bounded, NoTiming}
 use Rattle.linear_theory.specs.Boxes.{Area, IsBoxOf, InBox, root_box, low_loop, high_loop, low_turn, high_turn, IsLoopPlace, IsTurnPlace}
@@ -15,17 +15,17 @@ use Rattle.linear_theory.specs.Trees.{Tree, Accepted}
 
 pub record NothingIsLost : Type 0 where
   -- its block sums are whole, and they and its shifts lie in the root box
-  pub in_the_root : (a : Street) (t : Plan) → IsStreet a → Good a t → InBox a (root_box a) t
+  pub in_the_root : (a : Street) (t : TimingRecord) → IsStreet a → Good a t → InBox a (root_box a) t
   -- a box holds what its two parts at a place hold
-  pub link_parts : (a : Street) (box : Area) (t : Plan) (i : ℕ) (at : ℤ) → IsBoxOf a box → IsLoopPlace box i at
+  pub link_parts : (a : Street) (box : Area) (t : TimingRecord) (i : ℕ) (at : ℤ) → IsBoxOf a box → IsLoopPlace box i at
       → InBox a box t ↔ (InBox a (low_loop box i at) t ⊎ InBox a (high_loop box i at) t)
   -- no timing lies in both parts
-  pub link_once : (a : Street) (box : Area) (t : Plan) (i : ℕ) (at : ℤ) → IsBoxOf a box → IsLoopPlace box i at
+  pub link_once : (a : Street) (box : Area) (t : TimingRecord) (i : ℕ) (at : ℤ) → IsBoxOf a box → IsLoopPlace box i at
       → InBox a (low_loop box i at) t → InBox a (high_loop box i at) t → ⊥
   -- the same for a signal's ranks
-  pub signal_parts : (a : Street) (box : Area) (t : Plan) (i rank : ℕ) → IsBoxOf a box → IsTurnPlace box i rank
+  pub signal_parts : (a : Street) (box : Area) (t : TimingRecord) (i rank : ℕ) → IsBoxOf a box → IsTurnPlace box i rank
       → InBox a box t ↔ (InBox a (low_turn box i rank) t ⊎ InBox a (high_turn box i rank) t)
-  pub signal_once : (a : Street) (box : Area) (t : Plan) (i rank : ℕ) → IsBoxOf a box → IsTurnPlace box i rank
+  pub signal_once : (a : Street) (box : Area) (t : TimingRecord) (i rank : ℕ) → IsBoxOf a box → IsTurnPlace box i rank
       → InBox a (low_turn box i rank) t → InBox a (high_turn box i rank) t → ⊥
   -- its point meets each row of each box that it lies in
   pub rows_met : (a : Street) (box : Area) (x : List ℚ) → IsGoodPoint a box x → (n : Name) → HasRow a n → IsMet x (line a (form_of a box n))

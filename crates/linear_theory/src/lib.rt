@@ -9,7 +9,7 @@
 //! hold together what the box holds, and nothing twice; and a tree whose leaves cover or refute bounds every good timing, or rules
 //! all of them out.
 //!
-//! Definitions, in the order in which they stand on each other (all on `Street`, `Plan`, `Good` and `Columns` of `progression`):
+//! Definitions, in the order in which they stand on each other (all on `Street`, `TimingRecord`, `Good` and `Columns` of `progression`):
 //!
 //! - `Places`: `place n c`, the number of a column among those of n signals, `width n`, `value_at n x c`.
 //! - `Shifts`: a signal's distinct shifts, ranked upwards from 0: `shifts_of`, `shift_at a i rank`, `shift_count`.

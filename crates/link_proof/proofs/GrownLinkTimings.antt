@@ -7,11 +7,11 @@ use Rattle.plan_text.specs.FirstBad.{lines_in}
 use Rattle.plan_text.proofs.Grown.{Grows, Reaches, grows_then, reaches_then, one_and, two_and}
 use Rattle.plan_text.proofs.GrownTimings.{ways_grow, ways_later, base_grows, base_later}
 use Rattle.plan_text.proofs.TimingLaws.{TimingLaws}
-use Rattle.link_theory.specs.LinkPlan.{LinkPlan, with_halves}
+use Rattle.link_theory.specs.LinkRecord.{LinkRecord, with_halves}
 use Rattle.link_proof.specs.LinkTimingTexts.{half_out_key, half_in_key, link_plan_at, link_bands}
 use Rattle.link_proof.proofs.LinkTimings.{link_takes, link_again}
 
-abbrev halves_then : ℕ → Unbanded × List ℕ → Result (LinkPlan × List ℕ) BadText
+abbrev halves_then : ℕ → Unbanded × List ℕ → Result (LinkRecord × List ℕ) BadText
 halves_then line base = both_ways_at half_out_key half_in_key (line + 7) (length (base.0 0 0).patterns - 1) base.1 >>= λ halves. Ok (with_halves (base.0 0 0) halves.0 halves.1, halves.2)
 
 halves_grow : (last line : ℕ) (base : Unbanded × List ℕ) (z : List ℕ) → line + 7 + lines_in base.1 ≡ last → Grows (one_and (line + 9)) last z (halves_then line base) (halves_then line (base.0, base.1 ++ z))

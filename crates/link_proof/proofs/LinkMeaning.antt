@@ -20,7 +20,7 @@ use Rattle.certificate_checker.specs.Accepted.{value_of, limit_of}
 use Rattle.certificate_checker.specs.TreeProofs.{IsLeafProof, IsTreeProof}
 use Rattle.certificate_checker.proofs.LeafMeaning.{IsWithin, leaf_says}
 use Rattle.certificate_checker.proofs.Meaning.{HoldsTiming, trees_say}
-use Rattle.link_theory.specs.LinkPlan.{LinkPlan, lines}
+use Rattle.link_theory.specs.LinkRecord.{LinkRecord, lines}
 use Rattle.link_theory.specs.GoodLinks.{GoodLinks}
 use Rattle.link_theory.specs.BestLinks.{link_value, BoundedLinks}
 use Rattle.link_theory.specs.LinkCounts.{LinkCounts, IsGoodLinkPoint}
@@ -45,7 +45,7 @@ link_goal_wide a two =
     let others = length-replicate (n - 1) (number 2 *ℚ a.head.ratio) in
     rw (length-append, length-append) (omega arith)
 
-module _ (a : Street) (t : LinkPlan) (h : IsStreet a) (g : GoodLinks a t) (limit : Option ℚ) where
+module _ (a : Street) (t : LinkRecord) (h : IsStreet a) (g : GoodLinks a t) (limit : Option ℚ) where
   -- the point of a good link timing of a box meets the rows there
   rows_met : (box : Area) → HoldsTiming a (lines t) box → (row : RowId) → (link_rows a box).has row ≡ true → IsMet (link_point a t) (row_of ((link_rows a box).row row))
   rows_met box k row e =
@@ -67,12 +67,12 @@ module _ (a : Street) (t : LinkPlan) (h : IsStreet a) (g : GoodLinks a t) (limit
       trees_say a (lines t) (λ box ws. IsLeafProof (link_rows a box) (link_aim a limit) ws) (IsWithin limit (link_value a t)) leaf_keeps (root_box a ∷ []) ns c
       (inl (lines_root_boxed a t h g (root_box a) root, lines_in_root a t h g (root_box a) root))
 
-best_timed : (a : Street) (value : ℚ) (timing : Option LinkPlan) → BoundedLinks a value → IsLinkTimed a timing (Some value) → AreBest a timing value
+best_timed : (a : Street) (value : ℚ) (timing : Option LinkRecord) → BoundedLinks a value → IsLinkTimed a timing (Some value) → AreBest a timing value
 best_timed a value None b h = h
 best_timed a value (Some t) b h = (record { good = h.0; greatest = subst (BoundedLinks a) (sym h.1) b }, h.1)
 
 -- what an accepted link certificate claims holds
-claim_holds : (a : Street) (claim : Claim) (timing : Option LinkPlan) (ns : List Node) → IsStreet a → IsLinkTimed a timing (value_of claim)
+claim_holds : (a : Street) (claim : Claim) (timing : Option LinkRecord) (ns : List Node) → IsStreet a → IsLinkTimed a timing (value_of claim)
     → IsTreeProof (link_rows a) (link_aim a (limit_of claim)) (root_box a ∷ []) ns → LinkClaimHolds a claim timing
 claim_holds a (Best value) timing ns h i c = best_timed a value timing (λ t g. root_keeps a t h g (Some value) ns c) i
 claim_holds a NoTiming timing ns h i c = λ t g. root_keeps a t h g None ns c

@@ -1,6 +1,6 @@
 -- The laws of the text of a link timing: what is read is spelled so, and what is spelled so is read.
 use Rattle.std.proofs.Common.{◌≡◌, ℕ, ◌+◌, ◌-◌, ◌≤◌, List, ◌∷◌, ◌++◌, length, Ok, refl, ap, subst, ◌∙◌, arith}
-use Rattle.progression.specs.Plan.{Plan}
+use Rattle.progression.specs.TimingRecord.{TimingRecord}
 use Rattle.time_space.specs.Timing.{plan_of}
 use Rattle.plan_text.specs.Spelling.{spelled, base_lines, IsHeld}
 use Rattle.plan_text.specs.Lines.{◌>>=◌}
@@ -9,7 +9,7 @@ use Rattle.plan_text.proofs.WordLines.{ended_and}
 use Rattle.plan_text.proofs.Fields.{bind_ok, moved, Suits}
 use Rattle.plan_text.proofs.Timings.{small_of, suits_small, ways_take, ways_again, base_takes, base_fits, base_again, held_is}
 use Rattle.plan_text.proofs.TextLaws.{IsTextOf}
-use Rattle.link_theory.specs.LinkPlan.{LinkPlan, lines, with_halves}
+use Rattle.link_theory.specs.LinkRecord.{LinkRecord, lines, with_halves}
 use Rattle.link_theory.proofs.Halves.{lines_of}
 use Rattle.link_space.specs.LinkTiming.{AreHalves, IsLinkTiming}
 use Rattle.link_proof.specs.LinkTimingTexts.{half_out_key, half_in_key, link_lines, link_plan_at, IsHeldLinks, link_bands}
@@ -34,11 +34,11 @@ link_fits line bytes rest more grid unit patterns reds run_out run_in first_out 
     }
 
 -- what the nine lines are, and that the program can hold it
-pub link_takes : (line : ℕ) (bytes : List ℕ) (x : LinkPlan × List ℕ) → link_plan_at line bytes ≡ Ok x → IsTextOf link_bands bytes x
+pub link_takes : (line : ℕ) (bytes : List ℕ) (x : LinkRecord × List ℕ) → link_plan_at line bytes ≡ Ok x → IsTextOf link_bands bytes x
 unfolding link_plan_at
 link_takes line bytes x e =
     let a = bind_ok (base_at line bytes) (λ base. both_ways_at half_out_key half_in_key (line + 7) (length (base.0 0 0).patterns - 1) base.1 >>= λ halves. Ok (with_halves (base.0 0 0) halves.0 halves.1, halves.2)) x e in
-    let t : Plan = a.0.0 0 0 in
+    let t : TimingRecord = a.0.0 0 0 in
     let b = bind_ok (both_ways_at half_out_key half_in_key (line + 7) (length t.patterns - 1) a.0.1) (λ halves. Ok (with_halves t halves.0 halves.1, halves.2)) x a.2 in
     let base = base_takes line bytes a.0 a.1 in
     let held = base.held 0 0 (omega arith) (omega arith) in
@@ -53,7 +53,7 @@ link_takes line bytes x e =
       };
     })
 
-pub link_again : (line : ℕ) (t : LinkPlan) (rest : List ℕ) → IsHeldLinks t → link_plan_at line (ended_and (link_lines t) rest) ≡ Ok (t, rest)
+pub link_again : (line : ℕ) (t : LinkRecord) (rest : List ℕ) → IsHeldLinks t → link_plan_at line (ended_and (link_lines t) rest) ≡ Ok (t, rest)
 unfolding link_plan_at
 link_again line t rest held =
     let links = length t.patterns - 1 in
@@ -61,4 +61,4 @@ link_again line t rest held =
     let in' = held.half_in.count in
     let first = base_again line (lines t) (spelled half_out_key t.half_out ++ 10 ∷ (spelled half_in_key t.half_in ++ 10 ∷ rest)) held.lines in
     let second = ways_again half_out_key half_in_key (line + 7) links t.half_out t.half_in rest (record { spaces = refl; feeds = refl }) (record { spaces = refl; feeds = refl }) (suits_small (line + 7) t.half_out links (omega arith) held.half_out.each) (suits_small (line + 7 + 1) t.half_in links (omega arith) held.half_in.each) in
-    rw (first, second) (ap (λ (p : Plan). Ok (with_halves p t.half_out t.half_in, rest)) (held_is (lines t) held.lines))
+    rw (first, second) (ap (λ (p : TimingRecord). Ok (with_halves p t.half_out t.half_in, rest)) (held_is (lines t) held.lines))

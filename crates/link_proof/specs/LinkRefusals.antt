@@ -7,7 +7,7 @@ use Rattle.plan_text.specs.Warrants.{Node}
 use Rattle.certificate_checker.specs.ClaimRefusals.{IfThere}
 use Rattle.certificate_checker.specs.Checked.{numbers_refusal_of, nodes_refusal_of, first_refusal, TimingFailsFirst, IsFirstRefusalOf}
 use Rattle.certificate_checker.specs.declared.reject.Reject.{Reject}
-use Rattle.link_theory.specs.LinkPlan.{LinkPlan}
+use Rattle.link_theory.specs.LinkRecord.{LinkRecord}
 use Rattle.link_theory.specs.GoodLinks.{GoodLinks}
 use Rattle.link_space.specs.declared.failing.LinkFailing.{LinkFailing}
 use Rattle.link_proof.specs.LinkWarrants.{LinkWarrant}
@@ -17,7 +17,7 @@ use Rattle.link_proof.specs.LinkAccepted.{of_links}
 abbrev pub LinkReject : Type 0
 LinkReject = Reject LinkFailing
 
-abbrev pub link_numbers_refusal : Street → Claim → Option LinkPlan → Option LinkReject
+abbrev pub link_numbers_refusal : Street → Claim → Option LinkRecord → Option LinkReject
 link_numbers_refusal a = numbers_refusal_of (of_links a)
 
 abbrev pub link_nodes_refusal : Street → Option ℚ → List Node → Option LinkReject
@@ -27,10 +27,10 @@ link_nodes_refusal a = nodes_refusal_of (of_links a)
 abbrev pub link_refusal_of : Street → LinkWarrant → Option LinkReject
 link_refusal_of a = first_refusal (of_links a)
 
-abbrev pub AreGoodIfThere : Street → Option LinkPlan → Type 0
+abbrev pub AreGoodIfThere : Street → Option LinkRecord → Type 0
 AreGoodIfThere a = IfThere (GoodLinks a)
 
-abbrev pub LinkFailsFirst : Street → Option LinkPlan → LinkReject → Type 0
+abbrev pub LinkFailsFirst : Street → Option LinkRecord → LinkReject → Type 0
 LinkFailsFirst a = TimingFailsFirst (of_links a)
 
 -- the link timing breaks a rule and r names the first; or it is good, and r is the first of all others

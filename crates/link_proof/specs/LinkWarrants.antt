@@ -1,7 +1,7 @@
 -- A link certificate as contracts see it, and its text: a first line of its own, the claim with a link timing where the claim has a value, and the tree, with the
 -- rows by their names.
 use Rattle.std.specs.Prelude.{ℕ, List, codes, Result}
-use Rattle.link_theory.specs.LinkPlan.{LinkPlan}
+use Rattle.link_theory.specs.LinkRecord.{LinkRecord}
 use Rattle.plan_text.specs.declared.fault.BadText.{BadText}
 use Rattle.plan_text.specs.Warrants.{WarrantWith, IsCertificateIn}
 use Rattle.plan_text.specs.CertificateText.{IsHeldWith}
@@ -11,7 +11,7 @@ use Rattle.link_proof.specs.LinkTimingTexts.{link_bands}
 use Rattle.link_proof.specs.LinkFamilies.{links}
 
 abbrev pub LinkWarrant : Type 0
-LinkWarrant = WarrantWith LinkPlan
+LinkWarrant = WarrantWith LinkRecord
 
 -- what every link certificate of the program keeps
 abbrev pub IsLinkCertificate : LinkWarrant → Type 0

@@ -12,7 +12,7 @@ use Rattle.rational_theory.proofs.Order.{whole-*ℤ, *ℚ-inverse, *ℚ_cancel, 
 use Rattle.rational_theory.proofs.Ring.{ring, at, ◌⊕◌, ◌⊗◌, one-*ℚ, zero-*ℚ}
 use Rattle.progression.specs.Street.{Street, count, HasSignal, HasLink, least_band}
 use Rattle.progression.specs.Speeds.{number, run_low, run_high, change}
-use Rattle.progression.specs.Plan.{Plan, IsPlan, cycle, run, band}
+use Rattle.progression.specs.TimingRecord.{TimingRecord, IsTimingRecord, cycle, run, band}
 use Rattle.progression.specs.Green.{BandIsGreen, red_start, red_ticks}
 use Rattle.progression.specs.Lines.{advance, crossing, line_at, IsGreenAt}
 use Rattle.progression.specs.Good.{IsBase, RatioHolds, HasLeastBand, Good, pace_change}
@@ -24,7 +24,7 @@ use Rattle.artery_model.specs.Valid.{IsValid}
 use Rattle.time_space.specs.Finer.{finer}
 use Rattle.time_space.proofs.FinerGrids.{finer_law, mul-le}
 use Rattle.time_space.proofs.Multiples.{ratio_finer}
-use Rattle.link_theory.specs.LinkPlan.{LinkPlan, lines, half}
+use Rattle.link_theory.specs.LinkRecord.{LinkRecord, lines, half}
 use Rattle.link_theory.specs.GoodLinks.{GoodLinks, IsGreenAround}
 use Rattle.link_theory.specs.BestLinks.{link_value, BestLinks}
 use Rattle.link_theory.specs.Plain.{plain}
@@ -35,11 +35,11 @@ later u v w x e = omega (arith, ints, e)
 
 -- ---- another line and another band on the same offsets
 -- the first lines so much later, with bands of these widths
-abbrev moved : Plan → ℤ → ℤ → ℕ → ℕ → Plan
+abbrev moved : TimingRecord → ℤ → ℤ → ℕ → ℕ → TimingRecord
 moved t x y b c = record t { first_out = t.first_out +ℤ x; first_in = t.first_in +ℤ y; band_out = b; band_in = c }
 
-module _ (a : Street) (t : Plan) (x y : ℤ) (b c : ℕ) where
-  abbrev there : Plan
+module _ (a : Street) (t : TimingRecord) (x y : ℤ) (b c : ℕ) where
+  abbrev there : TimingRecord
   there = moved t x y b c
 
   crossing_out : (j : ℕ) → crossing a there Outbound j ≡ crossing a t Outbound j +ℤ x
@@ -149,7 +149,7 @@ module _ (k : ℚ) (m o i c : ℕ) (l : 0 < c) where
 
 -- ---- from a timing to a link timing
 -- its bands about their middles, on a grid twice as fine
-abbrev pub spread : Plan → LinkPlan
+abbrev pub spread : TimingRecord → LinkRecord
 spread s = record {
   grid = s.grid * 2;
   unit = s.unit * 2;
@@ -166,7 +166,7 @@ spread s = record {
 less_one : (m n : ℕ) → m + 1 ≡ n → m ≡ n - 1
 less_one m n e = omega (arith, e)
 
-ticks_above : (a : Street) (s : Plan) → IsValid a → IsPlan s → 0 < cycle a s
+ticks_above : (a : Street) (s : TimingRecord) → IsValid a → IsTimingRecord s → 0 < cycle a s
 ticks_above a s valid p =
     let parts : 1 ≤ a.head.parts = let p = valid.least_parts in omega (arith, p) in
     let u : 1 ≤ s.unit = let w = p.unit in omega (arith, w) in
@@ -176,11 +176,11 @@ ticks_above a s valid p =
 back : (x y : ℤ) (h : ℕ) → x ≡ y +ℤ pos h → x -ℤ pos h ≡ y
 back x y h e = omega (arith, ints, e)
 
-module _ (a : Street) (s : Plan) (valid : IsValid a) (good : Good a s) where
-  abbrev fine : Plan
+module _ (a : Street) (s : TimingRecord) (valid : IsValid a) (good : Good a s) where
+  abbrev fine : TimingRecord
   fine = finer 2 s
 
-  abbrev around : LinkPlan
+  abbrev around : LinkRecord
   around = spread s
 
   fine_good : Good a fine
@@ -255,12 +255,12 @@ module _ (a : Street) (s : Plan) (valid : IsValid a) (good : Good a s) where
       ∙ ap₂ (λ x y. (number 2 *ℚ (number x +ℚ a.head.ratio *ℚ number y)) /ℚ number (cycle a s * 2)) (sym out) (sym in_)
       ∙ ap (λ c. (number 2 *ℚ (number (sum around.half_out) +ℚ a.head.ratio *ℚ number (sum around.half_in))) /ℚ number c) ticks
 
-as_wide : (a : Street) (t : LinkPlan) (s : Plan) → IsValid a → BestLinks a t → Good a s → (number (count a - 1) *ℚ weighted_band a s) ≤ℚ link_value a t
+as_wide : (a : Street) (t : LinkRecord) (s : TimingRecord) → IsValid a → BestLinks a t → Good a s → (number (count a - 1) *ℚ weighted_band a s) ≤ℚ link_value a t
 as_wide a t s valid best good = subst (λ v. v ≤ℚ link_value a t) (sym (spread_value a s valid good)) (best.greatest (spread s) (spread_good a s valid good))
 
 -- ---- from a link timing of two signals to a timing
 -- the widths of the only link
-abbrev pub only : LinkPlan → Plan
+abbrev pub only : LinkRecord → TimingRecord
 only t = moved (lines t) (neg_ℤ (pos (half t Outbound 1))) (neg_ℤ (pos (half t Inbound 1))) (half t Outbound 1 * 2) (half t Inbound 1 * 2)
 
 one_item : (xs : List ℕ) → length xs ≡ 1 → sum xs ≡ get_or xs 0 0
@@ -274,14 +274,14 @@ no_least c b = subst (λ x. x ≤ℚ number b) (sym (zero-*ℚ (number c))) (who
 not_asked : (e : Bool) → false ≡ e → IsTrue e → ⊥
 not_asked e is h = cc
 
-module _ (a : Street) (t : LinkPlan) (valid : IsValid a) (bare : plain a ≡ a) (two : count a ≡ 2) (good : GoodLinks a t) where
+module _ (a : Street) (t : LinkRecord) (valid : IsValid a) (bare : plain a ≡ a) (two : count a ≡ 2) (good : GoodLinks a t) where
   abbrev out : ℕ
   out = half t Outbound 1
 
   abbrev back_in : ℕ
   back_in = half t Inbound 1
 
-  abbrev timing : Plan
+  abbrev timing : TimingRecord
   timing = only t
 
   only_link : HasLink a 1
@@ -346,7 +346,7 @@ module _ (a : Street) (t : LinkPlan) (valid : IsValid a) (bare : plain a ≡ a) 
       ap₂ (λ x y. (number 2 *ℚ (number x +ℚ a.head.ratio *ℚ number y)) /ℚ number (cycle a timing)) (one_half t.half_out good.plan.half_out) (one_half t.half_in good.plan.half_in)
       ∙ ap (λ x. x /ℚ number (cycle a timing)) (sym (twice_out a.head.ratio out back_in))
 
-two_signals : (a : Street) (t : LinkPlan) (s : Plan) → IsValid a → plain a ≡ a → count a ≡ 2 → BestLinks a t → Best a s → link_value a t ≡ weighted_band a s
+two_signals : (a : Street) (t : LinkRecord) (s : TimingRecord) → IsValid a → plain a ≡ a → count a ≡ 2 → BestLinks a t → Best a s → link_value a t ≡ weighted_band a s
 two_signals a t s valid bare two best whole =
     let one : count a - 1 ≡ 1 = omega (arith, two) in
     let wide : (number 1 *ℚ weighted_band a s) ≤ℚ link_value a t = subst (λ n. (number n *ℚ weighted_band a s) ≤ℚ link_value a t) one (as_wide a t s valid best whole.good) in

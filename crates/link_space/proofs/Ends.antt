@@ -5,7 +5,7 @@ use Rattle.std.proofs.lemmas.Bool.{cases_lt}
 use Rattle.progression.specs.Street.{Street, count}
 use Rattle.progression.specs.declared.parts.Dir.{Dir}
 use Rattle.progression.specs.declared.parts.Dir.TheVariants.{Outbound, Inbound}
-use Rattle.link_theory.specs.LinkPlan.{LinkPlan, half}
+use Rattle.link_theory.specs.LinkRecord.{LinkRecord, half}
 use Rattle.link_theory.specs.GoodLinks.{IsGreenAround}
 use Rattle.link_space.specs.LinkGreens.{IsEnd, ends, IsBlockedAfter, IsBlockedEnd, IsFirstBlockedEnd, IsGreenLink, travel_order}
 
@@ -23,7 +23,7 @@ at_ends P i h k s e = elim (cases_lt i s) [
 ]
 
 -- a link's band isn't both green and blocked at a signal
-pub not_both_there : (a : Street) (t : LinkPlan) (d : Dir) (i s after : ℕ) → IsGreenAround a t d s (half t d i) → IsBlockedAfter a t d i s after → ⊥
+pub not_both_there : (a : Street) (t : LinkRecord) (d : Dir) (i s after : ℕ) → IsGreenAround a t d s (half t d i) → IsBlockedAfter a t d i s after → ⊥
 not_both_there a t d i s after g b = let yes = g after b.within in let no = b.red_there in cc
 
 -- what holds of each link so far and of this one holds of each up to this one
@@ -31,7 +31,7 @@ pub one_more : (P : ℕ → Type 0) (i : ℕ) → ((k : ℕ) → 1 ≤ k → k <
 one_more P i h here k l m = elim (cases_lt k i) [ inl n ↦ h k l n | inr n ↦ let e : i ≡ k = omega arith in subst P e here ]
 
 -- ---- in travel order, the two signals as they are read
-module _ (a : Street) (t : LinkPlan) (i : ℕ) (has : i < count a) where
+module _ (a : Street) (t : LinkRecord) (i : ℕ) (has : i < count a) where
   before_exit : (d : Dir) (s : ℕ) → IsEnd i s → travel_order a d s < travel_order a d (ends d i).1 → s ≡ (ends d i).0
   before_exit Outbound s e l = omega (arith, e.least, l)
   before_exit Inbound s e l = omega (arith, e.most, l)

@@ -3,7 +3,7 @@ use Rattle.std.proofs.Common.{◌≡◌, ℕ, ◌+◌, ◌-◌, ◌*◌, ◌<◌
 use Rattle.std.specs.Prelude.{ℤ, pos, ◌*ℤ◌, ◌-ℤ◌, ◌↔◌}
 use Rattle.std.proofs.lemmas.List.{length-map}
 use Rattle.progression.specs.Street.{Street, count, red_parts}
-use Rattle.progression.specs.Plan.{Plan, cycle}
+use Rattle.progression.specs.TimingRecord.{TimingRecord, cycle}
 use Rattle.progression.specs.Green.{BandIsGreen, red_start, red_ticks}
 use Rattle.progression.specs.Lines.{line_at}
 use Rattle.progression.specs.Good.{IsBase, RatioHolds}
@@ -14,12 +14,12 @@ use Rattle.time_space.specs.Finer.{finer}
 use Rattle.time_space.proofs.Scale.{finer_grids, minus_scale}
 use Rattle.time_space.proofs.Multiples.{ratio_finer}
 use Rattle.time_space.proofs.FinerGrids.{get_or-scale, cycle_finer, red_start_finer, red_ticks_finer, crossing_finer, mul-le, below, red_bounds, base_both}
-use Rattle.link_theory.specs.LinkPlan.{LinkPlan, lines, half}
+use Rattle.link_theory.specs.LinkRecord.{LinkRecord, lines, half}
 use Rattle.link_theory.specs.GoodLinks.{GoodLinks, IsGreenAround}
 use Rattle.link_theory.proofs.Halves.{lines_of}
 use Rattle.link_space.specs.FinerLinks.{finer_links, FinerLinkGrids}
 
-module _ (a : Street) (t : LinkPlan) (m : ℕ) where
+module _ (a : Street) (t : LinkRecord) (m : ℕ) where
   -- its lines are the finer lines
   lines_finer : finer m (lines t) ≡ lines (finer_links m t)
   lines_finer = let none : 0 * m ≡ 0 = omega arith in lines_of (finer m (lines t)) (finer_links m t).half_out (finer_links m t).half_in none none
@@ -37,7 +37,7 @@ module _ (a : Street) (t : LinkPlan) (m : ℕ) where
   edge_finer d i k = rw (line_finer d i) (minus_scale (line_at a (lines t) d i) (pos k) m)
 
   -- every tick of a band about a line is green
-  abbrev Around : Dir → ℕ → ℕ → Plan → Type 0
+  abbrev Around : Dir → ℕ → ℕ → TimingRecord → Type 0
   Around d i k p = BandIsGreen (cycle a p) (red_start a p d i) (red_ticks a p d i) (line_at a p d i -ℤ pos k) (2 * k)
 
   width_finer : (k : ℕ) → 2 * (k * m) ≡ 2 * k * m
@@ -56,7 +56,7 @@ module _ (a : Street) (t : LinkPlan) (m : ℕ) where
   around_from_finer P d i k p =
       rw (cycle_finer a (lines t) m, red_start_finer a (lines t) m d i, red_ticks_finer a (lines t) m d i, edge_finer d i k, width_finer k) at p
 
-module _ (a : Street) (t : LinkPlan) (m : ℕ) (h : IsValid a) (u : 2 ≤ t.unit) (q : 1 ≤ m) where
+module _ (a : Street) (t : LinkRecord) (m : ℕ) (h : IsValid a) (u : 2 ≤ t.unit) (q : 1 ≤ m) where
   around_both : (d : Dir) (i k : ℕ) → i - 1 < count a → Around a t m d i k (lines t) ↔ Around a t m d i (k * m) (lines (finer_links m t))
   around_both d i k l =
       let p = lines t in

@@ -8,7 +8,7 @@ use Rattle.progression.specs.declared.parts.Dir.{Dir}
 use Rattle.progression.specs.declared.parts.Dir.TheVariants.{Outbound, Inbound}
 use Rattle.time_space.specs.FirstFailing.{rule_order, last_base_rule, IsFirstFailing, NoneBefore}
 use Rattle.time_space.specs.declared.failing.Failing.{Failing}
-use Rattle.link_theory.specs.LinkPlan.{LinkPlan, lines, half}
+use Rattle.link_theory.specs.LinkRecord.{LinkRecord, lines, half}
 use Rattle.link_theory.specs.GoodLinks.{IsGreenAround}
 use Rattle.link_space.specs.LinkGreens.{travel_order, IsBlockedEnd, IsGreenLink, IsFirstBlockedLink}
 use Rattle.link_space.specs.LinkFailing.{LinkFails}
@@ -17,7 +17,7 @@ use Rattle.link_space.specs.declared.failing.LinkFailing.{LinkFailing}
 use Rattle.link_space.specs.declared.failing.LinkFailing.TheVariants as failing
 use Rattle.link_space.proofs.Ends.{here_end, there_end, not_both_there}
 
-module _ (a : Street) (t : LinkPlan) where
+module _ (a : Street) (t : LinkRecord) where
   -- ---- the rules that speak of no band
   pub after_base : NoneBefore a (lines t) (last_base_rule + 1) → NoLinkBefore a t 1
   after_base b (failing.Base f) w = absurd (omega (arith, b f w.0, w.1))

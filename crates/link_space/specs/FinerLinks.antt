@@ -3,13 +3,13 @@ use Rattle.std.specs.Prelude.{ℕ, ◌*◌, ◌≤◌, map, ◌↔◌}
 use Rattle.progression.specs.Street.{Street}
 use Rattle.artery_model.specs.Valid.{IsValid}
 use Rattle.time_space.specs.Finer.{finer}
-use Rattle.link_theory.specs.LinkPlan.{LinkPlan, lines, with_halves}
+use Rattle.link_theory.specs.LinkRecord.{LinkRecord, lines, with_halves}
 use Rattle.link_theory.specs.GoodLinks.{GoodLinks}
 
 -- on a grid that is m times as fine
-abbrev pub finer_links : ℕ → LinkPlan → LinkPlan
+abbrev pub finer_links : ℕ → LinkRecord → LinkRecord
 finer_links m t = with_halves (finer m (lines t)) (map (λ n. n * m) t.half_out) (map (λ n. n * m) t.half_in)
 
 -- so a test at whole ticks tests every moment
 abbrev pub FinerLinkGrids : Type 0
-FinerLinkGrids = (a : Street) (t : LinkPlan) (m : ℕ) → IsValid a → 2 ≤ t.unit → 1 ≤ m → GoodLinks a t ↔ GoodLinks a (finer_links m t)
+FinerLinkGrids = (a : Street) (t : LinkRecord) (m : ℕ) → IsValid a → 2 ≤ t.unit → 1 ≤ m → GoodLinks a t ↔ GoodLinks a (finer_links m t)

@@ -5,7 +5,7 @@ use Rattle.progression.specs.Street.{Street}
 use Rattle.progression.specs.declared.parts.Dir.{Dir}
 use Rattle.progression.specs.declared.parts.Dir.TheVariants.{Outbound, Inbound}
 use Rattle.time_space.specs.FirstFailing.{IsNoLater}
-use Rattle.link_theory.specs.LinkPlan.{LinkPlan}
+use Rattle.link_theory.specs.LinkRecord.{LinkRecord}
 use Rattle.link_space.specs.LinkGreens.{travel_order}
 use Rattle.link_space.specs.LinkFailing.{LinkFails}
 use Rattle.link_space.specs.declared.failing.LinkFailing.{LinkFailing}
@@ -49,12 +49,12 @@ pub record IsNoLaterLink (a : Street) (f g : LinkFailing) : Type 0 where
   pub signal : variant_order f ≡ variant_order g → link_order f ≡ link_order g → signal_order a f ≤ signal_order a g
 
 -- it fails, and of all that fail none comes before it
-pub record IsFirstLinkFailing (a : Street) (t : LinkPlan) (f : LinkFailing) : Type 0 where
+pub record IsFirstLinkFailing (a : Street) (t : LinkRecord) (f : LinkFailing) : Type 0 where
   pub fails : LinkFails a t f
   pub first : (g : LinkFailing) → LinkFails a t g → IsNoLaterLink a f g
 
 -- no rule before the n-th fails
-abbrev pub NoLinkBefore : Street → LinkPlan → ℕ → Type 0
+abbrev pub NoLinkBefore : Street → LinkRecord → ℕ → Type 0
 NoLinkBefore a t n = (g : LinkFailing) → LinkFails a t g → n ≤ variant_order g
 
 -- the failing of a direction's band at a link
@@ -64,4 +64,4 @@ band_failing Inbound i signal tick = failing.Inbound i signal tick
 
 -- of a link timing at most one failing is the first
 abbrev pub OneFirstLink : Type 0
-OneFirstLink = (a : Street) (t : LinkPlan) (f g : LinkFailing) → IsFirstLinkFailing a t f → IsFirstLinkFailing a t g → f ≡ g
+OneFirstLink = (a : Street) (t : LinkRecord) (f g : LinkFailing) → IsFirstLinkFailing a t f → IsFirstLinkFailing a t g → f ≡ g

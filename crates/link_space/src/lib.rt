@@ -1,7 +1,7 @@
 //! Link timings of one artery: each link has a band of its own, symmetric about one progression line a direction; the test whether
 //! such a timing is good, its value, and the rows of its linear program.
 //!
-//! Contracts see a `LinkTiming` as the `LinkPlan` of `link_theory`. Start with `LinkTiming::new`, then `link_holds`. Of the rows,
+//! Contracts see a `LinkTiming` as the `LinkRecord` of `link_theory`. Start with `LinkTiming::new`, then `link_holds`. Of the rows,
 //! start with `next_link_row`, which names them in their order, and `fill_link_row`, which makes the row of a name for a box: those of
 //! speeds, changes of pace, cycle, block sums and shifts are the artery's, in a wider row; those of `LinkFamily` are families of
 //! their own, for the problem `LinkBands`. `fill_link_goal` makes the value and `link_sum` adds up a leaf's rows. What the

@@ -4,7 +4,7 @@ ghost use Rattle.std.specs.Prelude.{◌≡◌, ◌+◌, ℕ, length, OnOk, IfErr
 ghost use Rattle.progression.specs.Street.{count, HasLink};
 ghost use Rattle.progression.specs.Good.{IsBase, RatioHolds};
 ghost use Rattle.progression.specs.declared.parts.Dir.{Dir};
-ghost use Rattle.link_theory.specs.LinkPlan.{IsLinkPlan, lines, half};
+ghost use Rattle.link_theory.specs.LinkRecord.{IsLinkRecord, lines, half};
 ghost use Rattle.link_theory.specs.GoodLinks.{GoodLinks};
 ghost use Rattle.link_space.specs.LinkGreens.{IsGreenLink};
 ghost use Rattle.link_space.specs.LinkFailing.{LinkFailsRulesOut};
@@ -21,7 +21,7 @@ use time_space::{base_holds, is_in_ratio};
 
 #[tactic(auto, using(crate::proofs::LinkFirsts::after_base, crate::proofs::LinkFirsts::first_base))]
 fn check_base(artery: &Artery, timing: &LinkTiming) -> Result<(), LinkFailing>
-    ensures plan { IsLinkPlan timing.now }
+    ensures plan { IsLinkRecord timing.now }
     ensures shape { OnOk result (length timing.now.patterns ≡ count artery.now) }
     ensures kept { OnOk result (IsBase artery.now (lines timing.now)) }
     ensures next { OnOk result (NoLinkBefore artery.now timing.now 1) }

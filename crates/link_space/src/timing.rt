@@ -1,7 +1,7 @@
 //! A link timing, seen as a link plan.
 
 ghost use Rattle.std.specs.Prelude.{◌≡◌, All, IfNone, IfSome, ◌+◌, ◌<◌, ◌≤◌, ◌^◌, length};
-ghost use Rattle.link_theory.specs.LinkPlan.{LinkPlan, IsLinkPlan, lines, half};
+ghost use Rattle.link_theory.specs.LinkRecord.{LinkRecord, IsLinkRecord, lines, half};
 ghost use Rattle.link_space.specs.LinkTiming.{IsLinkTiming, link_plan_of};
 ghost use Rattle.artery_model.specs.Bounds.{least_signals, most_signals};
 
@@ -20,10 +20,10 @@ pub struct LinkTiming {
 }
 
 impl Model for LinkTiming {
-    ghost use Rattle.link_theory.specs.LinkPlan.{LinkPlan, with_halves};
+    ghost use Rattle.link_theory.specs.LinkRecord.{LinkRecord, with_halves};
     ghost use Rattle.link_space.specs.LinkTiming.{IsLinked};
 
-    ghost Value = { LinkPlan };
+    ghost Value = { LinkRecord };
 
     ghost view = { λ t. with_halves t.lines t.half_out.items t.half_in.items };
 
@@ -81,7 +81,7 @@ impl LinkTiming {
     /// How many signals it has, from 2 to 24.
     pub fn count(&self) -> u32
         ensures value { result ≡ length self.now.patterns }
-        ensures plan { IsLinkPlan self.now }
+        ensures plan { IsLinkRecord self.now }
         ensures few { least_signals ≤ result }
         ensures many { result ≤ most_signals }
     {

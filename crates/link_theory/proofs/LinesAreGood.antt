@@ -6,7 +6,7 @@ use Rattle.rational_theory.specs.Rational.{ℚ}
 use Rattle.rational_theory.proofs.Ring.{at, minus, ◌⊕◌, ◌⊗◌}
 use Rattle.rational_theory.proofs.Linear.{linear}
 use Rattle.progression.specs.Street.{Street, count, HasSignal}
-use Rattle.progression.specs.Plan.{cycle}
+use Rattle.progression.specs.TimingRecord.{cycle}
 use Rattle.progression.specs.Green.{BandIsGreen, red_start, red_ticks}
 use Rattle.progression.specs.Lines.{stop, crossing, line_at, IsGreenWay}
 use Rattle.progression.specs.Good.{Good, RatioHolds, HasLeastBand}
@@ -14,7 +14,7 @@ use Rattle.progression.specs.declared.parts.Dir.{Dir}
 use Rattle.progression.specs.declared.parts.Dir.TheVariants.{Outbound, Inbound}
 use Rattle.linear_theory.proofs.Terms.{one, zero_term}
 use Rattle.linear_theory.specs.Counts.{IsStreet}
-use Rattle.link_theory.specs.LinkPlan.{LinkPlan, lines, half}
+use Rattle.link_theory.specs.LinkRecord.{LinkRecord, lines, half}
 use Rattle.link_theory.specs.GoodLinks.{GoodLinks, IsGreenAround}
 use Rattle.progression.specs.Speeds.{number}
 use Rattle.link_theory.specs.Plain.{plain}
@@ -26,11 +26,11 @@ no_bands : (k : ℚ) → RatioHolds k 0 0
 no_bands k = linear [] 0 ((one ⊕ minus (at 0)) ⊗ (at 0 ⊗ zero_term)) ((one ⊕ minus (at 0)) ⊗ zero_term) (k ∷ []) tt refl
 
 -- and that of each least band of 0
-no_least : (a : Street) (t : LinkPlan) (d : Dir) → HasLeastBand (plain a) (lines t) d
+no_least : (a : Street) (t : LinkRecord) (d : Dir) → HasLeastBand (plain a) (lines t) d
 no_least a t Outbound = linear [] 0 (zero_term ⊗ at 0) zero_term (number (cycle a (lines t)) ∷ []) tt refl
 no_least a t Inbound = linear [] 0 (zero_term ⊗ at 0) zero_term (number (cycle a (lines t)) ∷ []) tt refl
 
-module _ (a : Street) (t : LinkPlan) (h : IsStreet a) (g : GoodLinks a t) where
+module _ (a : Street) (t : LinkRecord) (h : IsStreet a) (g : GoodLinks a t) where
   -- each signal is an end of a link
   line_green : (d : Dir) (i : ℕ) → HasSignal a i
       → BandIsGreen (cycle a (lines t)) (red_start a (lines t) d i) (red_ticks a (lines t) d i) (line_at a (lines t) d i) 0

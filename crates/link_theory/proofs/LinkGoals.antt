@@ -9,14 +9,14 @@ use Rattle.rational_theory.proofs.Ring.{ring, at, lit, ◌⊕◌, ◌⊗◌}
 use Rattle.rational_theory.specs.Rows.{dot, AllNonNegative}
 use Rattle.progression.specs.Street.{Street, count}
 use Rattle.progression.specs.Speeds.{number}
-use Rattle.progression.specs.Plan.{Plan, cycle}
+use Rattle.progression.specs.TimingRecord.{TimingRecord, cycle}
 use Rattle.progression.specs.Columns.{point}
 use Rattle.linear_theory.specs.Places.{width}
 use Rattle.linear_theory.proofs.Points.{share, point_width}
 use Rattle.linear_theory.proofs.Shares.{share_not_negative}
 use Rattle.linear_theory.proofs.Ranges.{parts_above}
 use Rattle.linear_theory.proofs.Bounds.{point_not_negative}
-use Rattle.link_theory.specs.LinkPlan.{LinkPlan, lines}
+use Rattle.link_theory.specs.LinkRecord.{LinkRecord, lines}
 use Rattle.link_theory.specs.GoodLinks.{GoodLinks}
 use Rattle.link_theory.specs.BestLinks.{link_value}
 use Rattle.linear_theory.specs.Counts.{IsStreet}
@@ -29,7 +29,7 @@ use Rattle.link_theory.proofs.PlainStreets.{same_point, plain_street}
 use Rattle.link_theory.proofs.LinesAreGood.{good_lines}
 
 -- ---- the same number at each of some ticks
-dot_shares : (a : Street) (t : Plan) (v : ℚ) (hs : List ℕ) (m : ℕ) → length hs ≡ m → dot (replicate m v) (map (share a t) hs) ≡ v *ℚ share a t (sum hs)
+dot_shares : (a : Street) (t : TimingRecord) (v : ℚ) (hs : List ℕ) (m : ℕ) → length hs ≡ m → dot (replicate m v) (map (share a t) hs) ≡ v *ℚ share a t (sum hs)
 dot_shares a t v [] zero e = ring (lit (pos 0)) (at 0 ⊗ (lit (pos 0) ⊗ at 1)) (v ∷ inverse_ℚ (number (cycle a t)) ∷ []) refl
 dot_shares a t v [] (suc m) e = absurd (omega arith)
 dot_shares a t v (h ∷ hs) zero e = absurd (omega arith)
@@ -40,7 +40,7 @@ dot_shares a t v (h ∷ hs) (suc m) e =
     ∙ ap (λ n. v *ℚ share a t n) (sym (sum_by-cons (λ (n : ℕ). n) h hs))
 
 -- ---- signs
-shares_of_ticks : (a : Street) (t : Plan) → ((k : ℕ) → number 0 ≤ℚ share a t k) → (hs : List ℕ) → AllNonNegative (map (share a t) hs)
+shares_of_ticks : (a : Street) (t : TimingRecord) → ((k : ℕ) → number 0 ≤ℚ share a t k) → (hs : List ℕ) → AllNonNegative (map (share a t) hs)
 shares_of_ticks a t p [] = tt
 shares_of_ticks a t p (h ∷ hs) = (p h, shares_of_ticks a t p hs)
 
@@ -48,7 +48,7 @@ joined_not_negative : (x y : List ℚ) → AllNonNegative x → AllNonNegative y
 joined_not_negative [] y p q = q
 joined_not_negative (u ∷ x) y p q = (p.0, joined_not_negative x y p.1 q)
 
-module _ (a : Street) (t : LinkPlan) (h : IsStreet a) (g : GoodLinks a t) where
+module _ (a : Street) (t : LinkRecord) (h : IsStreet a) (g : GoodLinks a t) where
   -- no column is below 0
   pub link_point_not_negative : AllNonNegative (link_point a t)
   link_point_not_negative =

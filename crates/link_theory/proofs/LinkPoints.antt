@@ -9,10 +9,10 @@ use Rattle.progression.specs.declared.parts.Dir.TheVariants.{Outbound, Inbound}
 use Rattle.linear_theory.specs.Places.{place, width}
 use Rattle.linear_theory.proofs.Places.{IsColumn}
 use Rattle.linear_theory.proofs.Points.{behind, share, point_at, point_width, place_below}
-use Rattle.link_theory.specs.LinkPlan.{LinkPlan, IsLinkPlan, lines, half}
+use Rattle.link_theory.specs.LinkRecord.{LinkRecord, IsLinkRecord, lines, half}
 use Rattle.link_theory.specs.LinkColumns.{link_width, half_place, link_point}
 
-module _ (a : Street) (t : LinkPlan) (p : IsLinkPlan t) (s : length t.patterns ≡ count a) (two : 2 ≤ count a) where
+module _ (a : Street) (t : LinkRecord) (p : IsLinkRecord t) (s : length t.patterns ≡ count a) (two : 2 ≤ count a) where
   -- there is a half for each link
   pub halves_out : length t.half_out ≡ count a - 1
   halves_out = let n = p.half_out in omega arith

@@ -12,7 +12,7 @@ use Rattle.rational_theory.proofs.Linear.{linear}
 use Rattle.rational_theory.specs.Rows.{IsMet}
 use Rattle.progression.specs.Street.{Street, count, HasLink}
 use Rattle.progression.specs.Speeds.{number}
-use Rattle.progression.specs.Plan.{cycle}
+use Rattle.progression.specs.TimingRecord.{cycle}
 use Rattle.progression.specs.Good.{RatioHolds}
 use Rattle.progression.specs.Columns.{WaitOf, wait}
 use Rattle.progression.specs.declared.parts.Dir.{Dir}
@@ -22,7 +22,7 @@ use Rattle.linear_theory.specs.Blocks.{green_part}
 use Rattle.linear_theory.specs.Rows.{minus_one}
 use Rattle.linear_theory.proofs.Terms.{one, less_one, zero_term, fact}
 use Rattle.linear_theory.proofs.Points.{share}
-use Rattle.link_theory.specs.LinkPlan.{LinkPlan, IsLinkPlan, lines, half}
+use Rattle.link_theory.specs.LinkRecord.{LinkRecord, IsLinkRecord, lines, half}
 use Rattle.link_theory.specs.GoodLinks.{GoodLinks, IsGreenAround}
 use Rattle.linear_theory.specs.Counts.{IsStreet}
 use Rattle.linear_theory.proofs.PlacedRows.{Rises, cells_sum, placed_met, met_placed}
@@ -47,7 +47,7 @@ halves_rise_by n i u v k = let l = k.0 in let m = k.1 in (omega arith, omega ari
 pub halves_rise : (a : Street) (i : ℕ) (u v : ℚ) → HasLink a i → Rises (link_width (count a)) 0 (half_cells a i u v)
 halves_rise a i u v k = halves_rise_by (count a) i u v k
 
-module _ (a : Street) (t : LinkPlan) (h : IsStreet a) (p : IsLinkPlan t) (s : length t.patterns ≡ count a) where
+module _ (a : Street) (t : LinkRecord) (h : IsStreet a) (p : IsLinkRecord t) (s : length t.patterns ≡ count a) where
   -- ---- an end of a link
   module _ (d : Dir) (e : End) (i : ℕ) (k : HasLink a i) where
     -- the sum of the end's rows at the point
@@ -134,7 +134,7 @@ module _ (a : Street) (t : LinkPlan) (h : IsStreet a) (p : IsLinkPlan t) (s : le
         )
 
 -- ---- of good link timings
-module _ (a : Street) (t : LinkPlan) (h : IsStreet a) (g : GoodLinks a t) where
+module _ (a : Street) (t : LinkRecord) (h : IsStreet a) (g : GoodLinks a t) where
   pub near_law : (d : Dir) (e : End) (i : ℕ) → HasLink a i → IsMet (link_point a t) (link_line a (near_form a d e i))
   near_law d e i k = ((end_law a t h g.plan g.base.shape d e i k).0 (green_end a t g d e i k)).0
 

@@ -5,7 +5,7 @@ use Rattle.rational_theory.specs.Rational.{◌+ℚ◌, ◌≤ℚ◌}
 use Rattle.rational_theory.proofs.Arithmetic.{IsRatio, ≤ℚ_out}
 use Rattle.rational_theory.proofs.Shares.{one_cycle, less_ticks, joined_ticks, at_most_ticks}
 use Rattle.progression.specs.Street.{Street, HasSignal, HasLink, red_parts}
-use Rattle.progression.specs.Plan.{cycle}
+use Rattle.progression.specs.TimingRecord.{cycle}
 use Rattle.progression.specs.Green.{red_ticks}
 use Rattle.progression.specs.Columns.{wait}
 use Rattle.progression.specs.declared.parts.Dir.{Dir}
@@ -14,7 +14,7 @@ use Rattle.linear_theory.specs.Counts.{IsStreet}
 use Rattle.linear_theory.proofs.Points.{share}
 use Rattle.linear_theory.proofs.Shares.{cycle_above, ticked, parted}
 use Rattle.linear_theory.proofs.Ranges.{parts_above}
-use Rattle.link_theory.specs.LinkPlan.{LinkPlan, lines, half}
+use Rattle.link_theory.specs.LinkRecord.{LinkRecord, lines, half}
 use Rattle.link_theory.specs.GoodLinks.{GoodLinks, IsGreenAround}
 use Rattle.link_theory.specs.declared.ends.End.{End}
 use Rattle.link_theory.specs.declared.ends.End.TheVariants.{Here, Next}
@@ -31,7 +31,7 @@ end_there a Next i k = let l = k.0 in let m = k.1 in (omega arith, omega arith)
 divided_out : (p q c : ℕ) → 0 < c → p * c ≤ q * c → p ≤ q
 divided_out p q c h l = le_of_mul-le-mul_right l h
 
-module _ (a : Street) (t : LinkPlan) (h : IsStreet a) (u : 2 ≤ t.unit) where
+module _ (a : Street) (t : LinkRecord) (h : IsStreet a) (u : 2 ≤ t.unit) where
   some_unit : 0 < t.unit
   some_unit = omega arith
 
@@ -73,6 +73,6 @@ module _ (a : Street) (t : LinkPlan) (h : IsStreet a) (u : 2 ≤ t.unit) where
     )
 
 -- the link's band at both ends
-pub green_end : (a : Street) (t : LinkPlan) → GoodLinks a t → (d : Dir) (e : End) (i : ℕ) → HasLink a i → IsGreenAround a t d (signal_at e i) (half t d i)
+pub green_end : (a : Street) (t : LinkRecord) → GoodLinks a t → (d : Dir) (e : End) (i : ℕ) → HasLink a i → IsGreenAround a t d (signal_at e i) (half t d i)
 green_end a t g d Here i k = g.here d i k
 green_end a t g d Next i k = g.there d i k

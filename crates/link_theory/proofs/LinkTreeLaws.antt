@@ -10,7 +10,7 @@ use Rattle.linear_theory.proofs.Bounds.{covered, refuted}
 use Rattle.linear_theory.proofs.Roots.{root_law, shift_there}
 use Rattle.linear_theory.proofs.RootBoxes.{root_boxed}
 use Rattle.linear_theory.proofs.TreeLaws.{tree_law, sum_met}
-use Rattle.link_theory.specs.LinkPlan.{LinkPlan, lines}
+use Rattle.link_theory.specs.LinkRecord.{LinkRecord, lines}
 use Rattle.link_theory.specs.GoodLinks.{GoodLinks}
 use Rattle.link_theory.specs.BestLinks.{link_value, BoundedLinks, NoLinks}
 use Rattle.link_theory.specs.Plain.{plain}
@@ -26,7 +26,7 @@ use Rattle.link_theory.proofs.LinkGoals.{link_point_not_negative, link_goal_valu
 use Rattle.link_theory.proofs.NamedLinkRows.{link_row_law}
 
 -- ---- leaves
-module _ (a : Street) (box : Area) (t : LinkPlan) (c : LinkCounts a box t) (ws : List LinkWeight) (w : AreLinkWeights a ws) where
+module _ (a : Street) (box : Area) (t : LinkRecord) (c : LinkCounts a box t) (ws : List LinkWeight) (w : AreLinkWeights a ws) where
   -- the point of a good link timing of the box meets a leaf's sum
   pub link_leaf_met : IsMet (link_point a t) (link_sum a box ws)
   link_leaf_met = sum_met (link_row a box) (HasLinkRow a) (link_point a t) (link_row_law a box t c) ws w
@@ -43,7 +43,7 @@ module _ (a : Street) (box : Area) (t : LinkPlan) (c : LinkCounts a box t) (ws :
       refuted (link_width (count a)) (link_point a t) (link_point_width a t c.good.plan c.good.base.shape c.street.signals) (link_point_not_negative a t c.street c.good) (link_sum a box ws) link_leaf_met m
 
 -- ---- trees
-module _ (a : Street) (t : LinkPlan) (h : IsStreet a) (g : GoodLinks a t) where
+module _ (a : Street) (t : LinkRecord) (h : IsStreet a) (g : GoodLinks a t) where
   -- the lines lie in the root box
   pub lines_in_root : (root : Area) → IsRoot a root → InBox a root (lines t)
   lines_in_root root r = from_plain_inside a root (lines t) (root_law (plain a) (lines t) (plain_street a h) (good_lines a t h g) root (plain_root a root r))

@@ -11,7 +11,7 @@ use Rattle.linear_theory.specs.Counts.{Counts}
 use Rattle.linear_theory.proofs.NamedRows.{row_law}
 use Rattle.linear_theory.proofs.Points.{point_width}
 use Rattle.linear_theory.proofs.SparseSums.{line_width}
-use Rattle.link_theory.specs.LinkPlan.{LinkPlan, lines}
+use Rattle.link_theory.specs.LinkRecord.{LinkRecord, lines}
 use Rattle.linear_theory.proofs.PlacedRows.{widened_met}
 use Rattle.link_theory.specs.LinkColumns.{link_point}
 use Rattle.link_theory.specs.Plain.{plain}
@@ -21,7 +21,7 @@ use Rattle.link_theory.specs.LinkCounts.{LinkCounts, IsGoodLinkPoint}
 use Rattle.link_theory.proofs.LinesAreGood.{good_lines}
 use Rattle.link_theory.proofs.LinkRowLaws.{near_law, far_law, ratio_law}
 
-module _ (a : Street) (box : Area) (t : LinkPlan) (c : LinkCounts a box t) where
+module _ (a : Street) (box : Area) (t : LinkRecord) (c : LinkCounts a box t) where
   -- the lines count for the same box of the plain artery
   pub lines_count : Counts (plain a) box (lines t)
   lines_count = record {

@@ -5,7 +5,7 @@ use Rattle.std.specs.Prelude.{map, IfSome, ◌+◌, ◌-◌}
 use Rattle.rational_theory.specs.Rational.{ℚ, ◌*ℚ◌, ◌≤ℚ◌, ◌<ℚ◌}
 use Rattle.progression.specs.Street.{Street, count, HasSignal, HasLink, red_parts, speed}
 use Rattle.progression.specs.Speeds.{number, run_low, run_high, change}
-use Rattle.progression.specs.Plan.{Plan, cycle, run}
+use Rattle.progression.specs.TimingRecord.{TimingRecord, cycle, run}
 use Rattle.progression.specs.Green.{mod_ℤ, red_start, red_ticks}
 use Rattle.progression.specs.Lines.{advance, crossing, line_at}
 use Rattle.progression.specs.Good.{IsBase, pace_change}
@@ -30,7 +30,7 @@ module _ (a : Street) (out back : ℚ) (e : Bool) where
   other = with_leasts a out back e
 
   -- ---- lines and points
-  module _ (t : Plan) where
+  module _ (t : TimingRecord) where
     other_crossing : (d : Dir) (j : ℕ) → crossing other t d j ≡ crossing a t d j
     other_crossing d zero = refl
     other_crossing Outbound (suc j) = ap (λ z. z +ℤ advance a t Outbound j) (other_crossing Outbound j)
@@ -52,7 +52,7 @@ module _ (a : Street) (out back : ℚ) (e : Bool) where
     other_point = λ i. map (λ c. share a t (other_ticks c i)) (columns (count a))
 
   -- ---- the rules that don't speak of bands
-  module _ (t : Plan) (g : IsBase a t) where
+  module _ (t : TimingRecord) (g : IsBase a t) where
     fast_there : (d : Dir) (i : ℕ) → HasLink a i → (run_low other d i *ℚ number t.grid) ≤ℚ number (run t d i)
     fast_there Outbound i k = g.fast Outbound i k
     fast_there Inbound i k = g.fast Inbound i k
@@ -87,13 +87,13 @@ module _ (a : Street) (out back : ℚ) (e : Bool) where
     other_box : IsBoxOf a box → IsBoxOf other box
     other_box b = record { loops_count = b.loops_count; turns_count = b.turns_count; spans = b.spans; ranks_order = b.ranks_order; ranks_most = b.ranks_most }
 
-    other_loop : (t : Plan) (i : ℕ) → LoopIn a box t i → LoopIn other box t i
+    other_loop : (t : TimingRecord) (i : ℕ) → LoopIn a box t i → LoopIn other box t i
     other_loop t i l = record { number = l.number; is = ap (λ x. block_sum a x i) (other_point t) ∙ l.is; least = l.least; most = l.most }
 
-    other_turn : (t : Plan) (i : ℕ) → TurnIn a box t i → TurnIn other box t i
+    other_turn : (t : TimingRecord) (i : ℕ) → TurnIn a box t i → TurnIn other box t i
     other_turn t i l = record { rank = l.rank; is = l.is; least = l.least; most = l.most }
 
-    other_inside : (t : Plan) → InBox a box t → InBox other box t
+    other_inside : (t : TimingRecord) → InBox a box t → InBox other box t
     other_inside t m = record { loops = λ i k. other_loop t i (m.loops i k); turns = λ i k. other_turn t i (m.turns i k) }
 
   -- ---- rows that name no band
@@ -119,19 +119,19 @@ module _ (a : Street) (out back : ℚ) (e : Bool) where
 
 -- ---- without least bands and equal bands
 module _ (a : Street) where
-  pub same_crossing : (t : Plan) (d : Dir) (j : ℕ) → crossing (plain a) t d j ≡ crossing a t d j
+  pub same_crossing : (t : TimingRecord) (d : Dir) (j : ℕ) → crossing (plain a) t d j ≡ crossing a t d j
   same_crossing = other_crossing a (number 0) (number 0) false
 
-  pub same_ticks : (t : Plan) (c : Column) → ticks (plain a) t c ≡ ticks a t c
+  pub same_ticks : (t : TimingRecord) (c : Column) → ticks (plain a) t c ≡ ticks a t c
   same_ticks = other_ticks a (number 0) (number 0) false
 
-  pub same_point : (t : Plan) → point (plain a) t ≡ point a t
+  pub same_point : (t : TimingRecord) → point (plain a) t ≡ point a t
   same_point = other_point a (number 0) (number 0) false
 
-  pub plain_base : (t : Plan) → IsBase a t → IsBase (plain a) t
+  pub plain_base : (t : TimingRecord) → IsBase a t → IsBase (plain a) t
   plain_base = other_base a (number 0) (number 0) false
 
-  pub from_plain_base : (t : Plan) → IsBase (plain a) t → IsBase a t
+  pub from_plain_base : (t : TimingRecord) → IsBase (plain a) t → IsBase a t
   from_plain_base = other_base (plain a) a.head.least_out a.head.least_in a.head.equal
 
   pub plain_box : (box : Area) → IsBoxOf a box → IsBoxOf (plain a) box
@@ -140,10 +140,10 @@ module _ (a : Street) where
   pub from_plain_box : (box : Area) → IsBoxOf (plain a) box → IsBoxOf a box
   from_plain_box = other_box (plain a) a.head.least_out a.head.least_in a.head.equal
 
-  pub plain_inside : (box : Area) (t : Plan) → InBox a box t → InBox (plain a) box t
+  pub plain_inside : (box : Area) (t : TimingRecord) → InBox a box t → InBox (plain a) box t
   plain_inside = other_inside a (number 0) (number 0) false
 
-  pub from_plain_inside : (box : Area) (t : Plan) → InBox (plain a) box t → InBox a box t
+  pub from_plain_inside : (box : Area) (t : TimingRecord) → InBox (plain a) box t → InBox a box t
   from_plain_inside = other_inside (plain a) a.head.least_out a.head.least_in a.head.equal
 
   pub plain_has : (n : Name) → NamesNoBand n → HasRow a n → HasRow (plain a) n

@@ -16,7 +16,7 @@ use Rattle.linear_theory.proofs.Places.{IsColumn}
 use Rattle.linear_theory.proofs.Points.{share, length-numbered, get-numbered}
 use Rattle.linear_theory.specs.Boxes.{Area}
 use Rattle.linear_theory.proofs.Ranges.{parts_above}
-use Rattle.link_theory.specs.LinkPlan.{LinkPlan, IsLinkPlan, lines, half}
+use Rattle.link_theory.specs.LinkRecord.{LinkRecord, IsLinkRecord, lines, half}
 use Rattle.link_theory.specs.GoodLinks.{GoodLinks, IsGreenAround}
 use Rattle.link_theory.specs.BestLinks.{link_value}
 use Rattle.link_theory.specs.LinkColumns.{half_place, link_point}
@@ -43,7 +43,7 @@ use Rattle.link_theory.proofs.LinesOfVertices.{lines_vertex}
 use Rattle.link_theory.proofs.Agreeing.{column_at, same_lists}
 
 module _ (a : Street) (box : Area) (x : List ℚ) (h : IsStreet a) (v : IsLinkVertex a box x) (w : IsWhole a x) where
-  abbrev timing : LinkPlan
+  abbrev timing : LinkRecord
   timing = link_timing_of a x
 
   vertex : IsLongVertex (plain a) box x
@@ -71,7 +71,7 @@ module _ (a : Street) (box : Area) (x : List ℚ) (h : IsStreet a) (v : IsLinkVe
   half_is Outbound i k = let l = k.0 in let m = k.1 in get-numbered (count a - 1) 1 (i - 1) (half_ticks a x Outbound) 0 (omega arith) ∙ ap (half_ticks a x Outbound) (omega arith)
   half_is Inbound i k = let l = k.0 in let m = k.1 in get-numbered (count a - 1) 1 (i - 1) (half_ticks a x Inbound) 0 (omega arith) ∙ ap (half_ticks a x Inbound) (omega arith)
 
-  plan : IsLinkPlan timing
+  plan : IsLinkRecord timing
   plan =
       let s = base_there.shape in let two = h.signals in
       let o = length-numbered (count a - 1) 1 (half_ticks a x Outbound) in

@@ -1,7 +1,7 @@
 -- The symmetric window lemma at a signal of a link timing, in ticks, for both directions.
 use Rattle.std.proofs.Common.{◌↔◌, ℕ, ◌+◌, ◌-◌, ◌≤◌}
 use Rattle.progression.specs.Street.{Street, HasSignal}
-use Rattle.progression.specs.Plan.{cycle}
+use Rattle.progression.specs.TimingRecord.{cycle}
 use Rattle.progression.specs.Green.{BandIsGreen, red_start, red_ticks}
 use Rattle.progression.specs.Lines.{line_at}
 use Rattle.progression.specs.Columns.{wait}
@@ -9,11 +9,11 @@ use Rattle.progression.specs.declared.parts.Dir.{Dir}
 use Rattle.progression.specs.declared.parts.Dir.TheVariants.{Outbound, Inbound}
 use Rattle.linear_theory.specs.Counts.{IsStreet}
 use Rattle.linear_theory.proofs.Ranges.{red_some, red_less}
-use Rattle.link_theory.specs.LinkPlan.{LinkPlan, lines}
+use Rattle.link_theory.specs.LinkRecord.{LinkRecord, lines}
 use Rattle.link_theory.specs.GoodLinks.{IsGreenAround}
 use Rattle.link_theory.proofs.SymmetricWindows.{around_after, around_before, line_from_around}
 
-module _ (a : Street) (t : LinkPlan) (h : IsStreet a) (u : 2 ≤ t.unit) where
+module _ (a : Street) (t : LinkRecord) (h : IsStreet a) (u : 2 ≤ t.unit) where
   -- the surroundings of a line are green exactly where they are at most its wait, and fit into the green with it
   pub around : (d : Dir) (i k : ℕ) → HasSignal a i
       → IsGreenAround a t d i k ↔ ((k ≤ wait a (lines t) d i) × (wait a (lines t) d i + k ≤ cycle a (lines t) - red_ticks a (lines t) d i))

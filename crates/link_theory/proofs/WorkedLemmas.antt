@@ -11,7 +11,7 @@ use Rattle.progression.specs.Good.{RatioHolds}
 use Rattle.progression.specs.Worked.{two_signals}
 use Rattle.progression.proofs.WorkedLemmas.{at_link, both, whole_greens}
 use Rattle.progression.specs.declared.parts.Dir.TheVariants.{Outbound, Inbound}
-use Rattle.link_theory.specs.LinkPlan.{LinkPlan, half}
+use Rattle.link_theory.specs.LinkRecord.{LinkRecord, half}
 use Rattle.link_theory.specs.GoodLinks.{GoodLinks, IsGreenAround}
 use Rattle.link_theory.specs.BestLinks.{link_value}
 use Rattle.linear_theory.proofs.Ratios.{at_one}
@@ -23,7 +23,7 @@ use Rattle.link_theory.specs.LinkNames.{link_name_of, link_row}
 use Rattle.link_theory.specs.Worked.{link_timing, half_as_much, row_of_cells, WorkedLinks}
 
 module _ (first_out : ℤ) (half_out : ℕ) where
-  abbrev worked : LinkPlan
+  abbrev worked : LinkRecord
   worked = link_timing first_out half_out 50
 
   in_here : IsGreenAround two_signals worked Inbound 1 50

@@ -2,21 +2,21 @@
 -- ratio, and are green at both ends of the link. Least bands and equal bands play no part.
 use Rattle.std.specs.Prelude.{ℕ, ◌+◌, ◌*◌, pos, ◌-ℤ◌}
 use Rattle.progression.specs.Street.{Street, HasLink}
-use Rattle.progression.specs.Plan.{cycle}
+use Rattle.progression.specs.TimingRecord.{cycle}
 use Rattle.progression.specs.Green.{BandIsGreen, red_start, red_ticks}
 use Rattle.progression.specs.Lines.{line_at}
 use Rattle.progression.specs.Good.{IsBase, RatioHolds}
 use Rattle.progression.specs.declared.parts.Dir.{Dir}
 use Rattle.progression.specs.declared.parts.Dir.TheVariants.{Outbound, Inbound}
-use Rattle.link_theory.specs.LinkPlan.{LinkPlan, IsLinkPlan, lines, half}
+use Rattle.link_theory.specs.LinkRecord.{LinkRecord, IsLinkRecord, lines, half}
 
 -- every tick from h before the direction's line to h after it is green at signal i
-abbrev pub IsGreenAround : Street → LinkPlan → Dir → ℕ → ℕ → Type 0
+abbrev pub IsGreenAround : Street → LinkRecord → Dir → ℕ → ℕ → Type 0
 IsGreenAround a t d i h = let p = lines t in
     BandIsGreen (cycle a p) (red_start a p d i) (red_ticks a p d i) (line_at a p d i -ℤ pos h) (2 * h)
 
-pub record GoodLinks (a : Street) (t : LinkPlan) : Type 0 where
-  pub plan : IsLinkPlan t
+pub record GoodLinks (a : Street) (t : LinkRecord) : Type 0 where
+  pub plan : IsLinkRecord t
   pub base : IsBase a (lines t)
   pub ratio : (i : ℕ) → HasLink a i → RatioHolds a.head.ratio (half t Outbound i) (half t Inbound i)
   pub here : (d : Dir) (i : ℕ) → HasLink a i → IsGreenAround a t d i (half t d i)

@@ -1,4 +1,4 @@
-pub mod LinkPlan
+pub mod LinkRecord
 pub mod GoodLinks
 pub mod BestLinks
 pub mod Plain

@@ -10,7 +10,7 @@ use Rattle.progression.specs.declared.parts.Dir.{Dir}
 use Rattle.progression.specs.declared.parts.Dir.TheVariants.{Outbound, Inbound}
 use Rattle.linear_theory.specs.Places.{value_at}
 use Rattle.linear_theory.specs.Boxes.{Area}
-use Rattle.link_theory.specs.LinkPlan.{LinkPlan, with_halves}
+use Rattle.link_theory.specs.LinkRecord.{LinkRecord, with_halves}
 use Rattle.link_theory.specs.LinkColumns.{link_width, half_place}
 use Rattle.link_theory.specs.LinkNames.{LinkName, HasLinkRow, link_row}
 use Rattle.recovery_theory.specs.Ticks.{ticks_in}
@@ -28,5 +28,5 @@ abbrev pub half_ticks : Street → List ℚ → Dir → ℕ → ℕ
 half_ticks a x d i = ticks_in a x (half_place (count a) d i)
 
 -- the link timing of a point; its unit is that of all columns
-abbrev pub link_timing_of : Street → List ℚ → LinkPlan
+abbrev pub link_timing_of : Street → List ℚ → LinkRecord
 link_timing_of a x = with_halves (timing_of a x) (numbered (count a - 1) 1 (half_ticks a x Outbound)) (numbered (count a - 1) 1 (half_ticks a x Inbound))

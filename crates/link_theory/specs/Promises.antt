@@ -11,7 +11,7 @@ use Rattle.linear_theory.specs.Counts.{IsStreet}
 use Rattle.linear_theory.specs.Trees.{AcceptedBy}
 use Rattle.recovery_theory.specs.Vertices.{IsWhole}
 use Rattle.recovery_theory.specs.Splitting.{is_whole_number, is_ranked, rank_below}
-use Rattle.link_theory.specs.LinkPlan.{LinkPlan, lines}
+use Rattle.link_theory.specs.LinkRecord.{LinkRecord, lines}
 use Rattle.link_theory.specs.GoodLinks.{GoodLinks}
 use Rattle.link_theory.specs.BestLinks.{link_value, BoundedLinks, NoLinks}
 use Rattle.link_theory.specs.Plain.{plain}
@@ -25,13 +25,13 @@ use Rattle.link_theory.specs.LinkVertices.{IsLinkVertex, link_timing_of}
 -- no good link timing, on any grid, is lost between the diagram and the rows
 pub record NoLinkTimingIsLost : Type 0 where
   -- its lines are a good timing of the artery without least bands and equal bands
-  pub good_lines : (a : Street) (t : LinkPlan) → IsStreet a → GoodLinks a t → Good (plain a) (lines t)
+  pub good_lines : (a : Street) (t : LinkRecord) → IsStreet a → GoodLinks a t → Good (plain a) (lines t)
   -- their block sums are whole, and they and the shifts lie in the root box
-  pub in_the_root : (a : Street) (t : LinkPlan) → IsStreet a → GoodLinks a t → InBox a (root_box a) (lines t)
+  pub in_the_root : (a : Street) (t : LinkRecord) → IsStreet a → GoodLinks a t → InBox a (root_box a) (lines t)
   -- its point meets each row of each box that its lines lie in
   pub rows_met : (a : Street) (box : Area) (x : List ℚ) → IsGoodLinkPoint a box x → (n : LinkName) → HasLinkRow a n → IsMet x (link_row a box n)
   -- the goal there is its value
-  pub value : (a : Street) (t : LinkPlan) → IsStreet a → GoodLinks a t → dot (link_goal a) (link_point a t) ≡ link_value a t
+  pub value : (a : Street) (t : LinkRecord) → IsStreet a → GoodLinks a t → dot (link_goal a) (link_point a t) ≡ link_value a t
   -- a tree whose leaves cover the goal or refute bounds every good link timing
   pub bounded : (a : Street) (tree : LinkTree) (value : ℚ) → IsStreet a → AcceptedBy (CoveringLeaf a value) (root_box a) tree → BoundedLinks a value
   -- one whose leaves all refute leaves no good link timing

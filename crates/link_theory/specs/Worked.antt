@@ -8,12 +8,12 @@ use Rattle.rational_theory.specs.Rows as maths
 use Rattle.linear_theory.specs.Boxes.{root_box}
 use Rattle.linear_theory.specs.Rows.{minus_one}
 use Rattle.link_theory.specs.LinkNames.{HasLinkRow, link_name_of, link_row}
-use Rattle.link_theory.specs.LinkPlan.{LinkPlan}
+use Rattle.link_theory.specs.LinkRecord.{LinkRecord}
 use Rattle.link_theory.specs.GoodLinks.{GoodLinks}
 use Rattle.link_theory.specs.BestLinks.{link_value}
 
 -- two ticks a second, the second signal half a cycle after the first
-abbrev pub link_timing : ℤ → ℕ → ℕ → LinkPlan
+abbrev pub link_timing : ℤ → ℕ → ℕ → LinkRecord
 link_timing first_out half_out half_in = record {
   grid = 2;
   unit = 2;

@@ -6,7 +6,7 @@
 //!
 //! Definitions, in the order in which they stand on each other:
 //!
-//! - `LinkPlan`: a link timing, and its two lines as a timing of `progression`, `lines t`. `GoodLinks a t`. `BestLinks a t`, with
+//! - `LinkRecord`: a link timing, and its two lines as a timing of `progression`, `lines t`. `GoodLinks a t`. `BestLinks a t`, with
 //!   `link_value`, `BoundedLinks`, `NoLinks`.
 //! - `Plain`: `plain a`, the artery without least bands and equal bands, of which the lines are a good timing.
 //! - `LinkColumns`: `link_width n`, `half_place n d i`, `link_point a t`. `LinkRows`: `LinkForm`, `link_line`, a form for

@@ -5,7 +5,7 @@ use Rattle.workload_maker.specs.Made.{made_street}
 use Rattle.maxband_run.specs.Command.{Request, Solve, Links, Renew, RoundFrom, TimingOf, Draw, Make, Trial, Sweep, shape}
 use Rattle.maxband_run.specs.Outside.{Outside, NamedBytes, named, put_of, IsDone, IsBroken}
 use Rattle.progression.specs.Street.{Street}
-use Rattle.progression.specs.Plan.{Plan}
+use Rattle.progression.specs.TimingRecord.{TimingRecord}
 use Rattle.plan_text.specs.Warrants.{Warrant}
 use Rattle.maxband_run.specs.Round.{RoundFromFinds}
 use Rattle.description_reader.specs.Typed.{Typed}
@@ -122,7 +122,7 @@ pub renew_complete : OneReading → RenewIsComplete
 renew_complete reader before now certificate new w c told r no_read no_put no_write h =
     ends_so reader before now (Some (Renew certificate new)) new refl (w, tt) (told, tt) (r, tt) (no_read, tt) (λ c. c ≡ cause.Done) (λ c lines put k. k.finds.2.cause_is) c no_put no_write h
 
-rounding_end : (a : Street) (w : Warrant) (o : Option Plan) (c : Cause) (l : List ℕ) (bytes : Option (List ℕ)) → RoundFromFinds a w o c l bytes → IsRoundingEnd c
+rounding_end : (a : Street) (w : Warrant) (o : Option TimingRecord) (c : Cause) (l : List ℕ) (bytes : Option (List ℕ)) → RoundFromFinds a w o c l bytes → IsRoundingEnd c
 rounding_end a w o cause.Done l bytes h = tt
 rounding_end a w o (cause.Rejected r) l bytes h = tt
 rounding_end a w o (cause.Fails f) l bytes h = tt
@@ -134,7 +134,7 @@ round_from_complete reader before now artery certificate other plan a w o c told
     ends_so reader before now (Some (RoundFrom artery certificate other plan)) plan refl (a, (w, (o, tt))) (told, (told_too, (told_last, tt))) (r, (q, (p, tt))) (no_read, (no_certificate, (no_other, tt))) IsRoundingEnd
     (λ c lines put k. rounding_end k.values.0 k.values.1.0 k.values.1.1.0 c lines k.bytes k.finds) c no_put no_write h
 
-writes_end : (a : Street) (t : Plan) (c : Cause) (l : List ℕ) (bytes : Option (List ℕ)) → WritesTiming a t c l bytes → IsTypedEnd c
+writes_end : (a : Street) (t : TimingRecord) (c : Cause) (l : List ℕ) (bytes : Option (List ℕ)) → WritesTiming a t c l bytes → IsTypedEnd c
 writes_end a t cause.Done l bytes h = tt
 writes_end a t (cause.Fails f) l bytes h = tt
 writes_end a t c l bytes h = absurd h
@@ -149,7 +149,7 @@ timing_complete reader before now artery plan timing a p c told plan_told r q no
     ends_so reader before now (Some (TimingOf artery plan timing)) timing refl (a, (p, tt)) (told, (plan_told, tt)) (r, (q, tt)) (no_read, (no_plan, tt)) IsTypedEnd
     (λ c lines put k. typed_end k.values.0 k.values.1.0 c lines k.bytes k.finds) c no_put no_write h
 
-drawing_end : (a : Street) (o : Option Plan) (c : Cause) (l : List ℕ) (bytes : Option (List ℕ)) → DrawFinds a o c l bytes → IsDrawingEnd c
+drawing_end : (a : Street) (o : Option TimingRecord) (c : Cause) (l : List ℕ) (bytes : Option (List ℕ)) → DrawFinds a o c l bytes → IsDrawingEnd c
 drawing_end a None c l bytes h = subst (λ (d : Cause). IsDrawingEnd d) (sym h.0) tt
 drawing_end a (Some t) cause.Done l bytes h = tt
 drawing_end a (Some t) (cause.Fails f) l bytes h = tt

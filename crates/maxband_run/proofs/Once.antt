@@ -1,7 +1,7 @@
 -- What a command finds of the same values is one thing, or a verdict of a search; it is neither a fault nor want of memory.
 use Rattle.std.proofs.Common.{arith, pos, ◌*ℤ◌, ◌++◌, ◌*◌, ◌⊎◌, ap₂, ◌≤◌, ◌≡◌, ℕ, Bool, true, false, List, [], ◌∷◌, Option, Some, None, inl, inr, refl, sym, ◌∙◌, ap, subst}
 use Rattle.progression.specs.Street.{Street, count}
-use Rattle.progression.specs.Plan.{Plan}
+use Rattle.progression.specs.TimingRecord.{TimingRecord}
 use Rattle.description_reader.specs.Printed.{OneText}
 use Rattle.progression.specs.declared.parts.Dir.{Dir}
 use Rattle.progression.specs.declared.parts.Dir.TheVariants.{Outbound, Inbound}
@@ -69,7 +69,7 @@ verdict_reached (cause.Stopped stop) v = tt
 verdict_reached c v = absurd v
 
 -- ---- each command
-hold_reached : (a : Street) (t : Plan) (c : Cause) (l : List ℕ) → HoldFinds a t c l → IsReached c
+hold_reached : (a : Street) (t : TimingRecord) (c : Cause) (l : List ℕ) → HoldFinds a t c l → IsReached c
 hold_reached a t cause.Done l h = tt
 hold_reached a t (cause.Fails f) l h = tt
 hold_reached a t c l h = absurd h
@@ -97,12 +97,12 @@ checks_reached : (k : Sought) (s : Checked k) → AllFour k s → (a : Street) (
 checks_reached k s four a w c l (inl h) = subst (λ (d : Cause). IsReached d) (sym h.cause_is) tt
 checks_reached k s four a w c l (inr h) = subst (λ (d : Cause). IsReached d) (sym h.cause_is) (four_reached (s.cause h.reject) (four h.reject))
 
-bands_reached : (a : Street) (t : Plan) (c : Cause) (l : List ℕ) → BandsFinds a t c l → IsReached c
+bands_reached : (a : Street) (t : TimingRecord) (c : Cause) (l : List ℕ) → BandsFinds a t c l → IsReached c
 bands_reached a t cause.Done l h = tt
 bands_reached a t (cause.Fails f) l h = tt
 bands_reached a t c l h = absurd h
 
-from_reached : (a : Street) (w : Warrant) (o : Option Plan) (c : Cause) (l : List ℕ) (bytes : Option (List ℕ)) → RoundFromFinds a w o c l bytes → IsReached c
+from_reached : (a : Street) (w : Warrant) (o : Option TimingRecord) (c : Cause) (l : List ℕ) (bytes : Option (List ℕ)) → RoundFromFinds a w o c l bytes → IsReached c
 from_reached a w o cause.Done l bytes h = tt
 from_reached a w o (cause.Rejected r) l bytes h = tt
 from_reached a w o (cause.Fails f) l bytes h = tt
@@ -115,13 +115,13 @@ round_reached a w (cause.Rejected r) l bytes h = tt
 round_reached a w (cause.Unplanned e) l bytes h = tt
 round_reached a w c l bytes h = absurd h
 
-half_reached : (a : Street) (t : Plan) (c : Cause) (l : List ℕ) (bytes : Option (List ℕ)) → HalfFinds a t c l bytes → IsReached c
+half_reached : (a : Street) (t : TimingRecord) (c : Cause) (l : List ℕ) (bytes : Option (List ℕ)) → HalfFinds a t c l bytes → IsReached c
 half_reached a t cause.Done l bytes h = tt
 half_reached a t (cause.Fails f) l bytes h = tt
 half_reached a t (cause.Unmatched e) l bytes h = tt
 half_reached a t c l bytes h = absurd h
 
-writes_reached : (a : Street) (t : Plan) (c : Cause) (l : List ℕ) (bytes : Option (List ℕ)) → WritesTiming a t c l bytes → IsReached c
+writes_reached : (a : Street) (t : TimingRecord) (c : Cause) (l : List ℕ) (bytes : Option (List ℕ)) → WritesTiming a t c l bytes → IsReached c
 writes_reached a t cause.Done l bytes h = tt
 writes_reached a t (cause.Fails f) l bytes h = tt
 writes_reached a t c l bytes h = absurd h
@@ -131,7 +131,7 @@ typed_reached a p c l bytes (inl h) = writes_reached a h.timing c l bytes h.find
 typed_reached a p c l bytes (inr (inl h)) = subst (λ (d : Cause). IsReached d) (sym h.cause_is) tt
 typed_reached a p c l bytes (inr (inr h)) = subst (λ (d : Cause). IsReached d) (sym h.cause_is) tt
 
-draw_reached : (a : Street) (o : Option Plan) (c : Cause) (l : List ℕ) (bytes : Option (List ℕ)) → DrawFinds a o c l bytes → IsReached c
+draw_reached : (a : Street) (o : Option TimingRecord) (c : Cause) (l : List ℕ) (bytes : Option (List ℕ)) → DrawFinds a o c l bytes → IsReached c
 draw_reached a None c l bytes h = subst (λ (d : Cause). IsReached d) (sym h.0) tt
 draw_reached a (Some t) cause.Done l bytes h = tt
 draw_reached a (Some t) (cause.Fails f) l bytes h = tt
@@ -158,7 +158,7 @@ finds_reached (Some (Make signals seed)) v c l bytes h = show_reached (made_stre
 finds_reached (Some (Trial signals seed limit)) v c l bytes h = verdict_reached c (verdict_cause c h.found.verdict h.cause_is)
 finds_reached (Some (Sweep artery table limit cycles)) v c l bytes h = subst (λ (d : Cause). IsReached d) (sym h.2.cause_is) tt
 
-hold_once : OneFirst → FailsRulesOut → (a : Street) (t : Plan) (c d : Cause) (x y : List ℕ) → HoldFinds a t c x → HoldFinds a t d y → (c ≡ d) × (x ≡ y)
+hold_once : OneFirst → FailsRulesOut → (a : Street) (t : TimingRecord) (c d : Cause) (x y : List ℕ) → HoldFinds a t c x → HoldFinds a t d y → (c ≡ d) × (x ≡ y)
 hold_once one_first rules a t cause.Done cause.Done x y h k = (refl, h.1 ∙ sym k.1)
 hold_once one_first rules a t cause.Done (cause.Fails f) x y h k = absurd (rules a t f k.0.fails h.0)
 hold_once one_first rules a t cause.Done d x y h k = absurd k
@@ -191,11 +191,11 @@ module _ (k : Sought) (s : Checked k) (once : OneRefusal k s) (a : Street) (w : 
   checks_once apart c d x y (inr h) (inr o) = rejects_once c d x y h o
 
 -- a rule that speaks of no band and fails first
-breaks_once : OneFirst → (a : Street) (t : Plan) (f g : Failing) (x y : List ℕ) → BreaksBase a t f x → BreaksBase a t g y → (cause.Fails f ≡ cause.Fails g) × (x ≡ y)
+breaks_once : OneFirst → (a : Street) (t : TimingRecord) (f g : Failing) (x y : List ℕ) → BreaksBase a t f x → BreaksBase a t g y → (cause.Fails f ≡ cause.Fails g) × (x ≡ y)
 breaks_once one_first a t f g x y h k = let e = one_first a t f g h.first k.first in (ap cause.Fails e, h.lines_are ∙ ap fails_line e ∙ sym k.lines_are)
 
 -- of one direction
-widest_once : OneWidest → FinerPairs → (a : Street) (t : Plan) (d : Dir) (v w : Option Widest) → IsValid a → 2 ≤ t.unit → IsWidestBand a t d v → IsWidestBand a t d w → v ≡ w
+widest_once : OneWidest → FinerPairs → (a : Street) (t : TimingRecord) (d : Dir) (v w : Option Widest) → IsValid a → 2 ≤ t.unit → IsWidestBand a t d v → IsWidestBand a t d w → v ≡ w
 widest_once once finer a t d None None valid unit h k = refl
 widest_once once finer a t d None (Some w) valid unit h k = absurd (h 1 (pos w.first *ℤ pos 1) (w.band * 1) (omega arith) ((finer a t d 1 (pos w.first) w.band valid unit (omega arith)).0 k.runs))
 widest_once once finer a t d (Some v) None valid unit h k = absurd (k 1 (pos v.first *ℤ pos 1) (v.band * 1) (omega arith) ((finer a t d 1 (pos v.first) v.band valid unit (omega arith)).0 h.runs))
@@ -203,7 +203,7 @@ widest_once once finer a t d (Some v) (Some w) valid unit h k =
     let e = once a t d v.first v.band w.first w.band valid unit h k in
     ap₂ (λ first band. Some (record { first = first; band = band })) e.0 e.1
 
-bands_once : OneFirst → OneWidest → FinerPairs → (a : Street) (t : Plan) (c d : Cause) (x y : List ℕ) → BandsFinds a t c x → BandsFinds a t d y → (c ≡ d) × (x ≡ y)
+bands_once : OneFirst → OneWidest → FinerPairs → (a : Street) (t : TimingRecord) (c d : Cause) (x y : List ℕ) → BandsFinds a t c x → BandsFinds a t d y → (c ≡ d) × (x ≡ y)
 bands_once one_first once finer a t cause.Done cause.Done x y h k =
     let out = widest_once once finer a t Outbound h.outbound k.outbound h.valid h.unit h.outbound_is k.outbound_is in
     let in_ = widest_once once finer a t Inbound h.inbound k.inbound h.valid h.unit h.inbound_is k.inbound_is in
@@ -222,22 +222,22 @@ same_value o x y e f = cc
 no_value : {V : Type 0} (o : Option V) (x : V) → o ≡ Some x → o ≡ None → ⊥
 no_value o x e f = absurd cc
 
-same_lines : (a : Street) (k m : ℕ) (ns os : List ℕ) (t u : Plan) (x y : ℚ) → k ≡ m → ns ≡ os → t ≡ u → x ≡ y → plan_lines a k ns t x ≡ plan_lines a m os u y
+same_lines : (a : Street) (k m : ℕ) (ns os : List ℕ) (t u : TimingRecord) (x y : ℚ) → k ≡ m → ns ≡ os → t ≡ u → x ≡ y → plan_lines a k ns t x ≡ plan_lines a m os u y
 same_lines a k m ns os t u x y e f g h = ap₂ (λ n ms. plan_lines a n ms t x) e f ∙ ap₂ (λ p z. plan_lines a m os p z) g h
 
-module _ (a : Street) (w : Warrant) (o : Option Plan) where
+module _ (a : Street) (w : Warrant) (o : Option TimingRecord) where
   pub unplanned_accepted : (e : PlanEnd) → Unplans a w o e → IsAccepted a w
   unplanned_accepted end.NoTimingGiven h = h.0
   unplanned_accepted e h = h.2.accepted
 
-  fails_apart : FailsRulesOut → (t u : Plan) (f : Failing) → o ≡ Some t → o ≡ Some u → Good a t → IsFirstFailing a u f → ⊥
+  fails_apart : FailsRulesOut → (t u : TimingRecord) (f : Failing) → o ≡ Some t → o ≡ Some u → Good a t → IsFirstFailing a u f → ⊥
   fails_apart rules t u f e g good h = rules a u f h.fails (subst (λ p. Good a p) (sym (same_value o t u e g)) good)
 
-  unplans_unfit : FailsRulesOut → (e : PlanEnd) (u : Plan) (f : Failing) → Unplans a w o e → o ≡ Some u → IsFirstFailing a u f → ⊥
+  unplans_unfit : FailsRulesOut → (e : PlanEnd) (u : TimingRecord) (f : Failing) → Unplans a w o e → o ≡ Some u → IsFirstFailing a u f → ⊥
   unplans_unfit rules end.NoTimingGiven u f h g k = no_value o u g h.1
   unplans_unfit rules e u f h g k = fails_apart rules h.0 u f h.2.timing_is g h.2.good k
 
-module _ (ends : second.OneEnd) (apart : PlanOrEnd) (one : OnePlan) (a : Street) (w : Warrant) (o : Option Plan) where
+module _ (ends : second.OneEnd) (apart : PlanOrEnd) (one : OnePlan) (a : Street) (w : Warrant) (o : Option TimingRecord) where
   plans_once : (x y s u : List ℕ) → IsRounded a w o x s → IsRounded a w o y u → x ≡ y
   plans_once x y s u h k =
       let t = same_value o h.timing k.timing h.certified.timing_is k.certified.timing_is in
@@ -247,7 +247,7 @@ module _ (ends : second.OneEnd) (apart : PlanOrEnd) (one : OnePlan) (a : Street)
       h.lines_are ∙ same_lines a h.plan.seconds k.plan.seconds h.plan.offsets.items k.plan.offsets.items h.plan.timing k.plan.timing h.plan.loss k.plan.loss e.0 e.1 e.2 e.3 ∙ sym k.lines_are
 
   -- the timing and the number of another certificate's end
-  ends_here : (t u : Plan) (x y : ℚ) (e : PlanEnd) → IsCertified a w o t x → IsCertified a w o u y → Ends a y u e → Ends a x t e
+  ends_here : (t u : TimingRecord) (x y : ℚ) (e : PlanEnd) → IsCertified a w o t x → IsCertified a w o u y → Ends a y u e → Ends a x t e
   ends_here t u x y e c d h =
       subst (λ p. Ends a x p e) (same_value o t u c.timing_is d.timing_is) (subst (λ q. Ends a q u e) (same_value (limit_of w.claim) x y c.claim_is d.claim_is) h)
 
@@ -300,7 +300,7 @@ own_from a w (cause.Unplanned e) l bytes h = h
 own_from a w c l bytes h = absurd h
 
 -- of several half-cycle plans that are as wide any may be told
-half_once : OneFirst → OneEnd → (a : Street) (t : Plan) (c d : Cause) (x y : List ℕ) (s u : Option (List ℕ)) → HalfFinds a t c x s → HalfFinds a t d y u → ((c ≡ d) × (x ≡ y)) ⊎ (IsVerdict c × IsVerdict d)
+half_once : OneFirst → OneEnd → (a : Street) (t : TimingRecord) (c d : Cause) (x y : List ℕ) (s u : Option (List ℕ)) → HalfFinds a t c x s → HalfFinds a t d y u → ((c ≡ d) × (x ≡ y)) ⊎ (IsVerdict c × IsVerdict d)
 half_once one_first ends a t cause.Done cause.Done x y s u h k = inr (tt, tt)
 half_once one_first ends a t cause.Done (cause.Fails f) x y s u h k = absurd (k.0.not_base h.base)
 half_once one_first ends a t cause.Done (cause.Unmatched e) x y s u h k = absurd (ends.not_ready a t e k.first h.ready)
@@ -318,7 +318,7 @@ half_once one_first ends a t (cause.Unmatched e) d x y s u h k = absurd k
 half_once one_first ends a t c d x y s u h k = absurd h
 
 -- ---- a typed plan
-writes_once : OneFirst → OneWidest → FinerPairs → (a : Street) (t : Plan) (c d : Cause) (x y : List ℕ) (s u : Option (List ℕ)) → WritesTiming a t c x s → WritesTiming a t d y u → (c ≡ d) × (x ≡ y)
+writes_once : OneFirst → OneWidest → FinerPairs → (a : Street) (t : TimingRecord) (c d : Cause) (x y : List ℕ) (s u : Option (List ℕ)) → WritesTiming a t c x s → WritesTiming a t d y u → (c ≡ d) × (x ≡ y)
 writes_once one_first once finer a t cause.Done cause.Done x y s u h k =
     let e = bands_once one_first once finer a t cause.Done cause.Done h.2.bands k.2.bands h.2.measured k.2.measured in
     (refl, h.2.lines_are ∙ ap (λ l. l ++ weighted_line a t) e.1 ∙ sym k.2.lines_are)
@@ -333,7 +333,7 @@ module _ (one : OneTiming) (one_first : OneFirst) (once : OneWidest) (finer : Fi
   typed_once : (c d : Cause) (x y : List ℕ) (s u : Option (List ℕ)) → TypedFinds a p c x s → TypedFinds a p d y u → (c ≡ d) × (x ≡ y)
   typed_once c d x y s u (inl h) (inl k) =
       let e = one a p k.timing h.timing h.valid k.timing_is h.timing_is in
-      writes_once one_first once finer a h.timing c d x y s u h.finds (subst (λ (t : Plan). WritesTiming a t d y u) e k.finds)
+      writes_once one_first once finer a h.timing c d x y s u h.finds (subst (λ (t : TimingRecord). WritesTiming a t d y u) e k.finds)
   typed_once c d x y s u (inl h) (inr (inl k)) = absurd (no_value (count_fault a p) (fault_of k.refusal) k.first h.timing_is.counts)
   typed_once c d x y s u (inl h) (inr (inr k)) = absurd (no_value (too_fine a p) k.ticks k.first.1 h.timing_is.fine)
   typed_once c d x y s u (inr (inl h)) (inl k) = absurd (no_value (count_fault a p) (fault_of h.refusal) h.first k.timing_is.counts)
@@ -347,7 +347,7 @@ module _ (one : OneTiming) (one_first : OneFirst) (once : OneWidest) (finer : Fi
       let e = sym (same_value (too_fine a p) h.ticks k.ticks h.first.1 k.first.1) in
       (h.cause_is ∙ ap (λ n. cause.Unmatched (half_end.TooFine n)) e ∙ sym k.cause_is, h.lines_are ∙ ap (λ n. end_line (half_end.TooFine n)) e ∙ sym k.lines_are)
 
-draw_once : OneFirst → FailsRulesOut → (a : Street) (o : Option Plan) (c d : Cause) (x y : List ℕ) (s u : Option (List ℕ)) → DrawFinds a o c x s → DrawFinds a o d y u → (c ≡ d) × (x ≡ y)
+draw_once : OneFirst → FailsRulesOut → (a : Street) (o : Option TimingRecord) (c d : Cause) (x y : List ℕ) (s u : Option (List ℕ)) → DrawFinds a o c x s → DrawFinds a o d y u → (c ≡ d) × (x ≡ y)
 draw_once one_first rules a None c d x y s u h k = (h.0 ∙ sym k.0, h.1 ∙ sym k.1)
 draw_once one_first rules a (Some t) cause.Done cause.Done x y s u h k = (refl, h.2.lines_are ∙ sym k.2.lines_are)
 draw_once one_first rules a (Some t) cause.Done (cause.Fails f) x y s u h k = absurd (rules a t f k.0.fails h.2.good)

@@ -6,7 +6,7 @@ use Rattle.outer_edge.specs.Taken.{Appends}
 use Rattle.rational_theory.specs.Rational.{ℚ, ◌+ℚ◌, ◌-ℚ◌, ◌≤ℚ◌}
 use Rattle.rational_theory.proofs.Ring.{ring, at, minus, ◌⊕◌}
 use Rattle.progression.specs.Street.{Street}
-use Rattle.progression.specs.Plan.{Plan}
+use Rattle.progression.specs.TimingRecord.{TimingRecord}
 use Rattle.progression.specs.Good.{Good}
 use Rattle.progression.specs.Best.{weighted_band}
 use Rattle.search_box.proofs.Streets.{street_of}
@@ -33,14 +33,14 @@ use Rattle.maxband_run.proofs.PlansSay.{round_four, round_ten, from_four, from_t
 use Rattle.maxband_run.proofs.Readers.{OneReading}
 
 -- no good timing exceeds what an accepted certificate claims
-lost : (a : Street) (w : Warrant) (o : Option Plan) (timing : Plan) (claim band loss : ℚ) → IsCertified a w o timing claim → loss ≡ claim -ℚ band → (s : Plan) → Good a s → weighted_band a s ≤ℚ (band +ℚ loss)
+lost : (a : Street) (w : Warrant) (o : Option TimingRecord) (timing : TimingRecord) (claim band loss : ℚ) → IsCertified a w o timing claim → loss ≡ claim -ℚ band → (s : TimingRecord) → Good a s → weighted_band a s ≤ℚ (band +ℚ loss)
 lost a w o timing claim band loss c e s good =
     let below : weighted_band a s ≤ℚ claim = claim_bounds a w.claim w.timing claim c.claim_is (accepted_holds a w (street_of a c.valid) c.accepted) s good in
     let whole : claim ≡ band +ℚ loss = ring (at 0) (at 1 ⊕ (at 0 ⊕ minus (at 1))) (claim ∷ band ∷ []) refl ∙ ap (λ l. band +ℚ l) (sym e) in
     subst (λ x. weighted_band a s ≤ℚ x) whole below
 
 -- what is found of a rounded timing, and put
-rounded_put : (before now : Outside) (artery plan : List ℕ) (a : Street) (w : Warrant) (o : Option Plan) (lines text : List ℕ) → Reads Description (before.holds artery) a
+rounded_put : (before now : Outside) (artery plan : List ℕ) (a : Street) (w : Warrant) (o : Option TimingRecord) (lines text : List ℕ) → Reads Description (before.holds artery) a
     → IsRounded a w o lines text → HoldsExactly (now.holds plan) text → Appends before.taken now.taken lines → PutsPlan before now artery plan
 rounded_put before now artery plan a w o lines text description r held told = record {
   street = a;
@@ -87,7 +87,7 @@ round_from_says apart rules before now artery certificate other plan c h = (
   (λ e. from_ten before now artery certificate other plan c e h),
 )
 
-good_done : FailsRulesOut → (a : Street) (t : Plan) (c : Cause) (lines : List ℕ) → Good a t → HoldFinds a t c lines → c ≡ cause.Done
+good_done : FailsRulesOut → (a : Street) (t : TimingRecord) (c : Cause) (lines : List ℕ) → Good a t → HoldFinds a t c lines → c ≡ cause.Done
 good_done rules a t cause.Done lines good h = refl
 good_done rules a t (cause.Fails f) lines good h = absurd (rules a t f h.0.fails good)
 good_done rules a t c lines good h = absurd h

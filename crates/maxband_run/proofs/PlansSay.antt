@@ -5,7 +5,7 @@ use Rattle.rational_theory.specs.Rational.{ℚ}
 use Rattle.outer_edge.specs.Held.{HoldsExactly}
 use Rattle.outer_edge.specs.Taken.{Appends}
 use Rattle.progression.specs.Street.{Street}
-use Rattle.progression.specs.Plan.{Plan}
+use Rattle.progression.specs.TimingRecord.{TimingRecord}
 use Rattle.time_space.specs.Failing.{FailsRulesOut}
 use Rattle.time_space.specs.declared.failing.Failing.{Failing}
 use Rattle.half_integer.specs.Answers.{OneEnd}
@@ -207,7 +207,7 @@ module _ (before now : Outside) (artery certificate other plan : List ℕ) where
         timing = h.timing;
         failing = f;
         description = k.answer.read.0;
-        text = subst (λ (o : Option Plan). Reads Timed (before.holds other) o) h.timing_is k.answer.read.1.1.0;
+        text = subst (λ (o : Option TimingRecord). Reads Timed (before.holds other) o) h.timing_is k.answer.read.1.1.0;
         fails = h.first.fails;
         not_good = rules k.answer.values.0 h.timing f h.first.fails;
         cause_is = refl;
@@ -252,7 +252,7 @@ eleven_three : ◌≡◌ {A = ℕ} 11 3 → ⊥
 eleven_three e = omega (arith, e)
 
 -- no timing is put with status 3
-no_three : (a : Street) (t : Plan) (c : Cause) (l : List ℕ) (bytes : Option (List ℕ)) → number_of c ≡ 3 → WritesTiming a t c l bytes → ⊥
+no_three : (a : Street) (t : TimingRecord) (c : Cause) (l : List ℕ) (bytes : Option (List ℕ)) → number_of c ≡ 3 → WritesTiming a t c l bytes → ⊥
 no_three a t cause.Done l bytes e h = absurd cc
 no_three a t (cause.Fails f) l bytes e h = absurd cc
 no_three a t c l bytes e h = h
@@ -288,7 +288,7 @@ module _ (before now : Outside) (artery plan timing : List ℕ) where
           record { street = a; typed = p; refusal = h.refusal; description = d; text = r; first = h.first; cause_is = h.cause_is; kept = kept_none lines put bytes put_is h.no_put done }
       miscounted c e (inr (inr h)) = absurd (eleven_three (sym (ap number_of h.cause_is) ∙ e))
 
-      breaks : (t : Plan) → IsTimingOf a p t → (c : Cause) → number_of c ≡ 4 → WritesTiming a t c lines bytes → SaysBroken before now artery plan c
+      breaks : (t : TimingRecord) → IsTimingOf a p t → (c : Cause) → number_of c ≡ 4 → WritesTiming a t c lines bytes → SaysBroken before now artery plan c
       breaks t is (cause.Fails f) e h = record {
         street = a;
         typed = p;
@@ -346,7 +346,7 @@ ten_apart e = omega (arith, e)
 
 module _ (rules : FailsRulesOut) (before now : Outside) (artery timed picture : List ℕ) where
   -- what is found of the timing, where the file has one
-  picture_of : (a : Street) (o : Option Plan) (f : Found before now (Some (Draw artery timed picture)) cause.Done) → Reads Description (before.holds artery) a → Reads Timed (before.holds timed) o
+  picture_of : (a : Street) (o : Option TimingRecord) (f : Found before now (Some (Draw artery timed picture)) cause.Done) → Reads Description (before.holds artery) a → Reads Timed (before.holds timed) o
       → DrawFinds a o cause.Done f.lines f.answer.bytes → PutsPicture before now artery timed picture
   picture_of a None f d r h = let e = h.0 in absurd cc
   picture_of a (Some t) f d r h = record {
@@ -359,7 +359,7 @@ module _ (rules : FailsRulesOut) (before now : Outside) (artery timed picture : 
     told = subst (λ (l : List ℕ). Appends before.taken now.taken l) h.2.lines_are f.done.written;
   }
 
-  undrawn_of : (a : Street) (o : Option Plan) (c : Cause) (l : List ℕ) (bytes : Option (List ℕ)) → Reads Description (before.holds artery) a → Reads Timed (before.holds timed) o → number_of c ≡ 4
+  undrawn_of : (a : Street) (o : Option TimingRecord) (c : Cause) (l : List ℕ) (bytes : Option (List ℕ)) → Reads Description (before.holds artery) a → Reads Timed (before.holds timed) o → number_of c ≡ 4
       → DrawFinds a o c l bytes → SaysFailing before artery timed c
   undrawn_of a None c l bytes d r e h = absurd (ten_apart (sym (ap number_of h.0) ∙ e))
   undrawn_of a (Some t) (cause.Fails f) l bytes d r e h = record {
@@ -375,7 +375,7 @@ module _ (rules : FailsRulesOut) (before now : Outside) (artery timed picture : 
   undrawn_of a (Some t) cause.Done l bytes d r e h = absurd cc
   undrawn_of a (Some t) c l bytes d r e h = absurd h
 
-  untimed_of : (a : Street) (o : Option Plan) (reason : PlanEnd) (l : List ℕ) (bytes : Option (List ℕ)) → Reads Description (before.holds artery) a → Reads Timed (before.holds timed) o
+  untimed_of : (a : Street) (o : Option TimingRecord) (reason : PlanEnd) (l : List ℕ) (bytes : Option (List ℕ)) → Reads Description (before.holds artery) a → Reads Timed (before.holds timed) o
       → DrawFinds a o (cause.Unplanned reason) l bytes → SaysUntimed before artery timed (cause.Unplanned reason)
   untimed_of a None reason l bytes d r h = record { street = a; description = d; text = r; cause_is = h.0 }
   untimed_of a (Some t) reason l bytes d r h = absurd h

@@ -5,7 +5,7 @@ use Rattle.outer_edge.specs.Held.{HoldsExactly}
 use Rattle.outer_edge.specs.Taken.{Appends}
 use Rattle.rational_theory.specs.Rational.{ℚ, ◌≤ℚ◌}
 use Rattle.progression.specs.Street.{Street}
-use Rattle.progression.specs.Plan.{Plan}
+use Rattle.progression.specs.TimingRecord.{TimingRecord}
 use Rattle.plan_text.specs.CertificateReading.{certificate_of}
 use Rattle.plan_text.specs.declared.certificate.Claim.{Claim}
 use Rattle.plan_text.specs.declared.certificate.Claim.TheVariants as claim
@@ -27,7 +27,7 @@ use Rattle.branch_tree.specs.ArteryRules.{rules_of}
 use Rattle.branch_tree.specs.Searches.{incumbent_of}
 use Rattle.branch_tree.specs.SiteNames.{IsSiteOf, EndsAt}
 use Rattle.branch_tree.specs.Enough.{enough_of, IsTooLow, IsWithin}
-use Rattle.link_theory.specs.LinkPlan.{LinkPlan}
+use Rattle.link_theory.specs.LinkRecord.{LinkRecord}
 use Rattle.multi_band.specs.LinkCertified.{link_warrant_of}
 use Rattle.multi_band.specs.LinkKind.{link_bands as kind_of_links}
 use Rattle.multi_band.specs.LinkRules.{link_rules}
@@ -221,7 +221,7 @@ module _ {T K : Type 0} (r : Rules T K SitePart) (enough : ℕ) (IsNamed : Site 
       }
 
 -- ---- solve
-whole_proves : (a : Street) (timing : Option Plan) (bound : ℚ) (verdict : Verdict SitePart) → Proves (kind_of_whole a) timing bound verdict → ProvesOf whole_bands a timing bound verdict
+whole_proves : (a : Street) (timing : Option TimingRecord) (bound : ℚ) (verdict : Verdict SitePart) → Proves (kind_of_whole a) timing bound verdict → ProvesOf whole_bands a timing bound verdict
 whole_proves a None bound Best h = absurd h
 whole_proves a (Some plan) bound Best h = h
 whole_proves a timing bound NoTiming h = h
@@ -252,7 +252,7 @@ solve_put before now artery certificate limit c v h =
       };
     }
 
-whole_spent : WholeLimits Plan whole_stops
+whole_spent : WholeLimits TimingRecord whole_stops
 whole_spent a limit timing bound stop h = whole_limit (rules_of a) (enough_of a) (IsSiteOf a) limit bound (incumbent_of a timing) stop h
 
 pub solve_says : SolveSays
@@ -262,7 +262,7 @@ pub solve_stop_says : SolveStopSays
 solve_stop_says = stop_says whole_bands whole_stops whole_spent Solve solve_put
 
 -- ---- links
-link_proves : (a : Street) (timing : Option LinkPlan) (bound : ℚ) (verdict : Verdict SitePart) → Proves (kind_of_links a) timing bound verdict → ProvesOf bands_of_links a timing bound verdict
+link_proves : (a : Street) (timing : Option LinkRecord) (bound : ℚ) (verdict : Verdict SitePart) → Proves (kind_of_links a) timing bound verdict → ProvesOf bands_of_links a timing bound verdict
 link_proves a None bound Best h = absurd h
 link_proves a (Some plan) bound Best h = h
 link_proves a timing bound NoTiming h = h
@@ -293,7 +293,7 @@ links_put before now artery certificate limit c v h =
       };
     }
 
-links_spent : WholeLimits LinkPlan link_stops
+links_spent : WholeLimits LinkRecord link_stops
 links_spent a limit timing bound stop h = whole_limit (link_rules a) (link_enough_of a) (IsLinkSiteOf a) limit bound (link_incumbent_of a timing) stop h
 
 pub links_say : LinksSay

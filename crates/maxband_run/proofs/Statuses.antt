@@ -4,7 +4,7 @@ use Rattle.outer_edge.specs.Counts.{Rose}
 use Rattle.maxband_run.specs.Command.{Request, Hold, Show, Check, CheckLinks, Solve, Links, Renew, Bands, Round, RoundFrom, Half, TimingOf, Draw, Help, Version, Make, Trial, Sweep, shape}
 use Rattle.maxband_run.specs.Outside.{Outside, NamedBytes}
 use Rattle.progression.specs.Street.{Street}
-use Rattle.progression.specs.Plan.{Plan}
+use Rattle.progression.specs.TimingRecord.{TimingRecord}
 use Rattle.description_reader.specs.Typed.{Typed}
 use Rattle.maxband_run.specs.Typed.{TypedFinds}
 use Rattle.maxband_run.specs.Draw.{DrawFinds}
@@ -58,7 +58,7 @@ checks_told : (k : Sought) (s : Checked k) → AllFour k s → (a : Street) (w :
 checks_told k s four a w lines (inl h) = let e = h.cause_is in absurd cc
 checks_told k s four a w lines (inr h) = five_apart (ap number_of h.cause_is ∙ four h.reject)
 
-draw_told : (a : Street) (o : Option Plan) (lines : List ℕ) (bytes : Option (List ℕ)) → DrawFinds a o cause.Words lines bytes → ⊥
+draw_told : (a : Street) (o : Option TimingRecord) (lines : List ℕ) (bytes : Option (List ℕ)) → DrawFinds a o cause.Words lines bytes → ⊥
 draw_told a None lines bytes h = let e = h.0 in absurd cc
 draw_told a (Some t) lines bytes h = h
 

@@ -1,7 +1,7 @@
 -- A file with a timing is read by the reader that its first line tells.
 use Rattle.std.proofs.Common.{◌≡◌, ℕ, Bool, true, false, List, Some, Ok, ap, refl, ◌∙◌}
 use Rattle.std.specs.Prelude.{IfOk, if◌then◌else◌}
-use Rattle.progression.specs.Plan.{Plan}
+use Rattle.progression.specs.TimingRecord.{TimingRecord}
 use Rattle.plan_text.specs.Reading.{timing_of}
 use Rattle.plan_text.specs.Warrants.{Warrant}
 use Rattle.plan_text.specs.CertificateReading.{certificate_of}
@@ -27,7 +27,7 @@ module _ (bytes : List ℕ) where
   second_read : is_timing bytes ≡ false → timed_of bytes ≡ timing_in (certificate_of bytes)
   second_read e = chosen_second (is_timing bytes) (some_timing (timing_of bytes)) (timing_in (certificate_of bytes)) e
 
-  pub timing_read : (t : Plan) → is_timing bytes ≡ true → timing_of bytes ≡ Ok t → timed_of bytes ≡ Ok (Some t)
+  pub timing_read : (t : TimingRecord) → is_timing bytes ≡ true → timing_of bytes ≡ Ok t → timed_of bytes ≡ Ok (Some t)
   timing_read t e h = first_read e ∙ ap some_timing h
 
   pub certificate_read : (w : Warrant) → is_timing bytes ≡ false → certificate_of bytes ≡ Ok w → timed_of bytes ≡ Ok w.timing

@@ -3,7 +3,7 @@ use Rattle.std.specs.Prelude.{◌≡◌, ◌≤◌, ℕ, pos, List, ◌++◌, co
 use Rattle.std.specs.Fmt.{decimal}
 use Rattle.rational_theory.specs.Rational.{over}
 use Rattle.progression.specs.Street.{Street}
-use Rattle.progression.specs.Plan.{Plan, cycle}
+use Rattle.progression.specs.TimingRecord.{TimingRecord, cycle}
 use Rattle.progression.specs.Good.{IsBase}
 use Rattle.progression.specs.declared.parts.Dir.{Dir}
 use Rattle.progression.specs.declared.parts.Dir.TheVariants.{Outbound, Inbound}
@@ -18,16 +18,16 @@ use Rattle.maxband_run.specs.declared.cause.Cause.{Cause}
 use Rattle.maxband_run.specs.declared.cause.Cause.TheVariants as cause
 
 -- the widest band of a direction on the timing's offsets, whatever its firsts and bands, or that no line runs there on any grid
-abbrev pub IsWidestBand : Street → Plan → Dir → Option Widest → Type 0
+abbrev pub IsWidestBand : Street → TimingRecord → Dir → Option Widest → Type 0
 IsWidestBand a t d found = MatchOption found (NoneRuns a t d) (λ (w : Widest). IsWidest a t d w.first w.band)
 
 -- as a fraction of the cycle, with the tick of its first line
-abbrev pub widest_line : Street → Plan → Dir → Option Widest → List ℕ
+abbrev pub widest_line : Street → TimingRecord → Dir → Option Widest → List ℕ
 widest_line a t d None = codes "no band " ++ (dir_name d ++ codes "\n")
 widest_line a t d (Some w) = measure_text (codes "band " ++ dir_name d) (over (pos w.band) (cycle a t)) 6 ++ (codes " first " ++ (decimal w.first ++ codes "\n"))
 
 -- the timing keeps the rules that speak of no band, and these are the widest bands of both directions
-pub record IsMeasured (a : Street) (t : Plan) (lines : List ℕ) : Type 0 where
+pub record IsMeasured (a : Street) (t : TimingRecord) (lines : List ℕ) : Type 0 where
   pub valid : IsValid a
   pub unit : 2 ≤ t.unit
   pub base : IsBase a t
@@ -38,13 +38,13 @@ pub record IsMeasured (a : Street) (t : Plan) (lines : List ℕ) : Type 0 where
   pub lines_are : lines ≡ widest_line a t Outbound outbound ++ widest_line a t Inbound inbound
 
 -- it breaks one of these rules, and this is the first
-pub record BreaksBase (a : Street) (t : Plan) (f : Failing) (lines : List ℕ) : Type 0 where
+pub record BreaksBase (a : Street) (t : TimingRecord) (f : Failing) (lines : List ℕ) : Type 0 where
   pub not_base : ¬ IsBase a t
   pub first : IsFirstFailing a t f
   pub order : rule_order f ≤ last_base_rule
   pub lines_are : lines ≡ fails_line f
 
-abbrev pub BandsFinds : Street → Plan → Cause → List ℕ → Type 0
+abbrev pub BandsFinds : Street → TimingRecord → Cause → List ℕ → Type 0
 BandsFinds a t cause.Done lines = IsMeasured a t lines
 BandsFinds a t (cause.Fails f) lines = BreaksBase a t f lines
 BandsFinds a t c lines = ⊥

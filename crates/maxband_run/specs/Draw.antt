@@ -1,7 +1,7 @@
 -- What `draw` finds of an artery and a file with a timing, what it writes, and what it puts.
 use Rattle.std.specs.Prelude.{◌≡◌, ℕ, List, codes, Option, Some, None}
 use Rattle.progression.specs.Street.{Street}
-use Rattle.progression.specs.Plan.{Plan}
+use Rattle.progression.specs.TimingRecord.{TimingRecord}
 use Rattle.progression.specs.Good.{Good}
 use Rattle.time_space.specs.FirstFailing.{IsFirstFailing}
 use Rattle.second_plan.specs.declared.answer.PlanEnd.TheVariants as end
@@ -13,13 +13,13 @@ use Rattle.maxband_run.specs.declared.cause.Cause.{Cause}
 use Rattle.maxband_run.specs.declared.cause.Cause.TheVariants as cause
 
 -- the timing is good, and the text is the picture of it
-pub record IsDrawn (a : Street) (t : Plan) (lines text : List ℕ) : Type 0 where
+pub record IsDrawn (a : Street) (t : TimingRecord) (lines text : List ℕ) : Type 0 where
   pub good : Good a t
   pub lines_are : lines ≡ codes "drawn\n"
   pub text_is : text ≡ svg_text (drawing a t)
 
 -- so, or it breaks a rule, and this is the first
-abbrev pub TimingFinds : Street → Plan → Cause → List ℕ → Option (List ℕ) → Type 0
+abbrev pub TimingFinds : Street → TimingRecord → Cause → List ℕ → Option (List ℕ) → Type 0
 TimingFinds a t cause.Done lines put = With (IsDrawn a t lines) put
 TimingFinds a t (cause.Fails f) lines put = IsFirstFailing a t f × (lines ≡ fails_line f) × (put ≡ None)
 TimingFinds a t c lines put = ⊥
@@ -29,6 +29,6 @@ abbrev pub NoneFinds : Cause → List ℕ → Option (List ℕ) → Type 0
 NoneFinds c lines put = (c ≡ cause.Unplanned end.NoTimingGiven) × (lines ≡ unplanned_line end.NoTimingGiven) × (put ≡ None)
 
 -- of the timing that the file has, where it has one
-abbrev pub DrawFinds : Street → Option Plan → Cause → List ℕ → Option (List ℕ) → Type 0
+abbrev pub DrawFinds : Street → Option TimingRecord → Cause → List ℕ → Option (List ℕ) → Type 0
 DrawFinds a None c lines put = NoneFinds c lines put
 DrawFinds a (Some t) c lines put = TimingFinds a t c lines put

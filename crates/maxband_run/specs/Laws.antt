@@ -5,7 +5,7 @@ use Rattle.outer_edge.specs.Counts.{Rose, SameCounts}
 use Rattle.outer_edge.specs.Held.{HoldsExactly}
 use Rattle.outer_edge.specs.Taken.{Appends}
 use Rattle.progression.specs.Street.{Street}
-use Rattle.progression.specs.Plan.{Plan}
+use Rattle.progression.specs.TimingRecord.{TimingRecord}
 use Rattle.progression.specs.Good.{Good}
 use Rattle.progression.specs.Best.{weighted_band}
 use Rattle.time_space.specs.Failing.{Fails}
@@ -219,7 +219,7 @@ HelpSays = (before now : Outside) (asked : Request) (c : Cause) → Ends before 
 -- `hold` with status 0: the timing of the second file is good on the artery of the first, and its weighted band is printed
 pub record SaysGood (before now : Outside) (artery timing : List ℕ) : Type 0 where
   pub street : Street
-  pub plan : Plan
+  pub plan : TimingRecord
   pub description : Reads Description (before.holds artery) street
   pub text : Reads Timing (before.holds timing) plan
   pub good : Good street plan
@@ -228,7 +228,7 @@ pub record SaysGood (before now : Outside) (artery timing : List ℕ) : Type 0 w
 -- `hold` with status 4: this rule fails, so that the timing isn't good
 pub record SaysBroken (before : Outside) (artery timing : List ℕ) (c : Cause) : Type 0 where
   pub street : Street
-  pub plan : Plan
+  pub plan : TimingRecord
   pub failing : Failing
   pub description : Reads Description (before.holds artery) street
   pub text : Reads Timing (before.holds timing) plan

@@ -6,7 +6,7 @@ use Rattle.outer_edge.specs.Counts.{Rose}
 use Rattle.outer_edge.specs.Held.{SameFiles, HoldsExactly}
 use Rattle.outer_edge.specs.Taken.{Appends}
 use Rattle.progression.specs.Street.{Street}
-use Rattle.progression.specs.Plan.{Plan}
+use Rattle.progression.specs.TimingRecord.{TimingRecord}
 use Rattle.progression.specs.Good.{Good, IsBase}
 use Rattle.progression.specs.Best.{weighted_band}
 use Rattle.progression.specs.declared.parts.Dir.TheVariants.{Outbound, Inbound}
@@ -55,7 +55,7 @@ use Rattle.maxband_run.specs.declared.cause.Cause.TheVariants as cause
 -- over all finer grids
 pub record SaysWidest (before now : Outside) (artery timing : List ℕ) : Type 0 where
   pub street : Street
-  pub plan : Plan
+  pub plan : TimingRecord
   pub outbound : Option Widest
   pub inbound : Option Widest
   pub description : Reads Description (before.holds artery) street
@@ -68,7 +68,7 @@ pub record SaysWidest (before now : Outside) (artery timing : List ℕ) : Type 0
 -- `bands` and `half` with status 4: this rule that speaks of no band fails
 pub record SaysNoBase (before : Outside) (artery timing : List ℕ) (c : Cause) : Type 0 where
   pub street : Street
-  pub plan : Plan
+  pub plan : TimingRecord
   pub failing : Failing
   pub description : Reads Description (before.holds artery) street
   pub text : Reads Timing (before.holds timing) plan
@@ -82,15 +82,15 @@ BandsSay = (before now : Outside) (artery timing : List ℕ) (c : Cause) → End
 
 -- ---- half
 -- a timing with the widest equal bands over all offsets on all grids is put and told
-pub record PutsHalf (before now : Outside) (a : Street) (t : Plan) (new : List ℕ) : Type 0 where
-  pub plan : Plan
+pub record PutsHalf (before now : Outside) (a : Street) (t : TimingRecord) (new : List ℕ) : Type 0 where
+  pub plan : TimingRecord
   pub best : IsHalfCycleBest a t plan
   pub put : HoldsExactly (now.holds new) (timing_text plan)
   pub read_back : timing_of (timing_text plan) ≡ Ok plan
   pub told : Appends before.taken now.taken (half_lines a plan)
 
 -- no offsets on any grid have equal bands: no file changes
-pub record SaysNoHalf (before now : Outside) (a : Street) (t : Plan) : Type 0 where
+pub record SaysNoHalf (before now : Outside) (a : Street) (t : TimingRecord) : Type 0 where
   pub none : HasNone a t
   pub kept : SameFiles before.holds now.holds
   pub told : Appends before.taken now.taken (codes "no equal band\n")
@@ -98,7 +98,7 @@ pub record SaysNoHalf (before now : Outside) (a : Street) (t : Plan) : Type 0 wh
 -- `half` with status 0: one of the two, of a timing that keeps the rules that speak of no band
 pub record SaysHalf (before now : Outside) (artery timing new : List ℕ) : Type 0 where
   pub street : Street
-  pub plan : Plan
+  pub plan : TimingRecord
   pub description : Reads Description (before.holds artery) street
   pub text : Reads Timing (before.holds timing) plan
   pub base : IsBase street plan
@@ -107,7 +107,7 @@ pub record SaysHalf (before now : Outside) (artery timing new : List ℕ) : Type
 -- `half` with status 11: the timing can have no half-cycle plan, for this first reason
 pub record SaysUnmatched (before : Outside) (artery timing : List ℕ) (c : Cause) : Type 0 where
   pub street : Street
-  pub plan : Plan
+  pub plan : TimingRecord
   pub reason : HalfEnd
   pub description : Reads Description (before.holds artery) street
   pub text : Reads Timing (before.holds timing) plan
@@ -125,14 +125,14 @@ HalfSays = (before now : Outside) (artery timing new : List ℕ) (c : Cause) →
 -- offsets, patterns, runs and cycle has a greater weighted band on its grid (on a finer one, some may), and none at all has one that is greater by more than the loss.
 pub record PutsPlan (before now : Outside) (artery plan : List ℕ) : Type 0 where
   pub street : Street
-  pub timing : Plan
+  pub timing : TimingRecord
   pub seconds : ℕ
   pub offsets : List ℕ
   pub loss : ℚ
   pub description : Reads Description (before.holds artery) street
   pub good : Good street timing
   pub best : IsBestOfOffsets street timing
-  pub lost : (s : Plan) → Good street s → weighted_band street s ≤ℚ (weighted_band street timing +ℚ loss)
+  pub lost : (s : TimingRecord) → Good street s → weighted_band street s ≤ℚ (weighted_band street timing +ℚ loss)
   pub put : HoldsExactly (now.holds plan) (timing_text timing)
   pub read_back : timing_of (timing_text timing) ≡ Ok timing
   pub told : Appends before.taken now.taken (plan_lines street seconds offsets timing loss)
@@ -155,7 +155,7 @@ RoundSays = (before now : Outside) (artery certificate plan : List ℕ) (c : Cau
 -- `draw` and `round-from` with status 4: this rule fails, so that the timing isn't good
 pub record SaysFailing (before : Outside) (artery timed : List ℕ) (c : Cause) : Type 0 where
   pub street : Street
-  pub timing : Plan
+  pub timing : TimingRecord
   pub failing : Failing
   pub description : Reads Description (before.holds artery) street
   pub text : Reads Timed (before.holds timed) (Some timing)
@@ -167,7 +167,7 @@ pub record SaysFailing (before : Outside) (artery timed : List ℕ) (c : Cause) 
 pub record SaysUnplannedFrom (before : Outside) (artery certificate other : List ℕ) (c : Cause) : Type 0 where
   pub street : Street
   pub warrant : Warrant
-  pub given : Option Plan
+  pub given : Option TimingRecord
   pub reason : PlanEnd
   pub description : Reads Description (before.holds artery) street
   pub text : Reads Certificate (before.holds certificate) warrant
@@ -193,7 +193,7 @@ IsRoundingEnd c = ⊥
 -- Where the files tell bytes that describe an artery, are a certificate, and are a timing or a certificate, and no read of them, no put of the plan and no write failed, the
 -- run ends so, or by want of memory.
 abbrev pub RoundFromIsComplete : Type 0
-RoundFromIsComplete = (before now : Outside) (artery certificate other plan : List ℕ) (a : Street) (w : Warrant) (o : Option Plan) (c : Cause)
+RoundFromIsComplete = (before now : Outside) (artery certificate other plan : List ℕ) (a : Street) (w : Warrant) (o : Option TimingRecord) (c : Cause)
     → IsSome (before.holds artery) → IsSome (before.holds certificate) → IsSome (before.holds other)
     → Reads Description (before.holds artery) a → Reads Certificate (before.holds certificate) w → Reads Timed (before.holds other) o
     → ¬ Rose (before.reads artery) (now.reads artery) → ¬ Rose (before.reads certificate) (now.reads certificate) → ¬ Rose (before.reads other) (now.reads other)
@@ -213,7 +213,7 @@ PlanIsHeld = (before between now : Outside) (artery certificate plan : List ℕ)
 pub record PutsTyped (before now : Outside) (artery plan timing : List ℕ) : Type 0 where
   pub street : Street
   pub typed : Typed
-  pub made : Plan
+  pub made : TimingRecord
   pub bands : List ℕ
   pub description : Reads Description (before.holds artery) street
   pub text : Reads TypedPlan (before.holds plan) typed
@@ -244,7 +244,7 @@ pub record SaysMiscounted (before now : Outside) (artery plan : List ℕ) (c : C
 pub record SaysBroken (before now : Outside) (artery plan : List ℕ) (c : Cause) : Type 0 where
   pub street : Street
   pub typed : Typed
-  pub made : Plan
+  pub made : TimingRecord
   pub failing : Failing
   pub description : Reads Description (before.holds artery) street
   pub text : Reads TypedPlan (before.holds plan) typed
@@ -291,7 +291,7 @@ TimingIsComplete = (before now : Outside) (artery plan timing : List ℕ) (a : S
 -- `draw` with status 0: the timing of the second file is good on the artery of the first, and the file that is put holds, where it is told, the picture of it
 pub record PutsPicture (before now : Outside) (artery timed picture : List ℕ) : Type 0 where
   pub street : Street
-  pub timing : Plan
+  pub timing : TimingRecord
   pub description : Reads Description (before.holds artery) street
   pub text : Reads Timed (before.holds timed) (Some timing)
   pub good : Good street timing
@@ -319,7 +319,7 @@ IsDrawingEnd c = ⊥
 -- Where the files tell bytes that describe an artery and are a timing or a certificate, and no read of them, no put of the picture and no write failed, the run ends so,
 -- or by want of memory.
 abbrev pub DrawIsComplete : Type 0
-DrawIsComplete = (before now : Outside) (artery timed picture : List ℕ) (a : Street) (o : Option Plan) (c : Cause)
+DrawIsComplete = (before now : Outside) (artery timed picture : List ℕ) (a : Street) (o : Option TimingRecord) (c : Cause)
     → IsSome (before.holds artery) → IsSome (before.holds timed) → Reads Description (before.holds artery) a → Reads Timed (before.holds timed) o
     → ¬ Rose (before.reads artery) (now.reads artery) → ¬ Rose (before.reads timed) (now.reads timed) → ¬ Rose (before.puts picture) (now.puts picture) → ¬ Rose before.writes now.writes
     → Ends before now (Some (Draw artery timed picture)) c → IsDrawingEnd c ⊎ (c ≡ cause.Memory)

@@ -5,7 +5,7 @@ use Rattle.outer_edge.specs.Counts.{NoneFell, SameCounts, CountedAt}
 use Rattle.outer_edge.specs.Held.{BeginsWith, SameFiles}
 use Rattle.outer_edge.specs.declared.files.Files.{Ghosts}
 use Rattle.progression.specs.Street.{Street}
-use Rattle.progression.specs.Plan.{Plan}
+use Rattle.progression.specs.TimingRecord.{TimingRecord}
 use Rattle.artery_model.specs.Faults.{Fault, fault_of}
 use Rattle.description_reader.specs.Described.{Described, RefusedAs}
 use Rattle.description_reader.specs.Typed.{Typed, GivesPlan, GivesNone}
@@ -34,10 +34,10 @@ pub data Reader : Type 0 where
 -- what a file is read as
 abbrev pub Value : Reader → Type 0
 Value Description = Street
-Value Timing = Plan
+Value Timing = TimingRecord
 Value Certificate = Warrant
 Value LinkCertificate = LinkWarrant
-Value Timed = Option Plan
+Value Timed = Option TimingRecord
 Value TypedPlan = Typed
 
 -- the most bytes of a description and of a certificate

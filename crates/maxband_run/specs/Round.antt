@@ -7,7 +7,7 @@ use Rattle.narrow_fraction.specs.declared.wide.Wide.{Wide}
 use Rattle.quantity_text.specs.Exact.{exact_spelling}
 use Rattle.progression.specs.Street.{Street, count, signal_of}
 use Rattle.progression.specs.Speeds.{number}
-use Rattle.progression.specs.Plan.{Plan}
+use Rattle.progression.specs.TimingRecord.{TimingRecord}
 use Rattle.progression.specs.declared.parts.Dir.TheVariants.{Outbound, Inbound}
 use Rattle.progression.specs.Good.{Good}
 use Rattle.time_space.specs.FirstFailing.{IsFirstFailing}
@@ -45,7 +45,7 @@ abbrev pub loss_line : ℚ → List ℕ
 loss_line loss = codes "loss " ++ (exact_spelling loss ++ codes "\n")
 
 -- the cycle and the offsets in seconds, the bands and the weighted band of the plan's timing, and the loss
-abbrev pub plan_lines : Street → ℕ → List ℕ → Plan → ℚ → List ℕ
+abbrev pub plan_lines : Street → ℕ → List ℕ → TimingRecord → ℚ → List ℕ
 plan_lines a seconds offsets timing loss =
     whole_cycle_line seconds ++ (offset_lines a offsets ++ (band_line a timing Outbound ++ (band_line a timing Inbound ++ (weighted_line a timing ++ loss_line loss))))
 
@@ -62,7 +62,7 @@ unplanned_line (end.Wide w) = wide_line w
 
 -- ---- the answer
 -- the certificate is accepted, this is the number that no weighted band exceeds, and the timing that is given is good
-pub record IsCertified (a : Street) (w : Warrant) (given : Option Plan) (timing : Plan) (claim : ℚ) : Type 0 where
+pub record IsCertified (a : Street) (w : Warrant) (given : Option TimingRecord) (timing : TimingRecord) (claim : ℚ) : Type 0 where
   pub valid : IsValid a
   pub accepted : IsAccepted a w
   pub timing_is : given ≡ Some timing
@@ -70,8 +70,8 @@ pub record IsCertified (a : Street) (w : Warrant) (given : Option Plan) (timing 
   pub claim_is : limit_of w.claim ≡ Some claim
 
 -- the plan in whole seconds of the given timing, what it loses at most against every timing, and its text, which is read back
-pub record IsRounded (a : Street) (w : Warrant) (given : Option Plan) (lines text : List ℕ) : Type 0 where
-  pub timing : Plan
+pub record IsRounded (a : Street) (w : Warrant) (given : Option TimingRecord) (lines text : List ℕ) : Type 0 where
+  pub timing : TimingRecord
   pub claim : ℚ
   pub certified : IsCertified a w given timing claim
   pub plan : Rounded
@@ -83,11 +83,11 @@ pub record IsRounded (a : Street) (w : Warrant) (given : Option Plan) (lines tex
   pub read_back : timing_of text ≡ Ok plan.timing
 
 -- the certificate is accepted, and no timing is given, or the one that is has no plan, for this first reason
-abbrev pub Unplans : Street → Warrant → Option Plan → PlanEnd → Type 0
+abbrev pub Unplans : Street → Warrant → Option TimingRecord → PlanEnd → Type 0
 Unplans a w given end.NoTimingGiven = IsAccepted a w × (given ≡ None)
-Unplans a w given e = (timing : Plan) × (claim : ℚ) × IsCertified a w given timing claim × Ends a claim timing e
+Unplans a w given e = (timing : TimingRecord) × (claim : ℚ) × IsCertified a w given timing claim × Ends a claim timing e
 
-pub record IsUnplanned (a : Street) (w : Warrant) (given : Option Plan) (e : PlanEnd) (lines : List ℕ) (put : Option (List ℕ)) : Type 0 where
+pub record IsUnplanned (a : Street) (w : Warrant) (given : Option TimingRecord) (e : PlanEnd) (lines : List ℕ) (put : Option (List ℕ)) : Type 0 where
   pub first : Unplans a w given e
   pub lines_are : lines ≡ unplanned_line e
   pub no_put : put ≡ None
@@ -100,16 +100,16 @@ RoundFinds a w (cause.Unplanned e) lines put = IsUnplanned a w w.timing e lines 
 RoundFinds a w c lines put = ⊥
 
 -- the certificate is accepted, and the given timing breaks a rule, this first
-pub record IsUnfit (a : Street) (w : Warrant) (given : Option Plan) (f : Failing) (lines : List ℕ) (put : Option (List ℕ)) : Type 0 where
+pub record IsUnfit (a : Street) (w : Warrant) (given : Option TimingRecord) (f : Failing) (lines : List ℕ) (put : Option (List ℕ)) : Type 0 where
   pub accepted : IsAccepted a w
-  pub timing : Plan
+  pub timing : TimingRecord
   pub timing_is : given ≡ Some timing
   pub first : IsFirstFailing a timing f
   pub lines_are : lines ≡ fails_line f
   pub no_put : put ≡ None
 
 -- of another timing
-abbrev pub RoundFromFinds : Street → Warrant → Option Plan → Cause → List ℕ → Option (List ℕ) → Type 0
+abbrev pub RoundFromFinds : Street → Warrant → Option TimingRecord → Cause → List ℕ → Option (List ℕ) → Type 0
 RoundFromFinds a w given cause.Done lines put = With (IsRounded a w given lines) put
 RoundFromFinds a w given (cause.Rejected reject) lines put = Rejects whole_bands whole_checked a w (cause.Rejected reject) lines × (put ≡ None)
 RoundFromFinds a w given (cause.Fails f) lines put = IsUnfit a w given f lines put

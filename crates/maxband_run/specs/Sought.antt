@@ -2,10 +2,10 @@
 use Rattle.std.specs.Prelude.{Option}
 use Rattle.rational_theory.specs.Rational.{ℚ}
 use Rattle.progression.specs.Street.{Street}
-use Rattle.progression.specs.Plan.{Plan}
+use Rattle.progression.specs.TimingRecord.{TimingRecord}
 use Rattle.progression.specs.Good as whole
 use Rattle.progression.specs.Best as whole_best
-use Rattle.link_theory.specs.LinkPlan.{LinkPlan}
+use Rattle.link_theory.specs.LinkRecord.{LinkRecord}
 use Rattle.link_theory.specs.GoodLinks.{GoodLinks}
 use Rattle.link_theory.specs.BestLinks.{link_value, BestLinks, BoundedLinks, NoLinks}
 use Rattle.plan_text.specs.declared.certificate.Claim.{Claim}
@@ -26,7 +26,7 @@ pub record Sought : Type 1 where
 abbrev pub whole_bands : Sought
 whole_bands = record {
   reader = Certificate;
-  Timing = Plan;
+  Timing = TimingRecord;
   claim = λ w. w.claim;
   timing = λ w. w.timing;
   Good = whole.Good;
@@ -40,7 +40,7 @@ whole_bands = record {
 abbrev pub bands_of_links : Sought
 bands_of_links = record {
   reader = LinkCertificate;
-  Timing = LinkPlan;
+  Timing = LinkRecord;
   claim = λ w. w.claim;
   timing = λ w. w.timing;
   Good = GoodLinks;

@@ -3,8 +3,8 @@ use Rattle.std.specs.Prelude.{◌≡◌, ◌≢◌, ℕ, ◌<◌, List, All, Opt
 use Rattle.rational_theory.specs.Rational.{ℚ}
 use Rattle.outer_edge.specs.Counts.{Rose}
 use Rattle.progression.specs.Street.{Street}
-use Rattle.progression.specs.Plan.{Plan}
-use Rattle.link_theory.specs.LinkPlan.{LinkPlan}
+use Rattle.progression.specs.TimingRecord.{TimingRecord}
+use Rattle.link_theory.specs.LinkRecord.{LinkRecord}
 use Rattle.branch_and_bound.specs.Rules.{Rules}
 use Rattle.branch_and_bound.specs.Answer.{IsStoppedAnswer}
 use Rattle.branch_and_bound.specs.declared.incumbent.Incumbent.{Incumbent}
@@ -52,10 +52,10 @@ pub record StopsFor {T K : Type 0} (r : Rules T K SitePart) (enough : ℕ) (IsNa
 abbrev pub SearchStops : Type 0 → Type 1
 SearchStops T = Street → Option ℕ → Option T → ℚ → Stop SitePart → Type 0
 
-abbrev pub whole_stops : SearchStops Plan
+abbrev pub whole_stops : SearchStops TimingRecord
 whole_stops a limit timing bound stop = StopsFor (rules_of a) (enough_of a) (IsSiteOf a) limit (incumbent_of a timing) bound stop
 
-abbrev pub link_stops : SearchStops LinkPlan
+abbrev pub link_stops : SearchStops LinkRecord
 link_stops a limit timing bound stop = StopsFor (link_rules a) (link_enough_of a) (IsLinkSiteOf a) limit (link_incumbent_of a timing) bound stop
 
 -- a search with status 2: what it put, and why it stopped with that bound and that timing

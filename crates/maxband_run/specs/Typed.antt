@@ -1,7 +1,7 @@
 -- What `timing` finds of an artery and a plan that is typed in seconds, what it writes, and what it puts.
 use Rattle.std.specs.Prelude.{◌≡◌, ◌⊎◌, ℕ, List, ◌++◌, Option, None, Ok}
 use Rattle.progression.specs.Street.{Street}
-use Rattle.progression.specs.Plan.{Plan}
+use Rattle.progression.specs.TimingRecord.{TimingRecord}
 use Rattle.artery_model.specs.Valid.{IsValid}
 use Rattle.artery_model.specs.declared.kind.Refusal.{Refusal}
 use Rattle.plan_text.specs.Spelling.{timing_text}
@@ -19,7 +19,7 @@ use Rattle.maxband_run.specs.declared.cause.Cause.{Cause}
 use Rattle.maxband_run.specs.declared.cause.Cause.TheVariants as cause
 
 -- the widest bands on the timing's offsets and its weighted band, and its text, which is read back
-pub record IsWritten (a : Street) (t : Plan) (lines text : List ℕ) : Type 0 where
+pub record IsWritten (a : Street) (t : TimingRecord) (lines text : List ℕ) : Type 0 where
   pub bands : List ℕ
   pub measured : IsMeasured a t bands
   pub lines_are : lines ≡ bands ++ weighted_line a t
@@ -27,7 +27,7 @@ pub record IsWritten (a : Street) (t : Plan) (lines text : List ℕ) : Type 0 wh
   pub read_back : timing_of text ≡ Ok t
 
 -- so, where it keeps the rules that speak of no band, or the first of these that it breaks
-abbrev pub WritesTiming : Street → Plan → Cause → List ℕ → Option (List ℕ) → Type 0
+abbrev pub WritesTiming : Street → TimingRecord → Cause → List ℕ → Option (List ℕ) → Type 0
 WritesTiming a t cause.Done lines put = With (IsWritten a t lines) put
 WritesTiming a t (cause.Fails f) lines put = BreaksBase a t f lines × (put ≡ None)
 WritesTiming a t c lines put = ⊥
@@ -35,7 +35,7 @@ WritesTiming a t c lines put = ⊥
 -- the plan's timing
 pub record HasTiming (a : Street) (p : Typed) (c : Cause) (lines : List ℕ) (put : Option (List ℕ)) : Type 0 where
   pub valid : IsValid a
-  pub timing : Plan
+  pub timing : TimingRecord
   pub timing_is : IsTimingOf a p timing
   pub finds : WritesTiming a timing c lines put
 

@@ -2,7 +2,7 @@
 
 ghost use Rattle.std.specs.Prelude.{◌≡◌, ◌++◌, ◌<◌, None, Some, IfOk, IfSome, codes};
 ghost use Rattle.progression.specs.Street.{count};
-ghost use Rattle.progression.specs.Plan.{cycle};
+ghost use Rattle.progression.specs.TimingRecord.{cycle};
 ghost use Rattle.diagram_print.specs.Measures.{dir_name};
 ghost use Rattle.progression.specs.Good.{IsBase};
 ghost use Rattle.maxband_run.specs.Bands.{widest_line, IsMeasured, BandsFinds};

@@ -6,7 +6,7 @@ use Rattle.std.proofs.lemmas.Bool.{cases_lt}
 use Rattle.std.proofs.lemmas.Bool.Decides.{nat_tests}
 use Rattle.rational_theory.proofs.Integers.{+ℤ-*ℤ, neg_ℤ-*ℤ, *ℤ-+ℤ}
 use Rattle.progression.specs.Street.{Street, count, HasSignal}
-use Rattle.progression.specs.Plan.{Plan, cycle}
+use Rattle.progression.specs.TimingRecord.{TimingRecord, cycle}
 use Rattle.progression.specs.Green.{mod_ℤ, red_start, red_ticks, BandIsGreen}
 use Rattle.progression.specs.Lines.{crossing}
 use Rattle.progression.proofs.Remainders.{split_ℤ, mod_unique, mod-turns, quot_ℤ}
@@ -63,21 +63,21 @@ better p q c = elim (cases_lt q p) [
   | inr w ↦ inl (rw (le_true p q w) refl, w)
 ]
 
-pub taken_is : (a : Street) (t : Plan) (x : ℤ) (i : ℕ) → taken a t x i ≡ wait_in_phase a t x i (phase_of a t x i) + red_ticks a t Outbound i + red_ticks a t Outbound i
+pub taken_is : (a : Street) (t : TimingRecord) (x : ℤ) (i : ℕ) → taken a t x i ≡ wait_in_phase a t x i (phase_of a t x i) + red_ticks a t Outbound i + red_ticks a t Outbound i
 taken_is a t x i = elim (better (wait_in_phase a t x i 0) (wait_in_phase a t x i (cycle a t)) (cycle a t)) [
   | inl w ↦ let l = w.1 in rw w.0 (omega arith)
   | inr w ↦ let l = w.1 in rw w.0 (omega arith)
 ]
 
 -- it is 0, or half a cycle
-pub phase_half : (a : Street) (t : Plan) (x : ℤ) (i : ℕ) → (phase_of a t x i ≡ 0) ⊎ (phase_of a t x i + phase_of a t x i ≡ cycle a t + cycle a t)
+pub phase_half : (a : Street) (t : TimingRecord) (x : ℤ) (i : ℕ) → (phase_of a t x i ≡ 0) ⊎ (phase_of a t x i + phase_of a t x i ≡ cycle a t + cycle a t)
 phase_half a t x i = elim (better (wait_in_phase a t x i 0) (wait_in_phase a t x i (cycle a t)) (cycle a t)) [
   | inl w ↦ inl w.0
   | inr w ↦ let e = w.0 in inr (omega arith)
 ]
 
 -- ---- the built timing
-module _ (a : Street) (t : Plan) (v : IsValid a) (u : 2 ≤ t.unit) (even : IsEven a t) (x : ℤ) (b : ℕ) (s : Plan) (h : IsBuilt a t x b s) (runs : Runs a t x b) where
+module _ (a : Street) (t : TimingRecord) (v : IsValid a) (u : 2 ≤ t.unit) (even : IsEven a t) (x : ℤ) (b : ℕ) (s : TimingRecord) (h : IsBuilt a t x b s) (runs : Runs a t x b) where
   abbrev twice : ℕ
   twice = cycle a t + cycle a t
 

@@ -4,7 +4,7 @@ use Rattle.std.proofs.lemmas.Int.{ints}
 use Rattle.std.proofs.lemmas.Bool.{cases_lt}
 use Rattle.rational_theory.proofs.Integers.{+ℤ-*ℤ, neg_ℤ-*ℤ}
 use Rattle.progression.specs.Street.{Street, count, HasSignal}
-use Rattle.progression.specs.Plan.{Plan, cycle}
+use Rattle.progression.specs.TimingRecord.{TimingRecord, cycle}
 use Rattle.progression.specs.Green.{mod_ℤ, red_ticks}
 use Rattle.progression.proofs.Remainders.{split_ℤ, mod_below, mod_unique, mod-turns, quot_ℤ}
 use Rattle.progression.specs.declared.parts.Dir.TheVariants.{Outbound}
@@ -13,7 +13,7 @@ use Rattle.band_measure.specs.Edges.{way}
 use Rattle.mirror_theory.specs.Runs.{phase_wait, far, wait_in_phase, taken, Runs, candidate}
 use Rattle.mirror_theory.proofs.Widest.{least}
 
-module _ (a : Street) (t : Plan) (c : 0 < cycle a t) where
+module _ (a : Street) (t : TimingRecord) (c : 0 < cycle a t) where
   -- some ticks and whole cycles earlier, where the wait is no shorter than these ticks
   pub wait_moved : (x y k : ℤ) (d : ℕ) → x ≡ y +ℤ k *ℤ pos (cycle a t + cycle a t) +ℤ pos d → (i phase : ℕ) → d ≤ wait_in_phase a t x i phase
       → wait_in_phase a t y i phase ≡ wait_in_phase a t x i phase - d
@@ -89,7 +89,7 @@ module _ (a : Street) (t : Plan) (c : 0 < cycle a t) where
   wait_at_one x phase = ap (λ z. phase_wait (cycle a t) (red_ticks a t Outbound 1) z phase) (omega (arith, ints))
 
 -- the way to the next signal
-way_next : (a : Street) (t : Plan) (i : ℕ) → 1 ≤ i → way a t Outbound i ≡ way a t Outbound (i - 1) +ℤ travel a t Outbound i
+way_next : (a : Street) (t : TimingRecord) (i : ℕ) → 1 ≤ i → way a t Outbound i ≡ way a t Outbound (i - 1) +ℤ travel a t Outbound i
 way_next a t zero h = absurd (omega arith)
 way_next a t (suc i) h =
     let f : i ≡ suc i - 1 = omega arith in
@@ -99,7 +99,7 @@ way_next a t (suc i) h =
 twice_sum : (x y z : ℤ) → x ≡ y +ℤ z → x +ℤ x ≡ y +ℤ y +ℤ (z +ℤ z)
 twice_sum x y z e = omega (arith, ints, e)
 
-pub far_next : (a : Street) (t : Plan) (i : ℕ) → 1 ≤ i → far a t (i + 1) ≡ far a t i +ℤ (travel a t Outbound i +ℤ travel a t Outbound i)
+pub far_next : (a : Street) (t : TimingRecord) (i : ℕ) → 1 ≤ i → far a t (i + 1) ≡ far a t i +ℤ (travel a t Outbound i +ℤ travel a t Outbound i)
 far_next a t i h =
     let e : i + 1 - 1 ≡ i = omega arith in
     ap (λ k. way a t Outbound k +ℤ way a t Outbound k) e ∙ twice_sum (way a t Outbound i) (way a t Outbound (i - 1)) (travel a t Outbound i) (way_next a t i h)

@@ -5,7 +5,7 @@ use Rattle.std.proofs.Math.Nat.{mul-le-mul_right, mul-lt-mul_of_pos_right}
 use Rattle.time_space.proofs.FinerGrids.{mul-le, red_bounds}
 use Rattle.rational_theory.proofs.Integers.{+ℤ-*ℤ}
 use Rattle.progression.specs.Street.{Street, count, HasSignal, red_parts}
-use Rattle.progression.specs.Plan.{Plan, cycle}
+use Rattle.progression.specs.TimingRecord.{TimingRecord, cycle}
 use Rattle.progression.specs.Green.{mod_ℤ, red_start, red_ticks, BandIsGreen}
 use Rattle.progression.specs.Lines.{crossing}
 use Rattle.progression.proofs.Remainders.{split_ℤ, mod_below, quot_ℤ}
@@ -20,13 +20,13 @@ use Rattle.mirror_theory.specs.Runs.{far, wait_in_phase, taken}
 use Rattle.mirror_theory.proofs.Ways.{crossing_out, crossing_in, cycle_kept, way_kept, red_ticks_kept, even_kept}
 
 -- in ticks a red has at least two, and leaves some green
-pub red_fits : (a : Street) (t : Plan) → IsValid a → 2 ≤ t.unit → (d : Dir) (i : ℕ) → HasSignal a i → (2 ≤ red_ticks a t d i) × (red_ticks a t d i < cycle a t)
+pub red_fits : (a : Street) (t : TimingRecord) → IsValid a → 2 ≤ t.unit → (d : Dir) (i : ℕ) → HasSignal a i → (2 ≤ red_ticks a t d i) × (red_ticks a t d i < cycle a t)
 red_fits a t h u d i b =
     let r = red_bounds a h d i (let l = b.0 in let k = b.1 in omega arith) in
     let some : 1 * 2 ≤ red_parts a d i * t.unit = mul-le r.0 u in
     (omega (arith, some), mul-lt-mul_of_pos_right r.1 (omega arith))
 
-module _ (a : Street) (t : Plan) (v : IsValid a) (u : 2 ≤ t.unit) (even : IsEven a t) (m : ℕ) (s : Plan) (o : 1 ≤ m) (h : HasEqualGreenBands a t m s) where
+module _ (a : Street) (t : TimingRecord) (v : IsValid a) (u : 2 ≤ t.unit) (even : IsEven a t) (m : ℕ) (s : TimingRecord) (o : 1 ≤ m) (h : HasEqualGreenBands a t m s) where
   -- the outbound band's left edge at signal 1 of the doubled grid, with the axis of the mirror at 0
   abbrev pub mirrored_first : ℤ
   mirrored_first = s.first_out -ℤ crossing a s Inbound (count a - 1) -ℤ pos s.band_out

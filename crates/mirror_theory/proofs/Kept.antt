@@ -1,7 +1,7 @@
 -- The promise is kept.
 use Rattle.std.proofs.Common.{inl, inr, ◌*◌, ◌<◌, ◌≤◌, arith}
 use Rattle.progression.specs.Street.{Street}
-use Rattle.progression.specs.Plan.{Plan, cycle}
+use Rattle.progression.specs.TimingRecord.{TimingRecord, cycle}
 use Rattle.time_space.proofs.FinerGrids.{mul-le}
 use Rattle.mirror_theory.proofs.Widest.{none_runs}
 use Rattle.mirror_theory.proofs.Candidates.{runs_there, runs_turned}
@@ -10,7 +10,7 @@ use Rattle.mirror_theory.proofs.Phases.{phases_apart}
 use Rattle.mirror_theory.proofs.Built.{half_cycle_best}
 use Rattle.mirror_theory.specs.Promises.{IsSubject, HalfCyclesSuffice}
 
-some_cycle : (a : Street) (t : Plan) → IsSubject a t → 0 < cycle a t
+some_cycle : (a : Street) (t : TimingRecord) → IsSubject a t → 0 < cycle a t
 some_cycle a t h = let e : 2 * 2 ≤ a.head.parts * t.unit = mul-le h.valid.least_parts h.unit in omega (arith, e)
 
 pub half_cycles_suffice : HalfCyclesSuffice

@@ -2,7 +2,7 @@
 use Rattle.std.proofs.Common.{◌≡◌, ℕ, ℤ, pos, ◌+ℤ◌, ◌-ℤ◌, ◌+◌, ◌<◌, arith}
 use Rattle.std.proofs.lemmas.Int.{ints}
 use Rattle.progression.specs.Street.{Street}
-use Rattle.progression.specs.Plan.{Plan, cycle}
+use Rattle.progression.specs.TimingRecord.{TimingRecord, cycle}
 use Rattle.progression.specs.Green.{mod_ℤ, red_start, red_ticks}
 use Rattle.progression.proofs.Remainders.{split_ℤ, mod_unique, quot_ℤ}
 use Rattle.progression.specs.declared.parts.Dir.{Dir}
@@ -15,7 +15,7 @@ half_away c z h e = let s = split_ℤ z (c + c) (omega arith) in mod_unique (z +
 same_half : (x y n : ℕ) → x + x ≡ n → y + y ≡ n → x ≡ y
 same_half x y n e f = omega (arith, e, f)
 
-pub phases_apart : (a : Street) (s : Plan) (d : Dir) (i c : ℕ) → 0 < c → cycle a s ≡ c + c → IsCentred a s d i (pos 0) → ¬ IsCentred a s d i (pos c)
+pub phases_apart : (a : Street) (s : TimingRecord) (d : Dir) (i c : ℕ) → 0 < c → cycle a s ≡ c + c → IsCentred a s d i (pos 0) → ¬ IsCentred a s d i (pos c)
 phases_apart a s d i c h e f g =
     let half = same_half g.half f.half (red_ticks a s d i) g.halved f.halved in
     let z = pos 0 -ℤ pos f.half -ℤ red_start a s d i in

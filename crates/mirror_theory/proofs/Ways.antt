@@ -4,7 +4,7 @@ use Rattle.std.proofs.Common.{◌≡◌, ℕ, zero, suc, pos, ◌+ℤ◌, ◌-�
 use Rattle.std.proofs.lemmas.Int.{ints}
 use Rattle.rational_theory.proofs.Integers.{+ℤ-*ℤ}
 use Rattle.progression.specs.Street.{Street, count, clearance}
-use Rattle.progression.specs.Plan.{Plan, cycle, run}
+use Rattle.progression.specs.TimingRecord.{TimingRecord, cycle, run}
 use Rattle.progression.specs.Green.{ahead, red_ticks}
 use Rattle.progression.specs.Lines.{crossing}
 use Rattle.time_space.proofs.Scale.{minus_scale}
@@ -16,12 +16,12 @@ use Rattle.progression.specs.declared.parts.Dir.TheVariants.{Outbound, Inbound}
 use Rattle.mirror_theory.specs.EqualBands.{travel, IsEven, Keeps}
 
 -- an outbound line is where it began, and its way
-pub crossing_out : (a : Street) (t : Plan) (j : ℕ) → crossing a t Outbound j ≡ t.first_out +ℤ way a t Outbound j
+pub crossing_out : (a : Street) (t : TimingRecord) (j : ℕ) → crossing a t Outbound j ≡ t.first_out +ℤ way a t Outbound j
 crossing_out a t zero = omega (arith, ints)
 crossing_out a t (suc j) = let e = crossing_out a t j in omega (arith, ints, e)
 
 -- one step of an inbound line, against its way
-pub crossing_in_step : (a : Street) (t : Plan) (j : ℕ) → j + 1 < count a
+pub crossing_in_step : (a : Street) (t : TimingRecord) (j : ℕ) → j + 1 < count a
     → crossing a t Inbound (count a - (j + 1)) ≡ crossing a t Inbound (count a - (j + 2)) +ℤ travel a t Inbound (j + 1)
 crossing_in_step a t j h =
     let n = count a in
@@ -34,7 +34,7 @@ crossing_in_step a t j h =
     ∙ ap (λ i. crossing a t Inbound k +ℤ (pos (run t Inbound (j + 1)) -ℤ pos (clearance a Inbound i * t.unit))) g
 
 -- so at signal j + 1 the inbound line is as much earlier as the outbound line is later
-pub crossing_in : (a : Street) (t : Plan) → ((i : ℕ) → (1 ≤ i) × (i < count a) → travel a t Outbound i ≡ travel a t Inbound i) → (j : ℕ) → j < count a
+pub crossing_in : (a : Street) (t : TimingRecord) → ((i : ℕ) → (1 ≤ i) × (i < count a) → travel a t Outbound i ≡ travel a t Inbound i) → (j : ℕ) → j < count a
     → crossing a t Inbound (count a - (j + 1)) +ℤ way a t Outbound j ≡ crossing a t Inbound (count a - 1)
 crossing_in a t h zero l = omega (arith, ints)
 crossing_in a t h (suc j) l =
@@ -45,7 +45,7 @@ crossing_in a t h (suc j) l =
     rw two (omega (arith, ints, e, f, g))
 
 -- ---- on a finer grid
-module _ (a : Street) (t : Plan) (m : ℕ) (s : Plan) (k : Keeps t m s) where
+module _ (a : Street) (t : TimingRecord) (m : ℕ) (s : TimingRecord) (k : Keeps t m s) where
   pub cycle_kept : cycle a s ≡ cycle a t * m
   cycle_kept = rw k.unit (cycle_finer a t m)
 

@@ -3,7 +3,7 @@ use Rattle.std.proofs.Common.{◌≡◌, inl, inr, ℕ, zero, suc, ℤ, ◌+◌,
 use Rattle.std.proofs.Math.Nat.{mul-le-mul_right, le_of_mul-le-mul_right}
 use Rattle.std.proofs.lemmas.Bool.{cases_lt}
 use Rattle.progression.specs.Street.{Street, count, HasSignal}
-use Rattle.progression.specs.Plan.{Plan, cycle}
+use Rattle.progression.specs.TimingRecord.{TimingRecord, cycle}
 use Rattle.artery_model.specs.Valid.{IsValid}
 use Rattle.mirror_theory.specs.EqualBands.{IsEven, HasEqualGreenBands, HasNone}
 use Rattle.mirror_theory.specs.Runs.{taken, Runs, IsWidest}
@@ -59,13 +59,13 @@ pub least : (n : ℕ) (f : ℕ → ℕ) → Extreme (suc n) (λ k i. f k ≤ f i
 least n f = extreme n (λ k i. f k ≤ f i) (λ k i. either_le (f k) (f i)) (λ k i j h g. omega (arith, h, g))
 
 -- what leaves room for w at each signal runs as wide as the fullest signal allows
-pub record RunsFrom (a : Street) (t : Plan) (m w : ℕ) : Type 0 where
+pub record RunsFrom (a : Street) (t : TimingRecord) (m w : ℕ) : Type 0 where
   pub first : ℤ
   pub band : ℕ
   pub runs : Runs a t first band
   pub wide : w ≤ band * m
 
-pub runs_from : (a : Street) (t : Plan) (m w : ℕ) (x : ℤ) → 1 ≤ count a → 1 ≤ m
+pub runs_from : (a : Street) (t : TimingRecord) (m w : ℕ) (x : ℤ) → 1 ≤ count a → 1 ≤ m
     → ((i : ℕ) → HasSignal a i → taken a t x i * m + w ≤ (cycle a t + cycle a t) * m) → RunsFrom a t m w
 runs_from a t m w x n o h =
     let e = greatest (count a - 1) (taken a t x) in
@@ -81,16 +81,16 @@ runs_from a t m w x n o h =
       wide = let p : (b + taken a t x e.place) * m ≡ (cycle a t + cycle a t) * m = ap (λ y. y * m) parts in omega (arith, p, full);
     }
 
-module _ (a : Street) (t : Plan) (v : IsValid a) (u : 2 ≤ t.unit) (even : IsEven a t) where
+module _ (a : Street) (t : TimingRecord) (v : IsValid a) (u : 2 ≤ t.unit) (even : IsEven a t) where
   some_signal : 1 ≤ count a
   some_signal = let f = v.few in omega arith
 
   -- equal bands run on the doubled grid
-  pub runs_as_wide : (m : ℕ) (s : Plan) → 1 ≤ m → HasEqualGreenBands a t m s → RunsFrom a t m (s.band_out + s.band_out)
+  pub runs_as_wide : (m : ℕ) (s : TimingRecord) → 1 ≤ m → HasEqualGreenBands a t m s → RunsFrom a t m (s.band_out + s.band_out)
   runs_as_wide m s o h = runs_from a t m (s.band_out + s.band_out) (carried_first a t v u even m s o h) some_signal o (carried a t v u even m s o h)
 
   -- so where a band is widest, no equal bands are wider
-  pub no_wider : (b : ℕ) → IsWidest a t b → (m : ℕ) (s : Plan) → 1 ≤ m → HasEqualGreenBands a t m s → s.band_out * 2 ≤ b * m
+  pub no_wider : (b : ℕ) → IsWidest a t b → (m : ℕ) (s : TimingRecord) → 1 ≤ m → HasEqualGreenBands a t m s → s.band_out * 2 ≤ b * m
   no_wider b best m s o h =
       let r = runs_as_wide m s o h in
       let e : r.band * m ≤ b * m = mul-le-mul_right m (best r.first r.band r.runs) in

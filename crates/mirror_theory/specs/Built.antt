@@ -1,7 +1,7 @@
 -- A timing that is built from a line and a band that run: its reds are centred at 0 or half a cycle later.
 use Rattle.std.specs.Prelude.{◌≡◌, ℕ, ◌+◌, nat_le, if◌then◌else◌, ℤ, pos, ◌+ℤ◌, ◌-ℤ◌, neg_ℤ}
 use Rattle.progression.specs.Street.{Street, count, HasSignal}
-use Rattle.progression.specs.Plan.{Plan, cycle}
+use Rattle.progression.specs.TimingRecord.{TimingRecord, cycle}
 use Rattle.progression.specs.Green.{since, red_start, red_ticks}
 use Rattle.progression.specs.declared.parts.Dir.TheVariants.{Outbound}
 use Rattle.mirror_theory.specs.EqualBands.{Keeps}
@@ -12,15 +12,15 @@ abbrev pub IsSameTick : ℕ → ℤ → ℤ → Type 0
 IsSameTick c y z = since c y z ≡ 0
 
 -- the phase with the shorter wait: 0, or half a cycle
-abbrev pub phase_of : Street → Plan → ℤ → ℕ → ℕ
+abbrev pub phase_of : Street → TimingRecord → ℤ → ℕ → ℕ
 phase_of a t x i = if nat_le (wait_in_phase a t x i 0) (wait_in_phase a t x i (cycle a t)) then 0 else cycle a t
 
 -- where the mirrored line begins at the last signal
-abbrev pub mirrored : Street → Plan → ℤ → ℕ → ℤ
+abbrev pub mirrored : Street → TimingRecord → ℤ → ℕ → ℤ
 mirrored a t x b = neg_ℤ (x +ℤ far a t (count a)) -ℤ pos b
 
 -- s is built for the line at x and the band b: each red is centred in its better phase
-pub record IsBuilt (a : Street) (t : Plan) (x : ℤ) (b : ℕ) (s : Plan) : Type 0 where
+pub record IsBuilt (a : Street) (t : TimingRecord) (x : ℤ) (b : ℕ) (s : TimingRecord) : Type 0 where
   pub keeps : Keeps t 2 s
   pub reds : (i : ℕ) → HasSignal a i → IsSameTick (cycle a t + cycle a t) (pos (phase_of a t x i) -ℤ pos (red_ticks a t Outbound i)) (red_start a s Outbound i)
   pub first_out : IsSameTick (cycle a t + cycle a t) x s.first_out

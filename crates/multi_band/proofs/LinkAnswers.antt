@@ -9,7 +9,7 @@ use Rattle.plan_text.specs.declared.certificate.Claim.{Claim}
 use Rattle.plan_text.specs.declared.certificate.Claim.TheVariants.{Best, NoTiming, Stopped}
 use Rattle.certificate_checker.specs.Accepted.{value_of, limit_of, IsBoundAbove}
 use Rattle.certificate_checker.specs.TreeProofs.{ProveAll}
-use Rattle.link_theory.specs.LinkPlan.{LinkPlan}
+use Rattle.link_theory.specs.LinkRecord.{LinkRecord}
 use Rattle.link_proof.specs.LinkAccepted.{IsLinkTimed, IsLinkAccepted}
 use Rattle.link_proof.specs.LinkClaims.{LinkClaimHolds}
 use Rattle.link_proof.specs.LinkWarrants.{LinkWarrant}
@@ -45,7 +45,7 @@ links_can_be_sought a v = record {
 }
 
 -- what a claim of its link certificates says
-pub link_claim_holds : (a : Street) (claim : Claim) (timing : Option LinkPlan) → LinkClaimHolds a claim timing → ClaimHoldsOf (link_bands a) claim timing
+pub link_claim_holds : (a : Street) (claim : Claim) (timing : Option LinkRecord) → LinkClaimHolds a claim timing → ClaimHoldsOf (link_bands a) claim timing
 link_claim_holds a (Best value) timing h = h
 link_claim_holds a NoTiming timing h = h
 link_claim_holds a (Stopped bound value) timing h = h

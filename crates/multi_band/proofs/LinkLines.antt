@@ -9,7 +9,7 @@ use Rattle.linear_theory.specs.Boxes.{IsBoxOf}
 use Rattle.simplex_theory.specs.BlandRule.{optimal}
 use Rattle.dual_leaf.specs.Leaves.{CoversWith, RefutesAt}
 use Rattle.search_box.proofs.Streets.{street_of}
-use Rattle.link_theory.specs.LinkPlan.{LinkPlan}
+use Rattle.link_theory.specs.LinkRecord.{LinkRecord}
 use Rattle.link_theory.specs.GoodLinks.{GoodLinks}
 use Rattle.link_theory.specs.BestLinks.{link_value}
 use Rattle.link_theory.specs.LinkColumns.{link_width}
@@ -51,7 +51,7 @@ module _ (a : Street) (line : BoxLine) (v : IsValid a) where
 
 module _ (a : Street) (line : BoxLine) (v : IsValid a) (b : IsBoxOf a line.area) where
   -- a link timing that the vertex gives is good, and its value is the bound
-  pub link_reads_good : (t : LinkPlan) → ending_of (link_program a) line ≡ Reads → (link_program a).outcome line.area (end_point (link_program a) line) ≡ Gives t → GoodLinks a t × (link_value a t ≡ end_bound (link_program a) line)
+  pub link_reads_good : (t : LinkRecord) → ending_of (link_program a) line ≡ Reads → (link_program a).outcome line.area (end_point (link_program a) line) ≡ Gives t → GoodLinks a t × (link_value a t ≡ end_bound (link_program a) line)
   link_reads_good t e f =
       let o = optimal_from (link_program a) line (subst IsOptimal (sym e) tt) in
       let g = gives_good a line.area (end_point (link_program a) line) (street_of a v) b (link_end_vertex a line v o) t (only_gives (link_recovered a line.area (end_point (link_program a) line)) t f) in

@@ -6,7 +6,7 @@ use Rattle.linear_theory.specs.Boxes.{Area, IsBoxOf}
 use Rattle.linear_theory.specs.Counts.{IsStreet}
 use Rattle.search_box.specs.declared.span.At.{At}
 use Rattle.search_box.specs.declared.span.At.TheVariants.{Loop, Turn}
-use Rattle.link_theory.specs.LinkPlan.{LinkPlan}
+use Rattle.link_theory.specs.LinkRecord.{LinkRecord}
 use Rattle.link_theory.specs.LinkVertices.{IsLinkVertex}
 use Rattle.link_theory.proofs.PlainVertices.{vertex_unranked, vertex_least_below}
 use Rattle.offset_recovery.specs.Outcomes.{Splits, Gives, with_timing}
@@ -27,7 +27,7 @@ module _ (a : Street) (box : Area) (x : List ℚ) (h : IsStreet a) (b : IsBoxOf 
     λ m. ap (with_timing (linked a x)) (place_back a box x b decided (link_number_tests a x) p m),
   )
 
-  timings : (t : LinkPlan) → (link_recovered a box x ≡ Gives t) ↔ GivesLinkTiming a x t
+  timings : (t : LinkRecord) → (link_recovered a box x ≡ Gives t) ↔ GivesLinkTiming a x t
   unfolding link_recovered
   timings t = (
     λ e.

@@ -2,7 +2,7 @@
 use Rattle.progression.specs.Street.{Street, count}
 use Rattle.artery_model.specs.Valid.{IsValid}
 use Rattle.loop_rows.specs.Weights.{fault_of}
-use Rattle.link_theory.specs.LinkPlan.{LinkPlan}
+use Rattle.link_theory.specs.LinkRecord.{LinkRecord}
 use Rattle.link_theory.specs.LinkColumns.{link_width}
 use Rattle.link_theory.specs.LinkRows.{link_goal}
 use Rattle.link_space.specs.LinkWeights.{link_rows}
@@ -15,7 +15,7 @@ use Rattle.multi_band.specs.LinkTables.{names_of_links, link_row_for}
 use Rattle.multi_band.specs.LinkOpening.{link_opening}
 use Rattle.multi_band.specs.laws.LinkFirsts.{links_first}
 
-abbrev pub link_program : Street → Program LinkPlan SitePart
+abbrev pub link_program : Street → Program LinkRecord SitePart
 link_program a = record {
   IsSound = IsValid a;
   names = names_of_links a;

@@ -5,11 +5,11 @@ use Rattle.rational_theory.specs.Rational.{ℚ}
 use Rattle.rational_theory.specs.Rows.{dot}
 use Rattle.narrow_fraction.specs.Attempt.{earlier}
 use Rattle.progression.specs.Street.{Street, count}
-use Rattle.progression.specs.Plan.{Plan}
+use Rattle.progression.specs.TimingRecord.{TimingRecord}
 use Rattle.progression.specs.declared.parts.Dir.{Dir}
 use Rattle.progression.specs.declared.parts.Dir.TheVariants.{Outbound, Inbound}
 use Rattle.linear_theory.specs.Boxes.{Area}
-use Rattle.link_theory.specs.LinkPlan.{LinkPlan, with_halves}
+use Rattle.link_theory.specs.LinkRecord.{LinkRecord, with_halves}
 use Rattle.link_theory.specs.GoodLinks.{GoodLinks}
 use Rattle.link_theory.specs.BestLinks.{link_value}
 use Rattle.link_theory.specs.LinkColumns.{half_place}
@@ -40,14 +40,14 @@ abbrev pub halves_at : Street → List ℚ → Dir → List ℕ
 halves_at a x d = ticks_by_link a x (half_place (count a) d)
 
 -- about the lines of a timing
-abbrev pub linked : Street → List ℚ → Plan → LinkPlan
+abbrev pub linked : Street → List ℚ → TimingRecord → LinkRecord
 linked a x t = with_halves t (halves_at a x Outbound) (halves_at a x Inbound)
 
 -- what becomes of its lines, with the halves about them
-unfoldable pub link_recovered : Street → Area → List ℚ → Outcome LinkPlan
+unfoldable pub link_recovered : Street → Area → List ℚ → Outcome LinkRecord
 link_recovered a box x = with_timing (linked a x) (recovered_by a box x (link_number_tests a x))
 
 -- a timing is good and its value is the vertex's goal, and a place lies in the box
-abbrev pub IsLinkSound : Street → Area → List ℚ → Recovered LinkPlan → Type 0
+abbrev pub IsLinkSound : Street → Area → List ℚ → Recovered LinkRecord → Type 0
 IsLinkSound a box x (is.Timing t) = GoodLinks a t × (link_value a t ≡ dot (link_goal a) x)
 IsLinkSound a box x (is.SplitAt place) = IsPlace box place

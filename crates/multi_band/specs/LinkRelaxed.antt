@@ -6,7 +6,7 @@ use Rattle.linear_theory.specs.Boxes.{Area}
 use Rattle.named_row.specs.declared.leaves.Leaf.{Leaf}
 use Rattle.named_row.specs.declared.leaves.Weight.{Weight}
 use Rattle.certificate_checker.specs.TreeProofs.{IsLeafProof}
-use Rattle.link_theory.specs.LinkPlan.{LinkPlan}
+use Rattle.link_theory.specs.LinkRecord.{LinkRecord}
 use Rattle.link_theory.specs.GoodLinks.{GoodLinks}
 use Rattle.link_theory.specs.BestLinks.{link_value}
 use Rattle.link_space.specs.LinkWeights.{link_rows}
@@ -17,7 +17,7 @@ abbrev pub IsLinkStartLeaf : Street → Leaf → Type 0
 IsLinkStartLeaf a leaf = leaf.multipliers.items ≡ link_start_leaf a
 
 -- the link timing is good, and has the value
-abbrev pub IsLinkTiming : Street → LinkPlan → ℚ → Type 0
+abbrev pub IsLinkTiming : Street → LinkRecord → ℚ → Type 0
 IsLinkTiming a t value = GoodLinks a t × (link_value a t ≡ value)
 
 -- what the checker of link certificates accepts as a leaf

@@ -4,10 +4,10 @@ use Rattle.std.specs.List.{flat_map, range_with_len}
 use Rattle.std.specs.Fmt.{decimal}
 use Rattle.rational_theory.specs.Rational.{ℚ, over}
 use Rattle.progression.specs.Street.{Street, count}
-use Rattle.progression.specs.Plan.{cycle}
+use Rattle.progression.specs.TimingRecord.{cycle}
 use Rattle.progression.specs.declared.parts.Dir.{Dir}
 use Rattle.progression.specs.declared.parts.Dir.TheVariants.{Outbound, Inbound}
-use Rattle.link_theory.specs.LinkPlan.{LinkPlan, lines, half}
+use Rattle.link_theory.specs.LinkRecord.{LinkRecord, lines, half}
 use Rattle.link_theory.specs.BestLinks.{link_value}
 use Rattle.link_proof.specs.LinkFamilies.{links}
 use Rattle.multi_band.specs.LinkTold.{LinkFound}
@@ -17,24 +17,24 @@ use Rattle.diagram_print.specs.Speeds.{link_lines}
 use Rattle.diagram_print.specs.Report.{verdict_lines}
 
 -- a link's band is twice its half, as a fraction of the cycle
-abbrev pub link_share : Street → LinkPlan → Dir → ℕ → ℚ
+abbrev pub link_share : Street → LinkRecord → Dir → ℕ → ℚ
 link_share a t d i = over (pos (2 * half t d i)) (cycle a (lines t))
 
 abbrev pub band_name : Dir → ℕ → List ℕ
 band_name d i = codes "link " ++ (decimal i ++ (codes " band " ++ dir_name d))
 
-abbrev pub link_band_line : Street → LinkPlan → Dir → ℕ → List ℕ
+abbrev pub link_band_line : Street → LinkRecord → Dir → ℕ → List ℕ
 link_band_line a t d i = measure_line (band_name d i) (link_share a t d i) 6
 
 -- outbound and inbound
-abbrev pub both_band_lines : Street → LinkPlan → ℕ → List ℕ
+abbrev pub both_band_lines : Street → LinkRecord → ℕ → List ℕ
 both_band_lines a t i = link_band_line a t Outbound i ++ link_band_line a t Inbound i
 
-abbrev pub link_band_lines : Street → LinkPlan → List ℕ
+abbrev pub link_band_lines : Street → LinkRecord → List ℕ
 link_band_lines a t = flat_map (both_band_lines a t) (range_with_len 1 (count a - 1))
 
 -- the value, the bands of each link, the cycle, the signals and the speeds
-abbrev pub link_timing_lines : Street → LinkPlan → List ℕ
+abbrev pub link_timing_lines : Street → LinkRecord → List ℕ
 link_timing_lines a t =
     measure_line (codes "weighted") (link_value a t) 6 ++ (link_band_lines a t ++ (cycle_line a (lines t) ++ (signal_lines a (lines t) ++ link_lines a (lines t))))
 

@@ -1,7 +1,7 @@
 -- The links of an artery as the rules of a relaxation that is searched by branch and bound, as Little searched his mixed-integer program of 1966.
 use Rattle.progression.specs.Street.{Street}
 use Rattle.linear_theory.specs.Boxes.{root_box}
-use Rattle.link_theory.specs.LinkPlan.{LinkPlan}
+use Rattle.link_theory.specs.LinkRecord.{LinkRecord}
 use Rattle.branch_and_bound.specs.Rules.{Rules}
 use Rattle.branch_tree.specs.declared.site.SitePart.{SitePart}
 use Rattle.branch_tree.specs.Meaning.{Meaning, rules_from}
@@ -31,5 +31,5 @@ link_meaning a = record {
 }
 
 -- ---- the relaxation
-abbrev pub link_rules : Street → Rules LinkPlan (Unit {0}) SitePart
+abbrev pub link_rules : Street → Rules LinkRecord (Unit {0}) SitePart
 link_rules a = rules_from (link_program a) (link_meaning a)

@@ -1,7 +1,7 @@
 -- What a search of links answers.
 use Rattle.std.specs.Prelude.{ℕ, Option}
 use Rattle.progression.specs.Street.{Street}
-use Rattle.link_theory.specs.LinkPlan.{LinkPlan}
+use Rattle.link_theory.specs.LinkRecord.{LinkRecord}
 use Rattle.link_theory.specs.BestLinks.{link_value}
 use Rattle.branch_and_bound.specs.declared.incumbent.Incumbent.{Incumbent}
 use Rattle.branch_tree.specs.Told.{valued, IsAnswered}
@@ -9,7 +9,7 @@ use Rattle.multi_band.specs.LinkTold.{LinkFound}
 use Rattle.multi_band.specs.LinkRules.{link_rules}
 
 -- a link timing with its value
-abbrev pub link_incumbent_of : Street → Option LinkPlan → Option (Incumbent LinkPlan)
+abbrev pub link_incumbent_of : Street → Option LinkRecord → Option (Incumbent LinkRecord)
 link_incumbent_of a = valued (link_value a)
 
 -- an accepted tree that was needed, its units, and why the search stopped

@@ -7,7 +7,7 @@ use Rattle.linear_theory.specs.Boxes.{Area, IsBoxOf}
 use Rattle.linear_theory.specs.Counts.{IsStreet}
 use Rattle.search_box.specs.declared.span.At.{At}
 use Rattle.search_box.specs.Places.{IsPlace}
-use Rattle.link_theory.specs.LinkPlan.{LinkPlan}
+use Rattle.link_theory.specs.LinkRecord.{LinkRecord}
 use Rattle.link_theory.specs.GoodLinks.{GoodLinks}
 use Rattle.link_theory.specs.BestLinks.{link_value}
 use Rattle.link_theory.specs.LinkRows.{link_goal}
@@ -16,6 +16,6 @@ use Rattle.offset_recovery.specs.Outcomes.{Splits, Gives}
 use Rattle.multi_band.specs.LinkRecovered.{link_recovered}
 
 pub record LinkOutcomesAreSound : Type 0 where
-  pub good : (a : Street) (box : Area) (x : List ℚ) (t : LinkPlan) → IsStreet a → IsBoxOf a box → IsLinkVertex a box x → link_recovered a box x ≡ Gives t → GoodLinks a t
-  pub value : (a : Street) (box : Area) (x : List ℚ) (t : LinkPlan) → IsStreet a → IsBoxOf a box → IsLinkVertex a box x → link_recovered a box x ≡ Gives t → link_value a t ≡ dot (link_goal a) x
+  pub good : (a : Street) (box : Area) (x : List ℚ) (t : LinkRecord) → IsStreet a → IsBoxOf a box → IsLinkVertex a box x → link_recovered a box x ≡ Gives t → GoodLinks a t
+  pub value : (a : Street) (box : Area) (x : List ℚ) (t : LinkRecord) → IsStreet a → IsBoxOf a box → IsLinkVertex a box x → link_recovered a box x ≡ Gives t → link_value a t ≡ dot (link_goal a) x
   pub place : (a : Street) (box : Area) (x : List ℚ) (place : At) → IsStreet a → IsBoxOf a box → IsLinkVertex a box x → link_recovered a box x ≡ Splits place → IsPlace box place

@@ -2,7 +2,7 @@
 use Rattle.std.specs.Prelude.{Option}
 use Rattle.rational_theory.specs.Rational.{ℚ}
 use Rattle.progression.specs.Street.{Street}
-use Rattle.link_theory.specs.LinkPlan.{LinkPlan}
+use Rattle.link_theory.specs.LinkRecord.{LinkRecord}
 use Rattle.link_theory.specs.BestLinks.{link_value}
 use Rattle.link_proof.specs.LinkFamilies.{links}
 use Rattle.branch_and_bound.specs.declared.found.Found as engine
@@ -12,10 +12,10 @@ use Rattle.branch_tree.specs.Told.{TellsOf, IsCertifiableIn}
 
 -- what a search of links finds
 abbrev pub LinkFound : Type 0
-LinkFound = engine.Found LinkPlan SitePart
+LinkFound = engine.Found LinkRecord SitePart
 
 -- what a verdict tells of the link timing and the bound
-abbrev pub LinksTell : Street → Option LinkPlan → ℚ → Verdict SitePart → Type 0
+abbrev pub LinksTell : Street → Option LinkRecord → ℚ → Verdict SitePart → Type 0
 LinksTell a = TellsOf (link_value a)
 
 -- one whole tree in preorder, of splits and leaves that a link certificate keeps, and the link timing that the verdict wants

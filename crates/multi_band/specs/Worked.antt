@@ -6,7 +6,7 @@ use Rattle.progression.specs.Speeds.{number}
 use Rattle.progression.specs.Worked.{two_signals}
 use Rattle.linear_theory.specs.Boxes.{root_box}
 use Rattle.search_box.specs.declared.span.At.TheVariants.{Loop}
-use Rattle.link_theory.specs.LinkPlan.{LinkPlan}
+use Rattle.link_theory.specs.LinkRecord.{LinkRecord}
 use Rattle.link_theory.specs.Worked.{link_timing}
 use Rattle.link_theory.specs.LinkVertices.{IsLinkVertex}
 use Rattle.offset_recovery.specs.declared.outcome.WideTiming.TheVariants as wide
@@ -39,11 +39,11 @@ abbrev pub large_run : ℚ
 large_run = over (pos 2417851639229258349412353) 2
 
 -- the second signal half a cycle after the first
-abbrev pub amid_timing : LinkPlan
+abbrev pub amid_timing : LinkRecord
 amid_timing = record (link_timing (pos 150) 50 50) { first_in = pos 50 }
 
 -- the same with three ticks a part, and an inbound half of a twelfth of the cycle
-abbrev pub finer_timing : LinkPlan
+abbrev pub finer_timing : LinkRecord
 finer_timing = record {
   grid = 3;
   unit = 3;

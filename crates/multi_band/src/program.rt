@@ -2,7 +2,7 @@
 
 ghost use Rattle.std.specs.Prelude.{◌≡◌, IfOk, OnOk};
 ghost use Rattle.linear_theory.specs.Boxes.{IsBoxOf};
-ghost use Rattle.link_theory.specs.LinkPlan.{LinkPlan};
+ghost use Rattle.link_theory.specs.LinkRecord.{LinkRecord};
 ghost use Rattle.link_proof.specs.LinkWarrants.{IsLinkCertificate};
 ghost use Rattle.branch_tree.specs.Certified.{warrant_from};
 

@@ -1,7 +1,7 @@
 -- The outcome, from the tests in their order; and what they say of the vertex.
 use Rattle.std.proofs.Common.{◌≡◌, ℕ, zero, suc, ◌+◌, ◌-◌, ◌<◌, ◌⊎◌, inl, inr, List, Option, Some, None, Bool, true, false, refl, ap, subst, arith}
 use Rattle.std.specs.Prelude.{not, option_map, unwrap_or}
-use Rattle.progression.specs.Plan.{Plan}
+use Rattle.progression.specs.TimingRecord.{TimingRecord}
 use Rattle.rational_theory.specs.Rational.{ℚ}
 use Rattle.rational_theory.specs.Floor.{floor_ℚ}
 use Rattle.narrow_fraction.specs.Attempt.{earlier, refusal_if, first_below}
@@ -30,7 +30,7 @@ use Rattle.offset_recovery.specs.Recovered.{link_tests, signal_tests, box_tests,
 
 -- ---- the outcome
 -- whatever the tests of the numbers are
-pub by_first : (a : Street) (box : Area) (x : List ℚ) (numbers : Option WideTiming) (o : Outcome Plan) → box_tests a box x ≡ Some o → recovered_by a box x numbers ≡ o
+pub by_first : (a : Street) (box : Area) (x : List ℚ) (numbers : Option WideTiming) (o : Outcome TimingRecord) → box_tests a box x ≡ Some o → recovered_by a box x numbers ≡ o
 by_first a box x numbers o h = rw h refl
 
 pub by_wide : (a : Street) (box : Area) (x : List ℚ) (numbers : Option WideTiming) (w : WideTiming) → box_tests a box x ≡ None → numbers ≡ Some w → recovered_by a box x numbers ≡ Refused w
@@ -93,7 +93,7 @@ found f (suc n) e h = elim (either (first_below f n) (f n) e h) [
 ]
 
 -- the two tests at a link or signal
-abbrev pub both_tests : {W : Type 0} → (W → WideTiming) → Option W → Bool → At → Option (Outcome Plan)
+abbrev pub both_tests : {W : Type 0} → (W → WideTiming) → Option W → Bool → At → Option (Outcome TimingRecord)
 both_tests f r b q = earlier (option_map (λ w. Refused (f w)) r) (refusal_if (not b) (Splits q))
 
 -- a place comes from the second
@@ -129,12 +129,12 @@ place_inside a box x p h b v e = place_within a box x p (long_inside a box x h b
 
 -- ---- what an outcome says
 -- no test of the box gives a timing
-no_timing : {W : Type 0} (f : W → WideTiming) (r : Option W) (b : Bool) (q : At) (t : Plan) → both_tests f r b q ≡ Some (Gives t) → ⊥
+no_timing : {W : Type 0} (f : W → WideTiming) (r : Option W) (b : Bool) (q : At) (t : TimingRecord) → both_tests f r b q ≡ Some (Gives t) → ⊥
 no_timing f None true q t h = cc
 no_timing f None false q t h = cc
 no_timing f (Some w) b q t h = cc
 
-box_gives_none : (a : Street) (box : Area) (x : List ℚ) (t : Plan) → box_tests a box x ≡ Some (Gives t) → ⊥
+box_gives_none : (a : Street) (box : Area) (x : List ℚ) (t : TimingRecord) → box_tests a box x ≡ Some (Gives t) → ⊥
 box_gives_none a box x t e = elim (either (link_tests a x) (signal_tests a box x) (Gives t) e) [
   | inl q ↦ let f = found (λ j. link_test a x (j + 1)) (count a - 1) (Gives t) q in let i = f.at + 1 in
       no_timing (λ w. wide.Sum i w) (block_wide a x i) (is_whole_number (block_sum a x i)) (Loop i (floor_ℚ (block_sum a x i))) t f.is
@@ -143,20 +143,20 @@ box_gives_none a box x t e = elim (either (link_tests a x) (signal_tests a box x
 ]
 
 -- a timing comes where no test of the box stops
-gives : (first : Option (Outcome Plan)) (number : Option WideTiming) (t u : Plan) → (first ≡ Some (Gives t) → ⊥) → unwrap_or (earlier first (option_map Refused number)) (Gives u) ≡ Gives t → (first ≡ None) × (u ≡ t)
+gives : (first : Option (Outcome TimingRecord)) (number : Option WideTiming) (t u : TimingRecord) → (first ≡ Some (Gives t) → ⊥) → unwrap_or (earlier first (option_map Refused number)) (Gives u) ≡ Gives t → (first ≡ None) × (u ≡ t)
 gives None None t u n h = let e : u ≡ t = cc in (refl, e)
 gives None (Some w) t u n h = cc
 gives (Some o) number t u n h = let e : o ≡ Gives t = h in absurd (n (ap Some e))
 
-pub by_gives : (a : Street) (box : Area) (x : List ℚ) (numbers : Option WideTiming) (t : Plan) → recovered_by a box x numbers ≡ Gives t → (box_tests a box x ≡ None) × (timing_of a x ≡ t)
+pub by_gives : (a : Street) (box : Area) (x : List ℚ) (numbers : Option WideTiming) (t : TimingRecord) → recovered_by a box x numbers ≡ Gives t → (box_tests a box x ≡ None) × (timing_of a x ≡ t)
 by_gives a box x numbers t h = gives (box_tests a box x) numbers t (timing_of a x) (box_gives_none a box x t) h
 
-pub gives_timing : (a : Street) (box : Area) (x : List ℚ) (t : Plan) → recovered a box x ≡ Gives t → (box_tests a box x ≡ None) × (timing_of a x ≡ t)
+pub gives_timing : (a : Street) (box : Area) (x : List ℚ) (t : TimingRecord) → recovered a box x ≡ Gives t → (box_tests a box x ≡ None) × (timing_of a x ≡ t)
 unfolding recovered
 gives_timing a box x t h = by_gives a box x (number_tests a x) t h
 
 -- and a place where one does
-splits : (first : Option (Outcome Plan)) (number : Option WideTiming) (p : At) (u : Plan) → unwrap_or (earlier first (option_map Refused number)) (Gives u) ≡ Splits p → first ≡ Some (Splits p)
+splits : (first : Option (Outcome TimingRecord)) (number : Option WideTiming) (p : At) (u : TimingRecord) → unwrap_or (earlier first (option_map Refused number)) (Gives u) ≡ Splits p → first ≡ Some (Splits p)
 splits None None p u h = cc
 splits None (Some w) p u h = cc
 splits (Some o) number p u h = ap Some h

@@ -4,7 +4,7 @@ use Rattle.rational_theory.specs.Rational.{ℚ, ◌≤ℚ◌}
 use Rattle.progression.specs.Speeds.{number, run_high}
 use Rattle.rational_theory.specs.Rows.{AllNonNegative}
 use Rattle.progression.specs.Street.{Street, count, signal_of, red_parts, left_against, HasSignal, HasLink}
-use Rattle.progression.specs.Plan.{Plan}
+use Rattle.progression.specs.TimingRecord.{TimingRecord}
 use Rattle.progression.specs.Green.{is_early}
 use Rattle.progression.specs.Columns.{BandOf, Frequency, WaitOf, RunOf, numbered}
 use Rattle.progression.specs.declared.parts.Dir.{Dir}
@@ -56,11 +56,11 @@ abbrev pub reds_at : Street → List ℚ → List ℕ
 reds_at a x = reds_of a (unit_of a x) (ticks_of a x) (pattern_at a x)
 
 -- the timing before its reds
-abbrev pub out_at : Street → List ℚ → Plan
+abbrev pub out_at : Street → List ℚ → TimingRecord
 out_at a x = with_out a (unit_of a x) (ticks_of a x) (pattern_at a x)
 
 -- and before its first inbound crossing
-abbrev pub reds_plan : Street → List ℚ → Plan
+abbrev pub reds_plan : Street → List ℚ → TimingRecord
 reds_plan a x = with_reds a (unit_of a x) (ticks_of a x) (pattern_at a x)
 
 -- how many parts after the common red's start the outbound red ends: at once where the left turn against it lags

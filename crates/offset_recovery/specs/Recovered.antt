@@ -3,7 +3,7 @@ use Rattle.std.specs.Prelude.{ℕ, ◌+◌, ◌-◌, List, length, Option, optio
 use Rattle.rational_theory.specs.Rational.{ℚ}
 use Rattle.narrow_fraction.specs.Attempt.{earlier, first_below}
 use Rattle.progression.specs.Street.{Street, count}
-use Rattle.progression.specs.Plan.{Plan}
+use Rattle.progression.specs.TimingRecord.{TimingRecord}
 use Rattle.progression.specs.Columns.{BandOf, Frequency, WaitOf, RunOf}
 use Rattle.progression.specs.declared.parts.Dir.{Dir}
 use Rattle.progression.specs.declared.parts.Dir.TheVariants.{Outbound, Inbound}
@@ -18,13 +18,13 @@ use Rattle.offset_recovery.specs.ByLink.{tests_by_link}
 
 -- ---- the box
 -- the block sums in order of the links, then the shifts in order of the signals
-abbrev pub link_tests : Street → List ℚ → Option (Outcome Plan)
+abbrev pub link_tests : Street → List ℚ → Option (Outcome TimingRecord)
 link_tests a x = first_below (λ j. link_test a x (j + 1)) (count a - 1)
 
-abbrev pub signal_tests : Street → Area → List ℚ → Option (Outcome Plan)
+abbrev pub signal_tests : Street → Area → List ℚ → Option (Outcome TimingRecord)
 signal_tests a box x = first_below (λ j. signal_test a box x (j + 1)) (count a)
 
-abbrev pub box_tests : Street → Area → List ℚ → Option (Outcome Plan)
+abbrev pub box_tests : Street → Area → List ℚ → Option (Outcome TimingRecord)
 box_tests a box x = earlier (link_tests a x) (signal_tests a box x)
 
 -- ---- numbers
@@ -73,8 +73,8 @@ number_tests a x = number_tests_by a x (column_tests a x)
 
 -- ---- the whole
 -- where these are the tests of its numbers
-abbrev pub recovered_by : Street → Area → List ℚ → Option WideTiming → Outcome Plan
+abbrev pub recovered_by : Street → Area → List ℚ → Option WideTiming → Outcome TimingRecord
 recovered_by a box x numbers = unwrap_or (earlier (box_tests a box x) (option_map Refused numbers)) (Gives (timing_of a x))
 
-unfoldable pub recovered : Street → Area → List ℚ → Outcome Plan
+unfoldable pub recovered : Street → Area → List ℚ → Outcome TimingRecord
 recovered a box x = recovered_by a box x (number_tests a x)

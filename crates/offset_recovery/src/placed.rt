@@ -1,7 +1,7 @@
 //! The two lines of a vertex's timing, with all that they cross.
 
 ghost use Rattle.std.specs.Prelude.{◌≡◌, ◌<◌, ◌≤◌, ◌^◌, None, pos};
-ghost use Rattle.progression.specs.Plan.{common_red};
+ghost use Rattle.progression.specs.TimingRecord.{common_red};
 ghost use Rattle.progression.specs.Street.{count};
 ghost use Rattle.recovery_theory.specs.Ticks.{unit_of};
 ghost use Rattle.offset_recovery.specs.Recovered.{red_tests, placed_tests};

@@ -6,7 +6,7 @@ use Rattle.std.specs.List.{AllByRecursion}
 use Rattle.std.proofs.lemmas.Bool.{and_parts, eq-eqb}
 use Rattle.std.proofs.lemmas.List.Elements.{All-from_recursion, recursion_from_All}
 use Rattle.rational_theory.proofs.Multiples.{IsMultiple}
-use Rattle.progression.specs.Plan.{Plan}
+use Rattle.progression.specs.TimingRecord.{TimingRecord}
 use Rattle.named_row.specs.declared.leaves.Weight.{Weight}
 use Rattle.named_row.specs.declared.names.RowId.{RowId}
 use Rattle.search_box.specs.declared.span.At.TheVariants.{Loop, Turn}
@@ -203,7 +203,7 @@ pub first_read : {T : Type 0} (text : TimingText T) (table : Table) (bytes : Lis
 unfolding first_of
 first_read text table bytes x ns e f = rw (e, f) refl
 
-pub second_read : (bytes : List ℕ) (x : Beginning Plan) (rows : List RowId × ℕ × List ℕ) (ns : List Node) → claim_at one_band bytes ≡ Ok x → rows_at ordinary x.2 x.3 ≡ Ok rows → tree_at (Listed rows.0) rows.1 rows.2 ≡ Ok ns → second_of bytes ≡ Ok (record { claim = x.0; timing = x.1; nodes = ns })
+pub second_read : (bytes : List ℕ) (x : Beginning TimingRecord) (rows : List RowId × ℕ × List ℕ) (ns : List Node) → claim_at one_band bytes ≡ Ok x → rows_at ordinary x.2 x.3 ≡ Ok rows → tree_at (Listed rows.0) rows.1 rows.2 ≡ Ok ns → second_of bytes ≡ Ok (record { claim = x.0; timing = x.1; nodes = ns })
 unfolding second_of
 second_read bytes x rows ns e g f = rw (e, g, f) refl
 

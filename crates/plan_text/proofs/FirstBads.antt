@@ -2,7 +2,7 @@
 use Rattle.std.proofs.Common.{◌≡◌, ℕ, ◌+◌, ◌<◌, ◌≤◌, List, ◌++◌, length, Result, Ok, Err, refl, sym, ap, subst, ◌∙◌, arith}
 use Rattle.std.specs.Prelude.{if◌then◌else◌}
 use Rattle.std.proofs.lemmas.List.{length-append}
-use Rattle.progression.specs.Plan.{Plan}
+use Rattle.progression.specs.TimingRecord.{TimingRecord}
 use Rattle.plan_text.specs.declared.fault.BadText.{BadText}
 use Rattle.plan_text.specs.Spelling.{head_line, end_line}
 use Rattle.plan_text.specs.Lines.{◌>>=◌, fault, line_at, fixed_at, nothing_at}
@@ -29,7 +29,7 @@ use Rattle.plan_text.proofs.Wholes.{Whole, NotBefore, whole_then, whole_made, no
 
 -- ---- a timing
 
-abbrev close_timing : Plan × List ℕ → Result Plan BadText
+abbrev close_timing : TimingRecord × List ℕ → Result TimingRecord BadText
 close_timing timing = closing timing.0 10 timing.1
 
 timing_whole : (bytes z : List ℕ) → Whole (lines_in bytes + 1) (timing_of bytes) (timing_of (bytes ++ z))
@@ -134,13 +134,13 @@ module _ {T : Type 0} (text : TimingText T) (laws : TimingLaws text) (table : Ta
   unfolding headed_of fixed_at line_at
   headed_first head = names_first (headed_of text table head) (headed_whole head) refl
 
-abbrev listed_then : Beginning Plan → List RowId × ℕ × List ℕ → Result Warrant BadText
+abbrev listed_then : Beginning TimingRecord → List RowId × ℕ × List ℕ → Result Warrant BadText
 listed_then opening rows = tree_at (Listed rows.0) rows.1 rows.2 >>= λ nodes. Ok (make_warrant opening nodes)
 
-abbrev second_then : Beginning Plan → Result Warrant BadText
+abbrev second_then : Beginning TimingRecord → Result Warrant BadText
 second_then opening = rows_at ordinary opening.2 opening.3 >>= listed_then opening
 
-second_then_later : (o : Beginning Plan) (last : ℕ) → last ≤ o.2 → NotBefore last (second_then o)
+second_then_later : (o : Beginning TimingRecord) (last : ℕ) → last ≤ o.2 → NotBefore last (second_then o)
 second_then_later o last before =
     not_before numbered last (rows_at ordinary o.2 o.3) (listed_then o) (rows_later ordinary last o.2 o.3 before) (λ rs here. warrant_later o (Listed rs.0) last rs.1 rs.2 (omega arith))
 

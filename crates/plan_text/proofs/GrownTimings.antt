@@ -1,7 +1,7 @@
 -- The text of a timing, and the same with more bytes.
 use Rattle.std.proofs.Common.{◌≡◌, ℕ, ◌+◌, ◌-◌, ◌≤◌, List, ◌++◌, length, Result, Ok, refl, arith}
 use Rattle.std.specs.Prelude.{slice_index}
-use Rattle.progression.specs.Plan.{Plan}
+use Rattle.progression.specs.TimingRecord.{TimingRecord}
 use Rattle.time_space.specs.Timing.{plan_of}
 use Rattle.plan_text.specs.declared.fault.BadText.{BadText}
 use Rattle.plan_text.specs.declared.lines.NumberLine.{NumberLine}
@@ -157,7 +157,7 @@ base_later last line bytes here =
 
 -- ---- the eight lines
 
-abbrev band_then : ℕ → Unbanded × List ℕ → Result (Plan × List ℕ) BadText
+abbrev band_then : ℕ → Unbanded × List ℕ → Result (TimingRecord × List ℕ) BadText
 band_then line base = pair_at band_key (line + 7) base.1 >>= λ band. Ok (base.0 band.0 band.1, band.2)
 
 band_grows : (last line : ℕ) (base : Unbanded × List ℕ) (z : List ℕ) → line + 7 + lines_in base.1 ≡ last → Grows (one_and (line + 8)) last z (band_then line base) (band_then line (base.0, base.1 ++ z))

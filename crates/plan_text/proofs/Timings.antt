@@ -3,7 +3,7 @@ use Rattle.std.proofs.Common.{◌≡◌, ℕ, ◌+◌, ◌-◌, ◌<◌, ◌≤�
 use Rattle.std.specs.Prelude.{pos, unsigned_abs, IfOk, slice_index}
 use Rattle.std.specs.List.{AllByRecursion}
 use Rattle.std.proofs.lemmas.List.Elements.{All-from_recursion, recursion_from_All}
-use Rattle.progression.specs.Plan.{Plan}
+use Rattle.progression.specs.TimingRecord.{TimingRecord}
 use Rattle.time_space.specs.Timing.{IsTiming, plan_of}
 use Rattle.plan_text.specs.declared.fault.TextEnd.{TextEnd}
 use Rattle.plan_text.specs.declared.lines.NumberLine.{NumberLine}
@@ -186,7 +186,7 @@ abs_pos [] = refl
 abs_pos (n ∷ ns) = ap (λ (x : List ℕ). n ∷ x) (abs_pos ns)
 
 -- a timing whose numbers are in their ranges is held
-pub timing_is_held : (t : Plan) (reds : List ℕ) (first_out first_in : ℕ) → IsTiming t.grid t.unit t.patterns reds t.run_out t.run_in first_out first_in t.band_out t.band_in → map pos reds ≡ t.reds → t.first_out ≡ pos first_out → t.first_in ≡ pos first_in → IsHeld t
+pub timing_is_held : (t : TimingRecord) (reds : List ℕ) (first_out first_in : ℕ) → IsTiming t.grid t.unit t.patterns reds t.run_out t.run_in first_out first_in t.band_out t.band_in → map pos reds ≡ t.reds → t.first_out ≡ pos first_out → t.first_in ≡ pos first_in → IsHeld t
 timing_is_held t reds first_out first_in ranges is out in' =
     let reds_are : reds ≡ map unsigned_abs t.reds = sym (abs_pos reds) ∙ ap (map unsigned_abs) is in
     let out_is : first_out ≡ unsigned_abs t.first_out = sym (ap unsigned_abs out) in
@@ -240,14 +240,14 @@ base_takes line bytes x e =
 
 -- ---- the eight lines
 
-pub plan_takes : (line : ℕ) (bytes : List ℕ) (x : Plan × List ℕ) → plan_at line bytes ≡ Ok x → IsTextOf one_band bytes x
+pub plan_takes : (line : ℕ) (bytes : List ℕ) (x : TimingRecord × List ℕ) → plan_at line bytes ≡ Ok x → IsTextOf one_band bytes x
 unfolding plan_at
 plan_takes line bytes x e =
     let a = bind_ok (base_at line bytes) (λ base. pair_at band_key (line + 7) base.1 >>= λ band. Ok (base.0 band.0 band.1, band.2)) x e in
     let c = bind_ok (pair_at band_key (line + 7) a.0.1) (λ band. Ok (a.0.0 band.0 band.1, band.2)) x a.2 in
     let base = base_takes line bytes a.0 a.1 in
     let band = pair_takes band_key (line + 7) a.0.1 c.0 c.1 in
-    let made : Plan = a.0.0 c.0.0 c.0.1 in
+    let made : TimingRecord = a.0.0 c.0.0 c.0.1 in
     let own = base.bands c.0.0 c.0.1 in
     moved (IsTextOf one_band bytes) (made, c.0.2) x c.2 (record {
       parts = base.parts c.0.0 c.0.1 ∙ ap (ended_and (base_lines made)) (band.parts ∙ (λ i. spelled band_key (sym own.0 i ∷ sym own.1 i ∷ []) ++ 10 ∷ c.0.2));
@@ -268,7 +268,7 @@ plan_fits line bytes rest more grid unit patterns reds run_out run_in first_out 
     base_fits line bytes rest grid unit patterns reds run_out run_in first_out first_in band_out band_in e band.first band.second
 
 -- the whole text, and that the program can hold the timing
-pub timing_takes : (bytes : List ℕ) (t : Plan) → timing_of bytes ≡ Ok t → (bytes ≡ timing_text t) × IsHeld t
+pub timing_takes : (bytes : List ℕ) (t : TimingRecord) → timing_of bytes ≡ Ok t → (bytes ≡ timing_text t) × IsHeld t
 unfolding timing_of
 timing_takes bytes t e =
     let a = bind_ok (fixed_at 1 head_line bytes) (λ rest. plan_at 2 rest >>= λ timing. fixed_at 10 end_line timing.1 >>= λ more. nothing_at 11 more >>= λ nothing. Ok timing.0) t e in
@@ -314,15 +314,15 @@ unfolding pair_at
 pair_again key line first second rest is f s = rw (numbers_again key (place_of line 2 0) (first ∷ second ∷ []) rest is (suits_two line first second f s)) refl
 
 -- the numbers of a timing that speak of no band
-abbrev pub numbers_of : Plan → Unbanded
+abbrev pub numbers_of : TimingRecord → Unbanded
 numbers_of t = plan_of t.grid t.unit t.patterns (map unsigned_abs t.reds) t.run_out t.run_in (unsigned_abs t.first_out) (unsigned_abs t.first_in)
 
 -- with its bands they are the timing
-pub held_is : (t : Plan) → IsHeld t → numbers_of t t.band_out t.band_in ≡ t
+pub held_is : (t : TimingRecord) → IsHeld t → numbers_of t t.band_out t.band_in ≡ t
 held_is t held = rw (← held.reds, ← held.first_out, ← held.first_in) refl
 
 -- the bands aren't read
-pub base_again : (line : ℕ) (t : Plan) (rest : List ℕ) → IsHeld t → base_at line (ended_and (base_lines t) rest) ≡ Ok (numbers_of t, rest)
+pub base_again : (line : ℕ) (t : TimingRecord) (rest : List ℕ) → IsHeld t → base_at line (ended_and (base_lines t) rest) ≡ Ok (numbers_of t, rest)
 unfolding base_at
 base_again line t rest held =
     let k = held.ranges in
@@ -340,15 +340,15 @@ base_again line t rest held =
     let fourth = pair_again first_key (line + 6) first_out first_in rest (record { spaces = refl; feeds = refl }) k.first_out_most k.first_in_most in
     rw (first, second, third, fourth) refl
 
-pub plan_again : (line : ℕ) (t : Plan) (rest : List ℕ) → IsHeld t → plan_at line (ended_and (plan_lines t) rest) ≡ Ok (t, rest)
+pub plan_again : (line : ℕ) (t : TimingRecord) (rest : List ℕ) → IsHeld t → plan_at line (ended_and (plan_lines t) rest) ≡ Ok (t, rest)
 unfolding plan_at
 plan_again line t rest held =
     let k = held.ranges in
     let first = base_again line t (spelled band_key (t.band_out ∷ t.band_in ∷ []) ++ 10 ∷ rest) held in
     let second = pair_again band_key (line + 7) t.band_out t.band_in rest (record { spaces = refl; feeds = refl }) k.band_out_most k.band_in_most in
-    rw (first, second) (ap (λ (p : Plan). Ok (p, rest)) (held_is t held))
+    rw (first, second) (ap (λ (p : TimingRecord). Ok (p, rest)) (held_is t held))
 
-pub timing_again : (t : Plan) → IsHeld t → timing_of (timing_text t) ≡ Ok t
+pub timing_again : (t : TimingRecord) → IsHeld t → timing_of (timing_text t) ≡ Ok t
 unfolding timing_of nothing_at
 timing_again t held =
     let first = fixed_again 1 head_line (ended_and (plan_lines t) (end_line ++ 10 ∷ [])) refl in
@@ -356,6 +356,6 @@ timing_again t held =
     let third = fixed_again 10 end_line [] refl in
     rw (first, second, third) refl
 
-pub is_found : (bytes : List ℕ) (r : Result Plan TextEnd) → Gives (λ t. t) r (timing_of bytes) → IfOk r (λ t. bytes ≡ timing_text t)
+pub is_found : (bytes : List ℕ) (r : Result TimingRecord TextEnd) → Gives (λ t. t) r (timing_of bytes) → IfOk r (λ t. bytes ≡ timing_text t)
 is_found bytes (Ok t) given = (timing_takes bytes t given).0
 is_found bytes (Err e) given = tt

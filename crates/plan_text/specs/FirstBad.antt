@@ -1,6 +1,6 @@
 -- What it means that a text's first bad line is named. Lines count from 1, and a line ends with a line feed, the byte 10.
 use Rattle.std.specs.Prelude.{◌≡◌, ℕ, suc, ◌+◌, ◌<◌, ◌≤◌, ◌==◌, List, [], ◌∷◌, ◌++◌, Result, Ok, Err, if◌then◌else◌}
-use Rattle.progression.specs.Plan.{Plan}
+use Rattle.progression.specs.TimingRecord.{TimingRecord}
 use Rattle.plan_text.specs.declared.fault.TextFault.TheVariants.{Ended}
 use Rattle.plan_text.specs.declared.fault.BadText.{BadText}
 use Rattle.plan_text.specs.Spelling.{timing_text, IsHeld}
@@ -37,6 +37,6 @@ pub record FirstBad : Type 0 where
   pub timing : NamesFirstBad timing_of
   pub certificate : NamesFirstBad certificate_of
   -- so the text of no timing, and of no certificate, begins with the lines up to a bad one
-  pub no_timing : (start rest other : List ℕ) (b : BadText) (t : Plan) → timing_of (start ++ rest) ≡ Err b → b.line ≤ lines_in start → IsHeld t → timing_text t ≡ start ++ other → ⊥
+  pub no_timing : (start rest other : List ℕ) (b : BadText) (t : TimingRecord) → timing_of (start ++ rest) ≡ Err b → b.line ≤ lines_in start → IsHeld t → timing_text t ≡ start ++ other → ⊥
   pub no_certificate : (start rest other : List ℕ) (b : BadText) (c : Warrant) → certificate_of (start ++ rest) ≡ Err b → b.line ≤ lines_in start → IsHeldWarrant c → certificate_text c ≡ start ++ other → ⊥
   pub no_second : (start rest other : List ℕ) (b : BadText) (c : Warrant) → certificate_of (start ++ rest) ≡ Err b → b.line ≤ lines_in start → IsHeldWarrant c → second_text c ≡ start ++ other → ⊥

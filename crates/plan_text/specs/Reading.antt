@@ -1,6 +1,6 @@
 -- Reading the text of a timing from its first line on, and the lines of its numbers wherever they begin.
 use Rattle.std.specs.Prelude.{ℕ, ◌+◌, ◌-◌, ◌^◌, List, length, Result, Ok, slice_index}
-use Rattle.progression.specs.Plan.{Plan}
+use Rattle.progression.specs.TimingRecord.{TimingRecord}
 use Rattle.artery_model.specs.Bounds.{least_signals, most_signals}
 use Rattle.time_space.specs.Timing.{plan_of}
 use Rattle.plan_text.specs.declared.fault.BadText.{BadText}
@@ -46,7 +46,7 @@ pair_at key line bytes = do
 
 -- a timing that waits for its bands
 abbrev pub Unbanded : Type 0
-Unbanded = ℕ → ℕ → Plan
+Unbanded = ℕ → ℕ → TimingRecord
 
 -- that of these numbers
 abbrev pub base_of : Base → Unbanded
@@ -62,13 +62,13 @@ base_at line bytes = do
   Ok (plan_of scale.0 scale.1 signals.0 signals.1 runs.0 runs.1 first.0 first.1, first.2)
 
 -- the eight lines of a timing's numbers, the first of which has this number
-unfoldable pub plan_at : ℕ → List ℕ → Result (Plan × List ℕ) BadText
+unfoldable pub plan_at : ℕ → List ℕ → Result (TimingRecord × List ℕ) BadText
 plan_at line bytes = do
   base ← base_at line bytes
   band ← pair_at band_key (line + 7) base.1
   Ok (base.0 band.0 band.1, band.2)
 
-unfoldable pub timing_of : List ℕ → Result Plan BadText
+unfoldable pub timing_of : List ℕ → Result TimingRecord BadText
 timing_of bytes = do
   rest ← fixed_at 1 head_line bytes
   timing ← plan_at 2 rest

@@ -1,7 +1,7 @@
 -- The one text of a timing: ten lines, each ended by a line feed, of words that one space parts.
 use Rattle.std.specs.Prelude.{◌≡◌, ℕ, List, [], ◌∷◌, ◌++◌, map, pos, unsigned_abs}
 use Rattle.std.specs.Fmt.{decimal}
-use Rattle.progression.specs.Plan.{Plan}
+use Rattle.progression.specs.TimingRecord.{TimingRecord}
 use Rattle.time_space.specs.Timing.{IsTiming}
 
 -- a word, and each of the numbers after one space
@@ -46,7 +46,7 @@ abbrev pub end_line : List ℕ  -- end
 end_line = 101 ∷ 110 ∷ 100 ∷ []
 
 -- the seven lines of its numbers that speak of no band
-abbrev pub base_lines : Plan → List (List ℕ)
+abbrev pub base_lines : TimingRecord → List (List ℕ)
 base_lines t =
     spelled grid_key (t.grid ∷ [])
     ∷ spelled unit_key (t.unit ∷ [])
@@ -58,18 +58,18 @@ base_lines t =
     ∷ []
 
 -- the eight lines of its numbers
-abbrev pub plan_lines : Plan → List (List ℕ)
+abbrev pub plan_lines : TimingRecord → List (List ℕ)
 plan_lines t = base_lines t ++ spelled band_key (t.band_out ∷ t.band_in ∷ []) ∷ []
 
 -- the ten lines
-abbrev pub timing_lines : Plan → List (List ℕ)
+abbrev pub timing_lines : TimingRecord → List (List ℕ)
 timing_lines t = head_line ∷ plan_lines t ++ end_line ∷ []
 
-abbrev pub timing_text : Plan → List ℕ
+abbrev pub timing_text : TimingRecord → List ℕ
 timing_text t = ended (timing_lines t)
 
 -- a plan that a timing of the program can be: its numbers are in their ranges, and its ticks from 0 on
-pub record IsHeld (t : Plan) : Type 0 where
+pub record IsHeld (t : TimingRecord) : Type 0 where
   pub ranges : IsTiming t.grid t.unit t.patterns (map unsigned_abs t.reds) t.run_out t.run_in (unsigned_abs t.first_out) (unsigned_abs t.first_in) t.band_out t.band_in
   pub reds : t.reds ≡ map pos (map unsigned_abs t.reds)
   pub first_out : t.first_out ≡ pos (unsigned_abs t.first_out)

@@ -1,6 +1,6 @@
 -- How certificates spell their timings. There are timings of several kinds, and all else of a certificate is the same for each.
 use Rattle.std.specs.Prelude.{ℕ, List, Result}
-use Rattle.progression.specs.Plan.{Plan}
+use Rattle.progression.specs.TimingRecord.{TimingRecord}
 use Rattle.plan_text.specs.declared.fault.BadText.{BadText}
 use Rattle.plan_text.specs.Spelling.{plan_lines, IsHeld}
 use Rattle.plan_text.specs.Reading.{plan_at}
@@ -13,5 +13,5 @@ pub record TimingText (T : Type 0) : Type 1 where
   pub IsHeld : T → Type 0  -- the program can hold it
 
 -- timings with one band a direction
-abbrev pub one_band : TimingText Plan
+abbrev pub one_band : TimingText TimingRecord
 one_band = record { lines = plan_lines; height = 8; read = plan_at; IsHeld = IsHeld }

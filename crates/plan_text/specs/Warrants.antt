@@ -1,6 +1,6 @@
 -- A certificate as contracts see it: a claim, a timing of some kind where the claim has a value, and a tree of splits and leaves.
 use Rattle.std.specs.Prelude.{◌≡◌, ℕ, suc, zero, ◌≤◌, List, [], ◌∷◌, length, map, All, true, Option, None, Some}
-use Rattle.progression.specs.Plan.{Plan}
+use Rattle.progression.specs.TimingRecord.{TimingRecord}
 use Rattle.named_row.specs.declared.leaves.Weight.{Weight}
 use Rattle.named_row.specs.declared.names.RowId.{RowId}
 use Rattle.search_box.specs.declared.span.At.{At}
@@ -23,7 +23,7 @@ pub record WarrantWith (T : Type 0) : Type 0 where
 
 -- an ordinary one, whose timing has one band a direction
 abbrev pub Warrant : Type 0
-Warrant = WarrantWith Plan
+Warrant = WarrantWith TimingRecord
 
 abbrev pub node_of : CertNode → Node
 node_of (Split at) = SplitAt at

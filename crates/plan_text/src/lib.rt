@@ -1,7 +1,7 @@
 //! Texts of plans: a timing has one spelling and a certificate two, and what is read is exactly that. Where a text is
 //! refused, its first bad line is named with what is wrong there.
 //!
-//! Contracts see a timing as the `Plan` of the model, and a certificate as a `Warrant`: a claim, a timing where the
+//! Contracts see a timing as the `TimingRecord` of the model, and a certificate as a `Warrant`: a claim, a timing where the
 //! claim has a value, and one tree of splits and leaves in preorder. `specs/Spelling`, `specs/FirstText` and
 //! `specs/SecondText` have their texts, and `specs/Lines`, `specs/Reading` and `specs/CertificateReading` say which fault
 //! comes at which line. Start with `read_timing` and `read_certificate`.

@@ -1,7 +1,7 @@
 //! The text of a timing, read.
 
 ghost use Rattle.std.specs.Prelude.{◌≡◌, ◌+◌, ◌-◌, ◌<◌, ◌≤◌, ◌^◌, All, length, IfOk, Ok};
-ghost use Rattle.progression.specs.Plan.{Plan};
+ghost use Rattle.progression.specs.TimingRecord.{TimingRecord};
 ghost use Rattle.plan_text.specs.Lines.{Gives, numbers_at};
 ghost use Rattle.plan_text.specs.Spelling.{timing_text, IsHeld};
 ghost use Rattle.plan_text.specs.Reading.{place_of, pattern_place, scale_at, signals_at, both_ways_at, pair_at, base_of, base_at, plan_at, timing_of};
@@ -210,7 +210,7 @@ pub fn read_timing(alloc: Global, bytes: &[u8]) -> Result<Timing, TextEnd>
     // What is read is spelled so.
     ensures found { IfOk result (λ t. bytes.now ≡ timing_text t) }
     // What spells a timing is read, unless memory runs out.
-    ensures only { (plan : Plan) → IsHeld plan → bytes.now ≡ timing_text plan → Gives (λ t. t) result (Ok plan) }
+    ensures only { (plan : TimingRecord) → IsHeld plan → bytes.now ≡ timing_text plan → Gives (λ t. t) result (Ok plan) }
     // Which fault it is, and at which line.
     ensures exact { Gives (λ t. t) result (timing_of bytes.now) }
 {

@@ -1,7 +1,7 @@
 //! The text of a timing, written.
 
 ghost use Rattle.std.specs.Prelude.{◌≡◌, ◌++◌, ◌∷◌, [], ◌<◌, ◌^◌, pos, Ok, IfOk, OnOk};
-ghost use Rattle.progression.specs.Plan.{first};
+ghost use Rattle.progression.specs.TimingRecord.{first};
 ghost use Rattle.plan_text.specs.Spelling.{spelled, ended, base_lines, plan_lines, timing_text, IsHeld};
 ghost use Rattle.plan_text.specs.Reading.{timing_of};
 

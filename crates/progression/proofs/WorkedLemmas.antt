@@ -8,7 +8,7 @@ use Rattle.std.proofs.Common.{true≢false}
 use Rattle.std.proofs.lemmas.Int.{ints}
 use Rattle.progression.specs.Street.{Street, count, HasSignal, HasLink, allows}
 use Rattle.progression.specs.Speeds.{number, run_low, run_high}
-use Rattle.progression.specs.Plan.{Plan, IsPlan, cycle, pattern_of, run, band}
+use Rattle.progression.specs.TimingRecord.{TimingRecord, IsTimingRecord, cycle, pattern_of, run, band}
 use Rattle.progression.specs.Good.{Good, IsBase, RatioHolds, HasLeastBand}
 use Rattle.progression.specs.Best.{weighted_band}
 use Rattle.progression.specs.Green.{is_green, red_start, red_ticks}
@@ -63,14 +63,14 @@ both P p q Outbound = p
 both P p q Inbound = q
 
 -- the rules that don't speak of bands, from those of the two signals and of the link
-module _ (a : Street) (p : Plan) (two : count a ≡ 2) where
+module _ (a : Street) (p : TimingRecord) (two : count a ≡ 2) where
   abbrev IsFast : Dir → Type 0
   IsFast d = (run_low a d 1 *ℚ number p.grid) ≤ℚ number (run p d 1)
 
   abbrev IsSlow : Dir → Type 0
   IsSlow d = number (run p d 1) ≤ℚ (run_high a d 1 *ℚ number p.grid)
 
-  base_of : IsPlan p → length p.patterns ≡ count a → IsTrue (allows a 1 (pattern_of p 1)) → IsTrue (allows a 2 (pattern_of p 2))
+  base_of : IsTimingRecord p → length p.patterns ≡ count a → IsTrue (allows a 1 (pattern_of p 1)) → IsTrue (allows a 2 (pattern_of p 2))
       → (a.head.cycle.least *ℚ number p.grid) ≤ℚ number (cycle a p) → number (cycle a p) ≤ℚ (a.head.cycle.most *ℚ number p.grid)
       → IsFast Outbound → IsFast Inbound → IsSlow Outbound → IsSlow Inbound → IsBase a p
   base_of plan shape allowed_first allowed_last least most fast_out fast_in slow_out slow_in = record {
@@ -105,14 +105,14 @@ good first_out band_out band_in r out back = record {
 }
 
 -- whether the line of the band that comes t ticks after its first crosses the j-th signal in green
-abbrev tick_test : Street → Plan → Dir → ℕ → ℕ → Bool
+abbrev tick_test : Street → TimingRecord → Dir → ℕ → ℕ → Bool
 tick_test a p d j t = let i = stop d (count a) j in
     is_green (cycle a p) (red_start a p d i) (red_ticks a p d i) (crossing a p d j +ℤ pos t)
 
-by_test : (a : Street) (p : Plan) (d : Dir) (j : ℕ) → all_below (tick_test a p d j) (suc (band p d)) ≡ true → IsGreenAt a p d j
+by_test : (a : Street) (p : TimingRecord) (d : Dir) (j : ℕ) → all_below (tick_test a p d j) (suc (band p d)) ≡ true → IsGreenAt a p d j
 by_test a p d j e = λ t l. each_to (tick_test a p d j) (band p d) t e l
 
-way_by_test : (a : Street) (p : Plan) (d : Dir) → count a ≡ 2 → all_below (tick_test a p d 0) (suc (band p d)) ≡ true → all_below (tick_test a p d 1) (suc (band p d)) ≡ true → IsGreenWay a p d
+way_by_test : (a : Street) (p : TimingRecord) (d : Dir) → count a ≡ 2 → all_below (tick_test a p d 0) (suc (band p d)) ≡ true → all_below (tick_test a p d 1) (suc (band p d)) ≡ true → IsGreenWay a p d
 way_by_test a p d n e f = λ j l. at_two_places (IsGreenAt a p d) (by_test a p d 0 e) (by_test a p d 1 f) j (omega (arith, n))
 
 pub whole_greens : Good two_signals (timing 2 100 (pos 100) 100 100)

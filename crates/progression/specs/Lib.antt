@@ -1,6 +1,6 @@
 pub mod Street
 pub mod Speeds
-pub mod Plan
+pub mod TimingRecord
 pub mod Green
 pub mod Lines
 pub mod Good

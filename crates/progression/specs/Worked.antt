@@ -3,7 +3,7 @@ use Rattle.std.specs.Prelude.{◌≡◌, ℕ, List, [], ◌∷◌, None, ℤ, po
 use Rattle.rational_theory.specs.Rational.{◌/ℚ◌}
 use Rattle.progression.specs.Street.{Street}
 use Rattle.progression.specs.Speeds.{number}
-use Rattle.progression.specs.Plan.{Plan}
+use Rattle.progression.specs.TimingRecord.{TimingRecord}
 use Rattle.progression.specs.Good.{Good}
 use Rattle.progression.specs.Best.{weighted_band}
 use Rattle.progression.specs.declared.parts.Pair.{Pair}
@@ -24,7 +24,7 @@ two_signals = record {
 }
 
 -- two ticks a second, the second signal half a cycle after the first
-abbrev pub timing : ℕ → ℕ → ℤ → ℕ → ℕ → Plan
+abbrev pub timing : ℕ → ℕ → ℤ → ℕ → ℕ → TimingRecord
 timing grid run first_out band_out band_in = record {
   grid = grid;
   unit = 2;
@@ -51,7 +51,7 @@ with_lefts = record {
 }
 
 -- only an outbound band, and the second signal with this left turn pattern
-abbrev pub one_way : ℕ → Plan
+abbrev pub one_way : ℕ → TimingRecord
 one_way pattern = record {
   grid = 2;
   unit = 2;
@@ -75,7 +75,7 @@ unequal_lefts = record {
 }
 
 -- a band either way, and the second signal with this left turn pattern and start of its common red
-abbrev pub two_way : (pattern red first_out band_out first_in band_in : ℕ) → Plan
+abbrev pub two_way : (pattern red first_out band_out first_in band_in : ℕ) → TimingRecord
 two_way pattern red first_out band_out first_in band_in = record {
   grid = 2;
   unit = 2;

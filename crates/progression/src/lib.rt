@@ -3,7 +3,7 @@
 //! but the fractions.
 //!
 //! Here stand the plain types of an artery's parts. The definitions are in `specs/`, to be read in
-//! this order: `Street` (an artery), `Speeds` (runs and paces), `Plan` (a timing record), `Green`
+//! this order: `Street` (an artery), `Speeds` (runs and paces), `TimingRecord` (a timing record), `Green`
 //! (remainders, reds and greens), `Lines` (where the progression lines cross), `Good` (the rules of
 //! a good timing), `Best` (the weighted band and what 'best' means), `Columns` (a timing as a point
 //! of linear programming).

@@ -3,7 +3,7 @@ use Rattle.std.proofs.Common.{◌≡◌, ℕ, zero, suc, pos, ◌+ℤ◌, ◌+�
 use Rattle.std.proofs.lemmas.Int.{ints}
 use Rattle.std.proofs.lemmas.List.{get_or-map, length-map}
 use Rattle.progression.specs.Street.{Street, count, HasSignal, HasLink}
-use Rattle.progression.specs.Plan.{IsPlan, pattern_of, common_red, run}
+use Rattle.progression.specs.TimingRecord.{IsTimingRecord, pattern_of, common_red, run}
 use Rattle.progression.specs.Lines.{crossing, advance, line_at}
 use Rattle.progression.specs.Columns.{Column, Frequency, RunOf, numbered}
 use Rattle.progression.specs.declared.parts.Dir.{Dir}
@@ -26,7 +26,7 @@ module _ (a : Street) (unit : ℕ) (ticks : Column → ℕ) (pattern : ℕ → �
   pub length-reds : 1 ≤ count a → length (reds_of a unit ticks pattern) ≡ count a
   length-reds h = let e = length-numbered (count a - 1) 2 (red_of a unit ticks pattern) in omega arith
 
-  pub is_plan : 1 ≤ count a → 1 ≤ ticks Frequency → 2 ≤ unit → IsPlan (placed a unit ticks pattern)
+  pub is_plan : 1 ≤ count a → 1 ≤ ticks Frequency → 2 ≤ unit → IsTimingRecord (placed a unit ticks pattern)
   is_plan h g u =
       let n = length-numbered (count a) 1 pattern in
       let r = length-map (reds_of a unit ticks pattern) pos in

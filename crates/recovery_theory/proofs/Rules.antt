@@ -15,7 +15,7 @@ use Rattle.rational_theory.proofs.Rows.{≤ℚ-left}
 use Rattle.rational_theory.proofs.Shares.{≤ℚ_cancel}
 use Rattle.progression.specs.Street.{Street, count, red_parts, distance, HasSignal, HasLink, least_band}
 use Rattle.progression.specs.Speeds.{number, run_low, run_high, change}
-use Rattle.progression.specs.Plan.{Plan, cycle, run, band}
+use Rattle.progression.specs.TimingRecord.{TimingRecord, cycle, run, band}
 use Rattle.progression.specs.Green.{BandIsGreen, red_start, red_ticks}
 use Rattle.progression.specs.Lines.{crossing, line_at, IsGreenWay}
 use Rattle.progression.specs.Good.{Good, RatioHolds, pace_change, HasEqualBands, HasLeastBand}
@@ -52,7 +52,7 @@ product_below : (r p u : ℕ) → r < p → 2 ≤ u → r * u < p * u
 product_below r p u h k = grind arith
 
 module _ (a : Street) (box : Area) (x : List ℚ) (h : IsStreet a) (v : IsLongVertex a box x) (w : IsWhole a x) where
-  abbrev timing : Plan
+  abbrev timing : TimingRecord
   timing = timing_of a x
 
   -- one over the cycle

@@ -4,7 +4,7 @@ use Rattle.rational_theory.specs.Rational.{ℚ, ◌+ℚ◌, ◌*ℚ◌, ◌≤�
 use Rattle.rational_theory.specs.Floor.{floor_ℚ}
 use Rattle.rational_theory.specs.Rows.{dot, IsMet}
 use Rattle.progression.specs.Street.{Street, count, allows, HasSignal, red_parts}
-use Rattle.progression.specs.Plan.{Plan, pattern_of}
+use Rattle.progression.specs.TimingRecord.{TimingRecord, pattern_of}
 use Rattle.progression.specs.Columns.{Column, BandOf, Frequency, WaitOf, RunOf, ShiftOf, shift, wait, ticks, pattern_shift}
 use Rattle.progression.specs.declared.parts.Dir.{Dir}
 use Rattle.progression.specs.declared.parts.Dir.TheVariants.{Outbound, Inbound}
@@ -29,7 +29,7 @@ use Rattle.recovery_theory.proofs.Fitting.{fitting_allowed, fitting_shift}
 use Rattle.recovery_theory.proofs.Ticked.{num_whole, den_whole, some_cycle, column_is, block_ticks, wait_less}
 
 module _ (a : Street) (box : Area) (x : List ℚ) (h : IsStreet a) (v : IsLongVertex a box x) (w : IsWhole a x) where
-  abbrev pub timing : Plan
+  abbrev pub timing : TimingRecord
   timing = timing_of a x
 
   -- ---- shifts

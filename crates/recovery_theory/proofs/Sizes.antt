@@ -6,7 +6,7 @@ use Rattle.rational_theory.proofs.Order.{≤ℚ_trans, ≤ℚ-*ℚ, ≤ℤ_whole
 use Rattle.rational_theory.proofs.Ring.{one-*ℚ}
 use Rattle.progression.specs.Street.{Street, red_parts, HasSignal, HasLink}
 use Rattle.progression.specs.Speeds.{number, run_high}
-use Rattle.progression.specs.Plan.{cycle, run}
+use Rattle.progression.specs.TimingRecord.{cycle, run}
 use Rattle.progression.specs.Columns.{BandOf, Frequency, WaitOf, RunOf}
 use Rattle.progression.specs.declared.parts.Dir.{Dir}
 use Rattle.linear_theory.proofs.Ranges.{some_signal}

@@ -3,7 +3,7 @@ use Rattle.std.proofs.Common.{◌≡◌, ℕ, zero, suc, ℤ, pos, ◌+ℤ◌, �
 use Rattle.std.proofs.lemmas.Int.{ints}
 use Rattle.rational_theory.proofs.Integers.{+ℤ-*ℤ, neg_ℤ-*ℤ}
 use Rattle.progression.specs.Street.{Street, count, signal_of, clearance, allows, HasSignal, HasLink}
-use Rattle.progression.specs.Plan.{Plan, pattern_of}
+use Rattle.progression.specs.TimingRecord.{TimingRecord, pattern_of}
 use Rattle.progression.specs.Green.{mod_ℤ, red_start}
 use Rattle.progression.specs.Lines.{crossing, line_at}
 use Rattle.progression.specs.Columns.{Column, BandOf, WaitOf, RunOf, ShiftOf, shift}
@@ -47,7 +47,7 @@ pub record WholeTicks (a : Street) (unit : ℕ) (ticks : Column → ℕ) (i : �
       + clearance a Outbound (i + 1) * unit + clearance a Inbound i * unit)
 
 module _ (a : Street) (unit : ℕ) (ticks : Column → ℕ) (pattern : ℕ → ℕ) (above : 0 < a.head.parts * unit) where
-  abbrev pub timing : Plan
+  abbrev pub timing : TimingRecord
   timing = placed a unit ticks pattern
 
   -- outbound: at the first signal, and at the others

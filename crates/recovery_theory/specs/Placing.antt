@@ -3,7 +3,7 @@ use Rattle.std.specs.Prelude.{ℕ, ◌-◌, ◌==◌, ◌&&◌, Bool, List, [], 
 use Rattle.rational_theory.specs.Rational.{ℚ}
 use Rattle.rational_theory.specs.Floor.{floor_ℚ}
 use Rattle.progression.specs.Street.{Street, count, allows}
-use Rattle.progression.specs.Plan.{Plan, cycle}
+use Rattle.progression.specs.TimingRecord.{TimingRecord, cycle}
 use Rattle.progression.specs.Green.{mod_ℤ, red_start, red_ticks}
 use Rattle.progression.specs.Lines.{line_at}
 use Rattle.progression.specs.Columns.{Column, BandOf, Frequency, WaitOf, RunOf, ShiftOf, numbered, pattern_shift}
@@ -30,12 +30,12 @@ pattern_at a x i = pattern_with a i (shift_parts a x i)
 
 -- ---- places
 -- where the outbound red of signal i ends
-abbrev pub red_end : Street → Plan → ℕ → ℤ
+abbrev pub red_end : Street → TimingRecord → ℕ → ℤ
 red_end a t i = red_start a t Outbound i +ℤ pos (red_ticks a t Outbound i)
 
 module _ (a : Street) (unit : ℕ) (ticks : Column → ℕ) (pattern : ℕ → ℕ) where
   -- the timing without its reds and first crossings: as if each common red began at 0
-  abbrev pub unplaced : Plan
+  abbrev pub unplaced : TimingRecord
   unplaced = record {
     grid = ticks Frequency;
     unit = unit;
@@ -53,7 +53,7 @@ module _ (a : Street) (unit : ℕ) (ticks : Column → ℕ) (pattern : ℕ → �
   abbrev pub first_out_of : ℕ
   first_out_of = mod_ℤ (red_end a unplaced 1 +ℤ pos (ticks (WaitOf Outbound 1))) (cycle a unplaced)
 
-  abbrev pub with_out : Plan
+  abbrev pub with_out : TimingRecord
   with_out = record unplaced { first_out = pos first_out_of }
 
   -- each further red ends a wait before the outbound band crosses it
@@ -63,16 +63,16 @@ module _ (a : Street) (unit : ℕ) (ticks : Column → ℕ) (pattern : ℕ → �
   abbrev pub reds_of : List ℕ
   reds_of = 0 ∷ numbered (count a - 1) 2 red_of
 
-  abbrev pub with_reds : Plan
+  abbrev pub with_reds : TimingRecord
   with_reds = record with_out { reds = map pos reds_of }
 
   -- the inbound band ends a wait before the red of the last signal
   abbrev pub first_in_of : ℕ
   first_in_of = mod_ℤ (red_start a with_reds Inbound (count a) -ℤ pos (ticks (WaitOf Inbound (count a))) -ℤ pos (ticks (BandOf Inbound))) (cycle a with_reds)
 
-  abbrev pub placed : Plan
+  abbrev pub placed : TimingRecord
   placed = record with_reds { first_in = pos first_in_of }
 
 -- the timing of a point
-abbrev pub timing_of : Street → List ℚ → Plan
+abbrev pub timing_of : Street → List ℚ → TimingRecord
 timing_of a x = placed a (unit_of a x) (ticks_of a x) (pattern_at a x)

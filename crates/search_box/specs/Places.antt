@@ -1,7 +1,7 @@
 -- The two parts of a box at a place.
 use Rattle.std.specs.Prelude.{◌↔◌, ◌⊎◌, ◌≡◌, ℕ, ◌-◌, ◌≤◌, ◌^◌, ℤ, pos, ◌≤ℤ◌, ◌<ℤ◌, unsigned_abs, List, length, slice_index, slice_index_or, All}
 use Rattle.progression.specs.Street.{Street}
-use Rattle.progression.specs.Plan.{Plan}
+use Rattle.progression.specs.TimingRecord.{TimingRecord}
 use Rattle.linear_theory.specs.Boxes.{Area, IsBoxOf, IsSpanOf, InBox, IsLoopPlace, IsTurnPlace, low_loop, high_loop, low_turn, high_turn, Span, Ranks, loop_span, turn_span, with_loop, with_turn, root_box}
 use Rattle.search_box.specs.declared.span.At.{At}
 use Rattle.search_box.specs.declared.span.At.TheVariants.{Loop, Turn}
@@ -72,8 +72,8 @@ pub record ShareLists (box low high : Area) : Type 0 where
 pub record AreParts (a : Street) (box low high : Area) : Type 0 where
   pub low_box : IsBoxOf a low
   pub high_box : IsBoxOf a high
-  pub whole : (t : Plan) → InBox a box t ↔ (InBox a low t ⊎ InBox a high t)
-  pub apart : (t : Plan) → InBox a low t → InBox a high t → ⊥
+  pub whole : (t : TimingRecord) → InBox a box t ↔ (InBox a low t ⊎ InBox a high t)
+  pub apart : (t : TimingRecord) → InBox a low t → InBox a high t → ⊥
   pub lists : ShareLists box low high
 
 -- every span has one number

@@ -1,7 +1,7 @@
 //! Boxes of block sums and shift ranks.
 
 ghost use Rattle.std.specs.Prelude.{◌≡◌, ◌↔◌, ◌≤◌, length, All, IsTrue, IfOk};
-ghost use Rattle.progression.specs.Plan.{Plan};
+ghost use Rattle.progression.specs.TimingRecord.{TimingRecord};
 ghost use Rattle.progression.specs.Good.{Good};
 ghost use Rattle.linear_theory.specs.Counts.{IsStreet};
 ghost use Rattle.search_box.specs.Places.{AreRanks};
@@ -77,7 +77,7 @@ impl SearchBox {
         ensures root { IfOk result (λ area. IsRoot artery.now area) }
         ensures boxed { IfOk result (λ area. IsBoxOf artery.now area) }
         ensures street { IsStreet artery.now }
-        ensures holds { IfOk result (λ area. (t : Plan) → Good artery.now t → InBox artery.now area t) }
+        ensures holds { IfOk result (λ area. (t : TimingRecord) → Good artery.now t → InBox artery.now area t) }
     {
         // its contract says that the artery is valid
         artery.known_valid();

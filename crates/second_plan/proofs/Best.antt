@@ -7,7 +7,7 @@ use Rattle.rational_theory.proofs.Order.{over_≤ℚ}
 use Rattle.rational_theory.proofs.Linear.{gap_not_negative}
 use Rattle.progression.specs.Street.{Street}
 use Rattle.progression.specs.Speeds.{number}
-use Rattle.progression.specs.Plan.{Plan, cycle}
+use Rattle.progression.specs.TimingRecord.{TimingRecord, cycle}
 use Rattle.progression.specs.Good.{Good}
 use Rattle.progression.specs.Best.{weighted_band, Bounded}
 use Rattle.progression.specs.declared.parts.Dir.{Dir}
@@ -32,7 +32,7 @@ value_most k n o i p q c e h l m =
     let w : over (pos (k.den * o + n * i)) (k.den * c) ≤ℚ over (pos (k.den * p + n * q)) (k.den * c) = (over_≤ℚ (pos (k.den * o + n * i)) (pos (k.den * p + n * q)) (k.den * c) (k.den * c) d d).1 (omega (arith, ints, s)) in
     rw (weighted k n k.den o i c e refl h, weighted k n k.den p q c e refl h) at w
 
-module _ (a : Street) (t : Plan) (valid : IsValid a) (unit : 2 ≤ t.unit) (pairs : PairsMakeGood) (finer_pairs : FinerPairs) where
+module _ (a : Street) (t : TimingRecord) (valid : IsValid a) (unit : 2 ≤ t.unit) (pairs : PairsMakeGood) (finer_pairs : FinerPairs) where
   -- a pair that runs is no wider than the widest
   no_wider : (d : Dir) (first band : ℕ) (x : ℤ) (b : ℕ) → IsWidest a t d first band → RunsOn a t d x b → b ≤ band
   no_wider d first band x b w g =
@@ -46,7 +46,7 @@ module _ (a : Street) (t : Plan) (valid : IsValid a) (unit : 2 ≤ t.unit) (pair
         let most = cut_most a n e wide bands cut b c (no_wider Outbound there wide.outbound x b out p.outbound) (no_wider Inbound back wide.inbound y c inward p.inbound) p.ratio p.equal in
         value_most a.head.ratio n b c bands.outbound bands.inbound (cycle a t) e (let l = valid.least_parts in grind arith) most.0 most.1
 
-    same_offsets : (s : Plan) (x : ℤ) (b : ℕ) (y : ℤ) (c : ℕ) → HasOffsetsOf (with_pairs x b y c t) s → s ≡ with_pairs s.first_out s.band_out s.first_in s.band_in t
+    same_offsets : (s : TimingRecord) (x : ℤ) (b : ℕ) (y : ℤ) (c : ℕ) → HasOffsetsOf (with_pairs x b y c t) s → s ≡ with_pairs s.first_out s.band_out s.first_in s.band_in t
     same_offsets s x b y c h = λ i. record {
       grid = h.grid i;
       unit = h.unit i;
@@ -66,9 +66,9 @@ module _ (a : Street) (t : Plan) (valid : IsValid a) (unit : 2 ≤ t.unit) (pair
         subst (λ r. weighted_band a r ≤ℚ weighted_band a (with_pairs (pos there) bands.outbound (pos back) bands.inbound t)) (sym same)
         (of_lines s.first_out s.band_out s.first_in s.band_in (subst (λ r. Good a r) same g))
 
-    pub best : (p : Plan) → p ≡ with_pairs (pos there) bands.outbound (pos back) bands.inbound t → IsBestOfOffsets a p
+    pub best : (p : TimingRecord) → p ≡ with_pairs (pos there) bands.outbound (pos back) bands.inbound t → IsBestOfOffsets a p
     best p is = subst (λ r. IsBestOfOffsets a r) (sym is) best_of_lines
 
 -- no good timing is above a bound
-pub loss_least : (a : Street) (claim : ℚ) (p : Plan) → Good a p → Bounded a claim → number 0 ≤ℚ (claim -ℚ weighted_band a p)
+pub loss_least : (a : Street) (claim : ℚ) (p : TimingRecord) → Good a p → Bounded a claim → number 0 ≤ℚ (claim -ℚ weighted_band a p)
 loss_least a claim p g b = gap_not_negative (weighted_band a p) claim (b p g)

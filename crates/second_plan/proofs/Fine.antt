@@ -6,7 +6,7 @@ use Rattle.std.proofs.lemmas.List.{length-map}
 use Rattle.std.proofs.Math.Nat.{mul-le-mul_right}
 use Rattle.std.proofs.lemmas.Bool.Decides.{nat_tests}
 use Rattle.progression.specs.Street.{Street, count}
-use Rattle.progression.specs.Plan.{Plan, IsPlan}
+use Rattle.progression.specs.TimingRecord.{TimingRecord, IsTimingRecord}
 use Rattle.artery_model.specs.Valid.{IsValid}
 use Rattle.time_space.specs.Timing.{IsTiming, plan_of}
 use Rattle.time_space.proofs.FinerGrids.{mul-le}
@@ -48,13 +48,13 @@ none_large : (xs : List ℕ) → find (λ n. nat_le (2 ^ 80) n) xs ≡ None → 
 none_large xs h = λ i d l. small (get_or xs i d) (none_found (λ n. nat_le (2 ^ 80) n) xs h i d l)
 
 -- the numbers of a plan that is not too fine
-pub record IsFine (a : Street) (t : Plan) (k : ℕ) : Type 0 where
+pub record IsFine (a : Street) (t : TimingRecord) (k : ℕ) : Type 0 where
   pub grid : t.grid * fineness a < 2 ^ 80
   pub run_out : All (λ n. n < 2 ^ 80) (map (λ n. n * fineness a) t.run_out)
   pub run_in : All (λ n. n < 2 ^ 80) (map (λ n. n * fineness a) t.run_in)
   pub cycle : a.head.parts * (2 * k * t.grid) < 2 ^ 80
 
-pub is_fine : (a : Street) (t : Plan) (k : ℕ) → too_fine a t k ≡ None → IsFine a t k
+pub is_fine : (a : Street) (t : TimingRecord) (k : ℕ) → too_fine a t k ≡ None → IsFine a t k
 is_fine a t k h =
     let p : ℕ → Bool = λ n. nat_le (2 ^ 80) n in
     let grid = t.grid * fineness a ∷ [] in
@@ -90,7 +90,7 @@ pub map-map_pos : (xs : List ℕ) (g : ℕ) → map pos (map (λ offset. offset 
 map-map_pos [] g = refl
 map-map_pos (x ∷ xs) g = ap (λ zs. pos (x * g) ∷ zs) (map-map_pos xs g)
 
-module _ (a : Street) (t : Plan) (k : ℕ) (offsets : List ℕ) where
+module _ (a : Street) (t : TimingRecord) (k : ℕ) (offsets : List ℕ) where
   -- what the parts of the timing have to be
   pub record AreParts (grid unit : ℕ) (patterns reds run_out run_in : List ℕ) : Type 0 where
     pub grid_is : grid ≡ t.grid * fineness a
@@ -121,7 +121,7 @@ module _ (a : Street) (t : Plan) (k : ℕ) (offsets : List ℕ) where
       band_in = c;
     }
 
-    module _ (valid : IsValid a) (p : IsPlan t) (fine : too_fine a t k ≡ None) (some : 1 ≤ k) (shape : length t.patterns ≡ count a) (each : All (λ n. (1 ≤ n) × (n ≤ 4)) t.patterns) (long : length offsets ≡ count a) (below : All (λ n. n < k) offsets) (fs : f < 2 ^ 80) (bs : b < 2 ^ 80) (gs : g < 2 ^ 80) (cs : c < 2 ^ 80) where
+    module _ (valid : IsValid a) (p : IsTimingRecord t) (fine : too_fine a t k ≡ None) (some : 1 ≤ k) (shape : length t.patterns ≡ count a) (each : All (λ n. (1 ≤ n) × (n ≤ 4)) t.patterns) (long : length offsets ≡ count a) (below : All (λ n. n < k) offsets) (fs : f < 2 ^ 80) (bs : b < 2 ^ 80) (gs : g < 2 ^ 80) (cs : c < 2 ^ 80) where
       sizes_are : IsFine a t k
       sizes_are = is_fine a t k fine
 

@@ -5,7 +5,7 @@ use Rattle.std.proofs.lemmas.List.{ext_get_or}
 use Rattle.rational_theory.specs.Rational.{ℚ, ◌-ℚ◌}
 use Rattle.rational_theory.proofs.Arithmetic.{own_ratio, whole_ratio, ≤ℚ_out}
 use Rattle.progression.specs.Street.{Street, HasSignal}
-use Rattle.progression.specs.Plan.{Plan}
+use Rattle.progression.specs.TimingRecord.{TimingRecord}
 use Rattle.progression.specs.Best.{weighted_band}
 use Rattle.progression.specs.Good.{Good}
 use Rattle.progression.specs.declared.parts.Dir.{Dir}
@@ -44,10 +44,10 @@ one_nearest P n d k j p q =
     let m = q.lesser k p.allowed (sym same) in
     omega (arith, l, m)
 
-one_offset : (a : Street) (t : Plan) (k i o u : ℕ) → IsOffset a t k i o → IsOffset a t k i u → o ≡ u
+one_offset : (a : Street) (t : TimingRecord) (k i o u : ℕ) → IsOffset a t k i o → IsOffset a t k i u → o ≡ u
 one_offset a t k i o u p q = p.within ∙ ap (λ r. r % k) (one_nearest _ _ _ _ _ p.near q.near) ∙ sym q.within
 
-offsets_once : (a : Street) (t : Plan) (k : ℕ) (os us : List ℕ) → AreOffsets a t k os → AreOffsets a t k us → os ≡ us
+offsets_once : (a : Street) (t : TimingRecord) (k : ℕ) (os us : List ℕ) → AreOffsets a t k os → AreOffsets a t k us → os ≡ us
 offsets_once a t k os us p q =
     let long = p.each_has in
     ext_get_or 0 os us (p.each_has ∙ sym q.each_has) (λ i l.
@@ -57,7 +57,7 @@ offsets_once a t k os us p q =
     (subst (λ j. IsOffset a t k (suc i) (get_or os j 0)) here (p.each (suc i) has))
     (subst (λ j. IsOffset a t k (suc i) (get_or us j 0)) here (q.each (suc i) has)))
 
-module _ (a : Street) (t : Plan) (valid : IsValid a) (good : Good a t) where
+module _ (a : Street) (t : TimingRecord) (valid : IsValid a) (good : Good a t) where
   seconds_once : (k j : ℕ) → IsSeconds a t k → IsSeconds a t j → k ≡ j
   seconds_once k j p q = one_nearest _ _ _ k j p q
 
@@ -83,7 +83,7 @@ module _ (a : Street) (t : Plan) (valid : IsValid a) (good : Good a t) where
     runs_some : (d : Dir) (first band : ℕ) → IsWidest a (in_seconds a t k os) d first band → ¬ NoneRuns a (in_seconds a t k os) d
     runs_some d first band p none = none 1 (pos first *ℤ pos 1) (band * 1) (omega arith) ((finer_pairs a (in_seconds a t k os) d 1 (pos first) band valid frame_unit (omega arith)).0 p.runs)
 
-    plan_here : (p q : Plan) → IsPlanned a t k os p → IsPlanned a t k os q → p ≡ q
+    plan_here : (p q : TimingRecord) → IsPlanned a t k os p → IsPlanned a t k os q → p ≡ q
     plan_here p q h g =
         let out = one_widest a (in_seconds a t k os) Outbound h.there.first h.there.band g.there.first g.there.band valid frame_unit h.widest_out g.widest_out in
         let back = one_widest a (in_seconds a t k os) Inbound h.back.first h.back.band g.back.first g.back.band valid frame_unit h.widest_in g.widest_in in
@@ -94,7 +94,7 @@ module _ (a : Street) (t : Plan) (valid : IsValid a) (good : Good a t) where
         λ i. with_pairs (pos (out.0 i)) ((bands i).outbound) (pos (back.0 i)) ((bands i).inbound) (in_seconds a t k os) in
         h.timing ∙ same ∙ sym g.timing
 
-  planned_once : (k j : ℕ) (os us : List ℕ) (p q : Plan) → IsPlanned a t k os p → IsPlanned a t j us q → p ≡ q
+  planned_once : (k j : ℕ) (os us : List ℕ) (p q : TimingRecord) → IsPlanned a t k os p → IsPlanned a t j us q → p ≡ q
   planned_once k j os us p q h g =
       let w = whole_once k j os us h.whole g.whole in
       plan_here k os h.whole p q h (subst (λ n. IsPlanned a t n os q) (sym w.0) (subst (λ xs. IsPlanned a t j xs q) (sym w.1) g))
@@ -110,7 +110,7 @@ module _ (a : Street) (t : Plan) (valid : IsValid a) (good : Good a t) where
       let none = w.fine in
       absurd (cc)
 
-  line_or_not : (d : Dir) (k : ℕ) (os : List ℕ) (p : Plan) → HasNoLine a t d → IsPlanned a t k os p → ⊥
+  line_or_not : (d : Dir) (k : ℕ) (os : List ℕ) (p : TimingRecord) → HasNoLine a t d → IsPlanned a t k os p → ⊥
   line_or_not d k os p h g = by d h
     where
       by : (d : Dir) → HasNoLine a t d → ⊥
@@ -126,7 +126,7 @@ module _ (a : Street) (t : Plan) (valid : IsValid a) (good : Good a t) where
       let w = whole_once p.k q.k p.offsets q.offsets p.whole q.whole in
       q.before refl (subst (λ n. NoneRuns a (in_seconds a t n q.offsets) Outbound) w.0 (subst (λ xs. NoneRuns a (in_seconds a t p.k xs) Outbound) w.1 p.none))
 
-  good_or_not : (f : Failing) (k : ℕ) (os : List ℕ) (p : Plan) → IsRefused a t f → IsPlanned a t k os p → Good a p → ⊥
+  good_or_not : (f : Failing) (k : ℕ) (os : List ℕ) (p : TimingRecord) → IsRefused a t f → IsPlanned a t k os p → Good a p → ⊥
   good_or_not f k os p h g b =
       let same = planned_once h.k k h.offsets os h.plan p h.planned g in
       rules_out a h.plan f h.first.fails (subst (λ r. Good a r) (sym same) b)

@@ -8,7 +8,7 @@ use Rattle.rational_theory.specs.Rational.{whole, ◌*ℚ◌, ◌≤ℚ◌}
 use Rattle.rational_theory.proofs.Order.{≤ℚ-*ℚ, whole-*ℤ, whole-≤ℤ}
 use Rattle.progression.specs.Street.{Street, count}
 use Rattle.progression.specs.Speeds.{number, run_low, run_high, change}
-use Rattle.progression.specs.Plan.{Plan, cycle, run}
+use Rattle.progression.specs.TimingRecord.{TimingRecord, cycle, run}
 use Rattle.progression.specs.Green.{is_green, red_start, red_ticks}
 use Rattle.progression.specs.Lines.{stop, advance, crossing, IsGreenWay}
 use Rattle.progression.specs.Good.{IsBase, RatioHolds, HasEqualBands, pace_change}
@@ -33,7 +33,7 @@ use Rattle.second_plan.specs.Grid.{fineness, in_seconds}
 pub natural : (z : ℤ) → pos 0 ≤ℤ z → pos (unsigned_abs z) ≡ z
 natural z h = omega (arith, ints)
 
-module _ (a : Street) (t : Plan) (valid : IsValid a) (base : IsBase a t) (k : ℕ) (offsets : List ℕ) (whole_cycle : IsWholeCycle a k) (some : 1 ≤ k) (long : length offsets ≡ count a) where
+module _ (a : Street) (t : TimingRecord) (valid : IsValid a) (base : IsBase a t) (k : ℕ) (offsets : List ℕ) (whole_cycle : IsWholeCycle a k) (some : 1 ≤ k) (long : length offsets ≡ count a) where
   fine_least : 1 ≤ fineness a
   fine_least = let p = valid.least_parts in omega arith
 
@@ -61,7 +61,7 @@ module _ (a : Street) (t : Plan) (valid : IsValid a) (base : IsBase a t) (k : �
   cycle_most = subst (λ z. z ≤ℚ (a.head.cycle.most *ℚ number (t.grid * fineness a))) (sym seconds_times) (≤ℚ-*ℚ (number k) a.head.cycle.most (number (t.grid * fineness a)) whole_cycle.most not_negative)
 
   module _ (x : ℤ) (b : ℕ) (y : ℤ) (c : ℕ) where
-    abbrev plan : Plan
+    abbrev plan : TimingRecord
     plan = with_pairs x b y c (in_seconds a t k offsets)
 
     run_same : (d : Dir) (i : ℕ) → run plan d i ≡ run (finer (fineness a) t) d i
@@ -92,7 +92,7 @@ module _ (a : Street) (t : Plan) (valid : IsValid a) (base : IsBase a t) (k : �
     }
 
 -- ---- narrower bands run too
-module _ (a : Street) (t : Plan) (x : ℤ) (b c : ℕ) where
+module _ (a : Street) (t : TimingRecord) (x : ℤ) (b c : ℕ) where
   crossing_same : (d : Dir) (j : ℕ) → crossing a (with_pair x b t) d j ≡ crossing a (with_pair x c t) d j
   crossing_same Outbound zero = refl
   crossing_same Inbound zero = refl
@@ -106,7 +106,7 @@ module _ (a : Street) (t : Plan) (x : ℤ) (b c : ℕ) where
       subst (λ z. IsTrue (is_green (cycle a t) (red_start a t Inbound i) (red_ticks a t Inbound i) (z +ℤ pos s))) (crossing_same Inbound j) (g j m s (omega arith))
 
 -- ---- what may fail
-module _ (a : Street) (p : Plan) (base : IsBase a p) (ratio : RatioHolds a.head.ratio p.band_out p.band_in) (equal : HasEqualBands a p) (outbound : IsGreenWay a p Outbound) (inbound : IsGreenWay a p Inbound) where
+module _ (a : Street) (p : TimingRecord) (base : IsBase a p) (ratio : RatioHolds a.head.ratio p.band_out p.band_in) (equal : HasEqualBands a p) (outbound : IsGreenWay a p Outbound) (inbound : IsGreenWay a p Inbound) where
   pub only_least : (f : Failing) → IsFirstFailing a p f → (d : Dir) × (f ≡ failing.Least d)
   only_least failing.Ratio h = absurd (h.fails ratio)
   only_least (failing.Least d) h = (d, refl)
@@ -116,10 +116,10 @@ module _ (a : Street) (p : Plan) (base : IsBase a p) (ratio : RatioHolds a.head.
   only_least f h = absurd (not_base a p f h (omega arith) base)
 
 -- ---- of a plan whose bands are cut
-module _ (a : Street) (t : Plan) (valid : IsValid a) (base : IsBase a t) (k : ℕ) (offsets : List ℕ) (whole_cycle : IsWholeCycle a k) (some : 1 ≤ k) (long : length offsets ≡ count a) (own : OwnPair) where
+module _ (a : Street) (t : TimingRecord) (valid : IsValid a) (base : IsBase a t) (k : ℕ) (offsets : List ℕ) (whole_cycle : IsWholeCycle a k) (some : 1 ≤ k) (long : length offsets ≡ count a) (own : OwnPair) where
   pub least_alone : (x : ℕ) (o : ℕ) (y : ℕ) (i : ℕ) (wide bands : Bands) → IsCut a wide bands → o ≤ wide.outbound → i ≤ wide.inbound → o ≡ bands.outbound → i ≡ bands.inbound
       → RunsOn a (in_seconds a t k offsets) Outbound (pos x) wide.outbound → RunsOn a (in_seconds a t k offsets) Inbound (pos y) wide.inbound
-      → (p : Plan) → p ≡ with_pairs (pos x) o (pos y) i (in_seconds a t k offsets) → (f : Failing) → IsFirstFailing a p f → (d : Dir) × (f ≡ failing.Least d)
+      → (p : TimingRecord) → p ≡ with_pairs (pos x) o (pos y) i (in_seconds a t k offsets) → (f : Failing) → IsFirstFailing a p f → (d : Dir) × (f ≡ failing.Least d)
   least_alone x o y i wide bands cut l m q r out inward p is f first =
       let plan = with_pairs (pos x) o (pos y) i (in_seconds a t k offsets) in
       let n = unsigned_abs a.head.ratio.num in

@@ -4,7 +4,7 @@ use Rattle.rational_theory.specs.Rational.{ℚ, ◌-ℚ◌, ◌≤ℚ◌}
 use Rattle.narrow_fraction.specs.Past128.{Fits128}
 use Rattle.narrow_fraction.specs.declared.wide.Op.TheVariants.{Sub}
 use Rattle.progression.specs.Street.{Street}
-use Rattle.progression.specs.Plan.{Plan}
+use Rattle.progression.specs.TimingRecord.{TimingRecord}
 use Rattle.progression.specs.Good.{Good}
 use Rattle.progression.specs.Best.{weighted_band}
 use Rattle.progression.specs.declared.parts.Dir.TheVariants.{Outbound, Inbound}
@@ -18,13 +18,13 @@ use Rattle.second_plan.specs.declared.answer.Plan.{Plan as Answer}
 use Rattle.second_plan.specs.declared.bands.Bands.{Bands}
 
 -- the seconds and the offsets of a timing, on a grid whose numbers a timing can hold
-pub record AreWhole (a : Street) (t : Plan) (k : ℕ) (offsets : List ℕ) : Type 0 where
+pub record AreWhole (a : Street) (t : TimingRecord) (k : ℕ) (offsets : List ℕ) : Type 0 where
   pub seconds : IsSeconds a t k
   pub fine : too_fine a t k ≡ None
   pub rounded : AreOffsets a t k offsets
 
 -- the widest pairs of these offsets, their bands cut
-pub record IsPlanned (a : Street) (t : Plan) (k : ℕ) (offsets : List ℕ) (p : Plan) : Type 0 where
+pub record IsPlanned (a : Street) (t : TimingRecord) (k : ℕ) (offsets : List ℕ) (p : TimingRecord) : Type 0 where
   pub whole : AreWhole a t k offsets
   pub there : Widest
   pub back : Widest
@@ -35,14 +35,14 @@ pub record IsPlanned (a : Street) (t : Plan) (k : ℕ) (offsets : List ℕ) (p :
   pub timing : p ≡ with_pairs (pos there.first) bands.outbound (pos back.first) bands.inbound (in_seconds a t k offsets)
 
 -- the plan of a timing that is to be as good as a claim
-pub record IsAnswer (a : Street) (claim : ℚ) (t : Plan) (p : Answer) : Type 0 where
+pub record IsAnswer (a : Street) (claim : ℚ) (t : TimingRecord) (p : Answer) : Type 0 where
   pub planned : IsPlanned a t p.seconds p.offsets.items p.timing
   pub good : Good a p.timing
   pub fits : Fits128 Sub claim (weighted_band a p.timing)
   pub loss : p.loss ≡ claim -ℚ weighted_band a p.timing
 
 -- another timing with the same offsets: all but its firsts and bands
-pub record HasOffsetsOf (p s : Plan) : Type 0 where
+pub record HasOffsetsOf (p s : TimingRecord) : Type 0 where
   pub grid : s.grid ≡ p.grid
   pub unit : s.unit ≡ p.unit
   pub patterns : s.patterns ≡ p.patterns
@@ -51,5 +51,5 @@ pub record HasOffsetsOf (p s : Plan) : Type 0 where
   pub run_in : s.run_in ≡ p.run_in
 
 -- no good timing with its offsets has a greater weighted band
-abbrev pub IsBestOfOffsets : Street → Plan → Type 0
-IsBestOfOffsets a p = (s : Plan) → HasOffsetsOf p s → Good a s → weighted_band a s ≤ℚ weighted_band a p
+abbrev pub IsBestOfOffsets : Street → TimingRecord → Type 0
+IsBestOfOffsets a p = (s : TimingRecord) → HasOffsetsOf p s → Good a s → weighted_band a s ≤ℚ weighted_band a p

@@ -3,7 +3,7 @@
 ghost use Rattle.std.specs.Prelude.{◌<◌, IfOk, IfErr};
 ghost use Rattle.rational_theory.specs.Rational.{ℚ, ◌≤ℚ◌};
 ghost use Rattle.progression.specs.Speeds.{number};
-ghost use Rattle.progression.specs.Plan.{cycle};
+ghost use Rattle.progression.specs.TimingRecord.{cycle};
 ghost use Rattle.progression.specs.Good.{Good, IsBase};
 ghost use Rattle.progression.specs.Best.{Bounded};
 ghost use Rattle.progression.specs.declared.parts.Dir.TheVariants.{Outbound, Inbound};

@@ -4,7 +4,7 @@ ghost use Rattle.std.specs.Prelude.{◌≡◌, ◌+◌, ◌<◌, ◌≤◌, ◌*
 ghost use Rattle.rational_theory.specs.Rational.{◌≤ℚ◌};
 ghost use Rattle.progression.specs.Street.{count};
 ghost use Rattle.progression.specs.Speeds.{number};
-ghost use Rattle.progression.specs.Plan.{cycle};
+ghost use Rattle.progression.specs.TimingRecord.{cycle};
 ghost use Rattle.artery_model.specs.Bounds.{most_signals};
 ghost use Rattle.second_plan.specs.Nearest.{IsNearest};
 ghost use Rattle.second_plan.specs.Seconds.{IsWholeCycle, IsSeconds, IsOffset, AreOffsets, red_after};

@@ -10,7 +10,7 @@ use Rattle.progression.specs.Street.{Street, no_signal, count, red_parts, left_a
 use Rattle.progression.specs.Speeds.{number, run_low, run_high, change}
 use Rattle.progression.specs.Good.{Good, IsBase, HasLeastBand, HasEqualBands, pace_change}
 use Rattle.artery_model.specs.Valid.{IsValid}
-use Rattle.progression.specs.Plan.{Plan, IsPlan, cycle, pattern_of, common_red, run, band}
+use Rattle.progression.specs.TimingRecord.{TimingRecord, IsTimingRecord, cycle, pattern_of, common_red, run, band}
 use Rattle.progression.specs.Lines.{stop, leg, advance, crossing, IsGreenAt, IsGreenWay}
 use Rattle.progression.specs.declared.parts.Pair.{Pair}
 use Rattle.time_space.specs.Finer.{finer}
@@ -36,7 +36,7 @@ get_or-scale_ℤ [] i m = omega (arith, ints)
 get_or-scale_ℤ (x ∷ xs) zero m = refl
 get_or-scale_ℤ (x ∷ xs) (suc i) m = get_or-scale_ℤ xs i m
 
-module _ (a : Street) (t : Plan) (m : ℕ) where
+module _ (a : Street) (t : TimingRecord) (m : ℕ) where
   pub cycle_finer : cycle a (finer m t) ≡ cycle a t * m
   cycle_finer = omega arith
 
@@ -101,7 +101,7 @@ stop_below : (d : Dir) (n j : ℕ) → j < n → stop d n j - 1 < n
 stop_below Outbound n j l = omega arith
 stop_below Inbound n j l = omega arith
 
-module _ (a : Street) (t : Plan) (m : ℕ) (h : IsValid a) (u : 2 ≤ t.unit) (q : 1 ≤ m) where
+module _ (a : Street) (t : TimingRecord) (m : ℕ) (h : IsValid a) (u : 2 ≤ t.unit) (q : 1 ≤ m) where
   green_finer : (d : Dir) (j : ℕ) → j < count a → IsGreenAt a t d j ↔ IsGreenAt a (finer m t) d j
   green_finer d j l =
       let i = stop d (count a) j in
@@ -145,7 +145,7 @@ module _ (a : Street) (t : Plan) (m : ℕ) (h : IsValid a) (u : 2 ≤ t.unit) (q
   drops_finer : (d : Dir) (i : ℕ) → IfSome (change a d i) (λ (c : Pair). (c.least *ℚ number t.grid) ≤ℚ pace_change a t d i) ↔ IfSome (change a d i) (λ (c : Pair). (c.least *ℚ number (t.grid * m)) ≤ℚ pace_change a (finer m t) d i)
   drops_finer d i = if_some_both (change a d i) _ _ (λ (c : Pair). drop_finer d i c.least)
 
-  plan_finer : IsPlan t → IsPlan (finer m t)
+  plan_finer : IsTimingRecord t → IsTimingRecord (finer m t)
   plan_finer p = record {
     grid = let e = mul-le-mul_right m p.grid in omega (arith, e);
     unit = let e = mul-le-mul_right m p.unit in omega (arith, e);
@@ -158,7 +158,7 @@ module _ (a : Street) (t : Plan) (m : ℕ) (h : IsValid a) (u : 2 ≤ t.unit) (q
   grid_above zero e = absurd (let z = zero-mul m in omega (arith, e, z))
   grid_above (suc g) e = omega arith
 
-  plan_coarser : IsPlan (finer m t) → IsPlan t
+  plan_coarser : IsTimingRecord (finer m t) → IsTimingRecord t
   plan_coarser p = record {
     grid = grid_above t.grid p.grid;
     unit = u;

@@ -5,7 +5,7 @@ use Rattle.std.proofs.lemmas.Bool.{cases_lt}
 use Rattle.rational_theory.specs.Rational.{◌*ℚ◌, ◌≤ℚ◌}
 use Rattle.progression.specs.Street.{Street, count, allows, HasSignal, HasLink}
 use Rattle.progression.specs.Speeds.{number}
-use Rattle.progression.specs.Plan.{Plan, cycle, pattern_of}
+use Rattle.progression.specs.TimingRecord.{TimingRecord, cycle, pattern_of}
 use Rattle.progression.specs.Lines.{IsGreenWay, IsGreenAt}
 use Rattle.progression.specs.Good.{RatioHolds, HasLeastBand, HasEqualBands}
 use Rattle.progression.specs.declared.parts.Dir.{Dir}
@@ -20,17 +20,17 @@ use Rattle.time_space.specs.declared.failing.Failing.{Failing}
 use Rattle.time_space.specs.declared.failing.Failing.TheVariants as failing
 
 -- the band isn't both green and blocked at a signal
-pub not_both : (a : Street) (t : Plan) (d : Dir) (j after : ℕ) → IsGreenAt a t d j → IsBlockedAt a t d j after → ⊥
+pub not_both : (a : Street) (t : TimingRecord) (d : Dir) (j after : ℕ) → IsGreenAt a t d j → IsBlockedAt a t d j after → ⊥
 not_both a t d j after g b = let yes = g after b.within in let no = b.red_there in cc
 
 -- a link doesn't both keep and break a limit
-pub clash : (a : Street) (t : Plan) (r : LinkRule) (d : Dir) (i : ℕ) → LinkHolds a t r d i → LinkBreaks a t r d i → ⊥
+pub clash : (a : Street) (t : TimingRecord) (r : LinkRule) (d : Dir) (i : ℕ) → LinkHolds a t r d i → LinkBreaks a t r d i → ⊥
 clash a t rule.Fast d i h b = b h
 clash a t rule.Slow d i h b = b h
 clash a t rule.Rise d i h b = b.1 (h b.0)
 clash a t rule.Drop d i h b = b.1 (h b.0)
 
-module _ (a : Street) (t : Plan) where
+module _ (a : Street) (t : TimingRecord) where
   pub none_before : NoneBefore a t 0
   none_before g w = omega arith
 

@@ -3,7 +3,7 @@ use Rattle.std.proofs.Common.{◌≡◌, ℕ, ◌-◌, ◌<◌, refl, sym, subst
 use Rattle.std.specs.Prelude.{ℤ, pos, ◌+ℤ◌}
 use Rattle.std.proofs.lemmas.Bool.{cases_lt}
 use Rattle.progression.specs.Street.{Street, count}
-use Rattle.progression.specs.Plan.{Plan}
+use Rattle.progression.specs.TimingRecord.{TimingRecord}
 use Rattle.progression.specs.Lines.{stop, crossing}
 use Rattle.progression.specs.declared.parts.Dir.{Dir}
 use Rattle.progression.specs.declared.parts.Dir.TheVariants.{Outbound, Inbound}
@@ -30,13 +30,13 @@ one_stop Outbound n j k h l e = omega (arith, e)
 one_stop Inbound n j k h l e = omega (arith, e)
 
 -- at one signal a band is blocked first at one tick
-same_after : (a : Street) (t : Plan) (d : Dir) (j k s r : ℕ) → j ≡ k → IsBlockedAt a t d j s → IsBlockedAt a t d k r → crossing a t d j +ℤ pos s ≡ crossing a t d k +ℤ pos r
+same_after : (a : Street) (t : TimingRecord) (d : Dir) (j k s r : ℕ) → j ≡ k → IsBlockedAt a t d j s → IsBlockedAt a t d k r → crossing a t d j +ℤ pos s ≡ crossing a t d k +ℤ pos r
 same_after a t d j k s r e f g = alike s r (one_tick _ _ _ _ _ s r f (subst (λ m. IsBlockedAt a t d m r) (sym e) g))
   where
     alike : (s r : ℕ) → s ≡ r → crossing a t d j +ℤ pos s ≡ crossing a t d k +ℤ pos r
     alike s r h = λ i. crossing a t d (e i) +ℤ pos (h i)
 
-one_block : (a : Street) (t : Plan) (d : Dir) (i : ℕ) (x y : ℤ) → IsBlockedSomewhere a t d i x → IsBlockedSomewhere a t d i y → x ≡ y
+one_block : (a : Street) (t : TimingRecord) (d : Dir) (i : ℕ) (x y : ℤ) → IsBlockedSomewhere a t d i x → IsBlockedSomewhere a t d i y → x ≡ y
 one_block a t d i x y f g =
     let e = one_stop d (count a) f.at g.at f.on_way g.on_way (sym f.here.signal_is ∙ g.here.signal_is) in
     f.here.tick_is ∙ same_after a t d f.at g.at f.here.after g.here.after e f.here.blocked g.here.blocked ∙ sym g.here.tick_is
@@ -47,18 +47,18 @@ same_dir Inbound Inbound h = refl
 same_dir Outbound Inbound h = absurd (omega (arith, h))
 same_dir Inbound Outbound h = absurd (omega (arith, h))
 
-blocked_out : (a : Street) (t : Plan) (i j : ℕ) (x y : ℤ) → i ≡ j → IsBlockedSomewhere a t Outbound i x → IsBlockedSomewhere a t Outbound j y → ◌≡◌ {A = Failing} (failing.Outbound i x) (failing.Outbound j y)
+blocked_out : (a : Street) (t : TimingRecord) (i j : ℕ) (x y : ℤ) → i ≡ j → IsBlockedSomewhere a t Outbound i x → IsBlockedSomewhere a t Outbound j y → ◌≡◌ {A = Failing} (failing.Outbound i x) (failing.Outbound j y)
 blocked_out a t i j x y e p q = let h = one_block a t Outbound i x y p (subst (λ m. IsBlockedSomewhere a t Outbound m y) (sym e) q) in λ k. failing.Outbound (e k) (h k)
 
-blocked_in : (a : Street) (t : Plan) (i j : ℕ) (x y : ℤ) → i ≡ j → IsBlockedSomewhere a t Inbound i x → IsBlockedSomewhere a t Inbound j y → ◌≡◌ {A = Failing} (failing.Inbound i x) (failing.Inbound j y)
+blocked_in : (a : Street) (t : TimingRecord) (i j : ℕ) (x y : ℤ) → i ≡ j → IsBlockedSomewhere a t Inbound i x → IsBlockedSomewhere a t Inbound j y → ◌≡◌ {A = Failing} (failing.Inbound i x) (failing.Inbound j y)
 blocked_in a t i j x y e p q = let h = one_block a t Inbound i x y p (subst (λ m. IsBlockedSomewhere a t Inbound m y) (sym e) q) in λ k. failing.Inbound (e k) (h k)
 
 -- a signal of the inbound way is told by its distance from the last
-one_signal : (a : Street) (t : Plan) (i j : ℕ) (x y : ℤ) → IsBlockedSomewhere a t Inbound i x → IsBlockedSomewhere a t Inbound j y → count a - i ≡ count a - j → i ≡ j
+one_signal : (a : Street) (t : TimingRecord) (i j : ℕ) (x y : ℤ) → IsBlockedSomewhere a t Inbound i x → IsBlockedSomewhere a t Inbound j y → count a - i ≡ count a - j → i ≡ j
 one_signal a t i j x y p q e = let u = p.here.signal_is in let v = q.here.signal_is in let k = p.on_way in let l = q.on_way in omega (arith, e)
 
 -- failings with the same place in the order are the same
-same_failing : (a : Street) (t : Plan) (f g : Failing) → Fails a t f → Fails a t g → rule_order f ≡ rule_order g → direction_order f ≡ direction_order g → place_order a f ≡ place_order a g → f ≡ g
+same_failing : (a : Street) (t : TimingRecord) (f g : Failing) → Fails a t f → Fails a t g → rule_order f ≡ rule_order g → direction_order f ≡ direction_order g → place_order a f ≡ place_order a g → f ≡ g
 same_failing a t failing.Shape failing.Shape p q r d e = refl
 same_failing a t failing.CycleShort failing.CycleShort p q r d e = refl
 same_failing a t failing.CycleLong failing.CycleLong p q r d e = refl
@@ -75,7 +75,7 @@ same_failing a t (failing.Inbound i x) (failing.Inbound j y) p q r d e = blocked
 same_failing a t f g p q r d e = absurd (omega (arith, r))
 
 -- two that fail, neither of which comes after the other, are the same
-pub neither_later : (a : Street) (t : Plan) (f g : Failing) → Fails a t f → Fails a t g → IsNoLater a f g → IsNoLater a g f → f ≡ g
+pub neither_later : (a : Street) (t : TimingRecord) (f g : Failing) → Fails a t f → Fails a t g → IsNoLater a f g → IsNoLater a g f → f ≡ g
 neither_later a t f g p q h k =
     let r : rule_order f ≡ rule_order g = omega (arith, h.rule, k.rule) in
     let d : direction_order f ≡ direction_order g = omega (arith, h.direction r, k.direction (sym r)) in

@@ -1,7 +1,7 @@
 -- A rule that fails rules out that the timing is good, and one that speaks of no band that it keeps those rules.
 use Rattle.std.proofs.Common.{◌≤◌, arith}
 use Rattle.progression.specs.Street.{Street}
-use Rattle.progression.specs.Plan.{Plan}
+use Rattle.progression.specs.TimingRecord.{TimingRecord}
 use Rattle.progression.specs.Good.{IsBase}
 use Rattle.progression.specs.declared.parts.Dir.TheVariants.{Outbound, Inbound}
 use Rattle.time_space.specs.Failing.{Fails, FailsRulesOut}
@@ -10,7 +10,7 @@ use Rattle.time_space.specs.declared.failing.Failing.{Failing}
 use Rattle.time_space.specs.declared.failing.Failing.TheVariants as failing
 use Rattle.time_space.proofs.Firsts.{not_both}
 
-pub rules_out_base : (a : Street) (t : Plan) (f : Failing) → Fails a t f → rule_order f ≤ last_base_rule → ¬ IsBase a t
+pub rules_out_base : (a : Street) (t : TimingRecord) (f : Failing) → Fails a t f → rule_order f ≤ last_base_rule → ¬ IsBase a t
 rules_out_base a t failing.Shape w o b = w b.shape
 rules_out_base a t (failing.Pattern i) w o b = let yes = b.patterns i w.0 in let no = w.1 in absurd (cc)
 rules_out_base a t failing.CycleShort w o b = w b.cycle_least
@@ -21,7 +21,7 @@ rules_out_base a t (failing.Rise d i) w o b = w.1.1 (b.rise d i w.0 w.1.0)
 rules_out_base a t (failing.Drop d i) w o b = w.1.1 (b.drop d i w.0 w.1.0)
 rules_out_base a t f w o b = absurd (omega (arith, o))
 
-pub not_base : (a : Street) (t : Plan) (f : Failing) → IsFirstFailing a t f → rule_order f ≤ last_base_rule → ¬ IsBase a t
+pub not_base : (a : Street) (t : TimingRecord) (f : Failing) → IsFirstFailing a t f → rule_order f ≤ last_base_rule → ¬ IsBase a t
 not_base a t f p o b = rules_out_base a t f p.fails o b
 
 pub rules_out : FailsRulesOut

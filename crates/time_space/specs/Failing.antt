@@ -3,7 +3,7 @@ use Rattle.std.specs.Prelude.{◌≡◌, ◌≢◌, length, false}
 use Rattle.rational_theory.specs.Rational.{◌*ℚ◌, ◌≤ℚ◌}
 use Rattle.progression.specs.Street.{Street, count, HasSignal, HasLink, allows}
 use Rattle.progression.specs.Speeds.{number}
-use Rattle.progression.specs.Plan.{Plan, cycle, pattern_of}
+use Rattle.progression.specs.TimingRecord.{TimingRecord, cycle, pattern_of}
 use Rattle.progression.specs.Good.{Good, RatioHolds, HasLeastBand, HasEqualBands}
 use Rattle.progression.specs.declared.parts.Dir.TheVariants.{Outbound, Inbound}
 use Rattle.time_space.specs.Blocked.{IsBlockedSomewhere}
@@ -13,7 +13,7 @@ use Rattle.time_space.specs.declared.failing.Failing.{Failing}
 use Rattle.time_space.specs.declared.failing.Failing.TheVariants as failing
 
 -- the rule that a failing names doesn't hold there
-abbrev pub Fails : Street → Plan → Failing → Type 0
+abbrev pub Fails : Street → TimingRecord → Failing → Type 0
 Fails a t failing.Shape = length t.patterns ≢ count a
 Fails a t (failing.Pattern i) = HasSignal a i × (allows a i (pattern_of t i) ≡ false)
 Fails a t failing.CycleShort = ¬ ((a.head.cycle.least *ℚ number t.grid) ≤ℚ number (cycle a t))
@@ -30,4 +30,4 @@ Fails a t (failing.Inbound i tick) = IsBlockedSomewhere a t Inbound i tick
 
 -- no timing is good where a rule fails
 abbrev pub FailsRulesOut : Type 0
-FailsRulesOut = (a : Street) (t : Plan) (f : Failing) → Fails a t f → ¬ Good a t
+FailsRulesOut = (a : Street) (t : TimingRecord) (f : Failing) → Fails a t f → ¬ Good a t

@@ -1,12 +1,12 @@
 -- The same timing on a finer grid, and the law that it is good there exactly where it is good here.
 use Rattle.std.specs.Prelude.{ℕ, ◌*◌, ◌≤◌, map, pos, ◌*ℤ◌, ◌↔◌}
 use Rattle.progression.specs.Street.{Street}
-use Rattle.progression.specs.Plan.{Plan}
+use Rattle.progression.specs.TimingRecord.{TimingRecord}
 use Rattle.progression.specs.Good.{Good}
 use Rattle.artery_model.specs.Valid.{IsValid}
 
 -- on a grid that is m times as fine
-abbrev pub finer : ℕ → Plan → Plan
+abbrev pub finer : ℕ → TimingRecord → TimingRecord
 finer m t = record {
   grid = t.grid * m;
   unit = t.unit * m;
@@ -22,4 +22,4 @@ finer m t = record {
 
 -- so a test at whole ticks tests every moment
 abbrev pub FinerGrids : Type 0
-FinerGrids = (a : Street) (t : Plan) (m : ℕ) → IsValid a → 2 ≤ t.unit → 1 ≤ m → Good a t ↔ Good a (finer m t)
+FinerGrids = (a : Street) (t : TimingRecord) (m : ℕ) → IsValid a → 2 ≤ t.unit → 1 ≤ m → Good a t ↔ Good a (finer m t)

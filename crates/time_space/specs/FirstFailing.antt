@@ -1,7 +1,7 @@
 -- The order of the failings: by rule, then outbound before inbound, then by place.
 use Rattle.std.specs.Prelude.{◌≡◌, ℕ, ◌-◌, ◌≤◌}
 use Rattle.progression.specs.Street.{Street, count}
-use Rattle.progression.specs.Plan.{Plan}
+use Rattle.progression.specs.TimingRecord.{TimingRecord}
 use Rattle.progression.specs.declared.parts.Dir.{Dir}
 use Rattle.progression.specs.declared.parts.Dir.TheVariants.{Outbound, Inbound}
 use Rattle.time_space.specs.Failing.{Fails}
@@ -57,7 +57,7 @@ pub record IsNoLater (a : Street) (f g : Failing) : Type 0 where
   pub place : rule_order f ≡ rule_order g → direction_order f ≡ direction_order g → place_order a f ≤ place_order a g
 
 -- it fails, and of all that fail none comes before it
-pub record IsFirstFailing (a : Street) (t : Plan) (f : Failing) : Type 0 where
+pub record IsFirstFailing (a : Street) (t : TimingRecord) (f : Failing) : Type 0 where
   pub fails : Fails a t f
   pub first : (g : Failing) → Fails a t g → IsNoLater a f g
 
@@ -66,7 +66,7 @@ abbrev pub last_base_rule : ℕ
 last_base_rule = 7
 
 -- no rule before the n-th fails
-abbrev pub NoneBefore : Street → Plan → ℕ → Type 0
+abbrev pub NoneBefore : Street → TimingRecord → ℕ → Type 0
 NoneBefore a t n = (g : Failing) → Fails a t g → n ≤ rule_order g
 
 abbrev pub link_order : LinkRule → ℕ
@@ -83,4 +83,4 @@ link_failing rule.Drop d i = failing.Drop d i
 
 -- of a timing at most one failing is the first
 abbrev pub OneFirst : Type 0
-OneFirst = (a : Street) (t : Plan) (f g : Failing) → IsFirstFailing a t f → IsFirstFailing a t g → f ≡ g
+OneFirst = (a : Street) (t : TimingRecord) (f g : Failing) → IsFirstFailing a t f → IsFirstFailing a t g → f ≡ g

@@ -3,7 +3,7 @@ use Rattle.std.specs.Prelude.{ℕ, ◌+◌, ◌<◌, ◌≤◌, IfSome}
 use Rattle.rational_theory.specs.Rational.{◌*ℚ◌, ◌≤ℚ◌}
 use Rattle.progression.specs.Street.{Street, HasLink}
 use Rattle.progression.specs.Speeds.{number, run_low, run_high, change}
-use Rattle.progression.specs.Plan.{Plan, run}
+use Rattle.progression.specs.TimingRecord.{TimingRecord, run}
 use Rattle.progression.specs.Good.{pace_change}
 use Rattle.progression.specs.declared.parts.Pair.{Pair}
 use Rattle.progression.specs.declared.parts.Dir.{Dir}
@@ -11,31 +11,31 @@ use Rattle.time_space.specs.declared.links.LinkRule.{LinkRule}
 use Rattle.time_space.specs.declared.links.LinkRule.TheVariants as rule
 
 -- the change of pace from the link is within its limits, where the link gives any
-abbrev pub RiseKept : Street → Plan → Dir → ℕ → Type 0
+abbrev pub RiseKept : Street → TimingRecord → Dir → ℕ → Type 0
 RiseKept a t d i = IfSome (change a d i) (λ (c : Pair). pace_change a t d i ≤ℚ (c.most *ℚ number t.grid))
 
-abbrev pub DropKept : Street → Plan → Dir → ℕ → Type 0
+abbrev pub DropKept : Street → TimingRecord → Dir → ℕ → Type 0
 DropKept a t d i = IfSome (change a d i) (λ (c : Pair). (c.least *ℚ number t.grid) ≤ℚ pace_change a t d i)
 
-abbrev pub LinkHolds : Street → Plan → LinkRule → Dir → ℕ → Type 0
+abbrev pub LinkHolds : Street → TimingRecord → LinkRule → Dir → ℕ → Type 0
 LinkHolds a t rule.Fast d i = (run_low a d i *ℚ number t.grid) ≤ℚ number (run t d i)
 LinkHolds a t rule.Slow d i = number (run t d i) ≤ℚ (run_high a d i *ℚ number t.grid)
 LinkHolds a t rule.Rise d i = HasLink a (i + 1) → RiseKept a t d i
 LinkHolds a t rule.Drop d i = HasLink a (i + 1) → DropKept a t d i
 
 -- the limit isn't kept
-abbrev pub LinkBreaks : Street → Plan → LinkRule → Dir → ℕ → Type 0
+abbrev pub LinkBreaks : Street → TimingRecord → LinkRule → Dir → ℕ → Type 0
 LinkBreaks a t rule.Fast d i = ¬ ((run_low a d i *ℚ number t.grid) ≤ℚ number (run t d i))
 LinkBreaks a t rule.Slow d i = ¬ (number (run t d i) ≤ℚ (run_high a d i *ℚ number t.grid))
 LinkBreaks a t rule.Rise d i = HasLink a (i + 1) × (¬ RiseKept a t d i)
 LinkBreaks a t rule.Drop d i = HasLink a (i + 1) × (¬ DropKept a t d i)
 
 -- every link of the direction keeps the limit
-abbrev pub AllLinks : Street → Plan → LinkRule → Dir → Type 0
+abbrev pub AllLinks : Street → TimingRecord → LinkRule → Dir → Type 0
 AllLinks a t r d = (i : ℕ) → HasLink a i → LinkHolds a t r d i
 
 -- the least link of the direction that doesn't keep the limit
-pub record IsFirstBroken (a : Street) (t : Plan) (r : LinkRule) (d : Dir) (i : ℕ) : Type 0 where
+pub record IsFirstBroken (a : Street) (t : TimingRecord) (r : LinkRule) (d : Dir) (i : ℕ) : Type 0 where
   pub has : HasLink a i
   pub breaks : LinkBreaks a t r d i
   pub kept_before : (k : ℕ) → 1 ≤ k → k < i → LinkHolds a t r d k

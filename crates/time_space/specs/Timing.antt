@@ -1,6 +1,6 @@
 -- The timing records that the program holds: whole numbers below 2 ^ 80 from 0 on, for 2 to 24 signals.
 use Rattle.std.specs.Prelude.{◌≡◌, ℕ, ◌+◌, ◌<◌, ◌≤◌, ◌^◌, List, length, All, pos, map}
-use Rattle.progression.specs.Plan.{Plan}
+use Rattle.progression.specs.TimingRecord.{TimingRecord}
 use Rattle.artery_model.specs.Bounds.{least_signals, most_signals}
 
 pub record IsTiming (grid unit : ℕ) (patterns reds run_out run_in : List ℕ) (first_out first_in band_out band_in : ℕ) : Type 0 where
@@ -23,7 +23,7 @@ pub record IsTiming (grid unit : ℕ) (patterns reds run_out run_in : List ℕ) 
   pub band_in_most : band_in < 2 ^ 80
 
 -- the timing of these numbers
-abbrev pub plan_of : ℕ → ℕ → List ℕ → List ℕ → List ℕ → List ℕ → ℕ → ℕ → ℕ → ℕ → Plan
+abbrev pub plan_of : ℕ → ℕ → List ℕ → List ℕ → List ℕ → List ℕ → ℕ → ℕ → ℕ → ℕ → TimingRecord
 plan_of grid unit patterns reds run_out run_in first_out first_in band_out band_in = record {
   grid = grid;
   unit = unit;

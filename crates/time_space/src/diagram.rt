@@ -2,7 +2,7 @@
 
 ghost use Rattle.std.specs.Prelude.{◌≡◌, ◌+◌, ◌-◌, ◌*◌, ◌<◌, ◌≤◌, ◌^◌, ℕ, ℤ, length, pos, MatchOption, IfSome, ◌≤ℤ◌, ◌<ℤ◌, unsigned_abs};
 ghost use Rattle.progression.specs.Street.{count};
-ghost use Rattle.progression.specs.Plan.{cycle, band};
+ghost use Rattle.progression.specs.TimingRecord.{cycle, band};
 ghost use Rattle.progression.specs.Green.{is_early, ahead, red_start, red_ticks};
 ghost use Rattle.progression.specs.Lines.{stop, leg, advance, crossing, IsGreenAt, IsGreenWay};
 ghost use Rattle.time_space.specs.Sizes.{IsWithin};

@@ -1,7 +1,7 @@
 //! The time-space diagram of one artery: timings in whole ticks, the test whether a timing is good,
 //! its weighted band, and what is green or within a band at a tick.
 //!
-//! Contracts see a `Timing` as the `Plan` of the model and an `Artery` as its `Street`. Start with
+//! Contracts see a `Timing` as the `TimingRecord` of the model and an `Artery` as its `Street`. Start with
 //! `Timing::new`, then `holds`.
 //!
 //! `Timing::new` keeps the limits of a timing's numbers. `holds` is Ok exactly for good timings, for all four patterns, left turns,

@@ -4,7 +4,7 @@ ghost use Rattle.std.specs.Prelude.{◌≡◌, ◌↔◌, ◌+◌, ◌<◌, ◌�
 ghost use Rattle.rational_theory.specs.Rational.{◌*ℚ◌, ◌≤ℚ◌};
 ghost use Rattle.progression.specs.Street.{count, distance, HasLink};
 ghost use Rattle.progression.specs.Speeds.{number, run_low, run_high};
-ghost use Rattle.progression.specs.Plan.{run};
+ghost use Rattle.progression.specs.TimingRecord.{run};
 ghost use Rattle.time_space.specs.LinkRules.{RiseKept, DropKept, LinkHolds, LinkBreaks, AllLinks, IsFirstBroken};
 ghost use Rattle.artery_model.specs.Bounds.{most_distance, most_signals};
 

@@ -4,7 +4,7 @@ ghost use Rattle.std.specs.Prelude.{◌≡◌, ◌↔◌, ◌+◌, ◌<◌, ◌�
 ghost use Rattle.rational_theory.specs.Rational.{◌*ℚ◌, ◌≤ℚ◌};
 ghost use Rattle.progression.specs.Street.{count, allows, HasSignal};
 ghost use Rattle.progression.specs.Speeds.{number};
-ghost use Rattle.progression.specs.Plan.{IsPlan, cycle, pattern_of};
+ghost use Rattle.progression.specs.TimingRecord.{IsTimingRecord, cycle, pattern_of};
 ghost use Rattle.progression.specs.Lines.{IsGreenWay};
 ghost use Rattle.progression.specs.Good.{Good, IsBase, RatioHolds, HasLeastBand, HasEqualBands};
 ghost use Rattle.progression.specs.declared.parts.Dir.{Dir};
@@ -24,7 +24,7 @@ use progression::Dir;
 
 #[tactic(auto, using(crate::proofs::Firsts::after_shape, crate::proofs::Firsts::none_before, crate::proofs::Firsts::first_lone))]
 fn check_shape(artery: &Artery, timing: &Timing) -> Result<(), Failing>
-    ensures plan { IsPlan timing.now }
+    ensures plan { IsTimingRecord timing.now }
     ensures kept { OnOk result (length timing.now.patterns ≡ count artery.now) }
     ensures next { OnOk result (NoneBefore artery.now timing.now 1) }
     ensures first { IfErr result (λ f. IsFirstFailing artery.now timing.now f) }

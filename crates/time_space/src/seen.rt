@@ -2,7 +2,7 @@
 
 ghost use Rattle.std.specs.Prelude.{◌≡◌, ◌+◌, ◌-◌, ◌*◌, ◌<◌, ◌≤◌, ◌^◌, length, nat_le, unsigned_abs};
 ghost use Rattle.progression.specs.Street.{count};
-ghost use Rattle.progression.specs.Plan.{cycle, band};
+ghost use Rattle.progression.specs.TimingRecord.{cycle, band};
 ghost use Rattle.progression.specs.Green.{since, is_green, red_start, red_ticks};
 ghost use Rattle.progression.specs.Lines.{crossing, line_at};
 ghost use Rattle.artery_model.specs.Bounds.{most_signals};

@@ -1,7 +1,7 @@
 //! A timing, seen as a plan.
 
 ghost use Rattle.std.specs.Prelude.{◌≡◌, ◌↔◌, All, IsTrue, IfNone, IfSome, ◌+◌, ◌-◌, ◌<◌, ◌≤◌, ◌^◌, ℕ, length, map, pos, ◌≤ℤ◌, ◌<ℤ◌};
-ghost use Rattle.progression.specs.Plan.{Plan, IsPlan, pattern_of, common_red, run, first, band};
+ghost use Rattle.progression.specs.TimingRecord.{TimingRecord, IsTimingRecord, pattern_of, common_red, run, first, band};
 ghost use Rattle.time_space.specs.Timing.{IsTiming, plan_of};
 ghost use Rattle.artery_model.specs.Bounds.{least_signals, most_signals};
 
@@ -28,10 +28,10 @@ pub struct Timing {
 
 impl Model for Timing {
     ghost use Rattle.std.specs.Prelude.{map, pos};
-    ghost use Rattle.progression.specs.Plan.{Plan};
+    ghost use Rattle.progression.specs.TimingRecord.{TimingRecord};
     ghost use Rattle.time_space.specs.Timing.{IsTiming};
 
-    ghost Value = { Plan };
+    ghost Value = { TimingRecord };
 
     ghost view = { λ t. record {
       grid = t.grid;
@@ -130,7 +130,7 @@ impl Timing {
     /// How many signals it has, from 2 to 24.
     pub fn count(&self) -> u32
         ensures value { result ≡ length self.now.patterns }
-        ensures plan { IsPlan self.now }
+        ensures plan { IsTimingRecord self.now }
         ensures few { least_signals ≤ result }
         ensures many { result ≤ most_signals }
     {

@@ -1,7 +1,7 @@
 //! The numbers of a timing as people use them: bands as fractions of the cycle, moments in seconds, and speeds in the units of the
 //! description.
 //!
-//! Contracts see an `Artery` as a `Street` and a `Timing` as a `Plan`. `specs/Measures` has each number exact, as a fraction that is
+//! Contracts see an `Artery` as a `Street` and a `Timing` as a `TimingRecord`. `specs/Measures` has each number exact, as a fraction that is
 //! never below 0. Start with `band_share`, `offset` or `link_speed`. What writes them, in text or in a picture, stands above.
 #![tactic(auto)]
 

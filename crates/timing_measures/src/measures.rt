@@ -3,7 +3,7 @@
 ghost use Rattle.std.specs.Prelude.{◌≡◌, ◌<◌, ◌≤◌, ◌^◌, pos, ◌≤ℤ◌, length, unsigned_abs};
 ghost use Rattle.rational_theory.specs.Rational.{over};
 ghost use Rattle.progression.specs.Street.{count, signal_of};
-ghost use Rattle.progression.specs.Plan.{cycle, run};
+ghost use Rattle.progression.specs.TimingRecord.{cycle, run};
 ghost use Rattle.progression.specs.Good.{IsBase};
 ghost use Rattle.timing_measures.specs.Measures.{band_share, seconds, cycle_seconds, after_start, offset, speed_of, link_speed};
 

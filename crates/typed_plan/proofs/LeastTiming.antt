@@ -16,7 +16,7 @@ use Rattle.rational_theory.proofs.Multiples.{IsMultiple, multiple_on}
 use Rattle.linear_theory.proofs.Points.{length-numbered, get-numbered}
 use Rattle.progression.specs.Columns.{numbered}
 use Rattle.progression.proofs.Remainders.{quot_ℤ, split_ℤ, mod_below, mod_unique}
-use Rattle.progression.specs.Plan.{Plan, IsPlan, cycle, common_red, run}
+use Rattle.progression.specs.TimingRecord.{TimingRecord, IsTimingRecord, cycle, common_red, run}
 use Rattle.progression.specs.Street.{Street, count, HasSignal, HasLink}
 use Rattle.progression.specs.declared.parts.Dir.{Dir}
 use Rattle.progression.specs.declared.parts.Dir.TheVariants.{Outbound, Inbound}
@@ -139,7 +139,7 @@ module _ (a : Street) (p : Typed) (parts : 1 ≤ a.head.parts) (begun : pos 1 �
       (same_over (least_unit a p) (least_grid a p) first_unit (shared a p) grid_above (shared_above a p) (over_unit ∙ sym over_first)) grid_is.0 grid_is.1
 
   -- ---- no such timing is on a coarser grid
-  module _ (s : Plan) (h : IsAsTyped a p s) where
+  module _ (s : TimingRecord) (h : IsAsTyped a p s) where
     their_part : over (pos s.unit) s.grid ≡ time a p Part 1
     their_part = part_of_cycle p.cycle a.head.parts s.unit s.grid parts h.plan.grid h.cycle
 
@@ -170,10 +170,10 @@ module _ (a : Street) (p : Typed) (parts : 1 ≤ a.head.parts) (begun : pos 1 �
 
   -- ---- and the one on this grid is as it was typed
   module _ (counts : HasCounts a p) (few : 1 ≤ count a) (forward : (d : Dir) (i : ℕ) → HasLink a i → pos 0 ≤ℤ (travel a p d i).num) (x : ℤ) (b : ℕ) (y : ℤ) (c : ℕ) where
-    abbrev timing : Plan
+    abbrev timing : TimingRecord
     timing = with_pairs x b y c (frame a p)
 
-    is_plan : IsPlan timing
+    is_plan : IsTimingRecord timing
     is_plan = record {
       grid = grid_above;
       unit = unit_least;

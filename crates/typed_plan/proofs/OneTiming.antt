@@ -10,7 +10,7 @@ use Rattle.rational_theory.proofs.Arithmetic.{over_ratio}
 use Rattle.rational_theory.proofs.Integers.{+ℤ-*ℤ, neg_ℤ-*ℤ}
 use Rattle.progression.proofs.Remainders.{mod_unique}
 use Rattle.progression.specs.Street.{Street, count, HasSignal, HasLink, signal_of}
-use Rattle.progression.specs.Plan.{Plan, cycle, common_red, run, first, band}
+use Rattle.progression.specs.TimingRecord.{TimingRecord, cycle, common_red, run, first, band}
 use Rattle.progression.specs.declared.parts.Dir.{Dir}
 use Rattle.progression.specs.declared.parts.Dir.TheVariants.{Outbound, Inbound}
 use Rattle.artery_model.specs.Valid.{IsValid}
@@ -47,7 +47,7 @@ abbrev lead_by : Street → Reference → ℕ → ℕ → ℤ
 lead_by a Red unit i = pos 0
 lead_by a Green unit i = pos ((signal_of a i).red * unit)
 
-moment_by : (a : Street) (r : Reference) (t : Plan) (i : ℕ) → moment a r t i ≡ common_red t i +ℤ lead_by a r t.unit i
+moment_by : (a : Street) (r : Reference) (t : TimingRecord) (i : ℕ) → moment a r t i ≡ common_red t i +ℤ lead_by a r t.unit i
 moment_by a Red t i = omega (arith, ints)
 moment_by a Green t i = refl
 
@@ -55,10 +55,10 @@ both_least : (m n : ℕ) → m ≤ n → n ≤ m → m ≡ n
 both_least m n h k = omega arith
 
 -- without firsts and bands
-abbrev bare : Plan → Plan
+abbrev bare : TimingRecord → TimingRecord
 bare t = with_pairs (pos 0) 0 (pos 0) 0 t
 
-module _ (a : Street) (p : Typed) (t s : Plan) (valid : IsValid a) (h : IsTimingOf a p t) (k : IsTimingOf a p s) where
+module _ (a : Street) (p : Typed) (t s : TimingRecord) (valid : IsValid a) (h : IsTimingOf a p t) (k : IsTimingOf a p s) where
   same_grid : t.grid ≡ s.grid
   same_grid = both_least t.grid s.grid (h.least.grid s k.least.as_typed) (k.least.grid t h.least.as_typed)
 
@@ -94,7 +94,7 @@ module _ (a : Street) (p : Typed) (t s : Plan) (valid : IsValid a) (h : IsTiming
       subst (λ j. get_or t.run_in j 0 ≡ get_or s.run_in j 0) (back_again i) (same_run Inbound (i + 1) (omega arith, omega (arith, l, own, w))))
 
   -- the moments, from the ticks of the reds
-  from_reds : (r q : ℕ) (v : Plan) (i : ℕ) (x : ℤ) → common_red v i ≡ pos r → common_red v 1 ≡ pos 0 → v.unit ≡ t.unit → cycle a v ≡ cycle a t
+  from_reds : (r q : ℕ) (v : TimingRecord) (i : ℕ) (x : ℤ) → common_red v i ≡ pos r → common_red v 1 ≡ pos 0 → v.unit ≡ t.unit → cycle a v ≡ cycle a t
       → moment a p.reference v i -ℤ moment a p.reference v 1 +ℤ x *ℤ pos (cycle a v)
       ≡ (pos r +ℤ lead_by a p.reference t.unit i) -ℤ (pos 0 +ℤ lead_by a p.reference t.unit 1) +ℤ x *ℤ pos (cycle a t)
   from_reds r q v i x e f u c =
@@ -149,14 +149,14 @@ module _ (a : Street) (p : Typed) (t s : Plan) (valid : IsValid a) (h : IsTiming
   bands d f g b c (inr n) (inl v) = absurd (some_runs d g c v n.0)
   bands d f g b c (inr n) (inr m) = (n.1 ∙ sym m.1, n.2 ∙ sym m.2)
 
-  bare_of : (v : Plan) (d : Dir) (f b : ℕ) → (IsWidest a v d f b ⊎ (NoneRuns a v d × (f ≡ 0) × (b ≡ 0))) → (IsWidest a (bare v) d f b ⊎ (NoneRuns a (bare v) d × (f ≡ 0) × (b ≡ 0)))
+  bare_of : (v : TimingRecord) (d : Dir) (f b : ℕ) → (IsWidest a v d f b ⊎ (NoneRuns a v d × (f ≡ 0) × (b ≡ 0))) → (IsWidest a (bare v) d f b ⊎ (NoneRuns a (bare v) d × (f ≡ 0) × (b ≡ 0)))
   bare_of v d f b (inl w) = inl (moved a v (pos 0) 0 (pos 0) 0 d f b w)
   bare_of v d f b (inr n) = inr n
 
   same_pair : (d : Dir) → (first t d ≡ first s d) × (band t d ≡ band s d)
   same_pair d =
       let x = h.widest d in let y = k.widest d in
-      let Found : Plan → Type 0 = λ v. IsWidest a v d y.at (band s d) ⊎ (NoneRuns a v d × (y.at ≡ 0) × (band s d ≡ 0)) in
+      let Found : TimingRecord → Type 0 = λ v. IsWidest a v d y.at (band s d) ⊎ (NoneRuns a v d × (y.at ≡ 0) × (band s d ≡ 0)) in
       let e = bands d x.at y.at (band t d) (band s d) (bare_of t d x.at (band t d) x.widest) (subst Found (sym same_bare) (bare_of s d y.at (band s d) y.widest)) in
       (x.first ∙ ap pos e.0 ∙ sym y.first, e.1)
 

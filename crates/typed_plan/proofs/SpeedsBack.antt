@@ -5,7 +5,7 @@ use Rattle.std.proofs.lemmas.Int.{ints}
 use Rattle.rational_theory.specs.Rational.{ℚ, whole, over, ◌/ℚ◌, ◌*ℚ◌}
 use Rattle.rational_theory.proofs.Arithmetic.{IsRatio, same_ratio}
 use Rattle.progression.specs.Speeds.{number, seconds}
-use Rattle.progression.specs.Plan.{run}
+use Rattle.progression.specs.TimingRecord.{run}
 use Rattle.progression.specs.Street.{Street, HasLink, distance, no_link}
 use Rattle.progression.specs.declared.parts.Dir.{Dir}
 use Rattle.progression.specs.declared.parts.Dir.TheVariants.{Outbound, Inbound}

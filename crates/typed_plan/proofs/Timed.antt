@@ -3,7 +3,7 @@ use Rattle.std.proofs.Common.{◌≡◌, ◌⊎◌, inl, inr, ℕ, ℤ, ◌≤�
 use Rattle.std.specs.Prelude.{None, IfOk}
 use Rattle.narrow_fraction.specs.declared.memory.Memory.{Memory}
 use Rattle.progression.specs.Street.{Street, count}
-use Rattle.progression.specs.Plan.{Plan}
+use Rattle.progression.specs.TimingRecord.{TimingRecord}
 use Rattle.progression.specs.declared.parts.Dir.{Dir}
 use Rattle.progression.specs.declared.parts.Dir.TheVariants.{Outbound, Inbound}
 use Rattle.artery_model.specs.Valid.{IsValid}
@@ -18,15 +18,15 @@ use Rattle.typed_plan.proofs.Forward.{begun, forward}
 use Rattle.typed_plan.proofs.LeastTiming.{first_red, red_starts, is_least}
 
 -- a direction's widest pair, or no line
-abbrev pub IsFound : Street → Plan → Dir → Widest → Type 0
+abbrev pub IsFound : Street → TimingRecord → Dir → Widest → Type 0
 IsFound a f d w = IsWidest a f d w.first w.band ⊎ (NoneRuns a f d × (w.first ≡ 0) × (w.band ≡ 0))
 
 -- the timing's own firsts and bands play no part
-pub moved : (a : Street) (f : Plan) (x : ℤ) (b : ℕ) (y : ℤ) (c : ℕ) (d : Dir) (first band : ℕ) → IsWidest a f d first band → IsWidest a (with_pairs x b y c f) d first band
+pub moved : (a : Street) (f : TimingRecord) (x : ℤ) (b : ℕ) (y : ℤ) (c : ℕ) (d : Dir) (first band : ℕ) → IsWidest a f d first band → IsWidest a (with_pairs x b y c f) d first band
 moved a f x b y c d first band w = record { runs = w.runs; below = w.below; widest = w.widest; least = w.least }
 
-module _ (a : Street) (f : Plan) (there back : Widest) where
-  abbrev paired : Plan
+module _ (a : Street) (f : TimingRecord) (there back : Widest) where
+  abbrev paired : TimingRecord
   paired = with_pairs (pos there.first) there.band (pos back.first) back.band f
 
   has_out : IsFound a f Outbound there → HasWidest a paired Outbound
@@ -54,10 +54,10 @@ module _ (a : Street) (p : Typed) (valid : IsValid a) (typed : IsTyped p) (count
         ];
       }
 
-  pub timed_by : (g : Plan) → g ≡ frame a p → IsFound a g Outbound there → IsFound a g Inbound back → (r : Result Plan Memory)
+  pub timed_by : (g : TimingRecord) → g ≡ frame a p → IsFound a g Outbound there → IsFound a g Inbound back → (r : Result TimingRecord Memory)
       → IfOk r (λ t. t ≡ paired a (frame a p) there back) → IfOk r (λ t. IsTimingOf a p t)
   timed_by g e out inward (Ok t) h =
-      let Found : Plan → Type 0 = λ f. IsFound a f Outbound there × IsFound a f Inbound back in
+      let Found : TimingRecord → Type 0 = λ f. IsFound a f Outbound there × IsFound a f Inbound back in
       let both = subst Found e (out, inward) in
       subst (λ t. IsTimingOf a p t) (sym h) (is_timing both.0 both.1)
   timed_by g e out inward (Err m) h = tt

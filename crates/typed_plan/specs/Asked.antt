@@ -3,7 +3,7 @@ use Rattle.std.specs.Prelude.{◌≡◌, ◌≤◌, ℕ, ◌*◌, ◌-◌, ℤ, 
 use Rattle.rational_theory.specs.Rational.{ℚ, whole, over, ◌-ℚ◌}
 use Rattle.progression.specs.Street.{Street, HasSignal, HasLink, signal_of, distance}
 use Rattle.progression.specs.Speeds.{seconds}
-use Rattle.progression.specs.Plan.{Plan, IsPlan, cycle, common_red, run}
+use Rattle.progression.specs.TimingRecord.{TimingRecord, IsTimingRecord, cycle, common_red, run}
 use Rattle.progression.specs.declared.parts.Dir.{Dir}
 use Rattle.progression.specs.declared.parts.Units.{Units}
 use Rattle.description_reader.specs.Typed.{Typed, measure, measured}
@@ -28,29 +28,29 @@ abbrev pub travel : Street → Typed → Dir → ℕ → ℚ
 travel a p d i = time_by (measure p d) a.head.units (distance a d i) (slice_index_or (measured p d) (i - 1) (whole (pos 0)))
 
 -- the tick at which the moment comes from which a signal's offset counts: the start of its common red, or its end
-abbrev pub moment : Street → Reference → Plan → ℕ → ℤ
+abbrev pub moment : Street → Reference → TimingRecord → ℕ → ℤ
 moment a Red t i = common_red t i
 moment a Green t i = common_red t i +ℤ pos ((signal_of a i).red * t.unit)
 
 -- so many ticks, in seconds
-abbrev pub in_seconds : Plan → ℤ → ℚ
+abbrev pub in_seconds : TimingRecord → ℤ → ℚ
 in_seconds t ticks = over ticks t.grid
 
 -- the moment of signal i is so much later than that of signal 1, but for k whole cycles
-pub record IsAfter (a : Street) (p : Typed) (t : Plan) (i : ℕ) : Type 0 where
+pub record IsAfter (a : Street) (p : Typed) (t : TimingRecord) (i : ℕ) : Type 0 where
   pub k : ℤ
   pub later : in_seconds t (moment a p.reference t i -ℤ moment a p.reference t 1 +ℤ k *ℤ pos (cycle a t)) ≡ after p i
 
 -- the timing has the plan's cycle, patterns, offsets and times on the links
-pub record IsAsTyped (a : Street) (p : Typed) (t : Plan) : Type 0 where
-  pub plan : IsPlan t
+pub record IsAsTyped (a : Street) (p : Typed) (t : TimingRecord) : Type 0 where
+  pub plan : IsTimingRecord t
   pub cycle : in_seconds t (pos (cycle a t)) ≡ p.cycle
   pub patterns : t.patterns ≡ p.patterns
   pub offsets : (i : ℕ) → HasSignal a i → IsAfter a p t i
   pub runs : (d : Dir) (i : ℕ) → HasLink a i → in_seconds t (pos (run t d i)) ≡ travel a p d i
 
 -- and no such timing has a coarser grid, or fewer ticks a part
-pub record IsLeast (a : Street) (p : Typed) (t : Plan) : Type 0 where
+pub record IsLeast (a : Street) (p : Typed) (t : TimingRecord) : Type 0 where
   pub as_typed : IsAsTyped a p t
-  pub grid : (s : Plan) → IsAsTyped a p s → t.grid ≤ s.grid
-  pub unit : (s : Plan) → IsAsTyped a p s → t.unit ≤ s.unit
+  pub grid : (s : TimingRecord) → IsAsTyped a p s → t.grid ≤ s.grid
+  pub unit : (s : TimingRecord) → IsAsTyped a p s → t.unit ≤ s.unit

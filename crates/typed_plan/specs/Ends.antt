@@ -3,7 +3,7 @@ use Rattle.std.specs.Prelude.{◌≡◌, ◌⊎◌, ◌<◌, ◌-◌, ℕ, None,
 use Rattle.rational_theory.specs.Rational.{whole}
 use Rattle.progression.specs.Speeds.{seconds}
 use Rattle.progression.specs.Street.{Street, HasSignal, HasLink, distance}
-use Rattle.progression.specs.Plan.{Plan, cycle, common_red, run, first, band}
+use Rattle.progression.specs.TimingRecord.{TimingRecord, cycle, common_red, run, first, band}
 use Rattle.progression.specs.declared.parts.Dir.{Dir}
 use Rattle.artery_model.specs.Faults.{fault_of}
 use Rattle.artery_model.specs.Valid.{IsValid}
@@ -17,19 +17,19 @@ use Rattle.typed_plan.specs.declared.timing.TypedFault.{TypedFault}
 use Rattle.typed_plan.specs.declared.timing.TypedFault.TheVariants as fault
 
 -- the direction's first and band are the widest on these offsets, or both 0 where no line runs
-pub record HasWidest (a : Street) (t : Plan) (d : Dir) : Type 0 where
+pub record HasWidest (a : Street) (t : TimingRecord) (d : Dir) : Type 0 where
   pub at : ℕ
   pub first : first t d ≡ pos at
   pub widest : IsWidest a t d at (band t d) ⊎ (NoneRuns a t d × (at ≡ 0) × (band t d ≡ 0))
 
 -- the common red starts from tick 0 on, and before the first cycle ends
-pub record StartsAtOnce (a : Street) (t : Plan) (i : ℕ) : Type 0 where
+pub record StartsAtOnce (a : Street) (t : TimingRecord) (i : ℕ) : Type 0 where
   pub tick : ℕ
   pub is : common_red t i ≡ pos tick
   pub below : tick < cycle a t
 
 -- the plan's least timing, that of signal 1 starting at tick 0, with its widest bands
-pub record IsTimingOf (a : Street) (p : Typed) (t : Plan) : Type 0 where
+pub record IsTimingOf (a : Street) (p : Typed) (t : TimingRecord) : Type 0 where
   pub counts : count_fault a p ≡ None
   pub fine : too_fine a p ≡ None
   pub least : IsLeast a p t
@@ -45,9 +45,9 @@ Refuses a p fault.Memory = Unit {0}
 
 -- a plan has at most one timing on an artery
 abbrev pub OneTiming : Type 0
-OneTiming = (a : Street) (p : Typed) (t s : Plan) → IsValid a → IsTimingOf a p t → IsTimingOf a p s → t ≡ s
+OneTiming = (a : Street) (p : Typed) (t s : TimingRecord) → IsValid a → IsTimingOf a p t → IsTimingOf a p s → t ≡ s
 
 -- A typed speed is that at which the timing's run takes the link: a length over a time is a speed just as a length over a speed is a time.
 abbrev pub SpeedsComeBack : Type 0
-SpeedsComeBack = (a : Street) (p : Typed) (t : Plan) (d : Dir) (i : ℕ) → IsValid a → IsTyped p → IsTimingOf a p t → HasLink a i → measure p d ≡ Speed
+SpeedsComeBack = (a : Street) (p : Typed) (t : TimingRecord) (d : Dir) (i : ℕ) → IsValid a → IsTyped p → IsTimingOf a p t → HasLink a i → measure p d ≡ Speed
     → seconds a.head.units (distance a d i) (in_seconds t (pos (run t d i))) ≡ slice_index_or (measured p d) (i - 1) (whole (pos 0))

@@ -4,7 +4,7 @@ use Rattle.rational_theory.specs.Rational.{ℚ, ◌/ℚ◌}
 use Rattle.rational_theory.specs.Gcd.{lcm}
 use Rattle.progression.specs.Columns.{numbered}
 use Rattle.progression.specs.Green.{since}
-use Rattle.progression.specs.Plan.{Plan}
+use Rattle.progression.specs.TimingRecord.{TimingRecord}
 use Rattle.progression.specs.Speeds.{number}
 use Rattle.progression.specs.Street.{Street, count, signal_of}
 use Rattle.progression.specs.declared.parts.Dir.{Dir}
@@ -101,7 +101,7 @@ module _ (a : Street) (p : Typed) where
   abbrev pub red_tick : ℕ → ℕ
   red_tick i = since (a.head.parts * least_unit) (pos (lead p.reference i)) (ticks least_grid (after p i) +ℤ pos (lead p.reference 1))
 
-  abbrev pub frame : Plan
+  abbrev pub frame : TimingRecord
   frame = record {
     grid = least_grid;
     unit = least_unit;

@@ -2,7 +2,7 @@
 
 ghost use Rattle.std.specs.Prelude.{◌≡◌, ◌⊎◌, ◌<◌, ◌^◌, length, IfOk, IfErr};
 ghost use Rattle.progression.specs.Street.{count};
-ghost use Rattle.progression.specs.Plan.{cycle};
+ghost use Rattle.progression.specs.TimingRecord.{cycle};
 ghost use Rattle.band_measure.specs.Widest.{IsWidest, NoneRuns};
 ghost use Rattle.typed_plan.specs.Counts.{HasCounts, count_fault};
 ghost use Rattle.typed_plan.specs.Grid.{least_grid, too_fine};

@@ -2,7 +2,7 @@
 use Rattle.std.proofs.Common.{◌≡◌, ◌<◌, List, sym, ◌∙◌, ap, subst, arith}
 use Rattle.rational_theory.specs.Rational.{ℚ, ◌≤ℚ◌}
 use Rattle.progression.specs.Street.{Street}
-use Rattle.progression.specs.Plan.{Plan}
+use Rattle.progression.specs.TimingRecord.{TimingRecord}
 use Rattle.progression.specs.Good.{Good}
 use Rattle.progression.specs.Best.{weighted_band}
 use Rattle.artery_model.specs.Valid.{IsValid}
@@ -62,7 +62,7 @@ module _ (a : Street) (line : BoxLine) (v : IsValid a) (b : IsBoxOf a line.area)
       splits_inside a line.area (end_point (program_of a) line) (street_of a v) b (ends_optimal a line v (subst IsOptimal (sym e) tt)).vertex place (only_splits (recovered a line.area (end_point (program_of a) line)) place (cuts_from (program_of a) line place e))
 
   -- a timing that the vertex gives is good, and its weighted band is the bound
-  pub reads_good : (t : Plan) → ending_of (program_of a) line ≡ Reads → recovered a line.area (end_point (program_of a) line) ≡ Gives t → Good a t × (weighted_band a t ≡ end_bound (program_of a) line)
+  pub reads_good : (t : TimingRecord) → ending_of (program_of a) line ≡ Reads → recovered a line.area (end_point (program_of a) line) ≡ Gives t → Good a t × (weighted_band a t ≡ end_bound (program_of a) line)
   reads_good t e f =
       let o = ends_optimal a line v (subst IsOptimal (sym e) tt) in
       let g = gives_good a line.area (end_point (program_of a) line) (street_of a v) b o.vertex t f in

@@ -2,7 +2,7 @@
 use Rattle.std.proofs.Common.{◌≡◌, List, sym, ◌∙◌, ap, subst}
 use Rattle.rational_theory.specs.Rational.{ℚ}
 use Rattle.progression.specs.Street.{Street}
-use Rattle.progression.specs.Plan.{Plan}
+use Rattle.progression.specs.TimingRecord.{TimingRecord}
 use Rattle.progression.specs.Good.{Good}
 use Rattle.progression.specs.Best.{weighted_band}
 use Rattle.linear_theory.specs.Boxes.{Area, IsBoxOf}
@@ -19,7 +19,7 @@ module _ (a : Street) (box : Area) (x : List ℚ) (h : IsStreet a) (b : IsBoxOf 
   pub splits_inside : (place : At) → recovered a box x ≡ Splits place → IsPlace box place
   splits_inside place e = place_inside a box x place h b v (splits_place a box x place e)
 
-  pub gives_good : (t : Plan) → recovered a box x ≡ Gives t → Good a t × (weighted_band a t ≡ goal_at a x)
+  pub gives_good : (t : TimingRecord) → recovered a box x ≡ Gives t → Good a t × (weighted_band a t ≡ goal_at a x)
   gives_good t e =
       let g = gives_timing a box x t e in
       let w = whole_of a box x b g.0 in

@@ -1,7 +1,7 @@
 use Rattle.std.proofs.Common.{ℕ, ◌≤◌, ◌<◌}
 use Rattle.progression.specs.Good.{RatioHolds}
 use Rattle.progression.specs.declared.parts.Dir.TheVariants.{Outbound, Inbound}
-use Rattle.link_theory.specs.LinkPlan.{half}
+use Rattle.link_theory.specs.LinkRecord.{half}
 use Rattle.link_space.proofs.rules.check_ratios.Given as goal
 
 -- the halves of every link so far keep the ratio

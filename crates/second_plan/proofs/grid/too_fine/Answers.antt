@@ -1,7 +1,7 @@
 use Rattle.std.proofs.Common.{◌≡◌, ◌∙◌, sym, ap, ap₂, ℕ, [], ◌∷◌, map, ◌*◌, ◌^◌, Option}
 use Rattle.std.specs.Prelude.{find, nat_le, List}
 use Rattle.std.specs.Option.{option_or}
-use Rattle.progression.specs.Plan.{cycle}
+use Rattle.progression.specs.TimingRecord.{cycle}
 use Rattle.second_plan.specs.Grid.{fineness, in_seconds}
 use Rattle.second_plan.proofs.Fine.{first_of_four}
 use Rattle.second_plan.proofs.grid.too_fine.Goals as goal

@@ -1,7 +1,7 @@
 use Rattle.std.proofs.Common.{ℕ, ◌≤◌, ◌<◌}
 use Rattle.std.specs.Prelude.{IsTrue}
 use Rattle.progression.specs.Street.{allows}
-use Rattle.progression.specs.Plan.{pattern_of}
+use Rattle.progression.specs.TimingRecord.{pattern_of}
 use Rattle.time_space.proofs.rules.check_patterns.Given as goal
 
 -- every signal so far allows its pattern

@@ -1,5 +1,5 @@
 use Rattle.std.proofs.Common.{◌≡◌, ◌<◌, ◌^◌, sym, subst}
-use Rattle.progression.specs.Plan.{cycle}
+use Rattle.progression.specs.TimingRecord.{cycle}
 use Rattle.typed_plan.specs.Grid.{frame}
 use Rattle.typed_plan.proofs.Fine.{is_fine}
 use Rattle.typed_plan.proofs.Timed.{timed_by}

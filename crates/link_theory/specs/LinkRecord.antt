@@ -1,11 +1,11 @@
 -- A link timing: a timing record with a band for each link in each direction, in place of one for the whole artery, as in MULTIBAND (Gartner, Assmann,
 -- Lasaga and Hou 1991). A link's band reaches as far to either side of the direction's one progression line.
 use Rattle.std.specs.Prelude.{◌≡◌, ℕ, ◌+◌, ◌-◌, List, length, ℤ, slice_index}
-use Rattle.progression.specs.Plan.{Plan, IsPlan}
+use Rattle.progression.specs.TimingRecord.{TimingRecord, IsTimingRecord}
 use Rattle.progression.specs.declared.parts.Dir.{Dir}
 use Rattle.progression.specs.declared.parts.Dir.TheVariants.{Outbound, Inbound}
 
-pub record LinkPlan : Type 0 where
+pub record LinkRecord : Type 0 where
   pub grid : ℕ  -- ticks in a second
   pub unit : ℕ  -- ticks in a part
   pub patterns : List ℕ  -- each signal's left turn pattern
@@ -18,7 +18,7 @@ pub record LinkPlan : Type 0 where
   pub half_in : List ℕ  -- the same inbound
 
 -- its two lines, as a timing whose bands are lines
-abbrev pub lines : LinkPlan → Plan
+abbrev pub lines : LinkRecord → TimingRecord
 lines t = record {
   grid = t.grid;
   unit = t.unit;
@@ -33,7 +33,7 @@ lines t = record {
 }
 
 -- two lines, and the halves about them
-abbrev pub with_halves : Plan → List ℕ → List ℕ → LinkPlan
+abbrev pub with_halves : TimingRecord → List ℕ → List ℕ → LinkRecord
 with_halves t half_out half_in = record {
   grid = t.grid;
   unit = t.unit;
@@ -48,15 +48,15 @@ with_halves t half_out half_in = record {
 }
 
 -- a timing record with a half for each link
-pub record IsLinkPlan (t : LinkPlan) : Type 0 where
-  pub lines : IsPlan (lines t)
+pub record IsLinkRecord (t : LinkRecord) : Type 0 where
+  pub lines : IsTimingRecord (lines t)
   pub half_out : length t.half_out + 1 ≡ length t.patterns
   pub half_in : length t.half_in + 1 ≡ length t.patterns
 
 -- the halves of a direction, and that of link i
-abbrev pub halves : LinkPlan → Dir → List ℕ
+abbrev pub halves : LinkRecord → Dir → List ℕ
 halves t Outbound = t.half_out
 halves t Inbound = t.half_in
 
-abbrev pub half : LinkPlan → Dir → ℕ → ℕ
+abbrev pub half : LinkRecord → Dir → ℕ → ℕ
 half t d i = slice_index (halves t d) (i - 1)
