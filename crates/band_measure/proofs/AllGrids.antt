@@ -67,12 +67,12 @@ module _ (a : Street) (t : TimingRecord) (h : IsValid a) (u : 2 ≤ t.unit) (d :
   pub none_runs : NoneAtEdges a t d (count a) → NoneRuns a t d
   none_runs n m x b q g =
       let r = reached m x b q (finer_gaps a t h u d m x b q g) in
-      n r.at r.width r.on (edge_runs r.at r.width r.gaps)
+      n r.touch.at r.width r.touch.on (edge_runs r.touch.at r.width r.gaps)
 
   widest_runs : (first band : ℕ) → IsWidestOfEdges a t d (count a) first band → (m : ℕ) (x : ℤ) (b : ℕ) → 1 ≤ m → RunsOn a (finer m t) d x b → b ≤ m * band
   widest_runs first band o m x b q g =
       let r = reached m x b q (finer_gaps a t h u d m x b q g) in
-      let w = o.widest r.at r.width r.on (edge_runs r.at r.width r.gaps) in
+      let w = o.widest r.touch.at r.width r.touch.on (edge_runs r.touch.at r.width r.gaps) in
       let v : r.width * m ≤ band * m = mul-le-mul_right m w in
       let wide = r.wide in
       omega (arith, v, wide)
@@ -81,14 +81,14 @@ module _ (a : Street) (t : TimingRecord) (h : IsValid a) (u : 2 ≤ t.unit) (d :
   least_below first band o x l g =
       let n : cycle a t * 1 ≡ cycle a t = omega arith in
       let r = reached 1 (pos x) band (omega arith) (λ k p. gap_once (cycle a t) (long a t d k) (seen a t d k) (pos x) band (gaps_of a t h u d (pos x) band g k p)) in
-      let w = o.widest r.at r.width r.on (edge_runs r.at r.width r.gaps) in
+      let w = o.widest r.touch.at r.width r.touch.on (edge_runs r.touch.at r.width r.gaps) in
       let wide = r.wide in
       let same : r.width ≡ band = omega (arith, w, wide) in
-      let none : r.back ≡ 0 = omega (arith, w, wide) in
-      let one = once (shown r.at) in
-      let ends = rw (n, none, one) at r.ends in
-      let e : edge a t d r.at ≡ x = edge_unique r.at x r.turns (omega (arith, ints, ends)) l in
-      let at_edge : first ≤ edge a t d r.at = o.least r.at r.on (subst (λ b. RunsOn a t d (pos (edge a t d r.at)) b) same (edge_runs r.at r.width r.gaps)) in
+      let none : r.touch.back ≡ 0 = omega (arith, w, wide) in
+      let one = once (seen a t d r.touch.at) in
+      let ends = rw (n, none, one) at r.touch.ends in
+      let e : edge a t d r.touch.at ≡ x = edge_unique r.touch.at x r.touch.turns (omega (arith, ints, ends)) l in
+      let at_edge : first ≤ edge a t d r.touch.at = o.least r.touch.at r.touch.on (subst (λ b. RunsOn a t d (pos (edge a t d r.touch.at)) b) same (edge_runs r.touch.at r.width r.gaps)) in
       omega (arith, e, at_edge)
 
   pub widest_is : (first band : ℕ) → IsWidestOfEdges a t d (count a) first band → IsWidest a t d first band

@@ -109,14 +109,10 @@ module _ (c m : ℕ) (s : ℕ → ℤ) (red : ℕ → ℕ) (x : ℤ) (b : ℕ) w
   -- Widened to the left the band begins at the end of a red of one of n signals. There, on this grid, begins a band of this
   -- width, which m times is at least as wide.
   pub record Reach (n : ℕ) : Type 0 where
-    pub at : ℕ
-    pub on : at < n
-    pub back : ℕ
-    pub turns : ℤ
+    pub touch : Touch (c * m) (λ k. s k *ℤ pos m) (λ k. red k * m) x b n
     pub width : ℕ
-    pub ends : x ≡ (s at +ℤ pos (red at)) *ℤ pos m +ℤ turns *ℤ pos (c * m) +ℤ pos back
-    pub wide : b + back ≤ width * m
-    pub gaps : (k : ℕ) → k < n → Gap c (s k) (red k) (s at +ℤ pos (red at)) width
+    pub wide : b + touch.back ≤ width * m
+    pub gaps : (k : ℕ) → k < n → Gap c (s k) (red k) (s touch.at +ℤ pos (red touch.at)) width
 
   reach_from : (n : ℕ) → 0 < m → Touch (c * m) (λ k. s k *ℤ pos m) (λ k. red k * m) x b n → Reach n
   reach_from n q t =
@@ -124,12 +120,8 @@ module _ (c m : ℕ) (s : ℕ → ℤ) (red : ℕ → ℕ) (x : ℤ) (b : ℕ) w
       let i = t.ends in
       let least = enough_of (b + t.back) m q in
       record {
-        at = t.at;
-        on = t.on;
-        back = t.back;
-        turns = t.turns;
+        touch = t;
         width = least.width;
-        ends = omega (arith, ints, p, i);
         wide = least.enough;
         gaps = λ k h.
             let r = room c (red k) m (b + t.back) (s k) (s t.at +ℤ pos (red t.at)) t.turns q (x -ℤ pos t.back) (omega (arith, ints, p, i)) (t.gaps k h) in

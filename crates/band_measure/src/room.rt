@@ -2,7 +2,6 @@
 
 ghost use Rattle.std.specs.Prelude.{◌≡◌, ◌+◌, ◌-◌, ◌*◌, ◌<◌, ◌≤◌, ◌^◌, ℕ, ℤ, length, pos, ◌+ℤ◌, unsigned_abs, MatchOption};
 ghost use Rattle.progression.specs.Street.{count};
-ghost use Rattle.progression.specs.TimingRecord.{cycle};
 ghost use Rattle.progression.specs.Green.{BandIsGreen};
 ghost use Rattle.time_space.specs.Sizes.{IsWithin};
 ghost use Rattle.band_measure.specs.Pairs.{RunsOn};

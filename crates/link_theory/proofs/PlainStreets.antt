@@ -10,6 +10,7 @@ use Rattle.progression.specs.Green.{mod_ℤ, red_start, red_ticks}
 use Rattle.progression.specs.Lines.{advance, crossing, line_at}
 use Rattle.progression.specs.Good.{IsBase, pace_change}
 use Rattle.progression.specs.Columns.{Column, BandOf, Frequency, WaitOf, RunOf, ShiftOf, columns, ticks, point}
+use Rattle.progression.proofs.WorkedLemmas.{both}
 use Rattle.progression.specs.declared.parts.Pair.{Pair}
 use Rattle.progression.specs.declared.parts.Dir.{Dir}
 use Rattle.progression.specs.declared.parts.Dir.TheVariants.{Outbound, Inbound}
@@ -52,35 +53,18 @@ module _ (a : Street) (out back : ℚ) (e : Bool) where
     other_point = λ i. map (λ c. share a t (other_ticks c i)) (columns (count a))
 
   -- ---- the rules that don't speak of bands
-  module _ (t : TimingRecord) (g : IsBase a t) where
-    fast_there : (d : Dir) (i : ℕ) → HasLink a i → (run_low other d i *ℚ number t.grid) ≤ℚ number (run t d i)
-    fast_there Outbound i k = g.fast Outbound i k
-    fast_there Inbound i k = g.fast Inbound i k
-
-    slow_there : (d : Dir) (i : ℕ) → HasLink a i → number (run t d i) ≤ℚ (run_high other d i *ℚ number t.grid)
-    slow_there Outbound i k = g.slow Outbound i k
-    slow_there Inbound i k = g.slow Inbound i k
-
-    rise_there : (d : Dir) (i : ℕ) → HasLink a i → HasLink a (i + 1) → IfSome (change other d i) (λ (c : Pair). pace_change other t d i ≤ℚ (c.most *ℚ number t.grid))
-    rise_there Outbound i k l = g.rise Outbound i k l
-    rise_there Inbound i k l = g.rise Inbound i k l
-
-    drop_there : (d : Dir) (i : ℕ) → HasLink a i → HasLink a (i + 1) → IfSome (change other d i) (λ (c : Pair). (c.least *ℚ number t.grid) ≤ℚ pace_change other t d i)
-    drop_there Outbound i k l = g.drop Outbound i k l
-    drop_there Inbound i k l = g.drop Inbound i k l
-
-    other_base : IsBase other t
-    other_base = record {
-      plan = g.plan;
-      shape = g.shape;
-      patterns = g.patterns;
-      cycle_least = g.cycle_least;
-      cycle_most = g.cycle_most;
-      fast = fast_there;
-      slow = slow_there;
-      rise = rise_there;
-      drop = drop_there;
-    }
+  other_base : (t : TimingRecord) → IsBase a t → IsBase other t
+  other_base t g = record {
+    plan = g.plan;
+    shape = g.shape;
+    patterns = g.patterns;
+    cycle_least = g.cycle_least;
+    cycle_most = g.cycle_most;
+    fast = both (λ d. (i : ℕ) → HasLink a i → (run_low other d i *ℚ number t.grid) ≤ℚ number (run t d i)) (g.fast Outbound) (g.fast Inbound);
+    slow = both (λ d. (i : ℕ) → HasLink a i → number (run t d i) ≤ℚ (run_high other d i *ℚ number t.grid)) (g.slow Outbound) (g.slow Inbound);
+    rise = both (λ d. (i : ℕ) → HasLink a i → HasLink a (i + 1) → IfSome (change other d i) (λ (c : Pair). pace_change other t d i ≤ℚ (c.most *ℚ number t.grid))) (g.rise Outbound) (g.rise Inbound);
+    drop = both (λ d. (i : ℕ) → HasLink a i → HasLink a (i + 1) → IfSome (change other d i) (λ (c : Pair). (c.least *ℚ number t.grid) ≤ℚ pace_change other t d i)) (g.drop Outbound) (g.drop Inbound);
+  }
 
   -- ---- boxes
   module _ (box : Area) where

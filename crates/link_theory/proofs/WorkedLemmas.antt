@@ -63,47 +63,32 @@ their_value : link_value two_signals (link_timing (pos 150) 50 50) ≡ number 1
 unfolding whole over inverse_ℚ ◌+ℚ◌ ◌*ℚ◌ gcd
 their_value = same_cross _ _ refl
 
-too_wide : ¬ GoodLinks two_signals (link_timing (pos 150) 51 50)
-too_wide g = let w = ((around_after 200 100 (pos 0) (pos 150) 51 (omega arith) (omega arith)).0 (g.here Outbound 1 (omega arith, omega arith))).0 in absurd (omega arith)
-
 at_the_red : GoodLinks two_signals (link_timing (pos 200) 0 50)
 at_the_red =
     good (pos 200) 0
     ((around_after 200 100 (pos 0) (pos 200) 0 (omega arith) (omega arith)).1 (omega arith, omega arith))
     ((around_after 200 100 (pos 100) (pos 300) 0 (omega arith) (omega arith)).1 (omega arith, omega arith))
 
-not_around : ¬ GoodLinks two_signals (link_timing (pos 200) 1 50)
-not_around g = let w = ((around_after 200 100 (pos 0) (pos 200) 1 (omega arith) (omega arith)).0 (g.here Outbound 1 (omega arith, omega arith))).1 in absurd (omega arith)
-
 -- ---- rows
 half_green : green_part two_signals Outbound 1 ≡ number 1 /ℚ number 2
 unfolding whole over inverse_ℚ neg_ℚ ◌+ℚ◌ ◌*ℚ◌ gcd
 half_green = same_cross _ _ refl
 
-far_next : link_row two_signals (root_box two_signals) (link_name_of 25 1) ≡ row_of_cells (number 0) (number 1) (number 0) (number 0) (number 1) (number 0) (number 1 /ℚ number 2)
-far_next = ap (λ b. row_of_cells (number 0) (number 1) (number 0) (number 0) (number 1) (number 0) b) half_green
-
-far_here : link_row two_signals (root_box two_signals) (link_name_of 28 1) ≡ row_of_cells (number 0) (number 0) (number 1) (number 0) (number 0) (number 1) (number 1 /ℚ number 2)
-far_here = ap (λ b. row_of_cells (number 0) (number 0) (number 1) (number 0) (number 0) (number 1) b) half_green
-
 below_one : is_lt (cmp_ℚ (number 1 /ℚ number 2) (number 1)) ≡ true
 unfolding whole over inverse_ℚ ◌*ℚ◌ gcd cmp_ℚ
 below_one = refl
-
-ratio_of_a_half : link_row half_as_much (root_box half_as_much) (link_name_of 30 1) ≡ row_of_cells (number 0) (number 0) (number 0) (number 0) (number 1 /ℚ number 2) minus_one (number 0)
-ratio_of_a_half = rw below_one refl
 
 pub worked_links : WorkedLinks
 worked_links = record {
   whole_greens = in_the_middle;
   their_value = their_value;
-  one_tick_wider = too_wide;
+  one_tick_wider = λ g. let w = ((around_after 200 100 (pos 0) (pos 150) 51 (omega arith) (omega arith)).0 (g.here Outbound 1 (omega arith, omega arith))).0 in absurd (omega arith);
   a_line_at_the_start_of_a_red = at_the_red;
-  with_a_tick_to_either_side = not_around;
+  with_a_tick_to_either_side = λ g. let w = ((around_after 200 100 (pos 0) (pos 200) 1 (omega arith) (omega arith)).0 (g.here Outbound 1 (omega arith, omega arith))).1 in absurd (omega arith);
   near_out_here = refl;
   near_in_next = refl;
-  far_out_next = far_next;
-  far_in_here = far_here;
-  half_ratio = ratio_of_a_half;
+  far_out_next = ap (λ b. row_of_cells (number 0) (number 1) (number 0) (number 0) (number 1) (number 0) b) half_green;
+  far_in_here = ap (λ b. row_of_cells (number 0) (number 0) (number 1) (number 0) (number 0) (number 1) b) half_green;
+  half_ratio = rw below_one refl;
   no_ratio = λ h. h.1 refl;
 }

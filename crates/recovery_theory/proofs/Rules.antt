@@ -9,7 +9,7 @@ use Rattle.rational_theory.proofs.Order.{≤ℚ_refl, <ℚ-≤ℚ, <ℚ_not-≤�
 use Rattle.rational_theory.specs.Compare.{cmp_ℚ}
 use Rattle.rational_theory.proofs.Compare.{ranked_ℚ, cmp_ℚ-is}
 use Rattle.rational_theory.proofs.Ring.{ring, at, lit, minus, Term, ◌⊕◌, ◌⊗◌, zero-*ℚ}
-use Rattle.rational_theory.proofs.Linear.{linear, gap_not_negative}
+use Rattle.rational_theory.proofs.Linear.{Fact, AllHold, linear, gap_not_negative}
 use Rattle.rational_theory.specs.Rows.{IsMet}
 use Rattle.rational_theory.proofs.Rows.{≤ℚ-left}
 use Rattle.rational_theory.proofs.Shares.{≤ℚ_cancel}
@@ -198,19 +198,19 @@ module _ (a : Street) (box : Area) (x : List ℚ) (h : IsStreet a) (v : IsLongVe
   ratio = ratio_by a.head.ratio (number timing.band_out) (number timing.band_in) (cmp_ℚ a.head.ratio (number 1)) (ranked_ℚ a.head.ratio (number 1) (cmp_ℚ a.head.ratio (number 1)) refl) ratio_below ratio_above
 
   -- ---- least bands
+  -- a band, as a share of the cycle, is at least the least one
+  abbrev least_fact : Fact
+  least_fact = record { count = 1; low = less_one ⊗ at 1 ⊕ zero_term; high = minus (at 0) }
+
+  least_shown : (least : ℚ) (ticks : ℕ) → AllHold (least_fact ∷ []) (least ∷ share a timing ticks ∷ []) → (least *ℚ number (cycle a timing)) ≤ℚ number ticks
+  least_shown least ticks row =
+      undivided _ _ (subst (λ y. y ≤ℚ share a timing ticks)
+      (sym (*ℚ_assoc least (number (cycle a timing)) per_cycle ∙ ap (λ y. least *ℚ y) cycle_over ∙ ring (at 0 ⊗ lit (pos 1)) (at 0) (least ∷ []) refl))
+      (linear (least_fact ∷ []) 0 (at 0) (at 1) (least ∷ share a timing ticks ∷ []) row refl))
+
   least_from : (d : Dir) → (least_band a d ≡ number 0 → ⊥) → HasLeastBand a timing d
-  least_from Outbound n =
-      let least = a.head.least_out in
-      let row = row_shown a box x h v w (least_form a Outbound) (omega arith, tt, tt) (v.rows (LeastRow Outbound 0) (refl, n)) in
-      undivided _ _ (subst (λ y. y ≤ℚ share a timing timing.band_out)
-      (sym (*ℚ_assoc least (number (cycle a timing)) per_cycle ∙ ap (λ y. least *ℚ y) cycle_over ∙ ring (at 0 ⊗ lit (pos 1)) (at 0) (least ∷ []) refl))
-      (linear (record { count = 1; low = less_one ⊗ at 1 ⊕ zero_term; high = minus (at 0) } ∷ []) 0 (at 0) (at 1) (least ∷ share a timing timing.band_out ∷ []) (row, tt) refl))
-  least_from Inbound n =
-      let least = a.head.least_in in
-      let row = row_shown a box x h v w (least_form a Inbound) (omega arith, tt, tt) (v.rows (LeastRow Inbound 0) (refl, n)) in
-      undivided _ _ (subst (λ y. y ≤ℚ share a timing timing.band_in)
-      (sym (*ℚ_assoc least (number (cycle a timing)) per_cycle ∙ ap (λ y. least *ℚ y) cycle_over ∙ ring (at 0 ⊗ lit (pos 1)) (at 0) (least ∷ []) refl))
-      (linear (record { count = 1; low = less_one ⊗ at 1 ⊕ zero_term; high = minus (at 0) } ∷ []) 0 (at 0) (at 1) (least ∷ share a timing timing.band_in ∷ []) (row, tt) refl))
+  least_from Outbound n = least_shown a.head.least_out timing.band_out (row_shown a box x h v w (least_form a Outbound) (omega arith, tt, tt) (v.rows (LeastRow Outbound 0) (refl, n)), tt)
+  least_from Inbound n = least_shown a.head.least_in timing.band_in (row_shown a box x h v w (least_form a Inbound) (omega arith, tt, tt) (v.rows (LeastRow Inbound 0) (refl, n)), tt)
 
   -- where there is none, each band is wide enough
   least_none : (d : Dir) → least_band a d ≡ number 0 → HasLeastBand a timing d

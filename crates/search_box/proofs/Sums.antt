@@ -1,5 +1,5 @@
 -- Sums of parts of the cycle and runs, as one fraction.
-use Rattle.std.proofs.Common.{◌≡◌, ℕ, suc, ℤ, pos, negsuc, neg_ℤ, ◌+ℤ◌, ◌*ℤ◌, ◌≤ℤ◌, ◌+◌, ◌*◌, ◌/◌, ◌^◌, ◌<◌, ◌≤◌, refl, ◌∙◌, ap, arith, unsigned_abs, mul-pos, mul-le-mul_right, mul-le-mul_left, div-lt_iff_lt-mul}
+use Rattle.std.proofs.Common.{◌≡◌, ℕ, suc, ℤ, pos, negsuc, neg_ℤ, ◌+ℤ◌, ◌*ℤ◌, ◌≤ℤ◌, ◌+◌, ◌*◌, ◌/◌, ◌^◌, ◌<◌, ◌≤◌, refl, sym, ◌∙◌, ap, arith, unsigned_abs, mul-pos, mul-le-mul_right, mul-le-mul_left, div-lt_iff_lt-mul}
 use Rattle.std.proofs.lemmas.Int.{ints, unsigned_abs-mul}
 use Rattle.std.specs.Int.{int_div_euclid}
 use borrow.Author.Differences.{up, down}
@@ -8,8 +8,13 @@ use Rattle.rational_theory.specs.Floor.{floor_ℚ, ceil_ℚ}
 use Rattle.rational_theory.proofs.Arithmetic.{over_ratio, over_terms, sum_ratio, same_ratio}
 use Rattle.progression.specs.Speeds.{number}
 use Rattle.linear_theory.proofs.Quotients.{above_ratio, quotient_terms, floor_over, ceil_over}
+use Rattle.progression.specs.Street.{Street}
+use Rattle.progression.specs.declared.parts.Dir.TheVariants.{Outbound, Inbound}
+use Rattle.linear_theory.proofs.Spans.{least_sum_is, greatest_sum_is}
 use Rattle.search_box.specs.declared.share.Share.{Share}
-use Rattle.search_box.specs.Sums.{share_of, sum_of, top_of, bottom_of}
+use Rattle.search_box.specs.declared.whole_parts.End.{End}
+use Rattle.search_box.specs.declared.whole_parts.End.TheVariants.{Least, Greatest}
+use Rattle.search_box.specs.Sums.{share_of, top_of, bottom_of, run_at, parts_at, sum_at}
 
 -- a number with a numerator above 0 is above 0
 pub above_zero : (x : ℚ) → pos 1 ≤ℤ x.num → number 0 <ℚ x
@@ -32,6 +37,10 @@ quotient_small (negsuc a) b k h l = let m : a / b < k = (div-lt_iff_lt-mul h).1 
 pub quotient_within : (z b : ℤ) (k : ℕ) → pos 1 ≤ℤ b → unsigned_abs z ≤ k * unsigned_abs b → unsigned_abs (int_div_euclid z b) ≤ k
 quotient_within z (pos b) k h l = quotient_small z b k (omega (arith, ints)) l
 quotient_within z (negsuc b) k h l = absurd (omega (arith, ints))
+
+-- so many parts of `whole` and two shares
+abbrev pub sum_of : ℤ → ℕ → Share → Share → ℚ
+sum_of parts whole first second = over parts whole +ℚ share_of first +ℚ share_of second
 
 module _ (p : ℤ) (n : ℕ) (x y : Share) (h : 1 ≤ n) where
   sum_is : sum_of p n x y ≡ over (top_of p n x y) (bottom_of n x y)
@@ -69,6 +78,8 @@ top_small p n x y h q =
     let f = small (unsigned_abs p) n x.top x.bottom y.top y.bottom (omega arith) (omega arith) (omega arith) h x.some y.some in
     omega (arith, s, e, f)
 
--- with the fractions that the shares are
-pub with_shares : (p : ℤ) (n : ℕ) (x y : Share) (u v : ℚ) → share_of x ≡ u → share_of y ≡ v → sum_of p n x y ≡ over p n +ℚ u +ℚ v
-with_shares p n x y u v e f = rw (e, f) refl
+-- a block sum at an end is its parts and the two runs there
+pub sum_at_is : (a : Street) (h : 0 < a.head.parts) (end : End) (i : ℕ) (x y : Share) → share_of x ≡ run_at a end Outbound i → share_of y ≡ run_at a end Inbound i
+    → sum_of (parts_at a end i) a.head.parts x y ≡ sum_at a end i
+sum_at_is a h Least i x y e f = rw (e, f) (sym (least_sum_is a h i))
+sum_at_is a h Greatest i x y e f = rw (e, f) (sym (greatest_sum_is a h i))

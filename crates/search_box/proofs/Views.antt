@@ -49,11 +49,6 @@ not_single loops turns box p v h e = subst (λ b. IsTrue p ↔ IsSingle b) v (
   λ s. h.1 (all_seen (λ (s : boxes.Span). s.least ≡ s.most) span_of loops s.0),
 )
 
--- the part from the next number on
-pub high_put : (box high : boxes.Area) (i : ℕ) (at least most : ℤ) (s : Span)
-    → high ≡ boxes.with_loop box i (span_of (record { least = least; most = most })) → least ≡ at +ℤ pos 1 → most ≡ s.most → span_of s ≡ boxes.loop_span box i → high ≡ boxes.high_loop box i at
-high_put box high i at least most s e f g h = rw (e, f, g, ← h) refl
-
 -- ---- the root
 -- what has the root's spans is the root, and a box of the artery where each signal has a shift
 module _ (a : Street) (loops : List Span) (turns : List RankSpan) (e : map span_of loops ≡ (boxes.root_box a).loops) (f : map ranks_of turns ≡ (boxes.root_box a).turns) (h : 1 ≤ count a) where

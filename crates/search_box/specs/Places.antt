@@ -19,6 +19,11 @@ abbrev pub high_part : Area → At → Area
 high_part box (Loop i at) = high_loop box i at
 high_part box (Turn i rank) = high_turn box i rank
 
+-- a place's own number
+abbrev pub number_at : At → ℤ
+number_at (Loop i at) = at
+number_at (Turn i rank) = pos rank
+
 -- ---- the span of a place's link or signal; the place's own number plays no part in it
 -- the link or signal is there
 abbrev pub HasSpan : Area → At → Type 0

@@ -5,9 +5,8 @@ ghost use Rattle.progression.specs.TimingRecord.{TimingRecord};
 ghost use Rattle.progression.specs.Good.{Good};
 ghost use Rattle.linear_theory.specs.Counts.{IsStreet};
 ghost use Rattle.search_box.specs.Places.{AreRanks};
-ghost use Rattle.linear_theory.specs.Boxes.{root_box, IsRoot, IsBoxOf, InBox, loop_span, turn_span, with_loop, with_turn};
+ghost use Rattle.linear_theory.specs.Boxes.{root_box, IsRoot, IsBoxOf, InBox, loop_span, turn_span};
 
-use crate::lists::{copied, replaced};
 use crate::root::{root_loops, root_turns};
 use crate::span::Span;
 use artery_model::Artery;
@@ -129,39 +128,5 @@ impl SearchBox {
         ensures { IsTrue result ↔ IsSingle self.now }
     {
         are_single(self.loops.as_slice()) && are_single_ranks(self.turns.as_slice())
-    }
-
-    /// The same box with another span for a link.
-    #[tactic(auto, using(crate::proofs::Views::loop_put))]
-    pub(crate) fn with_loop(
-        &self,
-        alloc: Global,
-        link: u32,
-        span: Span,
-    ) -> Result<SearchBox, Memory>
-        requires first { 1 ≤ link }
-        requires last { link ≤ length self.now.loops }
-        ensures { IfOk result (λ area. area ≡ with_loop self.now link (span_of span)) }
-    {
-        let loops = replaced(alloc, self.loops.as_slice(), link as usize - 1, span)?;
-        let turns = copied(alloc, self.turns.as_slice())?;
-        Ok(SearchBox { loops, turns })
-    }
-
-    /// The same box with other ranks for a signal.
-    #[tactic(auto, using(crate::proofs::Views::turn_put))]
-    pub(crate) fn with_turn(
-        &self,
-        alloc: Global,
-        signal: u32,
-        ranks: RankSpan,
-    ) -> Result<SearchBox, Memory>
-        requires first { 1 ≤ signal }
-        requires last { signal ≤ length self.now.turns }
-        ensures { IfOk result (λ area. area ≡ with_turn self.now signal (ranks_of ranks)) }
-    {
-        let loops = copied(alloc, self.loops.as_slice())?;
-        let turns = replaced(alloc, self.turns.as_slice(), signal as usize - 1, ranks)?;
-        Ok(SearchBox { loops, turns })
     }
 }

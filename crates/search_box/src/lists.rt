@@ -1,6 +1,6 @@
 //! Copies of lists, and one more item.
 
-ghost use Rattle.std.specs.Prelude.{◌≡◌, ◌<◌, ◌++◌, [], ◌∷◌, length, slice_set, IfOk, OnOk};
+ghost use Rattle.std.specs.Prelude.{◌≡◌, ◌++◌, [], ◌∷◌, IfOk, OnOk};
 
 use narrow_fraction::Memory;
 use std::alloc::Global;
@@ -10,21 +10,6 @@ pub(crate) fn copied<T: Copy>(alloc: Global, items: &[T]) -> Result<Vec<T>, Memo
 {
     let mut copy = Vec::new(alloc);
     copy.extend_from_slice(items)?;
-    Ok(copy)
-}
-
-/// A copy with another item at an index.
-pub(crate) fn replaced<T: Copy>(
-    alloc: Global,
-    items: &[T],
-    index: usize,
-    item: T,
-) -> Result<Vec<T>, Memory>
-    requires { index < length items.now }
-    ensures { IfOk result (λ copy. copy.items ≡ slice_set items.now index item) }
-{
-    let mut copy = copied(alloc, items)?;
-    copy[index] = item;
     Ok(copy)
 }
 

@@ -1,22 +1,21 @@
 //! The root box, which has room for every good timing.
 
-ghost use Rattle.std.specs.Prelude.{◌≡◌, ◌+◌, ◌-◌, ◌*◌, ◌<◌, ◌≤◌, ◌^◌, ℕ, map, pos, ◌*ℤ◌, ◌≤ℤ◌, unsigned_abs, IfOk};
+ghost use Rattle.std.specs.Prelude.{◌≡◌, ◌+◌, ◌-◌, ◌*◌, ◌<◌, ◌≤◌, ◌^◌, ℕ, map, pos, neg_ℤ, ◌*ℤ◌, ◌≤ℤ◌, unsigned_abs, IfOk};
 ghost use Rattle.std.specs.Int.{int_div_euclid};
 ghost use Rattle.rational_theory.specs.Floor.{floor_ℚ, ceil_ℚ};
 ghost use Rattle.progression.specs.Street.{count, HasSignal};
 ghost use Rattle.progression.specs.Columns.{numbered};
 ghost use Rattle.linear_theory.specs.Shifts.{shift_count};
-ghost use Rattle.linear_theory.specs.Boxes.{least_sum, greatest_sum, root_span, root_ranks};
-ghost use Rattle.linear_theory.specs.Spans.{least_parts, greatest_parts};
+ghost use Rattle.linear_theory.specs.Boxes.{root_span, root_ranks};
 ghost use Rattle.search_box.specs.Seen.{span_of, ranks_of};
-ghost use Rattle.search_box.specs.Sums.{share_of, sum_of, top_of, bottom_of};
+ghost use Rattle.search_box.specs.Sums.{share_of, top_of, bottom_of, run_at, sum_at};
 
 use crate::area::{RankSpan, SearchBox};
 use crate::lists::push;
 use crate::share::{Share, run_share};
 use crate::shifts::shift_count;
 use crate::span::Span;
-use crate::whole_parts::{greatest_parts, least_parts};
+use crate::whole_parts::{End, parts_at};
 use artery_model::Artery;
 use narrow_fraction::Memory;
 use progression::Dir;
@@ -78,72 +77,75 @@ fn bottom(whole: u32, first: Share, second: Share) -> i128
     times(whole, bottoms(first, second))
 }
 
-/// The quotient of whole numbers, rounded down.
+/// A number of parts of the cycle and two shares of it together, as one fraction.
+#[derive(Clone, Copy)]
+struct Sum {
+    top: i128,
+    bottom: i128,
+    ghost top_small: { unsigned_abs top < 2 ^ 93 },
+    ghost some: { pos 1 ≤ℤ bottom },
+    ghost bottom_small: { unsigned_abs bottom < 2 ^ 90 },
+    ghost fits: { unsigned_abs top ≤ 2 ^ 41 * unsigned_abs bottom },
+}
+
+/// So many parts of `whole` and two shares together.
+fn sum_over(parts: i128, whole: u32, first: Share, second: Share) -> Sum
+    requires parts { unsigned_abs parts < 2 ^ 16 }
+    requires some { 1 ≤ whole }
+    requires whole { whole < 2 ^ 12 }
+    ensures top { result.top ≡ top_of parts whole first second }
+    ensures bottom { result.bottom ≡ pos (bottom_of whole first second) }
+{
+    Sum {
+        top: top(parts, whole, first, second),
+        bottom: bottom(whole, first, second),
+    }
+}
+
+/// A sum, rounded down.
 #[tactic(auto, using(crate::proofs::Sums::quotient_small))]
-fn quotient(top: i128, bottom: i128) -> i64
-    requires top { unsigned_abs top < 2 ^ 93 }
-    requires some { pos 1 ≤ℤ bottom }
-    requires bottom { unsigned_abs bottom < 2 ^ 90 }
-    requires fits { unsigned_abs top ≤ 2 ^ 41 * unsigned_abs bottom }
-    ensures value { result ≡ int_div_euclid top bottom }
+fn floor(sum: Sum) -> i64
+    ensures value { result ≡ int_div_euclid sum.top sum.bottom }
     ensures size { unsigned_abs result ≤ 2 ^ 41 }
 {
-    top.div_euclid(bottom) as i64
+    sum.top.div_euclid(sum.bottom) as i64
 }
 
-/// So many parts of `whole` and two shares together, rounded down.
-#[tactic(auto, using(crate::proofs::Sums::floor_sum, crate::proofs::Sums::top_small))]
-fn floor(parts: i128, whole: u32, first: Share, second: Share) -> i64
-    requires parts { unsigned_abs parts < 2 ^ 16 }
-    requires some { 1 ≤ whole }
-    requires whole { whole < 2 ^ 12 }
-    ensures { result ≡ floor_ℚ (sum_of parts whole first second) }
+/// A sum, rounded up.
+fn ceiling(sum: Sum) -> i64
+    ensures { result ≡ neg_ℤ (int_div_euclid (neg_ℤ sum.top) sum.bottom) }
 {
-    quotient(
-        top(parts, whole, first, second),
-        bottom(whole, first, second),
-    )
+    let below = Sum {
+        top: -sum.top,
+        bottom: sum.bottom,
+    };
+    -floor(below)
 }
 
-/// So many parts of `whole` and two shares together, rounded up.
-#[tactic(auto, using(crate::proofs::Sums::ceil_sum, crate::proofs::Sums::top_small))]
-fn ceiling(parts: i128, whole: u32, first: Share, second: Share) -> i64
-    requires parts { unsigned_abs parts < 2 ^ 16 }
-    requires some { 1 ≤ whole }
-    requires whole { whole < 2 ^ 12 }
-    ensures { result ≡ ceil_ℚ (sum_of parts whole first second) }
-{
-    -quotient(
-        -top(parts, whole, first, second),
-        bottom(whole, first, second),
-    )
-}
-
-/// The least block sum of a link, rounded up.
-#[tactic(auto, using(linear_theory::proofs::Spans::least_sum_is))]
-fn least(artery: &Artery, link: u32) -> i64
+/// The run on a link at an end, as a share of the cycle.
+fn run_at(artery: &Artery, end: End, dir: Dir, link: u32) -> Share
     requires first { 1 ≤ link }
     requires last { link < count artery.now }
-    ensures { result ≡ ceil_ℚ (least_sum artery.now link) }
+    ensures { share_of result ≡ run_at artery.now end dir link }
 {
-    let cycle = artery.cycle().most;
-    let outbound = run_share(artery.run_low(Dir::Outbound, link), cycle);
-    let inbound = run_share(artery.run_low(Dir::Inbound, link), cycle);
-    ceiling(least_parts(artery, link), artery.parts(), outbound, inbound)
+    let cycle = artery.cycle();
+    match end {
+        End::Least => run_share(artery.run_low(dir, link), cycle.most),
+        End::Greatest => run_share(artery.run_high(dir, link), cycle.least),
+    }
 }
 
-/// The greatest block sum of a link, rounded down.
-#[tactic(auto, using(linear_theory::proofs::Spans::greatest_sum_is))]
-fn greatest(artery: &Artery, link: u32) -> i64
+/// The block sum of a link at an end, with each wait, run and shift by itself at the end of its range.
+fn sum_at(artery: &Artery, end: End, link: u32) -> Sum
     requires first { 1 ≤ link }
     requires last { link < count artery.now }
-    ensures { result ≡ floor_ℚ (greatest_sum artery.now link) }
+    ensures floor { int_div_euclid result.top result.bottom ≡ floor_ℚ (sum_at artery.now end link) }
+    ensures ceiling { neg_ℤ (int_div_euclid (neg_ℤ result.top) result.bottom) ≡ ceil_ℚ (sum_at artery.now end link) }
 {
-    let cycle = artery.cycle().least;
-    let outbound = run_share(artery.run_high(Dir::Outbound, link), cycle);
-    let inbound = run_share(artery.run_high(Dir::Inbound, link), cycle);
-    floor(
-        greatest_parts(artery, link),
+    let outbound = run_at(artery, end, Dir::Outbound, link);
+    let inbound = run_at(artery, end, Dir::Inbound, link);
+    sum_over(
+        parts_at(artery, end, link),
         artery.parts(),
         outbound,
         inbound,
@@ -158,8 +160,8 @@ pub fn root_span(artery: &Artery, link: u32) -> Span
     ensures { span_of result ≡ root_span artery.now link }
 {
     Span {
-        least: least(artery, link),
-        most: greatest(artery, link),
+        least: ceiling(sum_at(artery, End::Least, link)),
+        most: floor(sum_at(artery, End::Greatest, link)),
     }
 }
 

@@ -1,12 +1,12 @@
 -- A timing on a finer grid is good exactly where it is good here.
 use Rattle.std.proofs.Common.{◌≡◌, ℕ, suc, zero, ◌+◌, ◌-◌, ◌*◌, ◌<◌, ◌≤◌, List, [], ◌∷◌, get_or, map, arith, refl, ap, sym, ◌∙◌, true, false, zero-mul}
 use Rattle.std.proofs.lemmas.List.{length-map}
-use Rattle.std.specs.Prelude.{ℤ, pos, ◌+ℤ◌, ◌*ℤ◌, ◌↔◌, if◌then◌else◌, IfSome}
+use Rattle.std.specs.Prelude.{ℤ, pos, ◌+ℤ◌, ◌*ℤ◌, ◌↔◌, if◌then◌else◌, IfSome, IsTrue, length}
 use Rattle.std.proofs.lemmas.Int.{ints}
 use Rattle.std.proofs.Math.Nat.{mul-le-mul_right, le_of_mul-le-mul_right}
 use borrow.Author.Differences.{up, down}
 use Rattle.progression.specs.Green.{BandIsGreen, is_early, ahead, red_start, red_ticks}
-use Rattle.progression.specs.Street.{Street, no_signal, count, red_parts, left_against, clearance, distance, least_band}
+use Rattle.progression.specs.Street.{Street, no_signal, count, allows, HasSignal, red_parts, left_against, clearance, distance, least_band}
 use Rattle.progression.specs.Speeds.{number, run_low, run_high, change}
 use Rattle.progression.specs.Good.{Good, IsBase, HasLeastBand, HasEqualBands, pace_change}
 use Rattle.artery_model.specs.Valid.{IsValid}
@@ -14,6 +14,9 @@ use Rattle.progression.specs.TimingRecord.{TimingRecord, IsTimingRecord, cycle, 
 use Rattle.progression.specs.Lines.{stop, leg, advance, crossing, IsGreenAt, IsGreenWay}
 use Rattle.progression.specs.declared.parts.Pair.{Pair}
 use Rattle.time_space.specs.Finer.{finer}
+use Rattle.time_space.specs.LinkRules.{LinkHolds}
+use Rattle.time_space.specs.declared.links.LinkRule.{LinkRule}
+use Rattle.time_space.specs.declared.links.LinkRule.TheVariants as rule
 use Rattle.time_space.proofs.Scale.{finer_grids, minus_scale}
 use Rattle.time_space.proofs.Multiples.{times_le, limit_times, least_finer, most_finer, apart_times, ratio_finer, if_some_both}
 use Rattle.rational_theory.specs.Rational.{ℚ, ◌*ℚ◌, ◌≤ℚ◌, inverse_ℚ}
@@ -101,6 +104,22 @@ stop_below : (d : Dir) (n j : ℕ) → j < n → stop d n j - 1 < n
 stop_below Outbound n j l = omega arith
 stop_below Inbound n j l = omega arith
 
+-- the rules that don't speak of bands, from those of another timing whose links keep each limit
+base_by : (a : Street) (s t : TimingRecord) → IsBase a s → IsTimingRecord t → length t.patterns ≡ count a → ((i : ℕ) → HasSignal a i → IsTrue (allows a i (pattern_of t i)))
+    → (a.head.cycle.least *ℚ number t.grid) ≤ℚ number (cycle a t) → number (cycle a t) ≤ℚ (a.head.cycle.most *ℚ number t.grid)
+    → ((r : LinkRule) (d : Dir) (i : ℕ) → LinkHolds a s r d i → LinkHolds a t r d i) → IsBase a t
+base_by a s t b plan shape patterns least most holds = record {
+  plan = plan;
+  shape = shape;
+  patterns = patterns;
+  cycle_least = least;
+  cycle_most = most;
+  fast = λ d i l. holds rule.Fast d i (b.fast d i l);
+  slow = λ d i l. holds rule.Slow d i (b.slow d i l);
+  rise = λ d i l. holds rule.Rise d i (b.rise d i l);
+  drop = λ d i l. holds rule.Drop d i (b.drop d i l);
+}
+
 module _ (a : Street) (t : TimingRecord) (m : ℕ) (h : IsValid a) (u : 2 ≤ t.unit) (q : 1 ≤ m) where
   green_finer : (d : Dir) (j : ℕ) → j < count a → IsGreenAt a t d j ↔ IsGreenAt a (finer m t) d j
   green_finer d j l =
@@ -167,31 +186,17 @@ module _ (a : Street) (t : TimingRecord) (m : ℕ) (h : IsValid a) (u : 2 ≤ t.
     run_in = ap (λ n. n + 1) (sym (length-map t.run_in (λ n. n * m))) ∙ p.run_in;
   }
 
+  link_finer : (r : LinkRule) (d : Dir) (i : ℕ) → LinkHolds a t r d i ↔ LinkHolds a (finer m t) r d i
+  link_finer rule.Fast d i = fast_finer d i
+  link_finer rule.Slow d i = slow_finer d i
+  link_finer rule.Rise d i = (λ h k. (rises_finer d i).0 (h k), λ h k. (rises_finer d i).1 (h k))
+  link_finer rule.Drop d i = (λ h k. (drops_finer d i).0 (h k), λ h k. (drops_finer d i).1 (h k))
+
   base_finer : IsBase a t → IsBase a (finer m t)
-  base_finer b = record {
-    plan = plan_finer b.plan;
-    shape = b.shape;
-    patterns = b.patterns;
-    cycle_least = cycle_least_finer.0 b.cycle_least;
-    cycle_most = cycle_most_finer.0 b.cycle_most;
-    fast = λ d i l. (fast_finer d i).0 (b.fast d i l);
-    slow = λ d i l. (slow_finer d i).0 (b.slow d i l);
-    rise = λ d i l k. (rises_finer d i).0 (b.rise d i l k);
-    drop = λ d i l k. (drops_finer d i).0 (b.drop d i l k);
-  }
+  base_finer b = base_by a t (finer m t) b (plan_finer b.plan) b.shape b.patterns (cycle_least_finer.0 b.cycle_least) (cycle_most_finer.0 b.cycle_most) (λ r d i. (link_finer r d i).0)
 
   base_coarser : IsBase a (finer m t) → IsBase a t
-  base_coarser b = record {
-    plan = plan_coarser b.plan;
-    shape = b.shape;
-    patterns = b.patterns;
-    cycle_least = cycle_least_finer.1 b.cycle_least;
-    cycle_most = cycle_most_finer.1 b.cycle_most;
-    fast = λ d i l. (fast_finer d i).1 (b.fast d i l);
-    slow = λ d i l. (slow_finer d i).1 (b.slow d i l);
-    rise = λ d i l k. (rises_finer d i).1 (b.rise d i l k);
-    drop = λ d i l k. (drops_finer d i).1 (b.drop d i l k);
-  }
+  base_coarser b = base_by a (finer m t) t b (plan_coarser b.plan) b.shape b.patterns (cycle_least_finer.1 b.cycle_least) (cycle_most_finer.1 b.cycle_most) (λ r d i. (link_finer r d i).1)
 
   pub base_both : IsBase a t ↔ IsBase a (finer m t)
   base_both = (base_finer, base_coarser)

@@ -10,7 +10,7 @@ use Rattle.progression.specs.Lines.{IsGreenWay, IsGreenAt}
 use Rattle.progression.specs.Good.{RatioHolds, HasLeastBand, HasEqualBands}
 use Rattle.progression.specs.declared.parts.Dir.{Dir}
 use Rattle.progression.specs.declared.parts.Dir.TheVariants.{Outbound, Inbound}
-use Rattle.time_space.specs.Blocked.{IsBlockedAt, IsFirstBlocked}
+use Rattle.time_space.specs.Blocked.{IsBlockedAt, IsBlockedSomewhere, IsFirstBlocked}
 use Rattle.time_space.specs.LinkRules.{LinkHolds, LinkBreaks, AllLinks, IsFirstBroken}
 use Rattle.time_space.specs.Failing.{Fails}
 use Rattle.time_space.specs.FirstFailing.{rule_order, direction_order, dir_order, place_order, IsNoLater, IsFirstFailing, NoneBefore, link_order, link_failing}
@@ -152,29 +152,19 @@ module _ (a : Street) (t : TimingRecord) where
   after_outbound b h (failing.Outbound i tick) w = absurd (not_both a t Outbound w.at w.here.after (h w.at w.on_way) w.here.blocked)
   after_outbound b h g w = omega (arith, b g w)
 
+  -- of a direction's blocked signals none stands before its first
+  blocked_later : (d : Dir) (signal other : ℕ) (tick moment : ℤ) (f : IsFirstBlocked a t d signal tick) (w : IsBlockedSomewhere a t d other moment) → f.at ≤ w.at
+  blocked_later d signal other tick moment f w = elim (cases_lt w.at f.at) [ inl below ↦ absurd (not_both a t d w.at w.here.after (f.green_before w.at below) w.here.blocked) | inr above ↦ above ]
+
   no_later_outbound : NoneBefore a t 11 → (signal : ℕ) (tick : ℤ) → IsFirstBlocked a t Outbound signal tick → (g : Failing) → Fails a t g → IsNoLater a (failing.Outbound signal tick) g
-  no_later_outbound b signal tick f (failing.Outbound i other) w = record {
-    rule = omega arith;
-    direction = λ e. omega arith;
-    place = λ e q. elim (cases_lt w.at f.at) [
-      | inl below ↦ absurd (not_both a t Outbound w.at w.here.after (f.green_before w.at below) w.here.blocked)
-      | inr above ↦ omega (arith, w.here.signal_is, f.here.signal_is)
-    ];
-  }
+  no_later_outbound b signal tick f (failing.Outbound i other) w = let above = blocked_later Outbound signal i tick other f w in let here = w.here.signal_is in let first = f.here.signal_is in record { rule = omega arith; direction = λ e. omega arith; place = λ e q. omega (arith, above, here, first) }
   no_later_outbound b signal tick f g w = record { rule = b g w; direction = λ e. absurd (omega (arith, e)); place = λ e q. absurd (omega (arith, e)) }
 
   pub first_outbound : NoneBefore a t 11 → (signal : ℕ) (tick : ℤ) → IsFirstBlocked a t Outbound signal tick → IsFirstFailing a t (failing.Outbound signal tick)
   first_outbound b signal tick f = record { fails = record { at = f.at; on_way = f.on_way; here = f.here }; first = no_later_outbound b signal tick f }
 
   no_later_inbound : NoneBefore a t 12 → (signal : ℕ) (tick : ℤ) → IsFirstBlocked a t Inbound signal tick → (g : Failing) → Fails a t g → IsNoLater a (failing.Inbound signal tick) g
-  no_later_inbound b signal tick f (failing.Inbound i other) w = record {
-    rule = omega arith;
-    direction = λ e. omega arith;
-    place = λ e q. elim (cases_lt w.at f.at) [
-      | inl below ↦ absurd (not_both a t Inbound w.at w.here.after (f.green_before w.at below) w.here.blocked)
-      | inr above ↦ omega (arith, w.here.signal_is, f.here.signal_is)
-    ];
-  }
+  no_later_inbound b signal tick f (failing.Inbound i other) w = let above = blocked_later Inbound signal i tick other f w in let here = w.here.signal_is in let first = f.here.signal_is in record { rule = omega arith; direction = λ e. omega arith; place = λ e q. omega (arith, above, here, first) }
   no_later_inbound b signal tick f g w = record { rule = b g w; direction = λ e. absurd (omega (arith, e)); place = λ e q. absurd (omega (arith, e)) }
 
   pub first_inbound : NoneBefore a t 12 → (signal : ℕ) (tick : ℤ) → IsFirstBlocked a t Inbound signal tick → IsFirstFailing a t (failing.Inbound signal tick)

@@ -10,25 +10,27 @@ use Rattle.progression.specs.declared.parts.Dir.{Dir}
 use Rattle.time_space.specs.declared.links.LinkRule.{LinkRule}
 use Rattle.time_space.specs.declared.links.LinkRule.TheVariants as rule
 
--- the change of pace from the link is within its limits, where the link gives any
-abbrev pub RiseKept : Street → TimingRecord → Dir → ℕ → Type 0
-RiseKept a t d i = IfSome (change a d i) (λ (c : Pair). pace_change a t d i ≤ℚ (c.most *ℚ number t.grid))
+-- the change of pace from the link keeps a limit, where the link gives limits; the rules of speeds set none
+abbrev pub ChangeWithin : Street → TimingRecord → LinkRule → Dir → ℕ → Pair → Type 0
+ChangeWithin a t rule.Rise d i c = pace_change a t d i ≤ℚ (c.most *ℚ number t.grid)
+ChangeWithin a t rule.Drop d i c = (c.least *ℚ number t.grid) ≤ℚ pace_change a t d i
+ChangeWithin a t r d i c = Unit {0}
 
-abbrev pub DropKept : Street → TimingRecord → Dir → ℕ → Type 0
-DropKept a t d i = IfSome (change a d i) (λ (c : Pair). (c.least *ℚ number t.grid) ≤ℚ pace_change a t d i)
+abbrev pub ChangeKept : Street → TimingRecord → LinkRule → Dir → ℕ → Type 0
+ChangeKept a t r d i = IfSome (change a d i) (ChangeWithin a t r d i)
 
 abbrev pub LinkHolds : Street → TimingRecord → LinkRule → Dir → ℕ → Type 0
 LinkHolds a t rule.Fast d i = (run_low a d i *ℚ number t.grid) ≤ℚ number (run t d i)
 LinkHolds a t rule.Slow d i = number (run t d i) ≤ℚ (run_high a d i *ℚ number t.grid)
-LinkHolds a t rule.Rise d i = HasLink a (i + 1) → RiseKept a t d i
-LinkHolds a t rule.Drop d i = HasLink a (i + 1) → DropKept a t d i
+LinkHolds a t rule.Rise d i = HasLink a (i + 1) → ChangeKept a t rule.Rise d i
+LinkHolds a t rule.Drop d i = HasLink a (i + 1) → ChangeKept a t rule.Drop d i
 
 -- the limit isn't kept
 abbrev pub LinkBreaks : Street → TimingRecord → LinkRule → Dir → ℕ → Type 0
 LinkBreaks a t rule.Fast d i = ¬ ((run_low a d i *ℚ number t.grid) ≤ℚ number (run t d i))
 LinkBreaks a t rule.Slow d i = ¬ (number (run t d i) ≤ℚ (run_high a d i *ℚ number t.grid))
-LinkBreaks a t rule.Rise d i = HasLink a (i + 1) × (¬ RiseKept a t d i)
-LinkBreaks a t rule.Drop d i = HasLink a (i + 1) × (¬ DropKept a t d i)
+LinkBreaks a t rule.Rise d i = HasLink a (i + 1) × (¬ ChangeKept a t rule.Rise d i)
+LinkBreaks a t rule.Drop d i = HasLink a (i + 1) × (¬ ChangeKept a t rule.Drop d i)
 
 -- every link of the direction keeps the limit
 abbrev pub AllLinks : Street → TimingRecord → LinkRule → Dir → Type 0

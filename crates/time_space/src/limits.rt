@@ -1,4 +1,5 @@
 //! Comparisons of ticks with limits that are fractions, exactly and within 128 bits.
+#![tactic(auto, using(crate::proofs::GridLimits::least_is, crate::proofs::GridLimits::most_is))]
 
 ghost use Rattle.std.specs.Prelude.{◌≡◌, ◌↔◌, IsTrue, ◌+◌, ◌*◌, ◌<◌, ◌≤◌, ◌^◌, pos, ◌*ℤ◌, ◌-ℤ◌, unsigned_abs};
 ghost use Rattle.rational_theory.specs.Rational.{◌*ℚ◌, ◌≤ℚ◌};
@@ -13,14 +14,12 @@ use narrow_fraction::Frac;
 fn product(number: i128, count: u128) -> i128
     requires number { unsigned_abs number < 2 ^ 34 }
     requires count { count < 2 ^ 92 }
-    ensures value { result ≡ number *ℤ pos count }
-    ensures small { unsigned_abs result < 2 ^ 126 }
+    ensures { result ≡ number *ℤ pos count }
 {
     number * count as i128
 }
 
 /// Whether so many ticks are at least `limit` seconds, or at least the fraction `limit` of so many other ticks.
-#[tactic(auto, using(crate::proofs::GridLimits::least_is))]
 pub fn is_at_least(ticks: u128, limit: Frac, grid: u128) -> bool
     requires ticks { ticks < 2 ^ 92 }
     requires num { unsigned_abs limit.num < 2 ^ 30 }
@@ -32,7 +31,6 @@ pub fn is_at_least(ticks: u128, limit: Frac, grid: u128) -> bool
 }
 
 /// Whether so many ticks are at most `limit` seconds.
-#[tactic(auto, using(crate::proofs::GridLimits::most_is))]
 pub fn is_at_most(ticks: u128, limit: Frac, grid: u128) -> bool
     requires ticks { ticks < 2 ^ 92 }
     requires num { unsigned_abs limit.num < 2 ^ 30 }
@@ -53,17 +51,6 @@ fn limit_product(number: i128, factor: u128) -> i128
     number * factor as i128
 }
 
-/// The grid times both distances.
-fn grid_and_lengths(grid: u128, distance: u32, next_distance: u32) -> u128
-    requires grid { grid < 2 ^ 80 }
-    requires distance { distance ≤ most_distance }
-    requires next_distance { next_distance ≤ most_distance }
-    ensures value { result ≡ grid * (distance * next_distance) }
-    ensures most { result < 2 ^ 110 }
-{
-    grid * (u128::from(distance) * u128::from(next_distance))
-}
-
 /// Two runs and the distances that they take.
 #[derive(Clone, Copy)]
 pub struct Paces {
@@ -71,14 +58,25 @@ pub struct Paces {
     pub distance: u32,
     pub next_run: u128,
     pub next_distance: u32,
+    ghost run_small: { run < 2 ^ 80 },
+    ghost next_run_small: { next_run < 2 ^ 80 },
+    ghost some: { 1 ≤ distance },
+    ghost small: { distance ≤ most_distance },
+    ghost next_some: { 1 ≤ next_distance },
+    ghost next_small: { next_distance ≤ most_distance },
+}
+
+/// The grid times both distances.
+fn grid_and_lengths(grid: u128, paces: Paces) -> u128
+    requires grid { grid < 2 ^ 80 }
+    ensures value { result ≡ grid * (paces.distance * paces.next_distance) }
+    ensures most { result < 2 ^ 110 }
+{
+    grid * (u128::from(paces.distance) * u128::from(paces.next_distance))
 }
 
 /// The change of pace times both distances.
 fn change_of(paces: Paces) -> i128
-    requires run { paces.run < 2 ^ 80 }
-    requires next_run { paces.next_run < 2 ^ 80 }
-    requires distance { paces.distance ≤ most_distance }
-    requires next_distance { paces.next_distance ≤ most_distance }
     ensures value { result ≡ pos (paces.next_run * paces.distance) -ℤ pos (paces.run * paces.next_distance) }
     ensures small { unsigned_abs result < 2 ^ 95 }
 {
@@ -98,42 +96,24 @@ fn scaled(change: i128, den: u128) -> i128
 /// Whether the pace changes by at least `limit`.
 #[tactic(auto, using(crate::proofs::Fractions::drop_is))]
 pub fn is_change_at_least(paces: Paces, limit: Frac, grid: u128) -> bool
-    requires run { paces.run < 2 ^ 80 }
-    requires next_run { paces.next_run < 2 ^ 80 }
-    requires distance { 1 ≤ paces.distance }
-    requires distance_most { paces.distance ≤ most_distance }
-    requires next_distance { 1 ≤ paces.next_distance }
-    requires next_distance_most { paces.next_distance ≤ most_distance }
     requires num { unsigned_abs limit.num ≤ most_numerator }
     requires den { limit.den ≤ 5280000 }
     requires grid { grid < 2 ^ 80 }
     ensures { IsTrue result ↔ ((limit *ℚ number grid) ≤ℚ paces_apart paces.run paces.distance paces.next_run paces.next_distance) }
 {
-    let bound = limit_product(
-        limit.num(),
-        grid_and_lengths(grid, paces.distance, paces.next_distance),
-    );
+    let bound = limit_product(limit.num(), grid_and_lengths(grid, paces));
     bound <= scaled(change_of(paces), limit.den() as u128)
 }
 
 /// Whether the pace changes by at most `limit`.
 #[tactic(auto, using(crate::proofs::Fractions::rise_is))]
 pub fn is_change_at_most(paces: Paces, limit: Frac, grid: u128) -> bool
-    requires run { paces.run < 2 ^ 80 }
-    requires next_run { paces.next_run < 2 ^ 80 }
-    requires distance { 1 ≤ paces.distance }
-    requires distance_most { paces.distance ≤ most_distance }
-    requires next_distance { 1 ≤ paces.next_distance }
-    requires next_distance_most { paces.next_distance ≤ most_distance }
     requires num { unsigned_abs limit.num ≤ most_numerator }
     requires den { limit.den ≤ 5280000 }
     requires grid { grid < 2 ^ 80 }
     ensures { IsTrue result ↔ (paces_apart paces.run paces.distance paces.next_run paces.next_distance ≤ℚ (limit *ℚ number grid)) }
 {
-    let bound = limit_product(
-        limit.num(),
-        grid_and_lengths(grid, paces.distance, paces.next_distance),
-    );
+    let bound = limit_product(limit.num(), grid_and_lengths(grid, paces));
     scaled(change_of(paces), limit.den() as u128) <= bound
 }
 

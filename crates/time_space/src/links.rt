@@ -5,7 +5,7 @@ ghost use Rattle.rational_theory.specs.Rational.{◌*ℚ◌, ◌≤ℚ◌};
 ghost use Rattle.progression.specs.Street.{count, distance, HasLink};
 ghost use Rattle.progression.specs.Speeds.{number, run_low, run_high};
 ghost use Rattle.progression.specs.TimingRecord.{run};
-ghost use Rattle.time_space.specs.LinkRules.{RiseKept, DropKept, LinkHolds, LinkBreaks, AllLinks, IsFirstBroken};
+ghost use Rattle.time_space.specs.LinkRules.{ChangeKept, LinkHolds, LinkBreaks, AllLinks, IsFirstBroken};
 ghost use Rattle.artery_model.specs.Bounds.{most_distance, most_signals};
 
 use crate::limits::{Paces, is_at_least, is_at_most, is_change_at_least, is_change_at_most};
@@ -36,12 +36,6 @@ fn paces(artery: &Artery, timing: &Timing, dir: Dir, link: u32) -> Paces
     ensures distance { result.distance ≡ distance artery.now dir link }
     ensures next_run { result.next_run ≡ run timing.now dir (link + 1) }
     ensures next_distance { result.next_distance ≡ distance artery.now dir (link + 1) }
-    ensures run_most { result.run < 2 ^ 80 }
-    ensures next_run_most { result.next_run < 2 ^ 80 }
-    ensures least { 1 ≤ result.distance }
-    ensures most { result.distance ≤ most_distance }
-    ensures next_least { 1 ≤ result.next_distance }
-    ensures next_most { result.next_distance ≤ most_distance }
 {
     Paces {
         run: timing.run(dir, link),
@@ -51,37 +45,22 @@ fn paces(artery: &Artery, timing: &Timing, dir: Dir, link: u32) -> Paces
     }
 }
 
-fn is_rise_kept(artery: &Artery, timing: &Timing, dir: Dir, link: u32) -> bool
+/// Whether the pace changes to the next link within a limit, where the link gives limits.
+fn is_change_kept(artery: &Artery, timing: &Timing, rule: LinkRule, dir: Dir, link: u32) -> bool
     requires first { 1 ≤ link }
     requires last { link + 1 < count artery.now }
     requires small { link < most_signals }
     requires shape { length timing.now.patterns ≡ count artery.now }
-    ensures { IsTrue result ↔ RiseKept artery.now timing.now dir link }
+    ensures { IsTrue result ↔ ChangeKept artery.now timing.now rule dir link }
 {
-    match artery.change(dir, link) {
-        Some(limits) => is_change_at_most(
-            paces(artery, timing, dir, link),
-            limits.most,
-            timing.grid(),
-        ),
-        None => true,
-    }
-}
-
-fn is_drop_kept(artery: &Artery, timing: &Timing, dir: Dir, link: u32) -> bool
-    requires first { 1 ≤ link }
-    requires last { link + 1 < count artery.now }
-    requires small { link < most_signals }
-    requires shape { length timing.now.patterns ≡ count artery.now }
-    ensures { IsTrue result ↔ DropKept artery.now timing.now dir link }
-{
-    match artery.change(dir, link) {
-        Some(limits) => is_change_at_least(
-            paces(artery, timing, dir, link),
-            limits.least,
-            timing.grid(),
-        ),
-        None => true,
+    let Some(limits) = artery.change(dir, link) else {
+        return true;
+    };
+    let paces = paces(artery, timing, dir, link);
+    match rule {
+        LinkRule::Rise => is_change_at_most(paces, limits.most, timing.grid()),
+        LinkRule::Drop => is_change_at_least(paces, limits.least, timing.grid()),
+        LinkRule::Fast | LinkRule::Slow => true,
     }
 }
 
@@ -124,8 +103,9 @@ fn is_kept(artery: &Artery, timing: &Timing, rule: LinkRule, dir: Dir, link: u32
     match rule {
         LinkRule::Fast => is_not_fast(artery, timing, dir, link),
         LinkRule::Slow => is_not_slow(artery, timing, dir, link),
-        LinkRule::Rise => !has_next || is_rise_kept(artery, timing, dir, link),
-        LinkRule::Drop => !has_next || is_drop_kept(artery, timing, dir, link),
+        LinkRule::Rise | LinkRule::Drop => {
+            !has_next || is_change_kept(artery, timing, rule, dir, link)
+        }
     }
 }
 

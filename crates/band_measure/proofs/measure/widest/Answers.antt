@@ -6,9 +6,7 @@ use Rattle.band_measure.proofs.measure.widest.Goals as goal
 
 pub returns : goal.returns
 returns c =
-    let end = c.loop-place.auto.place-end in
-    let test = c.loop-place-test.false in
-    let all : c.loop-place.place ≡ count c.args.artery.now = omega (arith, c.count-place-end.ensures.value, end, test) in
+    let all : c.loop-place.place ≡ count c.args.artery.now = omega (arith, c.count-place-end.ensures.value, c.loop-place.auto.place-end, c.loop-place-test.false) in
     let two : 2 ≤ c.args.timing.now.unit = omega (arith, c.unit.ensures.value, c.unit.ensures.least) in
     let found = subst (λ n. FoundOfEdges c.args.artery.now c.args.timing.now c.args.dir n c.loop-place.best) all c.loop-place.invariant.best in
     record {
