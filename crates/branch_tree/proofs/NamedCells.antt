@@ -12,7 +12,7 @@ use Rattle.simplex_theory.specs.DualSteps.{IsChoice}
 use Rattle.simplex_theory.specs.BlandRule.{is_negative, chosen_row, chosen_place}
 use Rattle.simplex_theory.proofs.BlandRule.{chosen_choice, chosen_row_in}
 use Rattle.fraction_tableau.specs.declared.wide_cell.WideCell.{WideCell}
-use Rattle.fraction_tableau.specs.Refusals.{at_cell, refused, turn_at, turn_refusal, clear_at, clear_refusal, line_refusal, pivot_refusal}
+use Rattle.fraction_tableau.specs.Refusals.{at_cell, refused, turn_at, turn_refusal, clear_at, clear_refusal, row_refusal, pivot_refusal}
 use Rattle.dual_simplex.specs.Ratios.{ratio_at, ratio_refusal}
 use Rattle.dual_simplex.specs.Steps.{step_pivot, step_place, step_ratio, step_row, step_of}
 use Rattle.dual_simplex.specs.declared.outcome.Step.{Step}
@@ -72,7 +72,7 @@ module _ (t : Tableau) (shaped : IsShaped t) where
       let row = c.row in
       each_earlier IsCell (turn_refusal r j (tableaus.line t r)) _ (turns r j (tableaus.line t r) (omega arith) c.place (shaped.lines r c.row))
       (each_earlier IsCell (clear_refusal (height t) j _ t.goal _) _ (clears (height t) j _ t.goal _ (omega arith) c.place shaped.goals)
-      (each_first IsCell (line_refusal r j _ _ t.rows) (height t) (λ i l. each_cond IsCell (eqb i r) None _ (each_none IsCell) (clears i j _ (tableaus.line t i) _ (omega arith) c.place (shaped.lines i l)))))
+      (each_first IsCell (row_refusal r j _ _ t.rows) (height t) (λ i l. each_cond IsCell (eqb i r) None _ (each_none IsCell) (clears i j _ (tableaus.line t i) _ (omega arith) c.place (shaped.lines i l)))))
 
   -- what a step names
   abbrev IsNamed : Step → Type 0

@@ -1,5 +1,5 @@
 -- The walk over a row's cells before a place, which are copied.
-use Rattle.std.proofs.Common.{◌≡◌, ℕ, pos, List, ◌++◌, length, get_or, set, take, ◌+◌, ◌<◌, ◌≤◌, sym, ◌∙◌, ap, ap₂, arith}
+use Rattle.std.proofs.Common.{◌≡◌, ℕ, pos, List, ◌++◌, length, get_or, set, take, ◌+◌, ◌<◌, ◌≤◌, refl, sym, ◌∙◌, ap, ap₂, arith}
 use Rattle.std.proofs.Math.ListN.{length-set}
 use Rattle.std.proofs.lemmas.List.{take_more_set}
 use Rattle.rational_theory.specs.Rational.{ℚ, whole}
@@ -15,6 +15,10 @@ pub record Keeping (f : ℕ → ℚ) (from place start : ℕ) (old now : List Ke
   pub fewer : made ≤ at
   pub kept : length now ≡ length old
   pub cells : (h : ℕ → ℚ) → ((m : ℕ) → from ≤ m → m < place → h m ≡ f m) → take start old ≡ kept_below h from → take made now ≡ kept_below h at
+
+-- where none is copied yet
+pub keeping_none : (f : ℕ → ℚ) (from place i made : ℕ) (old : List Kept) → from ≤ place → i ≡ length (kept_below f from) → made ≤ from → Keeping f from place made old old i made
+keeping_none f from place i made old h c m = record { at = from; after = omega arith; low = h; count = c; fewer = m; kept = refl; cells = λ t a b. b }
 
 pub keeping_room : (f : ℕ → ℚ) (from place start : ℕ) (old now : List Kept) (i made w : ℕ) (ks : List Kept) (k : Kept) → Keeping f from place start old now i made → place ≤ w → w ≡ length old → ks ≡ kept_below f w → k ≡ get_or ks i k → i < length ks → k.place < place
     → made < length now
@@ -71,12 +75,16 @@ keeping_stop f from place start old now i made w ks k s h e q l b =
     let x = next_in f s.at w i ks k e q (omega arith) s.count l in
     keeping_zeros f from place start old now i made s (λ m c d. x.zeros m c (omega arith))
 
-pub keeping_end : (f : ℕ → ℚ) (from place start : ℕ) (old now : List Kept) (i made w : ℕ) (ks : List Kept) → Keeping f from place start old now i made → place ≤ w → ks ≡ kept_below f w → length ks ≤ i → IsKeptBefore f from place start old now (length ks) made
-keeping_end f from place start old now i made w ks s h e l =
+pub keeping_past : (f : ℕ → ℚ) (from place start : ℕ) (old now : List Kept) (i made w : ℕ) (ks : List Kept) → Keeping f from place start old now i made → place ≤ w → ks ≡ kept_below f w → length ks ≤ i → (i ≡ length ks) × IsKeptBefore f from place start old now i made
+keeping_past f from place start old now i made w ks s h e l =
     let a = s.low in
     let c = s.count in
     let n = ap length e in
     let u = kept_mono f s.at w (omega arith) in
     let same : i ≡ length ks = omega arith in
-    let r = keeping_zeros f from place start old now i made s (λ m b d. same_count f s.at w (omega arith) (omega arith) m b (omega arith)) in
-    record { count = sym same ∙ r.count; fewer = r.fewer; cells = r.cells }
+    (same, keeping_zeros f from place start old now i made s (λ m b d. same_count f s.at w (omega arith) (omega arith) m b (omega arith)))
+
+pub keeping_end : (f : ℕ → ℚ) (from place start : ℕ) (old now : List Kept) (i made w : ℕ) (ks : List Kept) → Keeping f from place start old now i made → place ≤ w → ks ≡ kept_below f w → length ks ≤ i → IsKeptBefore f from place start old now (length ks) made
+keeping_end f from place start old now i made w ks s h e l =
+    let r = keeping_past f from place start old now i made w ks s h e l in
+    record { count = sym r.0 ∙ r.1.count; fewer = r.1.fewer; cells = r.1.cells }

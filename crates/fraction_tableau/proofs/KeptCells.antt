@@ -10,7 +10,7 @@ use Rattle.narrow_fraction.specs.Fraction.{FitsFrac}
 use Rattle.narrow_fraction.proofs.Zeros.{zero_fits}
 use Rattle.fraction_tableau.specs.Narrow.{IsNarrow}
 use Rattle.fraction_tableau.specs.declared.kept.Kept.{Kept}
-use Rattle.fraction_tableau.specs.KeptCells.{is_zero, number_in, kept_at, kept_below, cell_in, dense_row, IsLine}
+use Rattle.fraction_tableau.specs.KeptCells.{is_zero, number_in, kept_at, kept_below, cell_in, dense_row, IsSparse}
 
 pub last_or_before : (a b : ℕ) → a ≤ suc b → (a ≡ suc b) ⊎ (a ≤ b)
 last_or_before a b h = grind arith
@@ -211,7 +211,7 @@ row_is row w f cells b h c e g =
     pick m (inl q) = rw q (dense_bound w cells b ∙ g)
     pick m (inr q) = dense_cell w cells b m q ∙ ap (λ t. cell_in t m) c ∙ cell_kept f w m q ∙ e m q
 
-pub line_made : (w count : ℕ) (f : ℕ → ℚ) (cells : List Kept) → count ≤ w → cells ≡ kept_below f w → IsLine w count cells
+pub line_made : (w count : ℕ) (f : ℕ → ℚ) (cells : List Kept) → count ≤ w → cells ≡ kept_below f w → IsSparse w count cells
 line_made w count f cells h e = record {
   inside = h;
   ordered = e ∙ kept_same f (cell_in cells) w (λ m l. sym (ap (λ t. cell_in t m) e ∙ cell_kept f w m l));
@@ -224,7 +224,7 @@ pub record IsRow (w count : ℕ) (cells : List Kept) (b : ℚ) (row : List ℚ) 
   pub kept : cells ≡ kept_below (number_in row) w
   pub bound : b ≡ number_in row w
 
-pub open_row : (w count : ℕ) (cells : List Kept) (b : ℚ) (row : List ℚ) → IsLine w count cells → dense_row w cells b ≡ row → IsRow w count cells b row
+pub open_row : (w count : ℕ) (cells : List Kept) (b : ℚ) (row : List ℚ) → IsSparse w count cells → dense_row w cells b ≡ row → IsRow w count cells b row
 open_row w count cells b row l e = record {
   wide = ap length (sym e) ∙ dense_length w cells b;
   inside = l.inside;
@@ -287,20 +287,20 @@ pub same_width : (a b w : ℕ) → b ≡ w + 1 → a ≡ b → a - 1 ≡ w
 same_width a b w h e = omega arith
 
 -- ---- a line that is made
-pub empty_line : (w : ℕ) → IsLine w 0 []
-empty_line w = line_made w 0 (λ _. whole (pos 0)) [] (omega arith) (sym (zeros_skip (λ _. whole (pos 0)) 0 w (omega arith) (λ m a b. refl)))
+pub empty_row : (w : ℕ) → IsSparse w 0 []
+empty_row w = line_made w 0 (λ _. whole (pos 0)) [] (omega arith) (sym (zeros_skip (λ _. whole (pos 0)) 0 w (omega arith) (λ m a b. refl)))
 
 pub length-dense : (w : ℕ) (cells : List Kept) (b : ℚ) → length (dense_row w cells b) ≡ w + 1
 length-dense w cells b = dense_length w cells b
 
-pub line_new : (target : List ℚ) (items new : List Kept) (w count : ℕ) (f : ℕ → ℚ) (b : ℚ) → items ≡ new → length new ≡ w → length target ≡ w + 1 → count ≤ w → take count new ≡ kept_below f w → ((m : ℕ) → m < w → f m ≡ number_in target m) → b ≡ number_in target w
-    → IsLine (length items) count (take count items) × (dense_row (length items) (take count items) b ≡ target)
-line_new target items new w count f b e h l n k g q =
-    subst (λ t. IsLine (length t) count (take count t) × (dense_row (length t) (take count t) b ≡ target)) (sym e)
-    (subst (λ m. IsLine m count (take count new) × (dense_row m (take count new) b ≡ target)) (sym h) (line_made w count f (take count new) n k, row_is target w f (take count new) b l k g q))
+pub sparse_new : (target : List ℚ) (items new : List Kept) (w count : ℕ) (f : ℕ → ℚ) (b : ℚ) → items ≡ new → length new ≡ w → length target ≡ w + 1 → count ≤ w → take count new ≡ kept_below f w → ((m : ℕ) → m < w → f m ≡ number_in target m) → b ≡ number_in target w
+    → IsSparse (length items) count (take count items) × (dense_row (length items) (take count items) b ≡ target)
+sparse_new target items new w count f b e h l n k g q =
+    subst (λ t. IsSparse (length t) count (take count t) × (dense_row (length t) (take count t) b ≡ target)) (sym e)
+    (subst (λ m. IsSparse m count (take count new) × (dense_row m (take count new) b ≡ target)) (sym h) (line_made w count f (take count new) n k, row_is target w f (take count new) b l k g q))
 
-pub line_narrow : (target : List ℚ) (w : ℕ) (f : ℕ → ℚ) (b : ℚ) → length target ≡ w + 1 → ((m : ℕ) → m < w → f m ≡ number_in target m) → b ≡ number_in target w → ((m : ℕ) → m < w → FitsFrac (f m)) → FitsFrac b → IsNarrow target
-line_narrow target w f b l g q u v = record { fits = λ m. pick m (sides m) }
+pub sparse_narrow : (target : List ℚ) (w : ℕ) (f : ℕ → ℚ) (b : ℚ) → length target ≡ w + 1 → ((m : ℕ) → m < w → f m ≡ number_in target m) → b ≡ number_in target w → ((m : ℕ) → m < w → FitsFrac (f m)) → FitsFrac b → IsNarrow target
+sparse_narrow target w f b l g q u v = record { fits = λ m. pick m (sides m) }
   where
     sides : (m : ℕ) → (m < w) ⊎ (w ≤ m)
     sides m = grind arith
@@ -325,7 +325,7 @@ last_is cs b w e = sym (get_or_push cs b (whole (pos 0)) w (sym e))
 
 -- what is written so is a line, is that row, and is narrow where its numbers fit
 pub record IsFilled (items : List Kept) (count : ℕ) (b : ℚ) (target : List ℚ) : Type 0 where
-  pub line : IsLine (length items) count (take count items)
+  pub line : IsSparse (length items) count (take count items)
   pub row : dense_row (length items) (take count items) b ≡ target
   pub narrow : IsNarrow target
 
@@ -335,5 +335,5 @@ filled cs items new w count f b z c e h n k g q u v =
     let l : length (cs ++ b ∷ []) ≡ w + 1 = length_push cs b ∙ ap (λ n. n + 1) (sym c) in
     let front : (m : ℕ) → m < w → f m ≡ number_in (cs ++ b ∷ []) m = λ m i. g m i ∙ front_is cs b w m c i in
     let last = q ∙ last_is cs b w c in
-    let m = line_new (cs ++ b ∷ []) items new w count f z e h l n k front last in
-    record { line = m.0; row = m.1; narrow = line_narrow (cs ++ b ∷ []) w f z l front last u v }
+    let m = sparse_new (cs ++ b ∷ []) items new w count f z e h l n k front last in
+    record { line = m.0; row = m.1; narrow = sparse_narrow (cs ++ b ∷ []) w f z l front last u v }

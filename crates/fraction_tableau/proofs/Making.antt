@@ -4,7 +4,7 @@ use Rattle.std.specs.Prelude.{SomeIff}
 use Rattle.std.proofs.lemmas.List.{get_or_past}
 use Rattle.std.proofs.lemmas.Bool.{cond_both}
 use Rattle.rational_theory.specs.Rational.{ℚ, whole}
-use Rattle.fraction_tableau.specs.KeptCells.{number_in, cell_in, kept_below, dense_row, IsLine}
+use Rattle.fraction_tableau.specs.KeptCells.{number_in, cell_in, kept_below, dense_row, IsSparse}
 use Rattle.fraction_tableau.specs.Scales.{numerator, cell_at, IsOver, IsScaled, HasScale, IsJoining}
 use Rattle.fraction_tableau.specs.declared.kept.Kept.{Kept}
 use Rattle.fraction_tableau.specs.Narrow.{IsNarrow}
@@ -16,7 +16,7 @@ use Rattle.fraction_tableau.proofs.KeptCells.{line_made, row_is, dense_cell, den
 use Rattle.fraction_tableau.proofs.Scales.{zero_is_over, to_above, to_least}
 
 pub row_made : (target : List ℚ) (w count : ℕ) (f : ℕ → ℚ) (new : List Kept) (b : ℚ) → length target ≡ w + 1 → count ≤ w → take count new ≡ kept_below f w → ((m : ℕ) → m < w → f m ≡ number_in target m) → b ≡ number_in target w
-    → IsLine w count (take count new) × (dense_row w (take count new) b ≡ target)
+    → IsSparse w count (take count new) × (dense_row w (take count new) b ≡ target)
 row_made target w count f new b l n k g q = (line_made w count f (take count new) n k, row_is target w f (take count new) b l k g q)
 
 -- ---- the numbers of a row by those of its cells

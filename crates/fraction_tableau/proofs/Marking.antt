@@ -1,5 +1,6 @@
 -- Lemmas on marks.
-use Rattle.std.proofs.Common.{◌≡◌, ◌==◌, ℕ, zero, suc, pos, false, List, [], ◌∷◌, ◌++◌, length, get_or, set, take, eqb, ◌+◌, ◌/◌, ◌^◌, ◌<◌, ◌%◌, ◌⊎◌, inl, inr, refl, sym, ◌∙◌, ap, subst, arith}
+use lib.Dec.{eqb-suc-zero}
+use Rattle.std.proofs.Common.{true, ◌≡◌, ◌==◌, ℕ, zero, suc, pos, false, List, [], ◌∷◌, ◌++◌, length, get_or, set, take, eqb, ◌+◌, ◌/◌, ◌^◌, ◌<◌, ◌%◌, ◌⊎◌, inl, inr, refl, sym, ◌∙◌, ap, subst, arith}
 use Rattle.std.specs.Int.{bit_at}
 use Rattle.std.proofs.lemmas.Nat.Bits.{bit_at_ones, shr_and_one}
 use Rattle.std.specs.Int.Bits.{bit_and}
@@ -17,16 +18,12 @@ all_marked cells = record { empty = λ k z. absurd (let a : bit_at 1844674407370
 pub none_marked : (marks : ℕ) → AreMarked marks []
 none_marked marks = record { empty = λ _ _. refl }
 
-small : (x : ℕ) → x % 2 < 2
-small x = omega arith
+bit_zero : (b : ℕ) → (b == 0) ≡ true → b ≡ 0
+bit_zero zero e = refl
+bit_zero (suc b) e = absurd (clash e (eqb-suc-zero b))
 
-bit_zero : (b : ℕ) → b < 2 → (b == 1) ≡ false → b ≡ 0
-bit_zero zero h e = refl
-bit_zero (suc zero) h e = absurd (clash refl e)
-bit_zero (suc (suc b)) h e = absurd (omega arith)
-
-pub bit_clear : (n i : ℕ) → (bit_and (n / 2 ^ i) 1 == 1) ≡ false → bit_at n i ≡ 0
-bit_clear n i e = bit_zero (bit_at n i) (small (n / 2 ^ i)) (sym (ap (λ x. x == 1) (shr_and_one n i)) ∙ e)
+pub bit_clear : (n i : ℕ) → (bit_and (n / 2 ^ i) 1 == 0) ≡ true → bit_at n i ≡ 0
+bit_clear n i e = bit_zero (bit_at n i) (sym (ap (λ x. x == 0) (shr_and_one n i)) ∙ e)
 
 -- cells behind others, all at one place, with its mark
 module _ (marks new place : ℕ) (xs : List Kept) where

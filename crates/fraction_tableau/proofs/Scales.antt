@@ -9,6 +9,7 @@ use Rattle.std.specs.Option.{unwrap_or}
 use borrow.Author.Differences.{up, down}
 use Rattle.rational_theory.specs.Gcd.{gcd}
 use Rattle.rational_theory.specs.laws.Fractions.{times_part}
+use lib.IntN.{zero-*ℤ}
 use Rattle.rational_theory.specs.Rational.{ℚ, over, whole, neg_ℚ, ◌+ℚ◌, ◌*ℚ◌}
 use Rattle.rational_theory.proofs.Arithmetic.{same_ratio, over_ratio, over_terms, own_ratio, sum_ratio, product_ratio, neg_ratio, *ℚ-zero, neg-*ℚ, +ℚ-zero}
 use Rattle.rational_theory.proofs.Order.{times_den}
@@ -115,16 +116,23 @@ zeroed_fits true n h = fits_i64 (pos 0) (omega arith)
 zeroed_fits false n h = h
 
 -- the new number, of the row's number a and the turned row's number t
-pub joined_is : (j : Joining) (b : Bool) (a t : ℚ) → IsJoining j → IsOver j.row.denominator j.row.most a → IsOver j.turned.denominator j.turned.most t
-    → over (combined j.rescaling.times j.part (cond b (pos 0) (numerator j.row.denominator a)) (numerator j.turned.denominator t)) j.rescaling.to ≡ cond b (whole (pos 0)) a +ℚ neg_ℚ (factor_of j *ℚ t)
-joined_is j b a t i p q =
-    let n = numerator j.row.denominator a in
+pub joined_number : (j : Joining) (b : Bool) (n : ℤ) (t : ℚ) → IsJoining j → IsOver j.turned.denominator j.turned.most t
+    → over (combined j.rescaling.times j.part (cond b (pos 0) n) (numerator j.turned.denominator t)) j.rescaling.to ≡ cond b (whole (pos 0)) (over n j.row.denominator) +ℚ neg_ℚ (factor_of j *ℚ t)
+joined_number j b n t i q =
     let x = numerator j.turned.denominator t in
     let s : over x (j.rescaling.times * j.shared) ≡ t = ap (over x) i.turned ∙ q.same in
-    let r : over (cond b (pos 0) n) j.row.denominator ≡ cond b (whole (pos 0)) a = zeroed b n j.row.denominator i.above ∙ ap (cond b (whole (pos 0))) p.same in
     ap (over (combined j.rescaling.times j.part (cond b (pos 0) n) x)) i.to
     ∙ sym (cleared_over (cond b (pos 0) n) j.part x j.row.denominator j.rescaling.times j.shared i.above i.times i.shared)
-    ∙ ap₂ (λ u v. u +ℚ neg_ℚ (factor_of j *ℚ v)) r s
+    ∙ ap₂ (λ u v. u +ℚ neg_ℚ (factor_of j *ℚ v)) (zeroed b n j.row.denominator i.above) s
+
+pub joined_is : (j : Joining) (b : Bool) (a t : ℚ) → IsJoining j → IsOver j.row.denominator j.row.most a → IsOver j.turned.denominator j.turned.most t
+    → over (combined j.rescaling.times j.part (cond b (pos 0) (numerator j.row.denominator a)) (numerator j.turned.denominator t)) j.rescaling.to ≡ cond b (whole (pos 0)) a +ℚ neg_ℚ (factor_of j *ℚ t)
+joined_is j b a t i p q = joined_number j b (numerator j.row.denominator a) t i q ∙ ap (λ u. cond b (whole (pos 0)) u +ℚ neg_ℚ (factor_of j *ℚ t)) p.same
+
+-- 0 has the numerator 0 over anything
+pub numerator_zero : (d : ℕ) (x : ℚ) → x ≡ whole (pos 0) → numerator d x ≡ pos 0
+unfolding whole
+numerator_zero d x e = ap (numerator d) e ∙ zero-*ℤ (pos (d / 1))
 
 pub joined_size : (j : Joining) (b : Bool) (n x : ℤ) → IsJoining j → unsigned_abs n ≤ j.row.most → unsigned_abs x ≤ j.turned.most → unsigned_abs (combined j.rescaling.times j.part (cond b (pos 0) n) x) ≤ j.most
 joined_size j b n x i p q =

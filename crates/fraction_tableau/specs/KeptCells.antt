@@ -36,7 +36,7 @@ unfoldable pub dense_row : ℕ → List Kept → ℚ → List ℚ
 dense_row w cells bound = map (cell_in cells) (range_with_len 0 w) ++ bound ∷ []
 
 -- so many cells of a list with room for w are a row's, and in order
-pub record IsLine (w count : ℕ) (cells : List Kept) : Type 0 where
+pub record IsSparse (w count : ℕ) (cells : List Kept) : Type 0 where
   pub inside : count ≤ w
   pub ordered : cells ≡ kept_below (cell_in cells) w
 

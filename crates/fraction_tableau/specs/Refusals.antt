@@ -40,14 +40,14 @@ unfoldable pub clear_refusal : ℕ → ℕ → List ℚ → List ℚ → ℚ →
 clear_refusal i j e d p = earlier (first_below (clear_at i j e d) (length d)) (refused Div (get_or d j (whole (pos 0))) p i j)
 
 -- ---- the whole pivot on (r, j): the own row, the goal row, then each other row in order
-abbrev pub line_refusal : ℕ → ℕ → List ℚ → ℚ → List (List ℚ) → ℕ → Option WideCell
-line_refusal r j e p rows i = cond (eqb i r) None (clear_refusal i j e (get_or rows i []) p)
+abbrev pub row_refusal : ℕ → ℕ → List ℚ → ℚ → List (List ℚ) → ℕ → Option WideCell
+row_refusal r j e p rows i = cond (eqb i r) None (clear_refusal i j e (get_or rows i []) p)
 
 unfoldable pub pivot_refusal : ℕ → ℕ → List (List ℚ) → List ℚ → Option WideCell
 pivot_refusal r j rows goal =
     earlier (turn_refusal r j (get_or rows r []))
     (earlier (clear_refusal (length rows) j (turned j (get_or rows r [])) goal (get_or (get_or rows r []) j (whole (pos 0))))
-    (first_below (line_refusal r j (turned j (get_or rows r [])) (get_or (get_or rows r []) j (whole (pos 0))) rows) (length rows)))
+    (first_below (row_refusal r j (turned j (get_or rows r [])) (get_or (get_or rows r []) j (whole (pos 0))) rows) (length rows)))
 
 -- the rows of the exchange
 unfoldable pub exchanged_rows : ℕ → ℕ → List (List ℚ) → List (List ℚ)

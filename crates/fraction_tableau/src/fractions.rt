@@ -6,11 +6,11 @@ ghost use Rattle.simplex_theory.specs.Lines.{turned, cleared};
 ghost use Rattle.narrow_fraction.specs.Attempt.{attempt};
 ghost use Rattle.fraction_tableau.specs.Narrow.{IsNarrow};
 ghost use Rattle.fraction_tableau.specs.Refusals.{turn_refusal, clear_refusal};
-ghost use Rattle.fraction_tableau.specs.KeptCells.{number_in, dense_row, IsLine};
+ghost use Rattle.fraction_tableau.specs.KeptCells.{number_in, dense_row, IsSparse};
 
 use crate::kept::Kept;
-use crate::line::Line;
 use crate::merging::{Clearing, cleared_number, merge};
+use crate::sparse_row::SparseRow;
 use crate::turning::turn_cells;
 use crate::wide_cell::{Spot, WideCell};
 use narrow_fraction::{Frac, Quotient};
@@ -58,13 +58,13 @@ fn negated_or(quotient: &Result<Frac, WideCell>, other: Frac) -> Frac
 }
 
 /// The pivot's own row, turned: one over the cell at `place`, and the other cells over that cell.
-pub fn turn_row(cells: &mut [Kept], row: &Line, number: u32, place: u32) -> Made
+pub fn turn_row(cells: &mut [Kept], row: &SparseRow, number: u32, place: u32) -> Made
     requires width { length row.now ≡ length cells.old + 1 }
     requires place { place + 1 < length row.now }
     requires pivot { number_in row.now place ≡ whole (pos 0) → ⊥ }
     requires short { length row.now < 2 ^ 32 }
     ensures outcome { result.outcome ≡ attempt (turn_refusal number place row.now) tt }
-    ensures line { IsLine (length cells.old) result.count (take result.count cells.new) }
+    ensures line { IsSparse (length cells.old) result.count (take result.count cells.new) }
     ensures turned { IfOk result.outcome (λ _. dense_row (length cells.old) (take result.count cells.new) result.bound ≡ turned place row.now) }
     ensures narrow { IfOk result.outcome (λ _. IsNarrow (turned place row.now)) }
 {
@@ -102,7 +102,12 @@ pub fn turn_row(cells: &mut [Kept], row: &Line, number: u32, place: u32) -> Made
 /// Another row cleared: each number less the factor times the turned row's, and at the place the negated quotient of the
 /// factor and the pivot. The quotient is made before the merge and its refusal kept for the end, since its operation is the
 /// row's last.
-pub fn clear_row(cells: &mut [Kept], row: &Line, turned: &Line, elimination: &Elimination) -> Made
+pub fn clear_row(
+    cells: &mut [Kept],
+    row: &SparseRow,
+    turned: &SparseRow,
+    elimination: &Elimination,
+) -> Made
     requires width { length row.now ≡ length cells.old + 1 }
     requires widths { length turned.now ≡ length row.now }
     requires place { elimination.now.place + 1 < length row.now }
@@ -112,7 +117,7 @@ pub fn clear_row(cells: &mut [Kept], row: &Line, turned: &Line, elimination: &El
     requires short { length row.now < 2 ^ 32 }
     requires narrow { IsNarrow row.now }
     ensures outcome { result.outcome ≡ attempt (clear_refusal elimination.now.number elimination.now.place turned.now row.now elimination.now.pivot) tt }
-    ensures line { IsLine (length cells.old) result.count (take result.count cells.new) }
+    ensures line { IsSparse (length cells.old) result.count (take result.count cells.new) }
     ensures cleared { IfOk result.outcome (λ _. dense_row (length cells.old) (take result.count cells.new) result.bound ≡ cleared elimination.now.place turned.now row.now) }
     ensures narrow { IfOk result.outcome (λ _. IsNarrow (cleared elimination.now.place turned.now row.now)) }
 {

@@ -5,7 +5,7 @@ ghost use Rattle.std.specs.List.{range_with_len};
 ghost use Rattle.rational_theory.specs.Rational.{whole};
 ghost use Rattle.fraction_tableau.specs.NamedTableaus.{unnamed};
 
-use crate::line::Line;
+use crate::sparse_row::SparseRow;
 use named_row::RowId;
 use std::alloc::{AllocError, Global};
 
@@ -35,12 +35,12 @@ pub fn numbers(alloc: Global, first: u32, count: u32) -> Result<Vec<u32>, AllocE
 }
 
 /// So many rows of zeros.
-pub fn zero_lines(alloc: Global, count: u32, width: usize) -> Result<Vec<Line>, AllocError>
-    ensures { IfOk result (λ lines. lines.items ≡ replicate count (replicate (width + 1) (whole (pos 0)))) }
+pub fn zero_rows(alloc: Global, count: u32, width: usize) -> Result<Vec<SparseRow>, AllocError>
+    ensures { IfOk result (λ sparse_rows. sparse_rows.items ≡ replicate count (replicate (width + 1) (whole (pos 0)))) }
 {
-    let mut lines = Vec::new(alloc);
+    let mut sparse_rows = Vec::new(alloc);
     for _ in 0..count {
-        lines.push(Line::zero(alloc, width)?)?;
+        sparse_rows.push(SparseRow::zero(alloc, width)?)?;
     }
-    Ok(lines)
+    Ok(sparse_rows)
 }

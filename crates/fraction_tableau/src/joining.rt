@@ -8,10 +8,10 @@ ghost use Rattle.fraction_tableau.specs.Marks.{AreMarked};
 ghost use Rattle.fraction_tableau.specs.Scales.{numerator, factor_of, IsOver, IsScaled, IsJoining, IsJoined};
 
 use crate::kept::{Kept, put};
-use crate::line::Line;
 use crate::marks::with_mark;
-use crate::merging::{Merged, UNMERGED, keep_before, take_at};
+use crate::merging::{Merged, UNMERGED, keep_before, take_numerator};
 use crate::scale::{MOST, Rescaling, Scale, numerator_of};
+use crate::sparse_row::SparseRow;
 use narrow_fraction::{Quotient, word_divisor, word_quotient};
 
 /// The greatest size that a number may have while a row is joined with another one: 62 bits.
@@ -96,6 +96,7 @@ pub fn find_joining(place: u32, row: Scale, turned: Scale, factor: i64) -> Optio
 }
 
 /// A number times `scale`, less `factor` times the other one.
+#[inline(always)]
 fn less_product(own: i64, scale: i64, factor: i64, other: i64) -> i64
     requires { unsigned_abs own * unsigned_abs scale + unsigned_abs factor * unsigned_abs other < 2 ^ 62 }
     ensures { result ≡ own *ℤ scale +ℤ neg_ℤ (factor *ℤ other) }
@@ -104,6 +105,7 @@ fn less_product(own: i64, scale: i64, factor: i64, other: i64) -> i64
 }
 
 /// A numerator of the row, or 0 for the one at the pivot's place.
+#[inline(always)]
 fn numerator_or_zero(own: i64, is_own: bool) -> i64
     ensures { result ≡ cond is_own (pos 0) own }
 {
@@ -111,6 +113,7 @@ fn numerator_or_zero(own: i64, is_own: bool) -> i64
 }
 
 /// A numerator of the row times `times`, or 0 for the one at the pivot's place, less `part` times one of the turned row.
+#[inline(always)]
 fn joined_numerator(joining: &Joining, own: i64, is_own: bool, turned: i64) -> i64
     requires joining { IsJoining joining.now }
     requires own { unsigned_abs own ≤ joining.now.row.most }
@@ -126,18 +129,18 @@ fn joined_numerator(joining: &Joining, own: i64, is_own: bool, turned: i64) -> i
     )
 }
 
-/// A number of the row, or 0 for the one at the pivot's place, less the factor times the turned row's.
-pub fn joined(joining: &Joining, own: &Quotient, is_own: bool, turned: &Quotient) -> Quotient
+/// A number of the row by its numerator, or 0 for the one at the pivot's place, less the factor times the turned row's.
+#[inline(always)]
+pub fn joined(joining: &Joining, own: i64, is_own: bool, turned: &Quotient) -> Quotient
     requires joining { IsJoining joining.now }
-    requires short { joining.now.row.most < 2 ^ 42 }
     requires turned_short { joining.now.turned.most < 2 ^ 42 }
-    requires own { IsOver joining.now.row.denominator joining.now.row.most own.now }
+    requires own { unsigned_abs own ≤ joining.now.row.most }
     requires turned { IsOver joining.now.turned.denominator joining.now.turned.most turned.now }
-    ensures { result ≡ cond is_own (whole (pos 0)) own.now +ℚ neg_ℚ (factor_of joining.now *ℚ turned.now) }
+    ensures { result ≡ cond is_own (whole (pos 0)) (over own joining.now.row.denominator) +ℚ neg_ℚ (factor_of joining.now *ℚ turned.now) }
 {
     let numerator = joined_numerator(
         joining,
-        numerator_of(own, joining.row.denominator),
+        own,
         is_own,
         numerator_of(turned, joining.turned.denominator),
     );
@@ -145,10 +148,11 @@ pub fn joined(joining: &Joining, own: &Quotient, is_own: bool, turned: &Quotient
 }
 
 /// The next cell of the turned row, and the row's cells before it.
+#[inline(always)]
 fn join_next(
     cells: &mut [Kept],
-    row: &Line,
-    turned: &Line,
+    row: &SparseRow,
+    turned: &SparseRow,
     index: usize,
     joining: &Joining,
     done: Merged,
@@ -171,8 +175,13 @@ fn join_next(
     let others = turned.kept();
     let next = &others[index];
     let done = keep_before(cells, row, done, next.place, joining.rescaling);
-    let own = take_at(row, done.taken, next.place, joining.row.denominator);
-    let cell = joined(joining, &own.cell, next.place == joining.place, &next.cell);
+    let own = take_numerator(row, done.taken, next.place, joining.row.denominator);
+    let cell = joined(
+        joining,
+        own.numerator,
+        next.place == joining.place,
+        &next.cell,
+    );
     let made = put(
         cells,
         done.made,
@@ -190,7 +199,7 @@ fn join_next(
 }
 
 /// The cells of the row cleared by the turned row. The answer is the whole merge: how many there are, and their marks.
-pub fn join(cells: &mut [Kept], row: &Line, turned: &Line, joining: &Joining) -> Merged
+pub fn join(cells: &mut [Kept], row: &SparseRow, turned: &SparseRow, joining: &Joining) -> Merged
     requires width { length row.now ≡ length cells.old + 1 }
     requires widths { length turned.now ≡ length row.now }
     requires short { length row.now < 2 ^ 32 }

@@ -13,6 +13,7 @@ pub struct Kept {
 }
 
 /// Puts a cell behind the first `made`, unless it is 0. The answer is how many there are then.
+#[inline(always)]
 pub fn put(cells: &mut [Kept], made: usize, kept: Kept) -> usize
     requires { made < length cells.old }
     ensures count { result ≡ made + length (kept_at kept.place kept.cell) }

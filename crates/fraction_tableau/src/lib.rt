@@ -22,18 +22,18 @@
 #![tactic(auto)]
 
 mod basis;
+mod exchanging;
 mod fractions;
 mod fresh;
 mod joining;
 mod kept;
 mod laws;
-mod line;
-mod lines;
 mod loading;
 mod marks;
 mod merging;
 mod narrowing;
 mod scale;
+mod sparse_row;
 mod tableau;
 mod turning;
 mod whole_turning;

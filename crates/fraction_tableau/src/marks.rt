@@ -1,6 +1,6 @@
 //! Marks of the places of a row's cells, in one word: of most places without a cell, one test says so.
 
-ghost use Rattle.std.specs.Prelude.{◌≡◌, ℕ, ◌≤◌, ◌%◌, false, length, take};
+ghost use Rattle.std.specs.Prelude.{◌≡◌, ℕ, ◌≤◌, ◌%◌, true, length, take};
 ghost use Rattle.std.specs.Int.{bit_at};
 ghost use Rattle.fraction_tableau.specs.Marks.{AreMarked};
 
@@ -30,10 +30,10 @@ pub fn marks_of(cells: &[Kept], count: usize) -> u64
     marks
 }
 
-/// Whether the bit of a place is set. Where it isn't, there is no cell.
+/// Whether the bit of a place is clear. Where it is, there is no cell.
 #[inline(always)]
-pub fn is_marked(marks: u64, place: u32) -> bool
-    ensures { result ≡ false → bit_at marks (place % 64) ≡ 0 }
+pub fn is_free(marks: u64, place: u32) -> bool
+    ensures { result ≡ true → bit_at marks (place % 64) ≡ 0 }
 {
-    (marks >> (place % 64)) & 1 == 1
+    (marks >> (place % 64)) & 1 == 0
 }

@@ -1,7 +1,7 @@
 //! A row and the turned row merged, place by place in order, and only at places where one of them isn't 0.
 
-ghost use Rattle.std.specs.Prelude.{◌≡◌, ℕ, ◌+◌, ◌<◌, ◌≤◌, ◌^◌, None, Some, pos, cond, eqb, length, take, IfOk, IfErr};
-ghost use Rattle.rational_theory.specs.Rational.{ℚ, whole, neg_ℚ, ◌+ℚ◌, ◌*ℚ◌};
+ghost use Rattle.std.specs.Prelude.{◌≡◌, ℕ, ◌+◌, ◌<◌, ◌≤◌, ◌^◌, None, Some, pos, cond, eqb, length, take, unsigned_abs, IfOk, IfErr};
+ghost use Rattle.rational_theory.specs.Rational.{ℚ, whole, over, neg_ℚ, ◌+ℚ◌, ◌*ℚ◌};
 ghost use Rattle.narrow_fraction.specs.Fraction.{FitsFrac};
 ghost use Rattle.narrow_fraction.specs.Attempt.{attempt, earlier, first_below};
 ghost use Rattle.narrow_fraction.specs.declared.wide.Op.TheVariants.{Mul, Sub};
@@ -9,12 +9,12 @@ ghost use Rattle.fraction_tableau.specs.Narrow.{IsNarrow};
 ghost use Rattle.fraction_tableau.specs.Refusals.{refused, clear_at};
 ghost use Rattle.fraction_tableau.specs.KeptCells.{number_in, kept_below, merged_at, IsMerged};
 ghost use Rattle.fraction_tableau.specs.Marks.{AreMarked};
-ghost use Rattle.fraction_tableau.specs.Scales.{CanRescale};
+ghost use Rattle.fraction_tableau.specs.Scales.{numerator, CanRescale};
 
 use crate::kept::{Kept, put};
-use crate::line::Line;
 use crate::marks::with_mark;
-use crate::scale::{AS_IT_IS, Rescaling};
+use crate::scale::{AS_IT_IS, Rescaling, numerator_of};
+use crate::sparse_row::SparseRow;
 use crate::wide_cell::{Spot, WideCell};
 use narrow_fraction::{Frac, Quotient};
 
@@ -44,10 +44,11 @@ pub struct Clearing {
     pub factor: Frac,
 }
 
-/// The row's cells before `place`, rescaled.
-pub fn keep_before(
+/// The row's cells before `place`, of which there are some, rescaled.
+#[inline(always)]
+fn keep_some(
     cells: &mut [Kept],
-    row: &Line,
+    row: &SparseRow,
     done: Merged,
     place: u32,
     rescaling: Rescaling,
@@ -92,17 +93,51 @@ pub fn keep_before(
     }
 }
 
-/// A cell of a row, and how many of the row's cells are taken with it.
-#[derive(Drop)]
-pub struct Taken {
-    pub cell: Quotient,
-    pub taken: usize,
+/// The row's cells before `place`, rescaled: mostly there is none, as one comparison says.
+#[inline(always)]
+pub fn keep_before(
+    cells: &mut [Kept],
+    row: &SparseRow,
+    done: Merged,
+    place: u32,
+    rescaling: Rescaling,
+) -> Merged
+    requires width { length row.now ≡ length cells.old + 1 }
+    requires place { place ≤ length cells.old }
+    requires order { done.below ≤ place }
+    requires rescaling { (m : ℕ) → CanRescale rescaling (number_in row.now m) }
+    requires taken { done.taken ≡ length (kept_below (number_in row.now) done.below) }
+    requires made { done.made ≤ done.below }
+    ensures below { result.below ≡ place }
+    ensures taken { result.taken ≡ length (kept_below (number_in row.now) place) }
+    ensures made { result.made ≤ place }
+    ensures marked { AreMarked done.marks (take done.made cells.old) → AreMarked result.marks (take result.made cells.new) }
+    ensures cells { (h : ℕ → ℚ) → ((m : ℕ) → done.below ≤ m → m < place → h m ≡ number_in row.now m) → take done.made cells.old ≡ kept_below h done.below → take result.made cells.new ≡ kept_below h place }
+{
+    let kept = row.kept();
+    if done.taken < kept.len() {
+        let next = &kept[done.taken];
+        if next.place < place {
+            return keep_some(cells, row, done, place, rescaling);
+        }
+    }
+    Merged {
+        below: place,
+        taken: done.taken,
+        made: done.made,
+        marks: done.marks,
+    }
 }
 
-/// The cell at a place before which `taken` cells stand. Where none stands there, 0 is held over `denominator`, so that no
-/// division is needed for its numerator.
-pub fn take_at(row: &Line, taken: usize, place: u32, denominator: u64) -> Taken
-    requires above { 0 < denominator }
+/// A cell of a row, and how many of the row's cells are taken with it.
+#[derive(Drop)]
+struct Taken {
+    cell: Quotient,
+    taken: usize,
+}
+
+/// The cell at a place before which `taken` cells stand, 0 where none stands there.
+fn take_at(row: &SparseRow, taken: usize, place: u32) -> Taken
     requires place { place + 1 < length row.now }
     requires taken { taken ≡ length (kept_below (number_in row.now) place) }
     ensures cell { result.cell ≡ number_in row.now place }
@@ -119,7 +154,41 @@ pub fn take_at(row: &Line, taken: usize, place: u32, denominator: u64) -> Taken
         }
     }
     Taken {
-        cell: Quotient::of_words(0, denominator),
+        cell: Quotient::of_fraction(Frac::whole(0)),
+        taken,
+    }
+}
+
+/// The numerator of a row's cell, and how many of the row's cells are taken with it.
+#[derive(Clone, Copy)]
+pub struct TakenNumerator {
+    pub numerator: i64,
+    pub taken: usize,
+}
+
+/// The numerator at a place before which `taken` cells stand, 0 where none stands there.
+#[inline(always)]
+pub fn take_numerator(row: &SparseRow, taken: usize, place: u32, denominator: u64) -> TakenNumerator
+    requires above { 0 < denominator }
+    requires place { place + 1 < length row.now }
+    requires taken { taken ≡ length (kept_below (number_in row.now) place) }
+    requires same { over (numerator denominator (number_in row.now place)) denominator ≡ number_in row.now place }
+    requires size { unsigned_abs (numerator denominator (number_in row.now place)) < 2 ^ 62 }
+    ensures numerator { result.numerator ≡ numerator denominator (number_in row.now place) }
+    ensures taken { result.taken ≡ length (kept_below (number_in row.now) (place + 1)) }
+{
+    let kept = row.kept();
+    if taken < kept.len() {
+        let next = &kept[taken];
+        if next.place == place {
+            return TakenNumerator {
+                numerator: numerator_of(&next.cell, denominator),
+                taken: taken + 1,
+            };
+        }
+    }
+    TakenNumerator {
+        numerator: 0,
         taken,
     }
 }
@@ -160,8 +229,8 @@ fn cleared_cell(clearing: &Clearing, cell: Frac, turned: &Kept) -> Result<Frac, 
 /// The next cell of the turned row, and the row's cells before it.
 fn merge_next(
     cells: &mut [Kept],
-    row: &Line,
-    turned: &Line,
+    row: &SparseRow,
+    turned: &SparseRow,
     index: usize,
     clearing: &Clearing,
     done: Merged,
@@ -183,7 +252,7 @@ fn merge_next(
     let others = turned.kept();
     let next = &others[index];
     let done = keep_before(cells, row, done, next.place, AS_IT_IS);
-    let own = take_at(row, done.taken, next.place, 1);
+    let own = take_at(row, done.taken, next.place);
     let cell = match cleared_cell(clearing, own.cell.fraction(), next) {
         Ok(cell) => cell,
         Err(wide) => return Err(wide),
@@ -207,8 +276,8 @@ fn merge_next(
 /// The cells of the row cleared by the turned row. The answer is how many there are.
 pub fn merge(
     cells: &mut [Kept],
-    row: &Line,
-    turned: &Line,
+    row: &SparseRow,
+    turned: &SparseRow,
     clearing: &Clearing,
 ) -> Result<usize, WideCell>
     requires width { length row.now ≡ length cells.old + 1 }

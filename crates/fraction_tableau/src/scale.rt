@@ -17,6 +17,7 @@ pub struct Scale {
 }
 
 /// The numerator of a number that stands over a denominator.
+#[inline(always)]
 pub fn numerator_of(number: &Quotient, denominator: u64) -> i64
     requires above { 0 < denominator }
     requires same { over (numerator denominator number.now) denominator ≡ number.now }
@@ -43,6 +44,7 @@ pub const AS_IT_IS: Rescaling = Rescaling {
 
 impl Rescaling {
     /// The same number, over the other denominator.
+    #[inline(always)]
     pub fn rescaled(self, number: &Quotient) -> Quotient
         requires { CanRescale self number.now }
         ensures { result ≡ number.now }

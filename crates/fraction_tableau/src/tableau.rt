@@ -8,11 +8,11 @@ ghost use Rattle.fraction_tableau.specs.Refusals.{pivot_refusal};
 ghost use Rattle.fraction_tableau.specs.KeptCells.{kept_below};
 ghost use Rattle.fraction_tableau.specs.NamedTableaus.{IsNamed, IsSpentFrom, blank_tableau, number_at, name_at, with_row, with_bound, with_goal_bound, with_goal};
 
-use crate::fresh::{blank_names, numbers, zero_lines};
+use crate::exchanging::{copy_rows, exchange_cells};
+use crate::fresh::{blank_names, numbers, zero_rows};
 use crate::kept::Kept;
-use crate::line::Line;
-use crate::lines::{copy_lines, exchange_cells};
 use crate::loading::count_up;
+use crate::sparse_row::SparseRow;
 use crate::wide_cell::{Spot, WideCell};
 use named_row::{Row, RowId};
 use narrow_fraction::{Frac, Memory, Quotient};
@@ -24,11 +24,11 @@ use std::mem;
 /// the slack of row `r` is variable `width + r`.
 #[derive(Drop)]
 pub struct Tableau {
-    lines: Vec<Line>,
-    goal: Line,
-    spare: Line,
-    held: Line,
-    room: Line,
+    sparse_rows: Vec<SparseRow>,
+    goal: SparseRow,
+    spare: SparseRow,
+    held: SparseRow,
+    room: SparseRow,
     basic: Vec<u32>,
     standing: Vec<u32>,
     names: Vec<RowId>,
@@ -41,9 +41,9 @@ impl Model for Tableau {
 
     ghost Value = { NamedTableau };
 
-    ghost view = { λ a. record { table = record { rows = a.lines.items; goal = a.goal; basic = a.basic.items; standing = a.standing.items }; names = a.names.items; spent = a.spent } };
+    ghost view = { λ a. record { table = record { rows = a.sparse_rows.items; goal = a.goal; basic = a.basic.items; standing = a.standing.items }; names = a.names.items; spent = a.spent } };
 
-    ghost invariant = { λ a. IsSound (record { table = record { rows = a.lines.items; goal = a.goal; basic = a.basic.items; standing = a.standing.items }; names = a.names.items; spent = a.spent }) (length a.spare) (length a.held) (length a.room) };
+    ghost invariant = { λ a. IsSound (record { table = record { rows = a.sparse_rows.items; goal = a.goal; basic = a.basic.items; standing = a.standing.items }; names = a.names.items; spent = a.spent }) (length a.spare) (length a.held) (length a.room) };
 }
 
 impl Tableau {
@@ -54,16 +54,16 @@ impl Tableau {
         ensures { IfOk result (λ tableau. tableau ≡ blank_tableau rows width) }
     {
         let places = width as usize;
-        let lines = zero_lines(alloc, rows, places)?;
-        let goal = Line::zero(alloc, places)?;
-        let spare = Line::zero(alloc, places)?;
-        let held = Line::zero(alloc, places)?;
-        let room = Line::zero(alloc, places)?;
+        let sparse_rows = zero_rows(alloc, rows, places)?;
+        let goal = SparseRow::zero(alloc, places)?;
+        let spare = SparseRow::zero(alloc, places)?;
+        let held = SparseRow::zero(alloc, places)?;
+        let room = SparseRow::zero(alloc, places)?;
         let basic = numbers(alloc, width, rows)?;
         let standing = numbers(alloc, 0, width)?;
         let names = blank_names(alloc, rows as usize)?;
         Ok(Tableau {
-            lines,
+            sparse_rows,
             goal,
             spare,
             held,
@@ -80,7 +80,7 @@ impl Tableau {
     pub fn known_named(&self)
         ensures { IsNamed self.now }
     {
-        prove!(self.names.len() == self.lines.len());
+        prove!(self.names.len() == self.sparse_rows.len());
     }
 
     /// The number of rows.
@@ -88,7 +88,7 @@ impl Tableau {
         ensures count { result ≡ height self.now.table }
         ensures shape { IsNamed self.now }
     {
-        self.lines.len() as u32
+        self.sparse_rows.len() as u32
     }
 
     /// The number of columns, which is the number of places.
@@ -114,11 +114,11 @@ impl Tableau {
         requires col { col ≤ width self.now.table }
         ensures { result ≡ number_at self.now.table row col }
     {
-        let line = row as usize;
-        if line == self.lines.len() {
+        let index = row as usize;
+        if index == self.sparse_rows.len() {
             self.goal.get(col)
         } else {
-            self.lines[line].get(col)
+            self.sparse_rows[index].get(col)
         }
     }
 
@@ -128,11 +128,11 @@ impl Tableau {
         requires { row ≤ height self.now.table }
         ensures { result.now ≡ kept_below (number_at self.now.table row) (width self.now.table) }
     {
-        let line = row as usize;
-        if line == self.lines.len() {
+        let index = row as usize;
+        if index == self.sparse_rows.len() {
             self.goal.kept()
         } else {
-            self.lines[line].kept()
+            self.sparse_rows[index].kept()
         }
     }
 
@@ -174,10 +174,10 @@ impl Tableau {
         requires unspent { from.now.spent ≡ false }
         ensures { self.new ≡ with_row row name from.now self.old }
     {
-        let line = row as usize;
-        self.lines[line].load(from);
-        self.basic[line] = self.standing.len() as u32 + row;
-        self.names[line] = name;
+        let index = row as usize;
+        self.sparse_rows[index].load(from);
+        self.basic[index] = self.standing.len() as u32 + row;
+        self.names[index] = name;
     }
 
     /// Gives a row another bound. All else stays: cells are loaded once, and where only a bound changes, that alone is set.
@@ -185,7 +185,7 @@ impl Tableau {
         requires { row < height self.old.table }
         ensures { self.new ≡ with_bound row bound self.old }
     {
-        self.lines[row as usize].set_bound(bound);
+        self.sparse_rows[row as usize].set_bound(bound);
     }
 
     /// Gives the goal row another bound. All else stays.
@@ -201,7 +201,7 @@ impl Tableau {
         requires columns { width self.old.table ≡ width from.now.table }
         ensures { self.new ≡ from.now }
     {
-        copy_lines(&mut self.lines, &from.lines);
+        copy_rows(&mut self.sparse_rows, &from.sparse_rows);
         self.goal.copy_from(&from.goal);
         self.basic.copy_from_slice(&from.basic);
         self.standing.copy_from_slice(&from.standing);
@@ -236,9 +236,9 @@ impl Tableau {
         ensures exchanged { IfOk result (λ _. self.new ≡ record self.old { table = exchange row col self.old.table }) }
         ensures spent { IfErr result (λ _. IsSpentFrom self.old self.new) }
     {
-        let line = row as usize;
+        let index = row as usize;
         if let Err(wide) = exchange_cells(
-            &mut self.lines,
+            &mut self.sparse_rows,
             &self.goal,
             &mut self.spare,
             &mut self.held,
@@ -249,8 +249,8 @@ impl Tableau {
             return Err(wide);
         }
         mem::swap(&mut self.goal, &mut self.spare);
-        let leaving = self.basic[line];
-        self.basic[line] = self.standing[col as usize];
+        let leaving = self.basic[index];
+        self.basic[index] = self.standing[col as usize];
         self.standing[col as usize] = leaving;
         Ok(())
     }

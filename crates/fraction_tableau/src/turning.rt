@@ -9,7 +9,7 @@ ghost use Rattle.fraction_tableau.specs.Refusals.{refused, turn_at};
 ghost use Rattle.fraction_tableau.specs.KeptCells.{number_in, kept_below, turned_cell};
 
 use crate::kept::{Kept, put};
-use crate::line::Line;
+use crate::sparse_row::SparseRow;
 use crate::wide_cell::{Spot, WideCell};
 use narrow_fraction::{Frac, Quotient};
 
@@ -33,7 +33,7 @@ fn turn_cell(kept: &Kept, number: u32, own: &Kept, pivot: Frac) -> Result<Frac, 
 /// The cells of the pivot's row over the pivot, and `own` at its place. The answer is how many there are.
 pub fn turn_cells(
     cells: &mut [Kept],
-    row: &Line,
+    row: &SparseRow,
     number: u32,
     own: &Kept,
     pivot: Frac,

@@ -7,8 +7,8 @@ ghost use Rattle.fraction_tableau.specs.KeptCells.{number_in, kept_below};
 ghost use Rattle.fraction_tableau.specs.Scales.{IsOver, IsScaled, IsTurning, pivot_of};
 
 use crate::kept::{Kept, put};
-use crate::line::Line;
 use crate::scale::{Scale, numerator_of};
+use crate::sparse_row::SparseRow;
 use narrow_fraction::Quotient;
 
 /// How a row at a scale is turned at a place: by the numerator of the pivot, which isn't 0.
@@ -68,7 +68,7 @@ impl Turning {
 }
 
 /// The cells of the row turned. The answer is how many there are.
-pub fn turn_whole(cells: &mut [Kept], row: &Line, turning: &Turning) -> usize
+pub fn turn_whole(cells: &mut [Kept], row: &SparseRow, turning: &Turning) -> usize
     requires width { length row.now ≡ length cells.old + 1 }
     requires short { length row.now < 2 ^ 32 }
     requires place { turning.now.place < length cells.old }

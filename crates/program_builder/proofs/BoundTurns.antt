@@ -12,7 +12,7 @@ use Rattle.narrow_fraction.proofs.Attempt.{neither, none_each}
 use Rattle.narrow_fraction.specs.declared.wide.Op.TheVariants.{Mul, Div, Sub}
 use Rattle.fraction_tableau.specs.KeptCells.{number_in}
 use Rattle.fraction_tableau.specs.NamedTableaus.{number_at}
-use Rattle.fraction_tableau.specs.Refusals.{refused, turn_at, turn_refusal, clear_at, clear_refusal, line_refusal, pivot_refusal}
+use Rattle.fraction_tableau.specs.Refusals.{refused, turn_at, turn_refusal, clear_at, clear_refusal, row_refusal, pivot_refusal}
 use Rattle.fraction_tableau.proofs.Refusals.{refused_none}
 use Rattle.fraction_tableau.proofs.Merges.{turned_last, cleared_last}
 use Rattle.entry_theory.specs.SameCells.{HaveSameCells}
@@ -134,24 +134,24 @@ module _ (t u : Tableau) (r j : ℕ) (s : IsShaped t) (v : IsShaped u) (p : IsPl
       (s.goals ∙ ap suc columns) v.goals place same_goals same_turn (same_cells r low j place) less_goal.product less_goal.difference
       (subst (λ m. clear_refusal m j (turned j (line t r)) t.goal (cell t r j) ≡ None) a.rows e)
 
-  row_none : first_below (line_refusal r j (turned j (line t r)) (cell t r j) t.rows) (height t) ≡ None → (i : ℕ) → i < height u → line_refusal r j (turned j (line u r)) (cell u r j) u.rows i ≡ None
+  row_none : first_below (row_refusal r j (turned j (line t r)) (cell t r j) t.rows) (height t) ≡ None → (i : ℕ) → i < height u → row_refusal r j (turned j (line u r)) (cell u r j) u.rows i ≡ None
   row_none e i h = pick (same_or_other i r)
     where
-      pick : (i ≡ r) ⊎ (i ≡ r → ⊥) → line_refusal r j (turned j (line u r)) (cell u r j) u.rows i ≡ None
+      pick : (i ≡ r) ⊎ (i ≡ r → ⊥) → row_refusal r j (turned j (line u r)) (cell u r j) u.rows i ≡ None
       pick (inl q) = cond-true (eqb i r) None (clear_refusal i j (turned j (line u r)) (line u i) (cell u r j)) (eq-eqb i r q)
       pick (inr q) =
           cond-false (eqb i r) None (clear_refusal i j (turned j (line u r)) (line u i) (cell u r j)) (ne_eqb i r q)
           ∙ clear_passes i j (width u) (turned j (line t r)) (turned j (line u r)) (line t i) (line u i) (cell t r j) (cell u r j)
           (length_row i h) (v.lines i h) place (same_cells i h) same_turn (same_cells r low j place) (less_row i h q).product (less_row i h q).difference
           (sym (cond-false (eqb i r) None (clear_refusal i j (turned j (line t r)) (line t i) (cell t r j)) (ne_eqb i r q))
-          ∙ none_each (line_refusal r j (turned j (line t r)) (cell t r j) t.rows) (height t) e i (let f = a.rows in omega arith))
+          ∙ none_each (row_refusal r j (turned j (line t r)) (cell t r j) t.rows) (height t) e i (let f = a.rows in omega arith))
 
   pub pivot_none : pivot_refusal r j t.rows t.goal ≡ None → pivot_refusal r j u.rows u.goal ≡ None
   unfolding pivot_refusal
   pivot_none e =
-      let x = neither (turn_refusal r j (line t r)) (earlier (clear_refusal (height t) j (turned j (line t r)) t.goal (cell t r j)) (first_below (line_refusal r j (turned j (line t r)) (cell t r j) t.rows) (height t))) e in
-      let y = neither (clear_refusal (height t) j (turned j (line t r)) t.goal (cell t r j)) (first_below (line_refusal r j (turned j (line t r)) (cell t r j) t.rows) (height t)) x.1 in
-      ap₂ earlier (turn_none x.0) (ap₂ earlier (goal_none y.0) (all_none (line_refusal r j (turned j (line u r)) (cell u r j) u.rows) (height u) (row_none y.1)))
+      let x = neither (turn_refusal r j (line t r)) (earlier (clear_refusal (height t) j (turned j (line t r)) t.goal (cell t r j)) (first_below (row_refusal r j (turned j (line t r)) (cell t r j) t.rows) (height t))) e in
+      let y = neither (clear_refusal (height t) j (turned j (line t r)) t.goal (cell t r j)) (first_below (row_refusal r j (turned j (line t r)) (cell t r j) t.rows) (height t)) x.1 in
+      ap₂ earlier (turn_none x.0) (ap₂ earlier (goal_none y.0) (all_none (row_refusal r j (turned j (line u r)) (cell u r j) u.rows) (height u) (row_none y.1)))
 
   -- ---- the bounds
   bound_row : (i : ℕ) → i < height u → (i ≡ r) ⊎ (i ≡ r → ⊥) → number_in new i ≡ bound (exchange r j u) i

@@ -8,8 +8,8 @@ use Rattle.narrow_fraction.specs.declared.wide.Op.TheVariants.{Mul, Sub, Div}
 use Rattle.fraction_tableau.specs.Narrow.{IsNarrow}
 use Rattle.fraction_tableau.specs.Refusals.{refused, clear_refusal}
 use Rattle.fraction_tableau.specs.declared.wide_cell.WideCell.{WideCell}
-use Rattle.fraction_tableau.specs.KeptCells.{number_in, merged_at, dense_row, IsLine}
-use Rattle.fraction_tableau.proofs.KeptCells.{same_width, empty_line, line_narrow}
+use Rattle.fraction_tableau.specs.KeptCells.{number_in, merged_at, dense_row, IsSparse}
+use Rattle.fraction_tableau.proofs.KeptCells.{same_width, empty_row, sparse_narrow}
 use Rattle.fraction_tableau.proofs.Making.{row_made}
 use Rattle.fraction_tableau.proofs.Merges.{inverse_some, clear_stopped, clear_bound, clear_ended, cleared_is, cleared_last}
 use Rattle.fraction_tableau.proofs.fractions.clear_row.Goals as goal
@@ -26,7 +26,7 @@ returns-in-Err-clause-outcome c =
 
 pub returns-in-Err-clause-line : goal.returns-in-Err-clause-line
 returns-in-Err-clause-line c =
-    rw c.refused.ensures.count (empty_line _)
+    rw c.refused.ensures.count (empty_row _)
 
 pub returns-in-Err-cleared_number-clause-outcome : goal.returns-in-Err-cleared_number-clause-outcome
 returns-in-Err-cleared_number-clause-outcome c =
@@ -52,7 +52,7 @@ ended c =
     clear_ended i c.args.elimination.now.place e d c.args.elimination.now.pivot (length c.args.cells.now) factor c.bound.result c.bound-2.result c.requires.width (omega (arith, c.requires.width, c.requires.place)) (c.fraction-factor.ensures.value ∙ c.requires.factor) (c.bound.ensures ∙ ap (number_in d) (same_width _ _ _ c.requires.width refl)) (c.bound-2.ensures ∙ ap (number_in e) (same_width _ _ _ c.requires.width c.requires.widths)) c.in-Ok.ensures.passed none
 
 -- the row that is made
-made : (c : In-Ok-quotient) → (IsLine (length c.args.cells.now) c.in-Ok.count (take c.in-Ok.count c.merge.new.cells) × (dense_row (length c.args.cells.now) (take c.in-Ok.count c.merge.new.cells) c.in-Ok-cleared_number.bound ≡ cleared c.args.elimination.now.place c.args.turned.now c.args.row.now)) × IsNarrow (cleared c.args.elimination.now.place c.args.turned.now c.args.row.now)
+made : (c : In-Ok-quotient) → (IsSparse (length c.args.cells.now) c.in-Ok.count (take c.in-Ok.count c.merge.new.cells) × (dense_row (length c.args.cells.now) (take c.in-Ok.count c.merge.new.cells) c.in-Ok-cleared_number.bound ≡ cleared c.args.elimination.now.place c.args.turned.now c.args.row.now)) × IsNarrow (cleared c.args.elimination.now.place c.args.turned.now c.args.row.now)
 made c =
     let w = length c.args.cells.now in
     let d = c.args.row.now in
@@ -70,11 +70,11 @@ made c =
     let bx = c.bound.ensures ∙ ap (number_in d) (same_width _ _ _ c.requires.width refl) in
     let by = c.bound-2.ensures ∙ ap (number_in e) (same_width _ _ _ c.requires.width c.requires.widths) in
     let b = cleared_last place w e d c.in-Ok-cleared_number.bound c.fraction-factor.result c.bound.result c.bound-2.result j is bx by (attempt_ok _ _ _ c.in-Ok-cleared_number.ensures.outcome).1 in
-    (row_made (cleared place e d) w c.in-Ok.count f _ c.in-Ok-cleared_number.bound l c.in-Ok.ensures.count c.in-Ok.ensures.cells at b, line_narrow (cleared place e d) w f c.in-Ok-cleared_number.bound l at b c.in-Ok.ensures.fits c.in-Ok-cleared_number.ensures.fits)
+    (row_made (cleared place e d) w c.in-Ok.count f _ c.in-Ok-cleared_number.bound l c.in-Ok.ensures.count c.in-Ok.ensures.cells at b, sparse_narrow (cleared place e d) w f c.in-Ok-cleared_number.bound l at b c.in-Ok.ensures.fits c.in-Ok-cleared_number.ensures.fits)
 
 pub returns-in-Err-cleared_number-clause-line : goal.returns-in-Err-cleared_number-clause-line
 returns-in-Err-cleared_number-clause-line c =
-    rw c.refused-in-Err-cleared_number.ensures.count (empty_line _)
+    rw c.refused-in-Err-cleared_number.ensures.count (empty_row _)
 
 pub returns-in-Ok-quotient-clause-outcome : goal.returns-in-Ok-quotient-clause-outcome
 returns-in-Ok-quotient-clause-outcome c =
@@ -100,4 +100,4 @@ returns-in-Err-quotient-clause-outcome c =
 
 pub returns-in-Err-quotient-clause-line : goal.returns-in-Err-quotient-clause-line
 returns-in-Err-quotient-clause-line c =
-    rw c.refused-in-Err-quotient.ensures.count (empty_line _)
+    rw c.refused-in-Err-quotient.ensures.count (empty_row _)

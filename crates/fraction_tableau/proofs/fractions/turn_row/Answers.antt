@@ -8,8 +8,8 @@ use Rattle.narrow_fraction.proofs.Attempt.{attempt_ok, attempt_err}
 use Rattle.narrow_fraction.specs.declared.wide.Op.TheVariants.{Div}
 use Rattle.fraction_tableau.specs.Narrow.{IsNarrow}
 use Rattle.fraction_tableau.specs.Refusals.{refused, turn_refusal}
-use Rattle.fraction_tableau.specs.KeptCells.{number_in, turned_cell, dense_row, IsLine}
-use Rattle.fraction_tableau.proofs.KeptCells.{same_width, empty_line, line_narrow}
+use Rattle.fraction_tableau.specs.KeptCells.{number_in, turned_cell, dense_row, IsSparse}
+use Rattle.fraction_tableau.proofs.KeptCells.{same_width, empty_row, sparse_narrow}
 use Rattle.fraction_tableau.proofs.Making.{row_made}
 use Rattle.fraction_tableau.proofs.Refusals.{turns_first}
 use Rattle.fraction_tableau.proofs.Merges.{turn_stopped, turn_ended, turned_number, turned_last}
@@ -22,7 +22,7 @@ returns-in-Err-clause-outcome c =
 
 pub returns-in-Err-clause-line : goal.returns-in-Err-clause-line
 returns-in-Err-clause-line c =
-    rw c.refused.ensures.count (empty_line _)
+    rw c.refused.ensures.count (empty_row _)
 
 pub returns-in-Err-turn_cells-clause-outcome : goal.returns-in-Err-turn_cells-clause-outcome
 returns-in-Err-turn_cells-clause-outcome c =
@@ -35,7 +35,7 @@ returns-in-Err-turn_cells-clause-outcome c =
 
 pub returns-in-Err-turn_cells-clause-line : goal.returns-in-Err-turn_cells-clause-line
 returns-in-Err-turn_cells-clause-line c =
-    rw c.refused-in-Err-turn_cells.ensures.count (empty_line _)
+    rw c.refused-in-Err-turn_cells.ensures.count (empty_row _)
 
 -- where the cells are made, the bound's quotient is the only operation that may be refused
 ended : (c : After-bound) → turn_refusal c.args.number c.args.place c.args.row.now ≡ refused Div c.bound.result c.cell-pivot.result c.args.number (length c.args.cells.now)
@@ -45,7 +45,7 @@ ended c =
     turn_ended c.args.number c.args.place c.args.row.now (length c.args.cells.now) c.whole.result c.cell-pivot.result c.bound.result c.requires.width (omega (arith, c.requires.width, c.requires.place)) c.whole.ensures c.cell-pivot.ensures bx first c.in-Ok-turn_cells.ensures.passed
 
 -- the row that is made
-made : (c : In-Ok-over) → (IsLine (length c.args.cells.now) c.in-Ok-turn_cells.count (take c.in-Ok-turn_cells.count c.turn_cells.new.cells) × (dense_row (length c.args.cells.now) (take c.in-Ok-turn_cells.count c.turn_cells.new.cells) c.in-Ok-over.bound ≡ turned c.args.place c.args.row.now)) × IsNarrow (turned c.args.place c.args.row.now)
+made : (c : In-Ok-over) → (IsSparse (length c.args.cells.now) c.in-Ok-turn_cells.count (take c.in-Ok-turn_cells.count c.turn_cells.new.cells) × (dense_row (length c.args.cells.now) (take c.in-Ok-turn_cells.count c.turn_cells.new.cells) c.in-Ok-over.bound ≡ turned c.args.place c.args.row.now)) × IsNarrow (turned c.args.place c.args.row.now)
 made c =
     let w = length c.args.cells.now in
     let d = c.args.row.now in
@@ -58,7 +58,7 @@ made c =
     let f : ℕ → ℚ = turned_cell place c.of_fraction.result d in
     let at : (m : ℕ) → m < w → f m ≡ number_in (turned place d) m = λ m h. turned_number place c.of_fraction.result d m (omega (arith, j, c.requires.width)) v in
     let b = turned_last place w d c.in-Ok-over.bound c.bound.result pivot j c.cell-pivot.ensures bx (attempt_ok _ _ _ c.in-Ok-over.ensures.outcome).1 in
-    (row_made (turned place d) w c.in-Ok-turn_cells.count f _ c.in-Ok-over.bound l c.in-Ok-turn_cells.ensures.count c.in-Ok-turn_cells.ensures.cells at b, line_narrow (turned place d) w f c.in-Ok-over.bound l at b c.in-Ok-turn_cells.ensures.fits c.in-Ok-over.ensures.fits)
+    (row_made (turned place d) w c.in-Ok-turn_cells.count f _ c.in-Ok-over.bound l c.in-Ok-turn_cells.ensures.count c.in-Ok-turn_cells.ensures.cells at b, sparse_narrow (turned place d) w f c.in-Ok-over.bound l at b c.in-Ok-turn_cells.ensures.fits c.in-Ok-over.ensures.fits)
 
 pub returns-in-Ok-over-clause-outcome : goal.returns-in-Ok-over-clause-outcome
 returns-in-Ok-over-clause-outcome c =
@@ -85,4 +85,4 @@ returns-in-Err-over-clause-outcome c =
 
 pub returns-in-Err-over-clause-line : goal.returns-in-Err-over-clause-line
 returns-in-Err-over-clause-line c =
-    rw c.refused-in-Err-over.ensures.count (empty_line _)
+    rw c.refused-in-Err-over.ensures.count (empty_row _)

@@ -1,8 +1,10 @@
 use Rattle.std.proofs.Common.{length, ◌+◌, ◌<◌, cond, eqb, pos, sym, ◌∙◌, ap, subst, arith}
-use Rattle.rational_theory.specs.Rational.{whole, neg_ℚ, ◌+ℚ◌, ◌*ℚ◌}
+use Rattle.std.proofs.lemmas.Int.{to_z-of_z}
+use Rattle.rational_theory.specs.Rational.{whole, over, neg_ℚ, ◌+ℚ◌, ◌*ℚ◌}
 use Rattle.simplex_theory.specs.Lines.{cleared}
 use Rattle.fraction_tableau.specs.KeptCells.{number_in, kept_below}
-use Rattle.fraction_tableau.specs.Scales.{IsOver, factor_of}
+use Rattle.fraction_tableau.specs.Scales.{numerator, IsOver, factor_of}
+use Rattle.fraction_tableau.proofs.Fitting.{fits_i64}
 use Rattle.fraction_tableau.proofs.KeptCells.{IsNext, next_in, step_count, same_width}
 use Rattle.fraction_tableau.specs.Marks.{AreMarked}
 use Rattle.fraction_tableau.proofs.Marking.{marked_kept}
@@ -29,11 +31,26 @@ keep_before-done-requires-clause-order c =
     let y = x.inside in
     x.after
 
-pub take_at-own-requires-clause-place : goal.take_at-own-requires-clause-place
-take_at-own-requires-clause-place c =
-    let x = next (goal.at.take_at-own-requires-clause-place c).After-index-others-index in
+pub take_numerator-own-requires-clause-place : goal.take_numerator-own-requires-clause-place
+take_numerator-own-requires-clause-place c =
+    let x = next (goal.at.take_numerator-own-requires-clause-place c).After-index-others-index in
     let y = x.inside in
     omega (arith, c.requires.width)
+
+pub take_numerator-own-requires-clause-same : goal.take_numerator-own-requires-clause-same
+take_numerator-own-requires-clause-same c =
+    (c.requires.row.numbers c.index-others-index.result.place).same
+
+pub take_numerator-own-requires-clause-size : goal.take_numerator-own-requires-clause-size
+take_numerator-own-requires-clause-size c =
+    let o = c.requires.row.numbers c.index-others-index.result.place in
+    omega (arith, o.size, c.requires.row.short)
+
+pub joined-cell-requires-clause-own : goal.joined-cell-requires-clause-own
+joined-cell-requires-clause-own c =
+    let o = c.requires.row.numbers c.index-others-index.result.place in
+    let f = fits_i64 (numerator c.args.joining.now.row.denominator (number_in c.args.row.now c.index-others-index.result.place)) (omega (arith, o.size, c.requires.row.short)) in
+    simp (c.take_numerator-own.ensures.numerator, f, to_z-of_z) o.size
 
 pub joined-cell-requires-clause-turned : goal.joined-cell-requires-clause-turned
 joined-cell-requires-clause-turned c =
@@ -65,12 +82,14 @@ returns-clause-joined c =
     let y = x.inside in
     let t = cleared j.place e d in
     let n = c.keep_before-done.ensures.cells (number_in t) (λ m a b. quiet_is j.place m e d c.requires.own (x.zeros m a b)) c.requires.joined.joined in
-    let v = c.joined-cell.ensures ∙ ap (λ u. cond (eqb k.place j.place) (whole (pos 0)) u +ℚ neg_ℚ (factor_of j *ℚ k.cell)) c.take_at-own.ensures.cell
+    let o = c.requires.row.numbers k.place in
+    let f = fits_i64 (numerator j.row.denominator (number_in d k.place)) (omega (arith, o.size, c.requires.row.short)) in
+    let v = (simp (c.take_numerator-own.ensures.numerator, f, to_z-of_z) at c.joined-cell.ensures) ∙ ap (λ u. cond (eqb k.place j.place) (whole (pos 0)) u +ℚ neg_ℚ (factor_of j *ℚ k.cell)) o.same
     ∙ ap (λ u. cond (eqb k.place j.place) (whole (pos 0)) (number_in d k.place) +ℚ neg_ℚ (u *ℚ k.cell)) c.requires.factor
     ∙ ap (λ u. cond (eqb k.place j.place) (whole (pos 0)) (number_in d k.place) +ℚ neg_ℚ (number_in d j.place *ℚ u)) (sym x.is)
     ∙ cleared_number j.place k.place e d (omega (arith, c.requires.width, c.requires.place)) in
-    joined_next t d c.keep_before-done.new.cells c.put-made.new.cells c.take_at-own.result.taken c.keep_before-done.result.made c.put-made.result c.with_mark.result (record { place = k.place; cell = c.joined-cell.result }) c.put-made.auto.cells (omega (arith, c.keep_before-done.auto.cells))
-    c.take_at-own.ensures.taken c.keep_before-done.ensures.made n v c.put-made.ensures.count c.put-made.ensures.cells
+    joined_next t d c.keep_before-done.new.cells c.put-made.new.cells c.take_numerator-own.result.taken c.keep_before-done.result.made c.put-made.result c.with_mark.result (record { place = k.place; cell = c.joined-cell.result }) c.put-made.auto.cells (omega (arith, c.keep_before-done.auto.cells))
+    c.take_numerator-own.ensures.taken c.keep_before-done.ensures.made n v c.put-made.ensures.count c.put-made.ensures.cells
     (subst (AreMarked c.with_mark.result) (sym c.put-made.ensures.cells) (marked_kept _ _ _ _ _ (c.keep_before-done.ensures.marked c.requires.joined.marked) c.with_mark.ensures.set c.with_mark.ensures.others))
 
 pub returns-clause-index : goal.returns-clause-index

@@ -3,20 +3,19 @@ use Rattle.std.proofs.lemmas.Int.{to_z-of_z}
 use Rattle.rational_theory.specs.Rational.{over}
 use Rattle.fraction_tableau.specs.Scales.{numerator}
 use Rattle.fraction_tableau.proofs.Fitting.{fits_i64}
-use Rattle.fraction_tableau.proofs.Scales.{joined_is, joined_size, combined}
+use Rattle.fraction_tableau.proofs.Scales.{joined_number, joined_size, combined}
 use Rattle.fraction_tableau.proofs.joining.joined.Goals as goal
 
 pub returns : goal.returns
 returns c =
     let j = c.args.joining.now in
     let i = c.requires.joining in
-    let a = numerator j.row.denominator c.args.own.now in
+    let a = c.args.own in
     let x = numerator j.turned.denominator c.args.turned.now in
     let n = combined j.rescaling.times j.part (cond c.args.is_own (pos 0) a) x in
-    let fa = fits_i64 a (omega (arith, c.requires.own.size, c.requires.short)) in
     let fx = fits_i64 x (omega (arith, c.requires.turned.size, c.requires.turned_short)) in
-    let s = joined_size j c.args.is_own a x i c.requires.own.size c.requires.turned.size in
+    let s = joined_size j c.args.is_own a x i c.requires.own c.requires.turned.size in
     let fn = fits_i64 n (omega (arith, s, i.short)) in
-    let v : c.joined_numerator-numerator.result ≡ n = simp (c.numerator_of.ensures, c.numerator_of-2.ensures, fa, fx, to_z-of_z) at c.joined_numerator-numerator.ensures.value in
+    let v : c.joined_numerator-numerator.result ≡ n = simp (c.numerator_of.ensures, c.ranges.own, fx, to_z-of_z) at c.joined_numerator-numerator.ensures.value in
     let e : c.of_words.result ≡ over n j.rescaling.to = simp (v, fn, to_z-of_z) at c.of_words.ensures in
-    e ∙ joined_is j c.args.is_own c.args.own.now c.args.turned.now i c.requires.own c.requires.turned
+    e ∙ joined_number j c.args.is_own a c.args.turned.now i c.requires.turned

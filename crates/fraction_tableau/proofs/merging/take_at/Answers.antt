@@ -1,5 +1,4 @@
 use Rattle.std.proofs.Common.{◌≡◌, length, ◌+◌, ◌-◌, sym, ◌∙◌, ap, arith}
-use Rattle.narrow_fraction.proofs.Parts.{zero_over}
 use Rattle.fraction_tableau.specs.KeptCells.{number_in, kept_below}
 use Rattle.fraction_tableau.proofs.KeptCells.{other_side, next_in, step_count, reached_at, reached_here, reached_past, reached_end, none_more}
 use Rattle.fraction_tableau.proofs.merging.take_at.Goals as goal
@@ -22,7 +21,7 @@ returns-clause-cell c =
     let f = number_in c.args.row.now in
     let w = length c.args.row.now - 1 in
     let r = reached_at f c.args.place c.args.taken c.requires.taken in
-    c.of_words.ensures ∙ zero_over c.args.denominator c.requires.above
+    c.of_fraction.ensures ∙ c.whole.ensures
     ∙ elim c.if-taken-kept.branch [
       | then-taken-kept+else-next-place v ↦
           let x = next_in f c.args.place w c.args.taken c.kept-kept.result.now v.index-kept-taken.result c.kept-kept.ensures v.index-kept-taken.is (omega arith) c.requires.taken (omega (arith, v.if-taken-kept.true)) in
@@ -31,4 +30,4 @@ returns-clause-cell c =
     ]
 
 pub returns-clause-taken : goal.returns-clause-taken
-returns-clause-taken c = none_more (number_in c.args.row.now) c.args.place c.args.taken c.requires.taken (sym (c.of_words.ensures ∙ zero_over c.args.denominator c.requires.above) ∙ returns-clause-cell c)
+returns-clause-taken c = none_more (number_in c.args.row.now) c.args.place c.args.taken c.requires.taken (sym (c.of_fraction.ensures ∙ c.whole.ensures) ∙ returns-clause-cell c)

@@ -8,8 +8,8 @@ use Rattle.fraction_tableau.proofs.tableau.Tableau.load.Goals as goal
 pub returns : goal.returns
 returns c =
     let i = c.self.inside in
-    let t : NamedTableau = record { table = record { rows = i.lines.items; goal = i.goal; basic = i.basic.items; standing = i.standing.items }; names = i.names.items; spent = i.spent } in
-    let a = ap (set i.lines.items c.args.row) c.load.ensures.cells in
+    let t : NamedTableau = record { table = record { rows = i.sparse_rows.items; goal = i.goal; basic = i.basic.items; standing = i.standing.items }; names = i.names.items; spent = i.spent } in
+    let a = ap (set i.sparse_rows.items c.args.row) c.load.ensures.cells in
     let w : c.len.result + c.args.row ≡ width t.table + c.args.row = omega (arith, c.len.ensures, i.standing.ok.0) in
     let b = ap (set i.basic.items c.args.row) w in
     row_is t c.args.row c.args.name c.args.from.now _ _ _ a b refl ∙ ap (with_row c.args.row c.args.name c.args.from.now) c.self.view_is

@@ -9,11 +9,11 @@ pub invariant_of-result : goal.invariant_of-result
 invariant_of-result c =
     let m = c.args.rows in
     let w = c.args.width in
-    let e = blank_is m w _ _ _ _ _ c.in_ok-lines.ensures c.in_ok-goal.ensures c.in_ok-basic.ensures c.in_ok-standing.ensures c.in_ok-names.ensures in
+    let e = blank_is m w _ _ _ _ _ c.in_ok-sparse_rows.ensures c.in_ok-goal.ensures c.in_ok-basic.ensures c.in_ok-standing.ensures c.in_ok-names.ensures in
     let a = ap length c.in_ok-spare.ensures ∙ length-replicate (w + 1) (whole (pos 0)) in
     let b = ap length c.in_ok-held.ensures ∙ length-replicate (w + 1) (whole (pos 0)) in
     let d = ap length c.in_ok-room.ensures ∙ length-replicate (w + 1) (whole (pos 0)) in
     subst (λ (t : NamedTableau). IsSound t (length c.in_ok-spare.spare) (length c.in_ok-held.held) (length c.in_ok-room.room)) (sym e) (rw (a, b, d) (sound_blank m w c.requires))
 
 pub returns : goal.returns
-returns c = blank_is c.args.rows c.args.width _ _ _ _ _ c.in_ok-lines.ensures c.in_ok-goal.ensures c.in_ok-basic.ensures c.in_ok-standing.ensures c.in_ok-names.ensures
+returns c = blank_is c.args.rows c.args.width _ _ _ _ _ c.in_ok-sparse_rows.ensures c.in_ok-goal.ensures c.in_ok-basic.ensures c.in_ok-standing.ensures c.in_ok-names.ensures

@@ -13,14 +13,14 @@ use Rattle.fraction_tableau.proofs.tableau.Tableau.pivot.Goals as goal
 pub returns-clause-exchanged : goal.returns-clause-exchanged
 returns-clause-exchanged c =
     let i = c.self.inside in
-    let lines : (with_items i.lines c.exchange_cells.new.lines).items ≡ c.exchange_cells.new.lines =
-    with_items_is i.lines c.exchange_cells.new.lines (c.exchange_cells.auto.lines ∙ ap length c.deref_mut.ensures.value ∙ sym i.lines.ok.0) in
-    let t : Tableau = record { rows = i.lines.items; goal = i.goal; basic = i.basic.items; standing = i.standing.items } in
+    let sparse_rows : (with_items i.sparse_rows c.exchange_cells.new.sparse_rows).items ≡ c.exchange_cells.new.sparse_rows =
+    with_items_is i.sparse_rows c.exchange_cells.new.sparse_rows (c.exchange_cells.auto.sparse_rows ∙ ap length c.deref_mut.ensures.value ∙ sym i.sparse_rows.ok.0) in
+    let t : Tableau = record { rows = i.sparse_rows.items; goal = i.goal; basic = i.basic.items; standing = i.standing.items } in
     let view : t ≡ c.args.self.now.table = ap (λ (s : NamedTableau). s.table) c.self.view_is in
     let row : c.args.row < height t = subst (λ (u : Tableau). c.args.row < height u) (sym view) c.requires.row in
     let col : c.args.col < width t = subst (λ (u : Tableau). c.args.col < width u) (sym view) c.requires.col in
-    let a : (with_items i.lines c.exchange_cells.new.lines).items ≡ exchanged_rows c.args.row c.args.col t.rows =
-    lines ∙ c.in_default.ensures.rows ∙ ap (exchanged_rows c.args.row c.args.col) c.deref_mut.ensures.value in
+    let a : (with_items i.sparse_rows c.exchange_cells.new.sparse_rows).items ≡ exchanged_rows c.args.row c.args.col t.rows =
+    sparse_rows ∙ c.in_default.ensures.rows ∙ ap (exchanged_rows c.args.row c.args.col) c.deref_mut.ensures.value in
     let b : c.swap.new.x ≡ cleared c.args.col (turned c.args.col (get_or t.rows c.args.row [])) t.goal =
     c.swap.ensures.x_after ∙ c.in_default.ensures.goal_row ∙ ap (λ (l : List (List ℚ)). cleared c.args.col (turned c.args.col (get_or l c.args.row [])) t.goal) c.deref_mut.ensures.value in
     let d : set i.basic.items c.args.row c.index.result.now ≡ set t.basic c.args.row (get_or t.standing c.args.col 0) =

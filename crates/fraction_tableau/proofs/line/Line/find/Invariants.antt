@@ -1,6 +1,0 @@
-use Rattle.fraction_tableau.specs.KeptCells.{number_in}
-use Rattle.fraction_tableau.proofs.KeptCells.{Reached}
-use Rattle.fraction_tableau.proofs.line.Line.find.Given as goal
-
-abbrev pub invariant-loop-kept : goal.invariant-loop-kept
-invariant-loop-kept l = Reached (number_in l.self) l.place l.kept-index

@@ -1,6 +1,0 @@
-use Rattle.std.proofs.Common.{arith}
-use Rattle.fraction_tableau.proofs.Copies.{all_copied}
-use Rattle.fraction_tableau.proofs.lines.copy_lines.Goals as goal
-
-pub returns : goal.returns
-returns c = all_copied _ _ _ _ c.requires.count c.loop-line.invariant (omega arith)

@@ -1,0 +1,30 @@
+use Rattle.std.proofs.Common.{List, length, take, ◌+◌, sym, ◌∙◌, ap, subst, arith}
+use Rattle.std.proofs.lemmas.List.{with_items_is}
+use Rattle.fraction_tableau.specs.KeptCells.{IsSparse}
+use Rattle.fraction_tableau.specs.declared.kept.Kept.{Kept}
+use Rattle.fraction_tableau.proofs.KeptCells.{open_row, length-dense}
+use Rattle.fraction_tableau.proofs.Marking.{all_marked}
+use Rattle.fraction_tableau.proofs.sparse_row.SparseRow.clear_fractions.Goals as goal
+
+pub clear_row-made-requires-clause-width : goal.clear_row-made-requires-clause-width
+clear_row-made-requires-clause-width c =
+    let r = open_row _ _ _ _ _ c.self.invariant.0 c.self.view_is in
+    let wide = r.wide in
+    omega (arith, c.requires.width, ap length c.deref_mut.ensures.value)
+
+pub returns-clause-width : goal.returns-clause-width
+returns-clause-width c =
+    let i = c.self.inside in
+    let r = open_row _ _ _ _ _ c.self.invariant.0 c.self.view_is in
+    let len = c.clear_row-made.auto.cells ∙ ap length c.deref_mut.ensures.value in
+    let same = with_items_is i.cells c.clear_row-made.new.cells (len ∙ sym i.cells.ok.0) in
+    length-dense _ _ _ ∙ ap (λ n. n + 1) (ap length same ∙ len) ∙ sym r.wide
+
+pub invariant_of-self : goal.invariant_of-self
+invariant_of-self c =
+    let i = c.self.inside in
+    let made = c.clear_row-made in
+    let len = made.auto.cells ∙ ap length c.deref_mut.ensures.value in
+    let same = with_items_is i.cells made.new.cells (len ∙ sym i.cells.ok.0) in
+    let line = subst (λ n. IsSparse n made.result.count (take made.result.count made.new.cells)) (ap length c.deref_mut.ensures.value ∙ sym len) made.ensures.line in
+    (subst (λ (t : List Kept). IsSparse (length t) made.result.count (take made.result.count t)) (sym same) line, (tt, all_marked _))

@@ -1,0 +1,196 @@
+//! The cells of a whole exchange, and of all rows at once.
+
+ghost use Rattle.std.specs.Prelude.{◌≡◌, ℕ, ◌+◌, ◌<◌, ◌≤◌, ◌^◌, pos, length, get_or, set, eqb, cond, IfOk, []};
+ghost use Rattle.rational_theory.specs.Rational.{whole, inverse_ℚ};
+ghost use Rattle.simplex_theory.specs.Lines.{turned, cleared};
+ghost use Rattle.narrow_fraction.specs.Attempt.{attempt, first_below};
+ghost use Rattle.fraction_tableau.specs.Narrow.{IsNarrow, AreNarrow};
+ghost use Rattle.fraction_tableau.specs.Refusals.{clear_refusal, row_refusal, pivot_refusal, exchanged_rows};
+ghost use Rattle.fraction_tableau.specs.KeptCells.{number_in};
+
+use crate::fractions::Elimination;
+use crate::sparse_row::SparseRow;
+use crate::wide_cell::{Spot, WideCell};
+use narrow_fraction::Frac;
+use std::mem;
+
+/// Each row becomes the one at its place in another list of rows as wide.
+pub fn copy_rows(sparse_rows: &mut [SparseRow], from: &[SparseRow])
+    requires count { length sparse_rows.old ≡ length from.now }
+    requires widths { (i : ℕ) → i < length sparse_rows.old → length (get_or sparse_rows.old i []) ≡ length (get_or from.now i []) }
+    requires short { (i : ℕ) → i < length sparse_rows.old → length (get_or sparse_rows.old i []) ≤ 2 ^ 32 }
+    ensures { sparse_rows.new ≡ from.now }
+{
+    for index in 0..sparse_rows.len() {
+        sparse_rows[index].copy_from(&from[index]);
+    }
+}
+
+/// The pivot: its row, its place there, and its number.
+#[derive(Clone, Copy)]
+struct Pivot {
+    row: usize,
+    place: u32,
+    cell: Frac,
+}
+
+/// One row cleared, unless it is the pivot's own row. A row with 0 at the pivot's place stays; another is made in `room`,
+/// which is then exchanged with it.
+#[inline(never)]
+fn clear_one(
+    sparse_rows: &mut [SparseRow],
+    room: &mut SparseRow,
+    turned: &SparseRow,
+    pivot: &Pivot,
+    index: usize,
+) -> Result<(), WideCell>
+    requires inside { index < length sparse_rows.old }
+    requires few { length sparse_rows.old < 2 ^ 32 }
+    requires width { length (get_or sparse_rows.old index []) ≡ length turned.now }
+    requires room { length room.old ≡ length turned.now }
+    requires place { pivot.now.place + 1 < length turned.now }
+    requires pivot { pivot.now.cell ≡ whole (pos 0) → ⊥ }
+    requires own { number_in turned.now pivot.now.place ≡ inverse_ℚ pivot.now.cell }
+    requires short { length turned.now < 2 ^ 32 }
+    requires narrow { AreNarrow sparse_rows.old }
+    ensures outcome { result ≡ attempt (row_refusal pivot.now.row pivot.now.place turned.now pivot.now.cell sparse_rows.old index) tt }
+    ensures kept { (k : ℕ) → length (get_or sparse_rows.new k []) ≡ length (get_or sparse_rows.old k []) }
+    ensures room { length room.new ≡ length room.old }
+    ensures cleared { IfOk result (λ _. sparse_rows.new ≡ cond (eqb index pivot.now.row) sparse_rows.old (set sparse_rows.old index (cleared pivot.now.place turned.now (get_or sparse_rows.old index [])))) }
+    ensures narrow { AreNarrow sparse_rows.new }
+{
+    if index == pivot.row {
+        return Ok(());
+    }
+    let factor = sparse_rows[index].held(pivot.place);
+    if factor.is_zero() {
+        return Ok(());
+    }
+    let elimination = Elimination {
+        number: index as u32,
+        place: pivot.place,
+        pivot: pivot.cell,
+        factor,
+    };
+    if let Err(wide) = room.clear(&sparse_rows[index], turned, &elimination) {
+        return Err(wide);
+    }
+    mem::swap(&mut sparse_rows[index], room);
+    Ok(())
+}
+
+/// Every row but the pivot's own, in order.
+fn clear_others(
+    sparse_rows: &mut [SparseRow],
+    room: &mut SparseRow,
+    turned: &SparseRow,
+    pivot: &Pivot,
+) -> Result<(), WideCell>
+    requires few { length sparse_rows.old < 2 ^ 32 }
+    requires widths { (i : ℕ) → i < length sparse_rows.old → length (get_or sparse_rows.old i []) ≡ length turned.now }
+    requires room { length room.old ≡ length turned.now }
+    requires place { pivot.now.place + 1 < length turned.now }
+    requires pivot { pivot.now.cell ≡ whole (pos 0) → ⊥ }
+    requires own { number_in turned.now pivot.now.place ≡ inverse_ℚ pivot.now.cell }
+    requires short { length turned.now < 2 ^ 32 }
+    requires narrow { AreNarrow sparse_rows.old }
+    ensures outcome { result ≡ attempt (first_below (row_refusal pivot.now.row pivot.now.place turned.now pivot.now.cell sparse_rows.old) (length sparse_rows.old)) tt }
+    ensures kept { (k : ℕ) → length (get_or sparse_rows.new k []) ≡ length (get_or sparse_rows.old k []) }
+    ensures room { length room.new ≡ length room.old }
+    ensures cleared { IfOk result (λ _. (k : ℕ) → k < length sparse_rows.old → (k ≡ pivot.now.row → ⊥) → get_or sparse_rows.new k [] ≡ cleared pivot.now.place turned.now (get_or sparse_rows.old k [])) }
+    ensures narrow { AreNarrow sparse_rows.new }
+{
+    for index in 0..sparse_rows.len() {
+        if sparse_rows[index].is_free_at(pivot.place) {
+            continue;
+        }
+        if let Err(wide) = clear_one(sparse_rows, room, turned, pivot, index) {
+            return Err(wide);
+        }
+    }
+    Ok(())
+}
+
+/// The goal row cleared, into `spare`.
+fn clear_goal(
+    spare: &mut SparseRow,
+    goal: &SparseRow,
+    turned: &SparseRow,
+    number: u32,
+    pivot: &Pivot,
+) -> Result<(), WideCell>
+    requires width { length goal.now ≡ length turned.now }
+    requires spare { length spare.old ≡ length turned.now }
+    requires place { pivot.now.place + 1 < length turned.now }
+    requires pivot { pivot.now.cell ≡ whole (pos 0) → ⊥ }
+    requires own { number_in turned.now pivot.now.place ≡ inverse_ℚ pivot.now.cell }
+    requires short { length turned.now < 2 ^ 32 }
+    requires narrow { IsNarrow goal.now }
+    ensures outcome { result ≡ attempt (clear_refusal number pivot.now.place turned.now goal.now pivot.now.cell) tt }
+    ensures cleared { IfOk result (λ _. spare.new ≡ cleared pivot.now.place turned.now goal.now) }
+    ensures width { length spare.new ≡ length spare.old }
+    ensures narrow { IfOk result (λ _. IsNarrow spare.new) }
+{
+    let factor = goal.held(pivot.place);
+    if factor.is_zero() {
+        spare.copy_from(goal);
+        return Ok(());
+    }
+    let elimination = Elimination {
+        number,
+        place: pivot.place,
+        pivot: pivot.cell,
+        factor,
+    };
+    spare.clear(goal, turned, &elimination)
+}
+
+/// The cells of an exchange on a row and a place: the rows in place, and the goal row into `spare`.
+/// The turned row is made in `held` and takes its place last, and `room` is for one row after another.
+pub fn exchange_cells(
+    sparse_rows: &mut [SparseRow],
+    goal: &SparseRow,
+    spare: &mut SparseRow,
+    held: &mut SparseRow,
+    room: &mut SparseRow,
+    at: Spot,
+) -> Result<(), WideCell>
+    requires inside { at.row < length sparse_rows.old }
+    requires few { length sparse_rows.old < 2 ^ 32 }
+    requires widths { (i : ℕ) → i < length sparse_rows.old → length (get_or sparse_rows.old i []) ≡ length goal.now }
+    requires spare { length spare.old ≡ length goal.now }
+    requires held { length held.old ≡ length goal.now }
+    requires room { length room.old ≡ length goal.now }
+    requires place { at.col + 1 < length goal.now }
+    requires pivot { number_in (get_or sparse_rows.old at.row []) at.col ≡ whole (pos 0) → ⊥ }
+    requires short { length goal.now < 2 ^ 32 }
+    requires narrow { AreNarrow sparse_rows.old }
+    requires narrow_goal { IsNarrow goal.now }
+    ensures outcome { result ≡ attempt (pivot_refusal at.row at.col sparse_rows.old goal.now) tt }
+    ensures kept { (k : ℕ) → length (get_or sparse_rows.new k []) ≡ length (get_or sparse_rows.old k []) }
+    ensures spare { length spare.new ≡ length spare.old }
+    ensures held { length held.new ≡ length held.old }
+    ensures room { length room.new ≡ length room.old }
+    ensures rows { IfOk result (λ _. sparse_rows.new ≡ exchanged_rows at.row at.col sparse_rows.old) }
+    ensures goal_row { IfOk result (λ _. spare.new ≡ cleared at.col (turned at.col (get_or sparse_rows.old at.row [])) goal.now) }
+    ensures narrow { AreNarrow sparse_rows.new }
+    ensures narrow_goal { IfOk result (λ _. IsNarrow spare.new) }
+{
+    let row = at.row as usize;
+    let pivot = Pivot {
+        row,
+        place: at.col,
+        cell: sparse_rows[row].cell(at.col),
+    };
+    if let Err(wide) = held.turn(&sparse_rows[row], at.row, at.col) {
+        return Err(wide);
+    }
+    if let Err(wide) = clear_goal(spare, goal, held, sparse_rows.len() as u32, &pivot) {
+        return Err(wide);
+    }
+    if let Err(wide) = clear_others(sparse_rows, room, held, &pivot) {
+        return Err(wide);
+    }
+    mem::swap(&mut sparse_rows[row], held);
+    Ok(())
+}
