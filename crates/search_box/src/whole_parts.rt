@@ -47,7 +47,8 @@ fn waits_and_shifts(artery: &Artery, signal: u32, other: u32) -> i128
     requires last { signal ≤ count artery.now }
     requires other_first { 1 ≤ other }
     requires other_last { other ≤ count artery.now }
-    ensures value { result ≡ pos (2 * artery.now.head.parts + shift_at artery.now signal (shift_count artery.now signal - 1)) -ℤ pos (red_parts artery.now Dir.Outbound signal + red_parts artery.now Dir.Inbound signal + shift_at artery.now other 0) }
+    ensures value { result ≡ pos (2 * artery.now.head.parts + shift_at artery.now signal (shift_count artery.now signal - 1))
+        -ℤ pos (red_parts artery.now Dir.Outbound signal + red_parts artery.now Dir.Inbound signal + shift_at artery.now other 0) }
     ensures size { unsigned_abs result < 2 ^ 15 }
 {
     let more = 2 * artery.parts() + greatest_shift(artery, signal);
