@@ -16,30 +16,30 @@ use Rattle.loop_rows.specs.declared.fault.SumFault.{SumFault}
 use Rattle.loop_rows.specs.declared.fault.SumFault.TheVariants as fault
 use Rattle.loop_rows.proofs.LeafSums.{row_added, not_below}
 use Rattle.certificate_checker.specs.TreeProofs.{AreRows, FitAlong, IsLeafProof}
-use Rattle.certificate_checker.specs.TreeRefusals.{reject_of, weakness, leaf_refusal, IsFirstOf}
+use Rattle.certificate_checker.specs.TreeRefusals.{reject_of, weakness, leaf_refusal, IsFirst}
 use Rattle.certificate_checker.specs.declared.leaves.Aim.{Aim}
-use Rattle.certificate_checker.specs.declared.reject.TreeReject.TheVariants.{LeafTooWeak}
+use Rattle.certificate_checker.specs.declared.reject.Reject.TheVariants.{LeafTooWeak}
 use Rattle.certificate_checker.proofs.PlaceTests.{not_out}
 use Rattle.certificate_checker.proofs.Shown.{shown_in, shown_out}
 
-module _ (rows : Source) (aim : Aim) (leaf : ℕ) (ws : List Weight) where
+module _ (F : Type 0) (rows : Source) (aim : Aim) (leaf : ℕ) (ws : List Weight) where
   -- the first fault of its sum
-  some_fault : (f : SumFault) → fault_of rows ws ≡ Some f → leaf_refusal rows aim leaf ws ≡ Some (reject_of leaf f)
+  some_fault : (f : SumFault) → fault_of rows ws ≡ Some f → leaf_refusal {F = F} rows aim leaf ws ≡ Some (reject_of leaf f)
   unfolding leaf_refusal
   some_fault f e = ap (λ o. earlier (option_map (reject_of leaf) o) (option_map (LeafTooWeak leaf) (weakness (total_of rows ws) aim.goal aim.limit))) e
 
-  pub leaf_rejected : (f : SumFault) → IsFirstFault (fault_of rows ws) f → IsFirstOf (leaf_refusal rows aim leaf ws) (reject_of leaf f)
+  pub leaf_rejected : (f : SumFault) → IsFirstFault (fault_of rows ws) f → IsFirst {F = F} (leaf_refusal rows aim leaf ws) (reject_of leaf f)
   leaf_rejected (fault.NoSuchRow row) h = some_fault (fault.NoSuchRow row) h
   leaf_rejected (fault.Negative row) h = some_fault (fault.Negative row) h
   leaf_rejected (fault.Wide row at) h = some_fault (fault.Wide row at) h
   leaf_rejected fault.Memory h = tt
 
   -- where it has none, what the sum shows
-  pub leaf_weak : (p : Place) → fault_of rows ws ≡ None → weakness (total_of rows ws) aim.goal aim.limit ≡ Some p → leaf_refusal rows aim leaf ws ≡ Some (LeafTooWeak leaf p)
+  pub leaf_weak : (p : Place) → fault_of rows ws ≡ None → weakness (total_of rows ws) aim.goal aim.limit ≡ Some p → leaf_refusal {F = F} rows aim leaf ws ≡ Some (LeafTooWeak leaf p)
   unfolding leaf_refusal
   leaf_weak p e f = ap₂ (λ o q. earlier (option_map (reject_of leaf) o) (option_map (LeafTooWeak leaf) q)) e f
 
-  pub leaf_right : fault_of rows ws ≡ None → weakness (total_of rows ws) aim.goal aim.limit ≡ None → leaf_refusal rows aim leaf ws ≡ None
+  pub leaf_right : fault_of rows ws ≡ None → weakness (total_of rows ws) aim.goal aim.limit ≡ None → leaf_refusal {F = F} rows aim leaf ws ≡ None
   unfolding leaf_refusal
   leaf_right e f = ap₂ (λ o q. earlier (option_map (reject_of leaf) o) (option_map (LeafTooWeak leaf) q)) e f
 
@@ -77,7 +77,7 @@ fault_out rows sum [] h k = refl
 fault_out rows sum (w ∷ ws) h k =
     ap₂ earlier (row_added rows sum w (rows.has w.row) refl h.0 (not_below w.by (number 0) h.1) k.0) (fault_out rows (with_weight rows sum w) ws h.2 k.1)
 
-pub proof_in : (rows : Source) (aim : Aim) (leaf : ℕ) (ws : List Weight) → leaf_refusal rows aim leaf ws ≡ None → IsLeafProof rows aim ws
+pub proof_in : {F : Type 0} (rows : Source) (aim : Aim) (leaf : ℕ) (ws : List Weight) → leaf_refusal {F = F} rows aim leaf ws ≡ None → IsLeafProof rows aim ws
 unfolding leaf_refusal fault_of
 proof_in rows aim leaf ws e =
     let p = neither _ _ e in
@@ -88,6 +88,6 @@ proof_in rows aim leaf ws e =
       keeps = shown_in (total_of rows ws) aim.goal aim.limit (map_none (LeafTooWeak leaf) (weakness (total_of rows ws) aim.goal aim.limit) p.1);
     }
 
-pub proof_out : (rows : Source) (aim : Aim) (leaf : ℕ) (ws : List Weight) → IsLeafProof rows aim ws → leaf_refusal rows aim leaf ws ≡ None
+pub proof_out : {F : Type 0} (rows : Source) (aim : Aim) (leaf : ℕ) (ws : List Weight) → IsLeafProof rows aim ws → leaf_refusal {F = F} rows aim leaf ws ≡ None
 unfolding fault_of
-proof_out rows aim leaf ws h = leaf_right rows aim leaf ws (fault_out rows (blank rows.width) ws h.there h.fits) (shown_out (total_of rows ws) aim.goal aim.limit h.keeps)
+proof_out {F = F} rows aim leaf ws h = leaf_right F rows aim leaf ws (fault_out rows (blank rows.width) ws h.there h.fits) (shown_out (total_of rows ws) aim.goal aim.limit h.keeps)

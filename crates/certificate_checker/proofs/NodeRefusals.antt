@@ -1,10 +1,11 @@
 -- The nodes, one after another.
-use Rattle.std.proofs.Common.{◌≡◌, ◌≢◌, ℕ, ◌+◌, ◌<◌, Option, None, Some, option_map, List, [], ◌∷◌, length, map, drop, get_or, refl, sym, ap, ap₂, subst}
+use Rattle.std.proofs.Common.{◌≡◌, ◌≢◌, ℕ, ◌+◌, ◌<◌, Option, None, Some, List, [], ◌∷◌, length, map, drop, get_or, refl, sym, ap, ap₂, subst}
 use Rattle.rational_theory.specs.Rational.{ℚ}
 use Rattle.progression.specs.Street.{Street}
 use Rattle.linear_theory.specs.Boxes.{Area}
 use Rattle.narrow_fraction.specs.Attempt.{earlier}
 use Rattle.narrow_fraction.proofs.Attempt.{neither}
+use Rattle.named_row.specs.Sheets.{Sheet}
 use Rattle.named_row.specs.declared.leaves.Weight.{Weight}
 use Rattle.search_box.specs.Places.{low_part, high_part}
 use Rattle.plan_text.specs.declared.certificate.CertNode.{CertNode}
@@ -12,12 +13,10 @@ use Rattle.plan_text.specs.Warrants.{Node, SplitAt, LeafOf, node_of, AreTrees}
 use Rattle.loop_rows.specs.Weights.{Source, artery_rows}
 use Rattle.loop_rows.proofs.LeafSums.{at_left}
 use Rattle.certificate_checker.specs.Accepted.{IsProof, AreProofs}
-use Rattle.certificate_checker.specs.Checked.{Checked, aim_at, reject_from, IsFirst}
+use Rattle.certificate_checker.specs.Checked.{Checked, aim_at, nodes_refusal_of}
 use Rattle.certificate_checker.specs.TreeProofs.{ProveAll, IsLeafProof, IsTreeProof}
-use Rattle.certificate_checker.specs.TreeRefusals.{tree_refusal, IsFirstOf}
+use Rattle.certificate_checker.specs.TreeRefusals.{tree_refusal, IsFirst}
 use Rattle.certificate_checker.specs.declared.leaves.Aim.{Aim}
-use Rattle.certificate_checker.specs.declared.reject.TreeReject.{TreeReject}
-use Rattle.certificate_checker.specs.declared.reject.TreeReject.TheVariants as tree
 use Rattle.certificate_checker.specs.declared.reject.Reject.{Reject}
 use Rattle.certificate_checker.specs.declared.reject.Reject.TheVariants.{TimingFails, ValueDiffers, BoundBelow, SplitOutside, NoSuchRow, Negative, Wide, LeafTooWeak, Memory}
 use Rattle.certificate_checker.proofs.PlaceTests.{place_in, place_out}
@@ -25,8 +24,8 @@ use Rattle.certificate_checker.proofs.LeafRefusals.{proof_in, proof_out}
 use Rattle.certificate_checker.proofs.ArteryLeaves.{aim_of, leaf_in, leaf_out}
 
 -- ---- nodes that are not refused, as many trees as boxes, are proofs, and back
-module _ (rows : Area → Source) (aim : Aim) where
-  pub tree_in : (nodes leaves : ℕ) (boxes : List Area) (ns : List Node) → AreTrees (length boxes) ns → tree_refusal rows aim nodes leaves boxes ns ≡ None → IsTreeProof rows aim boxes ns
+module _ {F : Type 0} (rows : Area → Source) (aim : Aim) where
+  pub tree_in : (nodes leaves : ℕ) (boxes : List Area) (ns : List Node) → AreTrees (length boxes) ns → tree_refusal {F = F} rows aim nodes leaves boxes ns ≡ None → IsTreeProof rows aim boxes ns
   tree_in nodes leaves [] [] t e = tt
   tree_in nodes leaves [] (n ∷ ns) t e = absurd t
   tree_in nodes leaves (box ∷ boxes) [] t e = absurd t
@@ -37,7 +36,7 @@ module _ (rows : Area → Source) (aim : Aim) where
       let p = neither _ _ e in
       (proof_in (rows box) aim (leaves + 1) ws p.0, tree_in (nodes + 1) (leaves + 1) boxes ns t p.1)
 
-  pub tree_out : (nodes leaves : ℕ) (boxes : List Area) (ns : List Node) → IsTreeProof rows aim boxes ns → tree_refusal rows aim nodes leaves boxes ns ≡ None
+  pub tree_out : (nodes leaves : ℕ) (boxes : List Area) (ns : List Node) → IsTreeProof rows aim boxes ns → tree_refusal {F = F} rows aim nodes leaves boxes ns ≡ None
   tree_out nodes leaves [] [] h = refl
   tree_out nodes leaves [] (n ∷ ns) h = refl
   tree_out nodes leaves (box ∷ boxes) [] h = refl
@@ -62,16 +61,14 @@ pub proofs_tree : (a : Street) (limit : Option ℚ) (boxes : List Area) (ns : Li
 proofs_tree a limit = more_proved (IsProof a limit) (λ box ws. IsLeafProof (artery_rows a box) (aim_of a limit) ws) (leaf_out a limit)
 
 -- ---- the first refusal
--- the tree that is refused is that of the timings of a kind
-pub same_tree : {T F : Type 0} (k : Checked T F) (aim : Aim) (root : Area) (ns : List Node) → aim.goal ≡ k.goal → root ≡ k.root
-    → tree_refusal k.rows (aim_at k aim.limit) 0 0 (k.root ∷ []) ns ≡ tree_refusal k.rows aim 0 0 (root ∷ []) ns
-same_tree k aim root ns e f =
-    let same : aim_at k aim.limit ≡ aim = λ i. record { goal = sym e i; limit = aim.limit } in
-    ap₂ (λ (m : Aim) box. tree_refusal k.rows m 0 0 (box ∷ []) ns) same (sym f)
+-- of the nodes that are left, for timings of a kind
+abbrev pub refusal_left : {T F : Type 0} → Checked T F → Aim → ℕ → ℕ → List Area → List Node → Option (Reject F)
+refusal_left k aim nodes leaves boxes ns = tree_refusal k.rows aim nodes leaves boxes ns
 
--- of a tree that is the same
-pub tree_moved : (o p : Option TreeReject) (r : TreeReject) → p ≡ o → IsFirstOf o r → IsFirstOf p r
-tree_moved o p r e h = subst (λ q. IsFirstOf q r) (sym e) h
+-- the tree that is refused is that of the timings of a kind
+pub same_tree : {T F : Type 0} (k : Checked T F) (limit : Option ℚ) (goal : Sheet) (root : Area) (ns : List Node) → goal ≡ k.goal → root ≡ k.root
+    → nodes_refusal_of k limit ns ≡ tree_refusal {F = F} k.rows (record { goal = goal; limit = limit }) 0 0 (root ∷ []) ns
+same_tree {F = F} k limit goal root ns e f = ap₂ (λ (g : Sheet) box. tree_refusal {F = F} k.rows (record { goal = g; limit = limit }) 0 0 (box ∷ []) ns) (sym e) (sym f)
 
 module _ {F : Type 0} where
   pub is_first : (o : Option (Reject F)) (r : Reject F) → o ≡ Some r → IsFirst o r
@@ -100,14 +97,6 @@ module _ {F : Type 0} where
   -- of an equal one
   pub first_moved : (o p : Option (Reject F)) (r : Reject F) → p ≡ o → IsFirst o r → IsFirst p r
   first_moved o p r e h = subst (λ q. IsFirst q r) (sym e) h
-
-pub first_from : (F : Type 0) (o : Option TreeReject) (r : TreeReject) → IsFirstOf o r → IsFirst {F = F} (option_map reject_from o) (reject_from r)
-first_from F o (tree.SplitOutside node) h = ap (option_map reject_from) h
-first_from F o (tree.NoSuchRow leaf row) h = ap (option_map reject_from) h
-first_from F o (tree.Negative leaf row) h = ap (option_map reject_from) h
-first_from F o (tree.Wide leaf row at) h = ap (option_map reject_from) h
-first_from F o (tree.LeafTooWeak leaf place) h = ap (option_map reject_from) h
-first_from F o tree.Memory h = tt
 
 -- ---- reading
 -- the next node is read

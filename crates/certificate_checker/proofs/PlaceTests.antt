@@ -11,7 +11,7 @@ use Rattle.linear_theory.specs.Boxes.{Area, loop_span, turn_span}
 use Rattle.search_box.specs.Places.{IsPlace, low_part, high_part}
 use Rattle.search_box.specs.declared.span.At.{At}
 use Rattle.search_box.specs.declared.span.At.TheVariants.{Loop, Turn}
-use Rattle.certificate_checker.specs.declared.reject.TreeReject.{TreeReject}
+use Rattle.certificate_checker.specs.declared.reject.Reject.{Reject}
 use Rattle.certificate_checker.specs.TreeRefusals.{is_place, split_refusal}
 
 -- ---- tests of whole numbers
@@ -48,16 +48,16 @@ not_out true e = refl
 not_out false e = sym e
 
 -- a split that is not refused is at a place of the box, and back
-pub place_in : (box : Area) (node : ℕ) (at : At) → split_refusal box node at ≡ None → IsPlace box at
+pub place_in : {F : Type 0} (box : Area) (node : ℕ) (at : At) → split_refusal {F = F} box node at ≡ None → IsPlace box at
 place_in box node at e = (place_decided box at).0 (not_out (is_place box at) (not_refused (not (is_place box at)) _ e))
 
-pub place_out : (box : Area) (node : ℕ) (at : At) → IsPlace box at → split_refusal box node at ≡ None
+pub place_out : {F : Type 0} (box : Area) (node : ℕ) (at : At) → IsPlace box at → split_refusal {F = F} box node at ≡ None
 place_out box node at p = rw ((place_decided box at).1 p) refl
 
 -- what holds of a box holds of its two parts
-pub split_ready : (Ready : Area → Type 0) → ((box : Area) (at : At) → IsPlace box at → Ready box → Ready (low_part box at) × Ready (high_part box at))
-    → (box : Area) (boxes new : List Area) (node : ℕ) (at : At) (r : Result (Unit {0}) TreeReject) → Ready box → All Ready boxes
-    → OnOk r (split_refusal box node at ≡ None) → OnOk r (new ≡ low_part box at ∷ high_part box at ∷ boxes) → OnOk r (All Ready new)
+pub split_ready : {F : Type 0} (Ready : Area → Type 0) → ((box : Area) (at : At) → IsPlace box at → Ready box → Ready (low_part box at) × Ready (high_part box at))
+    → (box : Area) (boxes new : List Area) (node : ℕ) (at : At) (r : Result (Unit {0}) (Reject F)) → Ready box → All Ready boxes
+    → OnOk r (split_refusal {F = F} box node at ≡ None) → OnOk r (new ≡ low_part box at ∷ high_part box at ∷ boxes) → OnOk r (All Ready new)
 split_ready Ready parts box boxes new node at (Ok x) b h e p =
     let both = parts box at (place_in box node at e) b in
     subst (All Ready) (sym p) (All-cons Ready (low_part box at) (high_part box at ∷ boxes) both.0 (All-cons Ready (high_part box at) boxes both.1 h))

@@ -1,6 +1,6 @@
 -- What is accepted and what is refused of a certificate, whatever kind of timing it has: the timing is looked at first, then its value, the bound, and the nodes in
 -- their order.
-use Rattle.std.specs.Prelude.{◌≡◌, ◌⊎◌, List, [], ◌∷◌, Option, None, Some, option_map}
+use Rattle.std.specs.Prelude.{◌⊎◌, List, [], ◌∷◌, Option, None, Some, option_map}
 use Rattle.rational_theory.specs.Rational.{ℚ}
 use Rattle.linear_theory.specs.Boxes.{Area}
 use Rattle.narrow_fraction.specs.Attempt.{earlier}
@@ -11,14 +11,10 @@ use Rattle.plan_text.specs.Warrants.{Node, WarrantWith}
 use Rattle.certificate_checker.specs.Accepted.{value_of, limit_of, IsTimedBy, IsBoundAbove}
 use Rattle.certificate_checker.specs.ClaimRefusals.{IfThere, claim_refusal}
 use Rattle.certificate_checker.specs.TreeProofs.{IsTreeProof}
-use Rattle.certificate_checker.specs.TreeRefusals.{tree_refusal}
+use Rattle.certificate_checker.specs.TreeRefusals.{tree_refusal, IsFirst}
 use Rattle.certificate_checker.specs.declared.leaves.Aim.{Aim}
-use Rattle.certificate_checker.specs.declared.reject.ClaimReject.{ClaimReject}
-use Rattle.certificate_checker.specs.declared.reject.ClaimReject.TheVariants as claim
-use Rattle.certificate_checker.specs.declared.reject.TreeReject.{TreeReject}
-use Rattle.certificate_checker.specs.declared.reject.TreeReject.TheVariants as tree
 use Rattle.certificate_checker.specs.declared.reject.Reject.{Reject}
-use Rattle.certificate_checker.specs.declared.reject.Reject.TheVariants.{TimingFails, ValueDiffers, BoundBelow, SplitOutside, NoSuchRow, Negative, Wide, LeafTooWeak, Memory}
+use Rattle.certificate_checker.specs.declared.reject.Reject.TheVariants.{TimingFails}
 
 -- the timings of a kind, of an artery: which are good, what each is worth, which of its failings is the first, and the box, the rows and the goal that bound what they are worth
 pub record Checked (T F : Type 0) : Type 1 where
@@ -39,27 +35,13 @@ pub record IsAcceptedOf {T F : Type 0} (k : Checked T F) (c : WarrantWith T) : T
   pub tree : IsTreeProof k.rows (aim_at k (limit_of c.claim)) (k.root ∷ []) c.nodes
 
 -- ---- refusals
--- a refusal of a claim as one of a certificate
-abbrev pub reject_claim : {F : Type 0} → ClaimReject → Reject F
-reject_claim (claim.ValueDiffers kept claimed) = ValueDiffers kept claimed
-reject_claim (claim.BoundBelow bound value) = BoundBelow bound value
-
--- and one of a node or leaf
-abbrev pub reject_from : {F : Type 0} → TreeReject → Reject F
-reject_from (tree.SplitOutside node) = SplitOutside node
-reject_from (tree.NoSuchRow leaf row) = NoSuchRow leaf row
-reject_from (tree.Negative leaf row) = Negative leaf row
-reject_from (tree.Wide leaf row at) = Wide leaf row at
-reject_from (tree.LeafTooWeak leaf place) = LeafTooWeak leaf place
-reject_from tree.Memory = Memory
-
 -- the timing has another value, or the bound is less than the value
 abbrev pub numbers_refusal_of : {T F : Type 0} → Checked T F → Claim → Option T → Option (Reject F)
-numbers_refusal_of k c timing = option_map reject_claim (claim_refusal (option_map k.worth timing) c)
+numbers_refusal_of k c timing = claim_refusal (option_map k.worth timing) c
 
 -- nodes whose leaves show what they are to
 abbrev pub nodes_refusal_of : {T F : Type 0} → Checked T F → Option ℚ → List Node → Option (Reject F)
-nodes_refusal_of k limit ns = option_map reject_from (tree_refusal k.rows (aim_at k limit) 0 0 (k.root ∷ []) ns)
+nodes_refusal_of k limit ns = tree_refusal k.rows (aim_at k limit) 0 0 (k.root ∷ []) ns
 
 -- the first refusal of a certificate whose timing, if it has one, is good
 abbrev pub first_refusal : {T F : Type 0} → Checked T F → WarrantWith T → Option (Reject F)
@@ -70,11 +52,6 @@ abbrev pub TimingFailsFirst : {T F : Type 0} → Checked T F → Option T → Re
 TimingFailsFirst k None r = ⊥
 TimingFailsFirst k (Some t) (TimingFails f) = k.FailsFirst t f
 TimingFailsFirst k (Some t) r = ⊥
-
--- r is the first of these refusals, or want of memory, which may come in its place
-abbrev pub IsFirst : {F : Type 0} → Option (Reject F) → Reject F → Type 0
-IsFirst first Memory = Unit {0}
-IsFirst first r = first ≡ Some r
 
 -- the timing breaks a rule and r names the first; or it is good, and r is the first of all others
 abbrev pub IsFirstRefusalOf : {T F : Type 0} → Checked T F → WarrantWith T → Reject F → Type 0

@@ -7,8 +7,8 @@ use Rattle.narrow_fraction.specs.Attempt.{refusal_if, earlier}
 use Rattle.plan_text.specs.declared.certificate.Claim.{Claim}
 use Rattle.plan_text.specs.declared.certificate.Claim.TheVariants.{Best, NoTiming, Stopped}
 use Rattle.certificate_checker.specs.Accepted.{value_of}
-use Rattle.certificate_checker.specs.declared.reject.ClaimReject.{ClaimReject}
-use Rattle.certificate_checker.specs.declared.reject.ClaimReject.TheVariants.{ValueDiffers, BoundBelow}
+use Rattle.certificate_checker.specs.declared.reject.Reject.{Reject}
+use Rattle.certificate_checker.specs.declared.reject.Reject.TheVariants.{ValueDiffers, BoundBelow}
 
 -- of the timing, if there is one, this holds
 abbrev pub IfThere : {T : Type 0} → (T → Type 0) → Option T → Type 0
@@ -16,18 +16,18 @@ IfThere P None = Unit {0}
 IfThere P (Some t) = P t
 
 -- the timing's value is not the one that is claimed
-abbrev pub kept_refusal : Option ℚ → Option ℚ → Option ClaimReject
+abbrev pub kept_refusal : {F : Type 0} → Option ℚ → Option ℚ → Option (Reject F)
 kept_refusal (Some kept) (Some claimed) = refusal_if (not (eq_by_cmp cmp_ℚ kept claimed)) (ValueDiffers kept claimed)
 kept_refusal (Some kept) None = None
 kept_refusal None claimed = None
 
 -- the bound is less than the value
-abbrev pub bound_refusal : Claim → Option ClaimReject
+abbrev pub bound_refusal : {F : Type 0} → Claim → Option (Reject F)
 bound_refusal (Stopped bound (Some value)) = refusal_if (is_lt (cmp_ℚ bound value)) (BoundBelow bound value)
 bound_refusal (Stopped bound None) = None
 bound_refusal (Best value) = None
 bound_refusal NoTiming = None
 
 -- either, for a timing of this value
-abbrev pub claim_refusal : Option ℚ → Claim → Option ClaimReject
+abbrev pub claim_refusal : {F : Type 0} → Option ℚ → Claim → Option (Reject F)
 claim_refusal kept claim = earlier (kept_refusal kept (value_of claim)) (bound_refusal claim)

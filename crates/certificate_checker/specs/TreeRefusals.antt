@@ -15,8 +15,8 @@ use Rattle.search_box.specs.declared.span.At.{At}
 use Rattle.search_box.specs.declared.span.At.TheVariants.{Loop, Turn}
 use Rattle.plan_text.specs.Warrants.{Node, SplitAt, LeafOf}
 use Rattle.certificate_checker.specs.declared.leaves.Aim.{Aim}
-use Rattle.certificate_checker.specs.declared.reject.TreeReject.{TreeReject}
-use Rattle.certificate_checker.specs.declared.reject.TreeReject.TheVariants.{SplitOutside, NoSuchRow, Negative, Wide, LeafTooWeak, Memory}
+use Rattle.certificate_checker.specs.declared.reject.Reject.{Reject}
+use Rattle.certificate_checker.specs.declared.reject.Reject.TheVariants.{SplitOutside, NoSuchRow, Negative, Wide, LeafTooWeak, Memory}
 
 -- ---- splits
 -- the place lies in the box
@@ -24,12 +24,12 @@ abbrev pub is_place : Area → At → Bool
 is_place box (Loop i at) = nat_le 1 i && nat_le i (length box.loops) && int_le (loop_span box i).least at && int_lt at (loop_span box i).most
 is_place box (Turn i rank) = nat_le 1 i && nat_le i (length box.turns) && nat_le (turn_span box i).least rank && nat_lt rank (turn_span box i).most
 
-abbrev pub split_refusal : Area → ℕ → At → Option TreeReject
+abbrev pub split_refusal : {F : Type 0} → Area → ℕ → At → Option (Reject F)
 split_refusal box node at = refusal_if (not (is_place box at)) (SplitOutside node)
 
 -- ---- leaves
 -- a sum's fault, of this leaf
-abbrev pub reject_of : ℕ → SumFault → TreeReject
+abbrev pub reject_of : {F : Type 0} → ℕ → SumFault → Reject F
 reject_of leaf (fault.NoSuchRow row) = NoSuchRow leaf row
 reject_of leaf (fault.Negative row) = Negative leaf row
 reject_of leaf (fault.Wide row at) = Wide leaf row at
@@ -45,13 +45,13 @@ abbrev pub weakness : Sheet → Sheet → Option ℚ → Option Place
 weakness sum goal None = unrefuted sum
 weakness sum goal (Some limit) = where_both (unrefuted sum) (uncovered sum goal limit)
 
-unfoldable pub leaf_refusal : Source → Aim → ℕ → List Weight → Option TreeReject
+unfoldable pub leaf_refusal : {F : Type 0} → Source → Aim → ℕ → List Weight → Option (Reject F)
 leaf_refusal rows aim leaf ws =
     earlier (option_map (reject_of leaf) (fault_of rows ws)) (option_map (LeafTooWeak leaf) (weakness (total_of rows ws) aim.goal aim.limit))
 
 -- ---- nodes
 -- a node with its box, with its numbers among the nodes and among the leaves
-abbrev pub node_refusal : (Area → Source) → Aim → Area → ℕ → ℕ → Node → Option TreeReject
+abbrev pub node_refusal : {F : Type 0} → (Area → Source) → Aim → Area → ℕ → ℕ → Node → Option (Reject F)
 node_refusal rows aim box node leaf (SplitAt at) = split_refusal box node at
 node_refusal rows aim box node leaf (LeafOf ws) = leaf_refusal (rows box) aim leaf ws
 
@@ -65,13 +65,13 @@ leaves_after leaves (SplitAt at) = leaves
 leaves_after leaves (LeafOf ws) = leaves + 1
 
 -- the nodes that are left, after so many nodes and leaves, for the boxes that want a tree
-abbrev pub tree_refusal : (Area → Source) → Aim → ℕ → ℕ → List Area → List Node → Option TreeReject
+abbrev pub tree_refusal : {F : Type 0} → (Area → Source) → Aim → ℕ → ℕ → List Area → List Node → Option (Reject F)
 tree_refusal rows aim nodes leaves boxes [] = None
 tree_refusal rows aim nodes leaves [] (n ∷ ns) = None
 tree_refusal rows aim nodes leaves (box ∷ boxes) (n ∷ ns) =
     earlier (node_refusal rows aim box (nodes + 1) (leaves + 1) n) (tree_refusal rows aim (nodes + 1) (leaves_after leaves n) (boxes_after box boxes n) ns)
 
 -- r is the first of these refusals, or want of memory, which may come in its place
-abbrev pub IsFirstOf : Option TreeReject → TreeReject → Type 0
-IsFirstOf first Memory = Unit {0}
-IsFirstOf first r = first ≡ Some r
+abbrev pub IsFirst : {F : Type 0} → Option (Reject F) → Reject F → Type 0
+IsFirst first Memory = Unit {0}
+IsFirst first r = first ≡ Some r

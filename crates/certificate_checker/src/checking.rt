@@ -1,65 +1,107 @@
 //! The check of a whole certificate.
 
-ghost use Rattle.std.specs.Prelude.{◌≡◌, map, None, IfOk, IfErr, OnOk};
-ghost use Rattle.linear_theory.specs.Counts.{IsStreet};
-ghost use Rattle.linear_theory.specs.Rows.{goal_form};
-ghost use Rattle.loop_rows.specs.Writing.{written};
+ghost use Rattle.std.specs.Prelude.{◌≡◌, map, None, IfErr, OnOk};
+ghost use Rattle.narrow_fraction.specs.Attempt.{attempt};
 ghost use Rattle.certificate_checker.specs.Accepted.{IsAccepted};
-ghost use Rattle.plan_text.specs.Warrants.{node_of, AreTrees};
-ghost use Rattle.certificate_checker.specs.Refusals.{nodes_refusal, IsFirstRefusal};
-ghost use Rattle.certificate_checker.specs.Checked.{IsFirst};
+ghost use Rattle.certificate_checker.specs.Checked.{numbers_refusal_of, nodes_refusal_of, TimingFailsFirst, IsAcceptedOf, IsFirstRefusalOf};
+ghost use Rattle.certificate_checker.specs.ClaimRefusals.{IfThere};
 ghost use Rattle.certificate_checker.specs.Claims.{ClaimHolds};
+ghost use Rattle.certificate_checker.specs.Refusals.{IsFirstRefusal};
+ghost use Rattle.certificate_checker.specs.TreeRefusals.{IsFirst};
+ghost use Rattle.plan_text.specs.Warrants.{node_of, warrant_of, HasTiming, AreTrees};
 
-use crate::claims::{check_numbers, check_timing, limit_of};
+use crate::claims::{check_claim, limit_of};
+use crate::kind::{ArteryRows, CheckedKind};
 use crate::leaves::Aim;
 use crate::reject::Reject;
-use crate::rows::ArteryRows;
 use crate::walk::check_tree;
 use artery_model::Artery;
-use loop_rows::{column_count, fill_goal};
-use named_row::Row;
-use narrow_fraction::{Frac, Memory};
-use plan_text::{CertNode, Certificate};
-use search_box::SearchBox;
+use narrow_fraction::Frac;
+use plan_text::{CertNode, Certificate, Claim};
 use std::alloc::Global;
 
-/// The row of the weighted band.
-fn goal_row(alloc: Global, artery: &Artery) -> Result<Row, Memory>
-    ensures { IfOk result (λ row. row ≡ written artery.now (goal_form artery.now)) }
+/// Whether the timing, if there is one, is good.
+fn check_timing<K: CheckedKind>(
+    kind: &K,
+    timing: &Option<K::Timing>,
+) -> Result<(), Reject<K::Failing>>
+    ensures good { OnOk result (IfThere (K.kind kind.now).IsGood timing.now) }
+    ensures first { IfErr result (λ reject. TimingFailsFirst (K.kind kind.now) timing.now reject) }
 {
-    let mut row = Row::zero(alloc, column_count(artery))?;
-    fill_goal(artery, &mut row);
-    Ok(row)
+    let Some(timing) = timing else {
+        return Ok(());
+    };
+    match kind.holds(timing) {
+        Ok(()) => Ok(()),
+        Err(failing) => Err(Reject::TimingFails(failing)),
+    }
 }
 
-/// Checks the nodes of an artery's tree, the root box being that of the first.
-fn check_nodes(alloc: Global, artery: &Artery, aim: &Aim, nodes: &[CertNode]) -> Result<(), Reject>
-    requires goal { aim.now.goal ≡ written artery.now (goal_form artery.now) }
+/// Whether the numbers of the claim are right for the timing.
+fn check_numbers<K: CheckedKind>(
+    kind: &K,
+    claim: &Claim,
+    timing: &Option<K::Timing>,
+) -> Result<(), Reject<K::Failing>>
+    ensures { result ≡ attempt (numbers_refusal_of (K.kind kind.now) claim.now timing.now) tt }
+{
+    match timing {
+        Some(timing) => check_claim(Some(kind.worth(timing)), claim),
+        None => check_claim(None, claim),
+    }
+}
+
+/// Checks the nodes of a tree, the root box being that of the first.
+fn check_nodes<K: CheckedKind>(
+    alloc: Global,
+    kind: &K,
+    limit: Option<Frac>,
+    nodes: &[CertNode],
+) -> Result<(), Reject<K::Failing>>
     requires tree { AreTrees 1 (map node_of nodes.now) }
-    ensures none { OnOk result (nodes_refusal artery.now aim.now.limit (map node_of nodes.now) ≡ None) }
-    ensures first { IfErr result (λ reject. IsFirst (nodes_refusal artery.now aim.now.limit (map node_of nodes.now)) reject) }
-    ensures street { IsStreet artery.now }
+    ensures none { OnOk result (nodes_refusal_of (K.kind kind.now) limit (map node_of nodes.now) ≡ None) }
+    ensures first { IfErr result (λ reject. IsFirst (nodes_refusal_of (K.kind kind.now) limit (map node_of nodes.now)) reject) }
 {
-    let root = SearchBox::root(alloc, artery)?;
-    check_tree(alloc, &ArteryRows { artery }, root, aim, nodes)?;
-    Ok(())
+    let goal = kind.goal(alloc)?;
+    let root = kind.root(alloc)?;
+    check_tree(alloc, kind, root, &Aim { goal, limit }, nodes)
 }
 
-/// Checks a certificate for an artery. Ok comes exactly for the accepted certificates; then what is claimed holds of
-/// every timing, on any grid.
+/// Checks the parts of a certificate for timings of any kind. Ok comes exactly for the accepted ones.
 ///
 /// The refusals are looked for in this order: the timing, its value, the bound, and then the nodes in their order. Want
 /// of memory may come in place of any answer.
+pub fn check_parts<K: CheckedKind>(
+    alloc: Global,
+    kind: &K,
+    claim: &Claim,
+    timing: &Option<K::Timing>,
+    nodes: &[CertNode],
+) -> Result<(), Reject<K::Failing>>
+    requires timing { HasTiming claim.now timing.now }
+    requires tree { AreTrees 1 (map node_of nodes.now) }
+    ensures accepted { OnOk result (IsAcceptedOf (K.kind kind.now) (warrant_of claim.now timing.now nodes.now)) }
+    ensures first { IfErr result (λ reject. IsFirstRefusalOf (K.kind kind.now) (warrant_of claim.now timing.now nodes.now) reject) }
+{
+    check_timing(kind, timing)?;
+    check_numbers(kind, claim, timing)?;
+    check_nodes(alloc, kind, limit_of(claim), nodes)
+}
+
+/// Checks a certificate for an artery. Ok comes exactly for the accepted certificates; then what is claimed holds of
+/// every timing, on any grid. The refusals come in the order of `check_parts`.
 pub fn check(alloc: Global, artery: &Artery, certificate: &Certificate) -> Result<(), Reject>
     ensures accepted { OnOk result (IsAccepted artery.now certificate.now) }
     ensures holds { OnOk result (ClaimHolds artery.now certificate.now.claim certificate.now.timing) }
     ensures first { IfErr result (λ reject. IsFirstRefusal artery.now certificate.now reject) }
 {
-    check_timing(artery, &certificate.timing)?;
-    check_numbers(artery, &certificate.claim, &certificate.timing)?;
-    let aim = Aim {
-        goal: goal_row(alloc, artery)?,
-        limit: limit_of(&certificate.claim),
-    };
-    check_nodes(alloc, artery, &aim, certificate.nodes.as_slice())
+    // what is claimed holds of a street
+    artery.known_valid();
+    check_parts(
+        alloc,
+        &ArteryRows { artery },
+        &certificate.claim,
+        &certificate.timing,
+        certificate.nodes.as_slice(),
+    )
 }

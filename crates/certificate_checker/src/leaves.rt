@@ -2,10 +2,10 @@
 
 ghost use Rattle.std.specs.Prelude.{◌≡◌, length, false, IfErr, OnOk, None};
 ghost use Rattle.narrow_fraction.specs.Attempt.{attempt};
-ghost use Rattle.certificate_checker.specs.TreeRefusals.{weakness, leaf_refusal, reject_of, IsFirstOf};
+ghost use Rattle.certificate_checker.specs.TreeRefusals.{weakness, leaf_refusal, reject_of, IsFirst};
 
-use crate::reject::TreeReject;
-use crate::rows::TreeRows;
+use crate::kind::CheckedKind;
+use crate::reject::Reject;
 use loop_rows::SumFault;
 use named_row::{Leaf, Place, Row};
 use narrow_fraction::Frac;
@@ -20,14 +20,14 @@ pub struct Aim {
 }
 
 /// A sum's fault, of the leaf with this number.
-fn rejected(leaf: u64, fault: SumFault) -> TreeReject
+fn rejected<F>(leaf: u64, fault: SumFault) -> Reject<F>
     ensures { result ≡ reject_of leaf fault }
 {
     match fault {
-        SumFault::NoSuchRow { row } => TreeReject::NoSuchRow { leaf, row },
-        SumFault::Negative { row } => TreeReject::Negative { leaf, row },
-        SumFault::Wide { row, at } => TreeReject::Wide { leaf, row, at },
-        SumFault::Memory => TreeReject::Memory,
+        SumFault::NoSuchRow { row } => Reject::NoSuchRow { leaf, row },
+        SumFault::Negative { row } => Reject::Negative { leaf, row },
+        SumFault::Wide { row, at } => Reject::Wide { leaf, row, at },
+        SumFault::Memory => Reject::Memory,
     }
 }
 
@@ -47,26 +47,26 @@ fn shown(sum: &Row, aim: &Aim) -> Result<(), Place>
 }
 
 /// Checks a leaf for a box. The leaf's number is that among the leaves.
-pub fn check_leaf<R: TreeRows>(
+pub fn check_leaf<K: CheckedKind>(
     alloc: Global,
-    rows: &R,
+    kind: &K,
     aim: &Aim,
     area: &SearchBox,
     number: u64,
     leaf: &Leaf,
-) -> Result<(), TreeReject>
-    requires ready { R.Ready rows.now area.now }
-    requires width { length aim.now.goal.coefs ≡ (R.rows rows.now area.now).width }
-    ensures none { OnOk result (leaf_refusal (R.rows rows.now area.now) aim.now number leaf.now.multipliers.items ≡ None) }
-    ensures first { IfErr result (λ reject. IsFirstOf (leaf_refusal (R.rows rows.now area.now) aim.now number leaf.now.multipliers.items) reject) }
+) -> Result<(), Reject<K::Failing>>
+    requires ready { K.Ready kind.now area.now }
+    requires width { length aim.now.goal.coefs ≡ ((K.kind kind.now).rows area.now).width }
+    ensures none { OnOk result (leaf_refusal {F = K.Failing} ((K.kind kind.now).rows area.now) aim.now number leaf.now.multipliers.items ≡ None) }
+    ensures first { IfErr result (λ reject. IsFirst (leaf_refusal ((K.kind kind.now).rows area.now) aim.now number leaf.now.multipliers.items) reject) }
 {
-    let sum = match rows.sum(alloc, area, leaf) {
+    let sum = match kind.sum(alloc, area, leaf) {
         Ok(sum) => sum,
         Err(fault) => return Err(rejected(number, fault)),
     };
     match shown(&sum, aim) {
         Ok(()) => Ok(()),
-        Err(place) => Err(TreeReject::LeafTooWeak {
+        Err(place) => Err(Reject::LeafTooWeak {
             leaf: number,
             place,
         }),

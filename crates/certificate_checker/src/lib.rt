@@ -5,8 +5,8 @@
 //! refusal (`specs/Refusals.antt`). Where it answers Ok, what is claimed holds of the artery (`specs/Claims.antt`), on
 //! any grid. It uses no tableau and no search, and nothing calls itself: the nodes are read one after another, with the
 //! next box that wants a tree and, for each split on the way down to it, the span that was there before. `check_tree` does
-//! that over any rows (`TreeRows`), for any goal and limit (`specs/TreeProofs.antt`, `specs/TreeRefusals.antt`), and `check_claim` looks
-//! at the numbers of a claim for a timing of any kind (`specs/ClaimRefusals.antt`).
+//! that for any goal and limit (`specs/TreeProofs.antt`, `specs/TreeRefusals.antt`), and `check_parts` is the check for timings of any
+//! kind (`CheckedKind`, `specs/Checked.antt`), with the rows that bound what they are worth.
 //!
 //! Accepted is: the timing is good and has the claimed value, the bound is not below it, and each leaf of the tree names rows of
 //! the street, with multipliers of at least 0, whose exact sum rules its box out or bounds the weighted band. What follows of an
@@ -19,18 +19,18 @@
 
 mod checking;
 mod claims;
+mod kind;
 mod laws;
 mod leaves;
 mod owed;
 mod reject;
-mod rows;
 mod walk;
 mod way;
 
-pub use checking::check;
-pub use claims::{check_claim, limit_of};
+pub use checking::{check, check_parts};
+pub use claims::limit_of;
+pub use kind::{ArteryRows, CheckedKind};
 pub use laws::{law_accepted_or_refused, law_proofs_are_trees};
 pub use leaves::Aim;
-pub use reject::{ClaimReject, Reject, TreeReject};
-pub use rows::{ArteryRows, TreeRows};
+pub use reject::{Reject, TreeReject};
 pub use walk::check_tree;

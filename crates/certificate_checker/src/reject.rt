@@ -31,72 +31,8 @@ pub enum Reject<F = Failing> {
     Memory,
 }
 
-/// Why the numbers of a claim are refused. They mean the same as in `Reject`.
-#[derive(Clone, Copy, Debug, PartialEq, Eq)]
-pub enum ClaimReject {
-    /// The timing's value is `kept` and not what is claimed.
-    ValueDiffers { kept: Frac, claimed: Frac },
-    /// The claimed bound is less than the claimed value.
-    BoundBelow { bound: Frac, value: Frac },
-}
-
-impl<F> From<ClaimReject> for Reject<F> {
-    ghost use Rattle.certificate_checker.specs.Checked.{reject_claim};
-
-    ghost from_gives = { λ refused reject. reject ≡ reject_claim refused };
-
-    fn from(refused: ClaimReject) -> Reject<F> {
-        match refused {
-            ClaimReject::ValueDiffers { kept, claimed } => Reject::ValueDiffers { kept, claimed },
-            ClaimReject::BoundBelow { bound, value } => Reject::BoundBelow { bound, value },
-        }
-    }
-}
-
-/// Why a tree is refused: a node or leaf of it. They are counted as in `Reject`, whose own refusals mean the same.
-#[derive(Clone, Copy, Debug, PartialEq, Eq)]
-pub enum TreeReject {
-    /// The node's box can't be split at its place.
-    SplitOutside { node: u64 },
-    /// The leaf names a row that isn't there.
-    NoSuchRow { leaf: u64, row: RowId },
-    /// The leaf's multiplier of this row is below 0.
-    Negative { leaf: u64, row: RowId },
-    /// The leaf's sum with this row leaves 128 bits, first at this place.
-    Wide { leaf: u64, row: RowId, at: WideAt },
-    /// The leaf's sum doesn't rule out its box and, where there is a limit, doesn't keep the goal down to it. This is the
-    /// first place where it fails to: without a limit, where it fails to rule out.
-    LeafTooWeak { leaf: u64, place: Place },
-    /// Want of memory.
-    Memory,
-}
-
-impl From<Memory> for TreeReject {
-    ghost use Rattle.certificate_checker.specs.declared.reject.TreeReject.TheVariants as tree;
-
-    ghost from_gives = { λ _ reject. reject ≡ tree.Memory };
-
-    fn from(_: Memory) -> TreeReject {
-        TreeReject::Memory
-    }
-}
-
-impl<F> From<TreeReject> for Reject<F> {
-    ghost use Rattle.certificate_checker.specs.Checked.{reject_from};
-
-    ghost from_gives = { λ refused reject. reject ≡ reject_from refused };
-
-    fn from(refused: TreeReject) -> Reject<F> {
-        match refused {
-            TreeReject::SplitOutside { node } => Reject::SplitOutside { node },
-            TreeReject::NoSuchRow { leaf, row } => Reject::NoSuchRow { leaf, row },
-            TreeReject::Negative { leaf, row } => Reject::Negative { leaf, row },
-            TreeReject::Wide { leaf, row, at } => Reject::Wide { leaf, row, at },
-            TreeReject::LeafTooWeak { leaf, place } => Reject::LeafTooWeak { leaf, place },
-            TreeReject::Memory => Reject::Memory,
-        }
-    }
-}
+/// Why the tree of an artery's certificate is refused: a node or leaf of it, or want of memory.
+pub type TreeReject = Reject<Failing>;
 
 impl<F> From<Memory> for Reject<F> {
     ghost use Rattle.certificate_checker.specs.declared.reject.Reject.TheVariants as whole;

@@ -1,19 +1,16 @@
 -- How acceptance and refusals of link certificates fit together.
-use Rattle.std.specs.Prelude.{◌≡◌, ◌≢◌, ◌↔◌, None}
-use Rattle.progression.specs.Street.{Street}
-use Rattle.link_proof.specs.LinkWarrants.{LinkWarrant, IsLinkCertificate}
-use Rattle.link_proof.specs.LinkAccepted.{IsLinkAccepted}
-use Rattle.link_proof.specs.LinkRefusals.{LinkReject, link_refusal_of, AreGoodIfThere, IsFirstLinkRefusal}
-use Rattle.certificate_checker.specs.declared.reject.Reject.TheVariants.{Memory}
+use Rattle.certificate_checker.specs.Laws.{AcceptedExactlyOf, RefusedIsNotAcceptedOf, OneFirstRefusalOf}
+use Rattle.link_proof.specs.LinkFamilies.{links}
+use Rattle.link_proof.specs.LinkAccepted.{of_links, IsLinkAccepted}
 
 -- a link certificate is accepted exactly where nothing of it is refused
 abbrev pub LinkAcceptedExactly : Type 0
-LinkAcceptedExactly = (a : Street) (c : LinkWarrant) → IsLinkCertificate c → IsLinkAccepted a c ↔ (AreGoodIfThere a c.timing × (link_refusal_of a c ≡ None))
+LinkAcceptedExactly = AcceptedExactlyOf of_links IsLinkAccepted links
 
 -- none is both accepted and refused, but for want of memory
 abbrev pub LinkRefusedIsNotAccepted : Type 0
-LinkRefusedIsNotAccepted = (a : Street) (c : LinkWarrant) (r : LinkReject) → IsFirstLinkRefusal a c r → r ≢ Memory → IsLinkAccepted a c → ⊥
+LinkRefusedIsNotAccepted = RefusedIsNotAcceptedOf of_links IsLinkAccepted
 
 -- one refusal at most is the first
 abbrev pub OneFirstLinkRefusal : Type 0
-OneFirstLinkRefusal = (a : Street) (c : LinkWarrant) (r s : LinkReject) → IsFirstLinkRefusal a c r → IsFirstLinkRefusal a c s → r ≢ Memory → s ≢ Memory → r ≡ s
+OneFirstLinkRefusal = OneFirstRefusalOf of_links

@@ -9,8 +9,7 @@
 //!
 //! `read_links` answers a certificate exactly where the bytes are its one text (`found`, `only`), and otherwise the first bad line
 //! with the first fault that applies to it (`exact`); what `write_links` writes is read back as that very certificate
-//! (`read_back`). `law_one_links_text`, `law_links_read_back` and `law_first_bad_of_links` say of its text what `plan_text` says of
-//! the others. The refusals come in their order: the link timing, its value, the bound, and then the nodes in theirs.
+//! (`read_back`). `law_links_text` says of its text what `plan_text` says of the others. The refusals come in their order: the link timing, its value, the bound, and then the nodes in theirs.
 //! `law_link_accepted_or_refused` says how acceptance and refusals fit together. It stands on the readers of trees and texts of
 //! `plan_text` and `certificate_checker`, and on no tableau and no search.
 #![tactic(auto)]
@@ -24,9 +23,9 @@ mod timing_text;
 mod writing;
 
 pub use certificate::LinkCertificate;
-pub use checking::{LinkReject, kept_value, law_link_accepted_or_refused, link_check};
+pub use checking::{LinkReject, law_link_accepted_or_refused, link_check};
 pub use families::{LINK_FAMILIES, link_families};
-pub use laws::{law_first_bad_of_links, law_links_read_back, law_one_links_text};
+pub use laws::law_links_text;
 pub use reading::read_links;
 pub use timing_text::LinkBands;
 pub use writing::write_links;

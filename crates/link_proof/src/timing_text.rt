@@ -15,43 +15,6 @@ use plan_text::{
 };
 use std::alloc::Global;
 
-/// The link timing of the nine lines from the one with this number on, and what follows them.
-#[tactic(auto, unfolding(crate::specs::LinkTimingTexts::link_plan_at))]
-fn link_plan_at(alloc: Global, line: u64, bytes: &[u8]) -> Result<(LinkTiming, &[u8]), TextEnd>
-    requires { line + 16 < 2 ^ 64 }
-    ensures { Gives (λ x. (x.0, x.1.now)) result (link_plan_at line bytes.now) }
-{
-    let (base, rest) = base_at(alloc, line, bytes)?;
-    let links = base.patterns.len() - 1;
-    let (halves, rest) = both_ways_at(alloc, b"half_out", b"half_in", line + 7, links, rest)?;
-    match LinkTiming::new(
-        base.grid,
-        base.unit,
-        base.patterns,
-        base.reds,
-        base.runs.outbound,
-        base.runs.inbound,
-        base.first.outbound,
-        base.first.inbound,
-        halves.outbound,
-        halves.inbound,
-    ) {
-        Some(timing) => Ok((timing, rest)),
-        None => unreachable!(),
-    }
-}
-
-/// Writes the nine lines of a link timing at the end.
-fn push_link_plan(alloc: Global, out: &mut Vec<u8>, timing: &LinkTiming) -> Result<(), Memory>
-    ensures text { OnOk result (out.new.items ≡ out.old.items ++ ended (link_lines timing.now)) }
-    ensures held { OnOk result (IsHeldLinks timing.now) }
-{
-    push_base(alloc, out, timing.lines())?;
-    push_numbers(alloc, out, b"half_out", timing.half_out())?;
-    push_numbers(alloc, out, b"half_in", timing.half_in())?;
-    Ok(())
-}
-
 /// Timings with a band for each link in each direction.
 pub struct LinkBands;
 
@@ -66,12 +29,33 @@ impl TimingKind for LinkBands {
         9
     }
 
+    #[tactic(auto, unfolding(crate::specs::LinkTimingTexts::link_plan_at))]
     fn timing_at(alloc: Global, line: u64, bytes: &[u8]) -> Result<(LinkTiming, &[u8]), TextEnd> {
-        link_plan_at(alloc, line, bytes)
+        let (base, rest) = base_at(alloc, line, bytes)?;
+        let links = base.patterns.len() - 1;
+        let (halves, rest) = both_ways_at(alloc, b"half_out", b"half_in", line + 7, links, rest)?;
+        match LinkTiming::new(
+            base.grid,
+            base.unit,
+            base.patterns,
+            base.reds,
+            base.runs.outbound,
+            base.runs.inbound,
+            base.first.outbound,
+            base.first.inbound,
+            halves.outbound,
+            halves.inbound,
+        ) {
+            Some(timing) => Ok((timing, rest)),
+            None => unreachable!(),
+        }
     }
 
     fn push_timing(alloc: Global, out: &mut Vec<u8>, timing: &LinkTiming) -> Result<(), Memory> {
-        push_link_plan(alloc, out, timing)
+        push_base(alloc, out, timing.lines())?;
+        push_numbers(alloc, out, b"half_out", timing.half_out())?;
+        push_numbers(alloc, out, b"half_in", timing.half_in())?;
+        Ok(())
     }
 
     fn named_tree_at(alloc: Global, line: u64, bytes: &[u8]) -> Result<Vec<CertNode>, TextEnd> {

@@ -274,10 +274,10 @@ module _ {T : Type 0} (text : TimingText T) (laws : TimingLaws text) where
   best_then l = fraction_of value_key 3 l.0 >>= λ value. text.read 4 l.1 >>= with_timing (Best value) (4 + text.height)
 
   timing_grows : (claim : Claim) (last line : ℕ) (bytes z : List ℕ) → line + lines_in bytes ≡ last → Grows opened last z (text.read line bytes >>= with_timing claim (line + text.height)) (text.read line (bytes ++ z) >>= with_timing claim (line + text.height))
-  timing_grows claim last line bytes z e = grows_then (one_and (line + text.height)) opened last z (text.read line bytes) (text.read line (bytes ++ z)) (with_timing claim (line + text.height)) (laws.grows last line bytes z e) (λ t end. (end, refl)) (λ t here. here)
+  timing_grows claim last line bytes z e = grows_then (one_and (line + text.height)) opened last z (text.read line bytes) (text.read line (bytes ++ z)) (with_timing claim (line + text.height)) ((laws.reads line).grows last bytes z e) (λ t end. (end, refl)) (λ t here. here)
 
   timing_later : (claim : Claim) (last line : ℕ) (bytes : List ℕ) → last ≤ line → Reaches opened last (text.read line bytes >>= with_timing claim (line + text.height))
-  timing_later claim last line bytes here = reaches_then (one_and (line + text.height)) opened last (text.read line bytes) (with_timing claim (line + text.height)) (laws.later last line bytes here) (λ t more. more)
+  timing_later claim last line bytes here = reaches_then (one_and (line + text.height)) opened last (text.read line bytes) (with_timing claim (line + text.height)) ((laws.reads line).later last bytes here) (λ t more. more)
 
   best_grows : (last : ℕ) (bytes z : List ℕ) → 3 + lines_in bytes ≡ last → Grows opened last z (best_at text bytes) (best_at text (bytes ++ z))
   unfolding best_at

@@ -1,5 +1,5 @@
 -- The text of a timing, and the same with more bytes.
-use Rattle.std.proofs.Common.{◌≡◌, ℕ, ◌+◌, ◌-◌, ◌≤◌, List, ◌++◌, length, Result, Ok, refl, arith}
+use Rattle.std.proofs.Common.{◌≡◌, ℕ, ◌+◌, ◌-◌, ◌≤◌, List, ◌++◌, length, Result, Ok, refl, ap, subst, arith}
 use Rattle.std.specs.Prelude.{slice_index}
 use Rattle.progression.specs.TimingRecord.{TimingRecord}
 use Rattle.time_space.specs.Timing.{plan_of}
@@ -9,86 +9,79 @@ use Rattle.plan_text.specs.Spelling.{grid_key, unit_key, pattern_key, red_key, r
 use Rattle.plan_text.specs.Lines.{◌>>=◌, numbers_at}
 use Rattle.plan_text.specs.Reading.{place_of, pattern_place, scale_at, signals_at, both_ways_at, pair_at, Unbanded, base_at, plan_at}
 use Rattle.plan_text.specs.FirstBad.{lines_in}
-use Rattle.plan_text.proofs.Grown.{Part, Grows, Reaches, grows_then, reaches_then, one_and, two_and, numbers_grow, numbers_later}
+use Rattle.plan_text.proofs.Grown.{Part, Grows, Reaches, reaches_then, grows_by, after_line, one_and, two_and, numbers_grow, numbers_later}
 
--- ---- two lines of numbers
+-- ---- readers one after another
 
--- the parts of what is made of two such lines
-record IsMade {Y : Type 0} (q : Part Y) (make : List ℕ → List ℕ → List ℕ → Y) (line : ℕ) : Type 0 where
-  next : (a b r : List ℕ) → q.next (make a b r) ≡ line
-  rest : (a b r : List ℕ) → q.rest (make a b r) ≡ r
-  more : (a b r z : List ℕ) → q.more z (make a b r) ≡ make a b (r ++ z)
+-- what reads on from a line, after a part that was read: the same with more bytes, and where it begins after the last line
+pub record ReadsOn {X Y : Type 0} (p : Part X) (line : ℕ) (q : Part Y) (read : X → Result Y BadText) : Type 0 where
+  pub grows : (last : ℕ) (x : X) (z : List ℕ) → line + lines_in (p.rest x) ≡ last → Grows q last z (read x) (read (p.more z x))
+  pub later : (last : ℕ) (x : X) → last ≤ line → Reaches q last (read x)
 
-module _ {Y : Type 0} (q : Part Y) (make : List ℕ → List ℕ → List ℕ → Y) (line : ℕ) (made : IsMade q make (line + 2)) (first second : List ℕ) (p : NumberLine) (after : List ℕ → NumberLine) (is : p.line ≡ line) (next : (ns : List ℕ) → (after ns).line ≡ line + 1) where
-  abbrev second_line : List ℕ × List ℕ → Result Y BadText
-  second_line a = numbers_at second (after a.0) a.1 >>= λ b. Ok (make a.0 b.0 b.1)
+-- what reads bytes
+abbrev pub Reads : {Y : Type 0} → ℕ → Part Y → (List ℕ → Result Y BadText) → Type 0
+Reads line q read = ReadsOn (after_line line) line q read
 
-  second_grows : (last : ℕ) (a : List ℕ × List ℕ) (z : List ℕ) → line + 1 + lines_in a.1 ≡ last → Grows q last z (second_line a) (second_line (a.0, a.1 ++ z))
-  second_grows last a z e =
-      let n = next a.0 in
-      grows_then (one_and ((after a.0).line + 1)) q last z (numbers_at second (after a.0) a.1) (numbers_at second (after a.0) (a.1 ++ z)) (λ b. Ok (make a.0 b.0 b.1)) (numbers_grow last second (after a.0) a.1 z (omega arith))
-      (λ b end. (rw (made.next a.0 b.0 b.1, made.rest a.0 b.0 b.1) (omega arith), rw (made.more a.0 b.0 b.1 z) refl))
-      (λ b here. rw (made.next a.0 b.0 b.1) (omega arith))
+-- what follows a part is read
+pub reads_rest : {X Y : Type 0} (p : Part X) (line : ℕ) (q : Part Y) (read : X → List ℕ → Result Y BadText) → ((x : X) → Reads line q (read x))
+    → ((x : X) (z : List ℕ) → read x (p.rest x ++ z) ≡ read (p.more z x) (p.rest (p.more z x))) → ReadsOn p line q (λ x. read x (p.rest x))
+reads_rest p line q read reads same = record {
+  grows = λ last x z e. subst (λ s. Grows q last z (read x (p.rest x)) s) (same x z) ((reads x).grows last (p.rest x) z e);
+  later = λ last x here. (reads x).later last (p.rest x) here;
+}
 
-  second_later : (last : ℕ) (a : List ℕ × List ℕ) → last ≤ line + 1 → Reaches q last (second_line a)
-  second_later last a here =
-      let n = next a.0 in
-      reaches_then (one_and ((after a.0).line + 1)) q last (numbers_at second (after a.0) a.1) (λ b. Ok (make a.0 b.0 b.1)) (numbers_later last second (after a.0) a.1 (omega arith))
-      (λ b more. rw (made.next a.0 b.0 b.1) (omega arith))
+-- and something is made of it
+pub reads_made : {X Y Z : Type 0} (p : Part X) (line : ℕ) (m : Part Y) (q : Part Z) (read : X → Result Y BadText) (make : X → Y → Z) → ReadsOn p line m read
+    → ((x : X) (y : Y) → q.next (make x y) ≡ m.next y) → ((x : X) (y : Y) → q.rest (make x y) ≡ m.rest y) → ((x : X) (y : Y) (z : List ℕ) → make (p.more z x) (m.more z y) ≡ q.more z (make x y))
+    → ReadsOn p line q (λ x. read x >>= λ y. Ok (make x y))
+reads_made p line m q read make reads next rest more = record {
+  grows = λ last x z e. grows_by m q last z (read x) (read (p.more z x)) (λ y. Ok (make x y)) (λ y. Ok (make (p.more z x) y)) (reads.grows last x z e)
+      (λ y is end. (rw (next x y, rest x y) end, ap (λ v. Ok v) (more x y z)))
+      (λ y here. rw (next (p.more z x) y) here);
+  later = λ last x here. reaches_then m q last (read x) (λ y. Ok (make x y)) (reads.later last x here) (λ y before. rw (next x y) before);
+}
 
-  two_grow : (last : ℕ) (bytes z : List ℕ) → line + lines_in bytes ≡ last → Grows q last z (numbers_at first p bytes >>= second_line) (numbers_at first p (bytes ++ z) >>= second_line)
-  two_grow last bytes z e =
-      grows_then (one_and (p.line + 1)) q last z (numbers_at first p bytes) (numbers_at first p (bytes ++ z)) second_line (numbers_grow last first p bytes z (omega arith))
-      (λ a end. second_grows last a z (omega arith))
-      (λ a here. second_later last a (omega arith))
+-- one reader after another, which sees of the part before both only what more bytes leave as it is
+pub reads_then : {X Y Z : Type 0} (p : Part X) (line : ℕ) (m : Part Y) (next : ℕ) (q : Part Z) (first : X → Result Y BadText) (second : X → Y → Result Z BadText) → ReadsOn p line m first → ((x : X) → ReadsOn m next q (second x))
+    → ((y : Y) → m.next y ≡ next) → ((x : X) (z : List ℕ) → second x ≡ second (p.more z x)) → ReadsOn p line q (λ x. first x >>= second x)
+reads_then p line m next q first second one two there same = record {
+  grows = λ last x z e. grows_by m q last z (first x) (first (p.more z x)) (second x) (second (p.more z x)) (one.grows last x z e)
+      (λ y is end. let n = there y in subst (λ (s : _ → Result _ BadText). Grows q last z (second x y) (s (m.more z y))) (same x z) ((two x).grows last y z (omega (arith, end, n))))
+      (λ y here. let n = there y in (two (p.more z x)).later last y (omega (arith, here, n)));
+  later = λ last x here. reaches_then m q last (first x) (second x) (one.later last x here) (λ y before. let n = there y in (two x).later last y (omega (arith, before, n)));
+}
 
-  two_later : (last : ℕ) (bytes : List ℕ) → last ≤ line → Reaches q last (numbers_at first p bytes >>= second_line)
-  two_later last bytes here =
-      reaches_then (one_and (p.line + 1)) q last (numbers_at first p bytes) second_line (numbers_later last first p bytes (omega arith))
-      (λ a more. second_later last a (omega arith))
+-- ---- lines of numbers
 
-abbrev scale_made : (line : ℕ) → IsMade (two_and (line + 2)) (λ a b r. (slice_index a 0, slice_index b 0, r)) (line + 2)
-scale_made line = record { next = λ a b r. refl; rest = λ a b r. refl; more = λ a b r z. refl }
+numbers_read : (key : List ℕ) (place : NumberLine) → Reads place.line (one_and (place.line + 1)) (numbers_at key place)
+numbers_read key place = record { grows = λ last bytes z e. numbers_grow last key place bytes z e; later = λ last bytes here. numbers_later last key place bytes here }
 
-abbrev pair_made : (line : ℕ) → IsMade (two_and (line + 2)) (λ a b r. (a, b, r)) (line + 2)
-pair_made line = record { next = λ a b r. refl; rest = λ a b r. refl; more = λ a b r z. refl }
+-- two such lines, with something of the numbers of each
+two_read : {A B : Type 0} (f : List ℕ → A) (g : List ℕ → B) (line : ℕ) (one : List ℕ → Result (List ℕ × List ℕ) BadText) (two : List ℕ → List ℕ → Result (List ℕ × List ℕ) BadText) → Reads line (one_and (line + 1)) one
+    → ((a : List ℕ) → Reads (line + 1) (one_and (line + 1 + 1)) (two a)) → Reads line (two_and (line + 2)) (λ bytes. one bytes >>= λ a. two a.0 a.1 >>= λ b. Ok (f a.0, g b.0, b.1))
+two_read f g line one two first second =
+    reads_then (after_line line) line (one_and (line + 1)) (line + 1) (two_and (line + 2)) one (λ bytes a. two a.0 a.1 >>= λ b. Ok (f a.0, g b.0, b.1)) first
+    (λ bytes. reads_made (one_and (line + 1)) (line + 1) (one_and (line + 1 + 1)) (two_and (line + 2)) (λ a. two a.0 a.1) (λ a b. (f a.0, g b.0, b.1))
+    (reads_rest (one_and (line + 1)) (line + 1) (one_and (line + 1 + 1)) (λ a. two a.0) (λ a. second a.0) (λ a z. refl)) (λ a b. omega arith) (λ a b. refl) (λ a b z. refl))
+    (λ a. refl) (λ bytes z. refl)
 
-scale_grows : (last line : ℕ) (bytes z : List ℕ) → line + lines_in bytes ≡ last → Grows (two_and (line + 2)) last z (scale_at line bytes) (scale_at line (bytes ++ z))
+scale_read : (line : ℕ) → Reads line (two_and (line + 2)) (scale_at line)
 unfolding scale_at
-scale_grows last line bytes z e = two_grow (two_and (line + 2)) (λ a b r. (slice_index a 0, slice_index b 0, r)) line (scale_made line) grid_key unit_key (place_of line 1 1) (λ a. place_of (line + 1) 1 2) refl (λ a. refl) last bytes z e
+scale_read line = two_read (λ a. slice_index a 0) (λ b. slice_index b 0) line (numbers_at grid_key (place_of line 1 1)) (λ a. numbers_at unit_key (place_of (line + 1) 1 2)) (numbers_read grid_key (place_of line 1 1)) (λ a. numbers_read unit_key (place_of (line + 1) 1 2))
 
-scale_later : (last line : ℕ) (bytes : List ℕ) → last ≤ line → Reaches (two_and (line + 2)) last (scale_at line bytes)
-unfolding scale_at
-scale_later last line bytes here = two_later (two_and (line + 2)) (λ a b r. (slice_index a 0, slice_index b 0, r)) line (scale_made line) grid_key unit_key (place_of line 1 1) (λ a. place_of (line + 1) 1 2) refl (λ a. refl) last bytes here
-
-signals_grow : (last line : ℕ) (bytes z : List ℕ) → line + lines_in bytes ≡ last → Grows (two_and (line + 2)) last z (signals_at line bytes) (signals_at line (bytes ++ z))
+signals_read : (line : ℕ) → Reads line (two_and (line + 2)) (signals_at line)
 unfolding signals_at
-signals_grow last line bytes z e = two_grow (two_and (line + 2)) (λ a b r. (a, b, r)) line (pair_made line) pattern_key red_key (pattern_place line) (λ a. place_of (line + 1) (length a) 0) refl (λ a. refl) last bytes z e
+signals_read line =
+    two_read (λ a. a) (λ b. b) line (numbers_at pattern_key (pattern_place line)) (λ a. numbers_at red_key (place_of (line + 1) (length a) 0)) (numbers_read pattern_key (pattern_place line)) (λ a. numbers_read red_key (place_of (line + 1) (length a) 0))
 
-signals_later : (last line : ℕ) (bytes : List ℕ) → last ≤ line → Reaches (two_and (line + 2)) last (signals_at line bytes)
-unfolding signals_at
-signals_later last line bytes here = two_later (two_and (line + 2)) (λ a b r. (a, b, r)) line (pair_made line) pattern_key red_key (pattern_place line) (λ a. place_of (line + 1) (length a) 0) refl (λ a. refl) last bytes here
-
-pub ways_grow : (out_key in_key : List ℕ) (last line links : ℕ) (bytes z : List ℕ) → line + lines_in bytes ≡ last → Grows (two_and (line + 2)) last z (both_ways_at out_key in_key line links bytes) (both_ways_at out_key in_key line links (bytes ++ z))
+pub ways_read : (out_key in_key : List ℕ) (line links : ℕ) → Reads line (two_and (line + 2)) (both_ways_at out_key in_key line links)
 unfolding both_ways_at
-ways_grow out_key in_key last line links bytes z e = two_grow (two_and (line + 2)) (λ a b r. (a, b, r)) line (pair_made line) out_key in_key (place_of line links 0) (λ a. place_of (line + 1) links 0) refl (λ a. refl) last bytes z e
+ways_read out_key in_key line links = two_read (λ a. a) (λ b. b) line (numbers_at out_key (place_of line links 0)) (λ a. numbers_at in_key (place_of (line + 1) links 0)) (numbers_read out_key (place_of line links 0)) (λ a. numbers_read in_key (place_of (line + 1) links 0))
 
-pub ways_later : (out_key in_key : List ℕ) (last line links : ℕ) (bytes : List ℕ) → last ≤ line → Reaches (two_and (line + 2)) last (both_ways_at out_key in_key line links bytes)
-unfolding both_ways_at
-ways_later out_key in_key last line links bytes here = two_later (two_and (line + 2)) (λ a b r. (a, b, r)) line (pair_made line) out_key in_key (place_of line links 0) (λ a. place_of (line + 1) links 0) refl (λ a. refl) last bytes here
-
-abbrev pair_of : List ℕ × List ℕ → Result (ℕ × ℕ × List ℕ) BadText
-pair_of a = Ok (slice_index a.0 0, slice_index a.0 1, a.1)
-
-pair_grows : (key : List ℕ) (last line : ℕ) (bytes z : List ℕ) → line + lines_in bytes ≡ last → Grows (two_and (line + 1)) last z (pair_at key line bytes) (pair_at key line (bytes ++ z))
+pair_read : (key : List ℕ) (line : ℕ) → Reads line (two_and (line + 1)) (pair_at key line)
 unfolding pair_at
-pair_grows key last line bytes z e =
-    grows_then (one_and (line + 1)) (two_and (line + 1)) last z (numbers_at key (place_of line 2 0) bytes) (numbers_at key (place_of line 2 0) (bytes ++ z)) pair_of (numbers_grow last key (place_of line 2 0) bytes z e) (λ a end. (end, refl)) (λ a here. here)
-
-pair_later : (key : List ℕ) (last line : ℕ) (bytes : List ℕ) → last ≤ line → Reaches (two_and (line + 1)) last (pair_at key line bytes)
-unfolding pair_at
-pair_later key last line bytes here =
-    reaches_then (one_and (line + 1)) (two_and (line + 1)) last (numbers_at key (place_of line 2 0) bytes) pair_of (numbers_later last key (place_of line 2 0) bytes here) (λ a more. more)
+pair_read key line =
+    reads_made (after_line line) line (one_and (line + 1)) (two_and (line + 1)) (numbers_at key (place_of line 2 0)) (λ bytes a. (slice_index a.0 0, slice_index a.0 1, a.1)) (numbers_read key (place_of line 2 0)) (λ x y. refl) (λ x y. refl) (λ x y z. refl)
 
 -- ---- the lines that speak of no band
 
@@ -110,75 +103,36 @@ from_runs line scale signals = both_ways_at run_out_key run_in_key (line + 4) (l
 abbrev from_signals : ℕ → Scale → Result (Unbanded × List ℕ) BadText
 from_signals line scale = signals_at (line + 2) scale.2 >>= from_runs line scale
 
-first_then : (last line : ℕ) (scale : Scale) (signals runs : Pair) (z : List ℕ) → line + 6 + lines_in runs.2 ≡ last → Grows (one_and (line + 7)) last z (from_first line scale signals runs) (from_first line scale signals (runs.0, runs.1, runs.2 ++ z))
-first_then last line scale signals runs z e =
-    grows_then (two_and (line + 6 + 1)) (one_and (line + 7)) last z (pair_at first_key (line + 6) runs.2) (pair_at first_key (line + 6) (runs.2 ++ z)) (λ first. Ok (base_is scale signals runs first)) (pair_grows first_key last (line + 6) runs.2 z e)
-    (λ f end. (omega arith, refl))
-    (λ f here. omega arith)
+first_read : (line : ℕ) (scale : Scale) (signals : Pair) → ReadsOn (two_and (line + 4 + 2)) (line + 6) (one_and (line + 7)) (from_first line scale signals)
+first_read line scale signals =
+    reads_made (two_and (line + 4 + 2)) (line + 6) (two_and (line + 6 + 1)) (one_and (line + 7)) (λ runs. pair_at first_key (line + 6) runs.2) (base_is scale signals)
+    (reads_rest (two_and (line + 4 + 2)) (line + 6) (two_and (line + 6 + 1)) (λ runs. pair_at first_key (line + 6)) (λ runs. pair_read first_key (line + 6)) (λ runs z. refl)) (λ runs f. omega arith) (λ runs f. refl) (λ runs f z. refl)
 
-first_then_later : (last line : ℕ) (scale : Scale) (signals runs : Pair) → last ≤ line + 6 → Reaches (one_and (line + 7)) last (from_first line scale signals runs)
-first_then_later last line scale signals runs here =
-    reaches_then (two_and (line + 6 + 1)) (one_and (line + 7)) last (pair_at first_key (line + 6) runs.2) (λ first. Ok (base_is scale signals runs first)) (pair_later first_key last (line + 6) runs.2 here) (λ f more. omega arith)
+runs_read : (line : ℕ) (scale : Scale) → ReadsOn (two_and (line + 2 + 2)) (line + 4) (one_and (line + 7)) (from_runs line scale)
+runs_read line scale =
+    let ways : Pair → List ℕ → Result Pair BadText = λ signals. both_ways_at run_out_key run_in_key (line + 4) (length signals.0 - 1) in
+    let read = reads_rest (two_and (line + 2 + 2)) (line + 4) (two_and (line + 4 + 2)) ways (λ signals. ways_read run_out_key run_in_key (line + 4) (length signals.0 - 1)) (λ signals z. refl) in
+    reads_then (two_and (line + 2 + 2)) (line + 4) (two_and (line + 4 + 2)) (line + 6) (one_and (line + 7)) (λ signals. ways signals signals.2) (from_first line scale) read (first_read line scale) (λ runs. omega arith) (λ signals z. refl)
 
-runs_then : (last line : ℕ) (scale : Scale) (signals : Pair) (z : List ℕ) → line + 4 + lines_in signals.2 ≡ last → Grows (one_and (line + 7)) last z (from_runs line scale signals) (from_runs line scale (signals.0, signals.1, signals.2 ++ z))
-runs_then last line scale signals z e =
-    grows_then (two_and (line + 4 + 2)) (one_and (line + 7)) last z (both_ways_at run_out_key run_in_key (line + 4) (length signals.0 - 1) signals.2) (both_ways_at run_out_key run_in_key (line + 4) (length signals.0 - 1) (signals.2 ++ z)) (from_first line scale signals) (ways_grow run_out_key run_in_key last (line + 4) (length signals.0 - 1) signals.2 z e)
-    (λ runs end. first_then last line scale signals runs z (omega arith))
-    (λ runs here. first_then_later last line scale signals runs (omega arith))
+later_read : (line : ℕ) → ReadsOn (two_and (line + 2)) (line + 2) (one_and (line + 7)) (from_signals line)
+later_read line =
+    reads_then (two_and (line + 2)) (line + 2) (two_and (line + 2 + 2)) (line + 4) (one_and (line + 7)) (λ scale. signals_at (line + 2) scale.2) (from_runs line)
+    (reads_rest (two_and (line + 2)) (line + 2) (two_and (line + 2 + 2)) (λ scale. signals_at (line + 2)) (λ scale. signals_read (line + 2)) (λ scale z. refl)) (runs_read line) (λ signals. omega arith) (λ scale z. refl)
 
-runs_then_later : (last line : ℕ) (scale : Scale) (signals : Pair) → last ≤ line + 4 → Reaches (one_and (line + 7)) last (from_runs line scale signals)
-runs_then_later last line scale signals here =
-    reaches_then (two_and (line + 4 + 2)) (one_and (line + 7)) last (both_ways_at run_out_key run_in_key (line + 4) (length signals.0 - 1) signals.2) (from_first line scale signals) (ways_later run_out_key run_in_key last (line + 4) (length signals.0 - 1) signals.2 here)
-    (λ runs more. first_then_later last line scale signals runs (omega arith))
-
-signals_then : (last line : ℕ) (scale : Scale) (z : List ℕ) → line + 2 + lines_in scale.2 ≡ last → Grows (one_and (line + 7)) last z (from_signals line scale) (from_signals line (scale.0, scale.1, scale.2 ++ z))
-signals_then last line scale z e =
-    grows_then (two_and (line + 2 + 2)) (one_and (line + 7)) last z (signals_at (line + 2) scale.2) (signals_at (line + 2) (scale.2 ++ z)) (from_runs line scale) (signals_grow last (line + 2) scale.2 z e)
-    (λ signals end. runs_then last line scale signals z (omega arith))
-    (λ signals here. runs_then_later last line scale signals (omega arith))
-
-signals_then_later : (last line : ℕ) (scale : Scale) → last ≤ line + 2 → Reaches (one_and (line + 7)) last (from_signals line scale)
-signals_then_later last line scale here =
-    reaches_then (two_and (line + 2 + 2)) (one_and (line + 7)) last (signals_at (line + 2) scale.2) (from_runs line scale) (signals_later last (line + 2) scale.2 here)
-    (λ signals more. runs_then_later last line scale signals (omega arith))
-
-pub base_grows : (last line : ℕ) (bytes z : List ℕ) → line + lines_in bytes ≡ last → Grows (one_and (line + 7)) last z (base_at line bytes) (base_at line (bytes ++ z))
+pub base_read : (line : ℕ) → Reads line (one_and (line + 7)) (base_at line)
 unfolding base_at
-base_grows last line bytes z e =
-    grows_then (two_and (line + 2)) (one_and (line + 7)) last z (scale_at line bytes) (scale_at line (bytes ++ z)) (from_signals line) (scale_grows last line bytes z e)
-    (λ scale end. signals_then last line scale z end)
-    (λ scale here. signals_then_later last line scale (omega arith))
-
-pub base_later : (last line : ℕ) (bytes : List ℕ) → last ≤ line → Reaches (one_and (line + 7)) last (base_at line bytes)
-unfolding base_at
-base_later last line bytes here =
-    reaches_then (two_and (line + 2)) (one_and (line + 7)) last (scale_at line bytes) (from_signals line) (scale_later last line bytes here)
-    (λ scale more. signals_then_later last line scale (omega arith))
+base_read line = reads_then (after_line line) line (two_and (line + 2)) (line + 2) (one_and (line + 7)) (scale_at line) (λ bytes. from_signals line) (scale_read line) (λ bytes. later_read line) (λ scale. refl) (λ bytes z. refl)
 
 -- ---- the eight lines
 
 abbrev band_then : ℕ → Unbanded × List ℕ → Result (TimingRecord × List ℕ) BadText
 band_then line base = pair_at band_key (line + 7) base.1 >>= λ band. Ok (base.0 band.0 band.1, band.2)
 
-band_grows : (last line : ℕ) (base : Unbanded × List ℕ) (z : List ℕ) → line + 7 + lines_in base.1 ≡ last → Grows (one_and (line + 8)) last z (band_then line base) (band_then line (base.0, base.1 ++ z))
-band_grows last line base z e =
-    grows_then (two_and (line + 7 + 1)) (one_and (line + 8)) last z (pair_at band_key (line + 7) base.1) (pair_at band_key (line + 7) (base.1 ++ z)) (λ band. Ok (base.0 band.0 band.1, band.2)) (pair_grows band_key last (line + 7) base.1 z e)
-    (λ b end. (omega arith, refl))
-    (λ b here. omega arith)
+band_read : (line : ℕ) → ReadsOn (one_and (line + 7)) (line + 7) (one_and (line + 8)) (band_then line)
+band_read line =
+    reads_made (one_and (line + 7)) (line + 7) (two_and (line + 7 + 1)) (one_and (line + 8)) (λ base. pair_at band_key (line + 7) base.1) (λ base band. (base.0 band.0 band.1, band.2))
+    (reads_rest (one_and (line + 7)) (line + 7) (two_and (line + 7 + 1)) (λ base. pair_at band_key (line + 7)) (λ base. pair_read band_key (line + 7)) (λ base z. refl)) (λ base band. omega arith) (λ base band. refl) (λ base band z. refl)
 
-band_later : (last line : ℕ) (base : Unbanded × List ℕ) → last ≤ line + 7 → Reaches (one_and (line + 8)) last (band_then line base)
-band_later last line base here =
-    reaches_then (two_and (line + 7 + 1)) (one_and (line + 8)) last (pair_at band_key (line + 7) base.1) (λ band. Ok (base.0 band.0 band.1, band.2)) (pair_later band_key last (line + 7) base.1 here) (λ b more. omega arith)
-
-pub plan_grows : (last line : ℕ) (bytes z : List ℕ) → line + lines_in bytes ≡ last → Grows (one_and (line + 8)) last z (plan_at line bytes) (plan_at line (bytes ++ z))
+pub plan_read : (line : ℕ) → Reads line (one_and (line + 8)) (plan_at line)
 unfolding plan_at
-plan_grows last line bytes z e =
-    grows_then (one_and (line + 7)) (one_and (line + 8)) last z (base_at line bytes) (base_at line (bytes ++ z)) (band_then line) (base_grows last line bytes z e)
-    (λ base end. band_grows last line base z end)
-    (λ base here. band_later last line base (omega arith))
-
-pub plan_later : (last line : ℕ) (bytes : List ℕ) → last ≤ line → Reaches (one_and (line + 8)) last (plan_at line bytes)
-unfolding plan_at
-plan_later last line bytes here =
-    reaches_then (one_and (line + 7)) (one_and (line + 8)) last (base_at line bytes) (band_then line) (base_later last line bytes here)
-    (λ base more. band_later last line base (omega arith))
+plan_read line = reads_then (after_line line) line (one_and (line + 7)) (line + 7) (one_and (line + 8)) (base_at line) (λ bytes. band_then line) (base_read line) (λ bytes. band_read line) (λ base. refl) (λ bytes z. refl)

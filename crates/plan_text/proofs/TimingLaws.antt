@@ -1,12 +1,11 @@
 -- What holds of the text of a kind of timing, and gives certificates of that kind the laws of their texts.
-use Rattle.std.proofs.Common.{◌≡◌, ℕ, ◌+◌, ◌≤◌, List, ◌++◌, Ok}
+use Rattle.std.proofs.Common.{◌≡◌, ℕ, ◌+◌, List, Ok}
 use Rattle.plan_text.specs.TimingTexts.{TimingText, one_band}
-use Rattle.plan_text.specs.FirstBad.{lines_in}
 use Rattle.plan_text.proofs.WordLines.{ended_and}
 use Rattle.plan_text.proofs.TextLaws.{IsTextOf}
 use Rattle.plan_text.proofs.Timings.{plan_takes, plan_again}
-use Rattle.plan_text.proofs.Grown.{Grows, Reaches, one_and}
-use Rattle.plan_text.proofs.GrownTimings.{plan_grows, plan_later}
+use Rattle.plan_text.proofs.Grown.{one_and}
+use Rattle.plan_text.proofs.GrownTimings.{Reads, plan_read}
 
 pub record TimingLaws {T : Type 0} (text : TimingText T) : Type 0 where
   -- what is read is spelled so, and the program can hold it
@@ -14,8 +13,7 @@ pub record TimingLaws {T : Type 0} (text : TimingText T) : Type 0 where
   -- what is spelled so is read
   pub again : (line : ℕ) (t : T) (rest : List ℕ) → text.IsHeld t → text.read line (ended_and (text.lines t) rest) ≡ Ok (t, rest)
   -- and the same with more bytes
-  pub grows : (last line : ℕ) (bytes z : List ℕ) → line + lines_in bytes ≡ last → Grows (one_and (line + text.height)) last z (text.read line bytes) (text.read line (bytes ++ z))
-  pub later : (last line : ℕ) (bytes : List ℕ) → last ≤ line → Reaches (one_and (line + text.height)) last (text.read line bytes)
+  pub reads : (line : ℕ) → Reads line (one_and (line + text.height)) (text.read line)
 
 pub one_band_laws : TimingLaws one_band
-one_band_laws = record { takes = plan_takes; again = plan_again; grows = plan_grows; later = plan_later }
+one_band_laws = record { takes = plan_takes; again = plan_again; reads = plan_read }

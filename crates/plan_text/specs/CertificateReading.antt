@@ -215,12 +215,22 @@ nodes_at names (suc steps) (suc others) line bytes = do
 abbrev pub Beginning : Type 0 → Type 0
 Beginning T = Claim × Option T × ℕ × List ℕ
 
+-- of a timing with this value, beside a bound or best without one
+abbrev pub claim_with : Option ℚ → ℚ → Claim
+claim_with None value = Best value
+claim_with (Some bound) value = Stopped bound (Some value)
+
+-- the value in the words of a line, and its timing in the lines after it
+abbrev pub valued_at : {T : Type 0} → TimingText T → Option ℚ → ℕ → List (List ℕ) → List ℕ → Result (Beginning T) BadText
+valued_at text bound line ws bytes = do
+  value ← fraction_of value_key line ws
+  timing ← text.read (line + 1) bytes
+  Ok (claim_with bound value, Some timing.0, line + 1 + text.height, timing.1)
+
 unfoldable pub best_at : {T : Type 0} → TimingText T → List ℕ → Result (Beginning T) BadText
 best_at text bytes = do
   l ← words_at 3 bytes
-  value ← fraction_of value_key 3 l.0
-  timing ← text.read 4 l.1
-  Ok (Best value, Some timing.0, 4 + text.height, timing.1)
+  valued_at text None 3 l.0 l.1
 
 -- the fourth line begins with `value`, or it is `no timing`
 abbrev pub begins_with : List ℕ → List (List ℕ) → Bool
@@ -228,10 +238,7 @@ begins_with key [] = false
 begins_with key (w ∷ ws) = is_text w key
 
 unfoldable pub found_at : {T : Type 0} → TimingText T → ℚ → List (List ℕ) → List ℕ → Result (Beginning T) BadText
-found_at text bound ws bytes = do
-  value ← fraction_of value_key 4 ws
-  timing ← text.read 5 bytes
-  Ok (Stopped bound (Some value), Some timing.0, 5 + text.height, timing.1)
+found_at text bound ws bytes = valued_at text (Some bound) 4 ws bytes
 
 unfoldable pub missing_at : {T : Type 0} → ℚ → List ℕ → Result (Beginning T) BadText
 missing_at bound bytes = do

@@ -3,7 +3,7 @@
 ghost use Rattle.std.specs.Prelude.{◌≡◌, ◌≤◌, map, IfOk};
 ghost use Rattle.plan_text.specs.Lines.{Gives};
 ghost use Rattle.plan_text.specs.Warrants.{warrant_of};
-ghost use Rattle.plan_text.specs.CertificateReading.{begins_with, best_at, found_at, missing_at, open_at, verdict_of, claim_at};
+ghost use Rattle.plan_text.specs.CertificateReading.{begins_with, claim_with, valued_at, missing_at, open_at, verdict_of, claim_at};
 
 use crate::certificate::{CertNode, Claim};
 use crate::fault::{TextEnd, TextFault};
@@ -43,19 +43,37 @@ impl<T: Drop> Beginning<'_, T> {
     }
 }
 
-/// What follows `verdict best`.
-#[tactic(auto, unfolding(crate::specs::CertificateReading::best_at))]
-fn best_at<K: TimingKind>(alloc: Global, bytes: &[u8]) -> Result<Beginning<'_, K::Timing>, TextEnd>
-    ensures exact { Gives (λ x. (x.claim, x.timing, x.line, x.rest.now)) result (best_at K.text bytes.now) }
+/// The claim of a timing with this value, beside a bound or best without one.
+fn claim_with(bound: Option<Frac>, value: Frac) -> Claim
+    ensures { result ≡ claim_with bound value }
+{
+    match bound {
+        None => Claim::Best { value },
+        Some(bound) => Claim::Stopped {
+            bound,
+            value: Some(value),
+        },
+    }
+}
+
+/// The value in the words of this line, and its timing in the lines after it.
+fn valued_at<'a, K: TimingKind>(
+    alloc: Global,
+    bound: Option<Frac>,
+    line: u64,
+    words: &[&[u8]],
+    bytes: &'a [u8],
+) -> Result<Beginning<'a, K::Timing>, TextEnd>
+    requires { line ≤ 4 }
+    ensures exact { Gives (λ x. (x.claim, x.timing, x.line, x.rest.now)) result (valued_at K.text bound line (map (λ w. w.now) words.now) bytes.now) }
     ensures line { IfOk result (λ x. x.line ≤ 21) }
 {
-    let (words, rest) = words_at(alloc, 3, bytes)?;
-    let value = fraction_of(b"value", 3, words.as_slice())?;
-    let (timing, rest) = K::timing_at(alloc, 4, rest)?;
+    let value = fraction_of(b"value", line, words)?;
+    let (timing, rest) = K::timing_at(alloc, line + 1, bytes)?;
     Ok(Beginning {
-        claim: Claim::Best { value },
+        claim: claim_with(bound, value),
         timing: Some(timing),
-        line: 4 + K::height(),
+        line: line + 1 + K::height(),
         rest,
     })
 }
@@ -67,28 +85,6 @@ fn begins_with(key: &[u8], words: &[&[u8]]) -> bool
         [] => false,
         [first, ..] => *first == key,
     }
-}
-
-/// What follows the bound where a timing was found.
-#[tactic(auto, unfolding(crate::specs::CertificateReading::found_at))]
-fn found_at<'a, K: TimingKind>(
-    alloc: Global,
-    bound: Frac,
-    words: &[&[u8]],
-    bytes: &'a [u8],
-) -> Result<Beginning<'a, K::Timing>, TextEnd>
-    ensures exact { Gives (λ x. (x.claim, x.timing, x.line, x.rest.now)) result (found_at K.text bound (map (λ w. w.now) words.now) bytes.now) }
-    ensures line { IfOk result (λ x. x.line ≤ 21) }
-{
-    let value = fraction_of(b"value", 4, words)?;
-    let (timing, rest) = K::timing_at(alloc, 5, bytes)?;
-    let value = Some(value);
-    Ok(Beginning {
-        claim: Claim::Stopped { bound, value },
-        timing: Some(timing),
-        line: 5 + K::height(),
-        rest,
-    })
 }
 
 /// What follows the bound where none was found.
@@ -108,7 +104,7 @@ fn missing_at<K: TimingKind>(bound: Frac, bytes: &[u8]) -> Result<Beginning<'_, 
 }
 
 /// What follows `verdict open`.
-#[tactic(auto, unfolding(crate::specs::CertificateReading::open_at))]
+#[tactic(auto, unfolding(crate::specs::CertificateReading::open_at, crate::specs::CertificateReading::found_at))]
 fn open_at<K: TimingKind>(alloc: Global, bytes: &[u8]) -> Result<Beginning<'_, K::Timing>, TextEnd>
     ensures exact { Gives (λ x. (x.claim, x.timing, x.line, x.rest.now)) result (open_at K.text bytes.now) }
     ensures line { IfOk result (λ x. x.line ≤ 21) }
@@ -117,14 +113,14 @@ fn open_at<K: TimingKind>(alloc: Global, bytes: &[u8]) -> Result<Beginning<'_, K
     let bound = fraction_of(b"bound", 3, words.as_slice())?;
     let (words, after) = words_at(alloc, 4, rest)?;
     if begins_with(b"value", words.as_slice()) {
-        found_at::<K>(alloc, bound, words.as_slice(), after)
+        valued_at::<K>(alloc, Some(bound), 4, words.as_slice(), after)
     } else {
         missing_at::<K>(bound, rest)
     }
 }
 
 /// What follows the verdict.
-#[tactic(auto, unfolding(crate::specs::CertificateReading::verdict_of))]
+#[tactic(auto, unfolding(crate::specs::CertificateReading::verdict_of, crate::specs::CertificateReading::best_at))]
 fn verdict_of<'a, K: TimingKind>(
     alloc: Global,
     verdict: &[u8],
@@ -134,7 +130,8 @@ fn verdict_of<'a, K: TimingKind>(
     ensures line { IfOk result (λ x. x.line ≤ 21) }
 {
     if verdict == b"verdict best".as_slice() {
-        best_at::<K>(alloc, bytes)
+        let (words, rest) = words_at(alloc, 3, bytes)?;
+        valued_at::<K>(alloc, None, 3, words.as_slice(), rest)
     } else if verdict == b"verdict none".as_slice() {
         Ok(Beginning {
             claim: Claim::NoTiming,

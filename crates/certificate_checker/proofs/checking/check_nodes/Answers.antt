@@ -1,27 +1,18 @@
-use Rattle.std.proofs.Common.{length, map, option_map, ◌∙◌, ap}
-use Rattle.std.proofs.lemmas.Result.{err_from_is_err_and}
-use Rattle.linear_theory.specs.Rows.{goal_form}
+use Rattle.std.proofs.Common.{None, OnOk, length, map, sym, subst, ◌≡◌, ◌∙◌, ap}
+use Rattle.std.specs.Prelude.{IfErr}
 use Rattle.named_row.specs.Sheets.{Sheet}
-use Rattle.loop_rows.proofs.Writing.{written_width}
 use Rattle.plan_text.specs.Warrants.{node_of}
-use Rattle.certificate_checker.specs.Checked.{reject_from}
-use Rattle.certificate_checker.specs.Refusals.{one_band}
-use Rattle.certificate_checker.proofs.NodeRefusals.{first_from, tree_moved, same_tree}
+use Rattle.certificate_checker.specs.TreeRefusals.{IsFirst}
+use Rattle.certificate_checker.proofs.NodeRefusals.{same_tree}
 use Rattle.certificate_checker.proofs.checking.check_nodes.Goals as goal
 
 pub check_tree-requires-clause-width : goal.check_tree-requires-clause-width
-check_tree-requires-clause-width c = λ box. ap (λ (r : Sheet). length r.coefs) c.requires.goal ∙ written_width c.args.artery.now (goal_form c.args.artery.now)
+check_tree-requires-clause-width g c = λ box. ap (λ (r : Sheet). length r.coefs) c.in_ok-goal.ensures ∙ c.in_ok-root.ensures.width box
 
-pub returns-in_err-check_tree-clause-first : goal.returns-in_err-check_tree-clause-first
-returns-in_err-check_tree-clause-first c =
-    let p = err_from_is_err_and c.from_residual-in_err-check_tree.result c.from_residual-in_err-check_tree.ensures.1 in
-    rw (p.1, p.2)
-    (first_from _ _ _ (tree_moved _ _ _
-    (same_tree (one_band c.args.artery.now) c.args.aim.now c.in_ok-root.root (map node_of c.args.nodes.now) c.requires.goal c.in_ok-root.ensures.value)
-    c.in_err-check_tree.ensures.first))
-
-pub returns-clause-none : goal.returns-clause-none
-returns-clause-none c =
-    ap (option_map reject_from)
-    (same_tree (one_band c.args.artery.now) c.args.aim.now c.in_ok-root.root (map node_of c.args.nodes.now) c.requires.goal c.in_ok-root.ensures.value
-    ∙ c.in_ok-check_tree.ensures.none)
+pub returns : goal.returns
+returns g c =
+    let same = sym (same_tree (g.K.CheckedKind.kind c.args.kind.now) c.args.limit c.in_ok-goal.goal c.in_ok-root.root (map node_of c.args.nodes.now) c.in_ok-goal.ensures c.in_ok-root.ensures.root) in
+    record {
+      none = subst (λ o. OnOk c.check_tree.result (o ≡ None)) same c.check_tree.ensures.none;
+      first = subst (λ o. IfErr c.check_tree.result (λ r. IsFirst o r)) same c.check_tree.ensures.first;
+    }

@@ -1,31 +1,15 @@
-use Rattle.std.proofs.Common.{inr, map}
-use Rattle.std.proofs.lemmas.Result.{err_from_is_err_and, on_ok_weaker}
-use Rattle.narrow_fraction.proofs.Attempt.{attempt_ok, attempt_err}
-use Rattle.plan_text.specs.Warrants.{node_of}
-use Rattle.certificate_checker.proofs.Acceptance.{numbers_first, checked}
+use Rattle.std.proofs.lemmas.Result.{on_ok_weaker}
+use Rattle.plan_text.specs.Warrants.{warrant_of}
+use Rattle.search_box.proofs.Streets.{street_of}
 use Rattle.link_proof.specs.LinkWarrants.{LinkWarrant}
-use Rattle.link_proof.specs.LinkAccepted.{of_links, IsLinkAccepted}
+use Rattle.link_proof.specs.LinkAccepted.{IsLinkAccepted}
 use Rattle.link_proof.proofs.LinkMeaning.{links_accepted_holds}
 use Rattle.link_proof.proofs.checking.link_check.Goals as goal
 
-pub returns-in_err-check_numbers-clause-first : goal.returns-in_err-check_numbers-clause-first
-returns-in_err-check_numbers-clause-first c =
-    let p = err_from_is_err_and c.from_residual-in_err-check_numbers.result c.from_residual-in_err-check_numbers.ensures.1 in
-    let w : LinkWarrant = record { claim = c.certificate.inside.claim; timing = c.certificate.inside.timing; nodes = map node_of c.certificate.inside.nodes.items } in
-    let some = attempt_err _ _ _ c.in_err-check_numbers.ensures in
-    rw (p.1, p.2, ← c.certificate.view_is) (inr (c.in_ok-check_timing.ensures.good, numbers_first (of_links c.args.artery.now) w _ some))
-
--- the certificate's nodes are refused exactly where the certificate is
 pub returns : goal.returns
 returns c =
-    let a = c.args.artery.now in
-    let w : LinkWarrant = record { claim = c.certificate.inside.claim; timing = c.certificate.inside.timing; nodes = map node_of c.certificate.inside.nodes.items } in
-    let none = rw (c.limit_of.ensures, c.as_slice.ensures.value) at c.check_nodes.ensures.none in
-    let first = rw (c.limit_of.ensures, c.as_slice.ensures.value) at c.check_nodes.ensures.first in
-    let said = checked (of_links a) w c.certificate.invariant c.in_ok-check_timing.ensures.good (attempt_ok _ _ _ c.in_ok-check_numbers.ensures).0 c.check_nodes.result none first in
+    let w : LinkWarrant = warrant_of c.certificate.inside.claim c.certificate.inside.timing c.certificate.inside.nodes.items in
+    let said = rw c.as_slice-nodes.ensures.value at c.check_parts.ensures in
+    let street = street_of c.args.artery.now c.known_valid.ensures in
     rw (← c.certificate.view_is)
-    (record {
-      accepted = said.0;
-      holds = on_ok_weaker c.check_nodes.result (λ (h : IsLinkAccepted a w). links_accepted_holds a w c.check_nodes.ensures.street h) said.0;
-      first = said.1;
-    })
+    (record { accepted = said.accepted; holds = on_ok_weaker c.check_parts.result (λ (h : IsLinkAccepted c.args.artery.now w). links_accepted_holds c.args.artery.now w street h) said.accepted; first = said.first })

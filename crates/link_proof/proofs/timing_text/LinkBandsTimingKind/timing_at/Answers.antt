@@ -3,7 +3,7 @@ use Rattle.plan_text.specs.Reading.{both_ways_at}
 use Rattle.plan_text.proofs.Timings.{base_fits}
 use Rattle.link_proof.specs.LinkTimingTexts.{half_out_key, half_in_key}
 use Rattle.link_proof.proofs.LinkTimings.{link_fits}
-use Rattle.link_proof.proofs.timing_text.link_plan_at.Goals as goal
+use Rattle.link_proof.proofs.timing_text.LinkBandsTimingKind.timing_at.Goals as goal
 
 pub overflow_sub-links : goal.overflow_sub-links
 overflow_sub-links c =
