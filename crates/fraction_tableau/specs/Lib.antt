@@ -3,6 +3,7 @@ pub mod KeptCells
 pub mod Marks
 pub mod Scales
 pub mod Refusals
+pub mod RowChanges
 pub mod NamedTableaus
 pub mod Loading
 pub mod Operations

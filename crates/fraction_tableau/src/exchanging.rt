@@ -6,6 +6,7 @@ ghost use Rattle.simplex_theory.specs.Lines.{turned, cleared};
 ghost use Rattle.narrow_fraction.specs.Attempt.{attempt, first_below};
 ghost use Rattle.fraction_tableau.specs.Narrow.{IsNarrow, AreNarrow};
 ghost use Rattle.fraction_tableau.specs.Refusals.{clear_refusal, row_refusal, pivot_refusal, exchanged_rows};
+ghost use Rattle.fraction_tableau.specs.RowChanges.{IsPivoted, Clears};
 ghost use Rattle.fraction_tableau.specs.KeptCells.{number_in};
 
 use crate::fractions::Elimination;
@@ -48,10 +49,7 @@ fn clear_one(
     requires few { length sparse_rows.old < 2 ^ 32 }
     requires width { length (get_or sparse_rows.old index []) ≡ length turned.now }
     requires room { length room.old ≡ length turned.now }
-    requires place { pivot.now.place + 1 < length turned.now }
-    requires pivot { pivot.now.cell ≡ whole (pos 0) → ⊥ }
-    requires own { number_in turned.now pivot.now.place ≡ inverse_ℚ pivot.now.cell }
-    requires short { length turned.now < 2 ^ 32 }
+    requires pivot { IsPivoted turned.now pivot.now.place pivot.now.cell }
     requires narrow { AreNarrow sparse_rows.old }
     ensures outcome { result ≡ attempt (row_refusal pivot.now.row pivot.now.place turned.now pivot.now.cell sparse_rows.old index) tt }
     ensures kept { (k : ℕ) → length (get_or sparse_rows.new k []) ≡ length (get_or sparse_rows.old k []) }
@@ -89,10 +87,7 @@ fn clear_others(
     requires few { length sparse_rows.old < 2 ^ 32 }
     requires widths { (i : ℕ) → i < length sparse_rows.old → length (get_or sparse_rows.old i []) ≡ length turned.now }
     requires room { length room.old ≡ length turned.now }
-    requires place { pivot.now.place + 1 < length turned.now }
-    requires pivot { pivot.now.cell ≡ whole (pos 0) → ⊥ }
-    requires own { number_in turned.now pivot.now.place ≡ inverse_ℚ pivot.now.cell }
-    requires short { length turned.now < 2 ^ 32 }
+    requires pivot { IsPivoted turned.now pivot.now.place pivot.now.cell }
     requires narrow { AreNarrow sparse_rows.old }
     ensures outcome { result ≡ attempt (first_below (row_refusal pivot.now.row pivot.now.place turned.now pivot.now.cell sparse_rows.old) (length sparse_rows.old)) tt }
     ensures kept { (k : ℕ) → length (get_or sparse_rows.new k []) ≡ length (get_or sparse_rows.old k []) }
@@ -121,15 +116,9 @@ fn clear_goal(
 ) -> Result<(), WideCell>
     requires width { length goal.now ≡ length turned.now }
     requires spare { length spare.old ≡ length turned.now }
-    requires place { pivot.now.place + 1 < length turned.now }
-    requires pivot { pivot.now.cell ≡ whole (pos 0) → ⊥ }
-    requires own { number_in turned.now pivot.now.place ≡ inverse_ℚ pivot.now.cell }
-    requires short { length turned.now < 2 ^ 32 }
+    requires pivot { IsPivoted turned.now pivot.now.place pivot.now.cell }
     requires narrow { IsNarrow goal.now }
-    ensures outcome { result ≡ attempt (clear_refusal number pivot.now.place turned.now goal.now pivot.now.cell) tt }
-    ensures cleared { IfOk result (λ _. spare.new ≡ cleared pivot.now.place turned.now goal.now) }
-    ensures width { length spare.new ≡ length spare.old }
-    ensures narrow { IfOk result (λ _. IsNarrow spare.new) }
+    ensures { Clears number pivot.now.place goal.now turned.now pivot.now.cell result spare.old spare.new }
 {
     let factor = goal.held(pivot.place);
     if factor.is_zero() {

@@ -6,6 +6,7 @@ ghost use Rattle.simplex_theory.specs.Lines.{turned, cleared};
 ghost use Rattle.narrow_fraction.specs.Attempt.{attempt};
 ghost use Rattle.fraction_tableau.specs.Narrow.{IsNarrow};
 ghost use Rattle.fraction_tableau.specs.Refusals.{turn_refusal, clear_refusal};
+ghost use Rattle.fraction_tableau.specs.RowChanges.{CanTurn, CanClear};
 ghost use Rattle.fraction_tableau.specs.KeptCells.{number_in, dense_row, IsSparse};
 
 use crate::kept::Kept;
@@ -59,10 +60,7 @@ fn negated_or(quotient: &Result<Frac, WideCell>, other: Frac) -> Frac
 
 /// The pivot's own row, turned: one over the cell at `place`, and the other cells over that cell.
 pub fn turn_row(cells: &mut [Kept], row: &SparseRow, number: u32, place: u32) -> Made
-    requires width { length row.now ≡ length cells.old + 1 }
-    requires place { place + 1 < length row.now }
-    requires pivot { number_in row.now place ≡ whole (pos 0) → ⊥ }
-    requires short { length row.now < 2 ^ 32 }
+    requires { CanTurn (length cells.old + 1) row.now place }
     ensures outcome { result.outcome ≡ attempt (turn_refusal number place row.now) tt }
     ensures line { IsSparse (length cells.old) result.count (take result.count cells.new) }
     ensures turned { IfOk result.outcome (λ _. dense_row (length cells.old) (take result.count cells.new) result.bound ≡ turned place row.now) }
@@ -108,14 +106,7 @@ pub fn clear_row(
     turned: &SparseRow,
     elimination: &Elimination,
 ) -> Made
-    requires width { length row.now ≡ length cells.old + 1 }
-    requires widths { length turned.now ≡ length row.now }
-    requires place { elimination.now.place + 1 < length row.now }
-    requires pivot { elimination.now.pivot ≡ whole (pos 0) → ⊥ }
-    requires factor { elimination.now.factor ≡ number_in row.now elimination.now.place }
-    requires own { number_in turned.now elimination.now.place ≡ inverse_ℚ elimination.now.pivot }
-    requires short { length row.now < 2 ^ 32 }
-    requires narrow { IsNarrow row.now }
+    requires { CanClear (length cells.old + 1) row.now turned.now elimination.now.place elimination.now.pivot elimination.now.factor }
     ensures outcome { result.outcome ≡ attempt (clear_refusal elimination.now.number elimination.now.place turned.now row.now elimination.now.pivot) tt }
     ensures line { IsSparse (length cells.old) result.count (take result.count cells.new) }
     ensures cleared { IfOk result.outcome (λ _. dense_row (length cells.old) (take result.count cells.new) result.bound ≡ cleared elimination.now.place turned.now row.now) }

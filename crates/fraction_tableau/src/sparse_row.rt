@@ -6,6 +6,7 @@ ghost use Rattle.simplex_theory.specs.Lines.{turned, cleared};
 ghost use Rattle.narrow_fraction.specs.Attempt.{attempt};
 ghost use Rattle.fraction_tableau.specs.Narrow.{IsNarrow};
 ghost use Rattle.fraction_tableau.specs.Refusals.{turn_refusal, clear_refusal};
+ghost use Rattle.fraction_tableau.specs.RowChanges.{CanTurn, Turns, CanClear, Clears};
 ghost use Rattle.fraction_tableau.specs.NamedTableaus.{row_cells, goal_cells, rebound};
 ghost use Rattle.fraction_tableau.specs.KeptCells.{number_in, kept_below};
 ghost use Rattle.fraction_tableau.specs.Scales.{IsOver, IsScaled, IsJoining, IsTurning, factor_of, pivot_of};
@@ -382,15 +383,8 @@ impl SparseRow {
 
     /// Becomes the pivot's own row, turned, by fractions.
     fn turn_fractions(&mut self, row: &SparseRow, number: u32, place: u32) -> Result<(), WideCell>
-        requires width { length self.old ≡ length row.now }
-        requires place { place + 1 < length row.now }
-        requires pivot { number_in row.now place ≡ whole (pos 0) → ⊥ }
-        requires short { length row.now < 2 ^ 32 }
-        requires narrow { IsNarrow row.now }
-        ensures outcome { result ≡ attempt (turn_refusal number place row.now) tt }
-        ensures turned { IfOk result (λ _. self.new ≡ turned place row.now) }
-        ensures width { length self.new ≡ length self.old }
-        ensures narrow { IfOk result (λ _. IsNarrow self.new) }
+        requires { CanTurn (length self.old) row.now place }
+        ensures { Turns number place row.now result self.old self.new }
     {
         let made = turn_row(&mut self.cells, row, number, place);
         self.count = made.count;
@@ -404,10 +398,7 @@ impl SparseRow {
     /// Becomes the pivot's own row, turned, by whole numbers, where that row is narrow; else it stays, and the answer is
     /// false. No operation on the fractions is refused then.
     fn turn_narrow(&mut self, row: &SparseRow, place: u32) -> bool
-        requires width { length self.old ≡ length row.now }
-        requires place { place + 1 < length row.now }
-        requires pivot { number_in row.now place ≡ whole (pos 0) → ⊥ }
-        requires short { length row.now < 2 ^ 32 }
+        requires { CanTurn (length self.old) row.now place }
         ensures passed { result ≡ true → (i : ℕ) → turn_refusal i place row.now ≡ None }
         ensures turned { result ≡ true → self.new ≡ turned place row.now }
         ensures width { length self.new ≡ length self.old }
@@ -426,15 +417,8 @@ impl SparseRow {
 
     /// Becomes the pivot's own row, turned, by whole numbers or else by fractions.
     fn turn_either(&mut self, row: &SparseRow, number: u32, place: u32) -> Result<(), WideCell>
-        requires width { length self.old ≡ length row.now }
-        requires place { place + 1 < length row.now }
-        requires pivot { number_in row.now place ≡ whole (pos 0) → ⊥ }
-        requires short { length row.now < 2 ^ 32 }
-        requires narrow { IsNarrow row.now }
-        ensures outcome { result ≡ attempt (turn_refusal number place row.now) tt }
-        ensures turned { IfOk result (λ _. self.new ≡ turned place row.now) }
-        ensures width { length self.new ≡ length self.old }
-        ensures narrow { IfOk result (λ _. IsNarrow self.new) }
+        requires { CanTurn (length self.old) row.now place }
+        ensures { Turns number place row.now result self.old self.new }
     {
         if self.turn_narrow(row, place) {
             return Ok(());
@@ -444,15 +428,8 @@ impl SparseRow {
 
     /// Becomes the pivot's own row, turned: one over the cell at `place`, and the other cells over that cell.
     pub fn turn(&mut self, row: &SparseRow, number: u32, place: u32) -> Result<(), WideCell>
-        requires width { length self.old ≡ length row.now }
-        requires place { place + 1 < length row.now }
-        requires pivot { number_in row.now place ≡ whole (pos 0) → ⊥ }
-        requires short { length row.now < 2 ^ 32 }
-        requires narrow { IsNarrow row.now }
-        ensures outcome { result ≡ attempt (turn_refusal number place row.now) tt }
-        ensures turned { IfOk result (λ _. self.new ≡ turned place row.now) }
-        ensures width { length self.new ≡ length self.old }
-        ensures narrow { IfOk result (λ _. IsNarrow self.new) }
+        requires { CanTurn (length self.old) row.now place }
+        ensures { Turns number place row.now result self.old self.new }
     {
         let outcome = self.turn_either(row, number, place);
         self.reduce();
@@ -460,25 +437,16 @@ impl SparseRow {
         outcome
     }
 
-    /// Becomes another row cleared, by fractions.
+    /// Becomes another row cleared, by fractions. Apart, since few rows are, and a call pays for the room of all that it names.
+    #[inline(never)]
     fn clear_fractions(
         &mut self,
         row: &SparseRow,
         turned: &SparseRow,
         elimination: &Elimination,
     ) -> Result<(), WideCell>
-        requires width { length self.old ≡ length row.now }
-        requires widths { length turned.now ≡ length row.now }
-        requires place { elimination.now.place + 1 < length row.now }
-        requires pivot { elimination.now.pivot ≡ whole (pos 0) → ⊥ }
-        requires factor { elimination.now.factor ≡ number_in row.now elimination.now.place }
-        requires own { number_in turned.now elimination.now.place ≡ inverse_ℚ elimination.now.pivot }
-        requires short { length row.now < 2 ^ 32 }
-        requires narrow { IsNarrow row.now }
-        ensures outcome { result ≡ attempt (clear_refusal elimination.now.number elimination.now.place turned.now row.now elimination.now.pivot) tt }
-        ensures cleared { IfOk result (λ _. self.new ≡ cleared elimination.now.place turned.now row.now) }
-        ensures width { length self.new ≡ length self.old }
-        ensures narrow { IfOk result (λ _. IsNarrow self.new) }
+        requires { CanClear (length self.old) row.now turned.now elimination.now.place elimination.now.pivot elimination.now.factor }
+        ensures { Clears elimination.now.number elimination.now.place row.now turned.now elimination.now.pivot result self.old self.new }
     {
         let made = clear_row(&mut self.cells, row, turned, elimination);
         self.count = made.count;
@@ -529,18 +497,8 @@ impl SparseRow {
         turned: &SparseRow,
         elimination: &Elimination,
     ) -> Result<(), WideCell>
-        requires width { length self.old ≡ length row.now }
-        requires widths { length turned.now ≡ length row.now }
-        requires place { elimination.now.place + 1 < length row.now }
-        requires pivot { elimination.now.pivot ≡ whole (pos 0) → ⊥ }
-        requires factor { elimination.now.factor ≡ number_in row.now elimination.now.place }
-        requires own { number_in turned.now elimination.now.place ≡ inverse_ℚ elimination.now.pivot }
-        requires short { length row.now < 2 ^ 32 }
-        requires narrow { IsNarrow row.now }
-        ensures outcome { result ≡ attempt (clear_refusal elimination.now.number elimination.now.place turned.now row.now elimination.now.pivot) tt }
-        ensures cleared { IfOk result (λ _. self.new ≡ cleared elimination.now.place turned.now row.now) }
-        ensures width { length self.new ≡ length self.old }
-        ensures narrow { IfOk result (λ _. IsNarrow self.new) }
+        requires { CanClear (length self.old) row.now turned.now elimination.now.place elimination.now.pivot elimination.now.factor }
+        ensures { Clears elimination.now.number elimination.now.place row.now turned.now elimination.now.pivot result self.old self.new }
     {
         if self.clear_narrow(row, turned, elimination.place, &elimination.factor) {
             return Ok(());
@@ -552,24 +510,15 @@ impl SparseRow {
 
     /// Becomes another row cleared: each number less the factor, the row's cell at the place, times the turned row's, and at
     /// the place the negated quotient of the factor and the pivot.
+    #[inline(always)]
     pub fn clear(
         &mut self,
         row: &SparseRow,
         turned: &SparseRow,
         elimination: &Elimination,
     ) -> Result<(), WideCell>
-        requires width { length self.old ≡ length row.now }
-        requires widths { length turned.now ≡ length row.now }
-        requires place { elimination.now.place + 1 < length row.now }
-        requires pivot { elimination.now.pivot ≡ whole (pos 0) → ⊥ }
-        requires factor { elimination.now.factor ≡ number_in row.now elimination.now.place }
-        requires own { number_in turned.now elimination.now.place ≡ inverse_ℚ elimination.now.pivot }
-        requires short { length row.now < 2 ^ 32 }
-        requires narrow { IsNarrow row.now }
-        ensures outcome { result ≡ attempt (clear_refusal elimination.now.number elimination.now.place turned.now row.now elimination.now.pivot) tt }
-        ensures cleared { IfOk result (λ _. self.new ≡ cleared elimination.now.place turned.now row.now) }
-        ensures width { length self.new ≡ length self.old }
-        ensures narrow { IfOk result (λ _. IsNarrow self.new) }
+        requires { CanClear (length self.old) row.now turned.now elimination.now.place elimination.now.pivot elimination.now.factor }
+        ensures { Clears elimination.now.number elimination.now.place row.now turned.now elimination.now.pivot result self.old self.new }
     {
         let outcome = self.clear_either(row, turned, elimination);
         self.narrow();

@@ -19,5 +19,5 @@ returns-then-is_zero-clause-cleared c =
     let z : number_in (get_or c.args.sparse_rows.now c.args.index []) c.args.pivot.now.place ≡ whole (pos 0) = ap (λ (t : List ℚ). number_in t c.args.pivot.now.place) (sym e) ∙ sym c.held-factor.ensures ∙ c.is_zero.ensures.0 c.if-is_zero.true in
     sym
     (cond-false (eqb c.args.index c.args.pivot.now.row) c.args.sparse_rows.now _ (ne_eqb c.args.index c.args.pivot.now.row c.if-index-pivot.false)
-    ∙ ap (set c.args.sparse_rows.now c.args.index) (sym (zero_row_kept c.args.pivot.now.place c.args.turned.now (get_or c.args.sparse_rows.now c.args.index []) c.requires.width (omega (arith, c.requires.width, c.requires.place)) z))
+    ∙ ap (set c.args.sparse_rows.now c.args.index) (sym (zero_row_kept c.args.pivot.now.place c.args.turned.now (get_or c.args.sparse_rows.now c.args.index []) c.requires.width (omega (arith, c.requires.width, c.requires.pivot.place)) z))
     ∙ set-get_or c.args.sparse_rows.now c.args.index [])

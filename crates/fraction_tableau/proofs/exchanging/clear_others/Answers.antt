@@ -27,6 +27,6 @@ loop-index-preserved-then-is_free_at c =
     let here = get_or_default c.loop-index.sparse_rows i c.index-sparse_rows-index.result [] inside in
     let wide = o.widths i ∙ c.requires.widths i (omega (arith, o.count)) in
     record {
-      others = others_idle _ _ _ _ _ _ _ o (omega (arith, o.count)) wide (omega (arith, c.requires.place)) (ap (λ (t : List ℚ). number_in t c.args.pivot.now.place) (sym here) ∙ c.is_free_at.ensures c.if-is_free_at.true);
+      others = others_idle _ _ _ _ _ _ _ o (omega (arith, o.count)) wide (omega (arith, c.requires.pivot.place)) (ap (λ (t : List ℚ). number_in t c.args.pivot.now.place) (sym here) ∙ c.is_free_at.ensures c.if-is_free_at.true);
       room = c.loop-index.invariant.room;
     }

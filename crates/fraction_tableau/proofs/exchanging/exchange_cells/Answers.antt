@@ -7,6 +7,7 @@ use Rattle.simplex_theory.proofs.Lines.{turned_at}
 use Rattle.narrow_fraction.specs.Attempt.{attempt}
 use Rattle.narrow_fraction.proofs.Attempt.{attempt_ok, attempt_err}
 use Rattle.fraction_tableau.specs.Refusals.{turn_refusal}
+use Rattle.fraction_tableau.specs.RowChanges.{IsPivoted}
 use Rattle.fraction_tableau.specs.KeptCells.{number_in}
 use Rattle.fraction_tableau.proofs.Pivots.{pivot_first, pivot_second, pivot_third, rows_done}
 use Rattle.fraction_tableau.proofs.exchanging.exchange_cells.Goals as goal
@@ -33,23 +34,32 @@ turning c =
       own = ap (λ (u : List ℚ). number_in u c.args.at.col) held ∙ turned_at c.args.at.col (get_or c.args.sparse_rows.now c.args.at.row []) (omega (arith, wide, c.requires.place)) ∙ ap inverse_ℚ (sym p);
     }
 
+pivoted : (c : In_default) → IsPivoted c.turn.new.self c.args.at.col c.cell.result
+pivoted c =
+    let t = turning c in
+    let wide = c.in_default.ensures.width in
+    record {
+      place = omega (arith, wide, c.requires.held, c.requires.place);
+      some = λ z. c.requires.pivot (sym t.cell ∙ z);
+      own = t.own;
+      short = omega (arith, wide, c.requires.held, c.requires.short);
+    }
+
 pub returns-in-Err-clause-outcome : goal.returns-in-Err-clause-outcome
 returns-in-Err-clause-outcome c =
     let again = get_or_default c.args.sparse_rows.now c.args.at.row c.index-sparse_rows-row-2.result [] c.requires.inside in
     sym (ap (λ o. attempt o tt) (pivot_first c.args.at.row c.args.at.col c.args.sparse_rows.now c.args.goal.now c.in-Err.wide (ap (turn_refusal c.args.at.row c.args.at.col) (sym again) ∙ attempt_err _ _ _ c.in-Err.ensures.outcome)))
 
-pub clear_goal-requires-clause-own : goal.clear_goal-requires-clause-own
-clear_goal-requires-clause-own c =
-    (turning (goal.at.clear_goal-requires-clause-own c).In_default).own
+pub clear_goal-requires-clause-pivot : goal.clear_goal-requires-clause-pivot
+clear_goal-requires-clause-pivot c = pivoted (goal.at.clear_goal-requires-clause-pivot c).In_default
 
 pub returns-in-Err-clear_goal-clause-outcome : goal.returns-in-Err-clear_goal-clause-outcome
 returns-in-Err-clear_goal-clause-outcome c =
     let t = turning (goal.at.returns-in-Err-clear_goal-clause-outcome c).In_default in
     sym (ap (λ o. attempt o tt) (pivot_second _ _ _ _ _ _ _ _ _ t.held t.cell t.passed refl refl (attempt_err _ _ _ c.in-Err-clear_goal.ensures.outcome)))
 
-pub clear_others-requires-clause-own : goal.clear_others-requires-clause-own
-clear_others-requires-clause-own c =
-    (turning (goal.at.clear_others-requires-clause-own c).In_default).own
+pub clear_others-requires-clause-pivot : goal.clear_others-requires-clause-pivot
+clear_others-requires-clause-pivot c = pivoted (goal.at.clear_others-requires-clause-pivot c).In_default
 
 pub returns-in-Err-clear_others-clause-outcome : goal.returns-in-Err-clear_others-clause-outcome
 returns-in-Err-clear_others-clause-outcome c =

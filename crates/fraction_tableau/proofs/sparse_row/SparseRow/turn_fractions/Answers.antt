@@ -1,4 +1,4 @@
-use Rattle.std.proofs.Common.{List, length, take, ◌+◌, sym, ◌∙◌, ap, subst, arith}
+use Rattle.std.proofs.Common.{rules, List, length, take, ◌+◌, sym, ◌∙◌, ap, subst, arith}
 use Rattle.std.proofs.lemmas.List.{with_items_is}
 use Rattle.fraction_tableau.specs.KeptCells.{IsSparse}
 use Rattle.fraction_tableau.specs.declared.kept.Kept.{Kept}
@@ -6,19 +6,23 @@ use Rattle.fraction_tableau.proofs.KeptCells.{open_row, length-dense}
 use Rattle.fraction_tableau.proofs.Marking.{all_marked}
 use Rattle.fraction_tableau.proofs.sparse_row.SparseRow.turn_fractions.Goals as goal
 
-pub turn_row-made-requires-clause-width : goal.turn_row-made-requires-clause-width
-turn_row-made-requires-clause-width c =
-    let r = open_row _ _ _ _ _ c.self.invariant.0 c.self.view_is in
-    let wide = r.wide in
-    omega (arith, c.requires.width, ap length c.deref_mut.ensures.value)
+pub turn_row-made-requires : goal.turn_row-made-requires
+turn_row-made-requires c =
+    let wide = (open_row _ _ _ _ _ c.self.invariant.0 c.self.view_is).wide in
+    record { width = omega (arith, wide, c.requires.width, ap length c.deref_mut.ensures.value); place = c.requires.place; pivot = c.requires.pivot; short = c.requires.short; narrow = c.requires.narrow }
 
-pub returns-clause-width : goal.returns-clause-width
-returns-clause-width c =
+pub returns : goal.returns
+returns c =
     let i = c.self.inside in
     let r = open_row _ _ _ _ _ c.self.invariant.0 c.self.view_is in
     let len = c.turn_row-made.auto.cells ∙ ap length c.deref_mut.ensures.value in
     let same = with_items_is i.cells c.turn_row-made.new.cells (len ∙ sym i.cells.ok.0) in
-    length-dense _ _ _ ∙ ap (λ n. n + 1) (ap length same ∙ len) ∙ sym r.wide
+    record {
+      outcome = c.turn_row-made.ensures.outcome;
+      turned = search rules;
+      width = length-dense _ _ _ ∙ ap (λ n. n + 1) (ap length same ∙ len) ∙ sym r.wide;
+      narrow = search rules;
+    }
 
 pub invariant_of-self : goal.invariant_of-self
 invariant_of-self c =
