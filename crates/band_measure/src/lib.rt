@@ -22,8 +22,6 @@ mod laws;
 mod measure;
 mod pair;
 mod room;
-#[cfg(test)]
-mod tests;
 mod ways;
 
 pub use laws::{law_finer_pairs, law_one_widest, law_own_pair, law_pairs_make_good};

@@ -11,8 +11,6 @@
 #![tactic(auto)]
 
 mod leaves;
-#[cfg(test)]
-mod tests;
 mod values;
 
 pub use leaves::{leaf_of, point_of, refuter_of};

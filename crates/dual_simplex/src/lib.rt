@@ -13,8 +13,6 @@ mod choose;
 mod dual;
 mod outcome;
 mod solve;
-#[cfg(test)]
-mod tests;
 
 pub use dual::step;
 pub use outcome::{NodeEnd, Step};

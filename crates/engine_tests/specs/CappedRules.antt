@@ -3,7 +3,7 @@ use Rattle.std.specs.Prelude.{◌≡◌, ℕ, ℤ, ◌≤ℤ◌}
 use Rattle.rational_theory.specs.Rational.{whole}
 use Rattle.rational_theory.proofs.Order.{≤ℚ_trans}
 use Rattle.progression.specs.Street.{Street}
-use Rattle.linear_theory.specs.Boxes.{root_box}
+use Rattle.linear_theory.specs.Boxes.{Area, root_box}
 use Rattle.branch_and_bound.specs.Lines.{BoxLine}
 use Rattle.branch_and_bound.specs.Rules.{Rules}
 use Rattle.branch_and_bound.specs.OpenedNodes.{OpensEmpty, OpensTimed, OpensCut}
@@ -44,3 +44,7 @@ EndsAs a cap line (Infeasible leaf) = OpensEmpty (capped_rules a cap) line leaf
 EndsAs a cap line (Timed leaf bound timing) = OpensTimed (capped_rules a cap) line leaf bound timing
 EndsAs a cap line (Splits leaf bound place point kept) = OpensCut (capped_rules a cap) line leaf bound place point kept
 EndsAs a cap line _ = ⊥
+
+-- what a box of this area answers, wherever it stands
+abbrev pub EndsHere : ℤ → Area → Opened ℤ ℕ ℕ → Type 0
+EndsHere cap area end = (a : Street) (line : BoxLine) → line.area ≡ area → EndsAs a cap line end

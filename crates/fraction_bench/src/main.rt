@@ -144,19 +144,6 @@ fn fitting(all: &[Frac], operation: Operation) -> u64 {
     fit
 }
 
-fn print_fitting<R: AllocGlobal + Print>(
-    rt: &R,
-    set: Set,
-    all: &[Frac],
-    operation: Operation,
-) -> io::Result<()> {
-    let name = operation.name();
-    let bits = set.bits;
-    let words = set.mix.words();
-    let fit = fitting(all, operation);
-    println!(rt; "{name} {bits} bits{words} {fit} fit")
-}
-
 /// Takes all pairs, round by round.
 fn take_rounds(all: &[Frac], operation: Operation) {
     let mut fit: u64 = 0;
@@ -165,8 +152,17 @@ fn take_rounds(all: &[Frac], operation: Operation) {
     }
 }
 
-fn print_time<R: AllocGlobal + Print + std::rt::Clock>(
+/// How many tenths of a nanosecond an operation takes, on an average.
+fn tenths_of<R: std::rt::Clock>(rt: &R, all: &[Frac], operation: Operation) -> io::Result<u128> {
+    let start = Instant::now(rt)?;
+    take_rounds(all, operation);
+    Ok(start.elapsed(rt)?.as_nanos() / TENTH)
+}
+
+/// The line of an operation: its time, or how many of its results fit.
+fn print_line<R: AllocGlobal + Print + std::rt::Clock>(
     rt: &R,
+    timed: bool,
     set: Set,
     all: &[Frac],
     operation: Operation,
@@ -174,12 +170,14 @@ fn print_time<R: AllocGlobal + Print + std::rt::Clock>(
     let name = operation.name();
     let bits = set.bits;
     let words = set.mix.words();
-    let start = Instant::now(rt)?;
-    take_rounds(all, operation);
-    let tenths = start.elapsed(rt)?.as_nanos() / TENTH;
-    let nanos = tenths / 10;
-    let rest = tenths % 10;
-    println!(rt; "{name} {bits} bits{words} {nanos}.{rest} ns")
+    if timed {
+        let tenths = tenths_of(rt, all, operation)?;
+        let (nanos, rest) = (tenths / 10, tenths % 10);
+        println!(rt; "{name} {bits} bits{words} {nanos}.{rest} ns")
+    } else {
+        let fit = fitting(all, operation);
+        println!(rt; "{name} {bits} bits{words} {fit} fit")
+    }
 }
 
 fn print_lines<R: AllocGlobal + Print + std::rt::Clock>(
@@ -198,11 +196,7 @@ fn print_lines<R: AllocGlobal + Print + std::rt::Clock>(
         Operation::Times,
         Operation::Over,
     ] {
-        if timed {
-            print_time(rt, set, all.as_slice(), operation)?;
-        } else {
-            print_fitting(rt, set, all.as_slice(), operation)?;
-        }
+        print_line(rt, timed, set, all.as_slice(), operation)?;
     }
     Ok(())
 }

@@ -15,8 +15,6 @@ mod cells;
 mod leaves;
 mod names;
 mod row;
-#[cfg(test)]
-mod tests;
 mod wide_at;
 
 pub use leaves::{Leaf, Point, Weight};

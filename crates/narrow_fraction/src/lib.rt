@@ -41,8 +41,6 @@ mod order;
 mod products;
 mod quotient;
 mod sums;
-#[cfg(test)]
-mod tests;
 mod unfit;
 mod wide;
 

@@ -2,14 +2,4 @@
 #![tactic(auto)]
 
 #[cfg(test)]
-mod certificate_checker_tests;
-#[cfg(test)]
-mod link_proof_tests;
-#[cfg(test)]
-mod link_space_tests;
-#[cfg(test)]
-mod loop_rows_tests;
-#[cfg(test)]
-mod offset_recovery_tests;
-#[cfg(test)]
-mod row_texts;
+mod tests;

@@ -4,6 +4,26 @@ use crate::changed::with_changes;
 use std::alloc::{AllocError, Global};
 use std::test::Fail;
 
+/// Whether a certificate of no timing, whose tree is a leaf without rows, is written so behind its first line.
+#[macro_export]
+macro_rules! written_without_timing {
+    ($kind:ident, $write:path, $alloc:expr, $first:expr) => {{
+        let multipliers = Vec::new($alloc);
+        let certificate = $kind {
+            claim: Claim::NoTiming,
+            timing: None,
+            nodes: vec![in $alloc; CertNode::Leaf(Leaf { multipliers })]?,
+        };
+        let text = $write($alloc, &certificate).ok().ok_or("no memory")?;
+        let expected = format!(in $alloc; "{}\nverdict none\ntree\nleaf 0\nend\n", $first)?;
+        if text.as_slice() == expected.as_bytes() {
+            Ok(())
+        } else {
+            Err(Fail::from("another text"))
+        }
+    }};
+}
+
 /// Who answers for a text in a line.
 pub trait Reader {
     fn answer(&self, alloc: Global, text: &[u8]) -> Result<String, Fail>;
@@ -61,23 +81,18 @@ pub fn all_texts_told<R: Reader>(alloc: Global, reader: &R, cases: &[&str]) -> R
     Ok(())
 }
 
-/// The same of faults in the order in which they are looked for: each is told though the next one is there too.
-pub fn all_told_in_order<R: Reader>(
-    alloc: Global,
-    reader: &R,
-    base: &str,
-    faults: &[&str],
-) -> Result<(), Fail> {
+/// Cases of faults in the order in which they are looked for: each is told though the next one is there too.
+pub fn each_with_next(alloc: Global, faults: &[&str]) -> Result<Vec<String>, AllocError> {
+    let mut cases = Vec::new(alloc);
     for (index, fault) in faults.iter().enumerate() {
         let (changes, want) = parts(fault);
         let (others, _) = match faults.get(index.saturating_add(1)) {
             Some(next) => parts(next),
             None => ("", ""),
         };
-        let both = format!(in alloc; "{changes}|{others} -> {want}")?;
-        all_told(alloc, reader, base, &[both.as_str()])?;
+        cases.push(format!(in alloc; "{changes}|{others} -> {want}")?)?;
     }
-    Ok(())
+    Ok(cases)
 }
 
 /// Fails where the first lines of a text, so many or fewer, aren't refused at the next line for their end, with the first bytes of a

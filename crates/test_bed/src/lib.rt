@@ -7,14 +7,18 @@
 
 mod cases;
 mod changed;
+mod half_red;
 mod record;
 mod streets;
 mod worked;
 
-pub use cases::{Reader, all_ends_told, all_texts_told, all_told, all_told_in_order, told_again};
+pub use cases::{Reader, all_ends_told, all_texts_told, all_told, each_with_next, told_again};
 pub use changed::with_changes;
+pub use half_red::{half_red_street, part_of};
 pub use record::Record;
-pub use streets::{flaw_text, fraction, fraction_or_zero, two_signals, with_least, with_ratio};
+pub use streets::{
+    flaw_text, fraction, fraction_or_zero, paced_link, two_signals, with_least, with_ratio,
+};
 pub use worked::{
     HALF_BAND, HIGH_LEAF, LOW_LEAF, PLAIN_STREET, SPLIT, WHOLE_GREEN, WORKED_LISTED, stopped_text,
     worked_text,

@@ -4,6 +4,24 @@ use std::alloc::Global;
 use std::test::Fail;
 use time_space::Timing;
 
+/// What makes a timing of any kind, over a record's numbers: those that every kind has, by the names of its text, and then the kind's own.
+#[macro_export]
+macro_rules! timing_by {
+    ($make:path, $alloc:expr, $record:expr, $($own:expr),+) => {
+        $make(
+            $record.natural("grid", 0)?,
+            $record.natural("unit", 0)?,
+            $record.smalls($alloc, "pattern")?,
+            $record.naturals($alloc, "red")?,
+            $record.naturals($alloc, "run_out")?,
+            $record.naturals($alloc, "run_in")?,
+            $record.natural("first", 0)?,
+            $record.natural("first", 1)?,
+            $($own),+
+        )
+    };
+}
+
 /// A text of lines, each a name and what stands behind it.
 #[derive(Clone, Copy)]
 pub struct Record<'a> {
@@ -94,17 +112,7 @@ impl<'a> Record<'a> {
 
     /// The timing with these numbers, in ticks, where there is one. The names are those of a timing's text.
     pub fn timing(&self, alloc: Global) -> Result<Option<Timing>, Fail> {
-        Ok(Timing::new(
-            self.natural("grid", 0)?,
-            self.natural("unit", 0)?,
-            self.smalls(alloc, "pattern")?,
-            self.naturals(alloc, "red")?,
-            self.naturals(alloc, "run_out")?,
-            self.naturals(alloc, "run_in")?,
-            self.natural("first", 0)?,
-            self.natural("first", 1)?,
-            self.natural("band", 0)?,
-            self.natural("band", 1)?,
-        ))
+        let (out, back) = (self.natural("band", 0)?, self.natural("band", 1)?);
+        Ok(timing_by!(Timing::new, alloc, self, out, back))
     }
 }

@@ -5,7 +5,9 @@ ghost use Rattle.progression.specs.Street.{count};
 
 use artery_model::{Artery, Flaw};
 use narrow_fraction::{Frac, Unfit};
-use sample_streets::{SampleHead, plain_head, plain_link, plain_signal, sample_street};
+use sample_streets::{
+    SampleHead, SampleLink, plain_head, plain_link, plain_signal, range, sample_street,
+};
 use std::alloc::{AllocError, Global};
 use std::test::Fail;
 
@@ -45,6 +47,16 @@ pub fn with_least(share: Frac) -> SampleHead {
         least_out: share,
         least_in: share,
         ..plain_head()
+    }
+}
+
+/// So far outbound and so far inbound, at each speed of this range.
+pub fn paced_link(distance_out: u32, distance_in: u32, least: i64, most: i64) -> SampleLink {
+    SampleLink {
+        distance_in,
+        speed_out: range(least, most),
+        speed_in: range(least, most),
+        ..plain_link(distance_out)
     }
 }
 

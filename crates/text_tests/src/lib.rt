@@ -2,8 +2,4 @@
 #![tactic(auto)]
 
 #[cfg(test)]
-mod description_reader_tests;
-#[cfg(test)]
-mod plan_text_tests;
-#[cfg(test)]
-mod typed_plan_tests;
+mod tests;

@@ -1,8 +1,0 @@
-use Rattle.std.proofs.Common.{subst, sym}
-use Rattle.fraction_tableau.specs.Loading.{IsUnpivoted}
-use Rattle.fraction_tableau.proofs.LoadingLaws.{unpivoted-blank}
-use Rattle.fraction_tableau.specs.NamedTableaus.{NamedTableau}
-use Rattle.dual_simplex.proofs.tests.blank.Goals as goal
-
-pub returns-in-Ok : goal.returns-in-Ok
-returns-in-Ok c = subst (λ (t : NamedTableau). IsUnpivoted t.table) (sym c.in-Ok.ensures) (unpivoted-blank 2 2)

@@ -1,0 +1,122 @@
+//! Leaves and vertices of tableaus that were worked by hand.
+
+ghost use Rattle.std.specs.Prelude.{◌≡◌, ℕ, ◌<◌, ◌≤◌, pos, true};
+ghost use Rattle.rational_theory.specs.Rational.{whole, ◌≤ℚ◌, ◌<ℚ◌};
+ghost use Rattle.simplex_theory.specs.Tableau.{cell, bound, height, width};
+
+use crate::tests::two_columns::{blank, load, load_goal, pivot, wholes};
+use dual_leaf::{leaf_of, point_of, refuter_of};
+use fraction_tableau::Tableau;
+use named_row::{Leaf, Point, RowId, Weight};
+use narrow_fraction::{Frac, Memory};
+use std::alloc::Global;
+use std::process::Abort;
+use std::rt::HostRuntime;
+
+fn name(number: u32) -> RowId {
+    RowId {
+        family: 3,
+        index: number,
+    }
+}
+
+/// Two rows and a goal.
+fn program(rt: &impl Abort, alloc: Global, rows: &[[i64; 3]; 2], goal: [i64; 3]) -> Tableau {
+    let mut tableau = blank(alloc, 2).expect(rt, "memory");
+    for (number, numbers) in (0..u32::MAX).zip(rows.iter()) {
+        load(alloc, &mut tableau, number, name(number), wholes(*numbers)).expect(rt, "a row");
+    }
+    load_goal(alloc, &mut tableau, wholes(goal)).expect(rt, "a goal");
+    tableau
+}
+
+/// The cell of a row, or its bound.
+fn row_cell(tableau: &Tableau, row: u32, col: u32) -> Frac
+    requires row { row < height tableau.now.table }
+    requires col { col ≤ width tableau.now.table }
+    ensures { result ≡ cell tableau.now.table row col }
+{
+    tableau.cell(row, col)
+}
+
+/// Whether no cell of a row of two columns is negative.
+#[tactic(auto, using(rational_theory::proofs::Compare::lt_true, rational_theory::proofs::Compare::lt_false))]
+fn has_low_cells(tableau: &Tableau, row: u32) -> bool
+    requires { row < height tableau.now.table }
+    ensures { result ≡ true → (k : ℕ) → k < width tableau.now.table → whole (pos 0) ≤ℚ cell tableau.now.table row k }
+{
+    if tableau.width() != 2 {
+        return false;
+    }
+    let zero = Frac::whole(0);
+    if row_cell(tableau, row, 0) < zero {
+        return false;
+    }
+    if row_cell(tableau, row, 1) < zero {
+        return false;
+    }
+    true
+}
+
+/// Whether a row's bound is negative.
+#[tactic(auto, using(rational_theory::proofs::Compare::lt_true, rational_theory::proofs::Compare::lt_false))]
+fn has_negative_bound(tableau: &Tableau, row: u32) -> bool
+    requires { row < height tableau.now.table }
+    ensures { result ≡ true → bound tableau.now.table row <ℚ whole (pos 0) }
+{
+    row_cell(tableau, row, tableau.width()) < Frac::whole(0)
+}
+
+/// The refuter, where the row of two columns has one.
+fn refuter(alloc: Global, tableau: &Tableau, row: u32) -> Option<Result<Leaf, Memory>> {
+    if tableau.is_spent() || row >= tableau.rows() {
+        return None;
+    }
+    if !has_negative_bound(tableau, row) || !has_low_cells(tableau, row) {
+        return None;
+    }
+    Some(refuter_of(alloc, tableau, row))
+}
+
+/// The vertex, where the tableau isn't spent.
+fn point(alloc: Global, tableau: &Tableau) -> Option<Result<Point, Memory>> {
+    if tableau.is_spent() {
+        return None;
+    }
+    Some(point_of(alloc, tableau))
+}
+
+/// A row's name with the multiplier 1.
+fn once(number: u32) -> Weight {
+    Weight {
+        row: name(number),
+        by: Frac::whole(1),
+    }
+}
+
+#[test]
+fn leaf_and_point_of_an_optimal_end(rt: HostRuntime) {
+    let alloc = rt.alloc();
+    // the greatest of -x - y where x is at least 1 and x + y at least 5
+    let mut tableau = program(&rt, alloc, &[[-1, 0, -1], [-1, -1, -5]], [-1, -1, 0]);
+    assert_eq!(rt; pivot(&mut tableau, 0, 0), Some(Ok(())));
+    assert_eq!(rt; pivot(&mut tableau, 1, 1), Some(Ok(())));
+    let leaf = leaf_of(alloc, &tableau).expect(&rt, "memory");
+    assert!(rt; leaf.multipliers.as_slice() == [once(1)].as_slice());
+    let vertex = point(alloc, &tableau)
+        .expect(&rt, "unspent")
+        .expect(&rt, "memory");
+    assert!(rt; vertex.values.as_slice() == [1, 4].map(Frac::whole).as_slice());
+}
+
+#[test]
+fn refuter_of_an_infeasible_end(rt: HostRuntime) {
+    let alloc = rt.alloc();
+    // x is at most 1 and at least 2
+    let mut tableau = program(&rt, alloc, &[[1, 0, 1], [-1, 0, -2]], [-1, 0, 0]);
+    assert_eq!(rt; pivot(&mut tableau, 1, 0), Some(Ok(())));
+    let leaf = refuter(alloc, &tableau, 0)
+        .expect(&rt, "row")
+        .expect(&rt, "memory");
+    assert!(rt; leaf.multipliers.as_slice() == [once(0), once(1)].as_slice());
+}

@@ -1,0 +1,254 @@
+//! Tableaus of two columns that were worked by hand.
+
+use crate::tests::two_columns;
+use crate::tests::two_columns::{blank, pivot};
+use fraction_tableau::{Tableau, WideCell};
+use named_row::RowId;
+use narrow_fraction::{Frac, Op, Wide};
+use std::alloc::Global;
+use std::rt::HostRuntime;
+use test_bed::fraction_or_zero;
+
+/// A fraction: its numerator and its denominator.
+type Number = (i128, i128);
+
+/// A row of two columns: its numbers, the bound last.
+type Numbers = [Number; 3];
+
+const TWO_126: Number = (two_columns::TWO_126, 1);
+
+const ZERO: Number = (0, 1);
+
+const ONE: Number = (1, 1);
+
+const TWO: Number = (2, 1);
+
+const FOUR: Number = (4, 1);
+
+const HALF: Number = (1, 2);
+
+const THIRD: Number = (1, 3);
+
+fn fraction(number: Number) -> Frac {
+    fraction_or_zero(number.0, number.1)
+}
+
+fn fractions(numbers: Numbers) -> [Frac; 3] {
+    let [first, second, bound] = numbers;
+    [fraction(first), fraction(second), fraction(bound)]
+}
+
+fn load(alloc: Global, tableau: &mut Tableau, number: u32, numbers: Numbers) -> Option<()> {
+    let name = RowId {
+        family: 1,
+        index: number.wrapping_add(1),
+    };
+    two_columns::load(alloc, tableau, number, name, fractions(numbers))
+}
+
+fn load_goal(alloc: Global, tableau: &mut Tableau, numbers: Numbers) -> Option<()> {
+    two_columns::load_goal(alloc, tableau, fractions(numbers))
+}
+
+/// A tableau with these rows and this goal.
+fn loaded(alloc: Global, rows: &[Numbers], goal: Numbers) -> Option<Tableau> {
+    let mut tableau = blank(alloc, rows.len())?;
+    for (number, numbers) in (0..u32::MAX).zip(rows.iter()) {
+        load(alloc, &mut tableau, number, *numbers)?;
+    }
+    load_goal(alloc, &mut tableau, goal)?;
+    Some(tableau)
+}
+
+/// The answer of a pivot that is refused at a cell, by this operation.
+fn refused(
+    row: u32,
+    col: u32,
+    op: Op,
+    left: Number,
+    right: Number,
+) -> Option<Result<(), WideCell>> {
+    let wide = Wide {
+        op,
+        left: fraction(left),
+        right: fraction(right),
+    };
+    Some(Err(WideCell { row, col, wide }))
+}
+
+/// A cell, or 0 where there is none.
+fn cell(tableau: &Tableau, row: u32, col: u32) -> Frac {
+    if row > tableau.rows() || col > tableau.width() {
+        return Frac::whole(0);
+    }
+    tableau.cell(row, col)
+}
+
+/// The cells of a row, the bound last.
+fn cells(tableau: &Tableau, row: u32) -> [Frac; 3] {
+    [
+        cell(tableau, row, 0),
+        cell(tableau, row, 1),
+        cell(tableau, row, 2),
+    ]
+}
+
+/// The first of the rows, with the goal row behind them, whose cells aren't these.
+fn first_other(tableau: &Tableau, rows: &[Numbers]) -> Option<u32> {
+    for (row, numbers) in (0..u32::MAX).zip(rows.iter()) {
+        if cells(tableau, row) != fractions(*numbers) {
+            return Some(row);
+        }
+    }
+    None
+}
+
+/// The variable of a row, or the greatest number where there is none.
+fn basic(tableau: &Tableau, row: u32) -> u32 {
+    if row < tableau.rows() {
+        tableau.basic(row)
+    } else {
+        u32::MAX
+    }
+}
+
+/// The variable at a place, or the greatest number where there is none.
+fn standing(tableau: &Tableau, col: u32) -> u32 {
+    if col < tableau.width() {
+        tableau.standing(col)
+    } else {
+        u32::MAX
+    }
+}
+
+/// The variables of the first two rows, and those at the two places.
+fn variables(tableau: &Tableau) -> [u32; 4] {
+    [
+        basic(tableau, 0),
+        basic(tableau, 1),
+        standing(tableau, 0),
+        standing(tableau, 1),
+    ]
+}
+
+#[test]
+fn refused_pivot_names_its_operation(rt: HostRuntime) {
+    let zeros = [ZERO, ZERO, ZERO];
+    let mut tableau = loaded(rt.alloc(), &[[TWO_126, THIRD, ZERO]], zeros).expect(&rt, "a tableau");
+    assert!(rt; !tableau.is_spent());
+    let want = refused(0, 1, Op::Div, THIRD, TWO_126);
+    assert_eq!(rt; pivot(&mut tableau, 0, 0), want);
+    assert!(rt; tableau.is_spent());
+    assert_eq!(rt; cells(&tableau, 1), fractions(zeros));
+    assert_eq!(rt; variables(&tableau), [2, u32::MAX, 0, 1]);
+    load_goal(rt.alloc(), &mut tableau, zeros).expect(&rt, "a goal");
+    assert!(rt; !tableau.is_spent());
+}
+
+/// Four times 2^126 leaves 128 bits in the goal row, which has the number after the last row, and in the second row.
+#[test]
+fn the_goal_row_comes_before_the_other_rows(rt: HostRuntime) {
+    let rows = [[ONE, TWO_126, ZERO], [FOUR, ZERO, ZERO]];
+    for (of_goal, number, left) in [(FOUR, 2, (-4, 1)), (ZERO, 1, FOUR)] {
+        let goal = [of_goal, ZERO, ZERO];
+        let mut tableau = loaded(rt.alloc(), &rows, goal).expect(&rt, "a tableau");
+        let want = refused(number, 1, Op::Mul, left, TWO_126);
+        assert_eq!(rt; pivot(&mut tableau, 0, 0), want);
+    }
+}
+
+#[test]
+fn cells_of_a_pivot(rt: HostRuntime) {
+    let rows = [[ONE, TWO, FOUR], [(3, 1), FOUR, (10, 1)]];
+    let mut tableau = loaded(rt.alloc(), &rows, [ONE, ONE, ONE]).expect(&rt, "a tableau");
+    assert_eq!(rt; cells(&tableau, 2), fractions([(-1, 1), (-1, 1), ZERO]));
+    assert_eq!(rt; pivot(&mut tableau, 0, 1), Some(Ok(())));
+    let pivoted = [[HALF, HALF, TWO], [ONE, (-2, 1), TWO], [(-1, 2), HALF, TWO]];
+    assert_eq!(rt; first_other(&tableau, &pivoted), None);
+    assert_eq!(rt; variables(&tableau), [1, 3, 0, 2]);
+}
+
+/// Of rows with numbers of 23 bits, the second one has numbers of 44 bits after the first pivot and of 46 after the second, and
+/// the last two pivots lead back (exact fractions by Python).
+#[test]
+fn rows_become_wide_and_narrow_again(rt: HostRuntime) {
+    let first = [(3, 1), (4_194_304, 1), (5, 1)];
+    let second = [(4_194_304, 1), (7, 1), (9, 1)];
+    let goal = [ONE, (2_097_152, 1), ZERO];
+    let once = [
+        [(1, 3), (4_194_304, 3), (5, 3)],
+        [(-4_194_304, 3), (-17_592_186_044_395, 3), (-20_971_493, 3)],
+        [(1, 3), (-2_097_152, 3), (5, 3)],
+    ];
+    let twice = [
+        [
+            (-7, 17_592_186_044_395),
+            (4_194_304, 17_592_186_044_395),
+            (37_748_701, 17_592_186_044_395),
+        ],
+        [
+            (4_194_304, 17_592_186_044_395),
+            (-3, 17_592_186_044_395),
+            (20_971_493, 17_592_186_044_395),
+        ],
+        [
+            (8_796_093_022_201, 17_592_186_044_395),
+            (-2_097_152, 17_592_186_044_395),
+            (43_980_446_236_637, 17_592_186_044_395),
+        ],
+    ];
+    let before = [first, second, [(-1, 1), (-2_097_152, 1), ZERO]];
+    let mut tableau = loaded(rt.alloc(), &[first, second], goal).expect(&rt, "a tableau");
+    for (at, rows) in [(0, once), (1, twice), (1, once), (0, before)] {
+        assert_eq!(rt; pivot(&mut tableau, at, at), Some(Ok(())));
+        assert_eq!(rt; first_other(&tableau, &rows), None);
+    }
+}
+
+/// How many cells of a row aren't 0, and the first of them; none where there is no such row.
+fn first_kept(tableau: &Tableau, row: u32) -> (usize, Option<(u32, Frac)>) {
+    if row > tableau.rows() {
+        return (0, None);
+    }
+    let kept = tableau.kept(row);
+    match kept.first() {
+        Some(first) => (kept.len(), Some((first.place, first.cell.fraction()))),
+        None => (0, None),
+    }
+}
+
+/// What is said of a row whose only cell other than 0 is this one.
+fn only_kept(place: u32, cell: Number) -> (usize, Option<(u32, Frac)>) {
+    (1, Some((place, fraction(cell))))
+}
+
+#[test]
+fn kept_cells_of_a_row_and_the_goal_row(rt: HostRuntime) {
+    let tableau = loaded(rt.alloc(), &[[ZERO, ONE, ONE]], [ONE, ZERO, ONE]).expect(
+        &rt,
+        "a tableau",
+    );
+    assert_eq!(rt; first_kept(&tableau, 0), only_kept(1, ONE));
+    assert_eq!(rt; first_kept(&tableau, 1), only_kept(0, (-1, 1)));
+}
+
+/// The name of a row, where there is that row.
+fn name(tableau: &Tableau, row: u32) -> Option<RowId> {
+    if row < tableau.rows() {
+        Some(tableau.name(row))
+    } else {
+        None
+    }
+}
+
+#[test]
+fn names_of_rows(rt: HostRuntime) {
+    let mut tableau = blank(rt.alloc(), 2).expect(&rt, "a tableau");
+    load(rt.alloc(), &mut tableau, 1, [ONE, ONE, ONE]).expect(&rt, "a row");
+    let want = RowId {
+        family: 1,
+        index: 2,
+    };
+    assert!(rt; tableau.rows() == 2);
+    assert!(rt; name(&tableau, 1) == Some(want));
+}

@@ -1,0 +1,254 @@
+//! Worked fractions, up to the greatest of 128 bits.
+
+use crate::tests::two_columns::TWO_126;
+use narrow_fraction::{Frac, Op, Quotient, Unfit, Wide, common_multiple};
+use std::alloc::AllocError;
+use std::rt::HostRuntime;
+use test_bed::fraction_or_zero as fraction;
+
+const TWO_63: i128 = 9_223_372_036_854_775_808;
+
+const TWO_100: i128 = 1_267_650_600_228_229_401_496_703_205_376;
+
+const THREE_70: i128 = 2_503_155_504_993_241_601_315_571_986_085_849;
+
+/// A fraction: its numerator and its denominator.
+type Number = (i128, i128);
+
+/// Operations that are exact: the operands and the answer.
+static WITHIN: [(Op, Number, Number, Number); 17] = [
+    (Op::Add, (1, 6), (1, 10), (4, 15)),
+    (Op::Add, (1, 2), (-1, 2), (0, 1)),
+    (Op::Add, (-7, 3), (2, 1), (-1, 3)),
+    (Op::Add, (1, TWO_126), (1, TWO_126), (1, TWO_126 / 2)),
+    (Op::Add, (-TWO_126, 1), (-TWO_126 + 1, 1), (-i128::MAX, 1)),
+    (Op::Sub, (1, 2), (2, 3), (-1, 6)),
+    (Op::Sub, (5, 1), (0, 1), (5, 1)),
+    (Op::Sub, (0, 1), (5, 3), (-5, 3)),
+    (
+        Op::Sub,
+        (TWO_63 - 1, 2),
+        (1 - TWO_63, 6),
+        (2 * (TWO_63 - 1), 3),
+    ),
+    (
+        Op::Add,
+        (TWO_63, 3),
+        (1, TWO_63 + 1),
+        ((TWO_126 + TWO_63) / 3 + 1, TWO_63 + 1),
+    ),
+    (Op::Mul, (2, 3), (-9, 4), (-3, 2)),
+    (Op::Mul, (i128::MAX, 2), (2, i128::MAX), (1, 1)),
+    (Op::Mul, (-1, 1), (i128::MAX, 2), (-i128::MAX, 2)),
+    (
+        Op::Mul,
+        (TWO_63 - 1, 2),
+        (TWO_63, TWO_63 - 1),
+        (TWO_63 / 2, 1),
+    ),
+    (Op::Div, (0, 1), (-4, 9), (0, 1)),
+    (Op::Div, (2, 3), (-4, 9), (-3, 2)),
+    (Op::Div, (1, 1), (-i128::MAX, 5), (-5, i128::MAX)),
+];
+
+/// A quotient of words.
+type Words = (i64, u64);
+
+/// The same of quotients, whose words have common divisors.
+static UNREDUCED: [(Op, Words, Words, Number); 9] = [
+    (Op::Add, (2, 12), (6, 60), (4, 15)),
+    (Op::Add, (4, 8), (-3, 6), (0, 1)),
+    (Op::Add, (-14, 6), (6, 3), (-1, 3)),
+    (Op::Sub, (5, 10), (4, 6), (-1, 6)),
+    (Op::Sub, (0, 9), (10, 6), (-5, 3)),
+    (Op::Mul, (4, 6), (-18, 8), (-3, 2)),
+    (Op::Mul, (i64::MIN, 2), (4, 1 << 63), (-2, 1)),
+    (Op::Div, (4, 6), (-8, 18), (-3, 2)),
+    (Op::Div, (i64::MAX, u64::MAX - 1), (3, 6), (1, 1)),
+];
+
+/// The operation's answer; a quotient by 0 is not asked for.
+#[tactic(auto, using(rational_theory::proofs::Compare::eq_false))]
+fn answer(op: Op, left: Frac, right: Frac) -> Result<Frac, Wide> {
+    match op {
+        Op::Add => left.plus(right),
+        Op::Sub => left.minus(right),
+        Op::Mul => left.times(right),
+        Op::Div => {
+            if right == Frac::whole(0) {
+                return Ok(right);
+            }
+            left.over(right)
+        }
+    }
+}
+
+fn is_exact(op: Op, left: Frac, right: Frac, want: Number) -> bool {
+    answer(op, left, right) == Ok(fraction(want.0, want.1))
+}
+
+#[test]
+fn any_two_numbers(rt: HostRuntime) {
+    let table = [
+        (6, -4, Ok((-3, 2))),
+        (-6, -4, Ok((3, 2))),
+        (0, -7, Ok((0, 1))),
+        (1, 0, Err(Unfit::ZeroDen)),
+        (0, 0, Err(Unfit::ZeroDen)),
+        (i128::MIN, 1, Err(Unfit::Width)),
+        (1, i128::MIN, Err(Unfit::Width)),
+        (i128::MIN, 2, Ok((-TWO_126, 1))),
+        (2, i128::MIN, Ok((-1, TWO_126))),
+        (i128::MIN, i128::MIN, Ok((1, 1))),
+        (i128::MAX, -1, Ok((-i128::MAX, 1))),
+    ];
+    for (num, den, want) in table {
+        let made = match Frac::new(num, den) {
+            Ok(fraction) => Ok((fraction.num(), fraction.den())),
+            Err(unfit) => Err(unfit),
+        };
+        assert_eq!(rt; made, want);
+    }
+}
+
+#[test]
+fn operations_within_128_bits(rt: HostRuntime) {
+    for (op, left, right, want) in WITHIN {
+        let (left, right) = (fraction(left.0, left.1), fraction(right.0, right.1));
+        assert!(rt; is_exact(op, left, right, want));
+    }
+}
+
+#[test]
+fn operations_past_128_bits(rt: HostRuntime) {
+    let table = [
+        (Op::Add, (1, TWO_100), (1, THREE_70)),
+        (Op::Add, (-TWO_126, 1), (1, 2)),
+        (Op::Add, (-TWO_126, 1), (-TWO_126, 1)),
+        (Op::Sub, (TWO_126, 1), (-TWO_126, 1)),
+        (Op::Mul, (TWO_126, 1), (2, 1)),
+        (Op::Div, (TWO_126, 1), (1, 2)),
+    ];
+    for (op, first, second) in table {
+        let left = fraction(first.0, first.1);
+        let right = fraction(second.0, second.1);
+        assert_eq!(rt; answer(op, left, right), Err(Wide { op, left, right }));
+    }
+}
+
+#[test]
+fn order_and_whole_parts(rt: HostRuntime) {
+    let below = fraction(i128::MAX - 2, i128::MAX - 1);
+    let above = fraction(i128::MAX - 1, i128::MAX);
+    assert!(rt; below < above && above > below && below != above);
+    assert!(rt; fraction(-1, 2) <= fraction(-1, 3) && fraction(-1, 3) < Frac::whole(0));
+    assert_eq!(rt; fraction(-7, 2).abs().neg(), fraction(7, -2));
+    assert_eq!(rt; fraction(-7, 2).fitting(), fraction(-7, 2));
+    assert_eq!(rt; fraction(-7, 2).floor(), -4);
+    assert_eq!(rt; fraction(7, 2).floor(), 3);
+    assert!(rt; Frac::whole(-3).is_whole() && !fraction(1, 3).is_whole());
+}
+
+#[test]
+fn least_common_multiples(rt: HostRuntime) {
+    let power = 1u128 << 126;
+    let table = [
+        (4, 6, Some(12)),
+        (1, 7, Some(7)),
+        (0, 5, Some(0)),
+        (power, 1 << 100, Some(power)),
+        (power, 3, None),
+        (u128::MAX, u128::MAX, None),
+        (1 << 64, u128::MAX, None),
+    ];
+    for (left, right, want) in table {
+        assert_eq!(rt; common_multiple(left, right), want);
+    }
+}
+
+/// The quotient of two words, or 0 where there is none.
+fn quotient(numerator: i64, denominator: u64) -> Quotient {
+    if denominator == 0 {
+        return Quotient::of_fraction(Frac::whole(0));
+    }
+    Quotient::of_words(numerator, denominator)
+}
+
+/// The numerator over a denominator; over 0 there is none.
+fn numerator_over(held: &Quotient, denominator: u64) -> Option<i64> {
+    if denominator == 0 {
+        return None;
+    }
+    held.numerator_over(denominator)
+}
+
+#[test]
+fn operations_on_quotients_with_common_divisors(rt: HostRuntime) {
+    for (op, left, right, want) in UNREDUCED {
+        let (left, right) = (quotient(left.0, left.1), quotient(right.0, right.1));
+        assert!(rt; is_exact(op, left.fraction(), right.fraction(), want));
+    }
+}
+
+#[test]
+fn quotients_at_128_bits(rt: HostRuntime) {
+    let table = [
+        (Op::Mul, (TWO_126, 1), (6, 6), true),
+        (Op::Mul, (TWO_126, 1), (4, 2), false),
+        (Op::Mul, (1, TWO_126), (3, 6), false),
+        (Op::Add, (1, TWO_126), (3, 12), true),
+        (Op::Add, (-TWO_126, 1), (2, 4), false),
+        (Op::Sub, (-TWO_126, 1), (-9, 9), true),
+        (Op::Div, (TWO_126, 1), (5, 5), true),
+        (Op::Div, (TWO_126, 1), (2, 4), false),
+    ];
+    for (op, first, second, fits) in table {
+        let left = Quotient::of_fraction(fraction(first.0, first.1)).fraction();
+        let right = quotient(second.0, second.1).fraction();
+        match answer(op, left, right) {
+            Ok(_) => assert!(rt; fits),
+            Err(wide) => assert!(rt; !fits && wide == Wide { op, left, right }),
+        }
+    }
+}
+
+#[test]
+fn numerators_over_denominators(rt: HostRuntime) {
+    let table = [
+        ((6, 4), 4, Some(6)),
+        ((6, 4), 2, Some(3)),
+        ((6, 4), 8, Some(12)),
+        ((-6, 4), 10, Some(-15)),
+        ((6, 4), 3, None),
+        ((0, 7), 3, Some(0)),
+        ((i64::MIN, 1), 1, Some(i64::MIN)),
+        ((i64::MIN, 1), 2, None),
+        ((i64::MAX, 3), 6, None),
+        ((-3, u64::MAX), u64::MAX, Some(-3)),
+        ((1, 3), u64::MAX, Some(6_148_914_691_236_517_205)),
+    ];
+    for (parts, denominator, want) in table {
+        let held = quotient(parts.0, parts.1);
+        assert_eq!(rt; numerator_over(&held, denominator), want);
+        let lowest = Quotient::of_fraction(held.fraction());
+        assert_eq!(rt; numerator_over(&lowest, denominator), want);
+    }
+    let great = Quotient::of_fraction(fraction(TWO_126, 1));
+    assert_eq!(rt; numerator_over(&great, u64::MAX), None);
+}
+
+#[test]
+fn order_of_quotients(rt: HostRuntime) -> Result<(), AllocError> {
+    let half = quotient(2, 4);
+    assert!(rt; half == quotient(3, 6) && half == Quotient::of_fraction(fraction(1, 2)));
+    assert!(rt; quotient(-4, 6) < quotient(-6, 10) && half > quotient(-9, 6));
+    assert!(rt; half.copied() == half && half.clone()? == half);
+    assert!(rt; quotient(0, 9).is_zero() && !half.is_zero());
+    assert!(rt; quotient(-3, 9).is_negative() && !half.is_negative());
+    let alloc = rt.alloc();
+    assert_eq!(rt;
+        format!(in alloc; "{half:?}")?,
+        format!(in alloc; "{:?}", fraction(1, 2))?
+    );
+    Ok(())
+}

@@ -1,0 +1,241 @@
+//! Worked entries.
+
+ghost use Rattle.std.specs.Prelude.{IfOk};
+ghost use Rattle.linear_theory.specs.Boxes.{IsBoxOf};
+ghost use Rattle.simplex_theory.specs.DualSteps.{IsDual};
+ghost use Rattle.program_builder.specs.Building.{IsMadeFor};
+ghost use Rattle.program_builder.specs.Entry.{IsBasisOf};
+
+use super::tests::{artery, is_same, root};
+use crate::tests::solving::solved;
+use artery_model::{Artery, Pair};
+use dual_simplex::{Meter, NodeEnd, solve_node};
+use fraction_tableau::Tableau;
+use loop_rows::column_count;
+use named_row::Row;
+use narrow_fraction::Frac;
+use program_builder::{enter, start};
+use sample_streets::{SampleHead, SampleLink, plain_head, plain_signal, sample_street};
+use search_box::{At, SearchBox};
+use std::alloc::Global;
+use std::rt::HostRuntime;
+use std::test::Fail;
+use test_bed::fraction_or_zero;
+
+static BASIS: [u32; 16] = [0, 1, 2, 7, 8, 12, 14, 17, 18, 20, 21, 22, 23, 24, 25, 26];
+
+const NO_LIMIT: Meter = Meter {
+    spent: 0,
+    limit: None,
+};
+
+/// The tableau at a box's best end, its basic variables, and how many pivots it took.
+fn best_end(
+    alloc: Global,
+    artery: &Artery,
+    area: &SearchBox,
+) -> Result<(Tableau, Vec<u32>, u64), Fail>
+    requires boxed { IsBoxOf artery.now area.now }
+    ensures made { IfOk result (λ end. IsMadeFor artery.now end.0) }
+    ensures basis { IfOk result (λ end. IsBasisOf artery.now end.1.items) }
+{
+    let mut tableau = start(alloc, artery, area)?;
+    let mut meter = NO_LIMIT;
+    let mut pivots = 0;
+    match solve_node(&mut tableau, &mut meter, &mut pivots) {
+        NodeEnd::Optimal => {
+            let basis = tableau.basis(alloc)?;
+            Ok((tableau, basis, pivots))
+        }
+        _ => Err("no best end".into()),
+    }
+}
+
+/// The part of a box in which the block sum of the first link is 0 at most.
+fn low_part(alloc: Global, artery: &Artery, area: &SearchBox) -> Result<SearchBox, Fail>
+    requires { IsBoxOf artery.now area.now }
+    ensures { IfOk result (λ low. IsBoxOf artery.now low) }
+{
+    match area.split(alloc, At::Loop { link: 1, at: 0 })? {
+        Some((low, _)) => Ok(low),
+        None => Err("no parts".into()),
+    }
+}
+
+/// Makes the entry of a box: whether it is one, and the basic variables then.
+fn entered(
+    alloc: Global,
+    tableau: &mut Tableau,
+    artery: &Artery,
+    area: &SearchBox,
+    basis: &[u32],
+) -> Result<(bool, Vec<u32>), Fail>
+    requires boxed { IsBoxOf artery.now area.now }
+    requires made { IsMadeFor artery.now tableau.old }
+    requires basis { IsBasisOf artery.now basis.now }
+    ensures { IfOk result (λ _. IsDual tableau.new.table) }
+{
+    let mut room = Row::zero(alloc, column_count(artery))?;
+    let is_entry = enter(tableau, artery, area, basis, &mut room);
+    let basis = tableau.basis(alloc)?;
+    Ok((is_entry, basis))
+}
+
+/// The whole box ends after 3 pivots, and from the entry of its basis the low part ends after 4.
+#[test]
+fn low_part_begins_at_the_end_of_the_whole(rt: HostRuntime) -> Result<(), Fail> {
+    let alloc = rt.alloc();
+    let artery = artery(alloc, 50, Frac::whole(1))?;
+    let area = root(alloc, &artery)?;
+    let (mut tableau, basis, pivots) = best_end(alloc, &artery, &area)?;
+    assert_eq!(rt; pivots, 3);
+    assert!(rt; basis.as_slice() == BASIS.as_slice());
+    let low = low_part(alloc, &artery, &area)?;
+    let (is_entry, basis) = entered(alloc, &mut tableau, &artery, &low, &basis)?;
+    assert!(rt; is_entry);
+    assert!(rt; basis.as_slice() == BASIS.as_slice());
+    assert!(rt; !tableau.is_spent());
+    assert_eq!(rt; solved(&mut tableau, NO_LIMIT, 0), (NodeEnd::Optimal, 4, 4));
+    Ok(())
+}
+
+/// The numerator and the denominator of the least and of the most.
+type Limits = ((i128, i128), (i128, i128));
+
+fn range(limits: Limits) -> Pair {
+    let (least, most) = limits;
+    Pair {
+        least: fraction_or_zero(least.0, least.1),
+        most: fraction_or_zero(most.0, most.1),
+    }
+}
+
+/// A link as long inbound as outbound.
+struct RoughLink {
+    distance: u32,
+    speed_out: Limits,
+    speed_in: Limits,
+    change_out: Option<Limits>,
+    change_in: Option<Limits>,
+}
+
+const FREE: Limits = ((90, 1), (110, 1));
+
+/// Two links whose limits of speed and of change have denominators without a common divisor, and a free one.
+static ROUGH: [RoughLink; 3] = [
+    RoughLink {
+        distance: 23291,
+        speed_out: ((92009, 941), (93491, 907)),
+        speed_in: ((90067, 991), (93523, 971)),
+        change_out: Some(((-976, 953), (950, 983))),
+        change_in: Some(((-934, 983), (983, 971))),
+    },
+    RoughLink {
+        distance: 24391,
+        speed_out: ((95369, 937), (92357, 907)),
+        speed_in: FREE,
+        change_out: None,
+        change_in: Some(((-925, 953), (986, 907))),
+    },
+    RoughLink {
+        distance: 29881,
+        speed_out: FREE,
+        speed_in: FREE,
+        change_out: None,
+        change_in: None,
+    },
+];
+
+fn change(limits: Option<Limits>) -> Option<Pair> {
+    match limits {
+        Some(limits) => Some(range(limits)),
+        None => None,
+    }
+}
+
+fn link(rough: &RoughLink) -> SampleLink {
+    SampleLink {
+        distance_out: rough.distance,
+        distance_in: rough.distance,
+        speed_out: range(rough.speed_out),
+        speed_in: range(rough.speed_in),
+        change_out: change(rough.change_out),
+        change_in: change(rough.change_in),
+    }
+}
+
+fn rough_head() -> SampleHead {
+    SampleHead {
+        cycle: range(FREE),
+        ..plain_head()
+    }
+}
+
+/// The street of the rough links.
+fn rough_artery(alloc: Global) -> Result<Artery, Fail> {
+    let signals = [
+        plain_signal("A", 50),
+        plain_signal("B", 50),
+        plain_signal("C", 50),
+        plain_signal("D", 50),
+    ];
+    let links = [link(&ROUGH[0]), link(&ROUGH[1]), link(&ROUGH[2])];
+    match sample_street(alloc, rough_head(), &signals, &links) {
+        Ok(artery) => Ok(artery),
+        Err(_) => Err("no artery".into()),
+    }
+}
+
+/// Makes the entry of a box from its own end: whether it is one, what it leaves, and how many pivots the end took.
+fn entered_again(
+    alloc: Global,
+    artery: &Artery,
+    area: &SearchBox,
+) -> Result<(bool, Tableau, u64), Fail>
+    requires { IsBoxOf artery.now area.now }
+{
+    let (mut tableau, basis, pivots) = best_end(alloc, artery, area)?;
+    let (is_entry, _) = entered(alloc, &mut tableau, artery, area, &basis)?;
+    Ok((is_entry, tableau, pivots))
+}
+
+/// Whether two tableaus have the same basic variables.
+fn has_same_basis(alloc: Global, one: &Tableau, other: &Tableau) -> Result<bool, Fail> {
+    let basis = one.basis(alloc)?;
+    let other_basis = other.basis(alloc)?;
+    Ok(basis.as_slice() == other_basis.as_slice())
+}
+
+/// Whether a tableau is the opening of a box, which isn't spent.
+fn is_opening(
+    alloc: Global,
+    tableau: &Tableau,
+    artery: &Artery,
+    area: &SearchBox,
+) -> Result<bool, Fail>
+    requires { IsBoxOf artery.now area.now }
+{
+    let fresh = start(alloc, artery, area)?;
+    let is_basis = has_same_basis(alloc, tableau, &fresh)?;
+    Ok(!tableau.is_spent() && is_basis && is_same(tableau, &fresh))
+}
+
+/// For the root of the rough street: how many pivots its end takes, whether the entry from there is one, and whether it leaves the
+/// opening.
+fn rough_entry(alloc: Global) -> Result<(u64, bool, bool), Fail> {
+    let artery = rough_artery(alloc)?;
+    let area = root(alloc, &artery)?;
+    let (is_entry, tableau, pivots) = entered_again(alloc, &artery, &area)?;
+    let is_opening = is_opening(alloc, &tableau, &artery, &area)?;
+    Ok((pivots, is_entry, is_opening))
+}
+
+/// The pivots of an entry come in the order of the columns, so that one of them can leave 128 bits though no step to the end did.
+#[test]
+fn refused_entry_is_the_opening(rt: HostRuntime) -> Result<(), Fail> {
+    let (pivots, is_entry, is_opening) = rough_entry(rt.alloc())?;
+    assert_eq!(rt; pivots, 9);
+    assert!(rt; !is_entry);
+    assert!(rt; is_opening);
+    Ok(())
+}

@@ -1,0 +1,406 @@
+//! Reports and diagrams that were worked by hand, on two signals of equal reds without left turns.
+
+ghost use Rattle.std.specs.Prelude.{IfOk};
+ghost use Rattle.progression.specs.Good.{Good};
+ghost use Rattle.linear_theory.specs.Boxes.{IsBoxOf};
+ghost use Rattle.branch_tree.specs.Searches.{IsPartOf};
+
+use artery_model::{Artery, Units};
+use branch_tree::{Found, Site, SitePart, Stop, Verdict};
+use diagram_print::{column_text, diagram, place_text, report, row_text, row_text_in};
+use fraction_tableau::WideCell;
+use named_row::{Place, RowId, WideAt};
+use narrow_fraction::{Frac, Op, Wide};
+use offset_recovery::WideTiming;
+use plan_text::FamilyName;
+use sample_streets::{SampleHead, SampleLink, plain_head, plain_signal, range, sample_street};
+use search_box::SearchBox;
+use std::alloc::Global;
+use std::test::Fail;
+use test_bed::{Record, WHOLE_GREEN, fraction, paced_link};
+use time_space::{Timing, holds};
+
+/// What differs between the arteries. The cycle is in seconds and has one length; a pair is outbound and inbound.
+#[derive(Clone, Copy)]
+struct Street {
+    names: [&'static str; 2],
+    units: Units,
+    parts: u32,
+    cycle: i64,
+    red: u32,
+    distances: [u32; 2],
+    speeds: [i64; 2],
+}
+
+const HALF_RED: Street = Street {
+    names: ["A", "B"],
+    units: Units::Metric,
+    parts: 100,
+    cycle: 100,
+    red: 50,
+    distances: [500, 500],
+    speeds: [36, 36],
+};
+
+const METRES: Street = Street {
+    names: ["Oak", "Elm"],
+    parts: 60,
+    cycle: 60,
+    red: 30,
+    distances: [400, 410],
+    speeds: [20, 60],
+    ..HALF_RED
+};
+
+const FEET: Street = Street {
+    units: Units::English,
+    distances: [1100, 1320],
+    ..METRES
+};
+
+/// The second red comes 20 ticks of a third of a second after the first, in the next cycle.
+static NARROW: &str =
+    "grid 3\nunit 3\npattern 1 1\nred 170 10\nrun_out 100\nrun_in 95\nfirst 80 165\nband 10 20\n";
+
+static WHOLE_GREEN_REPORT: &str = "\
+verdict best
+weighted 1 = 1.000000
+band out 1/2 = 0.500000
+band in 1/2 = 0.500000
+cycle 100 = 100.000
+signal 1 pattern 1 offset 0 = 0.000 A
+signal 2 pattern 1 offset 50 = 50.000 B
+link 1 out 36 = 36.000
+link 1 in 36 = 36.000
+";
+
+static WHOLE_GREEN_DIAGRAM: &str = "\
+2 out >>>>>>>>>>>>>>>>>>>>>>>>>>>>>>>#############################
+2 in <<<<<<<<<<<<<<<<<<<<<<<<<<<<<<<#############################
+1 out >#############################>>>>>>>>>>>>>>>>>>>>>>>>>>>>>>
+1 in <#############################<<<<<<<<<<<<<<<<<<<<<<<<<<<<<<
+";
+
+static NARROW_REPORT: &str = "\
+verdict best
+weighted 1/6 = 0.166666
+band out 1/18 = 0.055555
+band in 1/9 = 0.111111
+cycle 60 = 60.000
+signal 1 pattern 1 offset 0 = 0.000 Oak
+signal 2 pattern 1 offset 20/3 = 6.666 Elm
+";
+
+/// The speeds in kilometres an hour, and those of the same runs in miles an hour.
+static METRES_LINKS: &str = "link 1 out 216/5 = 43.200\nlink 1 in 4428/95 = 46.610\n";
+
+static FEET_LINKS: &str = "link 1 out 45/2 = 22.500\nlink 1 in 540/19 = 28.421\n";
+
+static NARROW_DIAGRAM: &str = "\
+2 out >>>>##############################==========================
+2 in <<==##############################=====================<<<<<
+1 out ###########################>>>>==========================###
+1 in ###########################<<<<<<<=======================###
+";
+
+fn head(street: Street) -> SampleHead {
+    SampleHead {
+        units: street.units,
+        parts: street.parts,
+        cycle: range(street.cycle, street.cycle),
+        ..plain_head()
+    }
+}
+
+fn link(street: Street) -> SampleLink {
+    let ([out, back], [least, most]) = (street.distances, street.speeds);
+    paced_link(out, back, least, most)
+}
+
+fn artery(alloc: Global, street: Street) -> Result<Artery, Fail> {
+    let signals = [
+        plain_signal(street.names[0], street.red),
+        plain_signal(street.names[1], street.red),
+    ];
+    match sample_street(alloc, head(street), &signals, &[link(street)]) {
+        Ok(artery) => Ok(artery),
+        Err(_) => Err("no artery".into()),
+    }
+}
+
+fn timing(alloc: Global, times: &str) -> Result<Timing, Fail> {
+    let times = Record::new(times.as_bytes())?;
+    Ok(times.timing(alloc)?.ok_or("no timing")?)
+}
+
+/// The timing, which is good on this artery.
+fn good_timing(alloc: Global, artery: &Artery, times: &str) -> Result<Timing, Fail>
+    ensures { IfOk result (λ timing. Good artery.now timing) }
+{
+    let timing = timing(alloc, times)?;
+    match holds(artery, &timing) {
+        Ok(()) => Ok(timing),
+        Err(_) => Err("not good".into()),
+    }
+}
+
+/// The report of an answer with this timing.
+fn best_report(alloc: Global, artery: &Artery, timing: Timing) -> Result<Vec<u8>, Fail>
+    requires { Good artery.now timing }
+{
+    let found = Found {
+        verdict: Verdict::Best,
+        nodes: Vec::new(alloc),
+        timing: Some(timing),
+        bound: Frac::whole(1),
+        spent: 4,
+    };
+    match report(alloc, artery, &found) {
+        Ok(lines) => Ok(lines),
+        Err(_) => Err("no memory".into()),
+    }
+}
+
+fn reported(alloc: Global, street: Street, times: &str) -> Result<Vec<u8>, Fail> {
+    let artery = artery(alloc, street)?;
+    let timing = good_timing(alloc, &artery, times)?;
+    best_report(alloc, &artery, timing)
+}
+
+#[test]
+fn reports_of_timings(rt: HostRuntime) -> Result<(), Fail> {
+    let cases = [
+        (
+            HALF_RED,
+            WHOLE_GREEN,
+            [WHOLE_GREEN_REPORT, "", WHOLE_GREEN_DIAGRAM],
+        ),
+        (
+            METRES,
+            NARROW,
+            [NARROW_REPORT, METRES_LINKS, NARROW_DIAGRAM],
+        ),
+        (FEET, NARROW, [NARROW_REPORT, FEET_LINKS, NARROW_DIAGRAM]),
+    ];
+    for (street, times, [report, links, diagram]) in cases {
+        let lines = reported(rt.alloc(), street, times)?;
+        let expected = format!(in rt.alloc(); "{report}{links}diagram\n{diagram}")?;
+        assert_eq!(rt; lines.as_slice(), expected.as_bytes());
+    }
+    Ok(())
+}
+
+/// The diagram alone, which needs no good timing.
+fn drawn(alloc: Global, street: Street, times: &str) -> Result<Vec<u8>, Fail> {
+    let artery = artery(alloc, street)?;
+    let timing = timing(alloc, times)?;
+    if timing.count() != artery.count() {
+        return Err("other signals".into());
+    }
+    match diagram(alloc, &artery, &timing) {
+        Ok(lines) => Ok(lines),
+        Err(_) => Err("no memory".into()),
+    }
+}
+
+#[test]
+fn a_diagram_alone(rt: HostRuntime) -> Result<(), Fail> {
+    let lines = drawn(rt.alloc(), HALF_RED, WHOLE_GREEN)?;
+    assert_eq!(rt; lines.as_slice(), WHOLE_GREEN_DIAGRAM.as_bytes());
+    Ok(())
+}
+
+fn root(alloc: Global, artery: &Artery) -> Result<SearchBox, Fail>
+    ensures { IfOk result (λ area. IsBoxOf artery.now area) }
+{
+    match SearchBox::root(alloc, artery) {
+        Ok(area) => Ok(area),
+        Err(_) => Err("no memory".into()),
+    }
+}
+
+/// The report of a search that stopped in the root box at this operation.
+fn wide_report(alloc: Global, artery: &Artery, part: SitePart) -> Result<Vec<u8>, Fail>
+    requires { IsPartOf artery.now part }
+{
+    let area = root(alloc, artery)?;
+    let site = Site {
+        area,
+        pivots: 7,
+        part,
+    };
+    let found = Found {
+        verdict: Verdict::Stopped(Stop::Wide(site)),
+        nodes: Vec::new(alloc),
+        timing: None,
+        bound: fraction(3, 4)?,
+        spent: 9,
+    };
+    match report(alloc, artery, &found) {
+        Ok(lines) => Ok(lines),
+        Err(_) => Err("no memory".into()),
+    }
+}
+
+fn wide(op: Op, left: Frac, right: Frac) -> Wide {
+    Wide { op, left, right }
+}
+
+/// Fails where the report of a search that stopped at this operation names another site or other operands.
+fn told(
+    alloc: Global,
+    artery: &Artery,
+    part: SitePart,
+    site: &str,
+    operands: &str,
+) -> Result<(), Fail>
+    requires { IsPartOf artery.now part }
+{
+    let lines = wide_report(alloc, artery, part)?;
+    let expected = format!(in alloc;
+        "verdict open\nstopped wide\nloops 0:2\nshifts 0:0 0:0\npivots 7\nsite {site}\noperands {operands}\nbound 3/4\nno timing\n"
+    )?;
+    if lines.as_slice() == expected.as_bytes() {
+        return Ok(());
+    }
+    Err(Fail::new(format_args!("not {site} {operands}")))
+}
+
+#[test]
+fn sites_of_refused_operations(rt: HostRuntime) -> Result<(), Fail> {
+    let alloc = rt.alloc();
+    let street = artery(alloc, HALF_RED)?;
+    prove!(street.count() >= 2);
+    let half = fraction(1, 2)?;
+    let less = fraction(-2, 3)?;
+    let five = Frac::whole(5);
+    let product = wide(Op::Mul, less, five);
+    let ratio = SitePart::Ratio(WideCell {
+        row: 3,
+        col: 4,
+        wide: wide(Op::Div, half, five),
+    });
+    let cell = SitePart::Cell(WideCell {
+        row: 0,
+        col: 11,
+        wide: product,
+    });
+    let sum = wide(Op::Add, five, half);
+    let leaf = SitePart::LeafSum {
+        row: RowId {
+            family: 1,
+            index: 2,
+        },
+        at: WideAt {
+            place: Place::Cell(7),
+            wide: sum,
+        },
+    };
+    let difference = wide(Op::Sub, half, less);
+    let block = SitePart::Timing(WideTiming::Sum {
+        link: 1,
+        wide: difference,
+    });
+    let shift = SitePart::Timing(WideTiming::Product {
+        column: 9,
+        wide: product,
+    });
+    let unit = SitePart::Timing(WideTiming::Unit {
+        left: 12,
+        right: 1 << 100,
+    });
+    let number = SitePart::Timing(WideTiming::Number {
+        column: 2,
+        ticks: 1 << 80,
+    });
+    told(alloc, &street, ratio, "ratio 3 4", "div 1/2 5")?;
+    told(alloc, &street, cell, "cell 0 11", "mul -2/3 5")?;
+    told(alloc, &street, leaf, "leaf wout 2 y_out 1", "add 5 1/2")?;
+    told(alloc, &street, block, "sum 1", "sub 1/2 -2/3")?;
+    told(alloc, &street, shift, "product s 1", "mul -2/3 5")?;
+    told(
+        alloc,
+        &street,
+        unit,
+        "unit",
+        "lcm 12 1267650600228229401496703205376",
+    )?;
+    told(
+        alloc,
+        &street,
+        number,
+        "number z",
+        "ticks 1208925819614629174706176",
+    )
+}
+
+/// Whether the column of this number, of two signals, is named so.
+fn is_column(alloc: Global, number: u32, name: &str) -> Result<bool, Fail> {
+    let column = column_text(alloc, 2, number)?;
+    let place = place_text(alloc, 2, Place::Cell(number))?;
+    Ok(column.as_str() == name && place.as_str() == name)
+}
+
+fn is_row(alloc: Global, family: u8, index: u32, name: &str) -> Result<bool, Fail> {
+    let row = row_text(alloc, RowId { family, index })?;
+    Ok(row.as_str() == name)
+}
+
+#[test]
+fn names_of_rows_and_places(rt: HostRuntime) -> Result<(), Fail> {
+    let alloc = rt.alloc();
+    let columns = [
+        (0, "b_out"),
+        (1, "b_in"),
+        (2, "z"),
+        (3, "w_out 1"),
+        (4, "w_out 2"),
+        (5, "w_in 1"),
+        (6, "w_in 2"),
+        (7, "y_out 1"),
+        (8, "y_in 1"),
+        (9, "s 1"),
+        (10, "s 2"),
+        (11, "h_out 1"),
+        (12, "h_in 1"),
+        (13, ""),
+    ];
+    for (number, name) in columns {
+        assert!(rt; is_column(alloc, number, name)?, "{name}");
+    }
+    assert_eq!(rt; place_text(alloc, 2, Place::Bound)?.as_str(), "bound");
+    let rows = [
+        (1, 2, "wout 2"),
+        (10, 1, "drop_in 1"),
+        (11, 0, "cycle_low"),
+        (17, 2, "turn_hi 2"),
+        (18, 0, "least_out"),
+        (21, 0, "equal_hi"),
+    ];
+    for (family, index, name) in rows {
+        assert!(rt; is_row(alloc, family, index, name)?, "{name}");
+    }
+    Ok(())
+}
+
+#[test]
+fn names_of_rows_over_a_table(rt: HostRuntime) -> Result<(), Fail> {
+    let alloc = rt.alloc();
+    let table = [
+        FamilyName {
+            text: "alone",
+            is_lone: true,
+        },
+        FamilyName {
+            text: "several",
+            is_lone: false,
+        },
+    ];
+    for (family, index, name) in [(1, 0, "alone"), (2, 7, "several 7")] {
+        assert_eq!(rt;
+            row_text_in(alloc, &table, RowId { family, index })?.as_str(),
+            name
+        );
+    }
+    Ok(())
+}

@@ -1,0 +1,10 @@
+//! The tests of each crate, in a module of its own.
+
+mod artery_model_tests;
+mod band_measure_tests;
+mod diagram_draw_tests;
+mod half_integer_tests;
+mod outer_edge_tests;
+mod search_box_tests;
+mod second_plan_tests;
+mod time_space_tests;

@@ -1,0 +1,162 @@
+//! Texts of timings, written and read again, and each kind of bad line.
+
+use plan_text::*;
+use progression::Dir;
+use std::alloc::{AllocError, Global};
+use std::test::*;
+use test_bed::{Reader, WHOLE_GREEN, all_texts_told, all_told, told_again};
+use time_space::Timing;
+
+/// Timings of 17 and of 24 signals.
+static LONG: [&str; 2] = [
+    "maxband-timing 1\ngrid 2\nunit 2\npattern 1 1 1 1 1 1 1 1 1 1 1 1 1 1 1 1 1\nred 0 1 2 3 4 5 6 7 8 9 10 11 12 13 14 15 16\nrun_out 50 50 50 50 50 50 50 50 50 50 50 50 50 50 50 50\nrun_in 50 50 50 50 50 50 50 50 50 50 50 50 50 50 50 50\nfirst 100 200\nband 100 100\nend\n",
+    "maxband-timing 1\ngrid 2\nunit 2\npattern 1 1 1 1 1 1 1 1 1 1 1 1 1 1 1 1 1 1 1 1 1 1 1 1\nred 0 1 2 3 4 5 6 7 8 9 10 11 12 13 14 15 16 17 18 19 20 21 22 23\nrun_out 50 50 50 50 50 50 50 50 50 50 50 50 50 50 50 50 50 50 50 50 50 50 50\nrun_in 50 50 50 50 50 50 50 50 50 50 50 50 50 50 50 50 50 50 50 50 50 50 50\nfirst 100 200\nband 100 100\nend\n",
+];
+
+/// A timing with each number at one place alone.
+static OWN_NUMBERS: &str =
+    "maxband-timing 1\ngrid 1208925819614629174706175\nunit 21\npattern 1 2 4\nred 0 7 9\nrun_out 31 32\nrun_in 33 34\nfirst 41 42\nband 43 44\nend\n";
+
+/// Changes of it, and the bad line with its fault.
+static REFUSED: [&str; 42] = [
+    "1 maxband-timing 2 -> 1 Shape",
+    "1 maxband-certificate 1 -> 1 Shape",
+    "1 maxband-timing 1  -> 1 Shape",
+    "1 -> 1 Shape",
+    "2 grid  2 -> 2 Shape",
+    "2 grid\t2 -> 2 Shape",
+    "2 grid -> 2 Shape",
+    "2 grid 2 2 -> 2 Shape",
+    "2 Grid 2 -> 2 Shape",
+    "2 unit 2 -> 2 Shape",
+    "2 grid 2\r -> 2 Number",
+    "2 grid  -> 2 Number",
+    "2 grid 02 -> 2 Number",
+    "2 grid 00 -> 2 Number",
+    "2 grid +2 -> 2 Number",
+    "2 grid + -> 2 Number",
+    "2 grid -2 -> 2 Number",
+    "2 grid 2x -> 2 Number",
+    "2 grid 2.0 -> 2 Number",
+    "2 grid 0 -> 2 Number",
+    "2 grid 1208925819614629174706176 -> 2 Number",
+    "2 grid 340282366920938463463374607431768211458 -> 2 Number",
+    "2 grid 1000000000000000000000000000000000000000000000000000000000000000000000000000000000000000000000000000 -> 2 Number",
+    "3 unit 1 -> 3 Number",
+    "3 -> 3 Shape",
+    "3 unit 2\nunit 2 -> 4 Shape",
+    "4 pattern 1 -> 4 Shape",
+    "4 pattern 1 1 1 1 1 1 1 1 1 1 1 1 1 1 1 1 1 1 1 1 1 1 1 1 1 -> 4 Shape",
+    "4 pattern 1 9 -> 4 Number",
+    "4 pattern 0 1 -> 4 Number",
+    "4 pattern 1 1 1 -> 5 Shape",
+    "5 red 0 100 100 -> 5 Shape",
+    "5 red 0 -> 5 Shape",
+    "6 run_out 100 100 -> 6 Shape",
+    "7 run_in -> 7 Shape",
+    "8 first 100 -> 8 Shape",
+    "8 first 100 1208925819614629174706176 -> 8 Number",
+    "9 band 100 100  -> 9 Shape",
+    "9 band x -> 9 Shape",
+    "10 end  -> 10 Shape",
+    "10 end\n -> 11 Shape",
+    "10 end\nend -> 11 Shape",
+];
+
+/// The same with a byte that no text has.
+static BYTES: [&[u8]; 2] = [
+    b"maxband-timing 1\ngrid \xff\nunit 2\npattern 1 1\nred 0 100\nrun_out 100\nrun_in 100\nfirst 100 200\nband 100 100\nend\n",
+    b"maxband-timing 1\ngrid 2\xff\nunit 2\npattern 1 1\nred 0 100\nrun_out 100\nrun_in 100\nfirst 100 200\nband 100 100\nend\n",
+];
+
+/// Texts without the line feed of this line.
+static ENDED: [&str; 9] = [
+    " -> 1 Ended",
+    "maxband -> 1 Ended",
+    "maxband-timing 1 -> 1 Ended",
+    "maxband-timing 1\n -> 2 Ended",
+    "maxband-timing 1\ngrid 2\nunit 2\npattern 1 9 -> 4 Ended",
+    "maxband-timing 1\ngrid 2\nunit 2\npattern 1 1\n -> 5 Ended",
+    "maxband-timing 1\ngrid 2\nunit 2\npattern 1 1\nred 0 100\nrun_out 100\nrun_in 100\nfirst 100 200\nband 100 100\n -> 10 Ended",
+    "maxband-timing 1\ngrid 2\nunit 2\npattern 1 1\nred 0 100\nrun_out 100\nrun_in 100\nfirst 100 200\nband 100 100\nend -> 10 Ended",
+    "maxband-timing 1\ngrid 2\nunit 2\npattern 1 1\nred 0 100\nrun_out 100\nrun_in 100\nfirst 100 200\nband 100 100\nend\nxyz -> 11 Ended",
+];
+
+/// The timing of a base artery: two signals with reds of half the cycle, and bands of the other half.
+fn base(alloc: Global) -> Result<String, AllocError> {
+    format!(in alloc; "maxband-timing 1\n{}end\n", WHOLE_GREEN)
+}
+
+/// The readers of timings and of certificates: they answer with the first bad line, or whether a text is written again as it was.
+#[derive(Clone, Copy, Drop)]
+pub enum Texts {
+    Timings,
+    Certificates,
+}
+
+impl Reader for Texts {
+    fn answer(&self, alloc: Global, text: &[u8]) -> Result<String, Fail> {
+        let read = match self {
+            Texts::Timings => match read_timing(alloc, text) {
+                Ok(timing) => Ok(write_timing(alloc, &timing).ok()),
+                Err(end) => Err(end),
+            },
+            Texts::Certificates => match read_certificate(alloc, text) {
+                Ok(certificate) => Ok(write_certificate(alloc, &certificate).ok()),
+                Err(end) => Err(end),
+            },
+        };
+        match read {
+            Ok(written) => Ok(told_again(alloc, text, written)?),
+            Err(TextEnd::Bad(BadText { line, kind })) => Ok(format!(in alloc; "{line} {kind:?}")?),
+            Err(TextEnd::Memory) => Err("no memory".into()),
+        }
+    }
+}
+
+fn read(alloc: Global, text: &str) -> Result<Timing, Fail> {
+    match read_timing(alloc, text.as_bytes()) {
+        Ok(timing) => Ok(timing),
+        Err(_) => Err("no timing".into()),
+    }
+}
+
+/// Whether the lists of numbers are those of that text.
+fn has_own_lists(timing: &Timing) -> bool {
+    timing.patterns() == [1, 2, 4].as_slice()
+        && timing.reds() == [0, 7, 9].as_slice()
+        && timing.run_out() == [31, 32].as_slice()
+        && timing.run_in() == [33, 34].as_slice()
+}
+
+/// Whether the other numbers are those of that text.
+fn has_own_numbers(timing: &Timing) -> bool {
+    timing.grid() == 1208925819614629174706175
+        && timing.unit() == 21
+        && timing.first(Dir::Outbound) == 41
+        && timing.first(Dir::Inbound) == 42
+        && timing.band(Dir::Outbound) == 43
+        && timing.band(Dir::Inbound) == 44
+}
+
+#[test]
+fn timings_are_read_and_judged(rt: HostRuntime) -> Result<(), Fail> {
+    let alloc = rt.alloc();
+    let base = base(alloc)?;
+    all_told(alloc, &Texts::Timings, base.as_str(), &[" -> read"])?;
+    all_told(alloc, &Texts::Timings, base.as_str(), &REFUSED)?;
+    all_texts_told(alloc, &Texts::Timings, &ENDED)?;
+    for text in [OWN_NUMBERS, LONG[0], LONG[1]] {
+        assert_eq!(rt;
+            Texts::Timings.answer(alloc, text.as_bytes())?.as_str(),
+            "read"
+        );
+    }
+    for text in BYTES {
+        assert_eq!(rt; Texts::Timings.answer(alloc, text)?.as_str(), "2 Number");
+    }
+    let timing = read(alloc, OWN_NUMBERS)?;
+    assert!(rt; has_own_lists(&timing));
+    assert!(rt; has_own_numbers(&timing));
+    Ok(())
+}

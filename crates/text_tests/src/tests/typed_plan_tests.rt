@@ -1,0 +1,145 @@
+//! Tests of plans that people typed: `description_reader::read_plan` and `typed_plan`, through what is public of them.
+
+use super::description_reader_tests::samples::read;
+use artery_model::{Artery, Flaw};
+use description_reader::{TypedPlan, read_plan};
+use plan_text::write_timing;
+use std::alloc::{AllocError, Global};
+use std::rt::HostRuntime;
+use std::test::Fail;
+use test_bed::{Reader, all_told, flaw_text};
+use typed_plan::{TypedFault, timing_of};
+
+/// What the street of the examples says of the whole.
+static BROADWAY: &str =
+    "[artery]\nname = \"Broadway\"\nunits = \"metric\"\nparts = 100\ncycle = [70, 100]\nratio = \"4/5\"\n";
+
+/// Its signals, without remarks: the name of each, its red, and its left turns outbound and inbound.
+static SIGNALS: [(&str, u32, u32, u32); 8] = [
+    ("Front Street", 42, 0, 0),
+    ("Church Street", 28, 0, 10),
+    ("Court Street", 32, 12, 12),
+    ("Main Street", 32, 0, 10),
+    ("State Street", 42, 0, 0),
+    ("Union Street", 34, 10, 0),
+    ("College Street", 40, 0, 0),
+    ("Park Avenue", 38, 0, 0),
+];
+
+/// How far its signals are apart, in metres.
+static DISTANCES: [u32; 7] = [160, 160, 240, 240, 240, 175, 175];
+
+/// The plan in whole seconds of the examples, as it stands on a sheet.
+static PLAN: &str = "[plan]
+cycle = 90
+offset = [0, 18, 9, 45, 47, 2, 81, 4]
+reference = \"red\"
+patterns = [1, 2, 2, 1, 1, 1, 1, 1]
+speed_out = [50, 50, 50, \"800/19\", 40, 50, 50]
+speed_in = [50, 50, 40, 40, 40, 50, 50]
+";
+
+/// The same on its least grid, worked out by hand from the file of the examples.
+static TIMING: &str = "maxband-timing 1
+grid 50
+unit 45
+pattern 1 2 2 1 1 1 1 1
+red 0 900 450 2250 2350 100 4050 200
+run_out 576 576 864 1026 1080 630 630
+run_in 576 576 1080 1080 1080 630 630
+first 2034 1910
+band 1764 1420
+end
+";
+
+/// Changes of the plan that leave its timing as it is: none, times of travel, offsets of the green, and later ones.
+static SAME: [&str; 4] = [
+    "",
+    "6 travel_out = [\"11.52\", \"11.52\", \"17.28\", \"20.52\", \"108/5\", \"12.6\", \"12.60\"]",
+    "4 reference = \"green\"|3 offset = [\"37.8\", \"43.2\", \"37.8\", \"73.8\", \"84.8\", \"32.6\", 27, \"38.2\"]",
+    "4|3 offset = [90, 108, 99, 135, 137, 92, 171, 94]",
+];
+
+/// Changes of the plan, and why it is refused.
+static REFUSALS: [&str; 22] = [
+    "1 [plan -> NotToml file",
+    "1 versoin = 1\n[plan] -> UnknownKey versoin",
+    "2 cycle = 90\nname = \"x\" -> UnknownKey plan.name",
+    "6 speed_out = [50, 50, 50, 40, 40, 50, 50]\ntravel_out = [9] -> UnknownKey plan.travel_out",
+    "7 travel_in = [9]\nspeed_in = [50] -> UnknownKey plan.travel_in",
+    "1 version = 1 -> UnknownKey cycle",
+    "2 -> Missing plan.cycle",
+    "3 -> Missing plan.offset",
+    "5 -> Missing plan.patterns",
+    "6 -> Missing plan.speed_out",
+    "7 -> Missing plan.speed_in",
+    "2 cycle = 90.0 -> WrongType plan.cycle",
+    "3 offset = [0, 18, 9.5] -> WrongType plan.offset[3]",
+    "5 patterns = [1, \"2\"] -> WrongType plan.patterns[2]",
+    "2 cycle = \"1e2\" -> BadNumber plan.cycle",
+    "3 offset = [0, 18, -1] -> OutOfRange plan.offset[3]",
+    "4 reference = \"amber\" -> OutOfRange plan.reference",
+    "1 version = 2\n[plan] -> OutOfRange version",
+    "3 offset = [0, 18, 9, 45, 47, 2, 81] -> CountMismatch plan.offset",
+    "5 patterns = [1, 2, 2, 1, 1, 1, 1, 1, 1] -> CountMismatch plan.patterns",
+    "6 travel_out = [9] -> CountMismatch plan.travel_out",
+    "6 speed_out = [\"99.991\", \"99.989\", \"99.971\", \"99.961\", \"99.929\", \"99.923\", \"99.907\"] -> ticks 99841088358677995881502010",
+];
+
+/// The description of the street of the examples.
+fn broadway(alloc: Global) -> Result<String, AllocError> {
+    let mut out = String::from_str(alloc, BROADWAY)?;
+    for (name, red, left_out, left_in) in SIGNALS {
+        let signal = format!(in alloc;
+            "[[signal]]\nname = \"{name}\"\nred = {red}\nleft_out = {left_out}\nleft_in = {left_in}\n"
+        )?;
+        out.push_str(signal.as_str())?;
+    }
+    for distance in DISTANCES {
+        let link = format!(in alloc;
+            "[[link]]\ndistance_out = {distance}\ndistance_in = {distance}\nspeed_out = [40, 50]\nspeed_in = [40, 50]\n"
+        )?;
+        out.push_str(link.as_str())?;
+    }
+    Ok(out)
+}
+
+/// The text of the plan's timing, or why there is none.
+fn timed(alloc: Global, artery: &Artery, plan: &TypedPlan) -> Result<String, Fail> {
+    match timing_of(alloc, artery, plan) {
+        Ok(timing) => {
+            let text = write_timing(alloc, &timing)?;
+            Ok(String::from_utf8(text)?)
+        }
+        Err(TypedFault::Refused(refusal)) => Ok(flaw_text(alloc, Flaw::Refused(refusal))?),
+        Err(TypedFault::TooFine { ticks }) => Ok(format!(in alloc; "ticks {ticks}")?),
+        Err(TypedFault::Memory) => Err("memory".into()),
+    }
+}
+
+/// The reader of plans for this street: it answers with the text of the timing, or why there is none.
+#[derive(Clone, Copy, Drop)]
+struct Plans<'a> {
+    artery: &'a Artery,
+}
+
+impl Reader for Plans<'_> {
+    fn answer(&self, alloc: Global, text: &[u8]) -> Result<String, Fail> {
+        match read_plan(alloc, text) {
+            Ok(plan) => timed(alloc, self.artery, &plan),
+            Err(flaw) => Ok(flaw_text(alloc, flaw)?),
+        }
+    }
+}
+
+#[test]
+fn typed_plans(rt: HostRuntime) -> Result<(), Fail> {
+    let alloc = rt.alloc();
+    let artery = read(alloc, broadway(alloc)?.as_bytes())?;
+    let plans = Plans { artery: &artery };
+    for changes in SAME {
+        let case = format!(in alloc; "{changes} -> {TIMING}")?;
+        all_told(alloc, &plans, PLAN, &[case.as_str()])?;
+    }
+    all_told(alloc, &plans, PLAN, &REFUSALS)
+}
