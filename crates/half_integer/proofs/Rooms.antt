@@ -35,15 +35,16 @@ runs_full a t x b n h =
 pub full_runs : (a : Street) (t : TimingRecord) (x : ℤ) (b : ℕ) → fullest a t x (count a) + b ≤ cycle a t + cycle a t → Runs a t x b
 full_runs a t x b h = λ i s. let e = full_fits a t x (count a) i s.0 s.1 in omega arith
 
-pub no_room : (a : Street) (t : TimingRecord) (x : ℤ) → 1 ≤ count a → cycle a t + cycle a t < fullest a t x (count a) → (b : ℕ) → ¬ Runs a t x b
-no_room a t x n h b r = let e = runs_full a t x b n r in absurd (omega arith)
+-- so there is room where the fullest takes at most a cycle
+module _ (a : Street) (t : TimingRecord) (x : ℤ) (half most : ℕ) (e : half ≡ cycle a t) (f : most ≡ fullest a t x (count a)) (n : 1 ≤ count a) where
+  pub no_room : half + half < most → (b : ℕ) → ¬ Runs a t x b
+  no_room h b r = let k = runs_full a t x b n r in absurd (omega (arith, e, f, h, k))
 
-pub its_room : (a : Street) (t : TimingRecord) (x : ℤ) → 1 ≤ count a → fullest a t x (count a) ≤ cycle a t + cycle a t
-    → IsRoom a t x (cycle a t + cycle a t - fullest a t x (count a))
-its_room a t x n h = record {
-  runs = full_runs a t x _ (omega arith);
-  most = λ b r. let e = runs_full a t x b n r in omega arith;
-}
+  pub its_room : most ≤ half + half → IsRoom a t x (half + half - most)
+  its_room h = record {
+    runs = full_runs a t x _ (omega (arith, e, f, h));
+    most = λ b r. let k = runs_full a t x b n r in omega (arith, e, f, h, k);
+  }
 
 -- sums of equals
 sums : (line step first here way next : ℤ) → line ≡ first +ℤ here → step ≡ way → next ≡ here +ℤ way → line +ℤ step ≡ first +ℤ next

@@ -4,15 +4,13 @@ ghost use Rattle.std.specs.Prelude.{◌≡◌, ◌+◌, ◌*◌, ◌<◌, ◌≤
 ghost use Rattle.progression.specs.Street.{count};
 ghost use Rattle.progression.specs.TimingRecord.{cycle};
 ghost use Rattle.progression.specs.Green.{ahead, red_ticks};
-ghost use Rattle.progression.specs.Columns.{numbered};
-ghost use Rattle.progression.specs.declared.parts.Dir.TheVariants.{Outbound, Inbound};
+ghost use Rattle.progression.specs.declared.parts.Dir.TheVariants.{Outbound};
 ghost use Rattle.artery_model.specs.Bounds.{most_signals};
 ghost use Rattle.time_space.specs.Sizes.{IsWithin};
 ghost use Rattle.mirror_theory.specs.EqualBands.{IsEven, HasNone, IsHalfCycleBest};
 ghost use Rattle.mirror_theory.specs.Runs.{far};
-ghost use Rattle.mirror_theory.specs.Built.{phase_of};
+ghost use Rattle.mirror_theory.specs.Built.{phase_at};
 ghost use Rattle.half_integer.specs.HalfPlan.{red_tick, first_out_tick, first_in_tick, half_plan};
-ghost use Rattle.half_integer.specs.Bands.{IsBestBand};
 ghost use Rattle.half_integer.specs.Fitting.{FitsTwice, IsListTo, twice_at};
 
 use crate::search::{OutboundBand, best_band, line_beyond, next_line, wait_in_phase};
@@ -33,13 +31,12 @@ fn ahead(artery: &Artery, timing: &Timing, signal: u32) -> i128
     timing.common_red(signal) - red_start(artery, timing, Dir::Outbound, signal)
 }
 
-/// The better phase of a signal: 0, or half a cycle.
-fn phase(artery: &Artery, timing: &Timing, first: i128, line: i128, signal: u32) -> u128
+/// The better phase of a signal for the line that crosses it here: 0, or half a cycle.
+fn phase(artery: &Artery, timing: &Timing, line: i128, signal: u32) -> u128
     requires first { 1 ≤ signal }
     requires last { signal ≤ count artery.now }
-    requires here { line ≡ first +ℤ far artery.now timing.now signal }
     requires near { IsWithin line }
-    ensures value { result ≡ phase_of artery.now timing.now first signal }
+    ensures value { result ≡ phase_at artery.now timing.now line signal }
     ensures small { result < 2 ^ 92 }
 {
     let half = cycle(artery, timing);
@@ -53,17 +50,16 @@ fn phase(artery: &Artery, timing: &Timing, first: i128, line: i128, signal: u32)
 }
 
 /// The tick half of the outbound red after the common red begins, where the outbound red is centred in its better phase.
-fn centred_tick(artery: &Artery, timing: &Timing, first: i128, line: i128, signal: u32) -> i128
+fn centred_tick(artery: &Artery, timing: &Timing, line: i128, signal: u32) -> i128
     requires first { 1 ≤ signal }
     requires last { signal ≤ count artery.now }
     requires shape { length timing.now.patterns ≡ count artery.now }
-    requires here { line ≡ first +ℤ far artery.now timing.now signal }
     requires near { IsWithin line }
-    ensures value { result ≡ pos (phase_of artery.now timing.now first signal + ahead artery.now timing.now Outbound signal * 2) }
+    ensures value { result ≡ pos (phase_at artery.now timing.now line signal + ahead artery.now timing.now Outbound signal * 2) }
     ensures small { IsWithin result }
 {
     let ahead = ahead(artery, timing, signal);
-    phase(artery, timing, first, line, signal) as i128 + ahead + ahead
+    phase(artery, timing, line, signal) as i128 + ahead + ahead
 }
 
 /// Where the common red of a signal begins, so that the red is centred in its better phase.
@@ -78,7 +74,7 @@ fn red_tick(artery: &Artery, timing: &Timing, first: i128, line: i128, signal: u
 {
     let half = cycle(artery, timing);
     let red = red_ticks(artery, timing, Dir::Outbound, signal);
-    let tick = centred_tick(artery, timing, first, line, signal);
+    let tick = centred_tick(artery, timing, line, signal);
     since_start(half + half, red as i128, tick)
 }
 

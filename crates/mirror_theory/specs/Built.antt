@@ -5,15 +5,19 @@ use Rattle.progression.specs.TimingRecord.{TimingRecord, cycle}
 use Rattle.progression.specs.Green.{since, red_start, red_ticks}
 use Rattle.progression.specs.declared.parts.Dir.TheVariants.{Outbound}
 use Rattle.mirror_theory.specs.EqualBands.{Keeps}
-use Rattle.mirror_theory.specs.Runs.{far, wait_in_phase}
+use Rattle.mirror_theory.specs.Runs.{far, phase_wait}
 
 -- z is y, or whole cycles from there
 abbrev pub IsSameTick : ℕ → ℤ → ℤ → Type 0
 IsSameTick c y z = since c y z ≡ 0
 
--- the phase with the shorter wait: 0, or half a cycle
+-- the phase with the shorter wait, of a line that crosses signal i here: 0, or half a cycle
+abbrev pub phase_at : Street → TimingRecord → ℤ → ℕ → ℕ
+phase_at a t here i = if nat_le (phase_wait (cycle a t) (red_ticks a t Outbound i) here 0) (phase_wait (cycle a t) (red_ticks a t Outbound i) here (cycle a t)) then 0 else cycle a t
+
+-- and of the line at x
 abbrev pub phase_of : Street → TimingRecord → ℤ → ℕ → ℕ
-phase_of a t x i = if nat_le (wait_in_phase a t x i 0) (wait_in_phase a t x i (cycle a t)) then 0 else cycle a t
+phase_of a t x i = phase_at a t (x +ℤ far a t i) i
 
 -- where the mirrored line begins at the last signal
 abbrev pub mirrored : Street → TimingRecord → ℤ → ℕ → ℤ

@@ -25,7 +25,7 @@ sides d q j = elim (cases_lt q j) [
 ]
 
 -- the quotient is nearest where the remainder is at most half
-pub nearest_below : (n d q r : ℕ) → 0 < d → n ≡ q * d + r → r ≤ d - r → r < d → IsNearest AnyNumber n d q
+nearest_below : (n d q r : ℕ) → 0 < d → n ≡ q * d + r → r ≤ d - r → r < d → IsNearest AnyNumber n d q
 nearest_below n d q r p e h l = record {
   allowed = tt;
   nearest = λ j w. elim (sides d q j) [ inl s ↦ let t = s.ticks in omega arith | inr s ↦ let t = s.ticks in omega arith ];
@@ -39,7 +39,7 @@ nearest_below n d q r p e h l = record {
         le_of_mul-le-mul_right back (omega arith)
 
 -- and the next number where it is more
-pub nearest_above : (n d q r : ℕ) → 0 < d → n ≡ q * d + r → d - r < r → r < d → IsNearest AnyNumber n d (q + 1)
+nearest_above : (n d q r : ℕ) → 0 < d → n ≡ q * d + r → d - r < r → r < d → IsNearest AnyNumber n d (q + 1)
 nearest_above n d q r p e h l =
     let next : (q + 1) * d ≡ q * d + d = omega arith in
     record {
@@ -47,6 +47,14 @@ nearest_above n d q r p e h l =
       nearest = λ j w. elim (sides d q j) [ inl s ↦ let t = s.ticks in omega (arith, next) | inr s ↦ let t = s.ticks in omega (arith, next) ];
       lesser = λ j w same. elim (sides d q j) [ inl s ↦ (let t = s.ticks in absurd (omega (arith, next, same))) | inr s ↦ let t = s.least in omega arith ];
     }
+
+-- a number, its quotient and its remainder
+module _ (n d : ℕ) (p : 0 < d) where
+  pub rounds_down : n - n / d * d ≤ d - (n - n / d * d) → IsNearest AnyNumber n d (n / d)
+  rounds_down h = nearest_below n d (n / d) (n - n / d * d) p (omega arith) h (omega arith)
+
+  pub rounds_up : d - (n - n / d * d) < n - n / d * d → IsNearest AnyNumber n d (n / d + 1)
+  rounds_up h = nearest_above n d (n / d) (n - n / d * d) p (omega arith) h (omega arith)
 
 -- ---- limits
 pub most_is : (x : ℚ) (n k : ℕ) → pos n ≡ x.num → (number k ≤ℚ x) ↔ (k ≤ n / x.den)

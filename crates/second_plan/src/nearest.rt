@@ -4,7 +4,6 @@ ghost use Rattle.std.specs.Prelude.{◌≡◌, ◌<◌, ◌≤◌, ◌^◌};
 ghost use Rattle.second_plan.specs.Nearest.{IsNearest, AnyNumber};
 
 /// The whole number nearest to `number / by`, of two the lesser.
-#[tactic(auto, using(crate::proofs::Rounding::nearest_below, crate::proofs::Rounding::nearest_above))]
 pub fn nearest(number: u128, by: u128) -> u128
     requires by { 0 < by }
     requires room { number < 2 ^ 126 }
