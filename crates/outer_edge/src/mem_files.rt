@@ -7,8 +7,9 @@ ghost use Rattle.outer_edge.specs.Held.{ReadsFrom};
 ghost use Rattle.outer_edge.specs.Store.{found, held, OthersKept};
 
 use crate::files::{FileEnd, Files};
-use crate::numbered::stands_in;
-use crate::stored::{Named, copy_from, find, put_copy};
+use crate::numbered::Calls;
+use crate::stored::copy_from;
+use crate::sure_files::SureFiles;
 use narrow_fraction::Memory;
 use std::alloc::Global;
 use std::marker::Model;
@@ -20,10 +21,8 @@ use std::marker::Model;
 /// count of failed reads and one of failed puts, each given as the count of every name.
 #[derive(Drop)]
 pub struct MemFiles {
-    alloc: Global,
-    files: Vec<Named>,
-    fail: Vec<u64>,
-    calls: u64,
+    files: SureFiles,
+    calls: Calls,
     read_faults: u64,
     put_faults: u64,
 }
@@ -33,11 +32,9 @@ impl Model for MemFiles {
 
     ghost Value = { Device };
 
-    ghost use Rattle.outer_edge.specs.Named.{stored};
-
     ghost view = { λ m. record {
-      files = stored m.files.items;
-      ledger = record { fail = m.fail.items; calls = m.calls; read_faults = m.read_faults; put_faults = m.put_faults };
+      files = m.files;
+      ledger = record { fail = m.calls.fail.items; calls = m.calls.made; read_faults = m.read_faults; put_faults = m.put_faults };
     } };
 }
 
@@ -48,10 +45,8 @@ impl MemFiles {
         ensures ledger { result.ledger ≡ record { fail = fail.items; calls = 0; read_faults = 0; put_faults = 0 } }
     {
         MemFiles {
-            alloc,
-            files: Vec::new(alloc),
-            fail,
-            calls: 0,
+            files: SureFiles::new(alloc),
+            calls: Calls { fail, made: 0 },
             read_faults: 0,
             put_faults: 0,
         }
@@ -64,14 +59,14 @@ impl MemFiles {
         ensures ledger { self.new.ledger ≡ self.old.ledger }
         ensures memory { OnErr result (self.new ≡ self.old) }
     {
-        put_copy(self.alloc, &mut self.files, name, bytes)
+        self.files.add(name, bytes)
     }
 
     /// The bytes of a name; none exactly where it was neither added nor put.
     pub fn bytes(&self, name: &str) -> Option<&[u8]>
         ensures { MatchOption result (found self.now.files name.now ≡ None) (λ bytes. found self.now.files name.now ≡ Some bytes.now) }
     {
-        find(self.files.as_slice(), name)
+        self.files.bytes(name)
     }
 
     /// Numbers a call, and answers whether it is to fail.
@@ -79,8 +74,7 @@ impl MemFiles {
         ensures fails { result ≡ next_fails self.old.ledger.fail self.old.ledger.calls }
         ensures ledger { self.new ≡ record self.old { ledger = after_read self.old.ledger false } }
     {
-        self.calls = self.calls.saturating_add(1);
-        stands_in(self.fail.as_slice(), self.calls)
+        self.calls.next_fails()
     }
 
     /// Counts a failed read.
@@ -114,7 +108,7 @@ impl Files for MemFiles {
         if self.next_call() {
             return Err(self.failed_read());
         }
-        match find(self.files.as_slice(), name) {
+        match self.files.bytes(name) {
             Some(file) => Ok(copy_from(file, into, at)),
             None => Err(self.failed_read()),
         }
@@ -132,9 +126,6 @@ impl Files for MemFiles {
             self.put_faults = self.put_faults.saturating_add(1);
             return Err(FileEnd::Failed);
         }
-        match put_copy(self.alloc, &mut self.files, name, bytes) {
-            Ok(()) => Ok(()),
-            Err(Memory) => Err(FileEnd::Memory),
-        }
+        self.files.put(name, bytes)
     }
 }

@@ -4,7 +4,7 @@ ghost use Rattle.std.specs.Prelude.{◌≡◌, ◌+◌, ◌<◌, ◌≤◌, ◌+
 ghost use Rattle.outer_edge.specs.Counts.{next_count};
 ghost use Rattle.outer_edge.specs.Device.{next_fails, count_if};
 
-use crate::numbered::stands_in;
+use crate::numbered::Calls;
 use crate::sink::{Failed, Sink};
 use narrow_fraction::Memory;
 use std::alloc::Global;
@@ -17,8 +17,7 @@ use std::marker::Model;
 pub struct MemSink {
     bytes: Vec<u8>,
     piece: usize,
-    fail: Vec<u64>,
-    calls: u64,
+    calls: Calls,
     faults: u64,
 }
 
@@ -32,8 +31,8 @@ impl Model for MemSink {
       taken = s.bytes.items;
       room = vec_capacity s.bytes - vec_len s.bytes;
       piece = s.piece;
-      fail = s.fail.items;
-      calls = s.calls;
+      fail = s.calls.fail.items;
+      calls = s.calls.made;
       faults = s.faults;
     } };
 
@@ -53,8 +52,7 @@ impl MemSink {
         MemSink {
             bytes: Vec::new(alloc),
             piece,
-            fail,
-            calls: 0,
+            calls: Calls { fail, made: 0 },
             faults: 0,
         }
     }
@@ -100,8 +98,7 @@ impl Sink for MemSink {
         ensures fail { self.new.fail ≡ self.old.fail }
         ensures piece { self.new.piece ≡ self.old.piece }
     {
-        self.calls = self.calls.saturating_add(1);
-        if stands_in(self.fail.as_slice(), self.calls) {
+        if self.calls.next_fails() {
             self.faults = self.faults.saturating_add(1);
             return Err(Failed);
         }
