@@ -3,4 +3,10 @@
 #![tactic(auto)]
 
 #[cfg(test)]
-mod tests;
+mod branch_tree_tests;
+#[cfg(test)]
+mod cycle_sweep_tests;
+#[cfg(test)]
+mod diagram_print_tests;
+#[cfg(test)]
+mod multi_band_tests;

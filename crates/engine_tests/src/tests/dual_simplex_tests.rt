@@ -4,6 +4,7 @@ ghost use Rattle.std.specs.Prelude.{◌≡◌, ℕ, ◌<◌, pos, IfSome, true, 
 ghost use Rattle.rational_theory.specs.Rational.{whole, ◌≤ℚ◌};
 ghost use Rattle.simplex_theory.specs.Tableau.{goal_cell, width};
 ghost use Rattle.simplex_theory.specs.DualSteps.{IsDual};
+ghost use Rattle.fraction_tableau.specs.Loading.{IsUnpivoted};
 
 use crate::tests::solving::solved;
 use crate::tests::two_columns::{TWO_126, blank, load, load_goal, wholes};
@@ -43,16 +44,24 @@ fn name(number: u32) -> RowId {
     }
 }
 
-/// Two rows and a goal, where the tableau is dual feasible.
-fn program(alloc: Global, rows: [[Frac; 3]; 2], goal: [Frac; 3]) -> Option<Tableau>
-    ensures dual { IfSome result (λ tableau. IsDual tableau.table) }
-    ensures unspent { IfSome result (λ tableau. tableau.spent ≡ false) }
+/// Two rows and a goal, loaded.
+fn loaded(alloc: Global, rows: [[Frac; 3]; 2], goal: [Frac; 3]) -> Option<Tableau>
+    ensures { IfSome result (λ tableau. IsUnpivoted tableau.table) }
 {
     let [first, second] = rows;
     let mut tableau = blank(alloc, 2)?;
     load(alloc, &mut tableau, 0, name(0), first)?;
     load(alloc, &mut tableau, 1, name(1), second)?;
     load_goal(alloc, &mut tableau, goal)?;
+    Some(tableau)
+}
+
+/// Two rows and a goal, where the tableau is dual feasible.
+fn program(alloc: Global, rows: [[Frac; 3]; 2], goal: [Frac; 3]) -> Option<Tableau>
+    ensures dual { IfSome result (λ tableau. IsDual tableau.table) }
+    ensures unspent { IfSome result (λ tableau. tableau.spent ≡ false) }
+{
+    let tableau = loaded(alloc, rows, goal)?;
     if tableau.rows() != 2 || !has_low_goal(&tableau) || tableau.is_spent() {
         return None;
     }

@@ -13,11 +13,13 @@ use named_row::{Place, RowId, WideAt};
 use narrow_fraction::{Frac, Op, Wide};
 use offset_recovery::WideTiming;
 use plan_text::FamilyName;
-use sample_streets::{SampleHead, SampleLink, plain_head, plain_signal, range, sample_street};
+use sample_streets::{
+    SampleHead, SampleLink, plain_head, plain_link, plain_signal, range, sample_street,
+};
 use search_box::SearchBox;
 use std::alloc::Global;
 use std::test::Fail;
-use test_bed::{Record, WHOLE_GREEN, fraction, paced_link};
+use test_bed::{Record, WHOLE_GREEN, fraction};
 use time_space::{Timing, holds};
 
 /// What differs between the arteries. The cycle is in seconds and has one length; a pair is outbound and inbound.
@@ -44,12 +46,12 @@ const HALF_RED: Street = Street {
 
 const METRES: Street = Street {
     names: ["Oak", "Elm"],
+    units: Units::Metric,
     parts: 60,
     cycle: 60,
     red: 30,
     distances: [400, 410],
     speeds: [20, 60],
-    ..HALF_RED
 };
 
 const FEET: Street = Street {
@@ -113,8 +115,12 @@ fn head(street: Street) -> SampleHead {
 }
 
 fn link(street: Street) -> SampleLink {
-    let ([out, back], [least, most]) = (street.distances, street.speeds);
-    paced_link(out, back, least, most)
+    SampleLink {
+        distance_in: street.distances[1],
+        speed_out: range(street.speeds[0], street.speeds[1]),
+        speed_in: range(street.speeds[0], street.speeds[1]),
+        ..plain_link(street.distances[0])
+    }
 }
 
 fn artery(alloc: Global, street: Street) -> Result<Artery, Fail> {
@@ -246,24 +252,11 @@ fn wide(op: Op, left: Frac, right: Frac) -> Wide {
     Wide { op, left, right }
 }
 
-/// Fails where the report of a search that stopped at this operation names another site or other operands.
-fn told(
-    alloc: Global,
-    artery: &Artery,
-    part: SitePart,
-    site: &str,
-    operands: &str,
-) -> Result<(), Fail>
-    requires { IsPartOf artery.now part }
-{
-    let lines = wide_report(alloc, artery, part)?;
-    let expected = format!(in alloc;
-        "verdict open\nstopped wide\nloops 0:2\nshifts 0:0 0:0\npivots 7\nsite {site}\noperands {operands}\nbound 3/4\nno timing\n"
-    )?;
-    if lines.as_slice() == expected.as_bytes() {
-        return Ok(());
-    }
-    Err(Fail::new(format_args!("not {site} {operands}")))
+/// The lines around those of a site and its operands.
+fn around(alloc: Global, site: &str) -> Result<String, Fail> {
+    Ok(format!(in alloc;
+        "verdict open\nstopped wide\nloops 0:2\nshifts 0:0 0:0\npivots 7\n{site}bound 3/4\nno timing\n"
+    )?)
 }
 
 #[test]
@@ -313,25 +306,41 @@ fn sites_of_refused_operations(rt: HostRuntime) -> Result<(), Fail> {
         column: 2,
         ticks: 1 << 80,
     });
-    told(alloc, &street, ratio, "ratio 3 4", "div 1/2 5")?;
-    told(alloc, &street, cell, "cell 0 11", "mul -2/3 5")?;
-    told(alloc, &street, leaf, "leaf wout 2 y_out 1", "add 5 1/2")?;
-    told(alloc, &street, block, "sum 1", "sub 1/2 -2/3")?;
-    told(alloc, &street, shift, "product s 1", "mul -2/3 5")?;
-    told(
-        alloc,
-        &street,
-        unit,
-        "unit",
-        "lcm 12 1267650600228229401496703205376",
-    )?;
-    told(
-        alloc,
-        &street,
-        number,
-        "number z",
-        "ticks 1208925819614629174706176",
-    )
+    let cases = [
+        (
+            wide_report(alloc, &street, ratio)?,
+            "site ratio 3 4\noperands div 1/2 5\n",
+        ),
+        (
+            wide_report(alloc, &street, cell)?,
+            "site cell 0 11\noperands mul -2/3 5\n",
+        ),
+        (
+            wide_report(alloc, &street, leaf)?,
+            "site leaf wout 2 y_out 1\noperands add 5 1/2\n",
+        ),
+        (
+            wide_report(alloc, &street, block)?,
+            "site sum 1\noperands sub 1/2 -2/3\n",
+        ),
+        (
+            wide_report(alloc, &street, shift)?,
+            "site product s 1\noperands mul -2/3 5\n",
+        ),
+        (
+            wide_report(alloc, &street, unit)?,
+            "site unit\noperands lcm 12 1267650600228229401496703205376\n",
+        ),
+        (
+            wide_report(alloc, &street, number)?,
+            "site number z\noperands ticks 1208925819614629174706176\n",
+        ),
+    ];
+    for (lines, site) in cases {
+        let expected = around(alloc, site)?;
+        assert_eq!(rt; lines.as_slice(), expected.as_str().as_bytes());
+    }
+    Ok(())
 }
 
 /// Whether the column of this number, of two signals, is named so.

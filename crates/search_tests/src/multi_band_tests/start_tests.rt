@@ -33,17 +33,20 @@ fn cell(tableau: &Tableau, row: u32, col: u32) -> Option<Frac> {
     Some(tableau.cell(row, col))
 }
 
-/// The name of a row and the variable that is basic there, where there is one.
-fn stands(tableau: &Tableau, row: u32) -> Option<(RowId, u32)> {
+/// The name of a row, where there is one.
+fn name(tableau: &Tableau, row: u32) -> Option<RowId> {
     if tableau.rows() <= row {
         return None;
     }
-    Some((tableau.name(row), tableau.basic(row)))
+    Some(tableau.name(row))
 }
 
 /// The variable that is basic in a row, where there is one.
 fn basic(tableau: &Tableau, row: u32) -> Option<u32> {
-    stands(tableau, row).map(|(_, variable)| variable)
+    if tableau.rows() <= row {
+        return None;
+    }
+    Some(tableau.basic(row))
 }
 
 /// Whether the cells of a row begin with these numbers.
@@ -75,8 +78,10 @@ fn halves_are_in_the_basis(rt: HostRuntime) -> Result<(), Fail> {
     assert_eq!(rt; tableau.width(), 13);
     assert_eq!(rt; tableau.rows(), 20);
     assert!(rt; !tableau.is_spent());
-    assert!(rt; stands(&tableau, 14) == Some((row(24), 11)));
-    assert!(rt; stands(&tableau, 18) == Some((row(28), 12)));
+    assert!(rt; name(&tableau, 14) == Some(row(24)));
+    assert!(rt; name(&tableau, 18) == Some(row(28)));
+    assert_eq!(rt; basic(&tableau, 14), Some(11));
+    assert_eq!(rt; basic(&tableau, 18), Some(12));
     assert_eq!(rt; basic(&tableau, 12), Some(25));
     assert!(rt; has_cells(&tableau, 20, &GOAL));
     assert!(rt; has_cells(&tableau, 12, &NEAR_OUT));
