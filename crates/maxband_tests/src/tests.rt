@@ -7,7 +7,29 @@ use narrow_fraction::Memory;
 use outer_edge::{SureFiles, SureSink};
 use std::alloc::Global;
 use std::test::Fail;
-use test_bed::{PLAIN_STREET, with_changes};
+
+/// Two signals 25 seconds apart with a cycle of 100 seconds, half of it red. The block sum is 0 or 1, the shifts are 0, and
+/// no weighted band is above 1/2.
+const NEAR: &str = "[artery]
+units = \"metric\"
+parts = 100
+cycle = [\"100\", \"100\"]
+ratio = \"1\"
+
+[[signal]]
+name = \"A\"
+red = 50
+
+[[signal]]
+name = \"B\"
+red = 50
+
+[[link]]
+distance_out = 250
+distance_in = 250
+speed_out = [\"36\", \"36\"]
+speed_in = [\"36\", \"36\"]
+";
 
 /// Seven signals far apart, driven through at one pace: a search that is not done by the usual limit of work, which is 100000 units.
 const LONG_STREET: &str = "signal = [
@@ -45,9 +67,8 @@ static LINE_FEEDS: [(u64, u8, &str); 3] = [
 
 /// Whether `check` comes to this number and writes this of a certificate of so many line feeds.
 fn is_checked(alloc: Global, length: u64, number: u8, written: &str) -> Result<bool, Memory> {
-    let near = with_changes(alloc, PLAIN_STREET, "distance_out = 250|distance_in = 250")?;
     let mut told = SureFiles::new(alloc);
-    told.add("near.toml", near.as_bytes())?;
+    told.add("near.toml", NEAR.as_bytes())?;
     let mut files = LongFiles { told, length };
     let mut out = SureSink::new(alloc);
     let words = owned(alloc, &["check", "near.toml", "long.txt"])?;
