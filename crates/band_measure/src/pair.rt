@@ -38,8 +38,10 @@ pub fn timing_with(
     run_in: Vec<u128>,
     pairs: BothPairs,
 ) -> Option<Timing>
-    ensures none { IfNone result (¬ IsTiming scale.grid scale.unit patterns.items reds.items run_out.items run_in.items pairs.outbound.first pairs.inbound.first pairs.outbound.band pairs.inbound.band) }
-    ensures value { IfSome result (λ t. t ≡ plan_of scale.grid scale.unit patterns.items reds.items run_out.items run_in.items pairs.outbound.first pairs.inbound.first pairs.outbound.band pairs.inbound.band) }
+    ensures none { IfNone result (¬ IsTiming scale.grid scale.unit patterns.items reds.items run_out.items run_in.items
+        pairs.outbound.first pairs.inbound.first pairs.outbound.band pairs.inbound.band) }
+    ensures value { IfSome result (λ t. t ≡ plan_of scale.grid scale.unit patterns.items reds.items run_out.items run_in.items
+        pairs.outbound.first pairs.inbound.first pairs.outbound.band pairs.inbound.band) }
 {
     let BothPairs { outbound, inbound } = pairs;
     Timing::new(

@@ -103,7 +103,9 @@ fn put_if_given(
 
 /// Puts the least bands, and whether the bands have to be equal.
 fn put_bands(alloc: Global, table: &mut Table, head: &Head) -> Result<(), AllocError>
-    ensures { IfOk result (λ _. table_view table.new ≡ with_member (codes "equal") (boolean head.now.equal) (with_member (codes "least_in") (quantity_data head.now.least_in) (with_member (codes "least_out") (quantity_data head.now.least_out) (table_view table.old)))) }
+    ensures { IfOk result (λ _. table_view table.new ≡ with_member (codes "equal") (boolean head.now.equal)
+        (with_member (codes "least_in") (quantity_data head.now.least_in)
+        (with_member (codes "least_out") (quantity_data head.now.least_out) (table_view table.old)))) }
 {
     let least_out = quantity_value(alloc, head.least_out)?;
     put(alloc, table, "least_out", least_out)?;

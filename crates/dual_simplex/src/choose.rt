@@ -109,7 +109,9 @@ fn better_place(
     requires place { entry.now.place < width tableau.now.table }
     requires cell { entry.now.cell ≡ cell tableau.now.table row entry.now.place }
     requires best { IfSome best (λ other. (other.place < width tableau.now.table) × (other.ratio ≡ ratio tableau.now.table row other.place)) }
-    ensures { result ≡ attempt (ratio_at tableau.now.table row entry.now.place) (with_ratio tableau.now.table row (best_step (λ k. is_negative (cell tableau.now.table row k)) (place_before tableau.now.table row) entry.now.place (place_of best))) }
+    ensures { result ≡ attempt (ratio_at tableau.now.table row entry.now.place)
+        (with_ratio tableau.now.table row
+        (best_step (λ k. is_negative (cell tableau.now.table row k)) (place_before tableau.now.table row) entry.now.place (place_of best))) }
 {
     if !is_negative(&entry.cell) {
         return Ok(best);

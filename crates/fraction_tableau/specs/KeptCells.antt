@@ -57,3 +57,7 @@ pub record IsMerged (i j : ℕ) (v : ℚ) (e d : List ℚ) (cells : List Kept) (
   pub merged : take done.made cells ≡ kept_below (merged_at j v e d) done.below
   pub passed : first_below (clear_at i j e d) done.below ≡ None
   pub fits : (m : ℕ) → m < done.below → FitsFrac (merged_at j v e d m)
+
+-- whatever numbers the cells `old` are of below place n, the cells `new` are of below place p, if the numbers from n on are those of the row d
+abbrev pub IsCarriedOn : List ℚ → ℕ → ℕ → List Kept → List Kept → Type 0
+IsCarriedOn d n p old new = (h : ℕ → ℚ) → ((m : ℕ) → n ≤ m → m < p → h m ≡ number_in d m) → old ≡ kept_below h n → new ≡ kept_below h p

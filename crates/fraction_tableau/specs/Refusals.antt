@@ -30,8 +30,11 @@ turn_refusal i j c = earlier (refused Div (whole (pos 1)) (get_or c j (whole (po
 
 -- ---- another row d, of number i, by the turned row e and the pivot p: at each place but j the product of the cell at j and
 -- the turned row's, and its difference from the own cell; then the cell at j over p
+abbrev pub less_refusal : ℕ → ℕ → ℚ → ℚ → ℚ → Option WideCell
+less_refusal i k f u x = earlier (refused Mul f u i k) (refused Sub x (f *ℚ u) i k)
+
 abbrev pub clear_cell_refusal : ℕ → ℕ → ℚ → ℚ → List ℚ → ℕ → Option WideCell
-clear_cell_refusal i j f u d k = cond (eqb k j) None (earlier (refused Mul f u i k) (refused Sub (get_or d k (whole (pos 0))) (f *ℚ u) i k))
+clear_cell_refusal i j f u d k = cond (eqb k j) None (less_refusal i k f u (get_or d k (whole (pos 0))))
 
 abbrev pub clear_at : ℕ → ℕ → List ℚ → List ℚ → ℕ → Option WideCell
 clear_at i j e d k = clear_cell_refusal i j (get_or d j (whole (pos 0))) (get_or e k (whole (pos 0))) d k

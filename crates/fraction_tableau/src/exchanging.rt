@@ -54,7 +54,8 @@ fn clear_one(
     ensures outcome { result ≡ attempt (row_refusal pivot.now.row pivot.now.place turned.now pivot.now.cell sparse_rows.old index) tt }
     ensures kept { (k : ℕ) → length (get_or sparse_rows.new k []) ≡ length (get_or sparse_rows.old k []) }
     ensures room { length room.new ≡ length room.old }
-    ensures cleared { IfOk result (λ _. sparse_rows.new ≡ cond (eqb index pivot.now.row) sparse_rows.old (set sparse_rows.old index (cleared pivot.now.place turned.now (get_or sparse_rows.old index [])))) }
+    ensures cleared { IfOk result (λ _. sparse_rows.new ≡ cond (eqb index pivot.now.row) sparse_rows.old
+        (set sparse_rows.old index (cleared pivot.now.place turned.now (get_or sparse_rows.old index [])))) }
     ensures narrow { AreNarrow sparse_rows.new }
 {
     if index == pivot.row {
@@ -92,7 +93,8 @@ fn clear_others(
     ensures outcome { result ≡ attempt (first_below (row_refusal pivot.now.row pivot.now.place turned.now pivot.now.cell sparse_rows.old) (length sparse_rows.old)) tt }
     ensures kept { (k : ℕ) → length (get_or sparse_rows.new k []) ≡ length (get_or sparse_rows.old k []) }
     ensures room { length room.new ≡ length room.old }
-    ensures cleared { IfOk result (λ _. (k : ℕ) → k < length sparse_rows.old → (k ≡ pivot.now.row → ⊥) → get_or sparse_rows.new k [] ≡ cleared pivot.now.place turned.now (get_or sparse_rows.old k [])) }
+    ensures cleared { IfOk result (λ _. (k : ℕ) → k < length sparse_rows.old → (k ≡ pivot.now.row → ⊥)
+        → get_or sparse_rows.new k [] ≡ cleared pivot.now.place turned.now (get_or sparse_rows.old k [])) }
     ensures narrow { AreNarrow sparse_rows.new }
 {
     for index in 0..sparse_rows.len() {

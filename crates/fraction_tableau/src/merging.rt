@@ -3,11 +3,10 @@
 ghost use Rattle.std.specs.Prelude.{◌≡◌, ℕ, ◌+◌, ◌<◌, ◌≤◌, ◌^◌, None, Some, pos, cond, eqb, length, take, unsigned_abs, IfOk, IfErr};
 ghost use Rattle.rational_theory.specs.Rational.{ℚ, whole, over, neg_ℚ, ◌+ℚ◌, ◌*ℚ◌};
 ghost use Rattle.narrow_fraction.specs.Fraction.{FitsFrac};
-ghost use Rattle.narrow_fraction.specs.Attempt.{attempt, earlier, first_below};
-ghost use Rattle.narrow_fraction.specs.declared.wide.Op.TheVariants.{Mul, Sub};
+ghost use Rattle.narrow_fraction.specs.Attempt.{attempt, first_below};
 ghost use Rattle.fraction_tableau.specs.Narrow.{IsNarrow};
-ghost use Rattle.fraction_tableau.specs.Refusals.{refused, clear_at};
-ghost use Rattle.fraction_tableau.specs.KeptCells.{number_in, kept_below, merged_at, IsMerged};
+ghost use Rattle.fraction_tableau.specs.Refusals.{less_refusal, clear_at};
+ghost use Rattle.fraction_tableau.specs.KeptCells.{number_in, kept_below, merged_at, IsMerged, IsCarriedOn};
 ghost use Rattle.fraction_tableau.specs.Marks.{AreMarked};
 ghost use Rattle.fraction_tableau.specs.Scales.{numerator, CanRescale};
 
@@ -63,7 +62,7 @@ fn keep_some(
     ensures taken { result.taken ≡ length (kept_below (number_in row.now) place) }
     ensures made { result.made ≤ place }
     ensures marked { AreMarked done.marks (take done.made cells.old) → AreMarked result.marks (take result.made cells.new) }
-    ensures cells { (h : ℕ → ℚ) → ((m : ℕ) → done.below ≤ m → m < place → h m ≡ number_in row.now m) → take done.made cells.old ≡ kept_below h done.below → take result.made cells.new ≡ kept_below h place }
+    ensures cells { IsCarriedOn row.now done.below place (take done.made cells.old) (take result.made cells.new) }
 {
     let kept = row.kept();
     let mut made = done.made;
@@ -112,7 +111,7 @@ pub fn keep_before(
     ensures taken { result.taken ≡ length (kept_below (number_in row.now) place) }
     ensures made { result.made ≤ place }
     ensures marked { AreMarked done.marks (take done.made cells.old) → AreMarked result.marks (take result.made cells.new) }
-    ensures cells { (h : ℕ → ℚ) → ((m : ℕ) → done.below ≤ m → m < place → h m ≡ number_in row.now m) → take done.made cells.old ≡ kept_below h done.below → take result.made cells.new ≡ kept_below h place }
+    ensures cells { IsCarriedOn row.now done.below place (take done.made cells.old) (take result.made cells.new) }
 {
     let kept = row.kept();
     if done.taken < kept.len() {
@@ -200,7 +199,7 @@ pub fn cleared_number(
     turned: Frac,
     factor: Frac,
 ) -> Result<Frac, WideCell>
-    ensures outcome { result ≡ attempt (earlier (refused Mul factor turned spot.row spot.col) (refused Sub number (factor *ℚ turned) spot.row spot.col)) (number +ℚ neg_ℚ (factor *ℚ turned)) }
+    ensures outcome { result ≡ attempt (less_refusal spot.row spot.col factor turned number) (number +ℚ neg_ℚ (factor *ℚ turned)) }
     ensures fits { IfOk result (λ value. FitsFrac value) }
 {
     let part = match spot.times(factor, turned) {
@@ -213,7 +212,8 @@ pub fn cleared_number(
 /// The new cell at the place of a cell of the turned row.
 fn cleared_cell(clearing: &Clearing, cell: Frac, turned: &Kept) -> Result<Frac, WideCell>
     requires { FitsFrac clearing.now.own.cell }
-    ensures outcome { result ≡ attempt (cond (eqb turned.now.place clearing.now.own.place) None (earlier (refused Mul clearing.now.factor turned.now.cell clearing.now.number turned.now.place) (refused Sub cell (clearing.now.factor *ℚ turned.now.cell) clearing.now.number turned.now.place))) (cond (eqb turned.now.place clearing.now.own.place) clearing.now.own.cell (cell +ℚ neg_ℚ (clearing.now.factor *ℚ turned.now.cell))) }
+    ensures outcome { result ≡ attempt (cond (eqb turned.now.place clearing.now.own.place) None (less_refusal clearing.now.number turned.now.place clearing.now.factor turned.now.cell cell))
+        (cond (eqb turned.now.place clearing.now.own.place) clearing.now.own.cell (cell +ℚ neg_ℚ (clearing.now.factor *ℚ turned.now.cell))) }
     ensures fits { IfOk result (λ value. FitsFrac value) }
 {
     if turned.place == clearing.own.place {

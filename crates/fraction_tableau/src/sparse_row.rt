@@ -54,7 +54,8 @@ impl Model for SparseRow {
 
     ghost view = { λ a. dense_row (length a.cells.items) (take a.count a.cells.items) a.bound };
 
-    ghost invariant = { λ a. IsSparse (length a.cells.items) a.count (take a.count a.cells.items) × (HasScale a.scale (dense_row (length a.cells.items) (take a.count a.cells.items) a.bound) × AreMarked a.marks (take a.count a.cells.items)) };
+    ghost invariant = { λ a. IsSparse (length a.cells.items) a.count (take a.count a.cells.items)
+        × (HasScale a.scale (dense_row (length a.cells.items) (take a.count a.cells.items) a.bound) × AreMarked a.marks (take a.count a.cells.items)) };
 }
 
 impl SparseRow {
@@ -472,7 +473,8 @@ impl SparseRow {
         requires factor { factor.now ≡ number_in row.now place }
         requires own { number_in turned.now place ≡ whole (pos 0) → ⊥ }
         requires short { length row.now < 2 ^ 32 }
-        ensures passed { result ≡ true → (i : ℕ) (pivot : ℚ) → (pivot ≡ whole (pos 0) → ⊥) → number_in turned.now place ≡ inverse_ℚ pivot → clear_refusal i place turned.now row.now pivot ≡ None }
+        ensures passed { result ≡ true → (i : ℕ) (pivot : ℚ) → (pivot ≡ whole (pos 0) → ⊥) → number_in turned.now place ≡ inverse_ℚ pivot
+            → clear_refusal i place turned.now row.now pivot ≡ None }
         ensures cleared { result ≡ true → self.new ≡ cleared place turned.now row.now }
         ensures width { length self.new ≡ length self.old }
         ensures narrow { result ≡ true → IsNarrow self.new }

@@ -43,7 +43,9 @@ impl Model for Tableau {
 
     ghost view = { λ a. record { table = record { rows = a.sparse_rows.items; goal = a.goal; basic = a.basic.items; standing = a.standing.items }; names = a.names.items; spent = a.spent } };
 
-    ghost invariant = { λ a. IsSound (record { table = record { rows = a.sparse_rows.items; goal = a.goal; basic = a.basic.items; standing = a.standing.items }; names = a.names.items; spent = a.spent }) (length a.spare) (length a.held) (length a.room) };
+    ghost invariant = { λ a. IsSound
+        (record { table = record { rows = a.sparse_rows.items; goal = a.goal; basic = a.basic.items; standing = a.standing.items }; names = a.names.items; spent = a.spent })
+        (length a.spare) (length a.held) (length a.room) };
 }
 
 impl Tableau {

@@ -17,7 +17,8 @@ use narrow_fraction::{Frac, Quotient};
 fn turn_cell(kept: &Kept, number: u32, own: &Kept, pivot: Frac) -> Result<Frac, WideCell>
     requires pivot { pivot ≡ whole (pos 0) → ⊥ }
     requires fits { FitsFrac own.now.cell }
-    ensures outcome { result ≡ attempt (cond (eqb kept.now.place own.now.place) None (refused Div kept.now.cell pivot number kept.now.place)) (cond (eqb kept.now.place own.now.place) own.now.cell (kept.now.cell *ℚ inverse_ℚ pivot)) }
+    ensures outcome { result ≡ attempt (cond (eqb kept.now.place own.now.place) None (refused Div kept.now.cell pivot number kept.now.place))
+        (cond (eqb kept.now.place own.now.place) own.now.cell (kept.now.cell *ℚ inverse_ℚ pivot)) }
     ensures fits { IfOk result (λ value. FitsFrac value) }
 {
     if kept.place == own.place {

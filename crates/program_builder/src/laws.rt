@@ -31,7 +31,8 @@ pub fn law_rows_are_all()
 /// wait.
 #[tactic(auto, using(crate::proofs::OpeningLaws::opening_goal))]
 pub fn law_goal_row()
-    ensures { (a : Street) (box : Area) (k : ℕ) → IsValid a → k ≤ width (count a) → goal_cell (opening a box) k ≡ slice_index_or (wait_row a Outbound) k (number 0) +ℚ a.head.ratio *ℚ slice_index_or (wait_row a Inbound) k (number 0) }
+    ensures { (a : Street) (box : Area) (k : ℕ) → IsValid a → k ≤ width (count a)
+        → goal_cell (opening a box) k ≡ slice_index_or (wait_row a Outbound) k (number 0) +ℚ a.head.ratio *ℚ slice_index_or (wait_row a Inbound) k (number 0) }
 {}
 
 /// The tableau that the steps of a box begin from, whatever boxes are above it: it is dual feasible, and it stands for the box's

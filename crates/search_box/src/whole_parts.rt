@@ -60,7 +60,8 @@ fn waits_and_shifts(artery: &Artery, signal: u32, other: u32) -> i128
 fn reds_and_clearances(artery: &Artery, link: u32) -> i128
     requires first { 1 ≤ link }
     requires last { link < count artery.now }
-    ensures value { result ≡ pos (signal_of artery.now link).red -ℤ pos ((signal_of artery.now (link + 1)).red + clearance artery.now Dir.Outbound (link + 1) + clearance artery.now Dir.Inbound link) }
+    ensures value { result ≡ pos (signal_of artery.now link).red
+        -ℤ pos ((signal_of artery.now (link + 1)).red + clearance artery.now Dir.Outbound (link + 1) + clearance artery.now Dir.Inbound link) }
     ensures size { unsigned_abs result < 2 ^ 15 }
 {
     prove!(link < artery.count());
