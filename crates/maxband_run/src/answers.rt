@@ -1,9 +1,9 @@
 //! The answers of the commands: their files are read one after the other, and what is found of these is told.
 
-ghost use Rattle.std.specs.Prelude.{◌≡◌, None, IfOk, option_map};
+ghost use Rattle.std.specs.Prelude.{◌≡◌, Some, None, IfOk, map, option_map, string_bytes};
 ghost use Rattle.maxband_run.specs.Lines.{words_line};
 ghost use Rattle.maxband_run.specs.Reading.{LeavesFiles};
-ghost use Rattle.maxband_run.specs.Command.{view, shape, InLimits};
+ghost use Rattle.maxband_run.specs.Command.{Hold, Show, Check, CheckLinks, Solve, Links, Renew, Bands, Round, RoundFrom, Half, TimingOf, Draw, Sweep, view, shape, InLimits};
 ghost use Rattle.maxband_run.specs.Run.{ended, IsAnswered, LeavesAlone};
 
 use crate::answer::{Answer, Unread, told};
@@ -41,6 +41,214 @@ fn words_answer(alloc: Global) -> Result<Answer<'static>, Memory>
     Ok(told(Cause::Words, lines))
 }
 
+/// The answer of `hold`, or why a file that it takes isn't read.
+fn hold_answer<'a, F: Files>(
+    alloc: Global,
+    files: &mut F,
+    artery: &'a str,
+    timing: &'a str,
+) -> Result<Answer<'a>, Unread>
+    ensures answered { IsAnswered F.Files files.old files.new (Some (Hold artery.now timing.now)) (ended result) }
+    ensures kept { LeavesFiles F.Files files.old files.new }
+{
+    let (street, plan) = read_both(alloc, files, artery, timing)?;
+    Ok(hold(alloc, &street, &plan)?)
+}
+
+/// The answer of `show`, or why a file that it takes isn't read.
+fn show_answer<'a, F: Files>(
+    alloc: Global,
+    files: &mut F,
+    artery: &'a str,
+) -> Result<Answer<'a>, Unread>
+    ensures answered { IsAnswered F.Files files.old files.new (Some (Show artery.now)) (ended result) }
+    ensures kept { LeavesFiles F.Files files.old files.new }
+{
+    let street = read_one(alloc, files, artery)?;
+    Ok(show(alloc, &street)?)
+}
+
+/// The answer of `check`, or why a file that it takes isn't read.
+fn check_answer<'a, F: Files>(
+    alloc: Global,
+    files: &mut F,
+    artery: &'a str,
+    certificate: &'a str,
+) -> Result<Answer<'a>, Unread>
+    ensures answered { IsAnswered F.Files files.old files.new (Some (Check artery.now certificate.now)) (ended result) }
+    ensures kept { LeavesFiles F.Files files.old files.new }
+{
+    let (street, warrant) = read_both(alloc, files, artery, certificate)?;
+    Ok(check(alloc, &street, &warrant)?)
+}
+
+/// The answer of `check-links`, or why a file that it takes isn't read.
+fn check_links_answer<'a, F: Files>(
+    alloc: Global,
+    files: &mut F,
+    artery: &'a str,
+    certificate: &'a str,
+) -> Result<Answer<'a>, Unread>
+    ensures answered { IsAnswered F.Files files.old files.new (Some (CheckLinks artery.now certificate.now)) (ended result) }
+    ensures kept { LeavesFiles F.Files files.old files.new }
+{
+    let (street, warrant) = read_both(alloc, files, artery, certificate)?;
+    Ok(check_links(alloc, &street, &warrant)?)
+}
+
+/// The answer of `solve`, or why a file that it takes isn't read.
+fn solve_answer<'a, F: Files>(
+    alloc: Global,
+    files: &mut F,
+    artery: &'a str,
+    certificate: &'a str,
+    limit: Option<u64>,
+) -> Result<Answer<'a>, Unread>
+    requires { InLimits (Some (Solve artery.now certificate.now limit)) }
+    ensures answered { IsAnswered F.Files files.old files.new (Some (Solve artery.now certificate.now limit)) (ended result) }
+    ensures kept { LeavesFiles F.Files files.old files.new }
+{
+    let street = read_one(alloc, files, artery)?;
+    Ok(solve(alloc, &street, certificate, limit)?)
+}
+
+/// The answer of `links`, or why a file that it takes isn't read.
+fn links_answer<'a, F: Files>(
+    alloc: Global,
+    files: &mut F,
+    artery: &'a str,
+    certificate: &'a str,
+    limit: Option<u64>,
+) -> Result<Answer<'a>, Unread>
+    requires { InLimits (Some (Links artery.now certificate.now limit)) }
+    ensures answered { IsAnswered F.Files files.old files.new (Some (Links artery.now certificate.now limit)) (ended result) }
+    ensures kept { LeavesFiles F.Files files.old files.new }
+{
+    let street = read_one(alloc, files, artery)?;
+    Ok(links(alloc, &street, certificate, limit)?)
+}
+
+/// The answer of `renew`, or why a file that it takes isn't read.
+fn renew_answer<'a, F: Files>(
+    alloc: Global,
+    files: &mut F,
+    certificate: &'a str,
+    new: &'a str,
+) -> Result<Answer<'a>, Unread>
+    ensures answered { IsAnswered F.Files files.old files.new (Some (Renew certificate.now new.now)) (ended result) }
+    ensures kept { LeavesFiles F.Files files.old files.new }
+{
+    let warrant = read_one(alloc, files, certificate)?;
+    Ok(renew(alloc, &warrant, new)?)
+}
+
+/// The answer of `bands`, or why a file that it takes isn't read.
+fn bands_answer<'a, F: Files>(
+    alloc: Global,
+    files: &mut F,
+    artery: &'a str,
+    timing: &'a str,
+) -> Result<Answer<'a>, Unread>
+    ensures answered { IsAnswered F.Files files.old files.new (Some (Bands artery.now timing.now)) (ended result) }
+    ensures kept { LeavesFiles F.Files files.old files.new }
+{
+    let (street, plan) = read_both(alloc, files, artery, timing)?;
+    Ok(bands(alloc, &street, &plan)?)
+}
+
+/// The answer of `round`, or why a file that it takes isn't read.
+fn round_answer<'a, F: Files>(
+    alloc: Global,
+    files: &mut F,
+    artery: &'a str,
+    certificate: &'a str,
+    plan: &'a str,
+) -> Result<Answer<'a>, Unread>
+    ensures answered { IsAnswered F.Files files.old files.new (Some (Round artery.now certificate.now plan.now)) (ended result) }
+    ensures kept { LeavesFiles F.Files files.old files.new }
+{
+    let (street, warrant) = read_both(alloc, files, artery, certificate)?;
+    Ok(round(alloc, &street, &warrant, plan)?)
+}
+
+/// The answer of `round` with a timing to begin from, or why a file that it takes isn't read.
+fn round_from_answer<'a, F: Files>(
+    alloc: Global,
+    files: &mut F,
+    artery: &'a str,
+    certificate: &'a str,
+    file: &'a str,
+    plan: &'a str,
+) -> Result<Answer<'a>, Unread>
+    ensures answered { IsAnswered F.Files files.old files.new (Some (RoundFrom artery.now certificate.now file.now plan.now)) (ended result) }
+    ensures kept { LeavesFiles F.Files files.old files.new }
+{
+    let (street, warrant, timed) = read_three(alloc, files, artery, certificate, file)?;
+    Ok(round_from(alloc, &street, &warrant, &timed, plan)?)
+}
+
+/// The answer of `half`, or why a file that it takes isn't read.
+fn half_answer<'a, F: Files>(
+    alloc: Global,
+    files: &mut F,
+    artery: &'a str,
+    timing: &'a str,
+    new: &'a str,
+) -> Result<Answer<'a>, Unread>
+    ensures answered { IsAnswered F.Files files.old files.new (Some (Half artery.now timing.now new.now)) (ended result) }
+    ensures kept { LeavesFiles F.Files files.old files.new }
+{
+    let (street, plan) = read_both(alloc, files, artery, timing)?;
+    Ok(half_cycle(alloc, &street, &plan, new)?)
+}
+
+/// The answer of `timing`, or why a file that it takes isn't read.
+fn timing_answer<'a, F: Files>(
+    alloc: Global,
+    files: &mut F,
+    artery: &'a str,
+    file: &'a str,
+    timing: &'a str,
+) -> Result<Answer<'a>, Unread>
+    ensures answered { IsAnswered F.Files files.old files.new (Some (TimingOf artery.now file.now timing.now)) (ended result) }
+    ensures kept { LeavesFiles F.Files files.old files.new }
+{
+    let (street, typed) = read_both(alloc, files, artery, file)?;
+    Ok(typed_timing(alloc, &street, &typed, timing)?)
+}
+
+/// The answer of `draw`, or why a file that it takes isn't read.
+fn draw_answer<'a, F: Files>(
+    alloc: Global,
+    files: &mut F,
+    artery: &'a str,
+    file: &'a str,
+    drawing: &'a str,
+) -> Result<Answer<'a>, Unread>
+    ensures answered { IsAnswered F.Files files.old files.new (Some (Draw artery.now file.now drawing.now)) (ended result) }
+    ensures kept { LeavesFiles F.Files files.old files.new }
+{
+    let (street, timed) = read_both(alloc, files, artery, file)?;
+    Ok(draw_timing(alloc, &street, &timed, drawing)?)
+}
+
+/// The answer of `sweep`, or why a file that it takes isn't read.
+fn sweep_answer<'a, F: Files>(
+    alloc: Global,
+    files: &mut F,
+    artery: &'a str,
+    table: &'a str,
+    limit: Option<u64>,
+    cycles: &'a [String],
+) -> Result<Answer<'a>, Unread>
+    requires { InLimits (Some (Sweep artery.now table.now limit (map string_bytes cycles.now))) }
+    ensures answered { IsAnswered F.Files files.old files.new (Some (Sweep artery.now table.now limit (map string_bytes cycles.now))) (ended result) }
+    ensures kept { LeavesFiles F.Files files.old files.new }
+{
+    let street = read_one(alloc, files, artery)?;
+    Ok(sweep(alloc, &street, table, limit, cycles)?)
+}
+
 /// The answer to what the words ask for, or why a file that it takes isn't read.
 fn found<'a, F: Files>(
     alloc: Global,
@@ -53,58 +261,58 @@ fn found<'a, F: Files>(
     ensures alone { LeavesAlone (shape (option_map view command.entry)).inputs (shape (option_map view command.entry)).output files.old files.new }
 {
     match command {
-        Some(Command::Hold(artery, timing)) => {
-            let (street, plan) = read_both(alloc, files, artery, timing)?;
-            Ok(hold(alloc, &street, &plan)?)
-        }
-        Some(Command::Show(artery)) => {
-            let street = read_one(alloc, files, artery)?;
-            Ok(show(alloc, &street)?)
-        }
-        Some(Command::Check(artery, certificate)) => {
-            let (street, warrant) = read_both(alloc, files, artery, certificate)?;
-            Ok(check(alloc, &street, &warrant)?)
-        }
-        Some(Command::CheckLinks(artery, certificate)) => {
-            let (street, warrant) = read_both(alloc, files, artery, certificate)?;
-            Ok(check_links(alloc, &street, &warrant)?)
-        }
-        Some(Command::Solve(artery, certificate, limit)) => {
-            let street = read_one(alloc, files, artery)?;
-            Ok(solve(alloc, &street, certificate, limit)?)
-        }
-        Some(Command::Links(artery, certificate, limit)) => {
-            let street = read_one(alloc, files, artery)?;
-            Ok(links(alloc, &street, certificate, limit)?)
-        }
-        Some(Command::Renew(certificate, new)) => {
-            let warrant = read_one(alloc, files, certificate)?;
-            Ok(renew(alloc, &warrant, new)?)
-        }
-        Some(Command::Bands(artery, timing)) => {
-            let (street, plan) = read_both(alloc, files, artery, timing)?;
-            Ok(bands(alloc, &street, &plan)?)
-        }
-        Some(Command::Round(artery, certificate, plan)) => {
-            let (street, warrant) = read_both(alloc, files, artery, certificate)?;
-            Ok(round(alloc, &street, &warrant, plan)?)
-        }
-        Some(Command::RoundFrom(artery, certificate, file, plan)) => {
-            let (street, warrant, timed) = read_three(alloc, files, artery, certificate, file)?;
-            Ok(round_from(alloc, &street, &warrant, &timed, plan)?)
-        }
-        Some(Command::Half(artery, timing, new)) => {
-            let (street, plan) = read_both(alloc, files, artery, timing)?;
-            Ok(half_cycle(alloc, &street, &plan, new)?)
-        }
-        Some(Command::TimingOf(artery, file, timing)) => {
-            let (street, typed) = read_both(alloc, files, artery, file)?;
-            Ok(typed_timing(alloc, &street, &typed, timing)?)
-        }
-        Some(Command::Draw(artery, file, drawing)) => {
-            let (street, timed) = read_both(alloc, files, artery, file)?;
-            Ok(draw_timing(alloc, &street, &timed, drawing)?)
-        }
+        Some(Command::Hold(artery, timing)) => hold_answer(alloc, files, artery, timing),
+        Some(Command::Show(artery)) => show_answer(alloc, files, artery),
+        Some(Command::Check(artery, certificate)) => check_answer(
+            alloc,
+            files,
+            artery,
+            certificate,
+        ),
+        Some(Command::CheckLinks(artery, certificate)) => check_links_answer(
+            alloc,
+            files,
+            artery,
+            certificate,
+        ),
+        Some(Command::Solve(artery, certificate, limit)) => solve_answer(
+            alloc,
+            files,
+            artery,
+            certificate,
+            limit,
+        ),
+        Some(Command::Links(artery, certificate, limit)) => links_answer(
+            alloc,
+            files,
+            artery,
+            certificate,
+            limit,
+        ),
+        Some(Command::Renew(certificate, new)) => renew_answer(alloc, files, certificate, new),
+        Some(Command::Bands(artery, timing)) => bands_answer(alloc, files, artery, timing),
+        Some(Command::Round(artery, certificate, plan)) => round_answer(
+            alloc,
+            files,
+            artery,
+            certificate,
+            plan,
+        ),
+        Some(Command::RoundFrom(artery, certificate, file, plan)) => round_from_answer(
+            alloc,
+            files,
+            artery,
+            certificate,
+            file,
+            plan,
+        ),
+        Some(Command::Half(artery, timing, new)) => half_answer(alloc, files, artery, timing, new),
+        Some(Command::TimingOf(artery, file, timing)) => timing_answer(
+            alloc, files, artery, file, timing,
+        ),
+        Some(Command::Draw(artery, file, drawing)) => draw_answer(
+            alloc, files, artery, file, drawing,
+        ),
         Some(Command::Help) => Ok(help(alloc)?),
         Some(Command::Version) => Ok(version(alloc)?),
         Some(Command::Make { signals, seed }) => Ok(make(alloc, signals, seed)?),
@@ -122,10 +330,7 @@ fn found<'a, F: Files>(
                 limit,
                 cycles,
             },
-        ) => {
-            let street = read_one(alloc, files, artery)?;
-            Ok(sweep(alloc, &street, table, limit, cycles)?)
-        }
+        ) => sweep_answer(alloc, files, artery, table, limit, cycles),
         None => Ok(words_answer(alloc)?),
     }
 }

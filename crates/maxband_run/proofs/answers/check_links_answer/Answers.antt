@@ -1,0 +1,10 @@
+use Rattle.std.proofs.Common.{rules, Some, Ok, refl}
+use Rattle.maxband_run.specs.Command.{CheckLinks}
+use Rattle.maxband_run.proofs.Told.{unread, tells}
+use Rattle.maxband_run.proofs.answers.check_links_answer.Goals as goal
+
+pub returns-in_err-street-clause-answered : goal.returns-in_err-street-clause-answered
+returns-in_err-street-clause-answered g c = let told = unread {asked = Some (CheckLinks c.args.artery.now c.args.certificate.now)} _ c.in_err-street.ensures.unread in search (rules, told)
+
+pub returns-clause-answered : goal.returns-clause-answered
+returns-clause-answered g c = let told = tells {asked = Some (CheckLinks c.args.artery.now c.args.certificate.now)} (Ok c.in_ok-check_links.field-0) c.in_ok-street.ensures.read refl c.in_ok-check_links.ensures.finds c.in_ok-check_links.ensures.no_put in search (rules, told)

@@ -1,0 +1,9 @@
+use Rattle.std.proofs.Common.{rules, Some, Ok, map, refl}
+use Rattle.std.specs.Prelude.{string_bytes}
+use Rattle.maxband_run.specs.Command.{Sweep}
+use Rattle.maxband_run.specs.Sweep.{IsSweep}
+use Rattle.maxband_run.proofs.Told.{puts}
+use Rattle.maxband_run.proofs.answers.sweep_answer.Goals as goal
+
+pub returns-clause-answered : goal.returns-clause-answered
+returns-clause-answered g c = let told = puts {asked = Some (Sweep c.args.artery.now c.args.table.now c.args.limit (map string_bytes c.args.cycles.now))} (Ok c.in_ok-sweep.field-0) (IsSweep c.in_ok-street.street c.args.limit (map string_bytes c.args.cycles.now)) (λ d lines bytes h. (bytes, refl, h)) c.in_ok-street.ensures.read refl c.in_ok-sweep.ensures.finds in search (rules, told)
