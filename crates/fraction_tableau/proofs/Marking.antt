@@ -1,6 +1,6 @@
 -- Lemmas on marks.
 use lib.Dec.{eqb-suc-zero}
-use Rattle.std.proofs.Common.{true, ◌≡◌, ◌==◌, ℕ, zero, suc, pos, false, List, [], ◌∷◌, ◌++◌, length, get_or, set, take, eqb, ◌+◌, ◌/◌, ◌^◌, ◌<◌, ◌%◌, ◌⊎◌, inl, inr, refl, sym, ◌∙◌, ap, subst, arith}
+use Rattle.std.proofs.Common.{true, ◌≡◌, ◌==◌, ℕ, zero, suc, pos, List, [], ◌∷◌, ◌++◌, length, get_or, set, take, eqb, ◌+◌, ◌/◌, ◌^◌, ◌<◌, ◌%◌, ◌⊎◌, inl, inr, refl, sym, ◌∙◌, ap, subst, arith}
 use Rattle.std.specs.Int.{bit_at}
 use Rattle.std.proofs.lemmas.Nat.Bits.{bit_at_ones, shr_and_one}
 use Rattle.std.specs.Int.Bits.{bit_and}

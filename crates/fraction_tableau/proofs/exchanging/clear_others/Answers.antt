@@ -1,4 +1,4 @@
-use Rattle.std.proofs.Common.{List, [], get_or, length, refl, sym, ◌∙◌, ap, ◌<◌, arith}
+use Rattle.std.proofs.Common.{List, [], length, refl, sym, ◌∙◌, ap, ◌<◌, arith}
 use Rattle.std.proofs.lemmas.List.{get_or_default}
 use Rattle.rational_theory.specs.Rational.{ℚ}
 use Rattle.narrow_fraction.specs.Attempt.{attempt}

@@ -1,6 +1,6 @@
 use Rattle.std.proofs.Common.{length, ◌+◌, ◌<◌, cond, eqb, pos, sym, ◌∙◌, ap, subst, arith}
 use Rattle.std.proofs.lemmas.Int.{to_z-of_z}
-use Rattle.rational_theory.specs.Rational.{whole, over, neg_ℚ, ◌+ℚ◌, ◌*ℚ◌}
+use Rattle.rational_theory.specs.Rational.{whole, neg_ℚ, ◌+ℚ◌, ◌*ℚ◌}
 use Rattle.simplex_theory.specs.Lines.{cleared}
 use Rattle.fraction_tableau.specs.KeptCells.{number_in, kept_below}
 use Rattle.fraction_tableau.specs.Scales.{numerator, IsOver, factor_of}

@@ -1,4 +1,4 @@
-use Rattle.std.proofs.Common.{length, set, ◌-◌, ◌+◌, refl, sym, subst, arith}
+use Rattle.std.proofs.Common.{length, set, ◌-◌, ◌+◌, sym, subst, arith}
 use Rattle.rational_theory.specs.Rational.{ℚ}
 use Rattle.fraction_tableau.specs.KeptCells.{number_in}
 use Rattle.fraction_tableau.specs.Scales.{CanRescale}
