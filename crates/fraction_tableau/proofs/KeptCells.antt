@@ -1,7 +1,7 @@
 -- Lemmas on the definitions of `KeptCells`.
 use Rattle.std.proofs.Common.{◌≡◌, ℕ, zero, suc, pos, Bool, true, false, cond, eqb, List, [], ◌∷◌, ◌++◌, map, length, get_or, take, ◌+◌, ◌-◌, ◌<◌, ◌≤◌, ◌⊎◌, inl, inr, add-one, refl, sym, ◌∙◌, ap, ap₂, subst, arith, length-append}
 use Rattle.std.specs.List.{range_with_len}
-use Rattle.std.proofs.lemmas.List.{ext_get_or, get_or-map, get_or_append_left, get_or_push, get_or_past, length_push, length-map, append-nil}
+use Rattle.std.proofs.lemmas.List.{ext_get_or, get_or_default, get_or-map, get_or_append_left, get_or_push, get_or_past, length_push, length-map, append-nil}
 use Rattle.std.proofs.lemmas.List.FromFn.{length-range_with_len, get_or-range_with_len}
 use Rattle.std.proofs.lemmas.Bool.{cond-true, cond-false, eq-eqb, ne_eqb}
 use Rattle.rational_theory.specs.Rational.{ℚ, whole}
@@ -181,6 +181,36 @@ cell_kept f (suc n) k h = pick (below_or_last k n h) (λ q. cell_kept f n k q)
     pick : (k ≡ n) ⊎ (k < n) → (k < n → cell_in (kept_below f n) k ≡ f k) → cell_in (kept_below f (suc n)) k ≡ f k
     pick (inl q) g = rw q (in_right n (kept_below f n) (kept_at n (f n)) (lacks_below f n n (omega arith)) ∙ one_same n (f n))
     pick (inr q) g = in_left k (kept_below f n) (kept_at n (f n)) (lacking k (kept_at n (f n)) (lacks_one k n (f n) (λ e. absurd (omega arith)))) ∙ g q
+
+-- ---- each cell of such a list is the number at its place
+abbrev Tells : (ℕ → ℚ) → List Kept → Type 0
+Tells f [] = Unit {0}
+Tells f (c ∷ cs) = (f c.place ≡ c.cell) × Tells f cs
+
+tells-append : (f : ℕ → ℚ) (xs ys : List Kept) → Tells f xs → Tells f ys → Tells f (xs ++ ys)
+tells-append f [] ys a b = b
+tells-append f (x ∷ xs) ys a b = (a.0, tells-append f xs ys a.1 b)
+
+tells_one : (f : ℕ → ℚ) (n : ℕ) → Tells f (kept_at n (f n))
+tells_one f n = pick (zero_or_not (f n))
+  where
+    pick : (f n ≡ whole (pos 0)) ⊎ (f n ≡ whole (pos 0) → ⊥) → Tells f (kept_at n (f n))
+    pick (inl e) = rw (kept_zero n (f n) e) tt
+    pick (inr s) = rw (kept_some n (f n) s) (refl, tt)
+
+tells_below : (f : ℕ → ℚ) (n : ℕ) → Tells f (kept_below f n)
+tells_below f zero = tt
+tells_below f (suc n) = tells-append f (kept_below f n) (kept_at n (f n)) (tells_below f n) (tells_one f n)
+
+tells_item : (f : ℕ → ℚ) (xs : List Kept) (i : ℕ) (d : Kept) → Tells f xs → i < length xs → f (get_or xs i d).place ≡ (get_or xs i d).cell
+tells_item f [] i d t l = absurd (omega arith)
+tells_item f (x ∷ xs) zero d t l = t.0
+tells_item f (x ∷ xs) (suc i) d t l = tells_item f xs i d t.1 (omega arith)
+
+pub kept_there : (f : ℕ → ℚ) (w i : ℕ) (ks : List Kept) (k other : Kept) (place : ℕ) → ks ≡ kept_below f w → i < length ks → (get_or ks i k).place ≡ place → (get_or ks i other).cell ≡ f place
+kept_there f w i ks k other place e l b =
+    let t : Tells f ks = subst (Tells f) (sym e) (tells_below f w) in
+    sym (tells_item f ks i other t l) ∙ ap f (ap (λ (c : Kept). c.place) (get_or_default ks i other k l) ∙ b)
 
 -- ---- a row and its list
 zero_plus : (m : ℕ) → 0 + m ≡ m

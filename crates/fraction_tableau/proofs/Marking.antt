@@ -1,16 +1,16 @@
 -- Lemmas on marks.
 use lib.Dec.{eqb-suc-zero}
-use Rattle.std.proofs.Common.{true, ◌≡◌, ◌==◌, ℕ, zero, suc, pos, List, [], ◌∷◌, ◌++◌, length, get_or, set, take, eqb, ◌+◌, ◌/◌, ◌^◌, ◌<◌, ◌%◌, ◌⊎◌, inl, inr, refl, sym, ◌∙◌, ap, subst, arith}
+use Rattle.std.proofs.Common.{true, ◌≡◌, ◌==◌, ℕ, zero, suc, pos, List, [], ◌∷◌, ◌++◌, length, get_or, set, take, eqb, ◌+◌, ◌/◌, ◌^◌, ◌<◌, ◌≤◌, ◌%◌, ◌⊎◌, inl, inr, refl, sym, ◌∙◌, ap, subst, arith}
 use Rattle.std.specs.Int.{bit_at}
 use Rattle.std.proofs.lemmas.Nat.Bits.{bit_at_ones, shr_and_one}
 use Rattle.std.specs.Int.Bits.{bit_and}
-use Rattle.std.proofs.lemmas.List.{take_more, take_more_set}
+use Rattle.std.proofs.lemmas.List.{take_more, take_more_set, append-nil}
 use Rattle.std.proofs.lemmas.Bool.{cond-false, ne_eqb, cases_eq}
 use Rattle.rational_theory.specs.Rational.{ℚ, whole}
 use Rattle.fraction_tableau.specs.declared.kept.Kept.{Kept}
 use Rattle.fraction_tableau.specs.KeptCells.{number_in, kept_at, cell_in, dense_row}
 use Rattle.fraction_tableau.specs.Marks.{AreMarked}
-use Rattle.fraction_tableau.proofs.KeptCells.{clash, in_left, kept_apart, dense_cell}
+use Rattle.fraction_tableau.proofs.KeptCells.{clash, in_left, kept_apart, dense_cell, zero_or_not, kept_zero, kept_some}
 
 pub all_marked : (cells : List Kept) → AreMarked 18446744073709551615 cells
 all_marked cells = record { empty = λ k z. absurd (let a : bit_at 18446744073709551615 (k % 64) ≡ 1 = bit_at_ones 64 (k % 64) (omega arith) in omega (arith, a, z)) }
@@ -34,8 +34,19 @@ module _ (marks new place : ℕ) (xs : List Kept) where
       pick k z (inl e) = absurd (let a = ap (bit_at new) e in omega (arith, a, z, s))
       pick k z (inr n) = in_left k xs ys (apart k (λ e. n (ap (λ x. x % 64) e))) ∙ m.empty k (sym (o (k % 64) n) ∙ z)
 
-  pub marked_kept : (x : ℚ) → AreMarked marks xs → bit_at new (place % 64) ≡ 1 → ((k : ℕ) → (k ≡ place % 64 → ⊥) → bit_at new k ≡ bit_at marks k) → AreMarked new (xs ++ kept_at place x)
+  marked_kept : (x : ℚ) → AreMarked marks xs → bit_at new (place % 64) ≡ 1 → ((k : ℕ) → (k ≡ place % 64 → ⊥) → bit_at new k ≡ bit_at marks k) → AreMarked new (xs ++ kept_at place x)
   marked_kept x = marked_with (kept_at place x) (λ k n. kept_apart k place x n)
+
+  -- .. with its mark where there is a cell, and with the same marks where there is none
+  pub marked_where : (x : ℚ) (made put : ℕ) → AreMarked marks xs → put ≡ made + length (kept_at place x) → (made < put → bit_at new (place % 64) ≡ 1) → ((k : ℕ) → (k ≡ place % 64 → ⊥) → bit_at new k ≡ bit_at marks k) → (put ≤ made → new ≡ marks) → AreMarked new (xs ++ kept_at place x)
+  marked_where x made put m e s o z = pick (zero_or_not x)
+    where
+      pick : (x ≡ whole (pos 0)) ⊎ (x ≡ whole (pos 0) → ⊥) → AreMarked new (xs ++ kept_at place x)
+      pick (inl h) =
+          let none = kept_zero place x h in
+          let same = z (let l = ap length none in omega arith) in
+          subst (λ t. AreMarked new (xs ++ t)) (sym none) (subst (AreMarked new) (sym (append-nil xs)) (subst (λ t. AreMarked t xs) (sym same) m))
+      pick (inr h) = marked_kept x m (s (let l = ap length (kept_some place x h) in omega arith)) o
 
 alone : (k : ℕ) (c : Kept) → (k ≡ c.place → ⊥) → cell_in (c ∷ []) k ≡ whole (pos 0)
 alone k c n = cond-false (eqb k c.place) c.cell (whole (pos 0)) (ne_eqb k c.place n)

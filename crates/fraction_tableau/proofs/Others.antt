@@ -1,5 +1,5 @@
 -- The state of the loop over the other rows: those below n are cleared.
-use Rattle.std.proofs.Common.{◌≡◌, ℕ, pos, Some, None, List, [], length, get_or, cond, eqb, ◌+◌, ◌<◌, ◌≤◌, ◌⊎◌, inl, inr, refl, sym, ◌∙◌, ap, arith}
+use Rattle.std.proofs.Common.{◌≡◌, ℕ, pos, Some, None, List, [], length, get_or, cond, eqb, ◌+◌, ◌<◌, ◌≤◌, ◌⊎◌, inl, inr, refl, sym, ◌∙◌, ap, subst, arith}
 use Rattle.std.proofs.Math.ListN.{set, length-set}
 use Rattle.std.proofs.lemmas.List.{get_or-set_same, get_or-set_other, set-get_or}
 use Rattle.std.proofs.lemmas.Bool.{cases_eq, cond-true, cond-false, eq-eqb, ne_eqb}
@@ -24,6 +24,10 @@ pub record Others (r j : ℕ) (e : List ℚ) (p : ℚ) (rows now : List (List �
 
 pub others_none : (r j : ℕ) (e : List ℚ) (p : ℚ) (rows : List (List ℚ)) → AreNarrow rows → Others r j e p rows rows 0
 others_none r j e p rows v = record { narrow = v; passed = refl; count = refl; widths = λ k. refl; done = λ k h n. absurd (omega arith); own = refl; rest = λ k h. refl }
+
+-- the rows stayed
+pub others_stay : (r j : ℕ) (e : List ℚ) (p : ℚ) (rows now then : List (List ℚ)) (n : ℕ) → then ≡ now → Others r j e p rows now n → Others r j e p rows then n
+others_stay r j e p rows now then n s o = subst (λ (t : List (List ℚ)). Others r j e p rows t n) (sym s) o
 
 line_same : (r j : ℕ) (e : List ℚ) (p : ℚ) (rows now : List (List ℚ)) (n : ℕ) → get_or now n [] ≡ get_or rows n [] → row_refusal r j e p now n ≡ row_refusal r j e p rows n
 line_same r j e p rows now n s = ap (λ d. cond (eqb n r) None (clear_refusal n j e d p)) s

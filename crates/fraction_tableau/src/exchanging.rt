@@ -1,6 +1,6 @@
 //! The cells of a whole exchange, and of all rows at once.
 
-ghost use Rattle.std.specs.Prelude.{◌≡◌, ℕ, ◌+◌, ◌<◌, ◌≤◌, ◌^◌, pos, length, get_or, set, eqb, cond, IfOk, []};
+ghost use Rattle.std.specs.Prelude.{◌≡◌, ℕ, ◌+◌, ◌<◌, ◌≤◌, ◌^◌, pos, length, get_or, set, eqb, cond, true, false, None, IfOk, []};
 ghost use Rattle.rational_theory.specs.Rational.{whole, inverse_ℚ};
 ghost use Rattle.simplex_theory.specs.Lines.{turned, cleared};
 ghost use Rattle.narrow_fraction.specs.Attempt.{attempt, first_below};
@@ -78,6 +78,46 @@ fn clear_one(
     Ok(())
 }
 
+/// One row cleared by whole numbers, where it and the turned row are narrow, or kept where it has 0 at the pivot's place. Else,
+/// and where it is the pivot's own row, it stays, and the answer is false. Apart from `clear_one`, since a call pays for the
+/// room of all that it names, and few rows come there.
+#[inline(never)]
+fn clear_whole(
+    sparse_rows: &mut [SparseRow],
+    room: &mut SparseRow,
+    turned: &SparseRow,
+    pivot: &Pivot,
+    index: usize,
+) -> bool
+    requires inside { index < length sparse_rows.old }
+    requires few { length sparse_rows.old < 2 ^ 32 }
+    requires width { length (get_or sparse_rows.old index []) ≡ length turned.now }
+    requires room { length room.old ≡ length turned.now }
+    requires pivot { IsPivoted turned.now pivot.now.place pivot.now.cell }
+    requires narrow { AreNarrow sparse_rows.old }
+    ensures passed { result ≡ true → row_refusal pivot.now.row pivot.now.place turned.now pivot.now.cell sparse_rows.old index ≡ None }
+    ensures kept { (k : ℕ) → length (get_or sparse_rows.new k []) ≡ length (get_or sparse_rows.old k []) }
+    ensures room { length room.new ≡ length room.old }
+    ensures cleared { result ≡ true → sparse_rows.new ≡ cond (eqb index pivot.now.row) sparse_rows.old
+        (set sparse_rows.old index (cleared pivot.now.place turned.now (get_or sparse_rows.old index []))) }
+    ensures stays { result ≡ false → sparse_rows.new ≡ sparse_rows.old }
+    ensures narrow { AreNarrow sparse_rows.new }
+{
+    if index == pivot.row {
+        return false;
+    }
+    let factor = sparse_rows[index].held(pivot.place);
+    if factor.is_zero() {
+        return true;
+    }
+    if !room.clear_narrow(&sparse_rows[index], turned, pivot.place, &factor) {
+        return false;
+    }
+    room.narrow();
+    mem::swap(&mut sparse_rows[index], room);
+    true
+}
+
 /// Every row but the pivot's own, in order.
 fn clear_others(
     sparse_rows: &mut [SparseRow],
@@ -99,6 +139,9 @@ fn clear_others(
 {
     for index in 0..sparse_rows.len() {
         if sparse_rows[index].is_free_at(pivot.place) {
+            continue;
+        }
+        if clear_whole(sparse_rows, room, turned, pivot, index) {
             continue;
         }
         if let Err(wide) = clear_one(sparse_rows, room, turned, pivot, index) {

@@ -8,7 +8,7 @@ ghost use Rattle.fraction_tableau.specs.Marks.{AreMarked};
 ghost use Rattle.fraction_tableau.specs.Scales.{numerator, factor_of, IsOver, IsScaled, IsJoining, IsJoined};
 
 use crate::kept::{Kept, put};
-use crate::marks::with_mark;
+use crate::marks::with_mark_where;
 use crate::merging::{Merged, UNMERGED, keep_before, take_numerator};
 use crate::scale::{MOST, Rescaling, Scale, numerator_of};
 use crate::sparse_row::SparseRow;
@@ -59,6 +59,7 @@ fn part_of(factor: i64, shared: u64) -> i64
 }
 
 /// How a row with the numerator `factor` at `place` is cleared by a turned one; None where a number might pass 62 bits.
+#[inline(always)]
 pub fn find_joining(place: u32, row: Scale, turned: Scale, factor: i64) -> Option<Joining>
     requires above { 0 < row.denominator }
     requires least { row.denominator ≤ row.most }
@@ -194,11 +195,12 @@ fn join_next(
         below: next.place + 1,
         taken: own.taken,
         made,
-        marks: with_mark(done.marks, next.place),
+        marks: with_mark_where(done.marks, next.place, made > done.made),
     }
 }
 
 /// The cells of the row cleared by the turned row. The answer is the whole merge: how many there are, and their marks.
+#[inline(always)]
 pub fn join(cells: &mut [Kept], row: &SparseRow, turned: &SparseRow, joining: &Joining) -> Merged
     requires width { length row.now ≡ length cells.old + 1 }
     requires widths { length turned.now ≡ length row.now }

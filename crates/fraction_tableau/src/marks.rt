@@ -1,6 +1,6 @@
 //! Marks of the places of a row's cells, in one word: of most places without a cell, one test says so.
 
-ghost use Rattle.std.specs.Prelude.{◌≡◌, ℕ, ◌≤◌, ◌%◌, true, length, take};
+ghost use Rattle.std.specs.Prelude.{◌≡◌, ℕ, ◌≤◌, ◌%◌, true, false, length, take};
 ghost use Rattle.std.specs.Int.{bit_at};
 ghost use Rattle.fraction_tableau.specs.Marks.{AreMarked};
 
@@ -36,4 +36,20 @@ pub fn is_free(marks: u64, place: u32) -> bool
     ensures { result ≡ true → bit_at marks (place % 64) ≡ 0 }
 {
     (marks >> (place % 64)) & 1 == 0
+}
+
+/// How many bits are set below that of a place: a guess of how many cells stand before it, to be tested.
+#[inline(always)]
+pub fn marked_below(marks: u64, place: u32) -> usize {
+    (marks & ((1 << (place % 64)) - 1)).count_ones() as usize
+}
+
+/// Marks and the mark of one more place, where that has a cell; the same marks, where it has none.
+#[inline(always)]
+pub fn with_mark_where(marks: u64, place: u32, some: bool) -> u64
+    ensures set { some ≡ true → bit_at result (place % 64) ≡ 1 }
+    ensures others { (i : ℕ) → (i ≡ place % 64 → ⊥) → bit_at result i ≡ bit_at marks i }
+    ensures same { some ≡ false → result ≡ marks }
+{
+    marks | (some as u64) << (place % 64)
 }

@@ -15,7 +15,7 @@ use crate::fractions::{Elimination, clear_row, turn_row};
 use crate::joining::{Joining, find_joining, join, joined};
 use crate::kept::Kept;
 use crate::loading::{fill_goal, fill_row};
-use crate::marks::{ALL_MARKED, is_free, marks_of};
+use crate::marks::{ALL_MARKED, is_free, marked_below, marks_of};
 use crate::merging::{UNMERGED, keep_before};
 use crate::narrowing::{
     divided_denominator, grown, held_over, held_where, hold_narrow, hold_where,
@@ -106,12 +106,17 @@ impl SparseRow {
         self.held_bound().fraction()
     }
 
-    /// The cell at a place, as it is held, sought among the cells.
+    /// The cell at a place, as it is held, sought among the cells: first where the marks say, then from the first cell on.
     #[inline(never)]
     fn find(&self, place: u32) -> Quotient
         requires { place + 1 < length self.now }
         ensures { result ≡ number_in self.now place }
     {
+        let cells = self.kept();
+        let guess = marked_below(self.marks, place);
+        if guess < cells.len() && cells[guess].place == place {
+            return cells[guess].cell.copied();
+        }
         for kept in self.kept() {
             if kept.place >= place {
                 return if kept.place == place {
@@ -292,7 +297,7 @@ impl SparseRow {
 
     /// Becomes narrow, where it isn't and can be. The row stays what it is.
     #[inline(always)]
-    fn narrow(&mut self)
+    pub fn narrow(&mut self)
         ensures { self.new ≡ self.old }
     {
         if self.scale.is_none() {
@@ -365,6 +370,7 @@ impl SparseRow {
     }
 
     /// How this row is cleared at a place by a turned row, where both are narrow and no number might pass 62 bits.
+    #[inline(always)]
     fn joining(&self, turned: &SparseRow, place: u32, factor: &Quotient) -> Option<Joining>
         requires widths { length turned.now ≡ length self.now }
         requires place { place + 1 < length self.now }
@@ -460,7 +466,8 @@ impl SparseRow {
 
     /// Becomes another row cleared, by whole numbers, where both rows are narrow and no number might pass 62 bits; else it
     /// stays, and the answer is false. No operation on the fractions is refused then.
-    fn clear_narrow(
+    #[inline(always)]
+    pub fn clear_narrow(
         &mut self,
         row: &SparseRow,
         turned: &SparseRow,

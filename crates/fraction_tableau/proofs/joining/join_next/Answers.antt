@@ -1,4 +1,4 @@
-use Rattle.std.proofs.Common.{length, ◌+◌, ◌<◌, cond, eqb, pos, sym, ◌∙◌, ap, subst, arith}
+use Rattle.std.proofs.Common.{length, ◌+◌, ◌<◌, cond, eqb, pos, sym, ◌∙◌, ap, subst, arith, lt-ltb, le-ltb}
 use Rattle.std.proofs.lemmas.Int.{to_z-of_z}
 use Rattle.rational_theory.specs.Rational.{whole, neg_ℚ, ◌+ℚ◌, ◌*ℚ◌}
 use Rattle.simplex_theory.specs.Lines.{cleared}
@@ -7,7 +7,7 @@ use Rattle.fraction_tableau.specs.Scales.{numerator, IsOver, factor_of}
 use Rattle.fraction_tableau.proofs.Fitting.{fits_i64}
 use Rattle.fraction_tableau.proofs.KeptCells.{IsNext, next_in, step_count, same_width}
 use Rattle.fraction_tableau.specs.Marks.{AreMarked}
-use Rattle.fraction_tableau.proofs.Marking.{marked_kept}
+use Rattle.fraction_tableau.proofs.Marking.{marked_where}
 use Rattle.fraction_tableau.proofs.Scales.{quiet_is, cleared_number, joined_next}
 use Rattle.fraction_tableau.proofs.joining.join_next.Goals as goal
 use Rattle.fraction_tableau.proofs.joining.join_next.Goals.{After-index-others-index}
@@ -88,9 +88,9 @@ returns-clause-joined c =
     ∙ ap (λ u. cond (eqb k.place j.place) (whole (pos 0)) (number_in d k.place) +ℚ neg_ℚ (u *ℚ k.cell)) c.requires.factor
     ∙ ap (λ u. cond (eqb k.place j.place) (whole (pos 0)) (number_in d k.place) +ℚ neg_ℚ (number_in d j.place *ℚ u)) (sym x.is)
     ∙ cleared_number j.place k.place e d (omega (arith, c.requires.width, c.requires.place)) in
-    joined_next t d c.keep_before-done.new.cells c.put-made.new.cells c.take_numerator-own.result.taken c.keep_before-done.result.made c.put-made.result c.with_mark.result (record { place = k.place; cell = c.joined-cell.result }) c.put-made.auto.cells (omega (arith, c.keep_before-done.auto.cells))
+    joined_next t d c.keep_before-done.new.cells c.put-made.new.cells c.take_numerator-own.result.taken c.keep_before-done.result.made c.put-made.result c.with_mark_where.result (record { place = k.place; cell = c.joined-cell.result }) c.put-made.auto.cells (omega (arith, c.keep_before-done.auto.cells))
     c.take_numerator-own.ensures.taken c.keep_before-done.ensures.made n v c.put-made.ensures.count c.put-made.ensures.cells
-    (subst (AreMarked c.with_mark.result) (sym c.put-made.ensures.cells) (marked_kept _ _ _ _ _ (c.keep_before-done.ensures.marked c.requires.joined.marked) c.with_mark.ensures.set c.with_mark.ensures.others))
+    (subst (AreMarked c.with_mark_where.result) (sym c.put-made.ensures.cells) (marked_where _ _ _ _ _ _ _ (c.keep_before-done.ensures.marked c.requires.joined.marked) c.put-made.ensures.count (λ l. c.with_mark_where.ensures.set (lt-ltb _ _ l)) c.with_mark_where.ensures.others (λ l. c.with_mark_where.ensures.same (le-ltb _ _ l))))
 
 pub returns-clause-index : goal.returns-clause-index
 returns-clause-index c =
