@@ -94,19 +94,43 @@ fn once(number: u32) -> Weight {
     }
 }
 
+fn is_pivoted(tableau: &mut Tableau, row: u32, col: u32) -> bool {
+    matches!(pivot(tableau, row, col), Some(Ok(())))
+}
+
+/// Whether the leaf of an end has these multipliers.
+fn is_leaf(alloc: Global, tableau: &Tableau, weights: &[Weight]) -> bool {
+    match leaf_of(alloc, tableau) {
+        Ok(leaf) => leaf.multipliers.as_slice() == weights,
+        Err(_) => false,
+    }
+}
+
+/// Whether the refuter of a row has these multipliers.
+fn is_refuter(alloc: Global, tableau: &Tableau, row: u32, weights: &[Weight]) -> bool {
+    match refuter(alloc, tableau, row) {
+        Some(Ok(leaf)) => leaf.multipliers.as_slice() == weights,
+        _ => false,
+    }
+}
+
+/// Whether the vertex has these values.
+fn is_point(alloc: Global, tableau: &Tableau, values: &[Frac]) -> bool {
+    match point(alloc, tableau) {
+        Some(Ok(vertex)) => vertex.values.as_slice() == values,
+        _ => false,
+    }
+}
+
 #[test]
 fn leaf_and_point_of_an_optimal_end(rt: HostRuntime) {
     let alloc = rt.alloc();
     // the greatest of -x - y where x is at least 1 and x + y at least 5
     let mut tableau = program(&rt, alloc, &[[-1, 0, -1], [-1, -1, -5]], [-1, -1, 0]);
-    assert_eq!(rt; pivot(&mut tableau, 0, 0), Some(Ok(())));
-    assert_eq!(rt; pivot(&mut tableau, 1, 1), Some(Ok(())));
-    let leaf = leaf_of(alloc, &tableau).expect(&rt, "memory");
-    assert!(rt; leaf.multipliers.as_slice() == [once(1)].as_slice());
-    let vertex = point(alloc, &tableau)
-        .expect(&rt, "unspent")
-        .expect(&rt, "memory");
-    assert!(rt; vertex.values.as_slice() == [1, 4].map(Frac::whole).as_slice());
+    assert!(rt; is_pivoted(&mut tableau, 0, 0));
+    assert!(rt; is_pivoted(&mut tableau, 1, 1));
+    assert!(rt; is_leaf(alloc, &tableau, &[once(1)]));
+    assert!(rt; is_point(alloc, &tableau, &[Frac::whole(1), Frac::whole(4)]));
 }
 
 #[test]
@@ -114,9 +138,6 @@ fn refuter_of_an_infeasible_end(rt: HostRuntime) {
     let alloc = rt.alloc();
     // x is at most 1 and at least 2
     let mut tableau = program(&rt, alloc, &[[1, 0, 1], [-1, 0, -2]], [-1, 0, 0]);
-    assert_eq!(rt; pivot(&mut tableau, 1, 0), Some(Ok(())));
-    let leaf = refuter(alloc, &tableau, 0)
-        .expect(&rt, "row")
-        .expect(&rt, "memory");
-    assert!(rt; leaf.multipliers.as_slice() == [once(0), once(1)].as_slice());
+    assert!(rt; is_pivoted(&mut tableau, 1, 0));
+    assert!(rt; is_refuter(alloc, &tableau, 0, &[once(0), once(1)]));
 }

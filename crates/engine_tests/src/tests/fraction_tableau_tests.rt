@@ -168,41 +168,52 @@ fn cells_of_a_pivot(rt: HostRuntime) {
     assert_eq!(rt; variables(&tableau), [1, 3, 0, 2]);
 }
 
+const FIRST: Numbers = [(3, 1), (4_194_304, 1), (5, 1)];
+
+const SECOND: Numbers = [(4_194_304, 1), (7, 1), (9, 1)];
+
+/// Two rows and the goal row with numbers of 44 bits after a pivot on the first cell.
+static ONCE: [Numbers; 3] = [
+    [(1, 3), (4_194_304, 3), (5, 3)],
+    [(-4_194_304, 3), (-17_592_186_044_395, 3), (-20_971_493, 3)],
+    [(1, 3), (-2_097_152, 3), (5, 3)],
+];
+
+/// The same after a pivot on the second cell of the second row.
+static TWICE: [Numbers; 3] = [
+    [
+        (-7, 17_592_186_044_395),
+        (4_194_304, 17_592_186_044_395),
+        (37_748_701, 17_592_186_044_395),
+    ],
+    [
+        (4_194_304, 17_592_186_044_395),
+        (-3, 17_592_186_044_395),
+        (20_971_493, 17_592_186_044_395),
+    ],
+    [
+        (8_796_093_022_201, 17_592_186_044_395),
+        (-2_097_152, 17_592_186_044_395),
+        (43_980_446_236_637, 17_592_186_044_395),
+    ],
+];
+
+/// Whether a pivot on the diagonal leaves these rows.
+fn leads_to(tableau: &mut Tableau, at: u32, rows: &[Numbers]) -> bool {
+    pivot(tableau, at, at) == Some(Ok(())) && first_other(tableau, rows).is_none()
+}
+
 /// Of rows with numbers of 23 bits, the second one has numbers of 44 bits after the first pivot and of 46 after the second, and
 /// the last two pivots lead back (exact fractions by Python).
 #[test]
 fn rows_become_wide_and_narrow_again(rt: HostRuntime) {
-    let first = [(3, 1), (4_194_304, 1), (5, 1)];
-    let second = [(4_194_304, 1), (7, 1), (9, 1)];
     let goal = [ONE, (2_097_152, 1), ZERO];
-    let once = [
-        [(1, 3), (4_194_304, 3), (5, 3)],
-        [(-4_194_304, 3), (-17_592_186_044_395, 3), (-20_971_493, 3)],
-        [(1, 3), (-2_097_152, 3), (5, 3)],
-    ];
-    let twice = [
-        [
-            (-7, 17_592_186_044_395),
-            (4_194_304, 17_592_186_044_395),
-            (37_748_701, 17_592_186_044_395),
-        ],
-        [
-            (4_194_304, 17_592_186_044_395),
-            (-3, 17_592_186_044_395),
-            (20_971_493, 17_592_186_044_395),
-        ],
-        [
-            (8_796_093_022_201, 17_592_186_044_395),
-            (-2_097_152, 17_592_186_044_395),
-            (43_980_446_236_637, 17_592_186_044_395),
-        ],
-    ];
-    let before = [first, second, [(-1, 1), (-2_097_152, 1), ZERO]];
-    let mut tableau = loaded(rt.alloc(), &[first, second], goal).expect(&rt, "a tableau");
-    for (at, rows) in [(0, once), (1, twice), (1, once), (0, before)] {
-        assert_eq!(rt; pivot(&mut tableau, at, at), Some(Ok(())));
-        assert_eq!(rt; first_other(&tableau, &rows), None);
-    }
+    let before = [FIRST, SECOND, [(-1, 1), (-2_097_152, 1), ZERO]];
+    let mut tableau = loaded(rt.alloc(), &[FIRST, SECOND], goal).expect(&rt, "a tableau");
+    assert!(rt; leads_to(&mut tableau, 0, &ONCE));
+    assert!(rt; leads_to(&mut tableau, 1, &TWICE));
+    assert!(rt; leads_to(&mut tableau, 1, &ONCE));
+    assert!(rt; leads_to(&mut tableau, 0, &before));
 }
 
 /// How many cells of a row aren't 0, and the first of them; none where there is no such row.

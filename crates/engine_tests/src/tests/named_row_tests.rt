@@ -1,38 +1,80 @@
 //! Rows of two columns that were added up by hand.
 
+ghost use Rattle.std.specs.Prelude.{◌≡◌, length, false};
+
 use crate::tests::two_columns::{TWO_126, row};
-use named_row::{Place, RowId, WideAt};
-use narrow_fraction::{Op, Wide};
+use named_row::{Place, Row, RowId, WideAt};
+use narrow_fraction::{Frac, Op, Wide};
+use std::alloc::Global;
 use std::rt::HostRuntime;
 use test_bed::fraction_or_zero as fraction;
 
+/// The numbers of a row, the bound last.
+fn numbers(row: &Row) -> [Frac; 3]
+    requires { length row.now.coefs ≡ 2 }
+{
+    [
+        row.get(Place::Cell(0)),
+        row.get(Place::Cell(1)),
+        row.get(Place::Bound),
+    ]
+}
+
+/// Adds a row so often.
+fn add(own: &mut Row, by: Frac, other: &Row) -> Result<(), WideAt>
+    requires width { length own.old.coefs ≡ 2 }
+    requires unspent { own.old.spent ≡ false }
+    requires other_width { length other.now.coefs ≡ 2 }
+    requires other_unspent { other.now.spent ≡ false }
+    ensures { length own.new.coefs ≡ 2 }
+{
+    own.add_scaled(by, other)
+}
+
+/// The sum of a row and of another one so often.
+fn sum(alloc: Global, own: [Frac; 3], by: Frac, other: [Frac; 3]) -> Option<[Frac; 3]> {
+    let mut own = row(alloc, own)?;
+    let other = row(alloc, other)?;
+    match add(&mut own, by, &other) {
+        Ok(()) => Some(numbers(&own)),
+        Err(_) => None,
+    }
+}
+
+/// Whether a row was spent, and is no more once it is cleared.
+fn is_cleared(own: &mut Row) -> bool
+    requires { length own.old.coefs ≡ 2 }
+    ensures width { length own.new.coefs ≡ 2 }
+    ensures unspent { own.new.spent ≡ false }
+{
+    let was_spent = own.is_spent();
+    own.clear();
+    was_spent && !own.is_spent()
+}
+
+fn refusal(place: Place, op: Op, left: Frac, right: Frac) -> Result<(), WideAt> {
+    Err(WideAt {
+        place,
+        wide: Wide { op, left, right },
+    })
+}
+
 #[test]
 fn sum_of_rows(rt: HostRuntime) {
-    let alloc = rt.alloc();
-    let mut own = row(alloc, [fraction(1, 2), fraction(-1, 3), fraction(1, 1)]).expect(
-        &rt, "memory",
-    );
-    let other = row(alloc, [fraction(3, 1), fraction(1, 2), fraction(-6, 1)]).expect(&rt, "memory");
-    assert_eq!(rt; own.add_scaled(fraction(2, 3), &other), Ok(()));
-    assert_eq!(rt; own.get(Place::Cell(0)), fraction(5, 2));
-    assert_eq!(rt; own.get(Place::Cell(1)), fraction(0, 1));
-    assert_eq!(rt; own.get(Place::Bound), fraction(-3, 1));
+    let own = [fraction(1, 2), fraction(-1, 3), fraction(1, 1)];
+    let other = [fraction(3, 1), fraction(1, 2), fraction(-6, 1)];
+    let want = [fraction(5, 2), fraction(0, 1), fraction(-3, 1)];
+    assert_eq!(rt; sum(rt.alloc(), own, fraction(2, 3), other), Some(want));
 }
 
 #[test]
 fn a_column_of_zero_stays(rt: HostRuntime) {
-    let alloc = rt.alloc();
     let wide = fraction(TWO_126, 1);
-    let mut own = row(alloc, [wide, fraction(1, 1), fraction(0, 1)]).expect(&rt, "memory");
-    let other = row(
-        alloc,
-        [fraction(0, 1), fraction(1, TWO_126), fraction(0, 1)],
-    )
-    .expect(&rt, "memory");
-    assert_eq!(rt; own.add_scaled(wide, &other), Ok(()));
-    assert_eq!(rt; own.get(Place::Cell(0)), wide);
-    assert_eq!(rt; own.get(Place::Cell(1)), fraction(2, 1));
-    assert_eq!(rt; own.get(Place::Bound), fraction(0, 1));
+    let zero = fraction(0, 1);
+    let own = [wide, fraction(1, 1), zero];
+    let other = [zero, fraction(1, TWO_126), zero];
+    let want = [wide, fraction(2, 1), zero];
+    assert_eq!(rt; sum(rt.alloc(), own, wide, other), Some(want));
 }
 
 #[test]
@@ -42,51 +84,53 @@ fn first_refused_operation(rt: HostRuntime) {
     let two = fraction(2, 1);
     let mut own = row(alloc, [two, two, wide]).expect(&rt, "memory");
     let other = row(alloc, [two, wide, wide]).expect(&rt, "memory");
-    let product = Wide {
-        op: Op::Mul,
-        left: two,
-        right: wide,
-    };
-    let place = Place::Cell(1);
-    assert_eq!(rt;
-        own.add_scaled(two, &other),
-        Err(WideAt {
-            place,
-            wide: product
-        })
-    );
-    assert!(rt; own.is_spent());
-    own.clear();
-    assert!(rt; !own.is_spent());
+    let product = refusal(Place::Cell(1), Op::Mul, two, wide);
+    assert_eq!(rt; add(&mut own, two, &other), product);
+    assert!(rt; is_cleared(&mut own));
     own.set(Place::Bound, wide);
-    let sum = Wide {
-        op: Op::Add,
-        left: wide,
-        right: wide,
-    };
-    let place = Place::Bound;
-    assert_eq!(rt;
-        own.add_scaled(fraction(1, 1), &other),
-        Err(WideAt { place, wide: sum })
-    );
+    let sum = refusal(Place::Bound, Op::Add, wide, wide);
+    assert_eq!(rt; add(&mut own, fraction(1, 1), &other), sum);
+}
+
+/// Whether a sum shows that a goal is this value at most.
+fn covered(
+    alloc: Global,
+    sum: [Frac; 3],
+    goal: [Frac; 3],
+    value: Frac,
+) -> Option<Result<(), Place>> {
+    let sum = row(alloc, sum)?;
+    let goal = row(alloc, goal)?;
+    Some(sum.covers(&goal, value))
+}
+
+/// Whether a sum shows that there is no point.
+fn refuted(alloc: Global, sum: [Frac; 3]) -> Option<Result<(), Place>> {
+    let sum = row(alloc, sum)?;
+    Some(sum.refutes())
 }
 
 #[test]
-fn covering_and_refuting(rt: HostRuntime) {
+fn covering(rt: HostRuntime) {
     let alloc = rt.alloc();
-    let zero = fraction(0, 1);
-    let half = fraction(1, 2);
-    let sum = row(alloc, [half, fraction(1, 3), half]).expect(&rt, "memory");
-    let goal = row(alloc, [half, fraction(1, 4), zero]).expect(&rt, "memory");
-    let steep = row(alloc, [zero, half, zero]).expect(&rt, "memory");
-    assert_eq!(rt; sum.covers(&goal, half), Ok(()));
-    assert_eq!(rt; sum.covers(&steep, half), Err(Place::Cell(1)));
-    assert_eq!(rt; sum.covers(&goal, fraction(1, 3)), Err(Place::Bound));
-    assert_eq!(rt; sum.refutes(), Err(Place::Bound));
-    let negative = row(alloc, [zero, fraction(-1, 9), fraction(-1, 9)]).expect(&rt, "memory");
-    assert_eq!(rt; negative.refutes(), Err(Place::Cell(1)));
-    let clash = row(alloc, [zero, half, fraction(-1, 9)]).expect(&rt, "memory");
-    assert_eq!(rt; clash.refutes(), Ok(()));
+    let (zero, third, half) = (fraction(0, 1), fraction(1, 3), fraction(1, 2));
+    let sum = [half, third, half];
+    let goal = [half, fraction(1, 4), zero];
+    assert_eq!(rt; covered(alloc, sum, goal, half), Some(Ok(())));
+    let steep = covered(alloc, sum, [zero, half, zero], half);
+    assert_eq!(rt; steep, Some(Err(Place::Cell(1))));
+    assert_eq!(rt; covered(alloc, sum, goal, third), Some(Err(Place::Bound)));
+}
+
+#[test]
+fn refuting(rt: HostRuntime) {
+    let alloc = rt.alloc();
+    let (zero, half, below) = (fraction(0, 1), fraction(1, 2), fraction(-1, 9));
+    let above = refuted(alloc, [half, fraction(1, 3), half]);
+    assert_eq!(rt; above, Some(Err(Place::Bound)));
+    let negative = refuted(alloc, [zero, below, below]);
+    assert_eq!(rt; negative, Some(Err(Place::Cell(1))));
+    assert_eq!(rt; refuted(alloc, [zero, half, below]), Some(Ok(())));
 }
 
 #[test]

@@ -87,6 +87,23 @@ fn is_exact(op: Op, left: Frac, right: Frac, want: Number) -> bool {
     answer(op, left, right) == Ok(fraction(want.0, want.1))
 }
 
+/// The fraction of two numbers, with nothing said of it.
+fn ratio(num: i128, den: i128) -> Result<Frac, Unfit> {
+    Frac::new(num, den)
+}
+
+/// A fraction's numerator and its denominator.
+fn parts(fraction: Frac) -> Number {
+    (fraction.num(), fraction.den())
+}
+
+fn made(num: i128, den: i128) -> Result<Number, Unfit> {
+    match ratio(num, den) {
+        Ok(fraction) => Ok(parts(fraction)),
+        Err(unfit) => Err(unfit),
+    }
+}
+
 #[test]
 fn any_two_numbers(rt: HostRuntime) {
     let table = [
@@ -103,11 +120,7 @@ fn any_two_numbers(rt: HostRuntime) {
         (i128::MAX, -1, Ok((-i128::MAX, 1))),
     ];
     for (num, den, want) in table {
-        let made = match Frac::new(num, den) {
-            Ok(fraction) => Ok((fraction.num(), fraction.den())),
-            Err(unfit) => Err(unfit),
-        };
-        assert_eq!(rt; made, want);
+        assert_eq!(rt; made(num, den), want);
     }
 }
 

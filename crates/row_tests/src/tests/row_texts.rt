@@ -34,13 +34,16 @@ pub fn leaf_of(alloc: Global, weights: &[Weight]) -> Result<Leaf, AllocError> {
     Ok(Leaf { multipliers })
 }
 
-/// A number, with its denominator where it isn't whole.
-fn number_text(alloc: Global, number: Frac) -> Result<String, AllocError> {
-    let (num, den) = (number.num(), number.den());
+/// A number of this numerator and this denominator, which stands there where it isn't 1.
+fn quotient_text(alloc: Global, num: i128, den: i128) -> Result<String, AllocError> {
     if den == 1 {
         return format!(in alloc; "{num}");
     }
     format!(in alloc; "{num}/{den}")
+}
+
+fn number_text(alloc: Global, number: Frac) -> Result<String, AllocError> {
+    quotient_text(alloc, number.num(), number.den())
 }
 
 /// The name of a row, its coefficients and its bound.
@@ -59,17 +62,27 @@ pub fn row_text(alloc: Global, name: RowId, row: &Row, width: u32) -> Result<Str
     Ok(out)
 }
 
-/// Goes through a street's rows in their order, each with the text that is made of its name, and sees that there is none behind them.
-macro_rules! rows_in_order {
-    ($rt:expr, $rows:expr, $artery:expr, $next:path, $name:ident => $text:expr) => {
-        let mut after = None;
-        for expected in $rows {
-            let $name = $next($artery, after).ok_or("a row is missing")?;
-            after = Some($name);
-            assert_eq!($rt; $text.as_str(), expected);
-        }
-        assert_eq!($rt; $next($artery, after), None);
-    };
+/// A row's text, and before it whether there is no such row.
+pub fn filled_text(
+    alloc: Global,
+    is_there: bool,
+    name: RowId,
+    row: &Row,
+    width: u32,
+) -> Result<String, Fail>
+    requires { length row.now.coefs ≡ width }
+{
+    let text = row_text(alloc, name, row, width)?;
+    if is_there {
+        return Ok(text);
+    }
+    Ok(format!(in alloc; "no {}", text.as_str())?)
 }
 
-pub(crate) use rows_in_order;
+/// Fails where a text is another.
+pub fn same_text(found: &str, want: &str) -> Result<(), Fail> {
+    if found == want {
+        return Ok(());
+    }
+    Err(Fail::new(format_args!("{want}, not {found}")))
+}

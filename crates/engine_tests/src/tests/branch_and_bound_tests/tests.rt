@@ -87,6 +87,15 @@ fn an_infeasible_root_leaves_no_timing(rt: HostRuntime) -> Result<(), Fail> {
     Ok(())
 }
 
+/// Whether the work ran out after so many units with these letters, this bound and this best number.
+fn stopped_so(found: &Found<i64, u8>, limit: u64, letters: &str, bound: i64, best: i64) -> bool {
+    units(found) == Some(limit)
+        && found.spent == limit
+        && has_shape(found, letters.as_bytes())
+        && found.bound == Frac::whole(bound)
+        && number(&found.timing) == best
+}
+
 #[test]
 fn work_runs_out(rt: HostRuntime) -> Result<(), Fail> {
     // in the root, before and in the first low part, before and in the second high part
@@ -99,11 +108,7 @@ fn work_runs_out(rt: HostRuntime) -> Result<(), Fail> {
     ];
     for (limit, letters, bound, best) in rows {
         let found = found(rt.alloc(), 1, limit)?;
-        assert!(rt; units(&found) == Some(limit));
-        assert!(rt; found.spent == limit);
-        assert!(rt; has_shape(&found, letters.as_bytes()));
-        assert!(rt; found.bound == Frac::whole(bound));
-        assert!(rt; number(&found.timing) == best);
+        assert!(rt; stopped_so(&found, limit, letters, bound, best), "{limit}");
     }
     let just = found(rt.alloc(), 1, 10)?;
     assert!(rt; matches!(just.verdict, Verdict::Best));

@@ -210,14 +210,12 @@ fn goal_row_of_the_opening(rt: HostRuntime) -> Result<(), Fail> {
 #[test]
 fn goal_row_of_the_opening_lends_its_cells(rt: HostRuntime) -> Result<(), Fail> {
     let tableau = root_opening(rt.alloc(), 50, Frac::whole(1))?;
-    let places = [Some(0), Some(1), Some(3), Some(5), None];
-    for (index, place) in places.iter().enumerate() {
-        let cell = Frac::whole(1);
-        assert_eq!(rt;
-            goal_kept(&tableau, index),
-            place.map(|place| (place, cell))
-        );
-    }
+    let one = Frac::whole(1);
+    assert_eq!(rt; goal_kept(&tableau, 0), Some((0, one)));
+    assert_eq!(rt; goal_kept(&tableau, 1), Some((1, one)));
+    assert_eq!(rt; goal_kept(&tableau, 2), Some((3, one)));
+    assert_eq!(rt; goal_kept(&tableau, 3), Some((5, one)));
+    assert_eq!(rt; goal_kept(&tableau, 4), None);
     Ok(())
 }
 

@@ -1,7 +1,8 @@
 //! Worked link certificates of two signals 500 metres apart, 100 parts and 100 seconds, half of the cycle red, driven in 50 seconds. Two ticks
 //! a part and a second: each band can be 100 ticks wide, half of the cycle, and no value is above 1.
 
-use link_proof::{LinkReject, link_check, read_links};
+use artery_model::Artery;
+use link_proof::{LinkCertificate, LinkReject, link_check, read_links};
 use link_space::LinkFailing;
 use named_row::{Place, RowId, WideAt};
 use narrow_fraction::{Frac, Op, Wide};
@@ -31,6 +32,22 @@ const TOO_WIDE: &str =
 
 const BEST: &str = "verdict best\nvalue 1\n";
 
+fn artery(alloc: Global) -> Result<Artery, Fail> {
+    two_signals(alloc, plain_head(), 50, 500)
+}
+
+fn links(alloc: Global, text: &str) -> Result<LinkCertificate, Fail> {
+    match read_links(alloc, text.as_bytes()) {
+        Ok(links) => Ok(links),
+        Err(_) => Err("no certificate".into()),
+    }
+}
+
+/// What the check says, with nothing said of it.
+fn checked(alloc: Global, artery: &Artery, links: &LinkCertificate) -> Result<(), LinkReject> {
+    link_check(alloc, artery, links)
+}
+
 /// What the check answers for a claim with its link timing and its nodes.
 fn answer(
     alloc: Global,
@@ -38,16 +55,9 @@ fn answer(
     timing: &str,
     nodes: &str,
 ) -> Result<Result<(), LinkReject>, Fail> {
-    let artery = two_signals(alloc, plain_head(), 50, 500)?;
-    let mut text = Vec::new(alloc);
-    text.extend_from_slice(b"maxband-links 1\n")?;
-    text.extend_from_slice(claim.as_bytes())?;
-    text.extend_from_slice(timing.as_bytes())?;
-    text.extend_from_slice(b"tree\n")?;
-    text.extend_from_slice(nodes.as_bytes())?;
-    text.extend_from_slice(b"end\n")?;
-    let certificate = read_links(alloc, text.as_slice());
-    Ok(link_check(alloc, &artery, &certificate.ok().ok_or("no certificate")?))
+    let text = format!(in alloc; "maxband-links 1\n{claim}{timing}tree\n{nodes}end\n")?;
+    let links = links(alloc, text.as_str())?;
+    Ok(checked(alloc, &artery(alloc)?, &links))
 }
 
 fn no_row(family: u8, index: u32) -> Result<(), LinkReject> {
@@ -64,15 +74,10 @@ fn weak() -> Result<(), LinkReject> {
     })
 }
 
-fn wide() -> Result<Result<(), LinkReject>, Fail> {
-    let left = fraction(1, 1_267_650_600_228_229_401_496_703_205_376)?;
-    let right = fraction(1, 2_503_155_504_993_241_601_315_571_986_085_849)?;
-    let wide = Wide {
-        op: Op::Add,
-        left,
-        right,
-    };
-    Ok(Err(LinkReject::Wide {
+/// The sum of these two in the column of h_out is too wide.
+fn too_wide(left: Frac, right: Frac) -> Result<(), LinkReject> {
+    let op = Op::Add;
+    Err(LinkReject::Wide {
         leaf: 1,
         row: RowId {
             family: 25,
@@ -80,9 +85,15 @@ fn wide() -> Result<Result<(), LinkReject>, Fail> {
         },
         at: WideAt {
             place: Place::Cell(11),
-            wide,
+            wide: Wide { op, left, right },
         },
-    }))
+    })
+}
+
+fn wide() -> Result<Result<(), LinkReject>, Fail> {
+    let left = fraction(1, 1_267_650_600_228_229_401_496_703_205_376)?;
+    let right = fraction(1, 2_503_155_504_993_241_601_315_571_986_085_849)?;
+    Ok(too_wide(left, right))
 }
 
 #[test]

@@ -3,7 +3,7 @@
 ghost use Rattle.std.specs.Prelude.{◌≡◌, IfOk, length};
 ghost use Rattle.progression.specs.Street.{count};
 
-use crate::tests::row_texts::{LINE_WIDTH, empty, leaf_of, row_text, rows_in_order, weight};
+use crate::tests::row_texts::{LINE_WIDTH, empty, filled_text, leaf_of, same_text, weight};
 use artery_model::Artery;
 use link_space::{fill_link_goal, fill_link_row, link_sum, next_link_row};
 use loop_rows::SumFault;
@@ -74,67 +74,104 @@ fn is_row(row: &Row, halves: &[i128; 13], bound: Frac) -> bool
     row.get(Place::Bound) == bound
 }
 
+/// A row of numbers, to be written over.
+fn marked(alloc: Global) -> Result<Row, Fail>
+    ensures { IfOk result (λ row. length row.coefs ≡ 13) }
+{
+    let mut row = empty(alloc, WIDTH)?;
+    row.set(Place::Cell(0), Frac::whole(7));
+    row.set(Place::Cell(4), Frac::whole(7));
+    row.set(Place::Cell(12), Frac::whole(-2));
+    row.set(Place::Bound, Frac::whole(3));
+    Ok(row)
+}
+
+/// The row of this name in the root box, written over such a row; or what is left of that row where there is none.
+fn filled(alloc: Global, artery: &Artery, name: RowId) -> Result<String, Fail>
+    requires { count artery.now ≡ 2 }
+{
+    let area = SearchBox::root(alloc, artery)?;
+    let mut room = empty(alloc, LINE_WIDTH)?;
+    let mut row = marked(alloc)?;
+    let is_there = fill_link_row(artery, &area, name, &mut room, &mut row);
+    filled_text(alloc, is_there, name, &row, WIDTH)
+}
+
+fn of_ratio(alloc: Global, halves: i128) -> Result<Artery, Fail>
+    ensures { IfOk result (λ a. count a ≡ 2) }
+{
+    two_signals(alloc, with_ratio(fraction_or_zero(halves, 2)), 50, 500)
+}
+
+/// Fails where the row of this name is another.
+fn told(alloc: Global, artery: &Artery, name: RowId, want: &str) -> Result<(), Fail>
+    requires { count artery.now ≡ 2 }
+{
+    let found = filled(alloc, artery, name)?;
+    same_text(found.as_str(), want)
+}
+
+/// The name of the row behind that one, with nothing said of it.
+fn next(artery: &Artery, after: Option<RowId>) -> Option<RowId> {
+    next_link_row(artery, after)
+}
+
+/// Fails where the rows in their order are others.
+fn all_told(alloc: Global, artery: &Artery, rows: &[&str]) -> Result<(), Fail>
+    requires { count artery.now ≡ 2 }
+{
+    let mut after = None;
+    for row in rows {
+        let Some(name) = next(artery, after) else {
+            return Err("a row is missing".into());
+        };
+        told(alloc, artery, name, row)?;
+        after = Some(name);
+    }
+    match next(artery, after) {
+        None => Ok(()),
+        Some(_) => Err("a row too many".into()),
+    }
+}
+
+/// Fails where there is a row of one of these names.
+fn none_told(alloc: Global, artery: &Artery, names: &[(u8, u32)]) -> Result<(), Fail>
+    requires { count artery.now ≡ 2 }
+{
+    for (family, index) in names {
+        let (family, index) = (*family, *index);
+        let left = format!(in alloc; "no {family}.{index}: 7 0 0 0 7 0 0 0 0 0 0 0 -2 <= 3")?;
+        told(alloc, artery, RowId { family, index }, left.as_str())?;
+    }
+    Ok(())
+}
+
 #[test]
 fn rows_of_the_root_in_order(rt: HostRuntime) -> Result<(), Fail> {
-    let artery = two_signals(rt.alloc(), with_ratio(fraction_or_zero(1, 2)), 50, 500)?;
-    let area = SearchBox::root(rt.alloc(), &artery)?;
-    rows_in_order!(rt, ROOT_ROWS, &artery, next_link_row, name => {
-        let mut room = empty(rt.alloc(), LINE_WIDTH)?;
-        let mut row = empty(rt.alloc(), WIDTH)?;
-        assert!(rt; fill_link_row(&artery, &area, name, &mut room, &mut row));
-        row_text(rt.alloc(), name, &row, WIDTH)?
-    });
-    Ok(())
+    let artery = of_ratio(rt.alloc(), 1)?;
+    all_told(rt.alloc(), &artery, &ROOT_ROWS)
 }
 
 /// With the ratio 1 there is no row of it.
 #[test]
 fn rows_that_are_not_there(rt: HostRuntime) -> Result<(), Fail> {
-    let artery = two_signals(rt.alloc(), with_ratio(fraction_or_zero(2, 2)), 50, 500)?;
-    let area = SearchBox::root(rt.alloc(), &artery)?;
-    let marked = [14, 0, 0, 0, 0, 0, 0, 0, 0, 0, 0, 0, -4];
-    for (family, index) in ABSENT {
-        let mut room = empty(rt.alloc(), LINE_WIDTH)?;
-        let mut row = empty(rt.alloc(), WIDTH)?;
-        row.set(Place::Cell(0), Frac::whole(7));
-        row.set(Place::Cell(12), Frac::whole(-2));
-        row.set(Place::Bound, Frac::whole(3));
-        assert!(rt; !fill_link_row(&artery, &area, RowId { family, index }, &mut room, &mut row));
-        assert!(rt; is_row(&row, &marked, Frac::whole(3)));
-    }
-    let last = RowId {
-        family: 29,
-        index: 1,
-    };
-    assert_eq!(rt;
-        next_link_row(
-            &artery,
-            Some(RowId {
-                family: 28,
-                index: 1
-            })
-        ),
-        Some(last)
-    );
-    assert_eq!(rt; next_link_row(&artery, Some(last)), None);
+    let artery = of_ratio(rt.alloc(), 2)?;
+    none_told(rt.alloc(), &artery, &ABSENT)?;
+    let family = |family| RowId { family, index: 1 };
+    let last = Some(family(29));
+    assert_eq!(rt; next(&artery, Some(family(28))), last);
+    assert_eq!(rt; next(&artery, last), None);
     Ok(())
 }
 
-/// The goal, at several ratios.
+/// The goal where the inbound band counts half.
 #[test]
 fn goals(rt: HostRuntime) -> Result<(), Fail> {
-    let artery = two_signals(rt.alloc(), with_ratio(fraction_or_zero(1, 2)), 50, 500)?;
-    let mut row = empty(rt.alloc(), WIDTH)?;
-    row.set(Place::Cell(4), Frac::whole(7));
-    row.set(Place::Bound, Frac::whole(7));
+    let artery = of_ratio(rt.alloc(), 1)?;
+    let mut row = marked(rt.alloc())?;
     fill_link_goal(&artery, &mut row);
-    assert!(rt;
-        is_row(
-            &row,
-            &[0, 0, 0, 0, 0, 0, 0, 0, 0, 0, 0, 4, 2],
-            Frac::whole(0)
-        )
-    );
+    let halves = [0, 0, 0, 0, 0, 0, 0, 0, 0, 0, 0, 4, 2];
+    assert!(rt; is_row(&row, &halves, Frac::whole(0)));
     Ok(())
 }
 
@@ -150,46 +187,34 @@ fn sum_of(alloc: Global, artery: &Artery, weights: &[Weight]) -> Result<Result<R
 #[test]
 fn sums_of_leaves(rt: HostRuntime) -> Result<(), Fail> {
     let alloc = rt.alloc();
-    let artery = two_signals(alloc, with_ratio(fraction_or_zero(1, 2)), 50, 500)?;
+    let artery = of_ratio(alloc, 1)?;
     // twice the outbound row, and twice the ratio times the inbound one, cover the goal
     let weights = [weight(24, 1, Frac::whole(2)), weight(28, 1, Frac::whole(1))];
-    match sum_of(alloc, &artery, &weights)? {
-        Ok(sum) => {
-            assert!(rt;
-                is_row(
-                    &sum,
-                    &[0, 0, 0, 4, 0, 2, 0, 0, 0, 0, 0, 4, 2],
-                    fraction_or_zero(3, 2)
-                )
-            );
-        }
-        Err(_) => return Err("no sum".into()),
+    let Ok(sum) = sum_of(alloc, &artery, &weights)? else {
+        return Err("no sum".into());
+    };
+    let halves = [0, 0, 0, 4, 0, 2, 0, 0, 0, 0, 0, 4, 2];
+    assert!(rt; is_row(&sum, &halves, fraction_or_zero(3, 2)));
+    Ok(())
+}
+
+/// What is wrong with the sum of one row.
+fn fault_of(alloc: Global, weight: Weight) -> Result<Option<SumFault>, Fail> {
+    let artery = of_ratio(alloc, 1)?;
+    match sum_of(alloc, &artery, &[weight])? {
+        Ok(_) => Ok(None),
+        Err(fault) => Ok(Some(fault)),
     }
-    let faults = [
-        (
-            weight(1, 1, Frac::whole(1)),
-            SumFault::NoSuchRow {
-                row: RowId {
-                    family: 1,
-                    index: 1,
-                },
-            },
-        ),
-        (
-            weight(24, 1, Frac::whole(-1)),
-            SumFault::Negative {
-                row: RowId {
-                    family: 24,
-                    index: 1,
-                },
-            },
-        ),
-    ];
-    for (weight, fault) in faults {
-        match sum_of(alloc, &artery, &[weight])? {
-            Ok(_) => return Err("a sum".into()),
-            Err(found) => assert_eq!(rt; found, fault),
-        }
-    }
+}
+
+#[test]
+fn sums_that_are_refused(rt: HostRuntime) -> Result<(), Fail> {
+    let alloc = rt.alloc();
+    let no_row = weight(1, 1, Frac::whole(1));
+    let row = no_row.row;
+    assert_eq!(rt; fault_of(alloc, no_row)?, Some(SumFault::NoSuchRow { row }));
+    let below = weight(24, 1, Frac::whole(-1));
+    let row = below.row;
+    assert_eq!(rt; fault_of(alloc, below)?, Some(SumFault::Negative { row }));
     Ok(())
 }

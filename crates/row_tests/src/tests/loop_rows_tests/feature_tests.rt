@@ -6,7 +6,7 @@ ghost use Rattle.progression.specs.Street.{count};
 use crate::tests::row_texts::empty;
 use artery_model::Artery;
 use loop_rows::{block_sum, fill_row, next_row};
-use named_row::{Place, Point, Row};
+use named_row::{Place, Point, Row, RowId};
 use narrow_fraction::Frac;
 use sample_streets::{
     SampleHead, SampleLink, SampleSignal, plain_head, plain_signal, range, sample_street,
@@ -80,6 +80,11 @@ fn artery(alloc: Global) -> Result<Artery, Fail>
     }
 }
 
+/// What is left without a product, with nothing said of it.
+fn less(left: Frac, coefficient: Frac, value: Frac) -> Option<Frac> {
+    left.minus(coefficient.times(value).ok()?).ok()
+}
+
 /// What the row's sum leaves of its bound at a point.
 fn slack(row: &Row, values: &[Frac]) -> Option<Frac>
     requires width { length row.now.coefs ≡ 16 }
@@ -87,13 +92,56 @@ fn slack(row: &Row, values: &[Frac]) -> Option<Frac>
 {
     let mut left = row.get(Place::Bound);
     for column in 0..WIDTH {
-        let term = row
-            .get(Place::Cell(column))
-            .times(values[column as usize])
-            .ok()?;
-        left = left.minus(term).ok()?;
+        left = less(left, row.get(Place::Cell(column)), values[column as usize])?;
     }
     Some(left)
+}
+
+/// What the row of this name leaves in the root box.
+fn left_by(alloc: Global, artery: &Artery, name: RowId, values: &[Frac]) -> Result<Frac, Fail>
+    requires signals { count artery.now ≡ 3 }
+    requires values { length values.now ≡ 16 }
+{
+    let area = SearchBox::root(alloc, artery)?;
+    let mut row = empty(alloc, WIDTH)?;
+    if !fill_row(artery, &area, name, &mut row) {
+        return Err("a row is missing".into());
+    }
+    match slack(&row, values) {
+        Some(left) => Ok(left),
+        None => Err("a sum that does not fit".into()),
+    }
+}
+
+/// The name of a row that the point meets with equality, or nothing where something is left.
+fn named_if_tight(alloc: Global, name: RowId, left: Frac) -> Result<String, Fail> {
+    let zero = Frac::whole(0);
+    if left < zero {
+        return Err("a row that the point doesn't meet".into());
+    }
+    if left == zero {
+        return Ok(format!(in alloc; "{}.{} ", name.family, name.index)?);
+    }
+    Ok(String::new(alloc))
+}
+
+/// The names of the rows that a point meets with equality, which meets every row of all 31.
+fn tight_rows(alloc: Global, artery: &Artery, values: &[Frac]) -> Result<String, Fail>
+    requires signals { count artery.now ≡ 3 }
+    requires values { length values.now ≡ 16 }
+{
+    let mut tight = String::new(alloc);
+    let mut after = None;
+    for _ in 0..31 {
+        let name = next_row(artery, after).ok_or("a row is missing")?;
+        let left = left_by(alloc, artery, name, values)?;
+        tight.push_str(named_if_tight(alloc, name, left)?.as_str())?;
+        after = Some(name);
+    }
+    match next_row(artery, after) {
+        None => Ok(tight),
+        Some(_) => Err("a row too many".into()),
+    }
 }
 
 /// A share of the cycle.
@@ -126,34 +174,35 @@ static WORKED: [Case; 4] = [
     },
 ];
 
+fn has_whole_sums(artery: &Artery, point: &Point) -> bool
+    requires signals { count artery.now ≡ 3 }
+    requires values { length point.now.values.items ≡ 16 }
+{
+    let one = Ok(Frac::whole(1));
+    block_sum(artery, point, 1) == one && block_sum(artery, point, 2) == one
+}
+
+/// The names of the rows that a case's point meets with equality, where it meets all and both block sums are 1.
+fn met(alloc: Global, artery: &Artery, case: &Case) -> Result<String, Fail>
+    requires { count artery.now ≡ 3 }
+{
+    let values = case.ticks.map(share);
+    let tight = tight_rows(alloc, artery, &values)?;
+    let values = Vec::from_slice(alloc, &values)?;
+    if !has_whole_sums(artery, &Point { values }) {
+        return Err("a block sum that isn't 1".into());
+    }
+    Ok(tight)
+}
+
 #[test]
 fn points_of_good_timings_meet_every_row_and_have_whole_block_sums(
     rt: HostRuntime,
 ) -> Result<(), Fail> {
     let artery = artery(rt.alloc())?;
-    let area = SearchBox::root(rt.alloc(), &artery)?;
-    for timing in &WORKED {
-        let values = timing.ticks.map(share);
-        let mut tight = String::new(rt.alloc());
-        let mut after = None;
-        for _ in 0..31 {
-            let name = next_row(&artery, after).ok_or("a row is missing")?;
-            let mut row = empty(rt.alloc(), WIDTH)?;
-            assert!(rt; fill_row(&artery, &area, name, &mut row));
-            let left = slack(&row, &values).ok_or("a sum that does not fit")?;
-            assert!(rt; Frac::whole(0) <= left);
-            if left == Frac::whole(0) {
-                let named = format!(in rt.alloc(); "{}.{} ", name.family, name.index)?;
-                tight.push_str(named.as_str())?;
-            }
-            after = Some(name);
-        }
-        assert_eq!(rt; next_row(&artery, after), None);
-        assert_eq!(rt; tight.as_str().trim_end(), timing.tight);
-        let values = Vec::from_slice(rt.alloc(), &values)?;
-        let point = Point { values };
-        assert_eq!(rt; block_sum(&artery, &point, 1), Ok(Frac::whole(1)));
-        assert_eq!(rt; block_sum(&artery, &point, 2), Ok(Frac::whole(1)));
+    for case in &WORKED {
+        let tight = met(rt.alloc(), &artery, case)?;
+        assert_eq!(rt; tight.as_str().trim_end(), case.tight);
     }
     Ok(())
 }

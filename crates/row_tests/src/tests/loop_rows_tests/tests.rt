@@ -1,13 +1,16 @@
 //! Worked rows: two signals with red 50 of 100 parts, cycle 100 seconds, 500 metres each way at 36 kilometres an hour.
 
-ghost use Rattle.std.specs.Prelude.{◌≡◌, length};
+ghost use Rattle.std.specs.Prelude.{◌≡◌, IfOk, length};
+ghost use Rattle.progression.specs.Street.{count};
 
-use crate::tests::row_texts::{LINE_WIDTH, empty, row_text, rows_in_order};
+use crate::tests::row_texts::{LINE_WIDTH, empty, filled_text, row_text, same_text};
+use artery_model::Artery;
 use loop_rows::{block_sum, fill_goal, fill_row, next_row};
 use named_row::{Place, Point, Row, RowId};
 use narrow_fraction::Frac;
 use sample_streets::SampleHead;
 use search_box::SearchBox;
+use std::alloc::Global;
 use std::rt::HostRuntime;
 use std::test::Fail;
 use test_bed::{fraction_or_zero, two_signals, with_ratio};
@@ -56,122 +59,200 @@ static ABSENT: [(u8, u32); 20] = [
     (255, 1),
 ];
 
-/// Coefficients of the bands alone.
-fn both_bands(out: Frac, back: Frac) -> [Frac; 11] {
-    let zero = Frac::whole(0);
-    [
-        out, back, zero, zero, zero, zero, zero, zero, zero, zero, zero,
-    ]
+/// A row of numbers, to be written over.
+fn marked(alloc: Global) -> Result<Row, Fail>
+    ensures { IfOk result (λ row. length row.coefs ≡ 11) }
+{
+    let mut row = empty(alloc, LINE_WIDTH)?;
+    row.set(Place::Cell(0), Frac::whole(7));
+    row.set(Place::Cell(4), Frac::whole(7));
+    row.set(Place::Cell(10), Frac::whole(-2));
+    row.set(Place::Bound, Frac::whole(3));
+    Ok(row)
 }
 
-/// Whether a row has these numbers.
-fn is_row(row: &Row, cells: &[Frac], bound: Frac) -> bool
-    requires width { length row.now.coefs ≡ 11 }
-    requires cells { length cells.now ≡ 11 }
+/// The row of this name in the root box, written over such a row; or what is left of that row where there is none.
+fn filled(alloc: Global, artery: &Artery, name: RowId) -> Result<String, Fail>
+    requires { count artery.now ≡ 2 }
 {
-    for column in 0..LINE_WIDTH {
-        if row.get(Place::Cell(column)) != cells[column as usize] {
-            return false;
-        }
+    let area = SearchBox::root(alloc, artery)?;
+    let mut row = marked(alloc)?;
+    let is_there = fill_row(artery, &area, name, &mut row);
+    filled_text(alloc, is_there, name, &row, LINE_WIDTH)
+}
+
+/// The weighted band, with the name of no row.
+fn goal(alloc: Global, artery: &Artery) -> Result<String, Fail>
+    requires { count artery.now ≡ 2 }
+{
+    let mut row = marked(alloc)?;
+    fill_goal(artery, &mut row);
+    let name = RowId {
+        family: 0,
+        index: 0,
+    };
+    Ok(row_text(alloc, name, &row, LINE_WIDTH)?)
+}
+
+fn of_ratio(alloc: Global, num: i128, den: i128) -> Result<Artery, Fail>
+    ensures { IfOk result (λ a. count a ≡ 2) }
+{
+    two_signals(alloc, with_ratio(fraction_or_zero(num, den)), 50, 500)
+}
+
+/// Fails where the row of this name is another.
+fn told(alloc: Global, artery: &Artery, name: RowId, want: &str) -> Result<(), Fail>
+    requires { count artery.now ≡ 2 }
+{
+    let found = filled(alloc, artery, name)?;
+    same_text(found.as_str(), want)
+}
+
+/// The name of the row behind that one, with nothing said of it.
+fn next(artery: &Artery, after: Option<RowId>) -> Option<RowId> {
+    next_row(artery, after)
+}
+
+/// Fails where the rows in their order are others.
+fn all_told(alloc: Global, artery: &Artery, rows: &[&str]) -> Result<(), Fail>
+    requires { count artery.now ≡ 2 }
+{
+    let mut after = None;
+    for row in rows {
+        let Some(name) = next(artery, after) else {
+            return Err("a row is missing".into());
+        };
+        told(alloc, artery, name, row)?;
+        after = Some(name);
     }
-    row.get(Place::Bound) == bound
+    match next(artery, after) {
+        None => Ok(()),
+        Some(_) => Err("a row too many".into()),
+    }
+}
+
+/// Fails where there is a row of one of these names.
+fn none_told(alloc: Global, artery: &Artery, names: &[(u8, u32)]) -> Result<(), Fail>
+    requires { count artery.now ≡ 2 }
+{
+    for (family, index) in names {
+        let (family, index) = (*family, *index);
+        let left = format!(in alloc; "no {family}.{index}: 7 0 0 0 7 0 0 0 0 0 -2 <= 3")?;
+        told(alloc, artery, RowId { family, index }, left.as_str())?;
+    }
+    Ok(())
 }
 
 #[test]
 fn rows_of_the_root_in_order(rt: HostRuntime) -> Result<(), Fail> {
-    let artery = two_signals(rt.alloc(), with_ratio(Frac::whole(1)), 50, 500)?;
-    let area = SearchBox::root(rt.alloc(), &artery)?;
-    rows_in_order!(rt, ROOT_ROWS, &artery, next_row, name => {
-        let mut row = empty(rt.alloc(), LINE_WIDTH)?;
-        assert!(rt; fill_row(&artery, &area, name, &mut row));
-        row_text(rt.alloc(), name, &row, LINE_WIDTH)?
-    });
-    Ok(())
+    let artery = of_ratio(rt.alloc(), 1, 1)?;
+    all_told(rt.alloc(), &artery, &ROOT_ROWS)
 }
 
 #[test]
 fn rows_that_are_not_there(rt: HostRuntime) -> Result<(), Fail> {
-    let artery = two_signals(rt.alloc(), with_ratio(Frac::whole(1)), 50, 500)?;
-    let area = SearchBox::root(rt.alloc(), &artery)?;
-    let marked = [7, 0, 0, 0, 0, 0, 0, 0, 0, 0, -2].map(Frac::whole);
-    for (family, index) in ABSENT {
-        let mut row = empty(rt.alloc(), LINE_WIDTH)?;
-        row.set(Place::Cell(0), Frac::whole(7));
-        row.set(Place::Cell(10), Frac::whole(-2));
-        row.set(Place::Bound, Frac::whole(3));
-        assert!(rt; !fill_row(&artery, &area, RowId { family, index }, &mut row));
-        assert!(rt; is_row(&row, &marked, Frac::whole(3)));
-    }
-    Ok(())
+    let artery = of_ratio(rt.alloc(), 1, 1)?;
+    none_told(rt.alloc(), &artery, &ABSENT)
 }
 
-/// The row of the ratio, and the weighted band, which is filled into the same row.
-#[test]
-fn rows_of_both_bands(rt: HostRuntime) -> Result<(), Fail> {
+/// A ratio, its row, and the weighted band.
+static BOTH_BANDS: [(i128, i128, &str, &str); 3] = [
+    (
+        0,
+        1,
+        "13.0: 0 -1 0 0 0 0 0 0 0 0 0 <= 0",
+        "0.0: 1 0 0 0 0 0 0 0 0 0 0 <= 0",
+    ),
+    (
+        1,
+        2,
+        "13.0: 1/2 -1 0 0 0 0 0 0 0 0 0 <= 0",
+        "0.0: 1 1/2 0 0 0 0 0 0 0 0 0 <= 0",
+    ),
+    (
+        2,
+        1,
+        "13.0: -2 1 0 0 0 0 0 0 0 0 0 <= 0",
+        "0.0: 1 2 0 0 0 0 0 0 0 0 0 <= 0",
+    ),
+];
+
+/// Fails where a ratio's row or the weighted band is another.
+fn bands_told(alloc: Global, num: i128, den: i128, row: &str, weighted: &str) -> Result<(), Fail> {
+    let artery = of_ratio(alloc, num, den)?;
     let name = RowId {
         family: 13,
         index: 0,
     };
-    let cases = [
-        (Frac::whole(0), Frac::whole(0), -1),
-        (fraction_or_zero(1, 2), fraction_or_zero(1, 2), -1),
-        (Frac::whole(2), Frac::whole(-2), 1),
-    ];
-    for (ratio, out, back) in cases {
-        let artery = two_signals(rt.alloc(), with_ratio(ratio), 50, 500)?;
-        let area = SearchBox::root(rt.alloc(), &artery)?;
-        let mut row = empty(rt.alloc(), LINE_WIDTH)?;
-        row.set(Place::Cell(4), Frac::whole(7));
-        assert!(rt; fill_row(&artery, &area, name, &mut row));
-        assert!(rt; is_row(&row, &both_bands(out, Frac::whole(back)), Frac::whole(0)));
-        row.set(Place::Cell(4), Frac::whole(7));
-        fill_goal(&artery, &mut row);
-        assert!(rt; is_row(&row, &both_bands(Frac::whole(1), ratio), Frac::whole(0)));
+    told(alloc, &artery, name, row)?;
+    same_text(goal(alloc, &artery)?.as_str(), weighted)
+}
+
+#[test]
+fn rows_of_both_bands(rt: HostRuntime) -> Result<(), Fail> {
+    for (num, den, row, weighted) in BOTH_BANDS {
+        bands_told(rt.alloc(), num, den, row, weighted)?;
     }
     Ok(())
 }
 
 /// The rows of least bands and of equal bands, which stand last.
-#[test]
-fn rows_of_bands_that_are_asked_for(rt: HostRuntime) -> Result<(), Fail> {
-    let (zero, one, minus) = (Frac::whole(0), Frac::whole(1), Frac::whole(-1));
-    let asked = SampleHead {
+static ASKED: [(u8, &str); 4] = [
+    (18, "18.0: -1 0 0 0 0 0 0 0 0 0 0 <= -1/4"),
+    (19, "19.0: 0 -1 0 0 0 0 0 0 0 0 0 <= -1/5"),
+    (20, "20.0: 1 -1 0 0 0 0 0 0 0 0 0 <= 0"),
+    (21, "21.0: -1 1 0 0 0 0 0 0 0 0 0 <= 0"),
+];
+
+fn asked(alloc: Global) -> Result<Artery, Fail>
+    ensures { IfOk result (λ a. count a ≡ 2) }
+{
+    let head = SampleHead {
         version: 2,
         least_out: fraction_or_zero(1, 4),
         least_in: fraction_or_zero(1, 5),
         equal: true,
-        ..with_ratio(one)
+        ..with_ratio(Frac::whole(1))
     };
-    let artery = two_signals(rt.alloc(), asked, 50, 500)?;
-    let area = SearchBox::root(rt.alloc(), &artery)?;
-    let rows = [
-        (18, minus, zero, fraction_or_zero(-1, 4)),
-        (19, zero, minus, fraction_or_zero(-1, 5)),
-        (20, one, minus, zero),
-        (21, minus, one, zero),
-    ];
+    two_signals(alloc, head, 50, 500)
+}
+
+/// Fails where the rows of these families, in this order behind the others, are others, or there is a second one of a family.
+fn asked_told(alloc: Global, artery: &Artery, rows: &[(u8, &str)]) -> Result<(), Fail>
+    requires { count artery.now ≡ 2 }
+{
     let mut after = Some(RowId {
         family: 17,
         index: 2,
     });
-    for (family, out, back, bound) in rows {
-        let name = RowId { family, index: 0 };
-        assert_eq!(rt; next_row(&artery, after), Some(name));
+    for (family, row) in rows {
+        let name = RowId {
+            family: *family,
+            index: 0,
+        };
+        if next(artery, after) != Some(name) {
+            return Err("another row is next".into());
+        }
+        told(alloc, artery, name, row)?;
+        none_told(alloc, artery, &[(*family, 1)])?;
         after = Some(name);
-        let mut row = empty(rt.alloc(), LINE_WIDTH)?;
-        row.set(Place::Cell(4), Frac::whole(7));
-        assert!(rt; fill_row(&artery, &area, name, &mut row));
-        assert!(rt; is_row(&row, &both_bands(out, back), bound));
-        assert!(rt; !fill_row(&artery, &area, RowId { family, index: 1 }, &mut row));
     }
-    assert_eq!(rt; next_row(&artery, after), None);
-    Ok(())
+    match next(artery, after) {
+        None => Ok(()),
+        Some(_) => Err("a row too many".into()),
+    }
+}
+
+#[test]
+fn rows_of_bands_that_are_asked_for(rt: HostRuntime) -> Result<(), Fail> {
+    let artery = asked(rt.alloc())?;
+    asked_told(rt.alloc(), &artery, &ASKED)
 }
 
 /// The point of a timing whose bands fill the greens: grid 2, unit 2, 200 ticks, reds from 0 and 100, runs of 100.
 #[test]
 fn block_sum_of_a_timing(rt: HostRuntime) -> Result<(), Fail> {
-    let artery = two_signals(rt.alloc(), with_ratio(Frac::whole(1)), 50, 500)?;
+    let artery = of_ratio(rt.alloc(), 1, 1)?;
     let (zero, half) = (Frac::whole(0), fraction_or_zero(1, 2));
     let values = vec![in rt.alloc();
         half,
