@@ -19,6 +19,8 @@ pub mod KeptNodes
 pub mod NodeLines
 pub mod NodeLoop
 pub mod Claims
+pub mod Copies
+pub mod Shapes
 pub mod Certificates
 pub mod WrittenTexts
 pub mod Grown
