@@ -1,8 +1,10 @@
 //! The whole drawing, and its text.
 
 ghost use Rattle.std.specs.Prelude.{◌≡◌, ◌+◌, ◌-◌, ◌*◌, ◌<◌, ◌≤◌, ◌++◌, codes, IfOk, pos, length, string_bytes};
+ghost use Rattle.std.specs.Fmt.{decimal};
 ghost use Rattle.progression.specs.Street.{count};
 ghost use Rattle.progression.specs.Good.{IsBase};
+ghost use Rattle.diagram_draw.specs.declared.shape.Shape.TheVariants.{Rect};
 ghost use Rattle.diagram_draw.specs.Shapes.{shapes_text, captions_text};
 ghost use Rattle.diagram_draw.specs.Frames.{IsFrame, page_width, page_height, name_room};
 ghost use Rattle.diagram_draw.specs.Bars.{all_bars};
@@ -25,30 +27,31 @@ use std::alloc::{AllocError, Global};
 use time_space::Timing;
 use timing_measures::signal_name;
 
+/// A part of a sample of a bar.
+fn key_block(paint: Paint, left: u32, right: u32, top: u32) -> Shape
+    requires { top ≤ 30000 }
+    ensures { result ≡ Rect paint (pos left) (pos top) (pos right) (pos (top + 90)) }
+{
+    Shape::Rect {
+        paint,
+        left: i128::from(left),
+        top: i128::from(top),
+        right: i128::from(right),
+        bottom: i128::from(top + BAR_HEIGHT),
+    }
+}
+
 /// A sample of a bar.
 fn key_bar(alloc: Global, frame: Frame, x: u32, paint: Paint) -> Result<Vec<Shape>, Memory>
     requires frame { IsFrame frame }
     requires x { x ≤ 9000 }
     ensures { IfOk result (λ shapes. shapes.items ≡ key_bar frame x paint) }
 {
-    let left = i128::from(frame.left + x);
-    let top = i128::from(plot_bottom(frame) + 700);
-    let bottom = top + i128::from(BAR_HEIGHT);
+    let left = frame.left + x;
+    let top = plot_bottom(frame) + 700;
     let mut shapes = Vec::new(alloc);
-    shapes.push(Shape::Rect {
-        paint: Paint::Ground,
-        left,
-        top,
-        right: left + 400,
-        bottom,
-    })?;
-    shapes.push(Shape::Rect {
-        paint,
-        left: left + 60,
-        top,
-        right: left + 340,
-        bottom,
-    })?;
+    shapes.push(key_block(Paint::Ground, left, left + 400, top))?;
+    shapes.push(key_block(paint, left + 60, left + 340, top))?;
     Ok(shapes)
 }
 
@@ -89,6 +92,12 @@ fn key_shapes(alloc: Global, frame: Frame) -> Result<Vec<Shape>, Memory>
     Ok(shapes)
 }
 
+fn signal_opening(alloc: Global, signal: u32) -> Result<String, AllocError>
+    ensures { IfOk result (λ text. string_bytes text ≡ codes "; signal " ++ (decimal signal ++ codes ", ")) }
+{
+    format!(in alloc; "; signal {signal}, ")
+}
+
 /// What is read aloud of a signal.
 #[tactic(auto, unfolding(crate::specs::Pages::signal_about))]
 fn signal_about(
@@ -104,7 +113,7 @@ fn signal_about(
 {
     let name = escaped(alloc, signal_name(artery, signal).as_bytes())?;
     let offset = offset_text(alloc, artery, timing, signal)?;
-    let mut text = format!(in alloc; "; signal {signal}, ")?.into_bytes();
+    let mut text = signal_opening(alloc, signal)?.into_bytes();
     text.extend_from_slice(name.as_slice())?;
     text.extend_from_slice(b", offset ")?;
     text.extend_from_slice(offset.as_slice())?;
