@@ -1,7 +1,7 @@
 -- What a list becomes that is made by extensions, each by what it means, and what a loop makes of it.
 use Rattle.std.proofs.Common.{◌≡◌, ℕ, ◌+◌, ◌-◌, ◌≤◌, List, [], ◌∷◌, ◌++◌, map, flat_map, append_assoc, sym, ap, ◌∙◌, arith}
 use Rattle.std.specs.List.{range_with_len}
-use Rattle.timing_measures.proofs.Pieces.{extended, extended_one, piece_up, map_up, map_on, text_up, text_on, texts_up}
+use Rattle.timing_measures.proofs.Pieces.{extended, extended_one, piece_up, map_up, text_up, texts_up}
 use Rattle.diagram_draw.specs.Shapes.{Caption, captions_text}
 use Rattle.diagram_draw.proofs.Joins.{captions_joined}
 

@@ -107,7 +107,6 @@ fn second_line(frame: Frame, timing: &Timing, line: u32) -> Shape
     }
 }
 
-#[tactic(auto, using(timing_measures::proofs::Pieces::map_on))]
 fn second_lines(alloc: Global, frame: Frame, timing: &Timing) -> Result<Vec<Shape>, AllocError>
     requires { IsFrame frame }
     ensures { IfOk result (λ shapes. shapes.items ≡ second_lines frame timing.now) }
@@ -144,7 +143,6 @@ fn cycle_line(frame: Frame, cycles: u32) -> Shape
     }
 }
 
-#[tactic(auto, using(timing_measures::proofs::Pieces::map_on))]
 fn cycle_lines(alloc: Global, frame: Frame) -> Result<Vec<Shape>, AllocError>
     requires { IsFrame frame }
     ensures { IfOk result (λ shapes. shapes.items ≡ cycle_lines frame) }
@@ -172,7 +170,6 @@ fn level_line(frame: Frame, artery: &Artery, signal: u32) -> Shape
     }
 }
 
-#[tactic(auto, using(timing_measures::proofs::Pieces::map_up))]
 fn level_lines(alloc: Global, frame: Frame, artery: &Artery) -> Result<Vec<Shape>, AllocError>
     requires { IsFrame frame }
     ensures { IfOk result (λ shapes. shapes.items ≡ level_lines frame artery.now) }
@@ -211,7 +208,6 @@ fn plot(frame: Frame) -> Shape
 }
 
 /// All that stands behind the bands.
-#[tactic(auto, unfolding(crate::specs::Axes::back))]
 pub fn back(
     alloc: Global,
     frame: Frame,

@@ -210,7 +210,6 @@ fn link_pieces(
 }
 
 /// The pieces of both bands, from the first link on.
-#[tactic(auto, using(timing_measures::proofs::Pieces::piece_up))]
 pub fn all_pieces(
     alloc: Global,
     frame: Frame,

@@ -378,7 +378,6 @@ fn signal_bars(
 }
 
 /// The bars of the signals, from the first on.
-#[tactic(auto, using(timing_measures::proofs::Pieces::piece_up))]
 pub fn all_bars(
     alloc: Global,
     frame: Frame,

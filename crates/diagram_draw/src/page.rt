@@ -99,7 +99,6 @@ fn signal_opening(alloc: Global, signal: u32) -> Result<String, AllocError>
 }
 
 /// What is read aloud of a signal.
-#[tactic(auto, unfolding(crate::specs::Pages::signal_about))]
 fn signal_about(
     alloc: Global,
     artery: &Artery,
@@ -122,7 +121,6 @@ fn signal_about(
 }
 
 /// The same of all signals.
-#[tactic(auto, using(timing_measures::proofs::Pieces::piece_up))]
 fn signals_about(alloc: Global, artery: &Artery, timing: &Timing) -> Result<Vec<u8>, Memory>
     requires { length timing.now.patterns ≡ count artery.now }
     ensures { IfOk result (λ text. text.items ≡ signals_about artery.now timing.now) }
@@ -148,7 +146,6 @@ fn about_text(alloc: Global, artery: &Artery, timing: &Timing) -> Result<Vec<u8>
 }
 
 /// What is seen through the field of the diagram.
-#[tactic(auto, unfolding(crate::specs::Pages::field_shapes))]
 fn field_shapes(
     alloc: Global,
     frame: Frame,
@@ -269,7 +266,6 @@ fn definitions_text(alloc: Global, frame: Frame, room: u32) -> Result<Vec<u8>, M
 }
 
 /// What comes before the shapes.
-#[tactic(auto, unfolding(crate::specs::Pages::head_text))]
 fn head_text(
     alloc: Global,
     frame: Frame,
@@ -288,7 +284,6 @@ fn head_text(
     Ok(text)
 }
 
-#[tactic(auto, unfolding(crate::specs::Pages::field_part))]
 fn field_part(alloc: Global, shapes: &[Shape]) -> Result<Vec<u8>, Memory>
     ensures { IfOk result (λ text. text.items ≡ field_part shapes.now) }
 {
@@ -299,7 +294,6 @@ fn field_part(alloc: Global, shapes: &[Shape]) -> Result<Vec<u8>, Memory>
     Ok(text)
 }
 
-#[tactic(auto, unfolding(crate::specs::Pages::names_part))]
 fn names_part(alloc: Global, frame: Frame, artery: &Artery) -> Result<Vec<u8>, Memory>
     requires { IsFrame frame }
     ensures { IfOk result (λ text. text.items ≡ names_part (names frame artery.now)) }
@@ -312,7 +306,6 @@ fn names_part(alloc: Global, frame: Frame, artery: &Artery) -> Result<Vec<u8>, M
 }
 
 /// What is behind the words.
-#[tactic(auto, unfolding(crate::specs::Pages::body_text))]
 fn body_text(
     alloc: Global,
     frame: Frame,
@@ -334,7 +327,6 @@ fn body_text(
 }
 
 /// The words, and what explains the shapes.
-#[tactic(auto, unfolding(crate::specs::Pages::tail_text))]
 fn tail_text(
     alloc: Global,
     frame: Frame,
