@@ -181,7 +181,6 @@ fn title_heads(alloc: Global, artery: &Artery, timing: &Timing) -> Result<Vec<u8
 }
 
 /// What stands above the columns of the signals.
-#[tactic(auto, unfolding(crate::specs::Captions::signal_heads))]
 fn signal_heads(alloc: Global, frame: Frame) -> Result<Vec<u8>, Memory>
     requires { IsFrame frame }
     ensures { IfOk result (λ text. text.items ≡ captions_text (signal_heads frame)) }
@@ -543,7 +542,6 @@ fn link_rows(
 }
 
 /// What explains the reds.
-#[tactic(auto, unfolding(crate::specs::Captions::red_words))]
 fn red_words(alloc: Global, frame: Frame) -> Result<Vec<u8>, Memory>
     requires { IsFrame frame }
     ensures { IfOk result (λ text. text.items ≡ captions_text (red_words frame)) }
@@ -571,7 +569,6 @@ fn red_words(alloc: Global, frame: Frame) -> Result<Vec<u8>, Memory>
 }
 
 /// What explains the bands.
-#[tactic(auto, unfolding(crate::specs::Captions::band_words))]
 fn band_words(alloc: Global, frame: Frame) -> Result<Vec<u8>, Memory>
     requires { IsFrame frame }
     ensures { IfOk result (λ text. text.items ≡ captions_text (band_words frame)) }
