@@ -1,5 +1,6 @@
 pub mod Apart
 pub mod Beside
+pub mod Chains
 pub mod Joins
 pub mod Measures
 pub mod Members

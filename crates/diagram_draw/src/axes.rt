@@ -5,7 +5,7 @@ ghost use Rattle.progression.specs.Street.{count};
 ghost use Rattle.diagram_draw.specs.Frames.{IsFrame};
 ghost use Rattle.diagram_draw.specs.Axes.{seconds_shown, step_for, steps_shown, second_at, second_line, second_lines, cycle_line, cycle_lines, level_line, level_lines, paper, plot, back};
 
-use crate::frame::{Frame, PLOT_TOP, PLOT_WIDTH, level, plot_bottom, x_at};
+use crate::frame::{Frame, PLOT_TOP, PLOT_WIDTH, cycles_ticks, level, plot_bottom, x_at};
 use crate::paint::Paint;
 use crate::shape::Shape;
 use artery_model::Artery;
@@ -19,7 +19,7 @@ fn seconds_shown(frame: Frame, timing: &Timing) -> u128
     ensures value { result ≡ seconds_shown frame timing.now }
     ensures small { result < 2 ^ 96 }
 {
-    u128::from(frame.cycles) * frame.cycle / timing.grid()
+    cycles_ticks(frame, frame.cycles) / timing.grid()
 }
 
 /// The seconds between two lines.
@@ -107,7 +107,6 @@ fn second_line(frame: Frame, timing: &Timing, line: u32) -> Shape
     }
 }
 
-#[tactic(auto, using(timing_measures::proofs::Pieces::map_on))]
 fn second_lines(alloc: Global, frame: Frame, timing: &Timing) -> Result<Vec<Shape>, AllocError>
     requires { IsFrame frame }
     ensures { IfOk result (λ shapes. shapes.items ≡ second_lines frame timing.now) }
@@ -125,7 +124,7 @@ pub fn cycle_x(frame: Frame, cycles: u32) -> i128
     requires cycles { cycles ≤ 12 }
     ensures { result ≡ Rattle.diagram_draw.specs.Frames.x_at frame (pos (cycles * frame.cycle)) }
 {
-    let ticks = u128::from(cycles) * frame.cycle;
+    let ticks = cycles_ticks(frame, cycles);
     x_at(frame, ticks as i128)
 }
 
@@ -144,7 +143,6 @@ fn cycle_line(frame: Frame, cycles: u32) -> Shape
     }
 }
 
-#[tactic(auto, using(timing_measures::proofs::Pieces::map_on))]
 fn cycle_lines(alloc: Global, frame: Frame) -> Result<Vec<Shape>, AllocError>
     requires { IsFrame frame }
     ensures { IfOk result (λ shapes. shapes.items ≡ cycle_lines frame) }
@@ -172,7 +170,6 @@ fn level_line(frame: Frame, artery: &Artery, signal: u32) -> Shape
     }
 }
 
-#[tactic(auto, using(timing_measures::proofs::Pieces::map_up))]
 fn level_lines(alloc: Global, frame: Frame, artery: &Artery) -> Result<Vec<Shape>, AllocError>
     requires { IsFrame frame }
     ensures { IfOk result (λ shapes. shapes.items ≡ level_lines frame artery.now) }
@@ -211,7 +208,6 @@ fn plot(frame: Frame) -> Shape
 }
 
 /// All that stands behind the bands.
-#[tactic(auto, unfolding(crate::specs::Axes::back))]
 pub fn back(
     alloc: Global,
     frame: Frame,

@@ -6,7 +6,7 @@ ghost use Rattle.progression.specs.TimingRecord.{cycle, run, band};
 ghost use Rattle.diagram_draw.specs.Frames.{IsFrame};
 ghost use Rattle.diagram_draw.specs.Bands.{tail, leaving_level, entering_level, band_paint, cycles_back, piece, some_pieces, first_leaving, pieces, link_pieces, all_pieces};
 
-use crate::frame::{BAR_HEIGHT, Frame, earlier, later, level, moment_after, x_at};
+use crate::frame::{Frame, above, below, earlier, later, level, moment_after, x_at};
 use crate::paint::Paint;
 use crate::shape::{Shape, Side};
 use artery_model::{Artery, Dir};
@@ -54,8 +54,8 @@ fn leaving_level(frame: Frame, artery: &Artery, dir: Dir, link: u32) -> i128
     // there are few signals
     let _ = artery.count();
     match dir {
-        Dir::Outbound => i128::from(level(frame, artery, link)) - i128::from(BAR_HEIGHT),
-        Dir::Inbound => i128::from(level(frame, artery, link + 1)) + i128::from(BAR_HEIGHT),
+        Dir::Outbound => above(level(frame, artery, link)),
+        Dir::Inbound => below(level(frame, artery, link + 1)),
     }
 }
 
@@ -70,8 +70,8 @@ fn entering_level(frame: Frame, artery: &Artery, dir: Dir, link: u32) -> i128
     // there are few signals
     let _ = artery.count();
     match dir {
-        Dir::Outbound => i128::from(level(frame, artery, link + 1)) + i128::from(BAR_HEIGHT),
-        Dir::Inbound => i128::from(level(frame, artery, link)) - i128::from(BAR_HEIGHT),
+        Dir::Outbound => below(level(frame, artery, link + 1)),
+        Dir::Inbound => above(level(frame, artery, link)),
     }
 }
 
@@ -210,7 +210,6 @@ fn link_pieces(
 }
 
 /// The pieces of both bands, from the first link on.
-#[tactic(auto, using(timing_measures::proofs::Pieces::piece_up))]
 pub fn all_pieces(
     alloc: Global,
     frame: Frame,

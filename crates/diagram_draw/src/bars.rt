@@ -4,9 +4,11 @@ ghost use Rattle.std.specs.Prelude.{◌≡◌, ◌+◌, ◌*◌, ◌<◌, ◌≤
 ghost use Rattle.progression.specs.Street.{count};
 ghost use Rattle.progression.specs.TimingRecord.{cycle, band};
 ghost use Rattle.diagram_draw.specs.Frames.{IsFrame};
-ghost use Rattle.diagram_draw.specs.Bars.{bar_top, block, some_blocks, blocks, first_red, first_window, common_ticks, turn_ticks, common_wait, turn_wait, window_paint, ground, windows, common_reds, turn_reds, bar, signal_bars, all_bars};
+ghost use Rattle.diagram_draw.specs.Bars.{bar_top, block, some_blocks, blocks, first_red, first_window, common_ticks, turn_ticks, common_wait, turn_wait, window_paint, ground, windows, common_reds, turn_reds, bar, signal_bars, all_bars, common_part, turn_part};
 
-use crate::frame::{BAR_HEIGHT, Frame, PLOT_WIDTH, earlier, later, level, moment_after, x_at};
+use crate::frame::{
+    BAR_HEIGHT, Frame, PLOT_WIDTH, above, earlier, later, level, moment_after, x_at,
+};
 use crate::paint::Paint;
 use crate::shape::Shape;
 use artery_model::{Artery, Dir};
@@ -36,10 +38,10 @@ pub fn bar_top(frame: Frame, artery: &Artery, dir: Dir, signal: u32) -> i128
     ensures value { result ≡ bar_top frame artery.now dir signal }
     ensures small { unsigned_abs result < 30000 }
 {
-    let level = i128::from(level(frame, artery, signal));
+    let level = level(frame, artery, signal);
     match dir {
-        Dir::Outbound => level,
-        Dir::Inbound => level - i128::from(BAR_HEIGHT),
+        Dir::Outbound => i128::from(level),
+        Dir::Inbound => above(level),
     }
 }
 
@@ -207,6 +209,32 @@ fn after(ticks: i128, wait: u128) -> i128
     ticks + wait as i128
 }
 
+/// Where a direction's common red begins in the cycle before the first that is shown.
+fn first_common(frame: Frame, artery: &Artery, timing: &Timing, dir: Dir, signal: u32) -> i128
+    requires frame { IsFrame frame }
+    requires shape { length timing.now.patterns ≡ count artery.now }
+    requires first { 1 ≤ signal }
+    requires last { signal ≤ count artery.now }
+    ensures value { result ≡ (common_part frame artery.now timing.now dir signal).begin }
+    ensures small { unsigned_abs result < 2 ^ 99 }
+{
+    let first = first_red(frame, artery, timing, dir, signal);
+    after(first, common_wait(artery, timing, dir, signal))
+}
+
+/// Where the rest of its red begins in that cycle.
+fn first_turn(frame: Frame, artery: &Artery, timing: &Timing, dir: Dir, signal: u32) -> i128
+    requires frame { IsFrame frame }
+    requires shape { length timing.now.patterns ≡ count artery.now }
+    requires first { 1 ≤ signal }
+    requires last { signal ≤ count artery.now }
+    ensures value { result ≡ (turn_part frame artery.now timing.now dir signal).begin }
+    ensures small { unsigned_abs result < 2 ^ 99 }
+{
+    let first = first_red(frame, artery, timing, dir, signal);
+    after(first, turn_wait(artery, timing, dir, signal))
+}
+
 /// A direction's band at a signal.
 fn windows(
     alloc: Global,
@@ -248,13 +276,36 @@ fn common_reds(
     ensures { IfOk result (λ shapes. shapes.items ≡ common_reds frame artery.now timing.now dir signal) }
 {
     let top = bar_top(frame, artery, dir, signal);
-    let first = first_red(frame, artery, timing, dir, signal);
-    let begin = after(first, common_wait(artery, timing, dir, signal));
     let part = BarPart {
         paint: Paint::CommonRed,
         top,
-        begin,
+        begin: first_common(frame, artery, timing, dir, signal),
         ticks: common_ticks(artery, timing, signal),
+    };
+    blocks(alloc, frame, part)
+}
+
+/// The rests of a direction's reds at a signal where a left turn is against it.
+fn some_turn_reds(
+    alloc: Global,
+    frame: Frame,
+    artery: &Artery,
+    timing: &Timing,
+    dir: Dir,
+    signal: u32,
+) -> Result<Vec<Shape>, AllocError>
+    requires frame { IsFrame frame }
+    requires shape { length timing.now.patterns ≡ count artery.now }
+    requires first { 1 ≤ signal }
+    requires last { signal ≤ count artery.now }
+    ensures { IfOk result (λ shapes. shapes.items ≡ blocks frame (turn_part frame artery.now timing.now dir signal)) }
+{
+    let top = bar_top(frame, artery, dir, signal);
+    let part = BarPart {
+        paint: Paint::TurnRed,
+        top,
+        begin: first_turn(frame, artery, timing, dir, signal),
+        ticks: turn_ticks(artery, timing, dir, signal),
     };
     blocks(alloc, frame, part)
 }
@@ -277,16 +328,7 @@ fn turn_reds(
     if artery.left_against(dir, signal) == 0 {
         return Ok(Vec::new(alloc));
     }
-    let top = bar_top(frame, artery, dir, signal);
-    let first = first_red(frame, artery, timing, dir, signal);
-    let begin = after(first, turn_wait(artery, timing, dir, signal));
-    let part = BarPart {
-        paint: Paint::TurnRed,
-        top,
-        begin,
-        ticks: turn_ticks(artery, timing, dir, signal),
-    };
-    blocks(alloc, frame, part)
+    some_turn_reds(alloc, frame, artery, timing, dir, signal)
 }
 
 /// A direction's bar at a signal.
@@ -336,7 +378,6 @@ fn signal_bars(
 }
 
 /// The bars of the signals, from the first on.
-#[tactic(auto, using(timing_measures::proofs::Pieces::piece_up))]
 pub fn all_bars(
     alloc: Global,
     frame: Frame,

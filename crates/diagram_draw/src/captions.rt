@@ -101,7 +101,6 @@ fn cycle_facts(alloc: Global, artery: &Artery, timing: &Timing) -> Result<Vec<u8
     Ok(text)
 }
 
-#[tactic(auto, unfolding(crate::specs::Captions::inbound_facts))]
 fn inbound_facts(alloc: Global, artery: &Artery, timing: &Timing) -> Result<Vec<u8>, Memory>
     ensures { IfOk result (λ text. text.items ≡ inbound_facts artery.now timing.now) }
 {
@@ -113,7 +112,6 @@ fn inbound_facts(alloc: Global, artery: &Artery, timing: &Timing) -> Result<Vec<
 }
 
 /// The cycle and both bands.
-#[tactic(auto, unfolding(crate::specs::Captions::facts_text))]
 pub fn facts_text(alloc: Global, artery: &Artery, timing: &Timing) -> Result<Vec<u8>, Memory>
     ensures { IfOk result (λ text. text.items ≡ facts_text artery.now timing.now) }
 {
@@ -183,7 +181,6 @@ fn title_heads(alloc: Global, artery: &Artery, timing: &Timing) -> Result<Vec<u8
 }
 
 /// What stands above the columns of the signals.
-#[tactic(auto, unfolding(crate::specs::Captions::signal_heads))]
 fn signal_heads(alloc: Global, frame: Frame) -> Result<Vec<u8>, Memory>
     requires { IsFrame frame }
     ensures { IfOk result (λ text. text.items ≡ captions_text (signal_heads frame)) }
@@ -281,7 +278,6 @@ fn cycle_number(alloc: Global, frame: Frame, cycles: u32) -> Result<Vec<u8>, Mem
 }
 
 /// The numbers of cycles above the field.
-#[tactic(auto, using(timing_measures::proofs::Pieces::text_up))]
 fn cycle_numbers(alloc: Global, frame: Frame) -> Result<Vec<u8>, Memory>
     requires { IsFrame frame }
     ensures { IfOk result (λ text. text.items ≡ captions_text (cycle_numbers frame)) }
@@ -307,7 +303,6 @@ fn second_number(alloc: Global, frame: Frame, timing: &Timing, line: u32) -> Res
 }
 
 /// The numbers of seconds below the field.
-#[tactic(auto, using(timing_measures::proofs::Pieces::text_on))]
 fn second_numbers(alloc: Global, frame: Frame, timing: &Timing) -> Result<Vec<u8>, Memory>
     requires { IsFrame frame }
     ensures { IfOk result (λ text. text.items ≡ captions_text (second_numbers frame timing.now)) }
@@ -367,7 +362,6 @@ fn name_caption(
 }
 
 /// The names of the signals.
-#[tactic(auto, using(timing_measures::proofs::Pieces::text_up))]
 pub fn names(alloc: Global, frame: Frame, artery: &Artery) -> Result<Vec<u8>, Memory>
     requires { IsFrame frame }
     ensures { IfOk result (λ text. text.items ≡ captions_text (names frame artery.now)) }
@@ -422,7 +416,6 @@ fn signal_row(
 }
 
 /// The numbers of the signals.
-#[tactic(auto, using(timing_measures::proofs::Pieces::texts_up))]
 fn signal_rows(
     alloc: Global,
     frame: Frame,
@@ -530,7 +523,6 @@ fn link_row(
 }
 
 /// The numbers of the links.
-#[tactic(auto, using(timing_measures::proofs::Pieces::texts_up))]
 fn link_rows(
     alloc: Global,
     frame: Frame,
@@ -550,7 +542,6 @@ fn link_rows(
 }
 
 /// What explains the reds.
-#[tactic(auto, unfolding(crate::specs::Captions::red_words))]
 fn red_words(alloc: Global, frame: Frame) -> Result<Vec<u8>, Memory>
     requires { IsFrame frame }
     ensures { IfOk result (λ text. text.items ≡ captions_text (red_words frame)) }
@@ -578,7 +569,6 @@ fn red_words(alloc: Global, frame: Frame) -> Result<Vec<u8>, Memory>
 }
 
 /// What explains the bands.
-#[tactic(auto, unfolding(crate::specs::Captions::band_words))]
 fn band_words(alloc: Global, frame: Frame) -> Result<Vec<u8>, Memory>
     requires { IsFrame frame }
     ensures { IfOk result (λ text. text.items ≡ captions_text (band_words frame)) }
@@ -647,7 +637,6 @@ fn notes(alloc: Global, frame: Frame) -> Result<Vec<u8>, Memory>
 }
 
 /// The words above the field.
-#[tactic(auto, using(crate::proofs::Joins::captions_joined), unfolding(crate::specs::Captions::above))]
 fn above(alloc: Global, frame: Frame, artery: &Artery, timing: &Timing) -> Result<Vec<u8>, Memory>
     requires { IsFrame frame }
     ensures { IfOk result (λ text. text.items ≡ captions_text (above frame artery.now timing.now)) }
@@ -663,7 +652,6 @@ fn above(alloc: Global, frame: Frame, artery: &Artery, timing: &Timing) -> Resul
 }
 
 /// The words beside the field.
-#[tactic(auto, using(crate::proofs::Joins::captions_joined), unfolding(crate::specs::Captions::beside))]
 fn beside(alloc: Global, frame: Frame, artery: &Artery, timing: &Timing) -> Result<Vec<u8>, Memory>
     requires frame { IsFrame frame }
     requires base { IsBase artery.now timing.now }
@@ -676,7 +664,6 @@ fn beside(alloc: Global, frame: Frame, artery: &Artery, timing: &Timing) -> Resu
 }
 
 /// The words below the field.
-#[tactic(auto, using(crate::proofs::Joins::captions_joined), unfolding(crate::specs::Captions::below))]
 fn below(alloc: Global, frame: Frame, timing: &Timing) -> Result<Vec<u8>, Memory>
     requires { IsFrame frame }
     ensures { IfOk result (λ text. text.items ≡ captions_text (below frame timing.now)) }
@@ -692,7 +679,6 @@ fn below(alloc: Global, frame: Frame, timing: &Timing) -> Result<Vec<u8>, Memory
 }
 
 /// All words but the names.
-#[tactic(auto, using(crate::proofs::Joins::captions_joined), unfolding(crate::specs::Captions::captions))]
 pub fn captions(
     alloc: Global,
     frame: Frame,

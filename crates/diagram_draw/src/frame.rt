@@ -1,6 +1,7 @@
 //! The measures of a drawing: where a moment and a signal stand.
 
-ghost use Rattle.std.specs.Prelude.{◌≡◌, ◌+◌, ◌-◌, ◌*◌, ◌<◌, ◌≤◌, ◌^◌, ℤ, pos, ◌*ℤ◌, ◌+ℤ◌, length, unsigned_abs};
+ghost use Rattle.std.specs.Prelude.{◌≡◌, ◌+◌, ◌-◌, ◌*◌, ◌<◌, ◌≤◌, ◌^◌, ℤ, pos, ◌*ℤ◌, ◌+ℤ◌, ◌-ℤ◌, length, unsigned_abs};
+ghost use Rattle.std.specs.Int.{int_div_euclid};
 ghost use Rattle.progression.specs.Street.{count, signal_of};
 ghost use Rattle.progression.specs.TimingRecord.{cycle};
 ghost use Rattle.diagram_draw.specs.Frames.{trip, reach, longest_reach, cycles_for, far, street_length, shortest, rise_for, span_for, longest_name, name_room, frame_of, x_at, level, plot_bottom, earlier, later, IsFrame};
@@ -186,14 +187,36 @@ fn widths(ticks: i128) -> i128
     ticks * i128::from(PLOT_WIDTH)
 }
 
+/// The ticks of so many cycles.
+pub fn cycles_ticks(frame: Frame, cycles: u32) -> u128
+    requires frame { IsFrame frame }
+    requires cycles { cycles ≤ 72 }
+    ensures value { result ≡ cycles * frame.cycle }
+    ensures least { cycles ≤ result }
+    ensures most { result ≤ cycles * 2 ^ 92 }
+{
+    u128::from(cycles) * frame.cycle
+}
+
+/// How many whole parts so much has.
+fn whole_parts(much: i128, part: u128) -> i128
+    requires much { unsigned_abs much < 2 ^ 116 }
+    requires some { 1 ≤ part }
+    requires part { part < 2 ^ 100 }
+    ensures value { result ≡ int_div_euclid much (pos part) }
+    ensures small { unsigned_abs result < 2 ^ 116 }
+{
+    much.div_euclid(part as i128)
+}
+
 /// Where a moment stands that comes so many ticks after the start of the common red of signal 1.
 pub fn x_at(frame: Frame, ticks: i128) -> i128
     requires frame { IsFrame frame }
     requires ticks { unsigned_abs ticks < 2 ^ 102 }
     ensures { result ≡ x_at frame ticks }
 {
-    let whole = u128::from(frame.cycles) * frame.cycle;
-    i128::from(frame.left) + widths(ticks).div_euclid(whole as i128)
+    let whole = cycles_ticks(frame, frame.cycles);
+    i128::from(frame.left) + whole_parts(widths(ticks), whole)
 }
 
 /// The level of a signal.
@@ -210,6 +233,24 @@ pub fn level(frame: Frame, artery: &Artery, signal: u32) -> u32
     let whole = u64::from(far(artery, links));
     let lowest = u64::from(PLOT_TOP + MARGIN + frame.span - BOTH_BARS * (signal - 1));
     lowest.saturating_sub(way / whole) as u32
+}
+
+/// Where the lower bar of a signal ends.
+pub fn below(level: u32) -> i128
+    requires { level ≤ 21900 }
+    ensures value { result ≡ pos level +ℤ pos 90 }
+    ensures small { unsigned_abs result < 30000 }
+{
+    i128::from(level) + i128::from(BAR_HEIGHT)
+}
+
+/// Where the upper one begins.
+pub fn above(level: u32) -> i128
+    requires { level ≤ 21900 }
+    ensures value { result ≡ pos level -ℤ pos 90 }
+    ensures small { unsigned_abs result < 30000 }
+{
+    i128::from(level) - i128::from(BAR_HEIGHT)
 }
 
 /// Where the field ends below.
@@ -229,7 +270,7 @@ pub fn earlier(frame: Frame, back: u32, ticks: u128) -> i128
     ensures value { result ≡ earlier frame back ticks }
     ensures small { unsigned_abs result < 2 ^ 98 }
 {
-    ticks as i128 - (u128::from(back) * frame.cycle) as i128
+    ticks as i128 - cycles_ticks(frame, back) as i128
 }
 
 /// And one so many cycles later.
@@ -240,7 +281,7 @@ pub fn later(frame: Frame, ticks: i128, cycles: u32) -> i128
     ensures value { result ≡ later frame ticks cycles }
     ensures small { unsigned_abs result < 2 ^ 100 }
 {
-    ticks + (u128::from(cycles) * frame.cycle) as i128
+    ticks + cycles_ticks(frame, cycles) as i128
 }
 
 /// A moment so many ticks after another.

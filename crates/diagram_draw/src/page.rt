@@ -1,8 +1,10 @@
 //! The whole drawing, and its text.
 
 ghost use Rattle.std.specs.Prelude.{◌≡◌, ◌+◌, ◌-◌, ◌*◌, ◌<◌, ◌≤◌, ◌++◌, codes, IfOk, pos, length, string_bytes};
+ghost use Rattle.std.specs.Fmt.{decimal};
 ghost use Rattle.progression.specs.Street.{count};
 ghost use Rattle.progression.specs.Good.{IsBase};
+ghost use Rattle.diagram_draw.specs.declared.shape.Shape.TheVariants.{Rect};
 ghost use Rattle.diagram_draw.specs.Shapes.{shapes_text, captions_text};
 ghost use Rattle.diagram_draw.specs.Frames.{IsFrame, page_width, page_height, name_room};
 ghost use Rattle.diagram_draw.specs.Bars.{all_bars};
@@ -25,30 +27,31 @@ use std::alloc::{AllocError, Global};
 use time_space::Timing;
 use timing_measures::signal_name;
 
+/// A part of a sample of a bar.
+fn key_block(paint: Paint, left: u32, right: u32, top: u32) -> Shape
+    requires { top ≤ 30000 }
+    ensures { result ≡ Rect paint (pos left) (pos top) (pos right) (pos (top + 90)) }
+{
+    Shape::Rect {
+        paint,
+        left: i128::from(left),
+        top: i128::from(top),
+        right: i128::from(right),
+        bottom: i128::from(top + BAR_HEIGHT),
+    }
+}
+
 /// A sample of a bar.
 fn key_bar(alloc: Global, frame: Frame, x: u32, paint: Paint) -> Result<Vec<Shape>, Memory>
     requires frame { IsFrame frame }
     requires x { x ≤ 9000 }
     ensures { IfOk result (λ shapes. shapes.items ≡ key_bar frame x paint) }
 {
-    let left = i128::from(frame.left + x);
-    let top = i128::from(plot_bottom(frame) + 700);
-    let bottom = top + i128::from(BAR_HEIGHT);
+    let left = frame.left + x;
+    let top = plot_bottom(frame) + 700;
     let mut shapes = Vec::new(alloc);
-    shapes.push(Shape::Rect {
-        paint: Paint::Ground,
-        left,
-        top,
-        right: left + 400,
-        bottom,
-    })?;
-    shapes.push(Shape::Rect {
-        paint,
-        left: left + 60,
-        top,
-        right: left + 340,
-        bottom,
-    })?;
+    shapes.push(key_block(Paint::Ground, left, left + 400, top))?;
+    shapes.push(key_block(paint, left + 60, left + 340, top))?;
     Ok(shapes)
 }
 
@@ -89,8 +92,13 @@ fn key_shapes(alloc: Global, frame: Frame) -> Result<Vec<Shape>, Memory>
     Ok(shapes)
 }
 
+fn signal_opening(alloc: Global, signal: u32) -> Result<String, AllocError>
+    ensures { IfOk result (λ text. string_bytes text ≡ codes "; signal " ++ (decimal signal ++ codes ", ")) }
+{
+    format!(in alloc; "; signal {signal}, ")
+}
+
 /// What is read aloud of a signal.
-#[tactic(auto, unfolding(crate::specs::Pages::signal_about))]
 fn signal_about(
     alloc: Global,
     artery: &Artery,
@@ -104,7 +112,7 @@ fn signal_about(
 {
     let name = escaped(alloc, signal_name(artery, signal).as_bytes())?;
     let offset = offset_text(alloc, artery, timing, signal)?;
-    let mut text = format!(in alloc; "; signal {signal}, ")?.into_bytes();
+    let mut text = signal_opening(alloc, signal)?.into_bytes();
     text.extend_from_slice(name.as_slice())?;
     text.extend_from_slice(b", offset ")?;
     text.extend_from_slice(offset.as_slice())?;
@@ -113,7 +121,6 @@ fn signal_about(
 }
 
 /// The same of all signals.
-#[tactic(auto, using(timing_measures::proofs::Pieces::piece_up))]
 fn signals_about(alloc: Global, artery: &Artery, timing: &Timing) -> Result<Vec<u8>, Memory>
     requires { length timing.now.patterns ≡ count artery.now }
     ensures { IfOk result (λ text. text.items ≡ signals_about artery.now timing.now) }
@@ -139,7 +146,6 @@ fn about_text(alloc: Global, artery: &Artery, timing: &Timing) -> Result<Vec<u8>
 }
 
 /// What is seen through the field of the diagram.
-#[tactic(auto, unfolding(crate::specs::Pages::field_shapes))]
 fn field_shapes(
     alloc: Global,
     frame: Frame,
@@ -260,7 +266,6 @@ fn definitions_text(alloc: Global, frame: Frame, room: u32) -> Result<Vec<u8>, M
 }
 
 /// What comes before the shapes.
-#[tactic(auto, unfolding(crate::specs::Pages::head_text))]
 fn head_text(
     alloc: Global,
     frame: Frame,
@@ -279,7 +284,6 @@ fn head_text(
     Ok(text)
 }
 
-#[tactic(auto, unfolding(crate::specs::Pages::field_part))]
 fn field_part(alloc: Global, shapes: &[Shape]) -> Result<Vec<u8>, Memory>
     ensures { IfOk result (λ text. text.items ≡ field_part shapes.now) }
 {
@@ -290,7 +294,6 @@ fn field_part(alloc: Global, shapes: &[Shape]) -> Result<Vec<u8>, Memory>
     Ok(text)
 }
 
-#[tactic(auto, unfolding(crate::specs::Pages::names_part))]
 fn names_part(alloc: Global, frame: Frame, artery: &Artery) -> Result<Vec<u8>, Memory>
     requires { IsFrame frame }
     ensures { IfOk result (λ text. text.items ≡ names_part (names frame artery.now)) }
@@ -303,7 +306,6 @@ fn names_part(alloc: Global, frame: Frame, artery: &Artery) -> Result<Vec<u8>, M
 }
 
 /// What is behind the words.
-#[tactic(auto, unfolding(crate::specs::Pages::body_text))]
 fn body_text(
     alloc: Global,
     frame: Frame,
@@ -325,7 +327,6 @@ fn body_text(
 }
 
 /// The words, and what explains the shapes.
-#[tactic(auto, unfolding(crate::specs::Pages::tail_text))]
 fn tail_text(
     alloc: Global,
     frame: Frame,

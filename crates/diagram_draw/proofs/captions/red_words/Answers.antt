@@ -1,0 +1,13 @@
+use Rattle.std.proofs.Common.{◌∙◌}
+use Rattle.std.proofs.lemmas.List.{append-nil}
+use Rattle.diagram_draw.specs.Captions.{red_words}
+use Rattle.diagram_draw.proofs.Chains.{with_text}
+use Rattle.diagram_draw.proofs.captions.red_words.Goals as goal
+
+pub returns : goal.returns
+unfolding red_words
+returns c =
+    let bottom = c.plot_bottom-level.ensures.value in
+    let one = with_text _ _ _ _ c.in_ok-put.ensures c.new-text.ensures.items in
+    let two = with_text _ _ _ _ c.in_ok-put-2.ensures one in
+    (rw bottom at two) ∙ simp append-nil
