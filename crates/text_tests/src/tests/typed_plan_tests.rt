@@ -8,6 +8,7 @@ use std::alloc::{AllocError, Global};
 use std::rt::HostRuntime;
 use std::test::Fail;
 use test_bed::{Reader, all_told, flaw_text};
+use time_space::Timing;
 use typed_plan::{TypedFault, timing_of};
 
 /// What the street of the examples says of the whole.
@@ -104,17 +105,34 @@ fn broadway(alloc: Global) -> Result<String, AllocError> {
     Ok(out)
 }
 
+fn text_of(alloc: Global, timing: &Timing) -> Result<String, Fail> {
+    let text = write_timing(alloc, timing)?;
+    Ok(String::from_utf8(text)?)
+}
+
+fn fault_text(alloc: Global, fault: TypedFault) -> Result<String, Fail> {
+    match fault {
+        TypedFault::Refused(refusal) => Ok(flaw_text(alloc, Flaw::Refused(refusal))?),
+        TypedFault::TooFine { ticks } => Ok(format!(in alloc; "ticks {ticks}")?),
+        TypedFault::Memory => Err("memory".into()),
+    }
+}
+
+/// The plan's timing, with nothing said of it.
+fn timing(alloc: Global, artery: &Artery, plan: &TypedPlan) -> Result<Timing, TypedFault> {
+    timing_of(alloc, artery, plan)
+}
+
 /// The text of the plan's timing, or why there is none.
 fn timed(alloc: Global, artery: &Artery, plan: &TypedPlan) -> Result<String, Fail> {
-    match timing_of(alloc, artery, plan) {
-        Ok(timing) => {
-            let text = write_timing(alloc, &timing)?;
-            Ok(String::from_utf8(text)?)
-        }
-        Err(TypedFault::Refused(refusal)) => Ok(flaw_text(alloc, Flaw::Refused(refusal))?),
-        Err(TypedFault::TooFine { ticks }) => Ok(format!(in alloc; "ticks {ticks}")?),
-        Err(TypedFault::Memory) => Err("memory".into()),
+    match timing(alloc, artery, plan) {
+        Ok(timing) => text_of(alloc, &timing),
+        Err(fault) => fault_text(alloc, fault),
     }
+}
+
+fn plan_of(alloc: Global, text: &[u8]) -> Result<TypedPlan, Flaw> {
+    read_plan(alloc, text)
 }
 
 /// The reader of plans for this street: it answers with the text of the timing, or why there is none.
@@ -125,7 +143,7 @@ struct Plans<'a> {
 
 impl Reader for Plans<'_> {
     fn answer(&self, alloc: Global, text: &[u8]) -> Result<String, Fail> {
-        match read_plan(alloc, text) {
+        match plan_of(alloc, text) {
             Ok(plan) => timed(alloc, self.artery, &plan),
             Err(flaw) => Ok(flaw_text(alloc, flaw)?),
         }

@@ -1,8 +1,11 @@
 //! Arteries that are printed, read again and printed again.
 
-ghost use Rattle.std.specs.Prelude.{◌≤◌, ◌<◌};
+ghost use Rattle.std.specs.Prelude.{◌≤◌};
 ghost use Rattle.progression.specs.Street.{count};
 
+use super::reading_tests::{
+    change_at, lengths_at, patterns_at, reds_by_direction, runs_at, turns_at,
+};
 use super::samples::{EVERY_KEY, read, read_changed};
 use artery_model::{Dir, Pair};
 use description_reader::{Artery, print_artery};
@@ -13,7 +16,7 @@ use std::test::Fail;
 use test_bed::PLAIN_STREET;
 
 /// Changes of `EVERY_KEY`: quotes and letters beyond ASCII, and other numbers.
-const FULL: &str = "\
+static FULL: &str = "\
 4 name = \"\\\"Main\\\" and 'Rose\u{301}'\"|\
 6 parts = 120|\
 8 ratio = \"0.5\"|\
@@ -36,7 +39,7 @@ const FULL: &str = "\
 44 speed_in = [\"25\", \"100/3\"]";
 
 /// What the format fixes of the lines for `FULL`.
-const FULL_LINES: [&str; 27] = [
+static FULL_LINES: [&str; 27] = [
     "version = 1",
     "units = \"english\"",
     "parts = 120",
@@ -70,7 +73,7 @@ fn same_pair(a: Pair, b: Pair) -> bool {
     a.least == b.least && a.most == b.most
 }
 
-fn same_change(a: Option<Pair>, b: Option<Pair>) -> bool {
+fn same_limits(a: Option<Pair>, b: Option<Pair>) -> bool {
     match (a, b) {
         (Some(a), Some(b)) => same_pair(a, b),
         (None, None) => true,
@@ -83,37 +86,20 @@ fn same_signal(a: &Artery, b: &Artery, signal: u32) -> bool
     requires last { signal ≤ count a.now }
     requires other { signal ≤ count b.now }
 {
-    for pattern in 1..5 {
-        if a.allows(signal, pattern) != b.allows(signal, pattern) {
-            return false;
-        }
-    }
-    for dir in [Dir::Outbound, Dir::Inbound] {
-        if a.red(dir, signal) != b.red(dir, signal)
-            || a.left_against(dir, signal) != b.left_against(dir, signal)
-            || a.clearance(dir, signal) != b.clearance(dir, signal)
-        {
-            return false;
-        }
-    }
-    true
+    patterns_at(a, signal) == patterns_at(b, signal)
+        && reds_by_direction(a, signal) == reds_by_direction(b, signal)
+        && turns_at(a, signal) == turns_at(b, signal)
 }
 
-fn same_link(a: &Artery, b: &Artery, link: u32) -> bool
-    requires first { 1 ≤ link }
-    requires last { link < count a.now }
-    requires other { link < count b.now }
-{
-    for dir in [Dir::Outbound, Dir::Inbound] {
-        if a.distance(dir, link) != b.distance(dir, link)
-            || a.run_low(dir, link) != b.run_low(dir, link)
-            || a.run_high(dir, link) != b.run_high(dir, link)
-            || !same_change(a.change(dir, link), b.change(dir, link))
-        {
-            return false;
-        }
-    }
-    true
+fn same_way(a: &Artery, b: &Artery, dir: Dir, link: u32) -> bool {
+    same_limits(runs_at(a, dir, link), runs_at(b, dir, link))
+        && same_limits(change_at(a, dir, link), change_at(b, dir, link))
+}
+
+fn same_link(a: &Artery, b: &Artery, link: u32) -> bool {
+    lengths_at(a, link) == lengths_at(b, link)
+        && same_way(a, b, Dir::Outbound, link)
+        && same_way(a, b, Dir::Inbound, link)
 }
 
 fn same_names(a: &Artery, b: &Artery) -> bool {

@@ -1,6 +1,6 @@
 //! Descriptions that are read: each key comes back, and the same street in other spellings.
 
-ghost use Rattle.std.specs.Prelude.{◌≤◌, ◌<◌};
+ghost use Rattle.std.specs.Prelude.{◌≤◌};
 ghost use Rattle.progression.specs.Street.{count};
 
 use super::samples::{EVERY_KEY, read, read_changed};
@@ -8,7 +8,7 @@ use artery_model::{Artery, Dir, Link, Pair, Units};
 use narrow_fraction::Frac;
 use std::rt::HostRuntime;
 use std::test::Fail;
-use test_bed::PLAIN_STREET;
+use test_bed::{PLAIN_STREET, fraction_or_zero};
 
 /// Lines of the base replaced by others that mean the same.
 static SAME: [&str; 12] = [
@@ -31,13 +31,13 @@ static SAME: [&str; 12] = [
 type AtSignal = (u32, [u32; 2], [u32; 4], [bool; 4]);
 
 /// The signals of `PLAIN_STREET`.
-const BASE_SIGNALS: [AtSignal; 2] = [
+static BASE_SIGNALS: [AtSignal; 2] = [
     (1, [50, 50], [0, 0, 0, 0], [true, true, true, true]),
     (2, [50, 50], [0, 0, 0, 0], [true, true, true, true]),
 ];
 
 /// The signals of `EVERY_KEY`. An outbound left turn adds to the inbound red.
-const SIGNALS: [AtSignal; 3] = [
+static SIGNALS: [AtSignal; 3] = [
     (1, [52, 50], [10, 12, 5, 7], [false, true, false, true]),
     (2, [45, 45], [0, 0, 0, 0], [true, true, true, true]),
     (3, [30, 99], [69, 0, 0, 99], [true, false, false, false]),
@@ -66,7 +66,7 @@ fn reds_at(artery: &Artery, signal: u32) -> [u32; 2]
 }
 
 /// The same, asked by direction.
-fn reds_by_direction(artery: &Artery, signal: u32) -> [u32; 2]
+pub fn reds_by_direction(artery: &Artery, signal: u32) -> [u32; 2]
     requires first { 1 ≤ signal }
     requires last { signal ≤ count artery.now }
 {
@@ -77,7 +77,7 @@ fn reds_by_direction(artery: &Artery, signal: u32) -> [u32; 2]
 }
 
 /// The outbound and the inbound left turn of a signal, and the two clearances.
-fn turns_at(artery: &Artery, signal: u32) -> [u32; 4]
+pub fn turns_at(artery: &Artery, signal: u32) -> [u32; 4]
     requires first { 1 ≤ signal }
     requires last { signal ≤ count artery.now }
 {
@@ -90,7 +90,7 @@ fn turns_at(artery: &Artery, signal: u32) -> [u32; 4]
 }
 
 /// Which of the patterns 1 to 4 a signal allows.
-fn patterns_at(artery: &Artery, signal: u32) -> [bool; 4]
+pub fn patterns_at(artery: &Artery, signal: u32) -> [bool; 4]
     requires first { 1 ≤ signal }
     requires last { signal ≤ count artery.now }
 {
@@ -127,9 +127,13 @@ fn first_other(artery: &Artery, signals: &[AtSignal]) -> u32 {
 /// A fraction: its numerator and its denominator.
 type Number = (i128, i128);
 
+fn fraction(number: Number) -> Frac {
+    fraction_or_zero(number.0, number.1)
+}
+
 /// Whether two limits are these fractions.
 fn are(limits: Pair, least: Number, most: Number) -> bool {
-    Frac::new(least.0, least.1) == Ok(limits.least) && Frac::new(most.0, most.1) == Ok(limits.most)
+    fraction(least) == limits.least && fraction(most) == limits.most
 }
 
 /// Whether there are limits, and they are these fractions.
@@ -141,7 +145,7 @@ fn are_given(limits: Option<Pair>, least: Number, most: Number) -> bool {
 }
 
 /// The runs on a link at the greatest and at the least speed, in seconds, where there is that link.
-fn runs_at(artery: &Artery, dir: Dir, link: u32) -> Option<Pair> {
+pub fn runs_at(artery: &Artery, dir: Dir, link: u32) -> Option<Pair> {
     if link < 1 || link >= artery.count() {
         return None;
     }
@@ -152,7 +156,7 @@ fn runs_at(artery: &Artery, dir: Dir, link: u32) -> Option<Pair> {
 }
 
 /// The outbound and the inbound length of a link, where there is that link.
-fn lengths_at(artery: &Artery, link: u32) -> Option<[u32; 2]> {
+pub fn lengths_at(artery: &Artery, link: u32) -> Option<[u32; 2]> {
     if link < 1 || link >= artery.count() {
         return None;
     }
@@ -163,7 +167,7 @@ fn lengths_at(artery: &Artery, link: u32) -> Option<[u32; 2]> {
 }
 
 /// The limits of the change of pace behind a link, where there is that link and it has them.
-fn change_at(artery: &Artery, dir: Dir, link: u32) -> Option<Pair> {
+pub fn change_at(artery: &Artery, dir: Dir, link: u32) -> Option<Pair> {
     if link < 1 || link >= artery.count() {
         return None;
     }
@@ -227,7 +231,7 @@ fn has_greatest_speed(links: &[Link], want: Number) -> bool {
     let [link] = links else {
         return false;
     };
-    Frac::new(want.0, want.1) == Ok(link.speed_out.most)
+    fraction(want) == link.speed_out.most
 }
 
 #[test]
@@ -247,7 +251,7 @@ fn has_every_value(artery: &Artery) -> bool {
     artery.head().units == Units::English
         && artery.parts() == 100
         && are(artery.cycle(), (60, 1), (181, 2))
-        && Frac::new(3, 4) == Ok(artery.ratio())
+        && artery.ratio() == fraction((3, 4))
 }
 
 /// Whether the speeds of the links are those of `EVERY_KEY`.

@@ -7,7 +7,7 @@ use narrow_fraction::Frac;
 use std::alloc::{AllocError, Global};
 use std::rt::HostRuntime;
 use std::test::Fail;
-use test_bed::{PLAIN_STREET, Reader};
+use test_bed::{PLAIN_STREET, Reader, fraction_or_zero};
 
 /// Least bands and equal bands, known in the second version alone.
 pub static VERSIONS: [&str; 29] = [
@@ -97,7 +97,7 @@ fn read_back(alloc: Global, artery: &Artery) -> Result<Artery, Fail> {
 /// Whether the version is the second, the least bands are a quarter and 0, and the bands have to be equal.
 fn has_second_keys(artery: &Artery) -> bool {
     artery.version() == 2
-        && Frac::new(1, 4) == Ok(artery.least_band(Dir::Outbound))
+        && artery.least_band(Dir::Outbound) == fraction_or_zero(1, 4)
         && artery.least_band(Dir::Inbound) == Frac::whole(0)
         && artery.equal()
 }

@@ -1,6 +1,6 @@
 //! Texts of certificates, written and read again, and each kind of bad line.
 
-use super::tests::Texts;
+use super::tests::{Texts, certificate_of};
 use named_row::{Leaf, RowId};
 use narrow_fraction::Frac;
 use plan_text::*;
@@ -226,7 +226,7 @@ fn texts_are_read_and_judged(rt: HostRuntime) -> Result<(), Fail> {
 }
 
 fn read(alloc: Global, text: &str) -> Result<Certificate, Fail> {
-    match read_certificate(alloc, text.as_bytes()) {
+    match certificate_of(alloc, text.as_bytes()) {
         Ok(certificate) => Ok(certificate),
         Err(_) => Err("no certificate".into()),
     }
@@ -258,19 +258,32 @@ const FIRST_TURN: RowId = RowId {
     index: 1,
 };
 
+/// The leaf of a node.
+fn leaf_of(node: &CertNode) -> Option<&Leaf> {
+    match node {
+        CertNode::Leaf(leaf) => Some(leaf),
+        CertNode::Split(_) => None,
+    }
+}
+
+fn is_split(node: &CertNode) -> bool {
+    match node {
+        CertNode::Split(place) => *place == At::Loop { link: 1, at: 0 },
+        CertNode::Leaf(_) => false,
+    }
+}
+
 /// Whether the nodes are a split and its two leaves, and the first leaf begins with this multiplier.
 fn has_nodes(nodes: &[CertNode], by: Frac) -> bool {
-    let [
-        CertNode::Split(place),
-        CertNode::Leaf(low),
-        CertNode::Leaf(high),
-    ] = nodes
-    else {
+    let [split, low, high] = nodes else {
         return false;
     };
-    *place == At::Loop { link: 1, at: 0 }
-        && begins_with(low, SECOND_WAIT, by)
-        && ends_with(high, FIRST_TURN)
+    match (leaf_of(low), leaf_of(high)) {
+        (Some(low), Some(high)) => is_split(split)
+            && begins_with(low, SECOND_WAIT, by)
+            && ends_with(high, FIRST_TURN),
+        _ => false,
+    }
 }
 
 fn has_reds(timing: Option<&Timing>) -> bool {

@@ -1,6 +1,7 @@
 //! A leaf with as many rows as it may have, and one with a row more.
 
-use plan_text::{BadText, CertNode, Certificate, TextEnd, TextFault, read_certificate};
+use super::tests::certificate_of;
+use plan_text::{BadText, CertNode, Certificate, TextEnd, TextFault};
 use std::alloc::Global;
 use std::test::Fail;
 
@@ -31,7 +32,7 @@ fn rows_of(certificate: &Certificate) -> usize {
 fn a_leaf_has_ten_thousand_rows_at_most(rt: HostRuntime) -> Result<(), Fail> {
     let alloc = rt.alloc();
     let most = with_rows(alloc, 10_000)?;
-    match read_certificate(alloc, most.as_slice()) {
+    match certificate_of(alloc, most.as_slice()) {
         Ok(certificate) => assert_eq!(rt; rows_of(&certificate), 10_000),
         Err(_) => return Err("not read".into()),
     }
@@ -40,6 +41,6 @@ fn a_leaf_has_ten_thousand_rows_at_most(rt: HostRuntime) -> Result<(), Fail> {
         line: 4,
         kind: TextFault::Number,
     };
-    assert!(rt; read_certificate(alloc, more.as_slice()).err() == Some(TextEnd::Bad(bad)));
+    assert!(rt; certificate_of(alloc, more.as_slice()).err() == Some(TextEnd::Bad(bad)));
     Ok(())
 }

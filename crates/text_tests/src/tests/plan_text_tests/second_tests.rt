@@ -1,6 +1,7 @@
 //! Certificates in format 2, as they are written and read again.
 
-use plan_text::*;
+use super::tests::{certificate_of, certificate_text};
+use plan_text::{Certificate, write_second};
 use std::alloc::{AllocError, Global};
 use std::test::*;
 use test_bed::{WORKED_LISTED, told_again, worked_text};
@@ -51,13 +52,16 @@ static CASES: [Case; 8] = [
     ),
 ];
 
+fn second_text(alloc: Global, certificate: &Certificate) -> Option<Vec<u8>> {
+    write_second(alloc, certificate).ok()
+}
+
 /// What is written for the certificate with this text, in format 2 or 1.
 fn written(alloc: Global, text: &str, is_second: bool) -> Option<Vec<u8>> {
-    let certificate = read_certificate(alloc, text.as_bytes()).ok()?;
-    if is_second {
-        write_second(alloc, &certificate).ok()
-    } else {
-        write_certificate(alloc, &certificate).ok()
+    match certificate_of(alloc, text.as_bytes()) {
+        Ok(certificate) if is_second => second_text(alloc, &certificate),
+        Ok(certificate) => certificate_text(alloc, &certificate),
+        Err(_) => None,
     }
 }
 

@@ -94,28 +94,60 @@ pub enum Texts {
     Certificates,
 }
 
+/// The timing of a text, with nothing said of it.
+fn timing_of(alloc: Global, text: &[u8]) -> Result<Timing, TextEnd> {
+    read_timing(alloc, text)
+}
+
+/// The certificate of a text, with nothing said of it.
+pub fn certificate_of(alloc: Global, text: &[u8]) -> Result<Certificate, TextEnd> {
+    read_certificate(alloc, text)
+}
+
+fn timing_text(alloc: Global, timing: &Timing) -> Option<Vec<u8>> {
+    write_timing(alloc, timing).ok()
+}
+
+pub fn certificate_text(alloc: Global, certificate: &Certificate) -> Option<Vec<u8>> {
+    write_certificate(alloc, certificate).ok()
+}
+
+fn timing_again(alloc: Global, text: &[u8]) -> Result<Option<Vec<u8>>, TextEnd> {
+    match timing_of(alloc, text) {
+        Ok(timing) => Ok(timing_text(alloc, &timing)),
+        Err(end) => Err(end),
+    }
+}
+
+fn certificate_again(alloc: Global, text: &[u8]) -> Result<Option<Vec<u8>>, TextEnd> {
+    match certificate_of(alloc, text) {
+        Ok(certificate) => Ok(certificate_text(alloc, &certificate)),
+        Err(end) => Err(end),
+    }
+}
+
+fn end_text(alloc: Global, end: TextEnd) -> Result<String, Fail> {
+    match end {
+        TextEnd::Bad(BadText { line, kind }) => Ok(format!(in alloc; "{line} {kind:?}")?),
+        TextEnd::Memory => Err("no memory".into()),
+    }
+}
+
 impl Reader for Texts {
     fn answer(&self, alloc: Global, text: &[u8]) -> Result<String, Fail> {
-        let read = match self {
-            Texts::Timings => match read_timing(alloc, text) {
-                Ok(timing) => Ok(write_timing(alloc, &timing).ok()),
-                Err(end) => Err(end),
-            },
-            Texts::Certificates => match read_certificate(alloc, text) {
-                Ok(certificate) => Ok(write_certificate(alloc, &certificate).ok()),
-                Err(end) => Err(end),
-            },
+        let again = match self {
+            Texts::Timings => timing_again(alloc, text),
+            Texts::Certificates => certificate_again(alloc, text),
         };
-        match read {
+        match again {
             Ok(written) => Ok(told_again(alloc, text, written)?),
-            Err(TextEnd::Bad(BadText { line, kind })) => Ok(format!(in alloc; "{line} {kind:?}")?),
-            Err(TextEnd::Memory) => Err("no memory".into()),
+            Err(end) => end_text(alloc, end),
         }
     }
 }
 
 fn read(alloc: Global, text: &str) -> Result<Timing, Fail> {
-    match read_timing(alloc, text.as_bytes()) {
+    match timing_of(alloc, text.as_bytes()) {
         Ok(timing) => Ok(timing),
         Err(_) => Err("no timing".into()),
     }
