@@ -7,8 +7,5 @@ use Rattle.diagram_draw.proofs.captions.beside.Goals as goal
 pub returns : goal.returns
 unfolding beside
 returns c =
-    let f = c.args.frame in
-    let a = c.args.artery.now in
-    let t = c.args.timing.now in
-    let two = with_more _ _ _ _ _ _ c.in_ok-extend_from_slice.ensures.items c.as_slice.ensures.value c.in_ok-links.ensures c.in_ok-text.ensures in
-    two ∙ sym (captions_joined (signal_rows f a t) (link_rows f a t))
+    with_more _ _ _ _ _ _ c.in_ok-extend_from_slice.ensures.items c.as_slice.ensures.value c.in_ok-links.ensures c.in_ok-text.ensures
+    ∙ sym (captions_joined (signal_rows c.args.frame c.args.artery.now c.args.timing.now) (link_rows c.args.frame c.args.artery.now c.args.timing.now))

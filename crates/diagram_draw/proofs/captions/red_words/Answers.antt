@@ -7,7 +7,5 @@ use Rattle.diagram_draw.proofs.captions.red_words.Goals as goal
 pub returns : goal.returns
 unfolding red_words
 returns c =
-    let bottom = c.plot_bottom-level.ensures.value in
-    let one = with_text _ _ _ _ c.in_ok-put.ensures c.new-text.ensures.items in
-    let two = with_text _ _ _ _ c.in_ok-put-2.ensures one in
-    (rw bottom at two) ∙ simp append-nil
+    let two = with_text _ _ _ _ c.in_ok-put-2.ensures (with_text _ _ _ _ c.in_ok-put.ensures c.new-text.ensures.items) in
+    (rw c.plot_bottom-level.ensures.value at two) ∙ simp append-nil
