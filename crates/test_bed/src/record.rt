@@ -1,5 +1,7 @@
 //! Texts of lines, each a name and the numbers behind it, and the timings that such texts give.
 
+use crate::streets::fraction;
+use narrow_fraction::Frac;
 use std::alloc::Global;
 use std::test::Fail;
 use time_space::Timing;
@@ -90,6 +92,16 @@ impl<'a> Record<'a> {
 
     pub fn small(&self, name: &str, place: usize) -> Result<u32, Fail> {
         small_of(self.natural(name, place)?)
+    }
+
+    /// The number at this place over that denominator.
+    pub fn quotient(&self, name: &str, place: usize, den: i128) -> Result<Frac, Fail> {
+        fraction(self.number(name, place)?, den)
+    }
+
+    /// Whether a 1 stands behind a name.
+    pub fn is_set(&self, name: &str) -> Result<bool, Fail> {
+        Ok(self.small(name, 0)? == 1)
     }
 
     /// All numbers behind a name.

@@ -85,12 +85,15 @@ fn name(names: &str, index: usize) -> &'static str {
 }
 
 fn signal(alloc: Global, record: Record<'_>, index: usize) -> Result<Signal, Fail> {
-    let allowed = record.small("allowed", 0)? == 1;
+    let allowed = record.is_set("allowed")?;
+    let red = record.small("red", 0)?;
+    let (left_out, left_in) = (record.small("left", 0)?, record.small("left", 1)?);
+    let name = Text::new(alloc, name(record.behind("names")?, index))?;
     Ok(Signal {
-        name: Text::new(alloc, name(record.behind("names")?, index))?,
-        red: record.small("red", 0)?,
-        left_out: record.small("left", 0)?,
-        left_in: record.small("left", 1)?,
+        name,
+        red,
+        left_out,
+        left_in,
         patterns: [allowed, false, false, allowed],
         clear_out: 3,
         clear_in: 4,
@@ -117,22 +120,25 @@ fn link(record: Record<'_>, index: u32) -> Result<Link, Fail> {
     })
 }
 
+fn units(name: &str) -> Units {
+    if name == "metric" {
+        return Units::Metric;
+    }
+    Units::English
+}
+
 fn head(record: Record<'_>) -> Result<Head, Fail> {
-    let is_metric = record.behind("units")? == "metric";
+    let least = pair(record, "least")?;
     Ok(Head {
         name: None,
-        units: if is_metric {
-            Units::Metric
-        } else {
-            Units::English
-        },
+        units: units(record.behind("units")?),
         version: record.small("version", 0)?,
         parts: record.small("parts", 0)?,
         cycle: pair(record, "cycle")?,
         ratio: Frac::whole(1),
-        least_out: whole(record, "least", 0)?,
-        least_in: whole(record, "least", 1)?,
-        equal: record.small("equal", 0)? == 1,
+        least_out: least.least,
+        least_in: least.most,
+        equal: record.is_set("equal")?,
     })
 }
 
@@ -177,23 +183,33 @@ static FEET: &str =
 /// A least outbound band of the whole cycle, and equal bands.
 static SECOND_VERSION: &str = "version 2|least 1 0|equal 1";
 
+/// Whether there are two signals and 100 parts, and the cycle and the ratio are those of `STREET`.
+fn has_street(artery: &Artery) -> bool {
+    artery.count() == 2
+        && artery.parts() == 100
+        && artery.head().parts == 100
+        && artery.signals().len() == 2
+        && artery.links().len() == 1
+        && artery.cycle().least == Frac::whole(100)
+        && artery.ratio() == Frac::whole(1)
+}
+
+/// Whether this way signal 2 has its red, and the link takes half of the cycle with no limit of change.
+fn has_way(artery: &Artery, dir: Dir) -> bool {
+    artery.count() == 2
+        && artery.red(dir, 2) == 50
+        && artery.distance(dir, 1) == 500
+        && artery.run_low(dir, 1) == Frac::whole(50)
+        && artery.run_high(dir, 1) == Frac::whole(50)
+        && artery.change(dir, 1).is_none()
+}
+
 #[test]
 fn two_signals_500_metres_apart(rt: HostRuntime) -> Result<(), Fail> {
     let artery = changed(rt.alloc(), "")?;
-    assert_eq!(rt; artery.count(), 2);
-    assert_eq!(rt; artery.parts(), 100);
-    assert_eq!(rt; artery.head().parts, 100);
-    assert_eq!(rt; artery.signals().len(), 2);
-    assert_eq!(rt; artery.links().len(), 1);
-    assert!(rt; artery.cycle().least == Frac::whole(100));
-    assert!(rt; artery.ratio() == Frac::whole(1));
-    for dir in [Dir::Outbound, Dir::Inbound] {
-        assert_eq!(rt; artery.red(dir, 2), 50);
-        assert_eq!(rt; artery.distance(dir, 1), 500);
-        assert!(rt; artery.run_low(dir, 1) == Frac::whole(50));
-        assert!(rt; artery.run_high(dir, 1) == Frac::whole(50));
-        assert!(rt; artery.change(dir, 1).is_none());
-    }
+    assert!(rt; has_street(&artery));
+    assert!(rt; has_way(&artery, Dir::Outbound));
+    assert!(rt; has_way(&artery, Dir::Inbound));
     Ok(())
 }
 
@@ -254,13 +270,17 @@ fn three_signals_with_left_turns_in_feet(rt: HostRuntime) -> Result<(), Fail> {
     Ok(())
 }
 
+fn has_second_version(artery: &Artery) -> bool {
+    artery.version() == 2
+        && artery.least_band(Dir::Outbound) == Frac::whole(1)
+        && artery.least_band(Dir::Inbound) == Frac::whole(0)
+        && artery.equal()
+}
+
 #[test]
 fn the_second_version_has_more(rt: HostRuntime) -> Result<(), Fail> {
     let artery = changed(rt.alloc(), SECOND_VERSION)?;
-    assert_eq!(rt; artery.version(), 2);
-    assert!(rt; artery.least_band(Dir::Outbound) == Frac::whole(1));
-    assert!(rt; artery.least_band(Dir::Inbound) == Frac::whole(0));
-    assert!(rt; artery.equal());
+    assert!(rt; has_second_version(&artery));
     Ok(())
 }
 

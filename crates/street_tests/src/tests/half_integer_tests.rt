@@ -1,280 +1,142 @@
 //! Rows that were worked by hand: two signals, 100 parts, one link.
 
 use artery_model::Artery;
-use half_integer::{HalfEnd, HalfFault, half, half_of};
+use half_integer::{HalfFault, half, half_of};
 use progression::Dir;
 use sample_streets::{
     SampleLink, SampleSignal, plain_head, plain_link, plain_signal, sample_street,
 };
-use std::alloc::Global;
+use std::alloc::{AllocError, Global};
 use std::test::Fail;
-use time_space::{Failing, Timing};
+use test_bed::{Reader, Record, all_told};
+use time_space::Timing;
 
-/// What differs between the arteries. The red is that of both signals, all else but the distances that of signal 2.
-#[derive(Clone, Copy)]
-struct Street {
-    distances: [u32; 2],
-    red: u32,
-    other_red: u32,
-    left: u32,
-    patterns: [bool; 4],
-    clear_out: u32,
-}
+/// A street and its timing: how far the signals are apart outbound and inbound, and both reds in parts. The left turns, the last of the patterns
+/// that are allowed, and the outbound clearance are those of signal 2.
+static FAR: &str = "apart 500 500
+parts 50 50
+left 0
+patterns 1
+clear 0
+grid 2
+unit 2
+pattern 1 1
+red 0 100
+run_out 100
+run_in 100
+first 0 0
+band 100 100
+";
 
-/// What differs between the timings.
-#[derive(Clone, Copy)]
-struct Times {
-    grid: u128,
-    unit: u128,
-    pattern: u32,
-    runs: [u128; 2],
-}
+/// Changes of it, and how wide the bands of its half-cycle plan are, in ticks of the doubled grid, which has 400 in the cycle; or why there are none.
+static OUTCOMES: [&str; 15] = [
+    " -> band 200",
+    "apart 250 250|run_out 50|run_in 50 -> band 100",
+    "parts 80 80|apart 250 250|run_out 50|run_in 50 -> no bands",
+    // The reds of signal 2 aren't one interval.
+    "apart 250 250|parts 50 40|left 10|patterns 3|run_out 50|run_in 50 -> End(Uneven { signal: 2 })",
+    "apart 250 250|parts 50 40|left 10|patterns 3|run_out 50|run_in 50|pattern 1 2 -> End(Uneven { signal: 2 })",
+    "apart 250 250|parts 50 40|left 10|patterns 3|run_out 50|run_in 50|pattern 1 3 -> band 100",
+    "apart 250 250|parts 50 50|left 10|patterns 3|run_out 50|run_in 50|pattern 1 3 -> band 80",
+    // The directions take unequal times.
+    "apart 500 250|run_in 50 -> End(Unequal { link: 1 })",
+    "clear 10 -> End(Unequal { link: 1 })",
+    // Two reasons: the first.
+    "apart 250 250|parts 50 40|left 10|patterns 3|run_out 50|run_in 50|clear 10 -> End(Uneven { signal: 2 })",
+    "apart 250 250|parts 50 40|left 10|patterns 3|run_out 50|run_in 50|grid 3 -> Fails(CycleShort)",
+    "apart 250 250|parts 50 40|left 10|patterns 3|run_out 50|run_in 50|pattern 1 4 -> Fails(Pattern { signal: 2 })",
+    // Grids of 2^74 ticks, and of 40 times as many.
+    "apart 1 1|grid 755578637259143234191360|unit 755578637259143234191360|run_out 75557863725914323419136|run_in 75557863725914323419136 -> End(TooFine { ticks: 1511157274518286468382720 })",
+    "grid 18889465931478580854784|unit 18889465931478580854784|run_out 944473296573929042739200|run_in 944473296573929042739200 -> End(TooFine { ticks: 1888946593147858085478400 })",
+    "apart 250 250|grid 18889465931478580854784|unit 18889465931478580854784|run_out 472236648286964521369600|run_in 472236648286964521369600 -> End(TooFine { ticks: 3777893186295716170956800 })",
+];
 
-/// What becomes of a timing. The band is in ticks of the doubled grid, which has 400 in the cycle.
-#[derive(Clone, Copy, Debug, PartialEq)]
-enum Outcome {
-    Band(u128),
-    NoBands,
-    Fault(HalfFault),
-}
-
-fn other(street: Street) -> SampleSignal {
-    let patterns = street.patterns;
+/// Signal 2, of these left turns, the last pattern that is allowed, the clearance and the red.
+fn signal(left: u32, last: u32, clear_out: u32, red: u32) -> SampleSignal {
     SampleSignal {
-        left_out: street.left,
-        left_in: street.left,
-        patterns,
-        clear_out: street.clear_out,
-        ..plain_signal("B", street.other_red)
+        left_out: left,
+        left_in: left,
+        patterns: [1 <= last, 2 <= last, 3 <= last, 4 <= last],
+        clear_out,
+        ..plain_signal("B", red)
     }
 }
 
-fn link(street: Street) -> SampleLink {
-    SampleLink {
-        distance_in: street.distances[1],
-        ..plain_link(street.distances[0])
-    }
+fn other(record: Record<'_>) -> Result<SampleSignal, Fail> {
+    let left = record.small("left", 0)?;
+    let last = record.small("patterns", 0)?;
+    let clear_out = record.small("clear", 0)?;
+    Ok(signal(left, last, clear_out, record.small("parts", 1)?))
 }
 
-fn artery(alloc: Global, street: Street) -> Result<Artery, Fail> {
-    let signals = [plain_signal("A", street.red), other(street)];
-    match sample_street(alloc, plain_head(), &signals, &[link(street)]) {
+fn link(record: Record<'_>) -> Result<SampleLink, Fail> {
+    Ok(SampleLink {
+        distance_in: record.small("apart", 1)?,
+        ..plain_link(record.small("apart", 0)?)
+    })
+}
+
+fn artery(alloc: Global, record: Record<'_>) -> Result<Artery, Fail> {
+    let signals = [plain_signal("A", record.small("parts", 0)?), other(record)?];
+    match sample_street(alloc, plain_head(), &signals, &[link(record)?]) {
         Ok(artery) => Ok(artery),
         Err(_) => Err("no artery".into()),
     }
 }
 
-fn make_timing(alloc: Global, times: Times) -> Result<Option<Timing>, Fail> {
-    Ok(Timing::new(
-        times.grid,
-        times.unit,
-        vec![in alloc; 1, times.pattern]?,
-        vec![in alloc; 0, 100]?,
-        vec![in alloc; times.runs[0]]?,
-        vec![in alloc; times.runs[1]]?,
-        0,
-        0,
-        100,
-        100,
-    ))
-}
-
-fn timing(alloc: Global, times: Times) -> Result<Timing, Fail> {
-    Ok(make_timing(alloc, times)?.ok_or("no timing")?)
-}
-
-fn half_outcome(alloc: Global, street: Street, times: Times) -> Result<Outcome, Fail> {
-    let artery = artery(alloc, street)?;
-    let timing = timing(alloc, times)?;
-    Ok(match half(alloc, &artery, &timing) {
-        Ok(Some(plan)) => Outcome::Band(plan.band(Dir::Inbound)),
-        Ok(None) => Outcome::NoBands,
-        Err(fault) => Outcome::Fault(fault),
-    })
-}
-
-fn far() -> Street {
-    Street {
-        distances: [500, 500],
-        red: 50,
-        other_red: 50,
-        left: 0,
-        patterns: [true, false, false, false],
-        clear_out: 0,
+fn timing(alloc: Global, record: Record<'_>) -> Result<Timing, Fail> {
+    match record.timing(alloc)? {
+        Some(timing) => Ok(timing),
+        None => Err("no timing".into()),
     }
 }
 
-fn far_times() -> Times {
-    Times {
-        grid: 2,
-        unit: 2,
-        pattern: 1,
-        runs: [100, 100],
+/// The timing's half-cycle plan, with nothing said of it.
+fn halved(alloc: Global, artery: &Artery, timing: &Timing) -> Result<Option<Timing>, HalfFault> {
+    half(alloc, artery, timing)
+}
+
+fn told(alloc: Global, halved: Result<Option<Timing>, HalfFault>) -> Result<String, AllocError> {
+    match halved {
+        Ok(Some(plan)) => format!(in alloc; "band {}", plan.band(Dir::Inbound)),
+        Ok(None) => String::from_str(alloc, "no bands"),
+        Err(fault) => format!(in alloc; "{fault:?}"),
     }
 }
 
-fn too_fine(ticks: u128) -> Outcome {
-    Outcome::Fault(HalfFault::End(HalfEnd::TooFine { ticks }))
+/// Tells the half-cycle plan of a street's timing.
+#[derive(Clone, Copy, Drop)]
+struct Halves;
+
+impl Reader for Halves {
+    fn answer(&self, alloc: Global, text: &[u8]) -> Result<String, Fail> {
+        let record = Record::new(text)?;
+        let (artery, timing) = (artery(alloc, record)?, timing(alloc, record)?);
+        Ok(told(alloc, halved(alloc, &artery, &timing))?)
+    }
 }
 
 #[test]
 fn outcomes(rt: HostRuntime) -> Result<(), Fail> {
-    let near = Street {
-        distances: [250, 250],
-        ..far()
-    };
-    let near_times = Times {
-        runs: [50, 50],
-        ..far_times()
-    };
-    let lefts = Street {
-        other_red: 40,
-        left: 10,
-        patterns: [true, true, true, false],
-        ..near
-    };
-    let uneven = Outcome::Fault(HalfFault::End(HalfEnd::Uneven { signal: 2 }));
-    let unequal = Outcome::Fault(HalfFault::End(HalfEnd::Unequal { link: 1 }));
-    let fine = 1 << 74;
-    let rows = [
-        (far(), far_times(), Outcome::Band(200)),
-        (near, near_times, Outcome::Band(100)),
-        (
-            Street {
-                red: 80,
-                other_red: 80,
-                ..near
-            },
-            near_times,
-            Outcome::NoBands,
-        ),
-        (lefts, near_times, uneven),
-        (
-            lefts,
-            Times {
-                pattern: 2,
-                ..near_times
-            },
-            uneven,
-        ),
-        (
-            lefts,
-            Times {
-                pattern: 3,
-                ..near_times
-            },
-            Outcome::Band(100),
-        ),
-        (
-            Street {
-                other_red: 50,
-                ..lefts
-            },
-            Times {
-                pattern: 3,
-                ..near_times
-            },
-            Outcome::Band(80),
-        ),
-        (
-            Street {
-                distances: [500, 250],
-                ..far()
-            },
-            Times {
-                runs: [100, 50],
-                ..far_times()
-            },
-            unequal,
-        ),
-        (
-            Street {
-                clear_out: 10,
-                ..far()
-            },
-            far_times(),
-            unequal,
-        ),
-        (
-            Street {
-                clear_out: 10,
-                ..lefts
-            },
-            near_times,
-            uneven,
-        ),
-        (
-            lefts,
-            Times {
-                grid: 3,
-                ..near_times
-            },
-            Outcome::Fault(HalfFault::Fails(Failing::CycleShort)),
-        ),
-        (
-            lefts,
-            Times {
-                pattern: 4,
-                ..near_times
-            },
-            Outcome::Fault(HalfFault::Fails(Failing::Pattern { signal: 2 })),
-        ),
-        (
-            Street {
-                distances: [1, 1],
-                ..far()
-            },
-            Times {
-                grid: 40 * fine,
-                unit: 40 * fine,
-                runs: [4 * fine, 4 * fine],
-                ..far_times()
-            },
-            too_fine(80 * fine),
-        ),
-        (
-            far(),
-            Times {
-                grid: fine,
-                unit: fine,
-                runs: [50 * fine, 50 * fine],
-                ..far_times()
-            },
-            too_fine(100 * fine),
-        ),
-        (
-            near,
-            Times {
-                grid: fine,
-                unit: fine,
-                runs: [25 * fine, 25 * fine],
-                ..far_times()
-            },
-            too_fine(200 * fine),
-        ),
-    ];
-    for (street, times, expected) in rows {
-        assert!(rt; half_outcome(rt.alloc(), street, times)? == expected);
-    }
-    Ok(())
+    all_told(rt.alloc(), &Halves, FAR, &OUTCOMES)
 }
 
 /// The phases of two signals.
-fn phases(alloc: Global, street: Street, times: Times) -> Result<[bool; 2], Fail> {
-    let artery = artery(alloc, street)?;
-    let timing = timing(alloc, times)?;
-    match half(alloc, &artery, &timing) {
+fn phases(alloc: Global, artery: &Artery, timing: &Timing) -> Option<[bool; 2]> {
+    match half(alloc, artery, timing) {
         Ok(Some(plan)) => {
             let count = artery.count();
             prove!(2 <= count);
-            Ok([half_of(&artery, &plan, 1), half_of(&artery, &plan, 2)])
+            Some([half_of(artery, &plan, 1), half_of(artery, &plan, 2)])
         }
-        _ => Err("no plan".into()),
+        _ => None,
     }
 }
 
 #[test]
 fn phases_of_two_signals(rt: HostRuntime) -> Result<(), Fail> {
-    assert!(rt; phases(rt.alloc(), far(), far_times())? == [false, true]);
+    let record = Record::new(FAR.as_bytes())?;
+    let (artery, timing) = (artery(rt.alloc(), record)?, timing(rt.alloc(), record)?);
+    assert!(rt; phases(rt.alloc(), &artery, &timing) == Some([false, true]));
     Ok(())
 }

@@ -268,9 +268,22 @@ fn mem_files(alloc: Global, fail: u64, name: &str, bytes: &[u8]) -> Result<MemFi
     Ok(files)
 }
 
-/// `answered` at files in memory, so that it is instantiated once and not in each test.
+// `answered` at each kind of files, so that it is instantiated once and not in each test.
+
 fn mem_answered(alloc: Global, files: &mut MemFiles, steps: &[Step]) -> u64 {
     answered(alloc, files, steps)
+}
+
+fn system_answered(alloc: Global, files: &mut RealFiles<HostRuntime>, steps: &[Step]) -> u64 {
+    answered(alloc, files, steps)
+}
+
+fn faulty_answered(alloc: Global, files: &mut RealFiles<FaultyDisk<'_>>, steps: &[Step]) -> u64 {
+    answered(alloc, files, steps)
+}
+
+fn system_files(rt: &HostRuntime) -> Result<RealFiles<HostRuntime>, Fail> {
+    Ok(RealFiles::new(rt, rt.alloc())?)
 }
 
 fn mem_file_is(files: &MemFiles, name: &str, bytes: &[u8]) -> bool {
@@ -311,7 +324,7 @@ fn is_removed(rt: &HostRuntime, name: &str) -> bool {
     fs::remove_file(rt, name).is_ok()
 }
 
-const SURE_STEPS: [Step; 4] = [
+static SURE_STEPS: [Step; 4] = [
     Step::Put("notes", b"second", Ok(())),
     Step::Whole("notes", 100, Ok(b"second")),
     Step::Read("notes", 2, Ok((4, *b"cond"))),
@@ -327,13 +340,13 @@ fn sure_files_hold_what_was_put(rt: HostRuntime) -> Result<(), Fail> {
     Ok(())
 }
 
-const TO_THE_THIRD: [Step; 3] = [
+static TO_THE_THIRD: [Step; 3] = [
     Step::Read("notes", 1, Ok((2, *b"ld\0\0"))),
     Step::Put("other", b"kept", Ok(())),
     Step::Put("notes", b"new", Err(FileEnd::Failed)),
 ];
 
-const AFTER_THE_THIRD: [Step; 2] = [
+static AFTER_THE_THIRD: [Step; 2] = [
     Step::Read("absent", 0, Err(FileEnd::Failed)),
     Step::Put("notes", b"new", Ok(())),
 ];
@@ -372,7 +385,7 @@ fn a_sure_output_takes_all_at_once(rt: HostRuntime) {
 }
 
 // Calls 1 and 2 read the file, 3 found it too long, 4 found no file, 5 read: the sixth fails.
-const TEN_BYTES: [Step; 4] = [
+static TEN_BYTES: [Step; 4] = [
     Step::Whole("ten", 10, Ok(b"0123456789")),
     Step::Whole("ten", 9, Err(ReadEnd::TooLong)),
     Step::Whole("absent", 9, Err(ReadEnd::ReadFault)),
@@ -386,38 +399,45 @@ fn ten_bytes_are_too_long_for_a_limit_of_nine(rt: HostRuntime) -> Result<(), Fai
     Ok(())
 }
 
-const PUT_AND_READ: [Step; 2] = [
+static PUT_AND_READ: [Step; 2] = [
     Step::Put("outer_edge.trial", b"put and read", Ok(())),
     Step::Whole("outer_edge.trial", 100, Ok(b"put and read")),
 ];
 
-const ABSENT: [Step; 2] = [
+static ABSENT: [Step; 2] = [
     Step::Read("outer_edge.trial", 0, Err(FileEnd::Failed)),
     Step::Put("no/such/folder", b"x", Err(FileEnd::Failed)),
 ];
 
 #[test]
 fn a_file_of_the_system_is_read_back(rt: HostRuntime) -> Result<(), Fail> {
-    let mut files = RealFiles::new(&rt, rt.alloc())?;
-    assert_eq!(rt; answered(rt.alloc(), &mut files, &PUT_AND_READ), 2);
+    let mut files = system_files(&rt)?;
+    assert_eq!(rt; system_answered(rt.alloc(), &mut files, &PUT_AND_READ), 2);
     assert!(rt; is_removed(&rt, "outer_edge.trial"));
-    assert_eq!(rt; answered(rt.alloc(), &mut files, &ABSENT), 2);
+    assert_eq!(rt; system_answered(rt.alloc(), &mut files, &ABSENT), 2);
     Ok(())
 }
 
 const NEWER: Step = Step::Put("outer_edge.full", b"newer", Err(FileEnd::Failed));
 
-const OLD_AND_NEWER: [Step; 2] = [Step::Put("outer_edge.full", b"old", Ok(())), NEWER];
+static OLD_AND_NEWER: [Step; 2] = [Step::Put("outer_edge.full", b"old", Ok(())), NEWER];
+
+static AGAIN: [Step; 1] = [NEWER];
+
+/// Whether the old file stands there, which is removed then, and no new one.
+fn is_old_alone(rt: &HostRuntime) -> bool {
+    system_file_is(rt, "outer_edge.full", b"old")
+        && is_absent(rt, "outer_edge.full.new1")
+        && is_removed(rt, "outer_edge.full")
+}
 
 #[test]
 fn a_full_disk_leaves_the_old_file(rt: HostRuntime) -> Result<(), Fail> {
     let opened = Cell::new(0);
     let mut files = faulty_files(&rt, Fault::Full, &opened)?;
-    assert_eq!(rt; answered(rt.alloc(), &mut files, &OLD_AND_NEWER), 2);
-    assert!(rt; system_file_is(&rt, "outer_edge.full", b"old"));
-    assert!(rt; is_absent(&rt, "outer_edge.full.new1"));
-    assert!(rt; is_removed(&rt, "outer_edge.full"));
-    assert!(rt; is_answered(rt.alloc(), &mut files, NEWER));
+    assert_eq!(rt; faulty_answered(rt.alloc(), &mut files, &OLD_AND_NEWER), 2);
+    assert!(rt; is_old_alone(&rt));
+    assert_eq!(rt; faulty_answered(rt.alloc(), &mut files, &AGAIN), 1);
     assert!(rt; is_absent(&rt, "outer_edge.full"));
     Ok(())
 }
@@ -485,15 +505,30 @@ fn a_put_replaces_only_what_may_be_replaced(rt: HostRuntime) -> Result<(), Fail>
     Ok(())
 }
 
+/// Makes an old file of two names.
+fn make_two_names(rt: &HostRuntime) -> bool {
+    fs::write(rt, "outer_edge.first", b"old").is_ok()
+        && fs::hard_link(rt, "outer_edge.first", "outer_edge.second").is_ok()
+}
+
+fn are_removed(rt: &HostRuntime, names: &[&str]) -> bool {
+    for name in names {
+        if !is_removed(rt, name) {
+            return false;
+        }
+    }
+    true
+}
+
+static NEWER_FIRST: [Step; 1] = [Step::Put("outer_edge.first", b"newer", Ok(()))];
+
 #[test]
 fn a_file_of_two_names_keeps_them(rt: HostRuntime) -> Result<(), Fail> {
-    let mut files = RealFiles::new(&rt, rt.alloc())?;
-    assert!(rt; fs::write(&rt, "outer_edge.first", b"old").is_ok());
-    assert!(rt; fs::hard_link(&rt, "outer_edge.first", "outer_edge.second").is_ok());
-    assert!(rt; files.put("outer_edge.first", b"newer").is_ok());
+    let mut files = system_files(&rt)?;
+    assert!(rt; make_two_names(&rt));
+    assert_eq!(rt; system_answered(rt.alloc(), &mut files, &NEWER_FIRST), 1);
     assert!(rt; system_file_is(&rt, "outer_edge.second", b"newer"));
-    assert!(rt; is_removed(&rt, "outer_edge.first"));
-    assert!(rt; is_removed(&rt, "outer_edge.second"));
+    assert!(rt; are_removed(&rt, &["outer_edge.first", "outer_edge.second"]));
     Ok(())
 }
 
@@ -507,8 +542,10 @@ fn make_long(rt: &HostRuntime, name: &str) -> io::Result<()> {
 
 const LONG: &str = "outer_edge.long";
 
+static TOO_LONG: [Step; 1] = [Step::Whole(LONG, 1_048_576, Err(ReadEnd::TooLong))];
+
 // Each read begins where the one before ended, but the fourth, which goes back, and the last, which follows a put.
-const LONG_STEPS: [Step; 7] = [
+static LONG_STEPS: [Step; 8] = [
     Step::Read(LONG, 1_048_570, Ok((4, [0; 4]))),
     Step::Read(LONG, 1_048_574, Ok((4, *b"\0\0ta"))),
     Step::Read(LONG, 1_048_578, Ok((2, *b"il\0\0"))),
@@ -516,38 +553,29 @@ const LONG_STEPS: [Step; 7] = [
     Step::Read(LONG, 1_048_580, Ok((0, [0; 4]))),
     Step::Read(LONG, 0, Ok((4, [0; 4]))),
     Step::Put(LONG, b"and short", Ok(())),
+    Step::Read(LONG, 4, Ok((4, *b"shor"))),
 ];
-
-const AFTER_THE_PUT: [Step; 1] = [Step::Read(LONG, 4, Ok((4, *b"shor")))];
 
 #[test]
 fn a_long_file_is_opened_once_and_read_on(rt: HostRuntime) -> Result<(), Fail> {
     assert!(rt; make_long(&rt, LONG).is_ok());
     let opened = Cell::new(0);
     let mut files = faulty_files(&rt, Fault::Nothing, &opened)?;
-    assert!(rt;
-        reads_whole(
-            rt.alloc(),
-            &mut files,
-            LONG,
-            1_048_576,
-            Err(ReadEnd::TooLong)
-        )
-    );
+    assert_eq!(rt; faulty_answered(rt.alloc(), &mut files, &TOO_LONG), 1);
     assert_eq!(rt; opened.get(), 1);
-    assert_eq!(rt; answered(rt.alloc(), &mut files, &LONG_STEPS), 7);
-    assert_eq!(rt; answered(rt.alloc(), &mut files, &AFTER_THE_PUT), 1);
+    assert_eq!(rt; faulty_answered(rt.alloc(), &mut files, &LONG_STEPS), 8);
     assert!(rt; is_removed(&rt, LONG));
     Ok(())
 }
+
+static CUT: [Step; 1] = [Step::Whole("outer_edge.cut", 2_000_000, Err(ReadEnd::ReadFault))];
 
 #[test]
 fn a_read_that_fails_in_the_midst_is_no_end(rt: HostRuntime) -> Result<(), Fail> {
     assert!(rt; make_long(&rt, "outer_edge.cut").is_ok());
     let opened = Cell::new(0);
     let mut files = faulty_files(&rt, Fault::Unreadable, &opened)?;
-    let fault = Err(ReadEnd::ReadFault);
-    assert!(rt; reads_whole(rt.alloc(), &mut files, "outer_edge.cut", 2_000_000, fault));
+    assert_eq!(rt; faulty_answered(rt.alloc(), &mut files, &CUT), 1);
     assert!(rt; is_removed(&rt, "outer_edge.cut"));
     Ok(())
 }
@@ -580,20 +608,37 @@ fn is_private(rt: &HostRuntime, name: &str) -> bool {
     }
 }
 
+static THROUGH_THE_LINK: [Step; 1] = [Step::Put("outer_edge.link", b"through the link", Ok(()))];
+
+/// Whether the link is still one, and the file behind it is private and holds what was put.
+fn is_kept(rt: &HostRuntime) -> bool {
+    is_link(rt, "outer_edge.link")
+        && system_file_is(rt, "outer_edge.kept", b"through the link")
+        && is_private(rt, "outer_edge.kept")
+}
+
+/// Whether another's file stands there as it was, and no second new one.
+fn is_untouched(rt: &HostRuntime) -> bool {
+    system_file_is(rt, "outer_edge.kept.new1", b"another's")
+        && is_absent(rt, "outer_edge.kept.new2")
+}
+
 #[test]
 fn a_put_keeps_links_permissions_and_other_files(rt: HostRuntime) -> Result<(), Fail> {
     assert!(rt; make_link(&rt));
-    let mut files = RealFiles::new(&rt, rt.alloc())?;
-    let through = Step::Put("outer_edge.link", b"through the link", Ok(()));
-    assert!(rt; is_answered(rt.alloc(), &mut files, through));
-    assert!(rt; is_link(&rt, "outer_edge.link"));
-    assert!(rt; system_file_is(&rt, "outer_edge.kept", b"through the link"));
-    assert!(rt; is_private(&rt, "outer_edge.kept"));
-    assert!(rt; system_file_is(&rt, "outer_edge.kept.new1", b"another's"));
-    assert!(rt; is_absent(&rt, "outer_edge.kept.new2"));
-    for name in ["outer_edge.link", "outer_edge.kept", "outer_edge.kept.new1"] {
-        assert!(rt; is_removed(&rt, name));
-    }
+    let mut files = system_files(&rt)?;
+    assert_eq!(rt;
+        system_answered(rt.alloc(), &mut files, &THROUGH_THE_LINK),
+        1
+    );
+    assert!(rt; is_kept(&rt));
+    assert!(rt; is_untouched(&rt));
+    assert!(rt;
+        are_removed(
+            &rt,
+            &["outer_edge.link", "outer_edge.kept", "outer_edge.kept.new1"]
+        )
+    );
     Ok(())
 }
 
@@ -604,12 +649,20 @@ fn standard_output_takes_bytes(rt: HostRuntime) -> Result<(), Fail> {
     Ok(())
 }
 
+fn narrow_out<'a>(alloc: Global, taken: &'a Cell<usize>) -> Result<RealOut<Narrow<'a>>, Fail> {
+    Ok(RealOut::new(&Narrow { taken }, alloc)?)
+}
+
+/// Whether a call takes four bytes of a text, and one of nine goes in pieces.
+fn takes_pieces(out: &mut RealOut<Narrow<'_>>) -> bool {
+    writes_once(out, 100, b"three\n", Ok(4)) && writes_whole(out, 100, b"nine more", Ok(()))
+}
+
 #[test]
 fn a_narrow_pipe_takes_a_text_in_pieces(rt: HostRuntime) -> Result<(), Fail> {
     let taken = Cell::new(0);
-    let mut out = RealOut::new(&Narrow { taken: &taken }, rt.alloc())?;
-    assert!(rt; writes_once(&mut out, 100, b"three\n", Ok(4)));
-    assert!(rt; writes_whole(&mut out, 100, b"nine more", Ok(())));
+    let mut out = narrow_out(rt.alloc(), &taken)?;
+    assert!(rt; takes_pieces(&mut out));
     assert_eq!(rt; taken.get(), 13);
     assert!(rt; writes_whole(&mut out, 100, b"full", Err(Failed)));
     assert_eq!(rt; taken.get(), 16);

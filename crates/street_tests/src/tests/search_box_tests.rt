@@ -166,24 +166,45 @@ fn root_boxes(rt: HostRuntime) -> Result<(), Fail> {
     Ok(())
 }
 
-#[test]
-fn shifts_of_left_turns(rt: HostRuntime) -> Result<(), Fail> {
-    let all = artery(rt.alloc(), with_lefts())?;
-    assert!(rt; all.count() == 2);
-    assert!(rt; shift_count(&all, 1) == 1);
-    assert!(rt; shift_at(&all, 1, 0) == 0);
-    assert!(rt; shift_count(&all, 2) == 3);
-    assert!(rt; shift_at(&all, 2, 0) == 0);
-    assert!(rt; shift_at(&all, 2, 1) == 10);
-    assert!(rt; shift_at(&all, 2, 2) == 20);
-    let third = Street {
-        patterns: [false, false, true, false],
+/// Whether one of two signals has these shifts and no others.
+fn has_shifts(artery: &Artery, signal: u32, shifts: &[u32]) -> bool {
+    if artery.count() != 2 || signal < 1 || 2 < signal {
+        return false;
+    }
+    let count = shift_count(artery, signal);
+    for rank in 0..count {
+        if shifts.get(rank as usize) != Some(&shift_at(artery, signal, rank)) {
+            return false;
+        }
+    }
+    count as usize == shifts.len()
+}
+
+fn shifts_told(
+    alloc: Global,
+    patterns: [bool; 4],
+    signal: u32,
+    shifts: &[u32],
+) -> Result<bool, Fail> {
+    let street = Street {
+        patterns,
         ..with_lefts()
     };
-    let one = artery(rt.alloc(), third)?;
-    assert!(rt; one.count() == 2);
-    assert!(rt; shift_count(&one, 2) == 1);
-    assert!(rt; shift_at(&one, 2, 0) == 10);
+    Ok(has_shifts(&artery(alloc, street)?, signal, shifts))
+}
+
+/// Of which signal the shifts are, where these patterns are allowed at signal B.
+static SHIFTS: [([bool; 4], u32, &[u32]); 3] = [
+    (ALL, 1, &[0]),
+    (ALL, 2, &[0, 10, 20]),
+    ([false, false, true, false], 2, &[10]),
+];
+
+#[test]
+fn shifts_of_left_turns(rt: HostRuntime) -> Result<(), Fail> {
+    for (patterns, signal, shifts) in SHIFTS {
+        assert!(rt; shifts_told(rt.alloc(), patterns, signal, shifts)?);
+    }
     Ok(())
 }
 

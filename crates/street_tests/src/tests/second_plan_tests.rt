@@ -57,19 +57,29 @@ static PLANS: [&str; 16] = [
     "apart 505 505|least 0 50|red 0 99|first 100 199|band 98 100 -> Least { dir: Inbound }",
 ];
 
-fn head(record: Record<'_>) -> Result<SampleHead, Fail> {
-    Ok(SampleHead {
+/// The two numbers behind a name over that denominator.
+fn pair(record: Record<'_>, name: &str, den: i128) -> Result<Pair, Fail> {
+    let least = record.quotient(name, 0, den)?;
+    let most = record.quotient(name, 1, den)?;
+    Ok(Pair { least, most })
+}
+
+fn head_of(cycle: Pair, ratio: Frac, least: Pair, equal: bool) -> SampleHead {
+    SampleHead {
         version: 2,
-        cycle: Pair {
-            least: fraction(record.number("cycle", 0)?, 10)?,
-            most: fraction(record.number("cycle", 1)?, 10)?,
-        },
-        ratio: fraction(record.number("ratio", 0)?, record.number("ratio", 1)?)?,
-        least_out: fraction(record.number("least", 0)?, 100)?,
-        least_in: fraction(record.number("least", 1)?, 100)?,
-        equal: record.small("equal", 0)? == 1,
+        cycle,
+        ratio,
+        least_out: least.least,
+        least_in: least.most,
+        equal,
         ..plain_head()
-    })
+    }
+}
+
+fn head(record: Record<'_>) -> Result<SampleHead, Fail> {
+    let (cycle, least) = (pair(record, "cycle", 10)?, pair(record, "least", 100)?);
+    let ratio = record.quotient("ratio", 0, record.number("ratio", 1)?)?;
+    Ok(head_of(cycle, ratio, least, record.is_set("equal")?))
 }
 
 fn artery(alloc: Global, record: Record<'_>) -> Result<Artery, Fail> {
@@ -92,12 +102,28 @@ fn number<T: Copy>(numbers: &[T], place: usize) -> Result<T, Fail> {
     }
 }
 
+/// The grid and the unit, and the first lines and the bands, outbound and inbound.
+fn whole_numbers(timing: &Timing) -> ([u128; 2], [i128; 2], [u128; 2]) {
+    (
+        [timing.grid(), timing.unit()],
+        [timing.first(Dir::Outbound), timing.first(Dir::Inbound)],
+        [timing.band(Dir::Outbound), timing.band(Dir::Inbound)],
+    )
+}
+
+/// The second red, and the first runs outbound and inbound.
+fn listed_numbers(timing: &Timing) -> Result<[u128; 3], Fail> {
+    Ok([
+        number(timing.reds(), 1)?,
+        number(timing.run_out(), 0)?,
+        number(timing.run_in(), 0)?,
+    ])
+}
+
 /// The numbers of a timing's lines: the second red, and what is outbound and inbound.
 fn numbers_of(alloc: Global, timing: &Timing) -> Result<String, Fail> {
-    let (grid, unit, red) = (timing.grid(), timing.unit(), number(timing.reds(), 1)?);
-    let (run_out, run_in) = (number(timing.run_out(), 0)?, number(timing.run_in(), 0)?);
-    let (first_out, first_in) = (timing.first(Dir::Outbound), timing.first(Dir::Inbound));
-    let (band_out, band_in) = (timing.band(Dir::Outbound), timing.band(Dir::Inbound));
+    let [red, run_out, run_in] = listed_numbers(timing)?;
+    let ([grid, unit], [first_out, first_in], [band_out, band_in]) = whole_numbers(timing);
     Ok(format!(in alloc;
         "grid {grid} unit {unit} red {red} runs {run_out} {run_in} firsts {first_out} {first_in} bands {band_out} {band_in}"
     )?)

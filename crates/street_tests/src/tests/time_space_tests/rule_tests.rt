@@ -6,7 +6,7 @@ use sample_streets::{SampleLink, plain_link, range};
 use std::alloc::{AllocError, Global};
 use std::test::Fail;
 use test_bed::{Reader, Record, all_told, with_changes};
-use time_space::{Failing, base_holds, holds};
+use time_space::{Failing, Timing, base_holds, holds};
 
 /// Changes of `street_text`, and the first rule that is broken.
 static TWO_SIGNALS: [&str; 15] = [
@@ -107,16 +107,20 @@ struct Rules {
     speak_of_bands: bool,
 }
 
+/// What the rules say, with nothing said of it.
+fn judged(artery: &Artery, timing: &Timing, speak_of_bands: bool) -> Result<(), Failing> {
+    if speak_of_bands {
+        holds(artery, timing)
+    } else {
+        base_holds(artery, timing)
+    }
+}
+
 impl Reader for Rules {
     fn answer(&self, alloc: Global, text: &[u8]) -> Result<String, Fail> {
         let record = Record::new(text)?;
         let (artery, timing) = (artery(alloc, record)?, timing(alloc, record)?);
-        let rules = if self.speak_of_bands {
-            holds(&artery, &timing)
-        } else {
-            base_holds(&artery, &timing)
-        };
-        Ok(told(alloc, rules)?)
+        Ok(told(alloc, judged(&artery, &timing, self.speak_of_bands))?)
     }
 }
 
@@ -128,8 +132,8 @@ struct RulesOf<'a> {
 
 impl Reader for RulesOf<'_> {
     fn answer(&self, alloc: Global, text: &[u8]) -> Result<String, Fail> {
-        let rules = holds(self.artery, &timing(alloc, Record::new(text)?)?);
-        Ok(told(alloc, rules)?)
+        let timing = timing(alloc, Record::new(text)?)?;
+        Ok(told(alloc, judged(self.artery, &timing, true))?)
     }
 }
 

@@ -1,12 +1,13 @@
 //! The streets and timings of the worked rows: two signals, parts 100, unless a row says otherwise.
 
 use artery_model::Artery;
+use narrow_fraction::Frac;
 use sample_streets::{
     SampleHead, SampleLink, SampleSignal, plain_head, plain_link, plain_signal, sample_street,
 };
 use std::alloc::{AllocError, Global};
 use std::test::Fail;
-use test_bed::{Record, WHOLE_GREEN, fraction};
+use test_bed::{Record, WHOLE_GREEN};
 use time_space::Timing;
 
 /// Two signals 500 metres apart, and bands as wide as their greens. The inbound band counts so many halves, least bands are so many
@@ -21,15 +22,26 @@ pub fn street_text(alloc: Global) -> Result<String, AllocError> {
 /// Changes of it: 250 metres, where one band alone takes a green.
 pub static HALF_BAND: &str = "apart 250|red 0 50|run_out 50|run_in 50|first 100 150|band 100 0";
 
-fn head(record: Record<'_>) -> Result<SampleHead, Fail> {
-    Ok(SampleHead {
-        version: record.small("version", 0)?,
-        ratio: fraction(record.number("halves", 0)?, 2)?,
-        least_out: fraction(record.number("least", 0)?, 10)?,
-        least_in: fraction(record.number("least", 1)?, 10)?,
-        equal: record.small("equal", 0)? == 1,
+fn head_of(version: u32, ratio: Frac, least: [Frac; 2], equal: bool) -> SampleHead {
+    SampleHead {
+        version,
+        ratio,
+        least_out: least[0],
+        least_in: least[1],
+        equal,
         ..plain_head()
-    })
+    }
+}
+
+fn head(record: Record<'_>) -> Result<SampleHead, Fail> {
+    let (version, ratio) = (
+        record.small("version", 0)?,
+        record.quotient("halves", 0, 2)?,
+    );
+    let least_out = record.quotient("least", 0, 10)?;
+    let least_in = record.quotient("least", 1, 10)?;
+    let equal = record.is_set("equal")?;
+    Ok(head_of(version, ratio, [least_out, least_in], equal))
 }
 
 /// What differs between signals: the red, both left turns and the outbound clearance.
