@@ -4,7 +4,8 @@ ghost use Rattle.std.specs.Prelude.{◌≡◌, ◌≢◌, IfOk, string_bytes};
 ghost use Rattle.plan_text.specs.Families.{table_of};
 ghost use Rattle.maxband_run.specs.Lines.{failing_text};
 ghost use Rattle.certificate_checker.specs.declared.reject.Reject.TheVariants as refusal;
-ghost use Rattle.maxband_run.specs.CheckLines.{best_line, bound_line, between_line, open_line, accepted_line, leaf_line, wide_line, value_line, below_line, weak_line, split_line, timing_line, rejected_line, link_failing_text, link_rejected_line};
+ghost use Rattle.maxband_run.specs.CheckLines.{best_line, bound_line, between_line, open_line, accepted_line};
+ghost use Rattle.maxband_run.specs.CheckLines.{leaf_line, wide_line, value_line, below_line, weak_line, split_line, timing_line, rejected_line, link_failing_text, link_rejected_line};
 
 use crate::lines::failing_text;
 use certificate_checker::Reject;

@@ -189,11 +189,11 @@ fn round_from_of<'a>(
     artery: &'a str,
     certificate: &'a str,
     other: &'a str,
-    words: &'a [String],
+    left: &'a [String],
 ) -> Option<Command<'a>>
-    ensures { option_map view result ≡ round_from_of artery.now certificate.now other.now (map string_bytes words.now) }
+    ensures { option_map view result ≡ round_from_of artery.now certificate.now other.now (map string_bytes left.now) }
 {
-    match words {
+    match left {
         [plan] => Some(Command::RoundFrom(artery, certificate, other, plan.as_str())),
         _ => None,
     }

@@ -1,7 +1,8 @@
 //! The lines of each answer.
 
 ghost use Rattle.std.specs.Prelude.{◌≡◌, IfOk, length, string_bytes};
-ghost use Rattle.maxband_run.specs.Lines.{kind_name, fault_name, least_text, link_text, failing_text, fails_line, refused_line, bad_text_line, words_line, cannot_read_line, too_long_line, holds_lines};
+ghost use Rattle.maxband_run.specs.Lines.{kind_name, fault_name, least_text, link_text, failing_text};
+ghost use Rattle.maxband_run.specs.Lines.{fails_line, refused_line, bad_text_line, words_line, cannot_read_line, too_long_line, holds_lines};
 
 use artery_model::{Dir, Kind, Refusal};
 use diagram_print::dir_name;

@@ -48,6 +48,13 @@ fn words(alloc: Global, args: io::Result<env::Args>) -> Result<Vec<String>, u8>
     }
 }
 
+/// The exit status of this number.
+fn exit_of(number: u8) -> ExitCode
+    ensures { exit_status result ≡ number }
+{
+    ExitCode::from(number)
+}
+
 /// `run` with these words, and its number as the exit status.
 fn exit_of_run<F: Files, K: Sink>(
     alloc: Global,
@@ -57,7 +64,7 @@ fn exit_of_run<F: Files, K: Sink>(
 ) -> ExitCode
     ensures { ExitsBy F.Files K.Sink files.old files.new out.old out.new (map string_bytes words.now) (exit_status result) }
 {
-    ExitCode::from(run(alloc, words, files, out).number)
+    exit_of(run(alloc, words, files, out).number)
 }
 
 /// The program over any files and any output, from the system's answer to which words it was called with: `run` with all of them but
@@ -75,7 +82,7 @@ pub fn run_program<F: Files, K: Sink>(
 {
     match words(alloc, args) {
         Ok(words) => exit_of_run(alloc, words.as_slice(), files, out),
-        Err(number) => ExitCode::from(number),
+        Err(number) => exit_of(number),
     }
 }
 
@@ -84,7 +91,7 @@ pub fn maxband_main<R: Env + rt::Files + Print + AllocGlobal + Clone + Drop>(rt:
     let alloc = rt.alloc();
     let args = env::args(rt);
     let (Ok(mut files), Ok(mut out)) = (RealFiles::new(rt, alloc), RealOut::new(rt, alloc)) else {
-        return ExitCode::from(no_memory());
+        return exit_of(no_memory());
     };
     run_program(alloc, args, &mut files, &mut out)
 }

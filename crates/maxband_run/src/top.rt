@@ -6,7 +6,8 @@ ghost use Rattle.maxband_run.specs.Status.{number_of};
 ghost use Rattle.maxband_run.specs.Command.{request_of, shape};
 ghost use Rattle.maxband_run.specs.Outside.{seen, OthersKept, PutsCounted};
 ghost use Rattle.maxband_run.specs.Run.{Ends, LeavesAlone};
-ghost use Rattle.maxband_run.specs.Laws.{OneAnswer, FaultsAreTold, SolveIsComplete, LinksAreComplete, MakeIsComplete, TrialIsComplete, SweepIsComplete, RenewIsComplete, PutIsAccepted, PutLinksAreAccepted, SolveSays, LinksSay, HelpSays, HoldSays, CheckSays, CheckLinksSays, RenewSays};
+ghost use Rattle.maxband_run.specs.Laws.{OneAnswer, FaultsAreTold, SolveIsComplete, LinksAreComplete, MakeIsComplete, TrialIsComplete, SweepIsComplete, RenewIsComplete};
+ghost use Rattle.maxband_run.specs.Laws.{PutIsAccepted, PutLinksAreAccepted, SolveSays, LinksSay, HelpSays, HoldSays, CheckSays, CheckLinksSays, RenewSays};
 ghost use Rattle.maxband_run.specs.PlanLaws.{BandsSay, DrawIsComplete, DrawSays, HalfSays, RoundFromIsComplete, RoundFromSays, RoundSays, PlanIsHeld, SweepSays, TimingIsComplete, TimingSays};
 ghost use Rattle.maxband_run.specs.StopLaws.{SolveStopSays, LinksStopSays, AllNeverStopsByWork, WordsAreTold, FaultsAreCounted};
 
