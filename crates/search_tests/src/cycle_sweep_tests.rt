@@ -7,12 +7,13 @@ ghost use Rattle.artery_model.specs.Bounds.{least_cycle, most_cycle};
 ghost use Rattle.artery_model.specs.Valid.{IsQuantity};
 ghost use Rattle.work_meter.specs.Work.{IsBelow};
 
-use cycle_sweep::{is_cycle, sweep_rows, sweep_table};
-use narrow_fraction::Frac;
+use artery_model::Artery;
+use cycle_sweep::{SweepRow, is_cycle, sweep_rows, sweep_table};
+use narrow_fraction::{Frac, Memory};
 use sample_streets::{SampleHead, plain_head, range};
 use std::alloc::Global;
 use std::test::Fail;
-use test_bed::two_signals;
+use test_bed::{fraction, two_signals};
 
 struct Case {
     /// The red of both signals, of 100 parts.
@@ -24,7 +25,7 @@ struct Case {
     table: &'static str,
 }
 
-const CASES: [Case; 7] = [
+static CASES: [Case; 7] = [
     Case {
         red: 50,
         work: 5000,
@@ -102,14 +103,39 @@ fn cycles_of(alloc: Global, numbers: &[(i128, i128)]) -> Result<Vec<Frac>, Fail>
     Ok(cycles)
 }
 
-fn table_of(alloc: Global, case: &Case) -> Result<Vec<u8>, Fail> {
+/// The rows, with nothing said of them.
+fn rows_of(
+    alloc: Global,
+    artery: &Artery,
+    limit: Option<u64>,
+    cycles: &[Frac],
+) -> Result<Vec<SweepRow>, Memory>
+    requires limit { IsBelow 0 limit }
+    requires cycles { All (IsQuantity least_cycle most_cycle) cycles.now }
+{
+    sweep_rows(alloc, artery, limit, cycles)
+}
+
+/// The table of a sweep over these cycles, with nothing said of it.
+fn swept(
+    alloc: Global,
+    artery: &Artery,
+    limit: Option<u64>,
+    cycles: &[Frac],
+) -> Result<Vec<u8>, Memory>
+    requires limit { IsBelow 0 limit }
+    requires cycles { All (IsQuantity least_cycle most_cycle) cycles.now }
+{
+    let rows = rows_of(alloc, artery, limit, cycles)?;
+    sweep_table(alloc, artery, rows.as_slice())
+}
+
+/// Whether the table of a case is as worked.
+fn is_as_worked(alloc: Global, case: &Case) -> Result<bool, Fail> {
     let artery = two_signals(alloc, head(), case.red, 250)?;
     let cycles = cycles_of(alloc, case.cycles)?;
-    let Ok(rows) = sweep_rows(alloc, &artery, limit_of(case.work), cycles.as_slice()) else {
-        return Err("no memory".into());
-    };
-    match sweep_table(alloc, &artery, rows.as_slice()) {
-        Ok(table) => Ok(table),
+    match swept(alloc, &artery, limit_of(case.work), cycles.as_slice()) {
+        Ok(table) => Ok(table.as_slice() == case.table.as_bytes()),
         Err(_) => Err("no memory".into()),
     }
 }
@@ -117,29 +143,32 @@ fn table_of(alloc: Global, case: &Case) -> Result<Vec<u8>, Fail> {
 #[test]
 fn tables_are_as_worked(rt: HostRuntime) -> Result<(), Fail> {
     for case in &CASES {
-        let table = table_of(rt.alloc(), case)?;
-        assert_eq!(rt; table.as_slice(), case.table.as_bytes());
+        assert!(rt; is_as_worked(rt.alloc(), case)?);
     }
     Ok(())
 }
 
+/// Numerators and denominators, and whether they are a cycle.
+static LIMITS: [(i128, i128, bool); 9] = [
+    (1, 1, true),
+    (999, 1000, false),
+    (3600, 1, true),
+    (36001, 10, false),
+    (1001, 1000, true),
+    (1002, 1001, false),
+    (100000, 999, true),
+    (100001, 999, false),
+    (-50, 1, false),
+];
+
+fn fits(num: i128, den: i128) -> Result<bool, Fail> {
+    Ok(is_cycle(fraction(num, den)?))
+}
+
 #[test]
 fn cycles_have_limits(rt: HostRuntime) -> Result<(), Fail> {
-    for (num, den, fits) in [
-        (1, 1, true),
-        (999, 1000, false),
-        (3600, 1, true),
-        (36001, 10, false),
-        (1001, 1000, true),
-        (1002, 1001, false),
-        (100000, 999, true),
-        (100001, 999, false),
-        (-50, 1, false),
-    ] {
-        match Frac::new(num, den) {
-            Ok(cycle) => assert_eq!(rt; is_cycle(cycle), fits, "{num}/{den}"),
-            Err(_) => return Err("no number".into()),
-        }
+    for (num, den, want) in LIMITS {
+        assert!(rt; fits(num, den)? == want);
     }
     Ok(())
 }

@@ -19,7 +19,7 @@ use sample_streets::{
 use search_box::SearchBox;
 use std::alloc::Global;
 use std::test::Fail;
-use test_bed::{Record, WHOLE_GREEN, fraction};
+use test_bed::{Record, WHOLE_GREEN, fraction_or_zero};
 use time_space::{Timing, holds};
 
 /// What differs between the arteries. The cycle is in seconds and has one length; a pair is outbound and inbound.
@@ -173,6 +173,19 @@ fn reported(alloc: Global, street: Street, times: &str) -> Result<Vec<u8>, Fail>
     best_report(alloc, &artery, timing)
 }
 
+/// Whether the report is that of these lines, of those of the links, and of the diagram.
+fn is_reported(
+    alloc: Global,
+    street: Street,
+    times: &str,
+    parts: [&'static str; 3],
+) -> Result<bool, Fail> {
+    let lines = reported(alloc, street, times)?;
+    let [report, links, diagram] = parts;
+    let expected = format!(in alloc; "{report}{links}diagram\n{diagram}")?;
+    Ok(lines.as_slice() == expected.as_bytes())
+}
+
 #[test]
 fn reports_of_timings(rt: HostRuntime) -> Result<(), Fail> {
     let cases = [
@@ -188,10 +201,8 @@ fn reports_of_timings(rt: HostRuntime) -> Result<(), Fail> {
         ),
         (FEET, NARROW, [NARROW_REPORT, FEET_LINKS, NARROW_DIAGRAM]),
     ];
-    for (street, times, [report, links, diagram]) in cases {
-        let lines = reported(rt.alloc(), street, times)?;
-        let expected = format!(in rt.alloc(); "{report}{links}diagram\n{diagram}")?;
-        assert_eq!(rt; lines.as_slice(), expected.as_bytes());
+    for (street, times, parts) in cases {
+        assert!(rt; is_reported(rt.alloc(), street, times, parts)?);
     }
     Ok(())
 }
@@ -239,7 +250,7 @@ fn wide_report(alloc: Global, artery: &Artery, part: SitePart) -> Result<Vec<u8>
         verdict: Verdict::Stopped(Stop::Wide(site)),
         nodes: Vec::new(alloc),
         timing: None,
-        bound: fraction(3, 4)?,
+        bound: fraction_or_zero(3, 4),
         spent: 9,
     };
     match report(alloc, artery, &found) {
@@ -259,15 +270,25 @@ fn around(alloc: Global, site: &str) -> Result<String, Fail> {
     )?)
 }
 
-#[test]
-fn sites_of_refused_operations(rt: HostRuntime) -> Result<(), Fail> {
-    let alloc = rt.alloc();
-    let street = artery(alloc, HALF_RED)?;
-    prove!(street.count() >= 2);
-    let half = fraction(1, 2)?;
-    let less = fraction(-2, 3)?;
+/// Whether a search that stopped at this operation is reported with these lines of its site.
+fn is_told(alloc: Global, artery: &Artery, part: SitePart, site: &str) -> Result<bool, Fail>
+    requires { IsPartOf artery.now part }
+{
+    let lines = wide_report(alloc, artery, part)?;
+    let expected = around(alloc, site)?;
+    Ok(lines.as_slice() == expected.as_bytes())
+}
+
+/// -2/3 times 5.
+fn product() -> Wide {
+    wide(Op::Mul, fraction_or_zero(-2, 3), Frac::whole(5))
+}
+
+/// Whether the sites of a ratio, of a pivot and of a leaf's sum are told.
+fn are_ends_told(alloc: Global, artery: &Artery) -> Result<bool, Fail> {
+    prove!(artery.count() >= 2);
+    let half = fraction_or_zero(1, 2);
     let five = Frac::whole(5);
-    let product = wide(Op::Mul, less, five);
     let ratio = SitePart::Ratio(WideCell {
         row: 3,
         col: 4,
@@ -276,9 +297,8 @@ fn sites_of_refused_operations(rt: HostRuntime) -> Result<(), Fail> {
     let cell = SitePart::Cell(WideCell {
         row: 0,
         col: 11,
-        wide: product,
+        wide: product(),
     });
-    let sum = wide(Op::Add, five, half);
     let leaf = SitePart::LeafSum {
         row: RowId {
             family: 1,
@@ -286,17 +306,30 @@ fn sites_of_refused_operations(rt: HostRuntime) -> Result<(), Fail> {
         },
         at: WideAt {
             place: Place::Cell(7),
-            wide: sum,
+            wide: wide(Op::Add, five, half),
         },
     };
-    let difference = wide(Op::Sub, half, less);
+    let is_ratio = is_told(alloc, artery, ratio, "site ratio 3 4\noperands div 1/2 5\n")?;
+    let is_cell = is_told(alloc, artery, cell, "site cell 0 11\noperands mul -2/3 5\n")?;
+    let is_leaf = is_told(
+        alloc,
+        artery,
+        leaf,
+        "site leaf wout 2 y_out 1\noperands add 5 1/2\n",
+    )?;
+    Ok(is_ratio && is_cell && is_leaf)
+}
+
+/// Whether the sites of a block sum, of a shift, of the unit and of a number are told.
+fn are_timings_told(alloc: Global, artery: &Artery) -> Result<bool, Fail> {
+    prove!(artery.count() >= 2);
     let block = SitePart::Timing(WideTiming::Sum {
         link: 1,
-        wide: difference,
+        wide: wide(Op::Sub, fraction_or_zero(1, 2), fraction_or_zero(-2, 3)),
     });
     let shift = SitePart::Timing(WideTiming::Product {
         column: 9,
-        wide: product,
+        wide: product(),
     });
     let unit = SitePart::Timing(WideTiming::Unit {
         left: 12,
@@ -306,40 +339,33 @@ fn sites_of_refused_operations(rt: HostRuntime) -> Result<(), Fail> {
         column: 2,
         ticks: 1 << 80,
     });
-    let cases = [
-        (
-            wide_report(alloc, &street, ratio)?,
-            "site ratio 3 4\noperands div 1/2 5\n",
-        ),
-        (
-            wide_report(alloc, &street, cell)?,
-            "site cell 0 11\noperands mul -2/3 5\n",
-        ),
-        (
-            wide_report(alloc, &street, leaf)?,
-            "site leaf wout 2 y_out 1\noperands add 5 1/2\n",
-        ),
-        (
-            wide_report(alloc, &street, block)?,
-            "site sum 1\noperands sub 1/2 -2/3\n",
-        ),
-        (
-            wide_report(alloc, &street, shift)?,
-            "site product s 1\noperands mul -2/3 5\n",
-        ),
-        (
-            wide_report(alloc, &street, unit)?,
-            "site unit\noperands lcm 12 1267650600228229401496703205376\n",
-        ),
-        (
-            wide_report(alloc, &street, number)?,
-            "site number z\noperands ticks 1208925819614629174706176\n",
-        ),
-    ];
-    for (lines, site) in cases {
-        let expected = around(alloc, site)?;
-        assert_eq!(rt; lines.as_slice(), expected.as_str().as_bytes());
-    }
+    let is_sum = is_told(alloc, artery, block, "site sum 1\noperands sub 1/2 -2/3\n")?;
+    let is_product = is_told(
+        alloc,
+        artery,
+        shift,
+        "site product s 1\noperands mul -2/3 5\n",
+    )?;
+    let is_unit = is_told(
+        alloc,
+        artery,
+        unit,
+        "site unit\noperands lcm 12 1267650600228229401496703205376\n",
+    )?;
+    let is_number = is_told(
+        alloc,
+        artery,
+        number,
+        "site number z\noperands ticks 1208925819614629174706176\n",
+    )?;
+    Ok(is_sum && is_product && is_unit && is_number)
+}
+
+#[test]
+fn sites_of_refused_operations(rt: HostRuntime) -> Result<(), Fail> {
+    let street = artery(rt.alloc(), HALF_RED)?;
+    assert!(rt; are_ends_told(rt.alloc(), &street)?);
+    assert!(rt; are_timings_told(rt.alloc(), &street)?);
     Ok(())
 }
 
@@ -355,61 +381,70 @@ fn is_row(alloc: Global, family: u8, index: u32, name: &str) -> Result<bool, Fai
     Ok(row.as_str() == name)
 }
 
+/// The columns of two signals and their names; the one after the last has none.
+static COLUMNS: [(u32, &str); 14] = [
+    (0, "b_out"),
+    (1, "b_in"),
+    (2, "z"),
+    (3, "w_out 1"),
+    (4, "w_out 2"),
+    (5, "w_in 1"),
+    (6, "w_in 2"),
+    (7, "y_out 1"),
+    (8, "y_in 1"),
+    (9, "s 1"),
+    (10, "s 2"),
+    (11, "h_out 1"),
+    (12, "h_in 1"),
+    (13, ""),
+];
+
 #[test]
-fn names_of_rows_and_places(rt: HostRuntime) -> Result<(), Fail> {
-    let alloc = rt.alloc();
-    let columns = [
-        (0, "b_out"),
-        (1, "b_in"),
-        (2, "z"),
-        (3, "w_out 1"),
-        (4, "w_out 2"),
-        (5, "w_in 1"),
-        (6, "w_in 2"),
-        (7, "y_out 1"),
-        (8, "y_in 1"),
-        (9, "s 1"),
-        (10, "s 2"),
-        (11, "h_out 1"),
-        (12, "h_in 1"),
-        (13, ""),
-    ];
-    for (number, name) in columns {
-        assert!(rt; is_column(alloc, number, name)?, "{name}");
+fn names_of_places(rt: HostRuntime) -> Result<(), Fail> {
+    for (number, name) in COLUMNS {
+        assert!(rt; is_column(rt.alloc(), number, name)?);
     }
-    assert_eq!(rt; place_text(alloc, 2, Place::Bound)?.as_str(), "bound");
-    let rows = [
-        (1, 2, "wout 2"),
-        (10, 1, "drop_in 1"),
-        (11, 0, "cycle_low"),
-        (17, 2, "turn_hi 2"),
-        (18, 0, "least_out"),
-        (21, 0, "equal_hi"),
-    ];
-    for (family, index, name) in rows {
-        assert!(rt; is_row(alloc, family, index, name)?, "{name}");
+    assert!(rt; place_text(rt.alloc(), 2, Place::Bound)?.as_str() == "bound");
+    Ok(())
+}
+
+/// Families, indices and names.
+static ROWS: [(u8, u32, &str); 6] = [
+    (1, 2, "wout 2"),
+    (10, 1, "drop_in 1"),
+    (11, 0, "cycle_low"),
+    (17, 2, "turn_hi 2"),
+    (18, 0, "least_out"),
+    (21, 0, "equal_hi"),
+];
+
+#[test]
+fn names_of_rows(rt: HostRuntime) -> Result<(), Fail> {
+    for (family, index, name) in ROWS {
+        assert!(rt; is_row(rt.alloc(), family, index, name)?);
     }
     Ok(())
 }
 
+static TABLE: [FamilyName; 2] = [
+    FamilyName {
+        text: "alone",
+        is_lone: true,
+    },
+    FamilyName {
+        text: "several",
+        is_lone: false,
+    },
+];
+
+fn is_row_of_table(alloc: Global, family: u8, index: u32, name: &str) -> Result<bool, Fail> {
+    let row = row_text_in(alloc, &TABLE, RowId { family, index })?;
+    Ok(row.as_str() == name)
+}
+
 #[test]
 fn names_of_rows_over_a_table(rt: HostRuntime) -> Result<(), Fail> {
-    let alloc = rt.alloc();
-    let table = [
-        FamilyName {
-            text: "alone",
-            is_lone: true,
-        },
-        FamilyName {
-            text: "several",
-            is_lone: false,
-        },
-    ];
-    for (family, index, name) in [(1, 0, "alone"), (2, 7, "several 7")] {
-        assert_eq!(rt;
-            row_text_in(alloc, &table, RowId { family, index })?.as_str(),
-            name
-        );
-    }
+    assert!(rt; is_row_of_table(rt.alloc(), 1, 0, "alone")?);
+    assert!(rt; is_row_of_table(rt.alloc(), 2, 7, "several 7")?);
     Ok(())
 }

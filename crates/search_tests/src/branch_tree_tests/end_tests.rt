@@ -1,15 +1,15 @@
 //! What the ends of the two streets of `tests` show: their leaves and vertices, worked by hand.
 
-use super::tests::artery;
+use super::tests::{artery, searched};
 use branch_tree::{Found, TreeNode, search};
 use named_row::{Leaf, RowId, Weight};
 use narrow_fraction::Frac;
 use std::rt::HostRuntime;
 use std::test::Fail;
-use test_bed::fraction;
+use test_bed::fraction_or_zero;
 
 /// Whether a leaf has these rows, each once.
-fn has_rows(leaf: &Leaf, rows: [(u8, u32); 2]) -> bool {
+pub(crate) fn has_rows(leaf: &Leaf, rows: [(u8, u32); 2]) -> bool {
     match leaf.multipliers.as_slice() {
         [first, second] => is_row(first, rows[0]) && is_row(second, rows[1]),
         _ => false,
@@ -23,7 +23,7 @@ fn is_row(weight: &Weight, row: (u8, u32)) -> bool {
 }
 
 /// The first waits' rows, and the two sides of the block sum.
-const WAITS: [(u8, u32); 2] = [(1, 1), (2, 1)];
+pub(crate) const WAITS: [(u8, u32); 2] = [(1, 1), (2, 1)];
 
 const LOOP: [(u8, u32); 2] = [(14, 1), (15, 1)];
 
@@ -48,32 +48,50 @@ fn leaves_of_the_root(rt: HostRuntime) -> Result<(), Fail> {
     Ok(())
 }
 
+/// A fraction: its numerator and its denominator.
+pub(crate) type Number = (i128, i128);
+
+/// The values of the vertex.
+static VERTEX: [Number; 11] = [
+    (1, 2),
+    (1, 2),
+    (1, 100),
+    (0, 1),
+    (0, 1),
+    (0, 1),
+    (0, 1),
+    (1, 4),
+    (1, 4),
+    (0, 1),
+    (0, 1),
+];
+
+/// Whether these are the values, as many and in this order.
+fn are_values(values: &[Frac], wanted: &[Number]) -> bool {
+    if values.len() != wanted.len() {
+        return false;
+    }
+    for (value, number) in values.iter().zip(wanted.iter()) {
+        if *value != fraction_or_zero(number.0, number.1) {
+            return false;
+        }
+    }
+    true
+}
+
+/// Whether the root is split at a vertex of these values.
+fn is_split_at(found: &Found, wanted: &[Number]) -> bool {
+    match found.nodes.as_slice() {
+        [TreeNode::Split { point, .. }, ..] => are_values(point.values.as_slice(), wanted),
+        _ => false,
+    }
+}
+
 #[test]
 fn vertex_of_the_shared_green(rt: HostRuntime) -> Result<(), Fail> {
     let alloc = rt.alloc();
     let artery = artery(alloc, 50, 250)?;
-    let found = search(alloc, &artery, Some(15)).ok().ok_or("no memory")?;
-    let (half, quarter, zero) = (fraction(1, 2)?, fraction(1, 4)?, Frac::whole(0));
-    let expected = [
-        half,
-        half,
-        fraction(1, 100)?,
-        zero,
-        zero,
-        zero,
-        zero,
-        quarter,
-        quarter,
-        zero,
-        zero,
-    ];
-    let values = match found.nodes.as_slice() {
-        [TreeNode::Split { point, .. }, ..] => point.values.as_slice(),
-        _ => return Err("the root is no split".into()),
-    };
-    assert!(rt; values.len() == expected.len());
-    for (value, wanted) in values.iter().zip(expected.iter()) {
-        assert!(rt; *value == *wanted);
-    }
+    let found = searched(alloc, &artery, 15)?;
+    assert!(rt; is_split_at(&found, &VERTEX));
     Ok(())
 }

@@ -5,16 +5,16 @@
 ghost use Rattle.std.specs.Prelude.{◌<◌, IfOk};
 ghost use Rattle.branch_tree.specs.Told.{IsCertifiable};
 
+use super::end_tests::{Number, WAITS, has_rows};
 use artery_model::Artery;
 use branch_tree::{Found, Stop, TreeNode, Verdict, certificate_of, search};
 use certificate_checker::check;
-use named_row::RowId;
 use narrow_fraction::Frac;
 use sample_streets::{SampleHead, plain_head};
 use std::alloc::Global;
 use std::rt::HostRuntime;
 use std::test::Fail;
-use test_bed::{fraction, two_signals, with_least};
+use test_bed::{fraction_or_zero, two_signals, with_least};
 use time_space::value;
 
 pub(crate) fn artery(alloc: Global, red: u32, distance: u32) -> Result<Artery, Fail> {
@@ -45,14 +45,22 @@ fn is_best(found: &Found) -> bool {
     matches!(&found.verdict, Verdict::Best)
 }
 
-fn is_none(found: &Found) -> bool {
-    matches!(&found.verdict, Verdict::NoTiming)
+fn has_no_timing(found: &Found) -> bool {
+    matches!(&found.verdict, Verdict::NoTiming) && found.timing.is_none()
+}
+
+/// The units that a stop by work names, and 0 for another stop.
+fn units_at(stop: &Stop) -> u64 {
+    match stop {
+        Stop::Work { spent } => *spent,
+        Stop::Wide(_) => 0,
+    }
 }
 
 /// The units at a stop by work, and 0 for any other end.
 fn units(found: &Found) -> u64 {
     match &found.verdict {
-        Verdict::Stopped(Stop::Work { spent }) => *spent,
+        Verdict::Stopped(stop) => units_at(stop),
         _ => 0,
     }
 }
@@ -65,15 +73,17 @@ fn band(artery: &Artery, found: &Found) -> Frac {
     }
 }
 
+/// Whether a search ended with this bound and a timing of this value, or with none and -1; its certificate is accepted.
+fn ends_with(alloc: Global, artery: &Artery, found: &Found, bound: Frac, kept: Frac) -> bool
+    requires { IsCertifiable found.now }
+{
+    found.bound == bound && band(artery, found) == kept && is_accepted(alloc, artery, found)
+}
+
 /// Whether a search finds a best timing of this value, with a certificate that is accepted.
 fn finds_best(alloc: Global, artery: &Artery, best: Frac) -> Result<bool, Fail> {
     let found = searched(alloc, artery, 1000)?;
-    Ok(
-        is_best(&found)
-            && found.bound == best
-            && band(artery, &found) == best
-            && is_accepted(alloc, artery, &found),
-    )
+    Ok(is_best(&found) && ends_with(alloc, artery, &found, best, best))
 }
 
 /// Whether a search within this limit spends all of it and stops with this bound and a timing of this value, or with none and -1; its
@@ -88,12 +98,7 @@ fn stops_with(
     requires { 0 < limit }
 {
     let found = searched(alloc, artery, limit)?;
-    Ok(
-        units(&found) == limit
-            && found.bound == bound
-            && band(artery, &found) == kept
-            && is_accepted(alloc, artery, &found),
-    )
+    Ok(units(&found) == limit && ends_with(alloc, artery, &found, bound, kept))
 }
 
 #[test]
@@ -108,7 +113,7 @@ fn the_whole_green_is_best(rt: HostRuntime) -> Result<(), Fail> {
 fn a_shared_green_is_best(rt: HostRuntime) -> Result<(), Fail> {
     let alloc = rt.alloc();
     let artery = artery(alloc, 50, 250)?;
-    let half = fraction(1, 2)?;
+    let half = fraction_or_zero(1, 2);
     let found = searched(alloc, &artery, 15)?;
     assert!(rt; is_best(&found));
     assert!(rt; found.bound == half);
@@ -133,10 +138,9 @@ fn equal(ratio: i64) -> SampleHead {
 #[test]
 fn equal_bands_are_best(rt: HostRuntime) -> Result<(), Fail> {
     let alloc = rt.alloc();
-    let cases = [(1, fraction(1, 2)?), (2, fraction(3, 4)?)];
-    for (ratio, best) in cases {
+    for (ratio, num, den) in [(1, 1, 2), (2, 3, 4)] {
         let artery = two_signals(alloc, equal(ratio), 50, 250)?;
-        assert!(rt; finds_best(alloc, &artery, best)?);
+        assert!(rt; finds_best(alloc, &artery, fraction_or_zero(num, den))?);
     }
     Ok(())
 }
@@ -145,48 +149,51 @@ fn equal_bands_are_best(rt: HostRuntime) -> Result<(), Fail> {
 #[test]
 fn least_bands_leave_no_timing(rt: HostRuntime) -> Result<(), Fail> {
     let alloc = rt.alloc();
-    let least = fraction(3, 10)?;
-    let artery = two_signals(alloc, with_least(least), 50, 250)?;
+    let least = with_least(fraction_or_zero(3, 10));
+    let artery = two_signals(alloc, least, 50, 250)?;
     let found = searched(alloc, &artery, 1000)?;
-    assert!(rt; is_none(&found));
-    assert!(rt; found.timing.is_none());
+    assert!(rt; has_no_timing(&found));
     assert!(rt; is_accepted(alloc, &artery, &found));
     Ok(())
 }
 
+/// Searches that stop by work: the red, the units, the bound, and the value of the timing that is kept, or -1.
+static STOPS: [(u32, u64, Number, Number); 4] = [
+    (50, 14, (1, 1), (1, 2)),
+    (50, 4, (1, 1), (-1, 1)),
+    (50, 1, (1, 1), (-1, 1)),
+    (80, 4, (2, 5), (-1, 1)),
+];
+
+/// Whether a search of the shorter artery with this red stops so.
+fn stops_so(
+    alloc: Global,
+    red: u32,
+    limit: u64,
+    bound: Number,
+    kept: Number,
+) -> Result<bool, Fail> {
+    let artery = artery(alloc, red, 250)?;
+    if limit == 0 {
+        return Ok(false);
+    }
+    let bound = fraction_or_zero(bound.0, bound.1);
+    let kept = fraction_or_zero(kept.0, kept.1);
+    stops_with(alloc, &artery, limit, bound, kept)
+}
+
 #[test]
 fn work_runs_out(rt: HostRuntime) -> Result<(), Fail> {
-    let alloc = rt.alloc();
-    let artery = artery(alloc, 50, 250)?;
-    let (one, none) = (Frac::whole(1), Frac::whole(-1));
-    let half = fraction(1, 2)?;
-    assert!(rt; stops_with(alloc, &artery, 14, one, half)?);
-    assert!(rt; stops_with(alloc, &artery, 4, one, none)?);
-    assert!(rt; stops_with(alloc, &artery, 1, one, none)?);
+    for (red, limit, bound, kept) in STOPS {
+        assert!(rt; stops_so(rt.alloc(), red, limit, bound, kept)?);
+    }
     Ok(())
 }
 
 /// Whether a node is a waiting leaf of the first waits' rows, each once.
 pub(crate) fn is_first_waits(node: &TreeNode) -> bool {
-    let one = Frac::whole(1);
     match node {
-        TreeNode::Waiting { leaf } => match leaf.multipliers.as_slice() {
-            [outbound, inbound] => {
-                outbound.row
-                    == RowId {
-                        family: 1,
-                        index: 1,
-                    }
-                    && outbound.by == one
-                    && inbound.row
-                        == RowId {
-                            family: 2,
-                            index: 1,
-                        }
-                    && inbound.by == one
-            }
-            _ => false,
-        },
+        TreeNode::Waiting { leaf } => has_rows(leaf, WAITS),
         _ => false,
     }
 }
@@ -222,8 +229,6 @@ fn long_reds_leave_no_timing(rt: HostRuntime) -> Result<(), Fail> {
     let alloc = rt.alloc();
     let artery = artery(alloc, 80, 250)?;
     let found = searched(alloc, &artery, 5)?;
-    assert!(rt; is_none(&found));
-    assert!(rt; found.timing.is_none());
-    assert!(rt; stops_with(alloc, &artery, 4, fraction(2, 5)?, Frac::whole(-1))?);
+    assert!(rt; has_no_timing(&found));
     Ok(())
 }

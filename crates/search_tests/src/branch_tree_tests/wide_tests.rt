@@ -16,14 +16,14 @@ use sample_streets::{SampleHead, SampleLink, plain_head, plain_link, plain_signa
 use std::alloc::Global;
 use std::rt::HostRuntime;
 use std::test::Fail;
-use test_bed::fraction;
+use test_bed::fraction_or_zero;
 
 /// The speeds in thousandths of a kilometre an hour, and the cycle in thousandths of a second.
-const PRIMES: [u32; 5] = [99991, 99989, 99971, 99961, 99929];
+const PRIMES: [i128; 5] = [99991, 99989, 99971, 99961, 99929];
 
 /// A number of thousandths.
-fn thousandths(number: u32) -> Result<Frac, Fail> {
-    fraction(i128::from(number), 1000)
+fn thousandths(number: i128) -> Frac {
+    fraction_or_zero(number, 1000)
 }
 
 /// A range of this number alone.
@@ -34,31 +34,31 @@ fn pair_of(number: Frac) -> Pair {
     }
 }
 
-fn link(speed_out: u32, speed_in: u32) -> Result<SampleLink, Fail> {
-    Ok(SampleLink {
-        speed_out: pair_of(thousandths(speed_out)?),
-        speed_in: pair_of(thousandths(speed_in)?),
+fn link(speed_out: i128, speed_in: i128) -> SampleLink {
+    SampleLink {
+        speed_out: pair_of(thousandths(speed_out)),
+        speed_in: pair_of(thousandths(speed_in)),
         ..plain_link(1387)
-    })
+    }
 }
 
 /// The cycle has so many thousandths of a second.
-fn head(cycle: u32) -> Result<SampleHead, Fail> {
-    Ok(SampleHead {
-        cycle: pair_of(thousandths(cycle)?),
+fn head(cycle: i128) -> SampleHead {
+    SampleHead {
+        cycle: pair_of(thousandths(cycle)),
         ..plain_head()
-    })
+    }
 }
 
 fn street(alloc: Global) -> Result<Artery, Fail> {
     let [first_out, first_in, second_out, second_in, cycle] = PRIMES;
-    let head = head(cycle)?;
+    let head = head(cycle);
     let signals = [
         plain_signal("A", 60),
         plain_signal("B", 60),
         plain_signal("C", 60),
     ];
-    let links = [link(first_out, first_in)?, link(second_out, second_in)?];
+    let links = [link(first_out, first_in), link(second_out, second_in)];
     match sample_street(alloc, head, &signals, &links) {
         Ok(artery) => Ok(artery),
         Err(_) => Err("no artery".into()),
@@ -66,21 +66,21 @@ fn street(alloc: Global) -> Result<Artery, Fail> {
 }
 
 /// One over a number of thousandths.
-fn per(number: u32) -> Result<Frac, Fail> {
-    fraction(1000, i128::from(number))
+fn per(number: i128) -> Frac {
+    fraction_or_zero(1000, number)
 }
 
 /// The part of a cycle that 1387 metres take: 4993.2 over the speed and the cycle.
-fn run(speed: u32, cycle: u32) -> Result<Frac, Fail> {
-    let slow = fraction(49932, 10)?.times(per(speed)?);
+fn run(speed: i128, cycle: i128) -> Result<Frac, Fail> {
+    let slow = fraction_or_zero(49932, 10).times(per(speed));
     let seconds = slow.ok().ok_or("no time")?;
-    Ok(seconds.times(per(cycle)?).ok().ok_or("no part of a cycle")?)
+    Ok(seconds.times(per(cycle)).ok().ok_or("no part of a cycle")?)
 }
 
 /// The four runs less 6/5.
 fn root_bound() -> Result<Frac, Fail> {
     let [first_out, first_in, second_out, second_in, cycle] = PRIMES;
-    let mut bound = fraction(-6, 5)?;
+    let mut bound = fraction_or_zero(-6, 5);
     for speed in [first_out, first_in, second_out, second_in] {
         bound = bound.plus(run(speed, cycle)?).ok().ok_or("no sum")?;
     }
@@ -103,8 +103,8 @@ fn operands(part: SitePart) -> (u128, u128) {
     }
 }
 
-fn is_factor(prime: u32, number: u128) -> bool {
-    prime != 0 && number != 0 && number % u128::from(prime) == 0
+fn is_factor(prime: i128, number: u128) -> bool {
+    prime != 0 && number != 0 && number % prime.unsigned_abs() == 0
 }
 
 #[test]
