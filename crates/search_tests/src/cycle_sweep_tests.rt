@@ -8,7 +8,7 @@ ghost use Rattle.artery_model.specs.Valid.{IsQuantity};
 ghost use Rattle.work_meter.specs.Work.{IsBelow};
 
 use artery_model::Artery;
-use cycle_sweep::{SweepRow, is_cycle, sweep_rows, sweep_table};
+use cycle_sweep::{is_cycle, sweep_rows, sweep_table};
 use narrow_fraction::{Frac, Memory};
 use sample_streets::{SampleHead, plain_head, range};
 use std::alloc::Global;
@@ -103,30 +103,17 @@ fn cycles_of(alloc: Global, numbers: &[(i128, i128)]) -> Result<Vec<Frac>, Fail>
     Ok(cycles)
 }
 
-/// The rows, with nothing said of them.
-fn rows_of(
-    alloc: Global,
-    artery: &Artery,
-    limit: Option<u64>,
-    cycles: &[Frac],
-) -> Result<Vec<SweepRow>, Memory>
-    requires limit { IsBelow 0 limit }
-    requires cycles { All (IsQuantity least_cycle most_cycle) cycles.now }
-{
-    sweep_rows(alloc, artery, limit, cycles)
-}
-
 /// The table of a sweep over these cycles, with nothing said of it.
 fn swept(
     alloc: Global,
     artery: &Artery,
-    limit: Option<u64>,
     cycles: &[Frac],
+    limit: Option<u64>,
 ) -> Result<Vec<u8>, Memory>
-    requires limit { IsBelow 0 limit }
     requires cycles { All (IsQuantity least_cycle most_cycle) cycles.now }
+    requires limit { IsBelow 0 limit }
 {
-    let rows = rows_of(alloc, artery, limit, cycles)?;
+    let rows = sweep_rows(alloc, artery, limit, cycles)?;
     sweep_table(alloc, artery, rows.as_slice())
 }
 
@@ -134,7 +121,7 @@ fn swept(
 fn is_as_worked(alloc: Global, case: &Case) -> Result<bool, Fail> {
     let artery = two_signals(alloc, head(), case.red, 250)?;
     let cycles = cycles_of(alloc, case.cycles)?;
-    match swept(alloc, &artery, limit_of(case.work), cycles.as_slice()) {
+    match swept(alloc, &artery, cycles.as_slice(), limit_of(case.work)) {
         Ok(table) => Ok(table.as_slice() == case.table.as_bytes()),
         Err(_) => Err("no memory".into()),
     }

@@ -18,12 +18,12 @@ parts 50 50
 left 0
 patterns 1
 clear 0
+run_out 100
+run_in 100
 grid 2
 unit 2
 pattern 1 1
 red 0 100
-run_out 100
-run_in 100
 first 0 0
 band 100 100
 ";
@@ -91,17 +91,17 @@ fn timing(alloc: Global, record: Record<'_>) -> Result<Timing, Fail> {
     }
 }
 
-/// The timing's half-cycle plan, with nothing said of it.
-fn halved(alloc: Global, artery: &Artery, timing: &Timing) -> Result<Option<Timing>, HalfFault> {
-    half(alloc, artery, timing)
-}
-
 fn told(alloc: Global, halved: Result<Option<Timing>, HalfFault>) -> Result<String, AllocError> {
     match halved {
         Ok(Some(plan)) => format!(in alloc; "band {}", plan.band(Dir::Inbound)),
         Ok(None) => String::from_str(alloc, "no bands"),
         Err(fault) => format!(in alloc; "{fault:?}"),
     }
+}
+
+/// The timing's half-cycle plan, with nothing said of it.
+fn halved(alloc: Global, artery: &Artery, timing: &Timing) -> Result<Option<Timing>, HalfFault> {
+    half(alloc, artery, timing)
 }
 
 /// Tells the half-cycle plan of a street's timing.
