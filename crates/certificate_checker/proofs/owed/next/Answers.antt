@@ -1,4 +1,4 @@
-use Rattle.std.proofs.Common.{◌≡◌, Bool, true, false, not, drop, refl, sym, ◌∙◌, ap, subst}
+use Rattle.std.proofs.Common.{◌≡◌, Bool, true, false, not, drop, refl, sym, ◌∙◌, ap, subst, rules}
 use Rattle.certificate_checker.specs.Owed.{AreSplits, waiting}
 use Rattle.certificate_checker.proofs.Ways.{high_in, high_owed}
 use Rattle.certificate_checker.proofs.owed.next.Goals as goal
@@ -19,3 +19,6 @@ pub returns-then-not-entry-clause-splits : goal.returns-then-not-entry-clause-sp
 returns-then-not-entry-clause-splits c =
     let box = c.loop-entry.area in
     rw (c.to_high.ensures.high, c.replace.ensures) (high_in box c.in-Some.entry (drop 1 c.loop-entry.way) (subst (AreSplits box) c.in-Some.ensures c.loop-entry.invariant.splits))
+
+pub loop-entry-preserved : goal.loop-entry-preserved
+loop-entry-preserved c = search rules
