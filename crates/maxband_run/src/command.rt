@@ -189,11 +189,11 @@ fn round_from_of<'a>(
     artery: &'a str,
     certificate: &'a str,
     other: &'a str,
-    left: &'a [String],
+    words: &'a [String],
 ) -> Option<Command<'a>>
-    ensures { option_map view result ≡ round_from_of artery.now certificate.now other.now (map string_bytes left.now) }
+    ensures { option_map view result ≡ round_from_of artery.now certificate.now other.now (map string_bytes words.now) }
 {
-    match left {
+    match words {
         [plan] => Some(Command::RoundFrom(artery, certificate, other, plan.as_str())),
         _ => None,
     }

@@ -48,13 +48,6 @@ fn words(alloc: Global, args: io::Result<env::Args>) -> Result<Vec<String>, u8>
     }
 }
 
-/// The exit status of this number.
-fn exit_of(number: u8) -> ExitCode
-    ensures { exit_status result ≡ number }
-{
-    ExitCode::from(number)
-}
-
 /// `run` with these words, and its number as the exit status.
 fn exit_of_run<F: Files, K: Sink>(
     alloc: Global,
@@ -64,7 +57,7 @@ fn exit_of_run<F: Files, K: Sink>(
 ) -> ExitCode
     ensures { ExitsBy F.Files K.Sink files.old files.new out.old out.new (map string_bytes words.now) (exit_status result) }
 {
-    exit_of(run(alloc, words, files, out).number)
+    ExitCode::from(run(alloc, words, files, out).number)
 }
 
 /// The program over any files and any output, from the system's answer to which words it was called with: `run` with all of them but
@@ -82,7 +75,7 @@ pub fn run_program<F: Files, K: Sink>(
 {
     match words(alloc, args) {
         Ok(words) => exit_of_run(alloc, words.as_slice(), files, out),
-        Err(number) => exit_of(number),
+        Err(number) => ExitCode::from(number),
     }
 }
 
@@ -91,7 +84,7 @@ pub fn maxband_main<R: Env + rt::Files + Print + AllocGlobal + Clone + Drop>(rt:
     let alloc = rt.alloc();
     let args = env::args(rt);
     let (Ok(mut files), Ok(mut out)) = (RealFiles::new(rt, alloc), RealOut::new(rt, alloc)) else {
-        return exit_of(no_memory());
+        return ExitCode::from(no_memory());
     };
     run_program(alloc, args, &mut files, &mut out)
 }
