@@ -10,8 +10,8 @@ use Rattle.search_box.specs.Places.{IsPlace}
 use Rattle.named_row.specs.declared.leaves.Leaf.{Leaf}
 use Rattle.branch_and_bound.specs.Lines.{BoxLine, top_line, low_line, high_line, owed, Fills, line_after}
 use Rattle.branch_and_bound.proofs.Walks.{Fills-both}
-use Rattle.plan_text.specs.Families.{Table}
-use Rattle.plan_text.specs.Warrants.{IsNodeIn, SplitAt, LeafOf}
+use Rattle.certificate_model.specs.Families.{Table}
+use Rattle.certificate_model.specs.Warrants.{IsNodeIn, SplitAt, LeafOf}
 use Rattle.branch_and_bound.specs.Lineages.{at_top, at_low, at_high}
 use Rattle.branch_and_bound.specs.Rules.{Rules, IsMet}
 use Rattle.branch_and_bound.specs.declared.incumbent.Incumbent.{Incumbent}

@@ -3,9 +3,9 @@ use Rattle.std.proofs.Common.{◌≡◌, ℕ, List, [], ◌∷◌, length, map, 
 use Rattle.rational_theory.specs.Rational.{ℚ}
 use Rattle.linear_theory.specs.Boxes.{Area}
 use Rattle.search_box.specs.Places.{low_part, high_part}
-use Rattle.plan_text.specs.Families.{Table}
-use Rattle.plan_text.specs.declared.certificate.Claim.{Claim}
-use Rattle.plan_text.specs.Warrants.{Node, SplitAt, LeafOf, WarrantWith, AreTrees, HasTiming, IsCertificateIn}
+use Rattle.certificate_model.specs.Families.{Table}
+use Rattle.certificate_model.specs.declared.certificate.Claim.{Claim}
+use Rattle.certificate_model.specs.Warrants.{Node, SplitAt, LeafOf, WarrantWith, AreTrees, HasTiming, IsCertificateIn}
 use Rattle.named_row.specs.declared.leaves.Weight.{Weight}
 use Rattle.certificate_checker.specs.TreeProofs.{ProveAll}
 use Rattle.certificate_checker.specs.Accepted as accepted

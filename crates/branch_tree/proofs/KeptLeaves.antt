@@ -22,9 +22,9 @@ use Rattle.program_builder.specs.RowOrder.{IsAscending}
 use Rattle.program_builder.proofs.RowOrder.{rows_ascending, rows_there}
 use Rattle.program_builder.proofs.RowCounts.{rows_most}
 use Rattle.dual_leaf.specs.Leaves.{multiplier, multipliers_below}
-use Rattle.plan_text.specs.Families.{Table, IsNamedIn, IsNamed, ordinary, is_after}
-use Rattle.plan_text.specs.Warrants.{Ascend, IsNodeIn, LeafOf}
-use Rattle.plan_text.proofs.KeptNodes.{IsNode}
+use Rattle.certificate_model.specs.Families.{Table, IsNamedIn, IsNamed, ordinary, is_after}
+use Rattle.certificate_model.specs.Warrants.{Ascend, IsNodeIn, LeafOf}
+use Rattle.certificate_model.proofs.KeptNodes.{IsNode}
 use Rattle.branch_tree.specs.Program.{Program}
 use Rattle.branch_tree.specs.ArteryProgram.{program_of}
 use Rattle.branch_tree.specs.Ends.{named_last, end_move, leaf_by, end_leaf}

@@ -2,7 +2,7 @@
 -- accepted.
 use Rattle.std.proofs.Common.{◌≡◌, ℕ, List, [], ◌∷◌, map, Option, Some, None, IfSome, option_map, subst}
 use Rattle.rational_theory.specs.Rational.{ℚ}
-use Rattle.plan_text.specs.Warrants.{Node, WarrantWith}
+use Rattle.certificate_model.specs.Warrants.{Node, WarrantWith}
 use Rattle.certificate_checker.specs.TreeProofs.{ProveAll}
 use Rattle.branch_and_bound.specs.Answer.{IsFound}
 use Rattle.branch_and_bound.specs.Enough.{IsEnough}

@@ -4,10 +4,10 @@ use Rattle.progression.specs.Street.{Street}
 use Rattle.progression.specs.TimingRecord.{TimingRecord}
 use Rattle.artery_model.specs.Valid.{IsValid}
 use Rattle.linear_theory.specs.Boxes.{IsBoxOf, root_box}
-use Rattle.plan_text.specs.Warrants.{LeafOf, Warrant}
-use Rattle.plan_text.proofs.KeptNodes.{IsNode}
-use Rattle.plan_text.specs.declared.certificate.Claim.{Claim}
-use Rattle.plan_text.specs.declared.certificate.Claim.TheVariants.{Best, NoTiming, Stopped}
+use Rattle.certificate_model.specs.Warrants.{LeafOf, Warrant}
+use Rattle.certificate_model.proofs.KeptNodes.{IsNode}
+use Rattle.certificate_model.specs.declared.certificate.Claim.{Claim}
+use Rattle.certificate_model.specs.declared.certificate.Claim.TheVariants.{Best, NoTiming, Stopped}
 use Rattle.named_row.specs.declared.leaves.Leaf.{Leaf}
 use Rattle.certificate_checker.specs.Accepted.{value_of, limit_of, IsTimed, IsBoundAbove, AreProofs, IsAccepted}
 use Rattle.certificate_checker.specs.Claims.{ClaimHolds}

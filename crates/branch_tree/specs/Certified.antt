@@ -4,11 +4,11 @@ use Rattle.rational_theory.specs.Rational.{ℚ}
 use Rattle.progression.specs.Street.{Street}
 use Rattle.progression.specs.TimingRecord.{TimingRecord}
 use Rattle.progression.specs.Best.{weighted_band}
-use Rattle.plan_text.specs.Warrants as warrants
-use Rattle.plan_text.specs.Warrants.{Warrant, WarrantWith}
-use Rattle.plan_text.specs.declared.certificate.CertNode.{CertNode}
-use Rattle.plan_text.specs.declared.certificate.Claim.{Claim}
-use Rattle.plan_text.specs.declared.certificate.Claim.TheVariants as claim
+use Rattle.certificate_model.specs.Warrants as warrants
+use Rattle.certificate_model.specs.Warrants.{Warrant, WarrantWith}
+use Rattle.certificate_model.specs.declared.certificate.CertNode.{CertNode}
+use Rattle.certificate_model.specs.declared.certificate.Claim.{Claim}
+use Rattle.certificate_model.specs.declared.certificate.Claim.TheVariants as claim
 use Rattle.branch_and_bound.specs.declared.found.Found as engine
 use Rattle.branch_and_bound.specs.declared.found.Verdict.{Verdict}
 use Rattle.branch_and_bound.specs.declared.found.Verdict.TheVariants.{Best, NoTiming, Stopped}

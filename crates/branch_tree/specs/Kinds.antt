@@ -5,10 +5,10 @@ use Rattle.rational_theory.specs.Rational.{ℚ, ◌≤ℚ◌}
 use Rattle.linear_theory.specs.Boxes.{Area}
 use Rattle.named_row.specs.declared.leaves.Leaf.{Leaf}
 use Rattle.named_row.specs.declared.leaves.Weight.{Weight}
-use Rattle.plan_text.specs.Families.{Table}
-use Rattle.plan_text.specs.Warrants.{WarrantWith, IsNodeIn, LeafOf}
-use Rattle.plan_text.specs.declared.certificate.Claim.{Claim}
-use Rattle.plan_text.specs.declared.certificate.Claim.TheVariants as claim
+use Rattle.certificate_model.specs.Families.{Table}
+use Rattle.certificate_model.specs.Warrants.{WarrantWith, IsNodeIn, LeafOf}
+use Rattle.certificate_model.specs.declared.certificate.Claim.{Claim}
+use Rattle.certificate_model.specs.declared.certificate.Claim.TheVariants as claim
 use Rattle.certificate_checker.specs.Accepted as checker
 use Rattle.certificate_checker.specs.Accepted.{limit_of, IsTimedBy, IsBoundAbove}
 use Rattle.certificate_checker.specs.TreeProofs.{ProveAll}

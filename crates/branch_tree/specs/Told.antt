@@ -4,8 +4,8 @@ use Rattle.rational_theory.specs.Rational.{ℚ, ◌≤ℚ◌}
 use Rattle.progression.specs.Street.{Street}
 use Rattle.progression.specs.TimingRecord.{TimingRecord}
 use Rattle.progression.specs.Best.{weighted_band}
-use Rattle.plan_text.specs.Families.{Table, ordinary}
-use Rattle.plan_text.specs.Warrants.{AreTrees, IsNodeIn}
+use Rattle.certificate_model.specs.Families.{Table, ordinary}
+use Rattle.certificate_model.specs.Warrants.{AreTrees, IsNodeIn}
 use Rattle.branch_and_bound.specs.Answer.{IsAnswer}
 use Rattle.branch_and_bound.specs.Rules.{Rules}
 use Rattle.branch_and_bound.specs.declared.incumbent.Incumbent.{Incumbent}

@@ -1,5 +1,5 @@
 -- The tree of a search as a certificate has it: node for node, without its vertices.
-use Rattle.plan_text.specs.Warrants.{Node, SplitAt, LeafOf}
+use Rattle.certificate_model.specs.Warrants.{Node, SplitAt, LeafOf}
 use Rattle.branch_and_bound.specs.declared.node.TreeNode.{TreeNode}
 use Rattle.branch_and_bound.specs.declared.node.TreeNode.TheVariants.{Split, Closed, Waiting}
 

@@ -3,7 +3,7 @@ use Rattle.progression.specs.Street.{Street}
 use Rattle.progression.specs.Good.{Good}
 use Rattle.progression.specs.Best as best
 use Rattle.progression.specs.Best.{weighted_band, Bounded}
-use Rattle.plan_text.specs.Families.{ordinary}
+use Rattle.certificate_model.specs.Families.{ordinary}
 use Rattle.certificate_checker.specs.Accepted as accepted
 use Rattle.certificate_checker.specs.Claims as claims
 use Rattle.branch_tree.specs.ArteryRules.{rules_of}

@@ -4,7 +4,7 @@
 ghost use Rattle.std.specs.Prelude.{◌≡◌, IfOk, OnOk};
 ghost use Rattle.linear_theory.specs.Boxes.{IsBoxOf};
 ghost use Rattle.offset_recovery.specs.Outcomes.{Outcome};
-ghost use Rattle.plan_text.specs.Warrants.{IsCertificate};
+ghost use Rattle.certificate_model.specs.Warrants.{IsCertificate};
 ghost use Rattle.branch_tree.specs.Certified.{warrant_from};
 
 use crate::copying::copied_plan;
@@ -16,12 +16,12 @@ use crate::sought::Sought;
 use crate::starting::start_leaf;
 use artery_model::Artery;
 use certificate_checker::{check, law_accepted_or_refused};
+use certificate_model::{CertNode, Certificate, Claim};
 use fraction_tableau::Tableau;
 use loop_rows::{SumFault, column_count, leaf_sum};
 use named_row::{Leaf, Place, Point, Row};
 use narrow_fraction::{Frac, Memory};
 use offset_recovery::{RecoverFault, Recovered, recover};
-use plan_text::{CertNode, Certificate, Claim};
 use program_builder::{
     ArteryTable, EntryMemory, enter_remembering, make_loaded, make_tableau, reset_from,
 };

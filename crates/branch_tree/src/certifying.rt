@@ -1,7 +1,7 @@
 //! The certificate of what a search found.
 
 ghost use Rattle.std.specs.Prelude.{◌≡◌, ◌++◌, [], ◌∷◌, ℕ, Option, map, option_map, IfOk, OnOk};
-ghost use Rattle.plan_text.specs.Warrants as warrants;
+ghost use Rattle.certificate_model.specs.Warrants as warrants;
 ghost use Rattle.certificate_checker.specs.Accepted.{IsAccepted};
 ghost use Rattle.branch_tree.specs.Searches.{IsSearch};
 ghost use Rattle.branch_tree.specs.Meaning.{rules_from};
@@ -15,9 +15,9 @@ use crate::copying::copied_leaf;
 use crate::found::{Found, FoundOf, TreeNode, Verdict};
 use crate::sought::Sought;
 use artery_model::Artery;
+use certificate_model::{CertNode, Certificate, Claim};
 use named_row::Leaf;
 use narrow_fraction::{Frac, Memory};
-use plan_text::{CertNode, Certificate, Claim};
 use std::alloc::Global;
 use time_space::{Timing, value};
 

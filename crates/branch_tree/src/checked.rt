@@ -15,8 +15,8 @@ use crate::found::FoundOf;
 use crate::searching::search_sought;
 use crate::sought::Sought;
 use artery_model::Artery;
+use certificate_model::Certificate;
 use narrow_fraction::Memory;
-use plan_text::Certificate;
 use std::alloc::Global;
 use time_space::Timing;
 

@@ -7,7 +7,7 @@ ghost use Rattle.simplex_theory.specs.DualSteps.{IsPlaced};
 ghost use Rattle.search_box.specs.declared.span.At.{At};
 ghost use Rattle.fraction_tableau.specs.NamedTableaus.{NamedTableau};
 ghost use Rattle.program_builder.specs.Loading.{HasRoomFor};
-ghost use Rattle.plan_text.specs.Warrants.{WarrantWith, IsCertificateIn};
+ghost use Rattle.certificate_model.specs.Warrants.{WarrantWith, IsCertificateIn};
 ghost use Rattle.branch_and_bound.specs.Lines.{BoxLine, top_line};
 ghost use Rattle.branch_and_bound.specs.OpenedNodes.{IsPart};
 ghost use Rattle.branch_tree.specs.declared.site.SitePart.{SitePart};
@@ -21,10 +21,10 @@ ghost use Rattle.branch_tree.specs.Rooms.{IsRoomFor};
 
 use crate::program::{Read, Summed};
 use crate::room::Room;
+use certificate_model::{CertNode, Claim};
 use fraction_tableau::Tableau;
 use named_row::{Leaf, Point};
 use narrow_fraction::{Frac, Memory};
-use plan_text::{CertNode, Claim};
 use search_box::SearchBox;
 use std::alloc::Global;
 

@@ -9,9 +9,9 @@ use Rattle.progression.specs.Street.{Street}
 use Rattle.linear_theory.specs.Boxes.{root_box}
 use Rattle.narrow_fraction.specs.Attempt.{earlier}
 use Rattle.narrow_fraction.proofs.Attempt.{neither, not_refused}
-use Rattle.plan_text.specs.declared.certificate.Claim.{Claim}
-use Rattle.plan_text.specs.declared.certificate.Claim.TheVariants.{Best, NoTiming, Stopped}
-use Rattle.plan_text.specs.Warrants.{WarrantWith, Warrant, HasTiming, AreTrees}
+use Rattle.certificate_model.specs.declared.certificate.Claim.{Claim}
+use Rattle.certificate_model.specs.declared.certificate.Claim.TheVariants.{Best, NoTiming, Stopped}
+use Rattle.certificate_model.specs.Warrants.{WarrantWith, Warrant, HasTiming, AreTrees}
 use Rattle.loop_rows.proofs.LeafSums.{not_below}
 use Rattle.certificate_checker.specs.Accepted.{value_of, limit_of, IsTimedBy, IsBoundAbove, IsAccepted}
 use Rattle.certificate_checker.specs.ClaimRefusals.{IfThere, kept_refusal, bound_refusal, claim_refusal}

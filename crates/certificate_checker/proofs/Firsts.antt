@@ -4,8 +4,8 @@ use Rattle.narrow_fraction.proofs.Attempt.{some_not_none}
 use Rattle.progression.specs.Street.{Street}
 use Rattle.time_space.specs.Failing.{FailsRulesOut}
 use Rattle.time_space.specs.FirstFailing.{OneFirst}
-use Rattle.plan_text.specs.Families.{Table, ordinary}
-use Rattle.plan_text.specs.Warrants.{WarrantWith}
+use Rattle.certificate_model.specs.Families.{Table, ordinary}
+use Rattle.certificate_model.specs.Warrants.{WarrantWith}
 use Rattle.certificate_checker.specs.Accepted.{IsAccepted}
 use Rattle.certificate_checker.specs.ClaimRefusals.{IfThere}
 use Rattle.certificate_checker.specs.Checked.{Checked, IsAcceptedOf, first_refusal, TimingFailsFirst, IsFirstRefusalOf}

@@ -22,9 +22,9 @@ use Rattle.named_row.specs.declared.leaves.Weight.{Weight}
 use Rattle.search_box.specs.Places.{IsPlace, low_part, high_part}
 use Rattle.search_box.specs.declared.span.At.{At}
 use Rattle.search_box.specs.declared.span.At.TheVariants.{Loop, Turn}
-use Rattle.plan_text.specs.declared.certificate.Claim.{Claim}
-use Rattle.plan_text.specs.declared.certificate.Claim.TheVariants.{Best, NoTiming, Stopped}
-use Rattle.plan_text.specs.Warrants.{Warrant, Node, SplitAt, LeafOf}
+use Rattle.certificate_model.specs.declared.certificate.Claim.{Claim}
+use Rattle.certificate_model.specs.declared.certificate.Claim.TheVariants.{Best, NoTiming, Stopped}
+use Rattle.certificate_model.specs.Warrants.{Warrant, Node, SplitAt, LeafOf}
 use Rattle.certificate_checker.specs.TreeProofs.{ProveAll}
 use Rattle.certificate_checker.specs.Accepted.{IsTimed, Shows, IsProof, AreProofs, IsAccepted, limit_of, value_of}
 use Rattle.search_box.proofs.Parts.{parts_boxed}

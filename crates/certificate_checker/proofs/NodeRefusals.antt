@@ -8,8 +8,8 @@ use Rattle.narrow_fraction.proofs.Attempt.{neither}
 use Rattle.named_row.specs.Sheets.{Sheet}
 use Rattle.named_row.specs.declared.leaves.Weight.{Weight}
 use Rattle.search_box.specs.Places.{low_part, high_part}
-use Rattle.plan_text.specs.declared.certificate.CertNode.{CertNode}
-use Rattle.plan_text.specs.Warrants.{Node, SplitAt, LeafOf, node_of, AreTrees}
+use Rattle.certificate_model.specs.declared.certificate.CertNode.{CertNode}
+use Rattle.certificate_model.specs.Warrants.{Node, SplitAt, LeafOf, node_of, AreTrees}
 use Rattle.loop_rows.specs.Weights.{Source, artery_rows}
 use Rattle.loop_rows.proofs.LeafSums.{at_left}
 use Rattle.certificate_checker.specs.Accepted.{IsProof, AreProofs}

@@ -7,7 +7,7 @@ use Rattle.linear_theory.specs.Trees as trees
 use Rattle.search_box.specs.declared.span.At.TheVariants.{Loop, Turn}
 use Rattle.search_box.specs.declared.span.At.{At}
 use Rattle.search_box.specs.Places.{IsPlace, low_part, high_part}
-use Rattle.plan_text.specs.Warrants.{Node, SplitAt, LeafOf}
+use Rattle.certificate_model.specs.Warrants.{Node, SplitAt, LeafOf}
 use Rattle.certificate_checker.specs.Accepted.{Shows, IsProof, AreProofs}
 use Rattle.certificate_checker.specs.ProofTrees.{ProofTree, Leaf, Split, preorder, tree_of, SumsFit, ProofsAreTrees}
 

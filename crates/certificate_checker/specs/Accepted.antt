@@ -13,9 +13,9 @@ use Rattle.linear_theory.specs.Trees.{leaf_sum, AreWeights}
 use Rattle.named_row.specs.Sheets.{Sheet, blank}
 use Rattle.named_row.specs.declared.leaves.Weight.{Weight}
 use Rattle.loop_rows.specs.Weights.{named, artery_rows}
-use Rattle.plan_text.specs.declared.certificate.Claim.{Claim}
-use Rattle.plan_text.specs.declared.certificate.Claim.TheVariants.{Best, NoTiming, Stopped}
-use Rattle.plan_text.specs.Warrants.{Warrant, Node}
+use Rattle.certificate_model.specs.declared.certificate.Claim.{Claim}
+use Rattle.certificate_model.specs.declared.certificate.Claim.TheVariants.{Best, NoTiming, Stopped}
+use Rattle.certificate_model.specs.Warrants.{Warrant, Node}
 use Rattle.certificate_checker.specs.TreeProofs.{FitAlong, ProveAll}
 
 -- ---- the claim

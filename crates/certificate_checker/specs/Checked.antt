@@ -6,8 +6,8 @@ use Rattle.linear_theory.specs.Boxes.{Area}
 use Rattle.narrow_fraction.specs.Attempt.{earlier}
 use Rattle.named_row.specs.Sheets.{Sheet}
 use Rattle.loop_rows.specs.Weights.{Source}
-use Rattle.plan_text.specs.declared.certificate.Claim.{Claim}
-use Rattle.plan_text.specs.Warrants.{Node, WarrantWith}
+use Rattle.certificate_model.specs.declared.certificate.Claim.{Claim}
+use Rattle.certificate_model.specs.Warrants.{Node, WarrantWith}
 use Rattle.certificate_checker.specs.Accepted.{value_of, limit_of, IsTimedBy, IsBoundAbove}
 use Rattle.certificate_checker.specs.ClaimRefusals.{IfThere, claim_refusal}
 use Rattle.certificate_checker.specs.TreeProofs.{IsTreeProof}

@@ -4,8 +4,8 @@ use Rattle.std.specs.Ordering.{is_lt, eq_by_cmp}
 use Rattle.rational_theory.specs.Rational.{ℚ}
 use Rattle.rational_theory.specs.Compare.{cmp_ℚ}
 use Rattle.narrow_fraction.specs.Attempt.{refusal_if, earlier}
-use Rattle.plan_text.specs.declared.certificate.Claim.{Claim}
-use Rattle.plan_text.specs.declared.certificate.Claim.TheVariants.{Best, NoTiming, Stopped}
+use Rattle.certificate_model.specs.declared.certificate.Claim.{Claim}
+use Rattle.certificate_model.specs.declared.certificate.Claim.TheVariants.{Best, NoTiming, Stopped}
 use Rattle.certificate_checker.specs.Accepted.{value_of}
 use Rattle.certificate_checker.specs.declared.reject.Reject.{Reject}
 use Rattle.certificate_checker.specs.declared.reject.Reject.TheVariants.{ValueDiffers, BoundBelow}

@@ -5,8 +5,8 @@ use Rattle.progression.specs.Street.{Street}
 use Rattle.progression.specs.TimingRecord.{TimingRecord}
 use Rattle.progression.specs.Best as best
 use Rattle.progression.specs.Best.{weighted_band, Bounded}
-use Rattle.plan_text.specs.declared.certificate.Claim.{Claim}
-use Rattle.plan_text.specs.declared.certificate.Claim.TheVariants.{Best, NoTiming, Stopped}
+use Rattle.certificate_model.specs.declared.certificate.Claim.{Claim}
+use Rattle.certificate_model.specs.declared.certificate.Claim.TheVariants.{Best, NoTiming, Stopped}
 use Rattle.certificate_checker.specs.Accepted.{IsTimed}
 
 -- the timing is best and has this value

@@ -1,8 +1,8 @@
 -- How acceptance and refusals fit together.
 use Rattle.std.specs.Prelude.{◌≡◌, ◌≢◌, ◌↔◌, None}
 use Rattle.progression.specs.Street.{Street}
-use Rattle.plan_text.specs.Families.{Table, ordinary}
-use Rattle.plan_text.specs.Warrants.{WarrantWith, IsCertificateIn}
+use Rattle.certificate_model.specs.Families.{Table, ordinary}
+use Rattle.certificate_model.specs.Warrants.{WarrantWith, IsCertificateIn}
 use Rattle.certificate_checker.specs.Accepted.{IsAccepted}
 use Rattle.certificate_checker.specs.ClaimRefusals.{IfThere}
 use Rattle.certificate_checker.specs.Checked.{Checked, first_refusal, IsFirstRefusalOf}

@@ -11,7 +11,7 @@ use Rattle.loop_rows.specs.Weights.{named}
 use Rattle.search_box.specs.declared.span.At.{At}
 use Rattle.search_box.specs.declared.span.At.TheVariants.{Loop, Turn}
 use Rattle.search_box.specs.Places.{low_part, high_part}
-use Rattle.plan_text.specs.Warrants.{Node, SplitAt, LeafOf}
+use Rattle.certificate_model.specs.Warrants.{Node, SplitAt, LeafOf}
 use Rattle.certificate_checker.specs.Accepted.{Shows, FitsAlong, AreProofs}
 
 -- a leaf, or a split at a place with its low and its high part

@@ -9,7 +9,7 @@ use Rattle.loop_rows.specs.Writing.{written}
 use Rattle.loop_rows.specs.Weights.{artery_rows}
 use Rattle.time_space.specs.FirstFailing.{IsFirstFailing}
 use Rattle.time_space.specs.declared.failing.Failing.{Failing}
-use Rattle.plan_text.specs.Warrants.{Warrant}
+use Rattle.certificate_model.specs.Warrants.{Warrant}
 use Rattle.certificate_checker.specs.Checked.{Checked, IsFirstRefusalOf}
 use Rattle.certificate_checker.specs.declared.reject.Reject.{Reject as RejectOf}
 

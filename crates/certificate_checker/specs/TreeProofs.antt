@@ -9,7 +9,7 @@ use Rattle.named_row.specs.Refusals.{sum_refusal}
 use Rattle.named_row.specs.declared.leaves.Weight.{Weight}
 use Rattle.loop_rows.specs.Weights.{Source, with_weight, total_of}
 use Rattle.search_box.specs.Places.{IsPlace, low_part, high_part}
-use Rattle.plan_text.specs.Warrants.{Node, SplitAt, LeafOf}
+use Rattle.certificate_model.specs.Warrants.{Node, SplitAt, LeafOf}
 use Rattle.certificate_checker.specs.declared.leaves.Aim.{Aim}
 
 -- ---- leaves

@@ -13,7 +13,7 @@ use Rattle.loop_rows.specs.declared.fault.SumFault.TheVariants as fault
 use Rattle.search_box.specs.Places.{low_part, high_part}
 use Rattle.search_box.specs.declared.span.At.{At}
 use Rattle.search_box.specs.declared.span.At.TheVariants.{Loop, Turn}
-use Rattle.plan_text.specs.Warrants.{Node, SplitAt, LeafOf}
+use Rattle.certificate_model.specs.Warrants.{Node, SplitAt, LeafOf}
 use Rattle.certificate_checker.specs.declared.leaves.Aim.{Aim}
 use Rattle.certificate_checker.specs.declared.reject.Reject.{Reject}
 use Rattle.certificate_checker.specs.declared.reject.Reject.TheVariants.{SplitOutside, NoSuchRow, Negative, Wide, LeafTooWeak, Memory}

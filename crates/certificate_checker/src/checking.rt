@@ -8,7 +8,7 @@ ghost use Rattle.certificate_checker.specs.ClaimRefusals.{IfThere};
 ghost use Rattle.certificate_checker.specs.Claims.{ClaimHolds};
 ghost use Rattle.certificate_checker.specs.Refusals.{IsFirstRefusal};
 ghost use Rattle.certificate_checker.specs.TreeRefusals.{IsFirst};
-ghost use Rattle.plan_text.specs.Warrants.{node_of, warrant_of, HasTiming, AreTrees};
+ghost use Rattle.certificate_model.specs.Warrants.{node_of, warrant_of, HasTiming, AreTrees};
 
 use crate::claims::{check_claim, limit_of};
 use crate::kind::{ArteryRows, CheckedKind};
@@ -16,8 +16,8 @@ use crate::leaves::Aim;
 use crate::reject::Reject;
 use crate::walk::check_tree;
 use artery_model::Artery;
+use certificate_model::{CertNode, Certificate, Claim};
 use narrow_fraction::Frac;
-use plan_text::{CertNode, Certificate, Claim};
 use std::alloc::Global;
 
 /// Whether the timing, if there is one, is good.

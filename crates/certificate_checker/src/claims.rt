@@ -6,8 +6,8 @@ ghost use Rattle.certificate_checker.specs.Accepted.{value_of, limit_of};
 ghost use Rattle.certificate_checker.specs.ClaimRefusals.{kept_refusal, bound_refusal, claim_refusal};
 
 use crate::reject::Reject;
+use certificate_model::Claim;
 use narrow_fraction::Frac;
-use plan_text::Claim;
 
 /// The value that is claimed for the timing.
 pub fn value_of(claim: &Claim) -> Option<Frac>

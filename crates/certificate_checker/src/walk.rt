@@ -3,7 +3,7 @@
 ghost use Rattle.std.specs.Prelude.{◌≡◌, ◌+◌, ◌<◌, ◌≤◌, ◌^◌, [], ◌∷◌, List, length, drop, map, All, None, OnOk, IfErr};
 ghost use Rattle.linear_theory.specs.Boxes.{Area};
 ghost use Rattle.search_box.specs.Places.{low_part, high_part};
-ghost use Rattle.plan_text.specs.Warrants.{Node, node_of, AreTrees};
+ghost use Rattle.certificate_model.specs.Warrants.{Node, node_of, AreTrees};
 ghost use Rattle.certificate_checker.specs.Owed.{first_of};
 ghost use Rattle.certificate_checker.specs.TreeProofs.{IsTreeProof};
 ghost use Rattle.certificate_checker.specs.TreeRefusals.{split_refusal, tree_refusal, IsFirst};
@@ -12,7 +12,7 @@ use crate::kind::CheckedKind;
 use crate::leaves::{Aim, check_leaf};
 use crate::owed::Owed;
 use crate::reject::Reject;
-use plan_text::CertNode;
+use certificate_model::CertNode;
 use search_box::{At, SearchBox};
 use std::alloc::Global;
 

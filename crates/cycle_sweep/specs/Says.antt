@@ -7,9 +7,9 @@ use Rattle.progression.specs.Good.{Good}
 use Rattle.progression.specs.Best as best
 use Rattle.progression.specs.Best.{Best, Bounded, weighted_band}
 use Rattle.quantity_text.specs.Exact.{exact_spelling}
-use Rattle.plan_text.specs.Warrants.{Warrant}
-use Rattle.plan_text.specs.declared.certificate.Claim.{Claim}
-use Rattle.plan_text.specs.declared.certificate.Claim.TheVariants as claim
+use Rattle.certificate_model.specs.Warrants.{Warrant}
+use Rattle.certificate_model.specs.declared.certificate.Claim.{Claim}
+use Rattle.certificate_model.specs.declared.certificate.Claim.TheVariants as claim
 use Rattle.certificate_checker.specs.Accepted.{IsAccepted}
 use Rattle.branch_and_bound.specs.declared.found.Stop.{Stop}
 use Rattle.branch_and_bound.specs.declared.found.Stop.TheVariants.{Work, Wide}

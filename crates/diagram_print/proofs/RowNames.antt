@@ -4,8 +4,8 @@ use Rattle.std.proofs.lemmas.List.{append-nil}
 use Rattle.std.specs.Prelude.{if◌then◌else◌}
 use Rattle.std.specs.Fmt.{decimal}
 use Rattle.named_row.specs.declared.names.RowId.{RowId}
-use Rattle.plan_text.specs.Words.{line_of}
-use Rattle.plan_text.specs.Families.{Table, family_name_in, is_lone_in}
+use Rattle.certificate_model.specs.Words.{line_of}
+use Rattle.certificate_model.specs.Families.{Table, family_name_in, is_lone_in}
 use Rattle.diagram_print.specs.Names.{numbered, row_text_in}
 
 -- a row of a family of several has its family's name, a space and its index

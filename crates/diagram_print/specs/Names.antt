@@ -8,9 +8,8 @@ use Rattle.progression.specs.Columns.{Column, BandOf, Frequency, WaitOf, RunOf, 
 use Rattle.named_row.specs.declared.names.RowId.{RowId}
 use Rattle.named_row.specs.declared.names.Place.{Place}
 use Rattle.named_row.specs.declared.names.Place.TheVariants.{Cell, Bound}
-use Rattle.plan_text.specs.Words.{line_of}
-use Rattle.plan_text.specs.Families.{Table, ordinary}
-use Rattle.plan_text.specs.CertificateText.{row_words_in}
+use Rattle.certificate_model.specs.Words.{line_of}
+use Rattle.certificate_model.specs.Families.{Table, ordinary, row_words_in}
 
 -- a row, as certificates over a table of families name it
 abbrev pub row_text_in : Table → RowId → List ℕ

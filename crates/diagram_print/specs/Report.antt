@@ -6,7 +6,7 @@ use Rattle.quantity_text.specs.Exact.{exact_spelling}
 use Rattle.progression.specs.Street.{Street, count}
 use Rattle.progression.specs.TimingRecord.{TimingRecord}
 use Rattle.linear_theory.specs.Boxes.{Area, Span, Ranks}
-use Rattle.plan_text.specs.Families.{Table, ordinary}
+use Rattle.certificate_model.specs.Families.{Table, ordinary}
 use Rattle.branch_and_bound.specs.declared.found.Site.{Site}
 use Rattle.branch_and_bound.specs.declared.found.Stop.{Stop}
 use Rattle.branch_and_bound.specs.declared.found.Stop.TheVariants.{Work, Wide}

@@ -13,7 +13,7 @@ use Rattle.offset_recovery.specs.declared.outcome.WideTiming.{WideTiming}
 use Rattle.offset_recovery.specs.declared.outcome.WideTiming.TheVariants as timing
 use Rattle.branch_tree.specs.declared.site.SitePart.{SitePart}
 use Rattle.branch_tree.specs.declared.site.SitePart.TheVariants as part
-use Rattle.plan_text.specs.Families.{Table}
+use Rattle.certificate_model.specs.Families.{Table}
 use Rattle.diagram_print.specs.Names.{row_text_in, column_text, place_text}
 
 -- ---- the site

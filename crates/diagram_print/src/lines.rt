@@ -4,7 +4,7 @@ ghost use Rattle.std.specs.Prelude.{◌≡◌, IfOk, IfSome, option_map, string_
 ghost use Rattle.progression.specs.Street.{count};
 ghost use Rattle.progression.specs.Good.{Good};
 ghost use Rattle.linear_theory.specs.Boxes.{IsBoxOf};
-ghost use Rattle.plan_text.specs.Families.{table_of};
+ghost use Rattle.certificate_model.specs.Families.{table_of};
 ghost use Rattle.branch_tree.specs.SiteNames.{StopsAt, EndsAt, HasSite};
 ghost use Rattle.diagram_print.specs.Report.{timing_lines, bound_line, found_lines, best_lines, open_lines, verdict_lines, report_lines};
 
@@ -15,8 +15,8 @@ use crate::speeds::link_lines;
 use crate::stopped::stop_lines;
 use artery_model::Artery;
 use branch_tree::{Found, Stop, Verdict};
+use certificate_model::{FAMILIES, FamilyName};
 use narrow_fraction::{Frac, Memory};
-use plan_text::{FAMILIES, FamilyName};
 use quantity_text::exact_string;
 use std::alloc::Global;
 use time_space::Timing;
@@ -127,7 +127,7 @@ fn lines_of(
 /// offset and name, each link's speeds and the diagram; each number is exact and then cut after six decimal places, or three
 /// of seconds and speeds. A timing is a good one of the artery, and a site of a stop names the artery's own rows and columns.
 /// The error is want of memory.
-#[tactic(auto, unfolding(plan_text::specs::Families::ordinary))]
+#[tactic(auto, unfolding(certificate_model::specs::Families::ordinary))]
 pub fn report(alloc: Global, artery: &Artery, found: &Found) -> Result<Vec<u8>, Memory>
     requires good { IfSome found.now.timing (λ plan. Good artery.now plan) }
     requires site { HasSite artery.now found.now.verdict }

@@ -1,11 +1,11 @@
 //! The names of rows and columns, as they are printed.
 
 ghost use Rattle.std.specs.Prelude.{◌≡◌, ◌<◌, ◌^◌, IfOk, string_bytes};
-ghost use Rattle.plan_text.specs.Families.{table_of};
+ghost use Rattle.certificate_model.specs.Families.{table_of};
 ghost use Rattle.diagram_print.specs.Names.{row_text, row_text_in, numbered, column_text, place_text};
 
+use certificate_model::{FAMILIES, FamilyName, family_name_in, is_lone_in};
 use named_row::{Place, RowId};
-use plan_text::{FAMILIES, FamilyName, family_name_in, is_lone_in};
 use std::alloc::{AllocError, Global};
 
 /// A name with a number.
@@ -29,7 +29,7 @@ pub fn row_text_in(alloc: Global, names: &[FamilyName], row: RowId) -> Result<St
 }
 
 /// A row's name, as ordinary certificates spell it. The error is want of memory.
-#[tactic(auto, unfolding(plan_text::specs::Families::ordinary))]
+#[tactic(auto, unfolding(certificate_model::specs::Families::ordinary))]
 pub fn row_text(alloc: Global, row: RowId) -> Result<String, AllocError>
     ensures { IfOk result (λ text. string_bytes text ≡ row_text row) }
 {

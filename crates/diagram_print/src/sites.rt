@@ -1,16 +1,16 @@
 //! Where a run left 128 bits. The rows of a leaf have their names in a table of families.
 
 ghost use Rattle.std.specs.Prelude.{◌≡◌, IfOk, string_bytes};
-ghost use Rattle.plan_text.specs.Families.{table_of};
+ghost use Rattle.certificate_model.specs.Families.{table_of};
 ghost use Rattle.diagram_print.specs.Sites.{cell_line, leaf_line, product_line, number_line, timing_line, site_line, op_name, wide_line, timing_operands, operands_line};
 
 use crate::names::{column_text, place_text, row_text_in};
 use branch_tree::SitePart;
+use certificate_model::FamilyName;
 use fraction_tableau::WideCell;
 use named_row::{Place, RowId};
 use narrow_fraction::{Memory, Op, Wide};
 use offset_recovery::WideTiming;
-use plan_text::FamilyName;
 use quantity_text::exact_string;
 use std::alloc::Global;
 

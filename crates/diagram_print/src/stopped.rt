@@ -5,7 +5,7 @@ ghost use Rattle.search_box.specs.Seen.{span_of};
 ghost use Rattle.linear_theory.specs.Boxes.{turn_span};
 ghost use Rattle.linear_theory.specs.Boxes.{IsBoxOf};
 ghost use Rattle.progression.specs.Street.{count};
-ghost use Rattle.plan_text.specs.Families.{table_of};
+ghost use Rattle.certificate_model.specs.Families.{table_of};
 ghost use Rattle.branch_tree.specs.SiteNames.{StopsAt};
 ghost use Rattle.diagram_print.specs.Report.{span_text, ranks_text, loops_line, shifts_line, pivots_line, wide_lines, stop_lines};
 ghost use Rattle.artery_model.specs.Bounds.{most_signals};
@@ -13,8 +13,8 @@ ghost use Rattle.artery_model.specs.Bounds.{most_signals};
 use crate::sites::{operands_line, site_line};
 use artery_model::Artery;
 use branch_tree::{Site, Stop};
+use certificate_model::FamilyName;
 use narrow_fraction::Memory;
-use plan_text::FamilyName;
 use search_box::{SearchBox, Span};
 use std::alloc::Global;
 

@@ -11,7 +11,7 @@ ghost use Rattle.dual_leaf.specs.Leaves.{multiplier, multipliers_below, goal_mul
 use crate::values::{put, put_columns, put_slacks, zeros};
 use fraction_tableau::Tableau;
 use named_row::{Leaf, Point, RowId, Weight};
-use narrow_fraction::{Frac, Memory};
+use narrow_fraction::{Frac, Memory, Quotient};
 use std::alloc::{AllocError, Global};
 
 /// One more multiplier, unless it is 0.
@@ -58,7 +58,7 @@ fn row_weights(alloc: Global, tableau: &Tableau, row: u32) -> Result<Vec<Weight>
         &mut weights,
         tableau.width(),
         tableau.basic(row),
-        Frac::whole(1),
+        &Quotient::of_fraction(Frac::whole(1)),
     );
     named(alloc, tableau, &weights)
 }

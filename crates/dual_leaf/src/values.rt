@@ -8,7 +8,7 @@ ghost use Rattle.simplex_theory.specs.Vertices.{vertex};
 ghost use Rattle.dual_leaf.specs.Leaves.{row_or_goal};
 
 use fraction_tableau::Tableau;
-use narrow_fraction::Frac;
+use narrow_fraction::{Frac, Quotient};
 use std::alloc::{AllocError, Global};
 
 /// So many zeros.
@@ -19,8 +19,8 @@ pub fn zeros(alloc: Global, count: u32) -> Result<Vec<Frac>, AllocError>
 }
 
 /// Writes the value of a variable into the values of the variables from `first` on. One that isn't among them is left out.
-pub fn put(values: &mut [Frac], first: u32, variable: u32, value: Frac)
-    ensures { (k : ℕ) → k < length values.old → get_or values.new k (whole (pos 0)) ≡ cond (eqb (first + k) variable) value (get_or values.old k (whole (pos 0))) }
+pub fn put(values: &mut [Frac], first: u32, variable: u32, value: &Quotient)
+    ensures { (k : ℕ) → k < length values.old → get_or values.new k (whole (pos 0)) ≡ cond (eqb (first + k) variable) value.now (get_or values.old k (whole (pos 0))) }
 {
     if variable < first {
         return;
@@ -29,7 +29,7 @@ pub fn put(values: &mut [Frac], first: u32, variable: u32, value: Frac)
     if index >= values.len() {
         return;
     }
-    values[index] = value;
+    values[index] = value.fraction();
 }
 
 /// The cells of a row, or of the goal row, at the slacks that stand at places, written by the rows of these slacks.
@@ -42,7 +42,7 @@ pub fn put_slacks(cells: &mut [Frac], tableau: &Tableau, row: u32)
     let mut col = width;
     while col > 0 {
         col -= 1;
-        put(cells, width, tableau.standing(col), tableau.cell(row, col));
+        put(cells, width, tableau.standing(col), &tableau.held(row, col));
     }
 }
 
@@ -55,6 +55,6 @@ pub fn put_columns(values: &mut [Frac], tableau: &Tableau)
     let mut row = tableau.rows();
     while row > 0 {
         row -= 1;
-        put(values, 0, tableau.basic(row), tableau.cell(row, width));
+        put(values, 0, tableau.basic(row), &tableau.held(row, width));
     }
 }

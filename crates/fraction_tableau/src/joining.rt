@@ -54,7 +54,7 @@ fn part_of(factor: i64, shared: u64) -> i64
     ensures value { result *ℤ pos shared ≡ factor }
     ensures size { unsigned_abs result ≡ unsigned_abs factor / shared }
 {
-    let size = (factor.unsigned_abs() / shared) as i64;
+    let size = word_quotient(factor.unsigned_abs(), shared) as i64;
     if factor < 0 { -size } else { size }
 }
 

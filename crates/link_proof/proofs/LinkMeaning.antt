@@ -13,9 +13,9 @@ use Rattle.named_row.specs.Sheets.{row_of}
 use Rattle.named_row.specs.declared.names.RowId.{RowId}
 use Rattle.named_row.specs.declared.leaves.Weight.{Weight}
 use Rattle.loop_rows.proofs.LeafSums.{total_width_by}
-use Rattle.plan_text.specs.declared.certificate.Claim.{Claim}
-use Rattle.plan_text.specs.declared.certificate.Claim.TheVariants.{Best, NoTiming, Stopped}
-use Rattle.plan_text.specs.Warrants.{Node}
+use Rattle.certificate_model.specs.declared.certificate.Claim.{Claim}
+use Rattle.certificate_model.specs.declared.certificate.Claim.TheVariants.{Best, NoTiming, Stopped}
+use Rattle.certificate_model.specs.Warrants.{Node}
 use Rattle.certificate_checker.specs.Accepted.{value_of, limit_of}
 use Rattle.certificate_checker.specs.TreeProofs.{IsLeafProof, IsTreeProof}
 use Rattle.certificate_checker.proofs.LeafMeaning.{IsWithin, leaf_says}

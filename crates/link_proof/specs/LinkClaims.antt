@@ -2,8 +2,8 @@
 use Rattle.std.specs.Prelude.{◌≡◌, Option, None, Some}
 use Rattle.rational_theory.specs.Rational.{ℚ}
 use Rattle.progression.specs.Street.{Street}
-use Rattle.plan_text.specs.declared.certificate.Claim.{Claim}
-use Rattle.plan_text.specs.declared.certificate.Claim.TheVariants.{Best, NoTiming, Stopped}
+use Rattle.certificate_model.specs.declared.certificate.Claim.{Claim}
+use Rattle.certificate_model.specs.declared.certificate.Claim.TheVariants.{Best, NoTiming, Stopped}
 use Rattle.link_theory.specs.LinkRecord.{LinkRecord}
 use Rattle.link_theory.specs.BestLinks.{link_value, BestLinks, BoundedLinks, NoLinks}
 use Rattle.link_proof.specs.LinkAccepted.{IsLinkTimed}

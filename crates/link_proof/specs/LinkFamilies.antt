@@ -2,7 +2,7 @@
 use Rattle.std.specs.Prelude.{◌++◌}
 use Rattle.linear_theory.specs.Names.{families}
 use Rattle.link_theory.specs.LinkNames.{link_families}
-use Rattle.plan_text.specs.Families.{Table, names_of}
+use Rattle.certificate_model.specs.Families.{Table, names_of}
 
 unfoldable pub links : Table
 links = names_of families ++ names_of link_families

@@ -3,7 +3,7 @@
 use Rattle.std.specs.Prelude.{ℕ, List, codes, Result}
 use Rattle.link_theory.specs.LinkRecord.{LinkRecord}
 use Rattle.plan_text.specs.declared.fault.BadText.{BadText}
-use Rattle.plan_text.specs.Warrants.{WarrantWith, IsCertificateIn}
+use Rattle.certificate_model.specs.Warrants.{WarrantWith, IsCertificateIn}
 use Rattle.plan_text.specs.CertificateText.{IsHeldWith}
 use Rattle.plan_text.specs.FirstText.{first_text}
 use Rattle.plan_text.specs.CertificateReading.{headed_of}

@@ -17,7 +17,7 @@ pub struct LinkCertificate {
 }
 
 impl Model for LinkCertificate {
-    ghost use Rattle.plan_text.specs.Warrants.{warrant_of};
+    ghost use Rattle.certificate_model.specs.Warrants.{warrant_of};
     ghost use Rattle.link_proof.specs.LinkWarrants.{LinkWarrant, IsLinkCertificate};
 
     ghost Value = { LinkWarrant };

@@ -1,7 +1,7 @@
 //! The families of rows that a link certificate names.
 
 ghost use Rattle.std.specs.Prelude.{◌≡◌, ◌<◌, ◌^◌, length, IfOk};
-ghost use Rattle.plan_text.specs.Families.{table_of};
+ghost use Rattle.certificate_model.specs.Families.{table_of};
 ghost use Rattle.link_proof.specs.LinkFamilies.{links};
 
 use plan_text::{FAMILIES, FamilyName};

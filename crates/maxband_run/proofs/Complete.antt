@@ -6,7 +6,7 @@ use Rattle.maxband_run.specs.Command.{Request, Solve, Links, Renew, RoundFrom, T
 use Rattle.maxband_run.specs.Outside.{Outside, NamedBytes, named, put_of, IsDone, IsBroken}
 use Rattle.progression.specs.Street.{Street}
 use Rattle.progression.specs.TimingRecord.{TimingRecord}
-use Rattle.plan_text.specs.Warrants.{Warrant}
+use Rattle.certificate_model.specs.Warrants.{Warrant}
 use Rattle.maxband_run.specs.Round.{RoundFromFinds}
 use Rattle.description_reader.specs.Typed.{Typed}
 use Rattle.maxband_run.specs.Typed.{WritesTiming, TypedFinds}

@@ -11,7 +11,7 @@ use Rattle.band_measure.specs.Pairs.{FinerPairs}
 use Rattle.band_measure.specs.Widest.{OneWidest}
 use Rattle.band_measure.specs.declared.pair.Widest.{Widest}
 use Rattle.half_integer.specs.Answers.{OneEnd}
-use Rattle.plan_text.specs.Warrants.{Warrant}
+use Rattle.certificate_model.specs.Warrants.{Warrant}
 use Rattle.time_space.specs.Failing.{FailsRulesOut}
 use Rattle.time_space.specs.FirstFailing.{IsFirstFailing, OneFirst}
 use Rattle.certificate_checker.specs.Laws.{RefusedIsNotAccepted, OneFirstRefusal}

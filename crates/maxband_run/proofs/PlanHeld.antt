@@ -11,7 +11,7 @@ use Rattle.progression.specs.Good.{Good}
 use Rattle.progression.specs.Best.{weighted_band}
 use Rattle.search_box.proofs.Streets.{street_of}
 use Rattle.time_space.specs.Failing.{FailsRulesOut}
-use Rattle.plan_text.specs.Warrants.{Warrant}
+use Rattle.certificate_model.specs.Warrants.{Warrant}
 use Rattle.certificate_checker.specs.Laws.{RefusedIsNotAccepted}
 use Rattle.certificate_checker.proofs.Meaning.{accepted_holds}
 use Rattle.plan_text.specs.Spelling.{timing_text}

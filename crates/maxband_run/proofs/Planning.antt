@@ -11,9 +11,9 @@ use Rattle.mirror_theory.specs.EqualBands.{IsHalfCycleBest}
 use Rattle.half_integer.specs.Answers.{IsReady}
 use Rattle.progression.specs.Best.{Bounded}
 use Rattle.progression.specs.Speeds.{number}
-use Rattle.plan_text.specs.Warrants.{Warrant}
-use Rattle.plan_text.specs.declared.certificate.Claim.{Claim}
-use Rattle.plan_text.specs.declared.certificate.Claim.TheVariants.{Best, NoTiming, Stopped}
+use Rattle.certificate_model.specs.Warrants.{Warrant}
+use Rattle.certificate_model.specs.declared.certificate.Claim.{Claim}
+use Rattle.certificate_model.specs.declared.certificate.Claim.TheVariants.{Best, NoTiming, Stopped}
 use Rattle.certificate_checker.specs.Accepted.{value_of, limit_of, IsTimed, IsAccepted}
 use Rattle.certificate_checker.specs.Claims.{IsBest, ClaimHolds}
 use Rattle.second_plan.specs.Planned.{IsAnswer, IsBestOfOffsets}

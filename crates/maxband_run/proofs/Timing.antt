@@ -3,7 +3,7 @@ use Rattle.std.proofs.Common.{◌≡◌, ℕ, Bool, true, false, List, Some, Ok,
 use Rattle.std.specs.Prelude.{IfOk, if◌then◌else◌}
 use Rattle.progression.specs.TimingRecord.{TimingRecord}
 use Rattle.plan_text.specs.Reading.{timing_of}
-use Rattle.plan_text.specs.Warrants.{Warrant}
+use Rattle.certificate_model.specs.Warrants.{Warrant}
 use Rattle.plan_text.specs.CertificateReading.{certificate_of}
 use Rattle.maxband_run.specs.Timed.{is_timing, some_timing, timing_in, timed_of}
 use Rattle.maxband_run.specs.Reading.{IsBadText, end_of}

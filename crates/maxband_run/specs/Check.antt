@@ -1,7 +1,7 @@
 -- What `check` and `check-links` find of an artery and a certificate.
 use Rattle.std.specs.Prelude.{◌≡◌, ◌≢◌, ◌⊎◌, ℕ, List}
 use Rattle.progression.specs.Street.{Street, count}
-use Rattle.plan_text.specs.Warrants.{Warrant}
+use Rattle.certificate_model.specs.Warrants.{Warrant}
 use Rattle.link_proof.specs.LinkWarrants.{LinkWarrant}
 use Rattle.maxband_run.specs.Reading.{Value}
 use Rattle.maxband_run.specs.Sought.{Sought, whole_bands, bands_of_links}

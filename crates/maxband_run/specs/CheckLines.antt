@@ -5,11 +5,11 @@ use Rattle.rational_theory.specs.Rational.{ℚ}
 use Rattle.quantity_text.specs.Exact.{exact_spelling}
 use Rattle.named_row.specs.declared.names.RowId.{RowId}
 use Rattle.named_row.specs.declared.names.Place.{Place}
-use Rattle.plan_text.specs.declared.certificate.Claim.{Claim}
-use Rattle.plan_text.specs.declared.certificate.Claim.TheVariants.{Best, NoTiming, Stopped}
+use Rattle.certificate_model.specs.declared.certificate.Claim.{Claim}
+use Rattle.certificate_model.specs.declared.certificate.Claim.TheVariants.{Best, NoTiming, Stopped}
 use Rattle.certificate_checker.specs.Refusals.{Reject}
 use Rattle.certificate_checker.specs.declared.reject.Reject.TheVariants as reject
-use Rattle.plan_text.specs.Families.{Table, ordinary}
+use Rattle.certificate_model.specs.Families.{Table, ordinary}
 use Rattle.diagram_print.specs.Names.{row_text_in, place_text}
 use Rattle.link_space.specs.declared.failing.LinkFailing.{LinkFailing}
 use Rattle.link_space.specs.declared.failing.LinkFailing.TheVariants as failing

@@ -26,7 +26,7 @@ use Rattle.description_reader.specs.Typed.{Typed}
 use Rattle.typed_plan.specs.Ends.{IsTimingOf, Refuses}
 use Rattle.typed_plan.specs.declared.timing.TypedFault.TheVariants as fault
 use Rattle.diagram_draw.specs.Pages.{drawing, svg_text}
-use Rattle.plan_text.specs.Warrants.{Warrant}
+use Rattle.certificate_model.specs.Warrants.{Warrant}
 use Rattle.plan_text.specs.Spelling.{timing_text}
 use Rattle.plan_text.specs.Reading.{timing_of}
 use Rattle.certificate_checker.specs.Accepted.{IsAccepted}

@@ -10,7 +10,7 @@ use Rattle.artery_model.specs.Faults.{Fault, fault_of}
 use Rattle.description_reader.specs.Described.{Described, RefusedAs}
 use Rattle.description_reader.specs.Typed.{Typed, GivesPlan, GivesNone}
 use Rattle.plan_text.specs.Reading.{timing_of}
-use Rattle.plan_text.specs.Warrants.{Warrant}
+use Rattle.certificate_model.specs.Warrants.{Warrant}
 use Rattle.plan_text.specs.CertificateReading.{certificate_of}
 use Rattle.plan_text.specs.declared.fault.BadText.{BadText}
 use Rattle.link_proof.specs.LinkWarrants.{LinkWarrant, links_of}

@@ -13,7 +13,7 @@ use Rattle.progression.specs.Good.{Good}
 use Rattle.time_space.specs.FirstFailing.{IsFirstFailing}
 use Rattle.time_space.specs.declared.failing.Failing.{Failing}
 use Rattle.artery_model.specs.Valid.{IsValid}
-use Rattle.plan_text.specs.Warrants.{Warrant}
+use Rattle.certificate_model.specs.Warrants.{Warrant}
 use Rattle.plan_text.specs.Spelling.{timing_text}
 use Rattle.plan_text.specs.Reading.{timing_of}
 use Rattle.certificate_checker.specs.Accepted.{IsAccepted, limit_of}

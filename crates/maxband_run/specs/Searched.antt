@@ -1,6 +1,6 @@
 -- The cause and the certificate's text of what `solve`, `links` and `trial` find by a search, whose certificate is accepted.
 use Rattle.std.specs.Prelude.{◌≡◌, ℕ, List, Result, Ok}
-use Rattle.plan_text.specs.Warrants.{Warrant}
+use Rattle.certificate_model.specs.Warrants.{Warrant}
 use Rattle.plan_text.specs.SecondText.{second_text}
 use Rattle.plan_text.specs.CertificateReading.{certificate_of}
 use Rattle.plan_text.specs.declared.fault.BadText.{BadText}

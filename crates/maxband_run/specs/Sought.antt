@@ -8,7 +8,7 @@ use Rattle.progression.specs.Best as whole_best
 use Rattle.link_theory.specs.LinkRecord.{LinkRecord}
 use Rattle.link_theory.specs.GoodLinks.{GoodLinks}
 use Rattle.link_theory.specs.BestLinks.{link_value, BestLinks, BoundedLinks, NoLinks}
-use Rattle.plan_text.specs.declared.certificate.Claim.{Claim}
+use Rattle.certificate_model.specs.declared.certificate.Claim.{Claim}
 use Rattle.maxband_run.specs.Reading.{Reader, Certificate, LinkCertificate, Value}
 
 pub record Sought : Type 1 where

@@ -4,7 +4,7 @@ use Rattle.std.specs.List.{starts_with}
 use Rattle.progression.specs.TimingRecord.{TimingRecord}
 use Rattle.plan_text.specs.Spelling.{head_line}
 use Rattle.plan_text.specs.Reading.{timing_of}
-use Rattle.plan_text.specs.Warrants.{Warrant}
+use Rattle.certificate_model.specs.Warrants.{Warrant}
 use Rattle.plan_text.specs.CertificateReading.{certificate_of}
 use Rattle.plan_text.specs.declared.fault.BadText.{BadText}
 

@@ -1,7 +1,7 @@
 //! The lines of what `check` and `check-links` find.
 
 ghost use Rattle.std.specs.Prelude.{◌≡◌, ◌≢◌, IfOk, string_bytes};
-ghost use Rattle.plan_text.specs.Families.{table_of};
+ghost use Rattle.certificate_model.specs.Families.{table_of};
 ghost use Rattle.maxband_run.specs.Lines.{failing_text};
 ghost use Rattle.certificate_checker.specs.declared.reject.Reject.TheVariants as refusal;
 ghost use Rattle.maxband_run.specs.CheckLines.{best_line, bound_line, between_line, open_line, accepted_line};
@@ -136,7 +136,7 @@ fn failing_line(alloc: Global, failing: Failing) -> Result<String, AllocError>
 }
 
 /// The line of a refusal on an artery with so many signals. A refusal for want of memory has none, and is told as such.
-#[tactic(auto, unfolding(plan_text::specs::Families::ordinary))]
+#[tactic(auto, unfolding(certificate_model::specs::Families::ordinary))]
 pub fn rejected_line(alloc: Global, signals: u32, reject: &Reject) -> Result<String, AllocError>
     ensures kept { IfOk result (λ text. reject.now ≢ Reject.Memory) }
     ensures line { IfOk result (λ text. string_bytes text ≡ rejected_line signals reject.now) }

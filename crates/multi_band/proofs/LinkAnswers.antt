@@ -5,8 +5,8 @@ use Rattle.progression.specs.Street.{Street}
 use Rattle.artery_model.specs.Valid.{IsValid}
 use Rattle.linear_theory.specs.Boxes.{Area, root_box}
 use Rattle.named_row.specs.declared.leaves.Leaf.{Leaf}
-use Rattle.plan_text.specs.declared.certificate.Claim.{Claim}
-use Rattle.plan_text.specs.declared.certificate.Claim.TheVariants.{Best, NoTiming, Stopped}
+use Rattle.certificate_model.specs.declared.certificate.Claim.{Claim}
+use Rattle.certificate_model.specs.declared.certificate.Claim.TheVariants.{Best, NoTiming, Stopped}
 use Rattle.certificate_checker.specs.Accepted.{value_of, limit_of, IsBoundAbove}
 use Rattle.certificate_checker.specs.TreeProofs.{ProveAll}
 use Rattle.link_theory.specs.LinkRecord.{LinkRecord}

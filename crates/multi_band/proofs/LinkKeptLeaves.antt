@@ -16,8 +16,8 @@ use Rattle.linear_theory.proofs.Families.{lone_among, is_lone, IsIndex, row_inde
 use Rattle.named_row.specs.declared.names.RowId.{RowId}
 use Rattle.named_row.specs.declared.leaves.Leaf.{Leaf}
 use Rattle.named_row.specs.declared.leaves.Weight.{Weight}
-use Rattle.plan_text.specs.Families.{IsNamedIn, is_after}
-use Rattle.plan_text.specs.Warrants.{Ascend, IsNodeIn, LeafOf}
+use Rattle.certificate_model.specs.Families.{IsNamedIn, is_after}
+use Rattle.certificate_model.specs.Warrants.{Ascend, IsNodeIn, LeafOf}
 use Rattle.link_theory.specs.LinkNames.{LinkName, OfLines, link_families, link_name_of, HasLinkRow}
 use Rattle.link_theory.specs.LinkTrees.{AreLinkWeights}
 use Rattle.link_theory.proofs.LinkFamilies.{link_family_least, link_family_most, link_index_most}

@@ -14,6 +14,7 @@ use narrow_fraction::Frac;
 
 /// The number and `by` times another one, for this place: first the product, then the sum. Another one of 0 leaves the
 /// number as it is, and neither operation can be refused.
+#[inline(always)]
 pub fn add_number(number: Frac, by: Frac, other: Frac, place: Place) -> Result<Frac, WideAt>
     ensures { result ≡ attempt (place_refusal place by number other) (number +ℚ by *ℚ other) }
 {

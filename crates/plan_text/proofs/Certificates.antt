@@ -14,13 +14,13 @@ use Rattle.plan_text.specs.declared.form.LeafForm.{LeafForm}
 use Rattle.plan_text.specs.declared.form.LeafForm.TheVariants.{Over, Plain}
 use Rattle.plan_text.specs.declared.fault.TextFault.TheVariants.{Shape}
 use Rattle.plan_text.specs.declared.fault.TextEnd.{TextEnd}
-use Rattle.plan_text.specs.Words.{is_text}
+use Rattle.certificate_model.specs.Words.{is_text}
 use Rattle.plan_text.specs.Spelling.{end_line}
 use Rattle.plan_text.specs.Lines.{◌>>=◌, Gives, fault, line_at, fixed_at, nothing_at}
-use Rattle.plan_text.specs.Families.{Table, ordinary, IsNamedIn}
+use Rattle.certificate_model.specs.Families.{Table, ordinary, IsNamedIn}
 use Rattle.plan_text.specs.TimingTexts.{TimingText, one_band}
-use Rattle.plan_text.specs.Warrants.{Node, SplitAt, LeafOf, WarrantWith, Warrant, AreTrees, IsNodeIn}
-use Rattle.plan_text.proofs.KeptNodes.{IsNode}
+use Rattle.certificate_model.specs.Warrants.{Node, SplitAt, LeafOf, WarrantWith, Warrant, AreTrees, IsNodeIn}
+use Rattle.certificate_model.proofs.KeptNodes.{IsNode}
 use Rattle.plan_text.specs.CertificateText.{certificate_line, tree_line, claim_lines, IsHeldWeight, IsHeldNode, IsHeldWith, IsHeldWarrant}
 use Rattle.plan_text.specs.FirstText.{first_lines, first_text, certificate_text}
 use Rattle.plan_text.specs.SecondText.{second_line, row_lines, second_lines, second_text}

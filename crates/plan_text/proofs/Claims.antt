@@ -6,13 +6,13 @@ use Rattle.narrow_fraction.specs.Fraction.{FitsFrac}
 use Rattle.quantity_text.specs.Exact.{exact_spelling}
 use Rattle.plan_text.specs.declared.fault.BadText.{BadText}
 use Rattle.plan_text.specs.declared.fault.TextFault.TheVariants.{Shape}
-use Rattle.plan_text.specs.declared.certificate.Claim.{Claim}
-use Rattle.plan_text.specs.declared.certificate.Claim.TheVariants.{Best, NoTiming, Stopped}
-use Rattle.plan_text.specs.Words.{is_text, line_of}
+use Rattle.certificate_model.specs.declared.certificate.Claim.{Claim}
+use Rattle.certificate_model.specs.declared.certificate.Claim.TheVariants.{Best, NoTiming, Stopped}
+use Rattle.certificate_model.specs.Words.{is_text, line_of}
 use Rattle.plan_text.specs.Fractions.{exact}
 use Rattle.plan_text.specs.TimingTexts.{TimingText}
 use Rattle.plan_text.specs.Lines.{◌>>=◌, fault, line_at, words_at, fixed_at}
-use Rattle.plan_text.specs.Warrants.{HasTiming}
+use Rattle.certificate_model.specs.Warrants.{HasTiming}
 use Rattle.plan_text.specs.CertificateText.{best_line, none_line, open_line, no_timing_line, value_key, bound_key, fraction_words, claim_lines, IsHeldClaim, IsHeldTiming}
 use Rattle.plan_text.specs.CertificateReading.{or_number, fraction_of, Beginning, best_at, begins_with, found_at, missing_at, open_at, verdict_of, claim_at}
 use Rattle.plan_text.proofs.Fields.{bind_ok, guard_ok, moved, same_text, text_same, line_takes, line_again, fixed_takes, fixed_again, IsKey}

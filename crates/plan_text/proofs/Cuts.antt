@@ -2,7 +2,7 @@
 use Rattle.std.proofs.lemmas.List.{map-append}
 use Rattle.std.proofs.Common.{Bor, map, ◌≡◌, ℕ, suc, ◌<◌, Bool, true, false, List, [], ◌∷◌, ◌++◌, length, Option, Some, None, refl, sym, ◌∙◌, ap, arith, append_assoc}
 use Rattle.std.specs.Prelude.{option_map, ◌==◌, if◌then◌else◌}
-use Rattle.plan_text.specs.Words.{cut, words, with_byte}
+use Rattle.certificate_model.specs.Words.{cut, words, with_byte}
 
 -- the bytes before, and what a cut of the rest gives
 abbrev pub behind : List ℕ → Option (List ℕ × List ℕ) → Option (List ℕ × List ℕ)

@@ -14,7 +14,7 @@ use Rattle.rational_theory.specs.Rational.{ℚ, over}
 use Rattle.rational_theory.proofs.Lowest.{over-own}
 use Rattle.narrow_fraction.specs.Fraction.{FitsFrac}
 use Rattle.quantity_text.specs.Exact.{exact_spelling, denominator_text, SpellsExactly}
-use Rattle.plan_text.specs.Words.{cut, is_text}
+use Rattle.certificate_model.specs.Words.{cut, is_text}
 use Rattle.plan_text.specs.Numbers.{number}
 use Rattle.plan_text.specs.Fractions.{from_zero, below_zero, integer, signed_value, quotient_of, is_narrow, exact_if, exact}
 use Rattle.plan_text.proofs.Spellings.{decimal-number, number-decimal}

@@ -13,7 +13,7 @@ use Rattle.plan_text.specs.declared.fault.TextFault.{TextFault}
 use Rattle.plan_text.specs.declared.fault.TextFault.TheVariants.{Shape, Number}
 use Rattle.plan_text.specs.declared.fault.TextEnd.{TextEnd}
 use Rattle.plan_text.specs.declared.lines.NumberLine.{NumberLine}
-use Rattle.plan_text.specs.Words.{cut, words, is_text}
+use Rattle.certificate_model.specs.Words.{cut, words, is_text}
 use Rattle.plan_text.specs.Numbers.{number}
 use Rattle.plan_text.specs.Spelling.{spelled}
 use Rattle.plan_text.specs.Lines.{◌>>=◌, Gives, fault, line_or, line_at, fixed_at, nothing_at, ranged, numbers_in, numbers_of, numbers_at}

@@ -9,12 +9,12 @@ use Rattle.plan_text.specs.Lines.{◌>>=◌, fault, line_at, fixed_at, nothing_a
 use Rattle.plan_text.specs.Reading.{plan_at, timing_of}
 use Rattle.named_row.specs.declared.names.RowId.{RowId}
 use Rattle.plan_text.specs.declared.fault.TextFault.TheVariants.{Shape}
-use Rattle.plan_text.specs.Words.{is_text}
+use Rattle.certificate_model.specs.Words.{is_text}
 use Rattle.plan_text.specs.SecondText.{second_line}
 use Rattle.plan_text.specs.Namings.{Naming, Named, Listed, is_list}
-use Rattle.plan_text.specs.Families.{Table, ordinary}
+use Rattle.certificate_model.specs.Families.{Table, ordinary}
 use Rattle.plan_text.specs.TimingTexts.{TimingText, one_band}
-use Rattle.plan_text.specs.Warrants.{Node, WarrantWith, Warrant}
+use Rattle.certificate_model.specs.Warrants.{Node, WarrantWith, Warrant}
 use Rattle.plan_text.specs.CertificateText.{certificate_line, tree_line}
 use Rattle.plan_text.specs.CertificateReading.{nodes_at, Beginning, rows_at, claim_at, ends_after, tree_at, first_of, second_of, text_by, certificate_of, headed_of}
 use Rattle.plan_text.specs.FirstBad.{lines_in, NamesFirstBad, FirstBad}

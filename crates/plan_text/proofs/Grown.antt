@@ -5,7 +5,7 @@ use Rattle.plan_text.specs.declared.fault.TextFault.{TextFault}
 use Rattle.plan_text.specs.declared.fault.TextFault.TheVariants.{Ended, Shape, Number, Order}
 use Rattle.plan_text.specs.declared.fault.BadText.{BadText}
 use Rattle.plan_text.specs.declared.lines.NumberLine.{NumberLine}
-use Rattle.plan_text.specs.Words.{cut, words, is_text}
+use Rattle.certificate_model.specs.Words.{cut, words, is_text}
 use Rattle.plan_text.specs.Numbers.{number}
 use Rattle.plan_text.specs.Lines.{◌>>=◌, fault, line_or, line_at, words_at, fixed_at, ranged, numbers_in, has_shape, after_key, numbers_of, numbers_at}
 use Rattle.plan_text.specs.FirstBad.{lines_in}

@@ -11,15 +11,15 @@ use Rattle.plan_text.specs.declared.form.LeafForm.{LeafForm}
 use Rattle.plan_text.specs.declared.form.LeafForm.TheVariants.{Over, Plain}
 use Rattle.plan_text.specs.declared.tree.Head.{Head}
 use Rattle.plan_text.specs.declared.tree.Head.TheVariants as heads
-use Rattle.plan_text.specs.declared.certificate.Claim.{Claim}
-use Rattle.plan_text.specs.declared.certificate.Claim.TheVariants.{Best, NoTiming, Stopped}
-use Rattle.plan_text.specs.Words.{is_text}
+use Rattle.certificate_model.specs.declared.certificate.Claim.{Claim}
+use Rattle.certificate_model.specs.declared.certificate.Claim.TheVariants.{Best, NoTiming, Stopped}
+use Rattle.certificate_model.specs.Words.{is_text}
 use Rattle.plan_text.specs.Numbers.{number}
 use Rattle.plan_text.specs.Fractions.{integer, exact}
 use Rattle.plan_text.specs.Lines.{◌>>=◌, fault, line_at, words_at, fixed_at, ranged}
 use Rattle.plan_text.specs.TimingTexts.{TimingText}
-use Rattle.plan_text.specs.Families.{Table, family_in, is_lone_in, is_after}
-use Rattle.plan_text.specs.Warrants.{Node, LeafOf}
+use Rattle.certificate_model.specs.Families.{Table, family_in, is_lone_in, is_after}
+use Rattle.certificate_model.specs.Warrants.{Node, LeafOf}
 use Rattle.plan_text.specs.CertificateText.{best_line, none_line, open_line, no_timing_line, value_key, bound_key, split_key, loop_key, turn_key, leaf_key}
 use Rattle.plan_text.specs.SecondText.{rows_key}
 use Rattle.plan_text.specs.Namings.{Naming, Named, Listed, fractions_key, is_form}

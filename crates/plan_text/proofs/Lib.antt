@@ -15,7 +15,6 @@ pub mod FamilyNames
 pub mod RowLoop
 pub mod WordLines
 pub mod WeightLines
-pub mod KeptNodes
 pub mod NodeLines
 pub mod NodeLoop
 pub mod Claims

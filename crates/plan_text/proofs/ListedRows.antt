@@ -10,11 +10,11 @@ use Rattle.named_row.specs.declared.names.RowId.{RowId}
 use Rattle.named_row.specs.declared.leaves.Leaf.{Leaf}
 use Rattle.search_box.specs.declared.span.At.{At}
 use Rattle.named_row.specs.Order.{is_below}
-use Rattle.plan_text.specs.declared.certificate.CertNode.{CertNode}
-use Rattle.plan_text.specs.declared.certificate.CertNode.TheVariants as code
-use Rattle.plan_text.specs.Families.{is_after, IsNamed}
-use Rattle.plan_text.specs.Warrants.{Node, SplitAt, LeafOf, node_of}
-use Rattle.plan_text.proofs.KeptNodes.{IsNode}
+use Rattle.certificate_model.specs.declared.certificate.CertNode.{CertNode}
+use Rattle.certificate_model.specs.declared.certificate.CertNode.TheVariants as code
+use Rattle.certificate_model.specs.Families.{is_after, IsNamed}
+use Rattle.certificate_model.specs.Warrants.{Node, SplitAt, LeafOf, node_of}
+use Rattle.certificate_model.proofs.KeptNodes.{IsNode}
 use Rattle.plan_text.specs.Leaves.{with_row, with_rows, rows_from, rows_of, AscendRows}
 use Rattle.plan_text.proofs.RowOrder.{row_cmp, row_cases, below_apart}
 

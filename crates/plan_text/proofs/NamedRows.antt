@@ -6,10 +6,10 @@ use Rattle.std.specs.List.{AllByRecursion}
 use Rattle.named_row.specs.declared.leaves.Weight.{Weight}
 use Rattle.named_row.specs.declared.names.RowId.{RowId}
 use Rattle.plan_text.specs.declared.form.LeafForm.{LeafForm}
-use Rattle.plan_text.specs.Words.{line_of}
+use Rattle.certificate_model.specs.Words.{line_of}
 use Rattle.plan_text.specs.Numbers.{number}
 use Rattle.plan_text.specs.Lines.{◌>>=◌, ranged, words_at}
-use Rattle.plan_text.specs.Families.{Table, IsNamedIn}
+use Rattle.certificate_model.specs.Families.{Table, IsNamedIn}
 use Rattle.plan_text.specs.Leaves.{AscendRows, place_of_row, multiplier_word}
 use Rattle.plan_text.specs.Namings.{Naming, Named, Listed, IsFormed, name_words, weight_words}
 use Rattle.plan_text.specs.CertificateReading.{or_number, range_of, listed_row, row_in, multiplier_of, cut_last, weight_by, weight_of}

@@ -15,13 +15,13 @@ use Rattle.plan_text.specs.declared.form.LeafForm.{LeafForm}
 use Rattle.plan_text.specs.declared.form.LeafForm.TheVariants.{Over, Plain}
 use Rattle.plan_text.specs.declared.tree.Head.{Head}
 use Rattle.plan_text.specs.declared.tree.Head.TheVariants as heads
-use Rattle.plan_text.specs.Words.{is_text, line_of}
+use Rattle.certificate_model.specs.Words.{is_text, line_of}
 use Rattle.plan_text.specs.Numbers.{number}
 use Rattle.plan_text.specs.Fractions.{integer, exact}
 use Rattle.plan_text.specs.Lines.{◌>>=◌, fault, ranged, line_at, words_at}
-use Rattle.plan_text.specs.Families.{Table, IsNamedIn}
-use Rattle.plan_text.specs.Warrants.{Node, SplitAt, LeafOf, AreTrees, Ascend, IsNodeIn}
-use Rattle.plan_text.proofs.KeptNodes.{IsNode}
+use Rattle.certificate_model.specs.Families.{Table, IsNamedIn}
+use Rattle.certificate_model.specs.Warrants.{Node, SplitAt, LeafOf, AreTrees, Ascend, IsNodeIn}
+use Rattle.certificate_model.proofs.KeptNodes.{IsNode}
 use Rattle.plan_text.specs.CertificateText.{split_key, loop_key, turn_key, leaf_key, split_words, IsHeldWeight, IsHeldNode}
 use Rattle.plan_text.specs.Leaves.{form_of}
 use Rattle.plan_text.specs.Namings.{Naming, Named, Listed, fractions_key, IsFormed, same_form, is_form, weight_words, weight_line, first_words, leaf_lines, form_by, node_lines}

@@ -2,12 +2,12 @@
 use Rattle.std.proofs.Common.{◌≡◌, ℕ, zero, suc, ◌+◌, ◌-◌, ◌<◌, ◌≤◌, Bor, map, List, [], ◌∷◌, ◌++◌, length, Result, Ok, Err, refl, sym, ap, subst, ◌∙◌, append_assoc, append-nil, arith}
 use Rattle.std.specs.Prelude.{IfOk}
 use Rattle.std.proofs.lemmas.List.{map-append}
-use Rattle.plan_text.specs.declared.certificate.CertNode.{CertNode}
+use Rattle.certificate_model.specs.declared.certificate.CertNode.{CertNode}
 use Rattle.plan_text.specs.declared.fault.BadText.{BadText}
 use Rattle.plan_text.specs.declared.fault.TextEnd.{TextEnd}
 use Rattle.plan_text.specs.Lines.{◌>>=◌, Gives, Fails}
 use Rattle.plan_text.specs.Namings.{Naming}
-use Rattle.plan_text.specs.Warrants.{Node, SplitAt, LeafOf, node_of}
+use Rattle.certificate_model.specs.Warrants.{Node, SplitAt, LeafOf, node_of}
 use Rattle.plan_text.specs.CertificateReading.{node_at, owed_after, nodes_at}
 use Rattle.plan_text.proofs.NodeLines.{node_lengths, nodes_then, first_node}
 use Rattle.plan_text.proofs.RowLoop.{fails_then, fails_as, then_ok}

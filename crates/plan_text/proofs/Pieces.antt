@@ -6,7 +6,7 @@ use Rattle.std.specs.Fmt.{decimal}
 use Rattle.std.specs.List.{AllByRecursion}
 use Rattle.std.proofs.lemmas.Bool.Decides.{nat_tests}
 use Rattle.std.proofs.lemmas.Str.Parse.{tells_all_ascii_digits}
-use Rattle.plan_text.specs.Words.{cut, words, with_byte, line_of}
+use Rattle.certificate_model.specs.Words.{cut, words, with_byte, line_of}
 use Rattle.plan_text.specs.Spelling.{spelled}
 use Rattle.plan_text.proofs.Cuts.{some_is, words_one, words_more}
 use Rattle.plan_text.proofs.Spellings.{all_digits_decimal}

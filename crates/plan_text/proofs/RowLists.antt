@@ -8,13 +8,13 @@ use Rattle.named_row.specs.declared.leaves.Weight.{Weight}
 use Rattle.named_row.specs.declared.names.RowId.{RowId}
 use Rattle.named_row.specs.Order.{is_below, IsBelow}
 use Rattle.plan_text.specs.declared.fault.TextFault.TheVariants.{Shape}
-use Rattle.plan_text.specs.Words.{is_text, line_of}
+use Rattle.certificate_model.specs.Words.{is_text, line_of}
 use Rattle.plan_text.specs.Numbers.{number}
 use Rattle.plan_text.specs.Lines.{◌>>=◌, ranged, words_at}
-use Rattle.plan_text.specs.Families.{Table, ordinary, IsNamed, IsNamedIn}
-use Rattle.plan_text.specs.Warrants.{Node, SplitAt, LeafOf}
-use Rattle.plan_text.proofs.KeptNodes.{IsNode}
-use Rattle.plan_text.specs.CertificateText.{row_words_in, IsHeldWeight, IsHeldNode}
+use Rattle.certificate_model.specs.Families.{Table, ordinary, IsNamed, IsNamedIn, row_words_in}
+use Rattle.certificate_model.specs.Warrants.{Node, SplitAt, LeafOf}
+use Rattle.certificate_model.proofs.KeptNodes.{IsNode}
+use Rattle.plan_text.specs.CertificateText.{IsHeldWeight, IsHeldNode}
 use Rattle.plan_text.specs.SecondText.{rows_key}
 use Rattle.plan_text.specs.Leaves.{rows_of, AscendRows}
 use Rattle.plan_text.specs.CertificateReading.{range_of, row_of, own_row, names_at, row_count, rows_at}

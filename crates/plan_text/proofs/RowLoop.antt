@@ -7,9 +7,9 @@ use Rattle.plan_text.specs.declared.fault.BadText.{BadText}
 use Rattle.plan_text.specs.declared.fault.TextEnd.{TextEnd}
 use Rattle.plan_text.specs.declared.fault.TextEnd.TheVariants as ends
 use Rattle.plan_text.specs.declared.fault.TextFault.TheVariants.{Order}
-use Rattle.plan_text.specs.Words.{line_of}
+use Rattle.certificate_model.specs.Words.{line_of}
 use Rattle.plan_text.specs.Lines.{◌>>=◌, Fails, fault, words_at}
-use Rattle.plan_text.specs.Families.{is_after}
+use Rattle.certificate_model.specs.Families.{is_after}
 use Rattle.plan_text.proofs.Fields.{bind_ok, guard_ok, moved}
 use Rattle.plan_text.proofs.WordLines.{words_take, words_shorter, ended_and}
 use Rattle.plan_text.specs.CertificateReading.{read_after, rising_at}

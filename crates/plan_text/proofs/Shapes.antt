@@ -5,7 +5,7 @@ use Rattle.plan_text.specs.declared.fault.BadText.{BadText}
 use Rattle.plan_text.specs.declared.fault.TextFault.TheVariants.{Shape}
 use Rattle.plan_text.specs.declared.fault.TextEnd.{TextEnd}
 use Rattle.plan_text.specs.declared.fault.TextEnd.TheVariants as ends
-use Rattle.plan_text.specs.Words.{is_text}
+use Rattle.certificate_model.specs.Words.{is_text}
 use Rattle.plan_text.specs.Lines.{fault, Fails}
 use Rattle.plan_text.specs.SecondText.{rows_key}
 use Rattle.plan_text.specs.CertificateText.{split_key}

@@ -4,7 +4,7 @@ use Rattle.std.specs.Prelude.{◌⊎◌, if◌then◌else◌}
 use Rattle.std.proofs.lemmas.Bool.{cases_lt}
 use Rattle.plan_text.specs.declared.fault.TextFault.TheVariants.{Ended, Shape}
 use Rattle.plan_text.specs.declared.fault.BadText.{BadText}
-use Rattle.plan_text.specs.Words.{cut}
+use Rattle.certificate_model.specs.Words.{cut}
 use Rattle.plan_text.specs.Spelling.{end_line}
 use Rattle.plan_text.specs.Lines.{◌>>=◌, fault, line_or, line_at, fixed_at, nothing_at}
 use Rattle.plan_text.specs.FirstBad.{lines_in, StandsUpTo, NamesFirstBad}

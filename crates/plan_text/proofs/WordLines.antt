@@ -1,7 +1,7 @@
 -- Lines of words, and texts of many lines.
 use Rattle.std.proofs.Common.{◌≡◌, ℕ, ◌+◌, ◌≤◌, true, List, [], ◌∷◌, ◌++◌, length, Option, Some, None, Ok, refl, sym, ap, ◌∙◌, append-nil, length-append, arith}
 use Rattle.std.specs.List.{AllByRecursion}
-use Rattle.plan_text.specs.Words.{words, after_space, line_of}
+use Rattle.certificate_model.specs.Words.{words, after_space, line_of}
 use Rattle.plan_text.specs.Spelling.{ended}
 use Rattle.plan_text.specs.Lines.{line_at, words_at}
 use Rattle.plan_text.specs.CertificateReading.{or_number}

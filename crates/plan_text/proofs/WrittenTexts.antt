@@ -10,14 +10,14 @@ use Rattle.named_row.specs.declared.names.RowId.{RowId}
 use Rattle.plan_text.specs.declared.fault.BadText.{BadText}
 use Rattle.plan_text.specs.declared.form.LeafForm.{LeafForm}
 use Rattle.rational_theory.specs.Rational.{ℚ}
-use Rattle.plan_text.specs.declared.certificate.Claim.{Claim}
-use Rattle.plan_text.specs.declared.certificate.Claim.TheVariants.{Best, NoTiming, Stopped}
-use Rattle.plan_text.specs.declared.certificate.CertNode.{CertNode}
-use Rattle.plan_text.specs.Words.{after_space, line_of}
+use Rattle.certificate_model.specs.declared.certificate.Claim.{Claim}
+use Rattle.certificate_model.specs.declared.certificate.Claim.TheVariants.{Best, NoTiming, Stopped}
+use Rattle.certificate_model.specs.declared.certificate.CertNode.{CertNode}
+use Rattle.certificate_model.specs.Words.{after_space, line_of}
 use Rattle.plan_text.specs.Spelling.{ended, end_line}
 use Rattle.plan_text.specs.TimingTexts.{TimingText, one_band}
-use Rattle.plan_text.specs.Families.{Table, family_name_in, is_lone_in}
-use Rattle.plan_text.specs.Warrants.{Node, LeafOf, node_of, IsNodeIn, HasTiming, WarrantWith, Warrant}
+use Rattle.certificate_model.specs.Families.{Table, family_name_in, is_lone_in}
+use Rattle.certificate_model.specs.Warrants.{Node, LeafOf, node_of, IsNodeIn, HasTiming, WarrantWith, Warrant}
 use Rattle.plan_text.specs.CertificateText.{best_line, open_line, no_timing_line, tree_line, value_key, bound_key, fraction_words, timing_part, claim_lines, IsHeldTiming, IsHeldNode}
 use Rattle.plan_text.specs.FirstText.{first_text}
 use Rattle.plan_text.specs.Leaves.{rows_of, place_of_row, multiplier_word, IsWritable}

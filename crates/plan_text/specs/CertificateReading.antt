@@ -10,18 +10,18 @@ use Rattle.plan_text.specs.declared.fault.BadText.{BadText}
 use Rattle.plan_text.specs.declared.lines.NumberLine.{NumberLine}
 use Rattle.plan_text.specs.declared.tree.Head.{Head}
 use Rattle.plan_text.specs.declared.tree.Head.TheVariants as heads
-use Rattle.plan_text.specs.declared.certificate.Claim.{Claim}
-use Rattle.plan_text.specs.declared.certificate.Claim.TheVariants.{Best, NoTiming, Stopped}
+use Rattle.certificate_model.specs.declared.certificate.Claim.{Claim}
+use Rattle.certificate_model.specs.declared.certificate.Claim.TheVariants.{Best, NoTiming, Stopped}
 use Rattle.plan_text.specs.declared.form.LeafForm.{LeafForm}
 use Rattle.plan_text.specs.declared.form.LeafForm.TheVariants.{Over, Plain}
-use Rattle.plan_text.specs.Words.{is_text}
+use Rattle.certificate_model.specs.Words.{is_text}
 use Rattle.plan_text.specs.Numbers.{number}
 use Rattle.plan_text.specs.Fractions.{integer, exact}
 use Rattle.plan_text.specs.Spelling.{end_line}
 use Rattle.plan_text.specs.Lines.{◌>>=◌, fault, line_at, words_at, fixed_at, nothing_at, ranged}
 use Rattle.plan_text.specs.TimingTexts.{TimingText, one_band}
-use Rattle.plan_text.specs.Families.{Table, ordinary, family_in, is_lone_in, is_after}
-use Rattle.plan_text.specs.Warrants.{Node, SplitAt, LeafOf, WarrantWith, Warrant}
+use Rattle.certificate_model.specs.Families.{Table, ordinary, family_in, is_lone_in, is_after}
+use Rattle.certificate_model.specs.Warrants.{Node, SplitAt, LeafOf, WarrantWith, Warrant}
 use Rattle.plan_text.specs.SecondText.{second_line, rows_key}
 use Rattle.plan_text.specs.Namings.{Naming, Named, Listed, fractions_key, IsFormed, is_form, is_list}
 use Rattle.plan_text.specs.CertificateText.{certificate_line, best_line, none_line, open_line, no_timing_line, tree_line, value_key, bound_key, split_key, loop_key, turn_key, leaf_key}

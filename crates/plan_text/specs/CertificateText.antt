@@ -9,12 +9,12 @@ use Rattle.named_row.specs.declared.leaves.Weight.{Weight}
 use Rattle.named_row.specs.declared.names.RowId.{RowId}
 use Rattle.search_box.specs.declared.span.At.{At}
 use Rattle.search_box.specs.declared.span.At.TheVariants.{Loop, Turn}
-use Rattle.plan_text.specs.declared.certificate.Claim.{Claim}
-use Rattle.plan_text.specs.declared.certificate.Claim.TheVariants.{Best, NoTiming, Stopped}
-use Rattle.plan_text.specs.Words.{line_of}
+use Rattle.certificate_model.specs.declared.certificate.Claim.{Claim}
+use Rattle.certificate_model.specs.declared.certificate.Claim.TheVariants.{Best, NoTiming, Stopped}
+use Rattle.certificate_model.specs.Words.{line_of}
 use Rattle.plan_text.specs.TimingTexts.{TimingText, one_band}
-use Rattle.plan_text.specs.Families.{Table, ordinary, family_name_in, is_lone_in}
-use Rattle.plan_text.specs.Warrants.{Node, SplitAt, LeafOf, WarrantWith, Warrant, IsCertificateIn}
+use Rattle.certificate_model.specs.Families.{Table, ordinary, family_name_in, is_lone_in}
+use Rattle.certificate_model.specs.Warrants.{Node, SplitAt, LeafOf, WarrantWith, Warrant, IsCertificateIn}
 
 -- lines that stand as they are
 abbrev pub certificate_line : List ℕ
@@ -57,13 +57,6 @@ leaf_key = codes "leaf"
 -- a key and a fraction
 abbrev pub fraction_words : List ℕ → ℚ → List (List ℕ)
 fraction_words key x = key ∷ exact_spelling x ∷ []
-
--- a row's name: its family's, and its index where the family has one
-abbrev pub row_words_in : Table → RowId → List (List ℕ)
-row_words_in table row = if is_lone_in table row.family then family_name_in table row.family ∷ [] else family_name_in table row.family ∷ decimal row.index ∷ []
-
-abbrev pub row_words : RowId → List (List ℕ)
-row_words row = row_words_in ordinary row
 
 abbrev pub split_words : At → List (List ℕ)
 split_words (Loop link at) = split_key ∷ loop_key ∷ decimal link ∷ signed_decimal at ∷ []

@@ -6,7 +6,7 @@ use Rattle.plan_text.specs.declared.fault.BadText.{BadText}
 use Rattle.plan_text.specs.Spelling.{timing_text, IsHeld}
 use Rattle.plan_text.specs.Lines.{fault}
 use Rattle.plan_text.specs.Reading.{timing_of}
-use Rattle.plan_text.specs.Warrants.{Warrant}
+use Rattle.certificate_model.specs.Warrants.{Warrant}
 use Rattle.plan_text.specs.CertificateText.{IsHeldWarrant}
 use Rattle.plan_text.specs.FirstText.{certificate_text}
 use Rattle.plan_text.specs.SecondText.{second_text}

@@ -2,8 +2,8 @@
 use Rattle.std.specs.Prelude.{ℕ, List, ◌∷◌, ◌++◌}
 use Rattle.plan_text.specs.Spelling.{ended}
 use Rattle.plan_text.specs.TimingTexts.{TimingText, one_band}
-use Rattle.plan_text.specs.Families.{Table, ordinary}
-use Rattle.plan_text.specs.Warrants.{WarrantWith, Warrant}
+use Rattle.certificate_model.specs.Families.{Table, ordinary}
+use Rattle.certificate_model.specs.Warrants.{WarrantWith, Warrant}
 use Rattle.plan_text.specs.CertificateText.{certificate_line, claim_lines}
 use Rattle.plan_text.specs.Namings.{Named, tree_lines}
 

@@ -3,7 +3,7 @@ use Rattle.std.specs.Prelude.{ℕ, ℤ, pos, neg_ℤ, unsigned_abs, ◌^◌, ◌
 use Rattle.std.specs.Str.Parse.{digits_value}
 use Rattle.rational_theory.specs.Rational.{ℚ, over}
 use Rattle.quantity_text.specs.Exact.{exact_spelling}
-use Rattle.plan_text.specs.Words.{cut, is_text}
+use Rattle.certificate_model.specs.Words.{cut, is_text}
 use Rattle.plan_text.specs.Numbers.{number}
 
 -- a number of 64 bits, and one below 0

@@ -10,8 +10,8 @@ use Rattle.named_row.specs.declared.leaves.Weight.{Weight}
 use Rattle.named_row.specs.declared.names.RowId.{RowId}
 use Rattle.plan_text.specs.declared.form.LeafForm.{LeafForm}
 use Rattle.plan_text.specs.declared.form.LeafForm.TheVariants.{Over, Plain}
-use Rattle.plan_text.specs.Families.{is_after}
-use Rattle.plan_text.specs.Warrants.{Node, SplitAt, LeafOf}
+use Rattle.certificate_model.specs.Families.{is_after}
+use Rattle.certificate_model.specs.Warrants.{Node, SplitAt, LeafOf}
 
 -- ---- the list of rows
 -- a row at its place among rows that ascend, once

@@ -1,12 +1,9 @@
-pub mod Words
 pub mod Numbers
 pub mod Fractions
 pub mod Spelling
 pub mod Lines
 pub mod Reading
 pub mod TimingTexts
-pub mod Families
-pub mod Warrants
 pub mod CertificateText
 pub mod Leaves
 pub mod Namings

@@ -1,6 +1,6 @@
 -- Reading a text line by line. Each reader answers what it read and the bytes that follow, or the first fault with its line.
 use Rattle.std.specs.Prelude.{◌≡◌, ℕ, nat_le, ◌&&◌, List, [], ◌∷◌, length, Bool, false, Option, None, Some, Result, Ok, Err, if◌then◌else◌}
-use Rattle.plan_text.specs.Words.{cut, words, is_text}
+use Rattle.certificate_model.specs.Words.{cut, words, is_text}
 use Rattle.plan_text.specs.Numbers.{number}
 use Rattle.plan_text.specs.declared.fault.TextFault.{TextFault}
 use Rattle.plan_text.specs.declared.fault.TextFault.TheVariants.{Ended, Shape, Number}

@@ -9,11 +9,11 @@ use Rattle.plan_text.specs.declared.form.LeafForm.{LeafForm}
 use Rattle.plan_text.specs.declared.form.LeafForm.TheVariants.{Over, Plain}
 use Rattle.plan_text.specs.declared.naming.Naming as code
 use Rattle.plan_text.specs.declared.naming.Naming.TheVariants as codes
-use Rattle.plan_text.specs.Words.{line_of}
+use Rattle.certificate_model.specs.Words.{line_of}
 use Rattle.plan_text.specs.Spelling.{end_line}
-use Rattle.plan_text.specs.Families.{Table, table_of, IsNamedIn}
-use Rattle.plan_text.specs.Warrants.{Node, SplitAt, LeafOf, IsNodeIn}
-use Rattle.plan_text.specs.CertificateText.{row_words_in, split_words, tree_line, leaf_key}
+use Rattle.certificate_model.specs.Families.{Table, table_of, IsNamedIn, row_words_in}
+use Rattle.certificate_model.specs.Warrants.{Node, SplitAt, LeafOf, IsNodeIn}
+use Rattle.plan_text.specs.CertificateText.{split_words, tree_line, leaf_key}
 use Rattle.plan_text.specs.Leaves.{rows_of, AscendRows, place_of_row, form_of, multiplier_word}
 
 pub data Naming : Type 0 where

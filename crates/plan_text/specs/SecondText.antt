@@ -4,11 +4,12 @@
 use Rattle.std.specs.Prelude.{ℕ, List, [], ◌∷◌, ◌++◌, length, map, codes}
 use Rattle.std.specs.Fmt.{decimal}
 use Rattle.named_row.specs.declared.names.RowId.{RowId}
-use Rattle.plan_text.specs.Words.{line_of}
+use Rattle.certificate_model.specs.Words.{line_of}
 use Rattle.plan_text.specs.Spelling.{ended}
 use Rattle.plan_text.specs.TimingTexts.{one_band}
-use Rattle.plan_text.specs.Warrants.{Warrant}
-use Rattle.plan_text.specs.CertificateText.{row_words, claim_lines}
+use Rattle.certificate_model.specs.Warrants.{Warrant}
+use Rattle.certificate_model.specs.Families.{row_words}
+use Rattle.plan_text.specs.CertificateText.{claim_lines}
 use Rattle.plan_text.specs.Leaves.{rows_of}
 use Rattle.plan_text.specs.Namings.{Listed, tree_lines}
 

@@ -2,28 +2,27 @@
 
 ghost use Rattle.std.specs.Prelude.{◌≡◌, ◌+◌, ◌≤◌, ◌⊎◌, length, IfOk, Ok};
 ghost use Rattle.plan_text.specs.Lines.{Gives};
-ghost use Rattle.plan_text.specs.Families.{ordinary};
-ghost use Rattle.plan_text.specs.Warrants.{Warrant, warrant_of};
+ghost use Rattle.certificate_model.specs.Families.{ordinary};
+ghost use Rattle.certificate_model.specs.Warrants.{Warrant, warrant_of};
 ghost use Rattle.plan_text.specs.FirstText.{certificate_text};
 ghost use Rattle.plan_text.specs.SecondText.{second_text};
 ghost use Rattle.plan_text.specs.CertificateText.{IsHeldWarrant};
 ghost use Rattle.plan_text.specs.CertificateReading.{rows_at, first_of, second_of, certificate_of, headed_of};
 
-use crate::certificate::Certificate;
 use crate::claim::{Parts, claim_at};
-use crate::family::FAMILIES;
 use crate::fault::{TextEnd, TextFault};
 use crate::lines::{bad, fixed_at, line_at};
 use crate::naming::Naming;
 use crate::row_list::rows_at;
 use crate::timing_text::{OneBand, TimingKind};
 use crate::tree::tree_at;
+use certificate_model::{Certificate, FAMILIES};
 use named_row::RowId;
 use std::alloc::Global;
 use time_space::Timing;
 
 /// The list of rows of an ordinary certificate, the number of the line after it, and what follows.
-#[tactic(auto, unfolding(crate::specs::Families::ordinary))]
+#[tactic(auto, unfolding(certificate_model::specs::Families::ordinary))]
 fn ordinary_rows_at(
     alloc: Global,
     line: u64,

@@ -4,17 +4,16 @@ ghost use Rattle.std.specs.Prelude.{◌≡◌, ◌++◌, ◌∷◌, [], ◌<◌,
 ghost use Rattle.std.specs.Fmt.{decimal};
 ghost use Rattle.narrow_fraction.specs.Fraction.{FitsFrac};
 ghost use Rattle.quantity_text.specs.Exact.{exact_spelling};
-ghost use Rattle.plan_text.specs.Words.{line_of};
+ghost use Rattle.certificate_model.specs.Words.{line_of};
 ghost use Rattle.plan_text.specs.Spelling.{ended};
-ghost use Rattle.plan_text.specs.Families.{table_of, IsNamedIn};
-ghost use Rattle.plan_text.specs.Warrants.{SplitAt, warrant_of, HasTiming, IsCertificateIn};
-ghost use Rattle.plan_text.specs.CertificateText.{fraction_words, row_words_in, split_words, timing_part, claim_lines, IsHeldClaim, IsHeldTiming, IsHeldNode, IsHeldWith};
+ghost use Rattle.certificate_model.specs.Families.{table_of, row_words_in, IsNamedIn};
+ghost use Rattle.certificate_model.specs.Warrants.{SplitAt, warrant_of, HasTiming, IsCertificateIn};
+ghost use Rattle.plan_text.specs.CertificateText.{fraction_words, split_words, timing_part, claim_lines, IsHeldClaim, IsHeldTiming, IsHeldNode, IsHeldWith};
 ghost use Rattle.plan_text.specs.FirstText.{first_text, certificate_text};
 ghost use Rattle.plan_text.specs.CertificateReading.{certificate_of};
 
-use crate::certificate::{CertNode, Certificate, Claim};
-use crate::family::{FamilyName, family_name_in, is_lone_in};
 use crate::timing_text::{OneBand, TimingKind};
+use certificate_model::{CertNode, Certificate, Claim, FamilyName, family_name_in, is_lone_in};
 use named_row::RowId;
 use narrow_fraction::{Frac, Memory};
 use quantity_text::exact_text;

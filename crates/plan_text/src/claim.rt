@@ -2,14 +2,14 @@
 
 ghost use Rattle.std.specs.Prelude.{◌≡◌, ◌≤◌, map, IfOk};
 ghost use Rattle.plan_text.specs.Lines.{Gives};
-ghost use Rattle.plan_text.specs.Warrants.{warrant_of};
+ghost use Rattle.certificate_model.specs.Warrants.{warrant_of};
 ghost use Rattle.plan_text.specs.CertificateReading.{begins_with, claim_with, valued_at, missing_at, open_at, verdict_of, claim_at};
 
-use crate::certificate::{CertNode, Claim};
 use crate::fault::{TextEnd, TextFault};
 use crate::fraction::fraction_of;
 use crate::lines::{bad, fixed_at, line_at, words_at};
 use crate::timing_text::TimingKind;
+use certificate_model::{CertNode, Claim};
 use narrow_fraction::Frac;
 use std::alloc::Global;
 

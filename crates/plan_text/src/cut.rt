@@ -1,7 +1,7 @@
 //! Bytes cut at a byte.
 
 ghost use Rattle.std.specs.Prelude.{◌≡◌, ◌++◌, ◌<◌, map, option_map, IfOk};
-ghost use Rattle.plan_text.specs.Words.{cut, words};
+ghost use Rattle.certificate_model.specs.Words.{cut, words};
 
 use std::alloc::{AllocError, Global};
 

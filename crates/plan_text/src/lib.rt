@@ -28,7 +28,6 @@
 
 mod cert_reading;
 mod cert_writing;
-mod certificate;
 mod claim;
 mod cut;
 mod divisor_law;
@@ -52,10 +51,11 @@ mod writing;
 
 pub use cert_reading::{headed_at, read_certificate};
 pub use cert_writing::{write_certificate, write_named};
-pub use certificate::{CertNode, Certificate, Claim};
+pub use certificate_model::{
+    CertNode, Certificate, Claim, FAMILIES, FamilyName, family_name_in, is_lone, is_lone_in,
+};
 pub use claim::Parts;
 pub use divisor_law::law_divisor_rule;
-pub use family::{FAMILIES, FamilyName, family_name_in, is_lone, is_lone_in};
 pub use fault::{BadText, TextEnd, TextFault};
 pub use laws::{law_first_bad, law_one_text, law_reads_back};
 pub use naming::Naming;

@@ -3,7 +3,7 @@
 ghost use Rattle.std.specs.Prelude.{◌≡◌, ◌≤◌, All, map, length, IfOk};
 ghost use Rattle.plan_text.specs.Lines.{Gives, line_at, words_at, fixed_at, nothing_at, ranged, numbers_in, has_shape, numbers_of, numbers_at};
 ghost use Rattle.plan_text.specs.Numbers.{number};
-ghost use Rattle.plan_text.specs.Words.{words};
+ghost use Rattle.certificate_model.specs.Words.{words};
 
 use crate::cut::{cut, words};
 use crate::fault::{BadText, TextEnd, TextFault};

@@ -2,10 +2,10 @@
 
 ghost use Rattle.std.specs.Prelude.{◌≡◌, None, map, OnOk, IfOk};
 ghost use Rattle.named_row.specs.Order.{is_below};
-ghost use Rattle.plan_text.specs.Warrants.{node_of};
+ghost use Rattle.certificate_model.specs.Warrants.{node_of};
 ghost use Rattle.plan_text.specs.Leaves.{with_rows, rows_of, AscendRows, place_of_row};
 
-use crate::certificate::CertNode;
+use certificate_model::CertNode;
 use named_row::{RowId, Weight};
 use narrow_fraction::Memory;
 use std::alloc::Global;

@@ -3,7 +3,7 @@
 ghost use Rattle.std.specs.Prelude.{◌≡◌};
 ghost use Rattle.plan_text.specs.Namings.{naming_of, fractions_key};
 
-use crate::family::FamilyName;
+use certificate_model::FamilyName;
 use named_row::RowId;
 
 /// How the leaves of a tree name their rows.

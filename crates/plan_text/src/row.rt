@@ -3,16 +3,17 @@
 ghost use Rattle.std.specs.Prelude.{◌≡◌, ◌+◌, ◌≤◌, ◌<◌, ◌^◌, map, option_map, slice_get, length, IfOk, Ok, None};
 ghost use Rattle.plan_text.specs.Lines.{Gives, ranged};
 ghost use Rattle.plan_text.specs.Numbers.{number};
-ghost use Rattle.plan_text.specs.Families.{table_of, is_after};
+ghost use Rattle.certificate_model.specs.Families.{table_of, is_after};
 ghost use Rattle.plan_text.specs.Namings.{naming_of, IsSmall, IsFormed};
 ghost use Rattle.plan_text.specs.CertificateReading.{range_of, index_of, lone_row, indexed_row, row_of, listed_row, row_in, cut_last, weight_of, read_after, row_of_weight, weights_at};
 
-use crate::family::{FamilyName, family_in, is_lone_in};
+use crate::family::family_in;
 use crate::fault::{TextEnd, TextFault};
 use crate::form::LeafForm;
 use crate::fraction::multiplier_of;
 use crate::lines::{NumberLine, bad, ranged, words_at};
 use crate::naming::Naming;
+use certificate_model::{FamilyName, is_lone_in};
 use named_row::{RowId, Weight};
 use std::alloc::Global;
 

@@ -2,13 +2,13 @@
 
 ghost use Rattle.std.specs.Prelude.{◌≡◌, ◌+◌, ◌≤◌, ◌<◌, ◌^◌, map, length, IfOk, None};
 ghost use Rattle.plan_text.specs.Lines.{Gives};
-ghost use Rattle.plan_text.specs.Families.{table_of};
+ghost use Rattle.certificate_model.specs.Families.{table_of};
 ghost use Rattle.plan_text.specs.CertificateReading.{row_of, read_after, own_row, names_at, row_count, rows_at};
 
-use crate::family::FamilyName;
 use crate::fault::{TextEnd, TextFault};
 use crate::lines::{bad, ranged, words_at};
 use crate::row::{is_after, range, row_of};
+use certificate_model::FamilyName;
 use named_row::RowId;
 use std::alloc::Global;
 

@@ -2,23 +2,22 @@
 
 ghost use Rattle.std.specs.Prelude.{◌≡◌, ◌++◌, ◌∷◌, [], All, Ok, map, IfOk, OnOk};
 ghost use Rattle.plan_text.specs.Spelling.{ended};
-ghost use Rattle.plan_text.specs.Families.{IsNamed};
+ghost use Rattle.certificate_model.specs.Families.{IsNamed};
 ghost use Rattle.plan_text.specs.SecondText.{row_line, row_lines, second_text};
 ghost use Rattle.plan_text.specs.CertificateReading.{certificate_of};
 
 use crate::cert_writing::{push, push_claim, push_line, push_name};
-use crate::certificate::Certificate;
-use crate::family::FAMILIES;
 use crate::listed::rows_of;
 use crate::naming::Naming;
 use crate::timing_text::OneBand;
 use crate::tree_writing::push_tree;
+use certificate_model::{Certificate, FAMILIES};
 use named_row::RowId;
 use narrow_fraction::Memory;
 use std::alloc::Global;
 
 /// Writes the line of a row's name.
-#[tactic(auto, unfolding(crate::specs::Families::ordinary))]
+#[tactic(auto, unfolding(certificate_model::specs::Families::ordinary))]
 fn push_row(alloc: Global, out: &mut Vec<u8>, row: RowId) -> Result<(), Memory>
     requires { IsNamed row }
     ensures { OnOk result (out.new.items ≡ out.old.items ++ ended (row_line row ∷ [])) }

@@ -4,20 +4,19 @@ ghost use Rattle.std.specs.Prelude.{◌≡◌, ◌≤◌, ◌<◌, ◌+◌, ◌+
 ghost use Rattle.plan_text.specs.Lines.{Gives};
 ghost use Rattle.plan_text.specs.Spelling.{ended};
 ghost use Rattle.plan_text.specs.TimingTexts.{TimingText, one_band};
-ghost use Rattle.plan_text.specs.Families.{Table, ordinary};
-ghost use Rattle.plan_text.specs.Warrants.{node_of, IsNodeIn};
+ghost use Rattle.certificate_model.specs.Families.{Table, ordinary};
+ghost use Rattle.certificate_model.specs.Warrants.{node_of, IsNodeIn};
 ghost use Rattle.plan_text.specs.CertificateText.{IsHeldNode};
 ghost use Rattle.plan_text.specs.Namings.{Named, tree_lines};
 ghost use Rattle.plan_text.specs.CertificateReading.{tree_at};
 
-use crate::certificate::CertNode;
-use crate::family::FAMILIES;
 use crate::fault::TextEnd;
 use crate::naming::Naming;
 use crate::reading::plan_at;
 use crate::tree::tree_at;
 use crate::tree_writing::push_tree;
 use crate::writing::push_plan;
+use certificate_model::{CertNode, FAMILIES};
 use narrow_fraction::Memory;
 use std::alloc::Global;
 use time_space::Timing;
@@ -81,12 +80,12 @@ impl TimingKind for OneBand {
         push_plan(alloc, out, timing)
     }
 
-    #[tactic(auto, unfolding(crate::specs::Families::ordinary))]
+    #[tactic(auto, unfolding(certificate_model::specs::Families::ordinary))]
     fn named_tree_at(alloc: Global, line: u64, bytes: &[u8]) -> Result<Vec<CertNode>, TextEnd> {
         tree_at(alloc, Naming::Named(&FAMILIES), line, bytes)
     }
 
-    #[tactic(auto, unfolding(crate::specs::Families::ordinary))]
+    #[tactic(auto, unfolding(certificate_model::specs::Families::ordinary))]
     fn push_named_tree(alloc: Global, out: &mut Vec<u8>, nodes: &[CertNode]) -> Result<(), Memory> {
         push_tree(alloc, out, Naming::Named(&FAMILIES), nodes)
     }

@@ -2,18 +2,18 @@
 
 ghost use Rattle.std.specs.Prelude.{◌≡◌, ◌++◌, ◌∷◌, [], All, None, map, flat_map, OnOk};
 ghost use Rattle.std.specs.Fmt.{decimal, signed_decimal};
-ghost use Rattle.plan_text.specs.Words.{line_of};
+ghost use Rattle.certificate_model.specs.Words.{line_of};
 ghost use Rattle.plan_text.specs.Spelling.{ended};
-ghost use Rattle.plan_text.specs.Warrants.{node_of, LeafOf};
+ghost use Rattle.certificate_model.specs.Warrants.{node_of, LeafOf};
 ghost use Rattle.plan_text.specs.CertificateText.{IsHeldWeight, IsHeldNode};
 ghost use Rattle.plan_text.specs.Leaves.{AscendRows, place_of_row, multiplier_word, IsWritable};
 ghost use Rattle.plan_text.specs.Namings.{naming_of, name_words, weight_line, first_words, leaf_lines, form_by, node_lines, tree_lines, HasWords, IsWritableNode, AreWritable};
 
 use crate::cert_writing::{push, push_fraction, push_line, push_name, push_split};
-use crate::certificate::CertNode;
 use crate::form::{LeafForm, form_of, whole_over};
 use crate::listed::place_of_row;
 use crate::naming::{Naming, fractions_key};
+use certificate_model::CertNode;
 use named_row::{RowId, Weight};
 use narrow_fraction::Memory;
 use std::alloc::Global;

@@ -17,7 +17,7 @@ use Rattle.fraction_tableau.specs.KeptCells.{number_in}
 use Rattle.fraction_tableau.proofs.Zeros.{negated_zero}
 use Rattle.simplex_theory.specs.Tableau.{Tableau, width}
 use Rattle.entry_theory.specs.Entry.{variable_at, entry_row, entry_after}
-use Rattle.program_builder.specs.Remembering.{IsLess, IsNoteOf, AreNotesOf}
+use Rattle.program_builder.specs.Remembering.{IsLess, AreTurned, IsNoteOf, AreNotesOf}
 use Rattle.program_builder.specs.declared.noting.Turn.{Turn}
 
 -- ---- written one after another
@@ -94,6 +94,21 @@ turning_next r column old now k x t n h l f = record {
         (subst (λ z. IsLess (number_in column k) (number_in now r) z x) (t.rest k (omega arith) n) l))
     pick i o (inr q) =
         subst (λ z. IsLess (number_in column i) (number_in now r) (number_in old i) z) (sym (get_or-set_other now k i x (whole (pos 0)) (λ d. absurd (omega arith)))) (t.done i q o)
+
+-- the pivot's own row alone, where its new bound is 0
+pub turned_alone : (r : ℕ) (column old : List ℚ) (x : ℚ) → r < length old → IsNarrow old → x ≡ number_in old r *ℚ inverse_ℚ (number_in column r) → Fits128 Div (number_in old r) (number_in column r) → x ≡ whole (pos 0)
+    → AreTurned r column old (set old r x)
+turned_alone r column old x h n e q z = record {
+  count = length-set old r x;
+  own = own ∙ e;
+  quotient = q;
+  others = λ i b o.
+      subst (λ t. IsLess (number_in column i) (number_in (set old r x) r) (number_in old i) t) (sym (get_or-set_other old r i x (whole (pos 0)) o))
+      (less_nothing (number_in column i) (number_in (set old r x) r) (number_in old i) (n.fits i) (zero_own (number_in column i) (number_in (set old r x) r) (own ∙ z)));
+}
+  where
+    own : number_in (set old r x) r ≡ x
+    own = get_or-set_same old r x (whole (pos 0)) h
 
 -- ---- notes
 -- the notes of the turns below k

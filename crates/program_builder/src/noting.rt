@@ -95,6 +95,9 @@ impl Turn {
             Err(_) => return false,
         };
         bounds[row] = own;
+        if own.is_zero() {
+            return true;
+        }
         for line in 0..bounds.len() {
             if line != row {
                 match less(bounds[line], &self.column[line], own) {

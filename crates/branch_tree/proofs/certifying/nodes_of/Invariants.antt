@@ -1,5 +1,5 @@
 use Rattle.std.proofs.Common.{◌≡◌, map, take}
-use Rattle.plan_text.specs.Warrants as warrants
+use Rattle.certificate_model.specs.Warrants as warrants
 use Rattle.branch_tree.specs.Trees as trees
 use Rattle.branch_tree.proofs.certifying.nodes_of.Given as goal
 

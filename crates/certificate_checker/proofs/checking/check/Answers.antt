@@ -1,5 +1,5 @@
 use Rattle.std.proofs.lemmas.Result.{on_ok_weaker}
-use Rattle.plan_text.specs.Warrants.{Warrant, warrant_of}
+use Rattle.certificate_model.specs.Warrants.{Warrant, warrant_of}
 use Rattle.search_box.proofs.Streets.{street_of}
 use Rattle.certificate_checker.specs.Checked.{IsAcceptedOf}
 use Rattle.certificate_checker.specs.Refusals.{one_band}

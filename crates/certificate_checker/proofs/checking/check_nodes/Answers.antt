@@ -1,7 +1,7 @@
 use Rattle.std.proofs.Common.{None, OnOk, length, map, sym, subst, ◌≡◌, ◌∙◌, ap}
 use Rattle.std.specs.Prelude.{IfErr}
 use Rattle.named_row.specs.Sheets.{Sheet}
-use Rattle.plan_text.specs.Warrants.{node_of}
+use Rattle.certificate_model.specs.Warrants.{node_of}
 use Rattle.certificate_checker.specs.TreeRefusals.{IsFirst}
 use Rattle.certificate_checker.proofs.NodeRefusals.{same_tree}
 use Rattle.certificate_checker.proofs.checking.check_nodes.Goals as goal

@@ -1,7 +1,7 @@
 use Rattle.std.proofs.Common.{inr}
 use Rattle.std.proofs.lemmas.Result.{err_from_is_err_and}
 use Rattle.narrow_fraction.proofs.Attempt.{attempt_ok, attempt_err}
-use Rattle.plan_text.specs.Warrants.{warrant_of}
+use Rattle.certificate_model.specs.Warrants.{warrant_of}
 use Rattle.certificate_checker.proofs.Acceptance.{numbers_first, checked}
 use Rattle.certificate_checker.proofs.checking.check_parts.Goals as goal
 

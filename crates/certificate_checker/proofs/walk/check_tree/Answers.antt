@@ -1,7 +1,7 @@
 use Rattle.std.proofs.Common.{◌+◌, List, [], ◌∷◌, map, drop, length, subst, ◌∙◌, ap, arith}
 use Rattle.std.proofs.lemmas.Result.{err_from_is_err_and}
 use Rattle.std.proofs.lemmas.List.{drop_all}
-use Rattle.plan_text.specs.Warrants.{Node, node_of, AreTrees}
+use Rattle.certificate_model.specs.Warrants.{Node, node_of, AreTrees}
 use Rattle.certificate_checker.specs.TreeRefusals.{tree_refusal}
 use Rattle.certificate_checker.proofs.NodeRefusals.{first_moved, node_left, tree_in}
 use Rattle.certificate_checker.proofs.walk.check_tree.Goals as goal

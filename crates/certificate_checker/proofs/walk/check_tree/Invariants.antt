@@ -1,5 +1,5 @@
 use Rattle.std.proofs.Common.{◌≡◌, ◌≤◌, [], ◌∷◌, length, map, drop, All}
-use Rattle.plan_text.specs.Warrants.{node_of, AreTrees}
+use Rattle.certificate_model.specs.Warrants.{node_of, AreTrees}
 use Rattle.certificate_checker.proofs.NodeRefusals.{refusal_left}
 use Rattle.certificate_checker.proofs.walk.check_tree.Given as goal
 

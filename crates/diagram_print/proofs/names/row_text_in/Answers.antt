@@ -1,5 +1,5 @@
 use Rattle.std.proofs.Common.{◌≡◌, List, ℕ, IfOk, string_bytes, sym, ◌∙◌, subst}
-use Rattle.plan_text.specs.Families.{table_of}
+use Rattle.certificate_model.specs.Families.{table_of}
 use Rattle.diagram_print.specs.Names.{numbered}
 use Rattle.diagram_print.proofs.RowNames.{indexed}
 use Rattle.diagram_print.proofs.names.row_text_in.Goals as goal

@@ -1,5 +1,5 @@
 use Rattle.std.proofs.lemmas.Result.{on_ok_weaker}
-use Rattle.plan_text.specs.Warrants.{warrant_of}
+use Rattle.certificate_model.specs.Warrants.{warrant_of}
 use Rattle.search_box.proofs.Streets.{street_of}
 use Rattle.link_proof.specs.LinkWarrants.{LinkWarrant}
 use Rattle.link_proof.specs.LinkAccepted.{IsLinkAccepted}

@@ -1,4 +1,4 @@
-use Rattle.plan_text.specs.Warrants.{warrant_of}
+use Rattle.certificate_model.specs.Warrants.{warrant_of}
 use Rattle.plan_text.proofs.Certificates.{headed_takes}
 use Rattle.link_proof.specs.LinkTimingTexts.{link_bands}
 use Rattle.link_proof.specs.LinkFamilies.{links}

@@ -1,6 +1,6 @@
 use Rattle.std.proofs.Common.{List, sym, subst}
-use Rattle.plan_text.specs.declared.certificate.CertNode.{CertNode}
-use Rattle.plan_text.specs.Warrants.{warrant_of}
+use Rattle.certificate_model.specs.declared.certificate.CertNode.{CertNode}
+use Rattle.certificate_model.specs.Warrants.{warrant_of}
 use Rattle.plan_text.proofs.WrittenTexts.{read_again}
 use Rattle.link_proof.specs.LinkWarrants.{IsLinkCertificate, IsHeldLinkWarrant, links_text, links_of}
 use Rattle.link_proof.proofs.LinkTexts.{links_again}

@@ -1,5 +1,5 @@
 use Rattle.std.proofs.Common.{◌∙◌, ap, subst}
-use Rattle.plan_text.specs.Warrants.{Warrant}
+use Rattle.certificate_model.specs.Warrants.{Warrant}
 use Rattle.maxband_run.specs.Searched.{IsTextOf}
 use Rattle.maxband_run.proofs.searching.search_and_tell.Goals as goal
 

@@ -1,4 +1,4 @@
-use Rattle.plan_text.specs.Warrants.{warrant_of}
+use Rattle.certificate_model.specs.Warrants.{warrant_of}
 use Rattle.plan_text.proofs.Certificates.{certificate_takes}
 use Rattle.plan_text.proofs.cert_reading.certificate_of.Goals as goal
 

@@ -1,5 +1,5 @@
 use Rattle.std.proofs.Common.{Ok, map, ap, sym, ◌∙◌}
-use Rattle.plan_text.specs.Warrants.{node_of}
+use Rattle.certificate_model.specs.Warrants.{node_of}
 use Rattle.plan_text.proofs.Certificates.{first_read}
 use Rattle.plan_text.proofs.cert_reading.first_of.Goals as goal
 

@@ -1,6 +1,6 @@
 use Rattle.std.proofs.Common.{◌≡◌, Ok, List, map, ap, sym, subst, ◌∙◌}
 use Rattle.named_row.specs.declared.names.RowId.{RowId}
-use Rattle.plan_text.specs.Warrants.{node_of}
+use Rattle.certificate_model.specs.Warrants.{node_of}
 use Rattle.plan_text.specs.Namings.{Listed}
 use Rattle.plan_text.specs.CertificateReading.{tree_at}
 use Rattle.plan_text.proofs.Certificates.{second_read}

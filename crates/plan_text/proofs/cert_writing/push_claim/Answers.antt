@@ -2,9 +2,9 @@ use Rattle.std.proofs.Common.{sym, subst, ◌∙◌, ap}
 use Rattle.std.specs.Prelude.{Option}
 use Rattle.std.proofs.lemmas.Result.{on_ok_weaker}
 use Rattle.rational_theory.specs.Rational.{ℚ}
-use Rattle.plan_text.specs.declared.certificate.Claim.{Claim}
-use Rattle.plan_text.specs.declared.certificate.Claim.TheVariants.{Stopped}
-use Rattle.plan_text.specs.Warrants.{HasTiming}
+use Rattle.certificate_model.specs.declared.certificate.Claim.{Claim}
+use Rattle.certificate_model.specs.declared.certificate.Claim.TheVariants.{Stopped}
+use Rattle.certificate_model.specs.Warrants.{HasTiming}
 use Rattle.plan_text.specs.CertificateText.{IsHeldClaim}
 use Rattle.plan_text.proofs.WrittenTexts.{best_written, missing_written, stopped_written, none_held, missing_held}
 use Rattle.plan_text.proofs.cert_writing.push_claim.Goals as goal

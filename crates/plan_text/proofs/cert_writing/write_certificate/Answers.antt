@@ -1,6 +1,6 @@
 use Rattle.std.proofs.Common.{List, sym, subst}
-use Rattle.plan_text.specs.declared.certificate.CertNode.{CertNode}
-use Rattle.plan_text.specs.Warrants.{warrant_of, IsCertificate}
+use Rattle.certificate_model.specs.declared.certificate.CertNode.{CertNode}
+use Rattle.certificate_model.specs.Warrants.{warrant_of, IsCertificate}
 use Rattle.plan_text.specs.FirstText.{certificate_text}
 use Rattle.plan_text.specs.CertificateText.{IsHeldWarrant}
 use Rattle.plan_text.specs.CertificateReading.{certificate_of}

@@ -1,6 +1,6 @@
 use Rattle.std.proofs.Common.{◌∙◌, ◌++◌, ◌∷◌, [], ℕ, ap, List}
 use Rattle.plan_text.specs.Spelling.{ended}
-use Rattle.plan_text.specs.Warrants.{warrant_of}
+use Rattle.certificate_model.specs.Warrants.{warrant_of}
 use Rattle.plan_text.proofs.WrittenTexts.{first_written}
 use Rattle.plan_text.proofs.cert_writing.write_named.Goals as goal
 

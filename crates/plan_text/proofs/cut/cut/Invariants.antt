@@ -1,5 +1,5 @@
 use Rattle.std.proofs.Common.{◌≡◌, take, drop}
-use Rattle.plan_text.specs.Words.{cut}
+use Rattle.certificate_model.specs.Words.{cut}
 use Rattle.plan_text.proofs.Cuts.{behind}
 use Rattle.plan_text.proofs.cut.cut.Given as goal
 

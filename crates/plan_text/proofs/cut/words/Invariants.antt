@@ -1,5 +1,5 @@
 use Rattle.std.proofs.Common.{◌≡◌, ◌++◌, map, length}
-use Rattle.plan_text.specs.Words.{words}
+use Rattle.certificate_model.specs.Words.{words}
 use Rattle.plan_text.proofs.cut.words.Given as goal
 
 -- the words so far and those of the rest are the line's

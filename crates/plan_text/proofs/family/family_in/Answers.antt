@@ -1,6 +1,6 @@
 use Rattle.std.proofs.Common.{List, ℕ, sym, ap, ◌∙◌}
-use Rattle.plan_text.specs.Words.{is_text}
-use Rattle.plan_text.specs.Families.{table_of, family_in}
+use Rattle.certificate_model.specs.Words.{is_text}
+use Rattle.certificate_model.specs.Families.{table_of, family_in}
 use Rattle.plan_text.proofs.FamilyNames.{goes_on, stops}
 use Rattle.plan_text.proofs.family.family_in.Goals as goal
 

@@ -1,5 +1,5 @@
 use Rattle.std.proofs.Common.{◌≡◌, ◌+◌, drop}
-use Rattle.plan_text.specs.Families.{table_of, texts, number_in, family_in}
+use Rattle.certificate_model.specs.Families.{table_of, texts, number_in, family_in}
 use Rattle.plan_text.proofs.family.family_in.Given as goal
 
 -- the names so far are others

@@ -2,7 +2,7 @@ use Rattle.std.proofs.Common.{◌≡◌, ◌∙◌, ap, sym, subst, List, map, d
 use Rattle.std.specs.Result.{IfOk}
 use Rattle.std.proofs.lemmas.Result.{IfOk-weaker}
 use Rattle.named_row.specs.declared.names.RowId.{RowId}
-use Rattle.plan_text.specs.Warrants.{node_of}
+use Rattle.certificate_model.specs.Warrants.{node_of}
 use Rattle.plan_text.specs.Leaves.{rows_from, AscendRows, with_rows}
 use Rattle.plan_text.proofs.ListedRows.{split_next, leaf_next, nodes_passed, rows_ascend}
 use Rattle.plan_text.proofs.listed.rows_of.Goals as goal

@@ -1,5 +1,5 @@
 use Rattle.std.proofs.Common.{◌≡◌, drop, map}
-use Rattle.plan_text.specs.Warrants.{node_of}
+use Rattle.certificate_model.specs.Warrants.{node_of}
 use Rattle.plan_text.specs.Leaves.{rows_of, rows_from}
 use Rattle.plan_text.proofs.listed.rows_of.Given as goal
 

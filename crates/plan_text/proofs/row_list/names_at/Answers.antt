@@ -1,6 +1,6 @@
 use Rattle.std.proofs.Common.{◌+◌, map, None, arith}
 use Rattle.std.proofs.lemmas.Result.{err_from_is_err_and}
-use Rattle.plan_text.specs.Families.{table_of}
+use Rattle.certificate_model.specs.Families.{table_of}
 use Rattle.plan_text.specs.CertificateReading.{own_row, row_of, names_at}
 use Rattle.plan_text.proofs.RowLoop.{goes_on, no_words, no_weight, is_done, words_are}
 use Rattle.plan_text.proofs.WordLines.{words_shorter}

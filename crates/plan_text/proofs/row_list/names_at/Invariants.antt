@@ -1,5 +1,5 @@
 use Rattle.std.proofs.Common.{◌≡◌, ◌+◌, ◌-◌, ◌≤◌, length, None}
-use Rattle.plan_text.specs.Families.{table_of}
+use Rattle.certificate_model.specs.Families.{table_of}
 use Rattle.plan_text.specs.CertificateReading.{names_at}
 use Rattle.plan_text.proofs.RowLoop.{with_front}
 use Rattle.plan_text.proofs.row_list.names_at.Given as goal

@@ -1,10 +1,10 @@
 use Rattle.std.proofs.Common.{◌≡◌, ◌∙◌, ◌++◌, ◌∷◌, [], ℕ, sym, ap, subst, map, List, All}
 use Rattle.plan_text.specs.Namings.{Listed, tree_lines}
 use Rattle.named_row.specs.declared.names.RowId.{RowId}
-use Rattle.plan_text.specs.declared.certificate.CertNode.{CertNode}
+use Rattle.certificate_model.specs.declared.certificate.CertNode.{CertNode}
 use Rattle.plan_text.specs.Spelling.{ended}
-use Rattle.plan_text.specs.Families.{IsNamed}
-use Rattle.plan_text.specs.Warrants.{Warrant, warrant_of, node_of}
+use Rattle.certificate_model.specs.Families.{IsNamed}
+use Rattle.certificate_model.specs.Warrants.{Warrant, warrant_of, node_of}
 use Rattle.plan_text.specs.CertificateText.{IsHeldNode, IsHeldWarrant}
 use Rattle.plan_text.specs.SecondText.{second_line, row_lines, second_text}
 use Rattle.plan_text.specs.Leaves.{rows_of}

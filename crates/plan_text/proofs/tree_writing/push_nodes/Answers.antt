@@ -1,9 +1,9 @@
 use Rattle.std.proofs.Common.{◌≡◌, ◌++◌, map, All, List, subst, sym, append-nil, arith}
 use Rattle.std.specs.Prelude.{flat_map}
 use Rattle.std.proofs.lemmas.List.{take_all}
-use Rattle.plan_text.specs.declared.certificate.CertNode.{CertNode}
+use Rattle.certificate_model.specs.declared.certificate.CertNode.{CertNode}
 use Rattle.plan_text.specs.Spelling.{ended}
-use Rattle.plan_text.specs.Warrants.{node_of}
+use Rattle.certificate_model.specs.Warrants.{node_of}
 use Rattle.plan_text.specs.CertificateText.{IsHeldNode}
 use Rattle.plan_text.specs.Namings.{naming_of, node_lines}
 use Rattle.plan_text.proofs.Written.{more_flat}

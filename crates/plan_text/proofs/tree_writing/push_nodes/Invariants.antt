@@ -1,7 +1,7 @@
 use Rattle.std.proofs.Common.{◌≡◌, ◌++◌, map, take, All}
 use Rattle.std.specs.Prelude.{flat_map}
 use Rattle.plan_text.specs.Spelling.{ended}
-use Rattle.plan_text.specs.Warrants.{node_of}
+use Rattle.certificate_model.specs.Warrants.{node_of}
 use Rattle.plan_text.specs.CertificateText.{IsHeldNode}
 use Rattle.plan_text.specs.Namings.{naming_of, node_lines}
 use Rattle.plan_text.proofs.tree_writing.push_nodes.Given as goal

@@ -1,6 +1,6 @@
 use Rattle.std.proofs.Common.{map}
 use Rattle.std.proofs.lemmas.Result.{on_ok_weaker}
-use Rattle.plan_text.specs.Warrants.{node_of}
+use Rattle.certificate_model.specs.Warrants.{node_of}
 use Rattle.plan_text.specs.Namings.{naming_of}
 use Rattle.plan_text.proofs.WrittenTexts.{tree_written}
 use Rattle.plan_text.proofs.tree_writing.push_tree.Goals as goal

@@ -1,8 +1,10 @@
-use Rattle.std.proofs.Common.{List, pos, length, ◌+◌, ◌<◌, sym, ◌∙◌, subst, arith}
+use Rattle.std.proofs.Common.{◌≡◌, List, pos, length, ◌+◌, ◌<◌, sym, ap₂, ◌∙◌, subst, arith}
 use Rattle.std.proofs.lemmas.List.{get_or_default}
-use Rattle.rational_theory.specs.Rational.{ℚ, whole}
+use Rattle.rational_theory.specs.Rational.{ℚ, whole, ◌/ℚ◌}
 use Rattle.program_builder.proofs.BoundTurns.{less_is}
-use Rattle.program_builder.proofs.WrittenBounds.{IsTurningBounds, turning_next, turning_own}
+use Rattle.program_builder.proofs.WrittenBounds.{IsTurningBounds, turning_next, turning_own, turned_alone}
+use Rattle.fraction_tableau.specs.KeptCells.{number_in}
+use Rattle.narrow_fraction.specs.Fraction.{FitsFrac}
 use Rattle.program_builder.proofs.noting.Turn.turn_bounds.Goals as goal
 use Rattle.program_builder.proofs.noting.Turn.turn_bounds.Goals.{then-line-row+in-Some, else-line-row}
 
@@ -27,3 +29,17 @@ loop-line-preserved c =
           (turning_own c.args.self.now.row c.args.self.now.column.items c.args.bounds.now c.loop-line.bounds c.loop-line.line c.loop-line.invariant.turning (omega arith))
     ] in
     record { turning = turning; own = c.loop-line.invariant.own ∙ c.loop-line.invariant.turning.own ∙ sym turning.own }
+
+pub returns-then-is_zero-clause-turned : goal.returns-then-is_zero-clause-turned
+returns-then-is_zero-clause-turned c =
+    let r = c.args.self.now.row in
+    let column = c.args.self.now.column.items in
+    let old = c.args.bounds.now in
+    let there : r < length column = omega (arith, c.requires.row, c.requires.column) in
+    let top : c.index-bounds-row.result ≡ number_in old r = c.index-bounds-row.is ∙ get_or_default old r c.index-bounds-row.result (whole (pos 0)) c.requires.row in
+    let under : c.fraction.result ≡ number_in column r = c.fraction.ensures.value ∙ c.index.ensures ∙ get_or_default column r c.index.result.now (whole (pos 0)) there in
+    let same : c.index-bounds-row.result /ℚ c.fraction.result ≡ number_in old r /ℚ number_in column r = ap₂ (λ x y. x /ℚ y) top under in
+    λ _. turned_alone r column old c.fitting-own.result c.requires.row c.requires.narrow
+    (c.fitting-own.ensures.same ∙ c.in-Ok.ensures.value.1 ∙ same)
+    (subst FitsFrac same c.in-Ok.ensures.value.0)
+    (c.is_zero.ensures.0 c.if-is_zero.true)

@@ -1,11 +1,12 @@
 -- The names of rows as texts spell them, over a table of families: a family's number, from 1 on, and the number of a signal or link, or 0 in a family of one
 -- row. The families of an ordinary certificate, by which texts they go, and which of them have one row, are those of the linear model's table.
+use Rattle.std.specs.Fmt.{decimal}
 use Rattle.std.specs.Prelude.{◌≡◌, ℕ, ◌+◌, ◌-◌, ◌≤◌, ◌==◌, ◌||◌, List, [], ◌∷◌, length, map, Bool, true, false, Option, None, Some, slice_index_or, if◌then◌else◌}
 use Rattle.linear_theory.specs.Names as rows
 use Rattle.named_row.specs.Order.{is_below}
 use Rattle.named_row.specs.declared.names.RowId.{RowId}
-use Rattle.plan_text.specs.declared.family.FamilyName.{FamilyName}
-use Rattle.plan_text.specs.Words.{is_text}
+use Rattle.certificate_model.specs.declared.family.FamilyName.{FamilyName}
+use Rattle.certificate_model.specs.Words.{is_text}
 
 -- a family as texts name it, and whether it has one row alone, which has no index there
 pub record Family : Type 0 where
@@ -48,6 +49,10 @@ number_in n (name ∷ names) w = if is_text name w then Some n else number_in (n
 abbrev pub family_in : Table → List ℕ → Option ℕ
 family_in table w = number_in 1 (texts table) w
 
+-- a row's name: its family's, and its index where the family has one
+abbrev pub row_words_in : Table → RowId → List (List ℕ)
+row_words_in table row = if is_lone_in table row.family then family_name_in table row.family ∷ [] else family_name_in table row.family ∷ decimal row.index ∷ []
+
 -- a row has a name: its family is there, and it has an index exactly where it isn't the family's only row
 pub record IsNamedIn (table : Table) (row : RowId) : Type 0 where
   pub first : 1 ≤ row.family
@@ -65,6 +70,9 @@ is_lone family = is_lone_in ordinary family
 
 abbrev pub IsNamed : RowId → Type 0
 IsNamed row = IsNamedIn ordinary row
+
+abbrev pub row_words : RowId → List (List ℕ)
+row_words row = row_words_in ordinary row
 
 -- ---- the order of rows
 -- a row comes after the last one, if there is one

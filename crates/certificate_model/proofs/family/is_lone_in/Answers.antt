@@ -1,7 +1,7 @@
 use Rattle.std.proofs.Common.{◌-◌, ap, ◌∙◌, sym}
-use Rattle.plan_text.specs.Families.{table_of, is_lone_in}
-use Rattle.plan_text.proofs.FamilyNames.{zero_lone, lone_here, lone_past}
-use Rattle.plan_text.proofs.family.is_lone_in.Goals as goal
+use Rattle.certificate_model.specs.Families.{table_of, is_lone_in}
+use Rattle.certificate_model.proofs.FamilyTables.{zero_lone, lone_here, lone_past}
+use Rattle.certificate_model.proofs.family.is_lone_in.Goals as goal
 
 pub returns-then-family-eq0 : goal.returns-then-family-eq0
 returns-then-family-eq0 c = sym (ap (is_lone_in (table_of c.args.names.now)) c.if-family-eq0.true ∙ zero_lone (table_of c.args.names.now))

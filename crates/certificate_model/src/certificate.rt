@@ -39,7 +39,7 @@ pub struct Certificate {
 }
 
 impl Model for Certificate {
-    ghost use Rattle.plan_text.specs.Warrants.{Warrant, warrant_of, IsCertificate};
+    ghost use Rattle.certificate_model.specs.Warrants.{Warrant, warrant_of, IsCertificate};
 
     ghost Value = { Warrant };
 

@@ -5,11 +5,11 @@ use Rattle.named_row.specs.declared.leaves.Weight.{Weight}
 use Rattle.named_row.specs.declared.names.RowId.{RowId}
 use Rattle.search_box.specs.declared.span.At.{At}
 use Rattle.search_box.specs.declared.span.At.TheVariants.{Loop, Turn}
-use Rattle.plan_text.specs.declared.certificate.Claim.{Claim}
-use Rattle.plan_text.specs.declared.certificate.Claim.TheVariants.{Best, NoTiming, Stopped}
-use Rattle.plan_text.specs.declared.certificate.CertNode.{CertNode}
-use Rattle.plan_text.specs.declared.certificate.CertNode.TheVariants.{Split, Leaf}
-use Rattle.plan_text.specs.Families.{Table, ordinary, IsNamedIn, is_after}
+use Rattle.certificate_model.specs.declared.certificate.Claim.{Claim}
+use Rattle.certificate_model.specs.declared.certificate.Claim.TheVariants.{Best, NoTiming, Stopped}
+use Rattle.certificate_model.specs.declared.certificate.CertNode.{CertNode}
+use Rattle.certificate_model.specs.declared.certificate.CertNode.TheVariants.{Split, Leaf}
+use Rattle.certificate_model.specs.Families.{Table, ordinary, IsNamedIn, is_after}
 
 -- a box is split at a place, or rows are summed, each with its multiplier
 pub data Node : Type 0 where

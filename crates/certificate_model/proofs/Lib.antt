@@ -1,0 +1,2 @@
+pub mod FamilyTables
+pub mod KeptNodes
