@@ -5,7 +5,7 @@ use Rattle.std.proofs.lemmas.Bool.Decides.{nat_tests}
 use Rattle.std.proofs.Common.{◌≡◌, ℕ, zero, suc, ◌+◌, ◌-◌, ◌<◌, ◌≤◌, Bool, true, false, List, [], ◌∷◌, get_or, length, refl, sym, ap, ◌∙◌, ltb, ltb-true, ltb-false, arith}
 use Rattle.std.specs.Prelude.{if◌then◌else◌, slice_index_or, ◌==◌, ◌||◌}
 use Rattle.certificate_model.specs.declared.family.FamilyName.{FamilyName}
-use Rattle.certificate_model.specs.Families.{Table, Family, named, table_of, texts, family_name_in, lone_among, is_lone_in}
+use Rattle.certificate_model.specs.Families.{Table, named, table_of, texts, family_name_in, lone_among, is_lone_in}
 
 lt-eqb : (n k : ℕ) → n < k → (k == n) ≡ false
 lt-eqb n k lt = grind (arith, nat_tests)
