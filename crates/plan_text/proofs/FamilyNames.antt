@@ -1,12 +1,11 @@
 -- Each family has one name, and each name is of one family.
 use Rattle.std.proofs.lemmas.List.{drop_more, length-map}
-use Rattle.std.proofs.lemmas.Bool.{and_parts, eqb-true, true≢false, eq-eqb}
-use Rattle.std.proofs.lemmas.Bool.Decides.{nat_tests}
-use Rattle.std.proofs.Common.{◌≡◌, ℕ, zero, suc, ◌+◌, ◌-◌, ◌<◌, ◌≤◌, ◌⊎◌, inl, inr, Bool, true, false, List, [], ◌∷◌, drop, get_or, length, Option, Some, None, refl, sym, ap, ◌∙◌, subst, ltb, ltb-true, ltb-false, arith}
-use Rattle.std.specs.Prelude.{if◌then◌else◌, slice_index_or, ◌==◌, ◌&&◌, ◌||◌}
+use Rattle.std.proofs.lemmas.Bool.{and_parts, eqb-true, true≢false}
+use Rattle.std.proofs.Common.{◌≡◌, ℕ, zero, suc, ◌+◌, ◌-◌, ◌<◌, ◌≤◌, ◌⊎◌, inl, inr, Bool, true, false, List, [], ◌∷◌, drop, get_or, length, Option, Some, None, refl, sym, ap, ◌∙◌, subst, arith}
+use Rattle.std.specs.Prelude.{if◌then◌else◌, slice_index_or, ◌==◌, ◌&&◌}
 use Rattle.certificate_model.specs.Words.{is_text}
 use Rattle.certificate_model.specs.declared.family.FamilyName.{FamilyName}
-use Rattle.certificate_model.specs.Families.{Table, Family, named, table_of, texts, ordinary, family_name_in, lone_among, is_lone_in, number_in, family_in}
+use Rattle.certificate_model.specs.Families.{Table, Family, table_of, texts, ordinary, family_name_in, number_in, family_in}
 use Rattle.plan_text.proofs.Pieces.{lacks}
 use Rattle.plan_text.proofs.Fields.{same_text, IsKey}
 

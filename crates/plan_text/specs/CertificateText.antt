@@ -1,19 +1,18 @@
 -- The words and lines of a certificate's texts, but for the lines of its tree.
-use Rattle.std.specs.Prelude.{ℕ, ◌<◌, ◌^◌, List, [], ◌∷◌, All, codes, Option, None, Some, FitsSigned, if◌then◌else◌}
+use Rattle.std.specs.Prelude.{ℕ, ◌<◌, ◌^◌, List, [], ◌∷◌, All, codes, Option, None, Some, FitsSigned}
 use Rattle.std.specs.Int.{w64}
 use Rattle.std.specs.Fmt.{decimal, signed_decimal}
 use Rattle.rational_theory.specs.Rational.{ℚ}
 use Rattle.narrow_fraction.specs.Fraction.{FitsFrac}
 use Rattle.quantity_text.specs.Exact.{exact_spelling}
 use Rattle.named_row.specs.declared.leaves.Weight.{Weight}
-use Rattle.named_row.specs.declared.names.RowId.{RowId}
 use Rattle.search_box.specs.declared.span.At.{At}
 use Rattle.search_box.specs.declared.span.At.TheVariants.{Loop, Turn}
 use Rattle.certificate_model.specs.declared.certificate.Claim.{Claim}
 use Rattle.certificate_model.specs.declared.certificate.Claim.TheVariants.{Best, NoTiming, Stopped}
 use Rattle.certificate_model.specs.Words.{line_of}
 use Rattle.plan_text.specs.TimingTexts.{TimingText, one_band}
-use Rattle.certificate_model.specs.Families.{Table, ordinary, family_name_in, is_lone_in}
+use Rattle.certificate_model.specs.Families.{Table, ordinary}
 use Rattle.certificate_model.specs.Warrants.{Node, SplitAt, LeafOf, WarrantWith, Warrant, IsCertificateIn}
 
 -- lines that stand as they are
