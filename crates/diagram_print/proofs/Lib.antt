@@ -1,3 +1,4 @@
 pub mod Boxed
 pub mod ColumnNames
 pub mod RowNames
+pub mod Spans
