@@ -28,6 +28,10 @@ module _ {A : Type 0} where
   pub piece_up : (f : ℕ → List A) (i : ℕ) → 1 ≤ i → flat_map f (range_with_len 1 i) ≡ flat_map f (range_with_len 1 (i - 1)) ++ f i
   piece_up f i h = ap (flat_map f) (range_up i h) ∙ one_piece f (range_with_len 1 (i - 1)) i
 
+  -- as a loop goes on to the next number
+  pub piece_next : (f : ℕ → List A) (i : ℕ) → 1 ≤ i → flat_map f (range_with_len 1 (i + 1 - 1)) ≡ flat_map f (range_with_len 1 (i - 1)) ++ f i
+  piece_next f i h = let here : i + 1 - 1 ≡ i = omega arith in ap (λ n. flat_map f (range_with_len 1 n)) here ∙ piece_up f i h
+
   -- one element of each number
   pub map_up : (f : ℕ → A) (i : ℕ) → 1 ≤ i → map f (range_with_len 1 i) ≡ map f (range_with_len 1 (i - 1)) ++ f i ∷ []
   map_up f i h = ap (map f) (range_up i h) ∙ map-append f (range_with_len 1 (i - 1)) (i ∷ [])

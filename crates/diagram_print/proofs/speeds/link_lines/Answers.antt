@@ -1,16 +1,13 @@
-use Rattle.std.proofs.Common.{◌≡◌, ◌+◌, ◌-◌, flat_map, ap, ◌∙◌, arith}
+use Rattle.std.proofs.Common.{◌≡◌, ◌-◌, flat_map, ap, ◌∙◌, arith}
 use Rattle.std.specs.List.{range_with_len}
 use Rattle.progression.specs.Street.{count}
 use Rattle.diagram_print.specs.Speeds.{speed_lines}
-use Rattle.timing_measures.proofs.Pieces.{extended, piece_up}
+use Rattle.timing_measures.proofs.Pieces.{extended, piece_next}
 use Rattle.diagram_print.proofs.speeds.link_lines.Goals as goal
 
 pub loop-link-preserved : goal.loop-link-preserved
 loop-link-preserved c =
-    let f = speed_lines c.args.artery.now c.args.timing.now in
-    let here : c.loop-link.link + 1 - 1 ≡ c.loop-link.link = omega arith in
-    let next = ap (λ n. flat_map f (range_with_len 1 n)) here ∙ piece_up f c.loop-link.link (omega arith) in
-    extended _ _ _ _ _ _ _ c.in_ok-extend_from_slice.ensures.items c.as_slice.ensures.value c.in_ok-speeds.ensures c.loop-link.invariant next
+    extended _ _ _ _ _ _ _ c.in_ok-extend_from_slice.ensures.items c.as_slice.ensures.value c.in_ok-speeds.ensures c.loop-link.invariant (piece_next (speed_lines c.args.artery.now c.args.timing.now) c.loop-link.link (omega arith))
 
 pub returns : goal.returns
 returns c =

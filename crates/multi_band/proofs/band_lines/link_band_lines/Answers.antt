@@ -1,16 +1,13 @@
-use Rattle.std.proofs.Common.{◌≡◌, ◌+◌, ◌-◌, flat_map, ap, ◌∙◌, arith}
+use Rattle.std.proofs.Common.{◌≡◌, ◌-◌, flat_map, ap, ◌∙◌, arith}
 use Rattle.std.specs.List.{range_with_len}
 use Rattle.progression.specs.Street.{count}
-use Rattle.timing_measures.proofs.Pieces.{extended, piece_up}
+use Rattle.timing_measures.proofs.Pieces.{extended, piece_next}
 use Rattle.multi_band.specs.LinkReport.{both_band_lines}
 use Rattle.multi_band.proofs.band_lines.link_band_lines.Goals as goal
 
 pub loop-link-preserved : goal.loop-link-preserved
 loop-link-preserved c =
-    let f = both_band_lines c.args.artery.now c.args.timing.now in
-    let here : c.loop-link.link + 1 - 1 ≡ c.loop-link.link = omega arith in
-    let next = ap (λ n. flat_map f (range_with_len 1 n)) here ∙ piece_up f c.loop-link.link (omega arith) in
-    extended _ _ _ _ _ _ _ c.in_ok-extend_from_slice.ensures.items c.as_slice.ensures.value c.in_ok-both.ensures c.loop-link.invariant next
+    extended _ _ _ _ _ _ _ c.in_ok-extend_from_slice.ensures.items c.as_slice.ensures.value c.in_ok-both.ensures c.loop-link.invariant (piece_next (both_band_lines c.args.artery.now c.args.timing.now) c.loop-link.link (omega arith))
 
 pub returns : goal.returns
 returns c =
