@@ -4,7 +4,7 @@ use Rattle.std.specs.Ordering.{match_ordering}
 use Rattle.std.specs.BTreeMap.{insert_entry}
 use Rattle.std.specs.String.{string_cmp}
 use Rattle.std.specs.Prelude.{if◌then◌else◌}
-use Rattle.std.proofs.lemmas.List.{map-append, take_more}
+use Rattle.std.proofs.lemmas.List.{append-nil, map-append, length-take-le, take_more}
 use Rattle.toml.specs.Data.{Data}
 use Rattle.toml.specs.View.{view, members_view}
 use Rattle.toml.specs.declared.value.Value.{Value}
@@ -30,6 +30,23 @@ patterns_from_last i [] true = ap (λ n. number_data n ∷ []) (omega arith)
 patterns_from_last i [] false = refl
 patterns_from_last i (true ∷ bs) b = ap (λ ds. number_data i ∷ ds) (patterns_from_last (i + 1) bs b ∙ ap (λ n. patterns_from (i + 1) bs ++ (if b then number_data n ∷ [] else [])) (omega arith))
 patterns_from_last i (false ∷ bs) b = patterns_from_last (i + 1) bs b ∙ ap (λ n. patterns_from (i + 1) bs ++ (if b then number_data n ∷ [] else [])) (omega arith)
+
+-- the numbers of one pattern more
+one_longer : (bs : List Bool) (i : ℕ) (b : Bool) → i < length bs → get_or bs i false ≡ b
+    → patterns_from 1 (take (i + 1) bs) ≡ patterns_from 1 (take i bs) ++ (if b then number_data (i + 1) ∷ [] else [])
+one_longer bs i b h at =
+    ap (patterns_from 1) (take_more bs i false h ∙ ap (λ x. take i bs ++ x ∷ []) at) ∙ patterns_from_last 1 (take i bs) b
+    ∙ ap (λ n. patterns_from 1 (take i bs) ++ (if b then number_data n ∷ [] else [])) (omega (arith, length-take-le i bs (omega arith)))
+
+-- one more pattern that is allowed, and one that isn't
+pub pattern_more : (vs ws : List Value) (v : Value) (bs : List Bool) (i : ℕ) → i < length bs → get_or bs i false ≡ true → ws ≡ vs ++ v ∷ [] → view v ≡ number_data (i + 1)
+    → map view vs ≡ patterns_from 1 (take i bs) → map view ws ≡ patterns_from 1 (take (i + 1) bs)
+pattern_more vs ws v bs i h at pushed seen e =
+    ap (map view) pushed ∙ map-append view vs (v ∷ []) ∙ ap₂ (λ ds d. ds ++ d ∷ []) e seen ∙ sym (one_longer bs i true h at)
+
+pub pattern_less : (vs ws : List Value) (bs : List Bool) (i : ℕ) → i < length bs → get_or bs i false ≡ false → ws ≡ vs
+    → map view vs ≡ patterns_from 1 (take i bs) → map view ws ≡ patterns_from 1 (take (i + 1) bs)
+pattern_less vs ws bs i h at same e = ap (map view) same ∙ e ∙ sym (append-nil (patterns_from 1 (take i bs))) ∙ sym (one_longer bs i false h at)
 
 -- the data of one more value, beside one more item that it was made of
 pub map_view_more : {X : Type 0} (f : X → Data) (vs : List Value) (v : Value) (xs : List X) (i : ℕ) (x : X) → i < length xs → x ≡ get_or xs i x → view v ≡ f x

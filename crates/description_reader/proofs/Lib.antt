@@ -12,6 +12,7 @@ pub mod CanonicalTests
 pub mod CanonicalTexts
 pub mod CanonicalValues
 pub mod LeastKeys
+pub mod Numbered
 pub mod TypedLimits
 pub mod Views
 pub mod Validity
