@@ -11,7 +11,6 @@ pub mod Rebound
 pub mod Copies
 pub mod Tableaus
 pub mod Named
-pub mod Fitting
 pub mod Shares
 pub mod Small
 pub mod Making

@@ -22,7 +22,7 @@ use Rattle.fraction_tableau.specs.KeptCells.{number_in, kept_at, kept_below}
 use Rattle.fraction_tableau.specs.Scales.{numerator, IsOver, IsScaled, IsRescaled, factor_of, IsJoining, IsJoined}
 use Rattle.fraction_tableau.specs.Marks.{AreMarked}
 use Rattle.fraction_tableau.specs.declared.kept.Kept.{Kept}
-use Rattle.fraction_tableau.proofs.Fitting.{fits_i64}
+use Rattle.narrow_fraction.proofs.Fitting.{fits_i64}
 use Rattle.fraction_tableau.proofs.KeptCells.{at_most_one, kept_more}
 use Rattle.fraction_tableau.specs.declared.scale.Rescaling.{Rescaling}
 use Rattle.fraction_tableau.specs.declared.joining.Joining.{Joining}

@@ -12,7 +12,7 @@ use crate::marks::with_mark_where;
 use crate::merging::{Merged, UNMERGED, keep_before, take_numerator};
 use crate::scale::{MOST, Rescaling, Scale, numerator_of};
 use crate::sparse_row::SparseRow;
-use narrow_fraction::{Quotient, word_divisor, word_quotient};
+use narrow_fraction::{Quotient, less_product, word_divisor, word_quotient};
 
 /// The greatest size that a number may have while a row is joined with another one: 62 bits.
 const MOST_JOINED: u128 = 4_611_686_018_427_387_903;
@@ -94,15 +94,6 @@ pub fn find_joining(place: u32, row: Scale, turned: Scale, factor: i64) -> Optio
         part,
         most: most as u64,
     })
-}
-
-/// A number times `scale`, less `factor` times the other one.
-#[inline(always)]
-fn less_product(own: i64, scale: i64, factor: i64, other: i64) -> i64
-    requires { unsigned_abs own * unsigned_abs scale + unsigned_abs factor * unsigned_abs other < 2 ^ 62 }
-    ensures { result ≡ own *ℤ scale +ℤ neg_ℤ (factor *ℤ other) }
-{
-    own * scale - factor * other
 }
 
 /// A numerator of the row, or 0 for the one at the pivot's place.

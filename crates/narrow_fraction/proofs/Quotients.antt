@@ -1,5 +1,5 @@
 -- Quotients of two numbers with or without a common divisor: their sign, and their numerator over another denominator.
-use Rattle.std.proofs.Common.{◌≡◌, ◌↔◌, ℕ, zero, suc, ℤ, pos, negsuc, nat_eq, unsigned_abs, ◌*ℤ◌, ◌+◌, ◌*◌, ◌/◌, ◌%◌, ◌<◌, refl, sym, ◌∙◌, ap, subst, arith}
+use Rattle.std.proofs.Common.{◌≡◌, ◌↔◌, ℕ, zero, suc, ℤ, pos, negsuc, nat_eq, unsigned_abs, ◌*ℤ◌, ◌<ℤ◌, ◌+◌, ◌*◌, ◌/◌, ◌%◌, ◌<◌, refl, sym, ◌∙◌, ap, subst, arith}
 use Rattle.std.specs.Prelude.{int_lt, IsTrue}
 use Rattle.std.proofs.lemmas.Bool.Decides.{nat_tests}
 use Rattle.std.proofs.lemmas.Int.{ints}
@@ -28,6 +28,10 @@ not_below a d h k = <ℚ_not-≤ℚ _ _ k (≤ℚ_in _ _ _ _ _ _ _ _ (whole_rati
 pub negative_test : (n : ℤ) (d : ℕ) → 0 < d → IsTrue (int_lt n (pos 0)) ↔ (over n d <ℚ whole (pos 0))
 negative_test (pos a) d h = (λ e. absurd (omega (arith, ints)), λ e. absurd (not_below a d h e))
 negative_test (negsuc a) d h = (λ e. below_zero a d h, λ e. refl)
+
+pub below_by_numerator : (n : ℤ) (d : ℕ) → 0 < d → over n d <ℚ whole (pos 0) → n <ℤ pos 0
+below_by_numerator (pos a) d h k = absurd (not_below a d h k)
+below_by_numerator (negsuc a) d h k = omega (arith, ints)
 
 not_zero : (a : ℕ) → IsTrue (nat_eq (suc a) 0) → ⊥
 not_zero a e = grind (arith, nat_tests)

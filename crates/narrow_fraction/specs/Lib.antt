@@ -4,5 +4,7 @@ pub mod Past128
 pub mod Attempt
 pub mod Short
 pub mod Numerators
+pub mod TwoWords
+pub mod SmallParts
 pub mod Held
 pub mod laws

@@ -22,7 +22,9 @@
 //! Of quotients `of_words` is that of two words as they are, `numerator_over` answers the number's numerator over a given
 //! denominator exactly where one of 64 bits is, and `fraction` is the same number as a `Frac`. What asks for a sign, for 0 or for
 //! the order of two seeks no common divisor. That the two numbers of a `Quotient` may have one is told by the sign of the
-//! denominator that it holds, which nothing outside `quotient.rt` sees.
+//! denominator that it holds, which nothing outside `quotient.rt` sees. Both numbers stand in two words each, so that a cell of a row
+//! takes 40 bytes. Two calls are short where all is small, and answer None elsewhere: `less_times`, a number less a product of two by
+//! one common divisor, and `ratio_order`, which of two ratios is less by two products.
 //!
 //! A crate that compares two `Frac`s writes at the head of its `lib.rt`
 //!
@@ -32,6 +34,7 @@
 #![tactic(auto)]
 
 mod compare;
+mod differences;
 mod divisor;
 mod frac;
 mod memory;
@@ -41,9 +44,11 @@ mod order;
 mod products;
 mod quotient;
 mod sums;
+mod two_words;
 mod unfit;
 mod wide;
 
+pub use differences::less_product;
 pub use divisor::{word_divisor, word_quotient};
 pub use frac::Frac;
 pub use memory::Memory;

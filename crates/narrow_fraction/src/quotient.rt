@@ -1,15 +1,20 @@
 //! A number held as a quotient that may not be in lowest terms.
 
-ghost use Rattle.std.specs.Prelude.{◌≡◌, ◌<◌, ◌↔◌, IfSome, IsTrue, pos};
-ghost use Rattle.rational_theory.specs.Rational.{◌<ℚ◌, over, whole};
+ghost use Rattle.std.specs.Prelude.{◌≡◌, ◌<◌, ◌^◌, ◌↔◌, IfSome, IsTrue, pos};
+ghost use Rattle.rational_theory.specs.Rational.{◌<ℚ◌, over, whole, neg_ℚ, ◌+ℚ◌, ◌*ℚ◌, ◌/ℚ◌};
 ghost use Rattle.rational_theory.specs.Compare.{cmp_ℚ};
 ghost use Rattle.std.specs.Ordering.{MatchOrdering};
 ghost use Rattle.narrow_fraction.specs.Fraction.{FitsFrac};
 ghost use Rattle.narrow_fraction.specs.Numerators.{IsNumerator};
+ghost use Rattle.narrow_fraction.specs.Past128.{Fits128};
+ghost use Rattle.narrow_fraction.specs.SmallParts.{AreSmallParts};
+ghost use Rattle.narrow_fraction.specs.declared.wide.Op.TheVariants.{Mul, Div, Sub};
 
-use crate::compare::compare_quotients;
+use crate::compare::{compare_products, compare_quotients};
+use crate::differences::{SmallParts, less_small, small_parts};
 use crate::divisor::{divided, remainder};
 use crate::frac::{Frac, already_reduced};
+use crate::two_words::TwoWords;
 use std::cmp::Ordering;
 use std::fmt;
 use std::marker::Model;
@@ -20,24 +25,25 @@ use std::marker::Model;
 /// fraction. Clauses see the rational number alone, so it can't be `Copy`; `copied` serves instead.
 #[derive(Clone, Drop)]
 pub struct Quotient {
-    num: i128,
+    num: TwoWords,
     /// Below 0 where the numbers are words that may have a common divisor: so a quotient takes no more room than a fraction.
-    den: i128,
+    den: TwoWords,
 }
 
 impl Model for Quotient {
     ghost use Rattle.std.specs.Prelude.{unsigned_abs};
     ghost use Rattle.rational_theory.specs.Rational.{ℚ, over};
     ghost use Rattle.narrow_fraction.specs.laws.Fraction.{ℚ_code};
+    ghost use Rattle.narrow_fraction.specs.TwoWords.{number_of};
     ghost use Rattle.narrow_fraction.specs.Held.{IsHeld};
 
     ghost Value = { ℚ };
 
     ghost coded = { ℚ_code };
 
-    ghost view = { λ q. over q.num (unsigned_abs q.den) };
+    ghost view = { λ q. over (number_of q.num) (unsigned_abs (number_of q.den)) };
 
-    ghost invariant = { λ q. IsHeld q.num q.den };
+    ghost invariant = { λ q. IsHeld (number_of q.num) (number_of q.den) };
 }
 
 /// The numerator of a fraction over a denominator, where it is a number of 64 bits with a sign.
@@ -88,8 +94,8 @@ impl Quotient {
         ensures { result ≡ over numerator denominator }
     {
         Quotient {
-            num: numerator as i128,
-            den: -(denominator as i128),
+            num: TwoWords::of(numerator as i128),
+            den: TwoWords::of(-(denominator as i128)),
         }
     }
 
@@ -98,8 +104,8 @@ impl Quotient {
         ensures { result ≡ fraction }
     {
         Quotient {
-            num: fraction.num(),
-            den: fraction.den(),
+            num: TwoWords::of(fraction.num()),
+            den: TwoWords::of(fraction.den()),
         }
     }
 
@@ -108,10 +114,10 @@ impl Quotient {
         ensures value { result ≡ self.now }
         ensures fits { FitsFrac self.now }
     {
-        if self.den > 0 {
-            already_reduced(self.num, self.den as u128).fitting()
+        if self.den.number() > 0 {
+            already_reduced(self.num.number(), self.den.number() as u128).fitting()
         } else {
-            Frac::reduced(self.num, self.den.unsigned_abs()).fitting()
+            Frac::reduced(self.num.number(), self.den.number().unsigned_abs()).fitting()
         }
     }
 
@@ -132,11 +138,11 @@ impl Quotient {
         requires { 0 < denominator }
         ensures { IfSome result (λ n. self.now ≡ over n denominator) }
     {
-        if self.den > 0 {
+        if self.den.number() > 0 {
             return None;
         }
-        match u64::try_from(self.den.unsigned_abs()) {
-            Ok(below) => divided_numerator(self.num as i64, below, denominator),
+        match u64::try_from(self.den.number().unsigned_abs()) {
+            Ok(below) => divided_numerator(self.num.number() as i64, below, denominator),
             Err(_) => None,
         }
     }
@@ -148,8 +154,8 @@ impl Quotient {
         requires { 0 < denominator }
         ensures { IsNumerator self.now denominator result }
     {
-        if self.den == -(denominator as i128) {
-            return Some(self.num as i64);
+        if self.den.number() == -(denominator as i128) {
+            return Some(self.num.number() as i64);
         }
         self.numerator_apart(denominator)
     }
@@ -170,25 +176,94 @@ impl Quotient {
         ensures says { MatchOrdering result (self.now <ℚ other.now) (self.now ≡ other.now) (other.now <ℚ self.now) }
     {
         compare_quotients(
-            self.num,
-            self.den.unsigned_abs(),
-            other.num,
-            other.den.unsigned_abs(),
+            self.num.number(),
+            self.den.number().unsigned_abs(),
+            other.num.number(),
+            other.den.number().unsigned_abs(),
         )
+    }
+
+    /// The two numbers that this is held as, where both have at most 20 bits.
+    fn small(&self) -> Option<SmallParts>
+        ensures small { IfSome result (λ parts. AreSmallParts parts) }
+        ensures value { IfSome result (λ parts. over parts.top parts.bottom ≡ self.now) }
+    {
+        small_parts(self.num.number(), self.den.number().unsigned_abs())
+    }
+
+    /// `from` less the product of this number and another one, by one common divisor, where all their parts have at most 20 bits: then
+    /// neither the product nor the difference leaves 128 bits. None elsewhere.
+    pub fn less_times(&self, other: Frac, from: Frac) -> Option<Frac>
+        ensures value { IfSome result (λ less. less ≡ from +ℚ neg_ℚ (self.now *ℚ other)) }
+        ensures product { IfSome result (λ _. Fits128 Mul self.now other) }
+        ensures difference { IfSome result (λ _. Fits128 Sub from (self.now *ℚ other)) }
+    {
+        let factor = self.small()?;
+        let times = Quotient::of_fraction(other).small()?;
+        let whole = Quotient::of_fraction(from).small()?;
+        Some(less_small(whole, factor, times))
+    }
+
+    /// The denominator over which this is held, where it is held as two words.
+    fn word_below(&self) -> Option<u64>
+        ensures above { IfSome result (λ below. 0 < below) }
+        ensures word { IfSome result (λ below. below < 2 ^ 64) }
+    {
+        if self.den.number() > 0 {
+            return None;
+        }
+        match u64::try_from(self.den.number().unsigned_abs()) {
+            Ok(below) => Some(below),
+            Err(_) => None,
+        }
+    }
+
+    /// The denominator over which this or else another number is held, where one of them is held as two words.
+    fn either_below(&self, other: &Quotient) -> Option<u64>
+        ensures above { IfSome result (λ below. 0 < below) }
+        ensures word { IfSome result (λ below. below < 2 ^ 64) }
+    {
+        match self.word_below() {
+            Some(below) => Some(below),
+            None => other.word_below(),
+        }
+    }
+
+    /// The order of two ratios, of this number to the negated `bottom` and of another one to its negated bottom, both bottoms below 0, by
+    /// two products: where the numbers are held as words, those above over one denominator, unless one of them is 0, and so those below.
+    /// Then the first ratio doesn't leave 128 bits. None elsewhere.
+    pub fn ratio_order(
+        &self,
+        bottom: &Quotient,
+        other: &Quotient,
+        other_bottom: &Quotient,
+    ) -> Option<Ordering>
+        requires bottom { bottom.now <ℚ whole (pos 0) }
+        requires other { other_bottom.now <ℚ whole (pos 0) }
+        ensures order { IfSome result (λ order. order ≡ cmp_ℚ (self.now /ℚ neg_ℚ bottom.now) (other.now /ℚ neg_ℚ other_bottom.now)) }
+        ensures fits { IfSome result (λ _. Fits128 Div self.now (neg_ℚ bottom.now)) }
+    {
+        let under = bottom.word_below()?;
+        let above = self.either_below(other)?;
+        let own = bottom.numerator_over(under)?;
+        let others = other_bottom.numerator_over(under)?;
+        let top = self.numerator_over(above)?;
+        let other_top = other.numerator_over(above)?;
+        Some(compare_products(other_top, own, top, others))
     }
 
     /// Whether this is 0.
     pub fn is_zero(&self) -> bool
         ensures { IsTrue result ↔ self.now ≡ whole (pos 0) }
     {
-        self.num.unsigned_abs() == 0
+        self.num.number().unsigned_abs() == 0
     }
 
     /// Whether this is below 0.
     pub fn is_negative(&self) -> bool
         ensures { IsTrue result ↔ self.now <ℚ whole (pos 0) }
     {
-        self.num < 0
+        self.num.number() < 0
     }
 }
 

@@ -4,7 +4,7 @@ use Rattle.rational_theory.specs.Rational.{whole, neg_ℚ, ◌+ℚ◌, ◌*ℚ�
 use Rattle.simplex_theory.specs.Lines.{cleared}
 use Rattle.fraction_tableau.specs.KeptCells.{number_in, kept_below}
 use Rattle.fraction_tableau.specs.Scales.{numerator, IsOver, factor_of}
-use Rattle.fraction_tableau.proofs.Fitting.{fits_i64}
+use Rattle.narrow_fraction.proofs.Fitting.{fits_i64}
 use Rattle.fraction_tableau.proofs.KeptCells.{IsNext, next_in, step_count, same_width}
 use Rattle.fraction_tableau.specs.Marks.{AreMarked}
 use Rattle.fraction_tableau.proofs.Marking.{marked_where}

@@ -2,7 +2,7 @@ use Rattle.std.proofs.Common.{◌≡◌, pos, cond, ◌∙◌, arith}
 use Rattle.std.proofs.lemmas.Int.{to_z-of_z}
 use Rattle.rational_theory.specs.Rational.{over}
 use Rattle.fraction_tableau.specs.Scales.{numerator}
-use Rattle.fraction_tableau.proofs.Fitting.{fits_i64}
+use Rattle.narrow_fraction.proofs.Fitting.{fits_i64}
 use Rattle.fraction_tableau.proofs.Scales.{joined_number, joined_size, combined}
 use Rattle.fraction_tableau.proofs.joining.joined.Goals as goal
 

@@ -1,7 +1,7 @@
 use Rattle.std.proofs.Common.{pos, cond, refl, arith}
 use Rattle.std.specs.Int.{w64}
 use Rattle.std.proofs.lemmas.Int.{to_z-of_z, to_z_pos}
-use Rattle.fraction_tableau.proofs.Fitting.{fits_i64}
+use Rattle.narrow_fraction.proofs.Fitting.{fits_i64}
 use Rattle.fraction_tableau.proofs.Scales.{zeroed_fits, times_short, part_short, joined_bound, joined_size, combined}
 use Rattle.fraction_tableau.proofs.joining.joined_numerator.Goals as goal
 

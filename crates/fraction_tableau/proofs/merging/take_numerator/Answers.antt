@@ -4,7 +4,7 @@ use Rattle.rational_theory.specs.Rational.{ℚ, whole, over}
 use Rattle.fraction_tableau.specs.KeptCells.{number_in, kept_below}
 use Rattle.fraction_tableau.specs.Scales.{numerator}
 use Rattle.fraction_tableau.proofs.KeptCells.{other_side, next_in, step_count, reached_at, reached_here, reached_past, reached_end, none_more}
-use Rattle.fraction_tableau.proofs.Fitting.{fits_i64}
+use Rattle.narrow_fraction.proofs.Fitting.{fits_i64}
 use Rattle.fraction_tableau.proofs.Scales.{numerator_zero}
 use Rattle.fraction_tableau.proofs.merging.take_numerator.Goals as goal
 use Rattle.fraction_tableau.proofs.merging.take_numerator.Goals.{After-kept-kept, After-index-kept-taken}

@@ -1,4 +1,4 @@
-use Rattle.std.proofs.Common.{◌≡◌, pos, sym, ◌∙◌, ap, subst, arith, to_z, of_z, SFits, ◌*ℤ◌, ◌*◌, ◌/◌, ◌%◌}
+use Rattle.std.proofs.Common.{◌≡◌, pos, sym, ◌∙◌, ap, subst, arith, to_z, of_z, SFits, ◌*◌, ◌/◌, ◌%◌}
 use Rattle.std.specs.Int.{w64}
 use Rattle.std.proofs.lemmas.Int.{ints, to_z-of_z}
 use Rattle.std.proofs.lemmas.Nat.Gcd.{dvd_of_mod-eq-zero}

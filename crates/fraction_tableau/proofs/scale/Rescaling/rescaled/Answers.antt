@@ -3,7 +3,7 @@ use Rattle.std.specs.Int.{w64}
 use Rattle.std.proofs.lemmas.Int.{to_z-of_z, to_z_pos, unsigned_abs-mul}
 use Rattle.rational_theory.specs.Rational.{over}
 use Rattle.fraction_tableau.specs.Scales.{numerator}
-use Rattle.fraction_tableau.proofs.Fitting.{fits_i64}
+use Rattle.narrow_fraction.proofs.Fitting.{fits_i64}
 use Rattle.fraction_tableau.proofs.Scales.{over_part, rescaled_times, rescaled_size}
 use Rattle.fraction_tableau.proofs.scale.Rescaling.rescaled.Goals as goal
 

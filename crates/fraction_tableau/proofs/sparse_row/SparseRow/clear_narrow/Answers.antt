@@ -9,7 +9,7 @@ use Rattle.fraction_tableau.specs.KeptCells.{number_in, kept_below, dense_row, I
 use Rattle.fraction_tableau.specs.Scales.{numerator, IsOver, HasScale, factor_of}
 use Rattle.fraction_tableau.specs.Marks.{AreMarked}
 use Rattle.fraction_tableau.specs.declared.kept.Kept.{Kept}
-use Rattle.fraction_tableau.proofs.Fitting.{fits_i64}
+use Rattle.narrow_fraction.proofs.Fitting.{fits_i64}
 use Rattle.fraction_tableau.proofs.KeptCells.{open_row, length-dense, sparse_new}
 use Rattle.fraction_tableau.proofs.Making.{scale_joined, over_fits}
 use Rattle.fraction_tableau.proofs.Merges.{cleared_last}

@@ -6,7 +6,7 @@ use Rattle.narrow_fraction.proofs.Parts.{zero_over}
 use Rattle.fraction_tableau.specs.KeptCells.{number_in}
 use Rattle.fraction_tableau.specs.Scales.{numerator, HasScale, IsScaled, IsTurning}
 use Rattle.fraction_tableau.specs.declared.scale.Scale.{Scale}
-use Rattle.fraction_tableau.proofs.Fitting.{fits_i64}
+use Rattle.narrow_fraction.proofs.Fitting.{fits_i64}
 use Rattle.fraction_tableau.proofs.sparse_row.SparseRow.turning.Goals as goal
 
 pub returns-clause-turning : goal.returns-clause-turning

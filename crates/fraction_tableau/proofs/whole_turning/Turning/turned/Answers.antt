@@ -3,7 +3,7 @@ use Rattle.std.specs.Prelude.{int_lt}
 use Rattle.std.proofs.lemmas.Int.{to_z-of_z}
 use Rattle.rational_theory.specs.Rational.{over}
 use Rattle.fraction_tableau.specs.Scales.{numerator}
-use Rattle.fraction_tableau.proofs.Fitting.{fits_i64}
+use Rattle.narrow_fraction.proofs.Fitting.{fits_i64}
 use Rattle.fraction_tableau.proofs.Turns.{turned_is, own_size, turned_size}
 use Rattle.fraction_tableau.proofs.whole_turning.Turning.turned.Goals as goal
 

@@ -1,7 +1,7 @@
 use Rattle.std.proofs.Common.{◌*ℤ◌}
 use Rattle.std.proofs.lemmas.Int.{to_z-of_z}
-use Rattle.fraction_tableau.proofs.Fitting.{first_part, second_part, whole_part, minus_is}
-use Rattle.fraction_tableau.proofs.joining.less_product.Goals as goal
+use Rattle.narrow_fraction.proofs.Fitting.{first_part, second_part, whole_part, minus_is}
+use Rattle.narrow_fraction.proofs.differences.less_product.Goals as goal
 
 pub overflow_sub-result : goal.overflow_sub-result
 overflow_sub-result c =
