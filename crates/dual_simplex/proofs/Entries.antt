@@ -14,7 +14,7 @@ use Rattle.fraction_tableau.specs.declared.kept.Kept.{Kept}
 use Rattle.fraction_tableau.proofs.KeptCells.{IsNext, last_or_before, kept_same, step_count}
 use Rattle.fraction_tableau.proofs.Merges.{pass_none}
 use Rattle.dual_simplex.specs.declared.choose.Chosen.{Chosen}
-use Rattle.dual_simplex.specs.Ratios.{ratio_at, with_ratio}
+use Rattle.dual_simplex.specs.Ratios.{ratio_at, with_cells}
 use Rattle.dual_simplex.proofs.Choices.{not_zero}
 
 zero_not_negative : (x : ℚ) → x ≡ whole (pos 0) → is_negative x ≡ false
@@ -50,7 +50,7 @@ pub record Looking (t : Tableau) (r index : ℕ) (o : Option Chosen) : Type 0 wh
   pub high : at ≤ width t
   pub count : index ≡ length (kept_below (cell t r) at)
   pub passed : first_below (ratio_at t r) at ≡ None
-  pub chosen : o ≡ with_ratio t r (best (λ k. is_negative (cell t r k)) (place_before t r) at)
+  pub chosen : o ≡ with_cells t r (best (λ k. is_negative (cell t r k)) (place_before t r) at)
 
 pub looking_none : (t : Tableau) (r : ℕ) → Looking t r 0 None
 looking_none t r = record { at = 0; high = omega arith; count = refl; passed = refl; chosen = refl }
@@ -59,12 +59,12 @@ pub looking_passed : (t : Tableau) (r index : ℕ) (o : Option Chosen) (p : ℕ)
 looking_passed t r index o p l h z = pass_none (ratio_at t r) l.at p h l.passed (λ m a b. idle_ratio t r m (z m a b))
 
 pub looking_chosen : (t : Tableau) (r index : ℕ) (o : Option Chosen) (p : ℕ) → (l : Looking t r index o) → l.at ≤ p → ((m : ℕ) → l.at ≤ m → m < p → cell t r m ≡ whole (pos 0))
-    → o ≡ with_ratio t r (best (λ k. is_negative (cell t r k)) (place_before t r) p)
+    → o ≡ with_cells t r (best (λ k. is_negative (cell t r k)) (place_before t r) p)
 looking_chosen t r index o p l h z =
-    l.chosen ∙ ap (with_ratio t r) (sym (best_skip (λ k. is_negative (cell t r k)) (place_before t r) l.at p h (λ m a b. zero_not_negative (cell t r m) (z m a b))))
+    l.chosen ∙ ap (with_cells t r) (sym (best_skip (λ k. is_negative (cell t r k)) (place_before t r) l.at p h (λ m a b. zero_not_negative (cell t r m) (z m a b))))
 
 pub looking_next : (t : Tableau) (r index : ℕ) (o u : Option Chosen) (k : Kept) → (l : Looking t r index o) → IsNext (cell t r) l.at (width t) k
-    → (first_below (ratio_at t r) (k.place + 1) ≡ None) × (u ≡ with_ratio t r (best (λ k. is_negative (cell t r k)) (place_before t r) (k.place + 1))) → Looking t r (index + 1) u
+    → (first_below (ratio_at t r) (k.place + 1) ≡ None) × (u ≡ with_cells t r (best (λ k. is_negative (cell t r k)) (place_before t r) (k.place + 1))) → Looking t r (index + 1) u
 looking_next t r index o u k l x q =
     let h = x.inside in
     record { at = k.place + 1; high = omega arith; count = ap (λ n. n + 1) l.count ∙ sym (step_count (cell t r) l.at (width t) k x); passed = q.0; chosen = q.1 }

@@ -1,8 +1,7 @@
 -- The dual ratios with their refusals: at each place with a negative cell, the goal cell over the negated cell.
-use Rattle.std.proofs.Common.{ℕ, cond, Option, Some, None}
+use Rattle.std.proofs.Common.{◌≡◌, ℕ, true, cond, Option, Some, None, ◌<◌}
 use Rattle.rational_theory.specs.Rational.{neg_ℚ}
 use Rattle.simplex_theory.specs.Tableau.{Tableau, cell, goal_cell, width}
-use Rattle.simplex_theory.specs.DualSteps.{ratio}
 use Rattle.simplex_theory.specs.BlandRule.{is_negative}
 use Rattle.narrow_fraction.specs.Attempt.{first_below}
 use Rattle.narrow_fraction.specs.declared.wide.Op.TheVariants.{Div}
@@ -18,11 +17,19 @@ ratio_at t r k = cond (is_negative (cell t r k)) (refused Div (goal_cell t k) (n
 unfoldable pub ratio_refusal : Tableau → ℕ → Option WideCell
 ratio_refusal t r = first_below (ratio_at t r) (width t)
 
--- a chosen place with its ratio
-abbrev pub with_ratio : Tableau → ℕ → Option ℕ → Option Chosen
-with_ratio t r None = None
-with_ratio t r (Some j) = Some (record { place = j; ratio = ratio t r j })
+-- a place with its cells in the goal row and in the row
+abbrev pub with_cells : Tableau → ℕ → Option ℕ → Option Chosen
+with_cells t r None = None
+with_cells t r (Some j) = Some (record { place = j; goal = goal_cell t j; cell = cell t r j })
 
 abbrev pub place_of : Option Chosen → Option ℕ
 place_of None = None
 place_of (Some b) = Some b.place
+
+-- a place of a negative cell, with its cells, whose ratio was not refused
+pub record IsChosen (t : Tableau) (r : ℕ) (c : Chosen) : Type 0 where
+  pub place : c.place < width t
+  pub goal_is : c.goal ≡ goal_cell t c.place
+  pub cell_is : c.cell ≡ cell t r c.place
+  pub negative : is_negative (cell t r c.place) ≡ true
+  pub passed : ratio_at t r c.place ≡ None

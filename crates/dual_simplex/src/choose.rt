@@ -1,16 +1,15 @@
 //! Which row and which place a step takes, by Bland's rule.
 
 ghost use Rattle.std.specs.Prelude.{◌≡◌, ◌<◌, ◌≤◌, IfSome, Some, None, pos, ltb, is_some};
-ghost use Rattle.rational_theory.specs.Rational.{whole, neg_ℚ, ◌/ℚ◌};
+ghost use Rattle.rational_theory.specs.Rational.{whole, neg_ℚ, ◌/ℚ◌, ◌<ℚ◌};
 ghost use Rattle.rational_theory.specs.Compare.{cmp_ℚ};
 ghost use Rattle.simplex_theory.specs.Tableau.{height, width, bound, cell, goal_cell};
-ghost use Rattle.simplex_theory.specs.DualSteps.{ratio};
 ghost use Rattle.simplex_theory.specs.Best.{best_step};
 ghost use Rattle.simplex_theory.specs.BlandRule.{chosen_row, chosen_place, is_negative, row_before, place_before, less_by};
 ghost use Rattle.narrow_fraction.specs.Attempt.{attempt};
 ghost use Rattle.narrow_fraction.specs.declared.wide.Op.TheVariants.{Div};
 ghost use Rattle.fraction_tableau.specs.Refusals.{refused};
-ghost use Rattle.dual_simplex.specs.Ratios.{ratio_at, ratio_refusal, with_ratio, place_of};
+ghost use Rattle.dual_simplex.specs.Ratios.{ratio_at, ratio_refusal, with_cells, place_of, IsChosen};
 
 use fraction_tableau::{Kept, Tableau, WideCell};
 use narrow_fraction::{Frac, Quotient};
@@ -32,11 +31,11 @@ fn row_bound(tableau: &Tableau, row: u32) -> Quotient
 }
 
 /// The cell of the goal row.
-fn goal_row_cell(tableau: &Tableau, col: u32) -> Frac
+fn goal_row_cell(tableau: &Tableau, col: u32) -> Quotient
     requires { col ≤ width tableau.now.table }
     ensures { result ≡ goal_cell tableau.now.table col }
 {
-    tableau.cell(tableau.rows(), col)
+    tableau.held(tableau.rows(), col)
 }
 
 /// The better of the row chosen so far and this one.
@@ -69,29 +68,83 @@ pub fn chosen_row(tableau: &Tableau) -> Option<u32>
     best
 }
 
-/// A place and its ratio.
-#[derive(Clone, Copy)]
+/// A place with its cells in the goal row and in the row, of which its ratio is made: the goal cell over the negated cell.
+#[derive(Drop)]
 pub struct Chosen {
     pub place: u32,
-    pub ratio: Frac,
+    pub goal: Quotient,
+    pub cell: Quotient,
 }
 
-/// The goal cell over the negated cell, or the refusal of this ratio.
-fn ratio_of(goal: Frac, entry: Frac, row: u32, col: u32) -> Result<Frac, WideCell>
-    requires { entry ≡ whole (pos 0) → ⊥ }
-    ensures { result ≡ attempt (refused Div goal (neg_ℚ entry) row col) (goal /ℚ neg_ℚ entry) }
+/// The ratio of a place, or its refusal.
+fn ratio_of(chosen: &Chosen, row: u32) -> Result<Frac, WideCell>
+    requires { chosen.now.cell <ℚ whole (pos 0) }
+    ensures { result ≡ attempt (refused Div chosen.now.goal (neg_ℚ chosen.now.cell) row chosen.now.place) (chosen.now.goal /ℚ neg_ℚ chosen.now.cell) }
 {
-    match goal.over(entry.neg()) {
+    match chosen.goal.fraction().over(chosen.cell.fraction().neg()) {
         Ok(ratio) => Ok(ratio),
-        Err(wide) => Err(WideCell { row, col, wide }),
+        Err(wide) => Err(WideCell {
+            row,
+            col: chosen.place,
+            wide,
+        }),
     }
 }
 
-/// The lesser ratio, of equal ones the lesser variable.
-fn is_before(ratio: Frac, other: Frac, variable: u32, other_variable: u32) -> bool
-    ensures { result ≡ less_by (cmp_ℚ ratio other) (ltb variable other_variable) }
+/// How the ratio of a place compares with another one, which was not refused, or its refusal.
+fn compare_fractions(next: &Chosen, best: &Chosen, row: u32) -> Result<Ordering, WideCell>
+    requires next { next.now.cell <ℚ whole (pos 0) }
+    requires best { best.now.cell <ℚ whole (pos 0) }
+    requires passed { refused Div best.now.goal (neg_ℚ best.now.cell) row best.now.place ≡ None }
+    ensures { result ≡ attempt (refused Div next.now.goal (neg_ℚ next.now.cell) row next.now.place)
+        (cmp_ℚ (next.now.goal /ℚ neg_ℚ next.now.cell) (best.now.goal /ℚ neg_ℚ best.now.cell)) }
 {
-    match ratio.cmp(&other) {
+    let ratio = match ratio_of(next, row) {
+        Ok(ratio) => ratio,
+        Err(wide) => return Err(wide),
+    };
+    match ratio_of(best, row) {
+        Ok(other) => Ok(ratio.cmp(&other)),
+        Err(_) => unreachable!(),
+    }
+}
+
+/// The same: by two products where the rows are narrow, as they mostly are, and so nothing is refused.
+fn compare_ratios(next: &Chosen, best: &Chosen, row: u32) -> Result<Ordering, WideCell>
+    requires next { next.now.cell <ℚ whole (pos 0) }
+    requires best { best.now.cell <ℚ whole (pos 0) }
+    requires passed { refused Div best.now.goal (neg_ℚ best.now.cell) row best.now.place ≡ None }
+    ensures { result ≡ attempt (refused Div next.now.goal (neg_ℚ next.now.cell) row next.now.place)
+        (cmp_ℚ (next.now.goal /ℚ neg_ℚ next.now.cell) (best.now.goal /ℚ neg_ℚ best.now.cell)) }
+{
+    match next.goal.ratio_order(&next.cell, &best.goal, &best.cell) {
+        Some(order) => Ok(order),
+        None => compare_fractions(next, best, row),
+    }
+}
+
+/// The first place with a negative cell, or the refusal of its ratio.
+fn first_place(first: Chosen, row: u32) -> Result<Chosen, WideCell>
+    requires { first.cell <ℚ whole (pos 0) }
+    ensures { result ≡ attempt (refused Div first.goal (neg_ℚ first.cell) row first.place) first }
+{
+    match first
+        .goal
+        .ratio_order(&first.cell, &first.goal, &first.cell)
+    {
+        Some(_) => Ok(first),
+        None => match ratio_of(&first, row) {
+            Ok(_) => Ok(first),
+            Err(wide) => Err(wide),
+        },
+    }
+}
+
+/// Whether the ratio that compares so is the lesser one, or of equal ones that of the lesser variable.
+fn is_before(order: Ordering, variable: u32, other_variable: u32) -> bool
+    ensures { result ≡ less_by order (ltb variable other_variable) }
+{
+    match order {
         Ordering::Less => true,
         Ordering::Equal => variable < other_variable,
         Ordering::Greater => false,
@@ -108,34 +161,35 @@ fn better_place(
     requires row { row < height tableau.now.table }
     requires place { entry.now.place < width tableau.now.table }
     requires cell { entry.now.cell ≡ cell tableau.now.table row entry.now.place }
-    requires best { IfSome best (λ other. (other.place < width tableau.now.table) × (other.ratio ≡ ratio tableau.now.table row other.place)) }
+    requires best { IfSome best (IsChosen tableau.now.table row) }
     ensures { result ≡ attempt (ratio_at tableau.now.table row entry.now.place)
-        (with_ratio tableau.now.table row
+        (with_cells tableau.now.table row
         (best_step (λ k. is_negative (cell tableau.now.table row k)) (place_before tableau.now.table row) entry.now.place (place_of best))) }
 {
     if !is_negative(&entry.cell) {
         return Ok(best);
     }
-    let place = entry.place;
-    let ratio = match ratio_of(
-        goal_row_cell(tableau, place),
-        entry.cell.fraction(),
-        row,
-        place,
-    ) {
-        Ok(ratio) => ratio,
-        Err(wide) => return Err(wide),
+    let next = Chosen {
+        place: entry.place,
+        goal: goal_row_cell(tableau, entry.place),
+        cell: entry.cell.copied(),
     };
     match best {
-        None => Ok(Some(Chosen { place, ratio })),
+        None => match first_place(next, row) {
+            Ok(first) => Ok(Some(first)),
+            Err(wide) => Err(wide),
+        },
         Some(other) => {
+            let order = match compare_ratios(&next, &other, row) {
+                Ok(order) => order,
+                Err(wide) => return Err(wide),
+            };
             if is_before(
-                ratio,
-                other.ratio,
-                tableau.standing(place),
+                order,
+                tableau.standing(entry.place),
                 tableau.standing(other.place),
             ) {
-                Ok(Some(Chosen { place, ratio }))
+                Ok(Some(next))
             } else {
                 Ok(Some(other))
             }
@@ -146,7 +200,7 @@ fn better_place(
 /// The place of the row's negative cells that the rule takes, or the first refused ratio.
 pub fn chosen_place(tableau: &Tableau, row: u32) -> Result<Option<Chosen>, WideCell>
     requires { row < height tableau.now.table }
-    ensures { result ≡ attempt (ratio_refusal tableau.now.table row) (with_ratio tableau.now.table row (chosen_place tableau.now.table row)) }
+    ensures { result ≡ attempt (ratio_refusal tableau.now.table row) (with_cells tableau.now.table row (chosen_place tableau.now.table row)) }
 {
     let entries = tableau.kept(row);
     let mut best = None;

@@ -3,6 +3,7 @@
 use crate::tests::two_columns::TWO_126;
 use narrow_fraction::{Frac, Op, Quotient, Unfit, Wide, common_multiple};
 use std::alloc::AllocError;
+use std::cmp::Ordering;
 use std::rt::HostRuntime;
 use test_bed::fraction_or_zero as fraction;
 
@@ -264,4 +265,63 @@ fn order_of_quotients(rt: HostRuntime) -> Result<(), AllocError> {
         format!(in alloc; "{:?}", fraction(1, 2))?
     );
     Ok(())
+}
+
+#[test]
+fn a_number_less_a_product_of_small_ones(rt: HostRuntime) {
+    let table = [
+        ((6, 4), (2, 3), (5, 2), Some((3, 2))),
+        ((-6, 4), (1, 3), (1, 2), Some((1, 1))),
+        ((3, 9), (3, 1), (1, 1), Some((0, 1))),
+        ((0, 1), (7, 5), (-2, 3), Some((-2, 3))),
+        ((1_048_575, 1), (1, 1), (0, 1), Some((-1_048_575, 1))),
+        ((1_048_576, 1), (1, 1), (0, 1), None),
+        ((1, 1_048_576), (1, 1), (0, 1), None),
+        ((1, 2), (1, 1_048_576), (0, 1), None),
+        ((1, 2), (1, 2), (-1_048_576, 1), None),
+    ];
+    for (factor, other, from, want) in table {
+        let less = quotient(factor.0, factor.1)
+            .less_times(fraction(other.0, other.1), fraction(from.0, from.1));
+        match (less, want) {
+            (Some(less), Some(want)) => assert!(rt; less == fraction(want.0, want.1)),
+            (less, want) => assert!(rt; less.is_none() && want.is_none()),
+        }
+    }
+}
+
+/// The order of two ratios to negated bottoms; of others there is none.
+fn ratio_order(ratios: [&Quotient; 4]) -> Option<Ordering> {
+    let [top, bottom, other, other_bottom] = ratios;
+    if !bottom.is_negative() || !other_bottom.is_negative() {
+        return None;
+    }
+    top.ratio_order(bottom, other, other_bottom)
+}
+
+#[test]
+fn ratios_by_two_products(rt: HostRuntime) {
+    let table = [
+        ((3, 4), (-2, 6), (5, 4), (-4, 6), Some(Ordering::Greater)),
+        ((2, 4), (-2, 6), (1, 4), (-1, 6), Some(Ordering::Equal)),
+        ((1, 4), (-2, 6), (1, 4), (-1, 6), Some(Ordering::Less)),
+        ((-1, 4), (-2, 6), (-1, 4), (-1, 6), Some(Ordering::Greater)),
+        ((0, 0), (-2, 6), (1, 4), (-1, 6), Some(Ordering::Less)),
+        ((i64::MAX, 1), (-1, 1), (i64::MAX, 1), (i64::MIN, 1), Some(Ordering::Greater)),
+        ((1, 4), (-1, 6), (1, 4), (-1, 5), None),
+        ((1, 4), (-1, 6), (1, 3), (-1, 6), None),
+        ((0, 0), (-1, 6), (0, 0), (-1, 6), None),
+    ];
+    for (top, bottom, other, other_bottom, want) in table {
+        let ratios = [
+            &quotient(top.0, top.1),
+            &quotient(bottom.0, bottom.1),
+            &quotient(other.0, other.1),
+            &quotient(other_bottom.0, other_bottom.1),
+        ];
+        assert_eq!(rt; ratio_order(ratios), want);
+    }
+    let lowest = Quotient::of_fraction(fraction(-1, 3));
+    let half = quotient(2, 4);
+    assert_eq!(rt; ratio_order([&half, &lowest, &half, &lowest]), None);
 }

@@ -6,7 +6,7 @@ use Rattle.simplex_theory.proofs.BlandRule.{place_order}
 use Rattle.narrow_fraction.specs.Attempt.{attempt}
 use Rattle.narrow_fraction.proofs.Attempt.{attempt_ok, attempt_err}
 use Rattle.fraction_tableau.proofs.KeptCells.{next_in, same_count}
-use Rattle.dual_simplex.specs.Ratios.{ratio_refusal, with_ratio}
+use Rattle.dual_simplex.specs.Ratios.{ratio_refusal, with_cells}
 use Rattle.dual_simplex.proofs.Choices.{kept_place, place_next, place_stop}
 use Rattle.dual_simplex.proofs.Entries.{entries_are, looking_none, looking_passed, looking_chosen, looking_next}
 use Rattle.dual_simplex.proofs.choose.chosen_place.Goals as goal
@@ -36,7 +36,7 @@ pub better_place-requires-clause-best : goal.better_place-requires-clause-best
 better_place-requires-clause-best c =
     let t = c.args.tableau.now.table in
     let l = c.loop-index.invariant in
-    kept_place t c.args.row l.at c.loop-index.best _ (on_best _ _ l.at (place_order t c.args.row)) l.high l.chosen
+    kept_place t c.args.row l.at c.loop-index.best _ (on_best _ _ l.at (place_order t c.args.row)) l.high l.passed l.chosen
 
 pub returns-in-Err : goal.returns-in-Err
 returns-in-Err c =
@@ -45,7 +45,7 @@ returns-in-Err c =
     let e = c.kept-entries.ensures ∙ entries_are t c.args.row c.requires in
     let k = c.index-entries-index.result in
     let x = next_in (cell t c.args.row) l.at (width t) c.loop-index.index c.kept-entries.result.now k e c.index-entries-index.is l.high l.count (omega arith) in
-    sym (ap (λ o. attempt o (with_ratio t c.args.row (chosen_place t c.args.row)))
+    sym (ap (λ o. attempt o (with_cells t c.args.row (chosen_place t c.args.row)))
     (place_stop t c.args.row k.place c.in-Err.wide x.inside (looking_passed t c.args.row c.loop-index.index c.loop-index.best k.place l x.after x.zeros) (attempt_err _ _ _ c.in-Err.ensures)))
 
 pub loop-index-preserved : goal.loop-index-preserved
@@ -68,4 +68,4 @@ returns c =
     let n = l.count in
     let z = same_count (cell t c.args.row) l.at (width t) l.high (omega arith) in
     ap Ok (looking_chosen t c.args.row c.loop-index.index c.loop-index.best (width t) l l.high z)
-    ∙ sym (ap (λ o. attempt o (with_ratio t c.args.row (chosen_place t c.args.row))) (looking_passed t c.args.row c.loop-index.index c.loop-index.best (width t) l l.high z))
+    ∙ sym (ap (λ o. attempt o (with_cells t c.args.row (chosen_place t c.args.row))) (looking_passed t c.args.row c.loop-index.index c.loop-index.best (width t) l l.high z))
