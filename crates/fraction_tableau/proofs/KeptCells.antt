@@ -1,7 +1,7 @@
 -- Lemmas on the definitions of `KeptCells`.
-use Rattle.std.proofs.Common.{◌≡◌, ℕ, zero, suc, pos, Bool, true, false, cond, eqb, List, [], ◌∷◌, ◌++◌, map, length, get_or, take, ◌+◌, ◌-◌, ◌<◌, ◌≤◌, ◌⊎◌, inl, inr, add-one, refl, sym, ◌∙◌, ap, ap₂, subst, arith, length-append}
+use Rattle.std.proofs.Common.{◌≡◌, ℕ, zero, suc, pos, Bool, true, false, cond, eqb, List, [], ◌∷◌, ◌++◌, map, length, get_or, set, take, ◌+◌, ◌-◌, ◌<◌, ◌≤◌, ◌⊎◌, inl, inr, add-one, refl, sym, ◌∙◌, ap, ap₂, subst, arith, length-append}
 use Rattle.std.specs.List.{range_with_len}
-use Rattle.std.proofs.lemmas.List.{ext_get_or, get_or_default, get_or-map, get_or_append_left, get_or_push, get_or_past, length_push, length-map, append-nil}
+use Rattle.std.proofs.lemmas.List.{ext_get_or, get_or_default, get_or-set_same, set-set, get_or-map, get_or_append_left, get_or_push, get_or_past, length_push, length-map, append-nil}
 use Rattle.std.proofs.lemmas.List.FromFn.{length-range_with_len, get_or-range_with_len}
 use Rattle.std.proofs.lemmas.Bool.{cond-true, cond-false, eq-eqb, ne_eqb}
 use Rattle.rational_theory.specs.Rational.{ℚ, whole}
@@ -367,3 +367,7 @@ filled cs items new w count f b z c e h n k g q u v =
     let last = q ∙ last_is cs b w c in
     let m = sparse_new (cs ++ b ∷ []) items new w count f z e h l n k front last in
     record { line = m.0; row = m.1; narrow = sparse_narrow (cs ++ b ∷ []) w f z l front last u v }
+
+-- ---- a cell whose place and number are written one after the other
+pub both_written : (cells : List Kept) (k : ℕ) (a d : Kept) (x : ℚ) → k < length cells → set (set cells k a) k (record { place = (get_or (set cells k a) k d).place; cell = x }) ≡ set cells k (record { place = a.place; cell = x })
+both_written cells k a d x h = set-set cells k a _ ∙ ap (λ (t : Kept). set cells k (record { place = t.place; cell = x })) (get_or-set_same cells k a d h)

@@ -5,6 +5,7 @@ pub mod Keeps
 pub mod Merges
 pub mod Zeros
 pub mod Others
+pub mod Noted
 pub mod Pivots
 pub mod Filling
 pub mod Rebound

@@ -5,5 +5,6 @@ pub mod Scales
 pub mod Refusals
 pub mod RowChanges
 pub mod NamedTableaus
+pub mod Columns
 pub mod Loading
 pub mod Operations

@@ -8,11 +8,12 @@ ghost use Rattle.fraction_tableau.specs.Narrow.{IsNarrow, AreNarrow};
 ghost use Rattle.fraction_tableau.specs.Refusals.{clear_refusal, row_refusal, pivot_refusal, exchanged_rows};
 ghost use Rattle.fraction_tableau.specs.RowChanges.{IsPivoted, Clears};
 ghost use Rattle.fraction_tableau.specs.KeptCells.{number_in};
+ghost use Rattle.fraction_tableau.specs.Columns.{AreNoted};
 
 use crate::fractions::Elimination;
 use crate::sparse_row::SparseRow;
 use crate::wide_cell::{Spot, WideCell};
-use narrow_fraction::Frac;
+use narrow_fraction::{Frac, Quotient};
 use std::mem;
 
 /// Each row becomes the one at its place in another list of rows as wide.
@@ -33,6 +34,17 @@ struct Pivot {
     row: usize,
     place: u32,
     cell: Frac,
+}
+
+/// Notes what a row has at the pivot's place, where there is room for it.
+#[inline(always)]
+fn note(column: &mut [Quotient], index: usize, factor: &Quotient)
+    ensures noted { index < length column.old → number_in column.new index ≡ factor.now }
+    ensures others { (i : ℕ) → (i ≡ index → ⊥) → number_in column.new i ≡ number_in column.old i }
+{
+    if index < column.len() {
+        column[index] = factor.copied();
+    }
 }
 
 /// One row cleared, unless it is the pivot's own row. A row with 0 at the pivot's place stays; another is made in `room`,
@@ -78,9 +90,9 @@ fn clear_one(
     Ok(())
 }
 
-/// One row cleared by whole numbers, where it and the turned row are narrow, or kept where it has 0 at the pivot's place. Else,
-/// and where it is the pivot's own row, it stays, and the answer is false. Apart from `clear_one`, since a call pays for the
-/// room of all that it names, and few rows come there.
+/// One row cleared by whole numbers, where it and the turned row are narrow. Else, and where it is the pivot's own row, it
+/// stays, and the answer is false. Apart from `clear_one`, since a call pays for the room of all that it names, and few rows
+/// come there.
 #[inline(never)]
 fn clear_whole(
     sparse_rows: &mut [SparseRow],
@@ -88,12 +100,14 @@ fn clear_whole(
     turned: &SparseRow,
     pivot: &Pivot,
     index: usize,
+    factor: &Quotient,
 ) -> bool
     requires inside { index < length sparse_rows.old }
     requires few { length sparse_rows.old < 2 ^ 32 }
     requires width { length (get_or sparse_rows.old index []) ≡ length turned.now }
     requires room { length room.old ≡ length turned.now }
     requires pivot { IsPivoted turned.now pivot.now.place pivot.now.cell }
+    requires factor { factor.now ≡ number_in (get_or sparse_rows.old index []) pivot.now.place }
     requires narrow { AreNarrow sparse_rows.old }
     ensures passed { result ≡ true → row_refusal pivot.now.row pivot.now.place turned.now pivot.now.cell sparse_rows.old index ≡ None }
     ensures kept { (k : ℕ) → length (get_or sparse_rows.new k []) ≡ length (get_or sparse_rows.old k []) }
@@ -106,11 +120,7 @@ fn clear_whole(
     if index == pivot.row {
         return false;
     }
-    let factor = sparse_rows[index].held(pivot.place);
-    if factor.is_zero() {
-        return true;
-    }
-    if !room.clear_narrow(&sparse_rows[index], turned, pivot.place, &factor) {
+    if !room.clear_narrow(&sparse_rows[index], turned, pivot.place, factor) {
         return false;
     }
     room.narrow();
@@ -118,12 +128,13 @@ fn clear_whole(
     true
 }
 
-/// Every row but the pivot's own, in order.
+/// Every row but the pivot's own, in order. What each row had at the pivot's place, its own row too, is noted in the column.
 fn clear_others(
     sparse_rows: &mut [SparseRow],
     room: &mut SparseRow,
     turned: &SparseRow,
     pivot: &Pivot,
+    column: &mut [Quotient],
 ) -> Result<(), WideCell>
     requires few { length sparse_rows.old < 2 ^ 32 }
     requires widths { (i : ℕ) → i < length sparse_rows.old → length (get_or sparse_rows.old i []) ≡ length turned.now }
@@ -136,12 +147,16 @@ fn clear_others(
     ensures cleared { IfOk result (λ _. (k : ℕ) → k < length sparse_rows.old → (k ≡ pivot.now.row → ⊥)
         → get_or sparse_rows.new k [] ≡ cleared pivot.now.place turned.now (get_or sparse_rows.old k [])) }
     ensures narrow { AreNarrow sparse_rows.new }
+    ensures noted { IfOk result (λ _. AreNoted sparse_rows.old pivot.now.place (length sparse_rows.old) column.new) }
+    ensures later { (k : ℕ) → length sparse_rows.old ≤ k → number_in column.new k ≡ number_in column.old k }
 {
     for index in 0..sparse_rows.len() {
-        if sparse_rows[index].is_free_at(pivot.place) {
+        let factor = sparse_rows[index].held(pivot.place);
+        note(column, index, &factor);
+        if factor.is_zero() {
             continue;
         }
-        if clear_whole(sparse_rows, room, turned, pivot, index) {
+        if clear_whole(sparse_rows, room, turned, pivot, index, &factor) {
             continue;
         }
         if let Err(wide) = clear_one(sparse_rows, room, turned, pivot, index) {
@@ -151,21 +166,24 @@ fn clear_others(
     Ok(())
 }
 
-/// The goal row cleared, into `spare`.
+/// The goal row cleared, into `spare`. What it has at the pivot's place is noted after what the rows have there.
 fn clear_goal(
     spare: &mut SparseRow,
     goal: &SparseRow,
     turned: &SparseRow,
     number: u32,
     pivot: &Pivot,
+    column: &mut [Quotient],
 ) -> Result<(), WideCell>
     requires width { length goal.now ≡ length turned.now }
     requires spare { length spare.old ≡ length turned.now }
     requires pivot { IsPivoted turned.now pivot.now.place pivot.now.cell }
     requires narrow { IsNarrow goal.now }
-    ensures { Clears number pivot.now.place goal.now turned.now pivot.now.cell result spare.old spare.new }
+    ensures cleared { Clears number pivot.now.place goal.now turned.now pivot.now.cell result spare.old spare.new }
+    ensures noted { number < length column.old → number_in column.new number ≡ number_in goal.now pivot.now.place }
 {
     let factor = goal.held(pivot.place);
+    note(column, number as usize, &factor);
     if factor.is_zero() {
         spare.copy_from(goal);
         return Ok(());
@@ -180,7 +198,8 @@ fn clear_goal(
 }
 
 /// The cells of an exchange on a row and a place: the rows in place, and the goal row into `spare`.
-/// The turned row is made in `held` and takes its place last, and `room` is for one row after another.
+/// The turned row is made in `held` and takes its place last, and `room` is for one row after another. What each row and then
+/// the goal row had at the place is noted in `column`, as far as there is room.
 pub fn exchange_cells(
     sparse_rows: &mut [SparseRow],
     goal: &SparseRow,
@@ -188,6 +207,7 @@ pub fn exchange_cells(
     held: &mut SparseRow,
     room: &mut SparseRow,
     at: Spot,
+    column: &mut [Quotient],
 ) -> Result<(), WideCell>
     requires inside { at.row < length sparse_rows.old }
     requires few { length sparse_rows.old < 2 ^ 32 }
@@ -209,6 +229,9 @@ pub fn exchange_cells(
     ensures goal_row { IfOk result (λ _. spare.new ≡ cleared at.col (turned at.col (get_or sparse_rows.old at.row [])) goal.now) }
     ensures narrow { AreNarrow sparse_rows.new }
     ensures narrow_goal { IfOk result (λ _. IsNarrow spare.new) }
+    ensures noted { IfOk result (λ _. AreNoted sparse_rows.old at.col (length sparse_rows.old) column.new) }
+    ensures noted_goal { IfOk result (λ _. length sparse_rows.old < length column.new
+        → number_in column.new (length sparse_rows.old) ≡ number_in goal.now at.col) }
 {
     let row = at.row as usize;
     let pivot = Pivot {
@@ -219,10 +242,10 @@ pub fn exchange_cells(
     if let Err(wide) = held.turn(&sparse_rows[row], at.row, at.col) {
         return Err(wide);
     }
-    if let Err(wide) = clear_goal(spare, goal, held, sparse_rows.len() as u32, &pivot) {
+    if let Err(wide) = clear_goal(spare, goal, held, sparse_rows.len() as u32, &pivot, column) {
         return Err(wide);
     }
-    if let Err(wide) = clear_others(sparse_rows, room, held, &pivot) {
+    if let Err(wide) = clear_others(sparse_rows, room, held, &pivot, column) {
         return Err(wide);
     }
     mem::swap(&mut sparse_rows[row], held);

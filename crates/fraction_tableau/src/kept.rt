@@ -20,6 +20,7 @@ pub fn put(cells: &mut [Kept], made: usize, kept: Kept) -> usize
     ensures cells { take result cells.new ≡ take made cells.old ++ kept_at kept.place kept.cell }
 {
     let is_zero = kept.cell.is_zero();
-    cells[made] = kept;
+    cells[made].place = kept.place;
+    cells[made].cell = kept.cell;
     if is_zero { made } else { made + 1 }
 }

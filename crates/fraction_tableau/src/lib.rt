@@ -4,8 +4,8 @@
 //! A `Tableau` is seen as a `NamedTableau` (`specs/NamedTableaus.antt`): the `Tableau` of `simplex_theory`, a list of names
 //! and whether it is spent. Begin with `Tableau::new`, then load each row by `Tableau::load` and a goal by
 //! `Tableau::load_goal`; `Tableau::pivot` exchanges two variables exactly, or names the first operation that leaves 128 bits
-//! (`specs/Operations.antt` lists the operations in their order), and `Tableau::basis` lists the basic variables. What an
-//! exchange keeps is in `simplex_theory`'s laws.
+//! (`specs/Operations.antt` lists the operations in their order), `Tableau::pivot_noting` notes besides what the rows had at the
+//! pivot's place, and `Tableau::basis` lists the basic variables. What an exchange keeps is in `simplex_theory`'s laws.
 //!
 //! A refused pivot leaves the tableau spent, and its goal row, basic and standing variables and names are those before. The
 //! contract speaks of all operations; the code leaves out those with an operand 0, which are proved never to be refused: a row is a

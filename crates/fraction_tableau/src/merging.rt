@@ -77,10 +77,8 @@ fn keep_some(
                 marks,
             };
         }
-        cells[made] = Kept {
-            place: next.place,
-            cell: rescaling.rescaled(&next.cell),
-        };
+        cells[made].place = next.place;
+        cells[made].cell = rescaling.rescaled(&next.cell);
         marks = with_mark(marks, next.place);
         made += 1;
     }

@@ -131,7 +131,7 @@ impl SparseRow {
 
     /// Whether the bit of a place says that no cell stands there, as it says of most rows at a pivot.
     #[inline(always)]
-    pub fn is_free_at(&self, place: u32) -> bool
+    fn is_free_at(&self, place: u32) -> bool
         requires { place + 1 < length self.now }
         ensures { result ≡ true → number_in self.now place ≡ whole (pos 0) }
     {

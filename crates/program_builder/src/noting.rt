@@ -1,15 +1,18 @@
 //! What is noted of an entry's turns, and the same turns of bounds alone.
 
-ghost use Rattle.std.specs.Prelude.{◌≡◌, ◌+◌, ◌<◌, ◌≤◌, ℕ, pos, true, length, slice_index_or, IfOk, IfSome};
+ghost use Rattle.std.specs.Prelude.{◌≡◌, ◌+◌, ◌<◌, ◌≤◌, ℕ, pos, true, false, length, slice_index_or, IfOk, IfErr, IfSome};
 ghost use Rattle.rational_theory.specs.Rational.{whole};
-ghost use Rattle.simplex_theory.specs.Tableau.{height, width};
+ghost use Rattle.simplex_theory.specs.Tableau.{cell, height, width, exchange};
+ghost use Rattle.narrow_fraction.specs.Attempt.{attempt};
 ghost use Rattle.narrow_fraction.specs.Fraction.{FitsFrac};
 ghost use Rattle.fraction_tableau.specs.Narrow.{IsNarrow};
 ghost use Rattle.fraction_tableau.specs.KeptCells.{number_in};
+ghost use Rattle.fraction_tableau.specs.Refusals.{pivot_refusal};
+ghost use Rattle.fraction_tableau.specs.NamedTableaus.{IsSpentFrom};
 ghost use Rattle.program_builder.specs.declared.noting.Turn.{Turn};
 ghost use Rattle.program_builder.specs.Remembering.{IsLess, AreTurned, IsNoteOf, HaveRoom};
 
-use fraction_tableau::Tableau;
+use fraction_tableau::{Tableau, WideCell};
 use narrow_fraction::{Frac, Memory, Quotient};
 use std::alloc::Global;
 
@@ -42,17 +45,31 @@ fn less(bound: Frac, factor: &Quotient, own: Frac) -> Option<Frac>
     }
 }
 
-/// Notes the turn of a column that is about to enter a row, where there is room for it.
-pub fn note(notes: &mut [Turn], turns: usize, tableau: &Tableau, row: u32, variable: u32)
-    requires room { HaveRoom notes.old (height tableau.now.table + 1) }
-    requires column { variable < width tableau.now.table }
-    ensures noted { (d : Turn) → turns < length notes.old
-        → IsNoteOf tableau.now.table row variable (slice_index_or notes.new turns d) }
+/// The pivot by which a column enters a row, which is noted where there is room for it.
+pub fn pivot_noting(
+    notes: &mut [Turn],
+    turns: usize,
+    tableau: &mut Tableau,
+    row: u32,
+    variable: u32,
+) -> Result<(), WideCell>
+    requires room { HaveRoom notes.old (height tableau.old.table + 1) }
+    requires row { row < height tableau.old.table }
+    requires column { variable < width tableau.old.table }
+    requires pivot { cell tableau.old.table row variable ≡ whole (pos 0) → ⊥ }
+    requires unspent { tableau.old.spent ≡ false }
+    ensures outcome { result ≡ attempt (pivot_refusal row variable tableau.old.table.rows tableau.old.table.goal) tt }
+    ensures exchanged { IfOk result (λ _. tableau.new ≡ record tableau.old { table = exchange row variable tableau.old.table }) }
+    ensures spent { IfErr result (λ _. IsSpentFrom tableau.old tableau.new) }
+    ensures noted { IfOk result (λ _. (d : Turn) → turns < length notes.old
+        → IsNoteOf tableau.old.table row variable (slice_index_or notes.new turns d)) }
     ensures others { (i : ℕ) (d : Turn) → (i ≡ turns → ⊥) → slice_index_or notes.new i d ≡ slice_index_or notes.old i d }
-    ensures room { HaveRoom notes.new (height tableau.now.table + 1) }
+    ensures room { HaveRoom notes.new (height tableau.old.table + 1) }
 {
     if turns < notes.len() {
-        notes[turns].note(tableau, row, variable);
+        notes[turns].pivot(tableau, row, variable)
+    } else {
+        tableau.pivot(row, variable)
     }
 }
 
@@ -66,18 +83,21 @@ impl Turn {
         Ok(Turn { row: 0, column })
     }
 
-    /// Notes the turn of a column that is about to enter a row.
-    fn note(&mut self, tableau: &Tableau, row: u32, variable: u32)
-        requires room { length self.old.column.items ≡ height tableau.now.table + 1 }
-        requires column { variable < width tableau.now.table }
-        ensures noted { IsNoteOf tableau.now.table row variable self.new }
+    /// The pivot by which a column enters a row, and its turn, which the pivot notes on the way.
+    fn pivot(&mut self, tableau: &mut Tableau, row: u32, variable: u32) -> Result<(), WideCell>
+        requires room { length self.old.column.items ≡ height tableau.old.table + 1 }
+        requires row { row < height tableau.old.table }
+        requires column { variable < width tableau.old.table }
+        requires pivot { cell tableau.old.table row variable ≡ whole (pos 0) → ⊥ }
+        requires unspent { tableau.old.spent ≡ false }
+        ensures outcome { result ≡ attempt (pivot_refusal row variable tableau.old.table.rows tableau.old.table.goal) tt }
+        ensures exchanged { IfOk result (λ _. tableau.new ≡ record tableau.old { table = exchange row variable tableau.old.table }) }
+        ensures spent { IfErr result (λ _. IsSpentFrom tableau.old tableau.new) }
+        ensures noted { IfOk result (λ _. IsNoteOf tableau.old.table row variable self.new) }
         ensures room { length self.new.column.items ≡ length self.old.column.items }
     {
-        tableau.known_named();
         self.row = row;
-        for line in 0..self.column.len() {
-            self.column[line] = tableau.held(line as u32, variable);
-        }
+        tableau.pivot_noting(row, variable, &mut self.column)
     }
 
     /// Makes of bounds what the turn makes of them; false where an operation on one of them leaves 128 bits.

@@ -11,7 +11,7 @@ ghost use Rattle.program_builder.specs.Remembering.{IsNoteOf, AreNotesOf, HaveRo
 ghost use Rattle.program_builder.specs.declared.noting.Turn.{Turn};
 
 use crate::choosing::entry_row;
-use crate::noting::{Turn, note};
+use crate::noting::{Turn, pivot_noting};
 use fraction_tableau::{Tableau, WideCell};
 
 /// The turn of one of the listed variables: a column enters at its row, which is noted, and at a slack nothing happens. The refusal
@@ -29,15 +29,14 @@ fn turn(
     ensures outcome { result ≡ attempt (turn_refusal basis.now tableau.old.table variable) tt }
     ensures turned { IfOk result (λ _. tableau.new ≡ record tableau.old { table = rule.entry_turn basis.now tableau.old.table variable }) }
     ensures spent { IfErr result (λ _. IsSpentFrom tableau.old tableau.new) }
-    ensures noted { variable < width tableau.old.table → (d : Turn) → turns < length notes.old
-        → IsNoteOf tableau.old.table (rule.entry_row basis.now tableau.old.table variable) variable (slice_index_or notes.new turns d) }
+    ensures noted { IfOk result (λ _. variable < width tableau.old.table → (d : Turn) → turns < length notes.old
+        → IsNoteOf tableau.old.table (rule.entry_row basis.now tableau.old.table variable) variable (slice_index_or notes.new turns d)) }
     ensures others { (i : ℕ) (d : Turn) → (i ≡ turns → ⊥) → slice_index_or notes.new i d ≡ slice_index_or notes.old i d }
     ensures room { HaveRoom notes.new (height tableau.old.table + 1) }
 {
     if variable < tableau.width() {
         let row = entry_row(tableau, basis, variable);
-        note(notes, turns, tableau, row, variable);
-        tableau.pivot(row, variable)
+        pivot_noting(notes, turns, tableau, row, variable)
     } else {
         Ok(())
     }

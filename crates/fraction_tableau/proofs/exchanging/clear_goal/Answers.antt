@@ -4,8 +4,8 @@ use Rattle.fraction_tableau.specs.Narrow.{IsNarrow}
 use Rattle.fraction_tableau.proofs.Zeros.{zero_row, zero_row_kept}
 use Rattle.fraction_tableau.proofs.exchanging.clear_goal.Goals as goal
 
-pub returns-then-is_zero : goal.returns-then-is_zero
-returns-then-is_zero c =
+pub returns-then-is_zero-clause-cleared : goal.returns-then-is_zero-clause-cleared
+returns-then-is_zero-clause-cleared c =
     let z = sym c.held-factor.ensures ∙ c.is_zero.ensures.0 c.if-is_zero.true in
     let same = c.copy_from.ensures ∙ zero_row_kept _ _ _ c.requires.width (omega (arith, c.requires.width, c.requires.pivot.place)) z in
     record {

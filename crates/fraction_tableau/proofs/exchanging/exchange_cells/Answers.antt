@@ -56,7 +56,7 @@ clear_goal-requires-clause-pivot c = pivoted (goal.at.clear_goal-requires-clause
 pub returns-in-Err-clear_goal-clause-outcome : goal.returns-in-Err-clear_goal-clause-outcome
 returns-in-Err-clear_goal-clause-outcome c =
     let t = turning (goal.at.returns-in-Err-clear_goal-clause-outcome c).In_default in
-    sym (ap (λ o. attempt o tt) (pivot_second _ _ _ _ _ _ _ _ _ t.held t.cell t.passed refl refl (attempt_err _ _ _ c.in-Err-clear_goal.ensures.outcome)))
+    sym (ap (λ o. attempt o tt) (pivot_second _ _ _ _ _ _ _ _ _ t.held t.cell t.passed refl refl (attempt_err _ _ _ c.in-Err-clear_goal.ensures.cleared.outcome)))
 
 pub clear_others-requires-clause-pivot : goal.clear_others-requires-clause-pivot
 clear_others-requires-clause-pivot c = pivoted (goal.at.clear_others-requires-clause-pivot c).In_default
@@ -64,13 +64,13 @@ clear_others-requires-clause-pivot c = pivoted (goal.at.clear_others-requires-cl
 pub returns-in-Err-clear_others-clause-outcome : goal.returns-in-Err-clear_others-clause-outcome
 returns-in-Err-clear_others-clause-outcome c =
     let t = turning (goal.at.returns-in-Err-clear_others-clause-outcome c).In_default in
-    let q = (attempt_ok _ _ _ c.in_default-clear_goal.ensures.outcome).0 in
+    let q = (attempt_ok _ _ _ c.in_default-clear_goal.ensures.cleared.outcome).0 in
     sym (ap (λ o. attempt o tt) (pivot_third c.args.at.row c.args.at.col c.args.sparse_rows.now c.args.goal.now c.turn.new.self c.cell.result t.held t.cell t.passed q ∙ attempt_err _ _ _ c.in-Err-clear_others.ensures.outcome))
 
 pub returns-clause-outcome : goal.returns-clause-outcome
 returns-clause-outcome c =
     let t = turning (goal.at.returns-clause-outcome c).In_default in
-    let q = (attempt_ok _ _ _ c.in_default-clear_goal.ensures.outcome).0 in
+    let q = (attempt_ok _ _ _ c.in_default-clear_goal.ensures.cleared.outcome).0 in
     sym (ap (λ o. attempt o tt) (pivot_third c.args.at.row c.args.at.col c.args.sparse_rows.now c.args.goal.now c.turn.new.self c.cell.result t.held t.cell t.passed q ∙ (attempt_ok _ _ _ c.in_default-clear_others.ensures.outcome).0))
 
 pub returns-clause-rows : goal.returns-clause-rows

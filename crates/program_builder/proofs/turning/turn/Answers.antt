@@ -10,7 +10,7 @@ pub returns-then-variable-width-clause-outcome : goal.returns-then-variable-widt
 returns-then-variable-width-clause-outcome c =
     let t = c.args.tableau.now.table in
     let l : c.args.variable < width c.args.tableau.now.table = let e = c.width.ensures.count in omega arith in
-    c.pivot.ensures.outcome
+    c.pivot_noting.ensures.outcome
     ∙ ap (λ r. attempt (pivot_refusal r c.args.variable c.args.tableau.now.table.rows c.args.tableau.now.table.goal) tt) c.entry_row-row.ensures
     ∙ ap (λ o. attempt o tt) (sym (refusal_column c.args.basis.now t c.args.variable l))
 
@@ -19,7 +19,7 @@ returns-then-variable-width-clause-turned c =
     let t = c.args.tableau.now.table in
     let l : c.args.variable < width c.args.tableau.now.table = let e = c.width.ensures.count in omega arith in
     let e = ap (λ r. exchange r c.args.variable c.args.tableau.now.table) c.entry_row-row.ensures ∙ sym (turn_column c.args.basis.now t c.args.variable l) in
-    subst (λ (u : Tableau). IfOk c.pivot.result (λ x. c.pivot.new.self ≡ record { table = u; names = c.args.tableau.now.names; spent = c.args.tableau.now.spent })) e c.pivot.ensures.exchanged
+    subst (λ (u : Tableau). IfOk c.pivot_noting.result (λ x. c.pivot_noting.new.tableau ≡ record { table = u; names = c.args.tableau.now.names; spent = c.args.tableau.now.spent })) e c.pivot_noting.ensures.exchanged
 
 pub returns-else-variable-width-clause-outcome : goal.returns-else-variable-width-clause-outcome
 returns-else-variable-width-clause-outcome c =

@@ -8,7 +8,7 @@ use Rattle.simplex_theory.specs.Tableau.{Tableau, exchange, height, width}
 use Rattle.fraction_tableau.specs.Refusals.{exchanged_rows}
 use Rattle.fraction_tableau.specs.NamedTableaus.{NamedTableau}
 use Rattle.fraction_tableau.proofs.Tableaus.{new_table}
-use Rattle.fraction_tableau.proofs.tableau.Tableau.pivot.Goals as goal
+use Rattle.fraction_tableau.proofs.tableau.Tableau.pivot_noting.Goals as goal
 
 pub returns-clause-exchanged : goal.returns-clause-exchanged
 returns-clause-exchanged c =
