@@ -4,7 +4,8 @@ ghost use Rattle.std.specs.Prelude.{◌≡◌, ◌+◌, ◌*◌, ◌<◌, ◌^�
 ghost use Rattle.rational_theory.specs.Rational.{over, neg_ℚ, ◌+ℚ◌, ◌*ℚ◌};
 ghost use Rattle.narrow_fraction.specs.SmallParts.{AreSmallParts};
 
-use crate::frac::Frac;
+use crate::divisor::word_divisor;
+use crate::frac::{Frac, reduced_by};
 
 /// A number times `scale`, less `factor` times the other one.
 #[inline(always)]
@@ -51,5 +52,7 @@ pub fn less_small(from: SmallParts, factor: SmallParts, other: SmallParts) -> Fr
     let below = factor.bottom * other.bottom;
     let part = factor.top * other.top;
     let top = less_product(from.top, below as i64, part, from.bottom as i64);
-    Frac::reduced(top as i128, (below * from.bottom) as u128)
+    let under = below * from.bottom;
+    let shared = word_divisor(top.unsigned_abs(), under);
+    reduced_by(top as i128, under as u128, shared as u128)
 }

@@ -218,20 +218,19 @@ impl Quotient {
         }
     }
 
-    /// The denominator over which this or else another number is held, where one of them is held as two words.
-    fn either_below(&self, other: &Quotient) -> Option<u64>
-        ensures above { IfSome result (λ below. 0 < below) }
-        ensures word { IfSome result (λ below. below < 2 ^ 64) }
+    /// The denominator over which this or else another number is held, where one of them is held as two words; else 1, over which 0 stands.
+    fn either_below(&self, other: &Quotient) -> u64
+        ensures { 0 < result }
     {
         match self.word_below() {
-            Some(below) => Some(below),
-            None => other.word_below(),
+            Some(below) => below,
+            None => other.word_below().unwrap_or(1),
         }
     }
 
     /// The order of two ratios, of this number to the negated `bottom` and of another one to its negated bottom, both bottoms below 0, by
-    /// two products: where the numbers are held as words, those above over one denominator, unless one of them is 0, and so those below.
-    /// Then the first ratio doesn't leave 128 bits. None elsewhere.
+    /// two products: where the bottoms are held as words over one denominator, and the tops are so or are 0. Then the first ratio doesn't
+    /// leave 128 bits. None elsewhere.
     pub fn ratio_order(
         &self,
         bottom: &Quotient,
@@ -244,7 +243,7 @@ impl Quotient {
         ensures fits { IfSome result (λ _. Fits128 Div self.now (neg_ℚ bottom.now)) }
     {
         let under = bottom.word_below()?;
-        let above = self.either_below(other)?;
+        let above = self.either_below(other);
         let own = bottom.numerator_over(under)?;
         let others = other_bottom.numerator_over(under)?;
         let top = self.numerator_over(above)?;

@@ -35,6 +35,9 @@ fn less(bound: Frac, factor: &Quotient, own: Frac) -> Option<Frac>
     if factor.is_zero() {
         return Some(bound);
     }
+    if let Some(new) = factor.less_times(own, bound) {
+        return Some(new.fitting());
+    }
     let part = match factor.fraction().times(own) {
         Ok(part) => part,
         Err(_) => return None,

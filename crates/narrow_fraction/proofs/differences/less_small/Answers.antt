@@ -31,5 +31,5 @@ returns c =
     let t = simp (to_z-of_z, to_z_pos, x, y, z, q) at c.less_product-top.ensures in
     let r = word_in c.less_product-top.result c.less_product-top.type_inv in
     let w = word_i128 c.less_product-top.result r in
-    let v = simp (to_z-of_z, r, w) at c.reduced.ensures.value in
+    let v = simp (to_z-of_z, r, w) at c.reduced_by.ensures in
     (rw t at v) ∙ less_over c.args.from.top c.args.factor.top c.args.other.top c.args.from.bottom c.args.factor.bottom c.args.other.bottom f.above n.above o.above
