@@ -1,11 +1,13 @@
 -- A number less the product of two, over the product of the three denominators.
-use Rattle.std.proofs.Common.{◌≡◌, sym, ◌∙◌, ap, ℕ, ℤ, pos, neg_ℤ, ◌*ℤ◌, ◌+ℤ◌, ◌+◌, ◌*◌, ◌<◌, ◌^◌, arith, mul-pos, unsigned_abs}
+use Rattle.std.specs.Int.{w64}
+use Rattle.std.proofs.Common.{◌≡◌, SFits, sym, ◌∙◌, ap, ℕ, ℤ, pos, neg_ℤ, ◌*ℤ◌, ◌+ℤ◌, ◌+◌, ◌*◌, ◌<◌, ◌^◌, arith, mul-pos, unsigned_abs}
 use Rattle.std.proofs.lemmas.Int.{ints, unsigned_abs-mul}
 use Rattle.std.proofs.lemmas.Nat.{mul-lt}
 use borrow.Author.Differences.{up, down}
 use Rattle.rational_theory.specs.Rational.{over, neg_ℚ, ◌+ℚ◌, ◌*ℚ◌}
 use Rattle.narrow_fraction.specs.SmallParts.{AreSmallParts}
 use Rattle.narrow_fraction.specs.declared.differences.SmallParts.{SmallParts}
+use Rattle.narrow_fraction.proofs.Fitting.{fits_i64}
 use Rattle.narrow_fraction.proofs.Small.{IsSmall, over_small}
 use Rattle.rational_theory.proofs.Arithmetic.{same_ratio, over_ratio, over_terms, product_ratio, neg_ratio, sum_ratio}
 
@@ -33,11 +35,27 @@ three_small x n a c e d h i j k l m =
     let q = mul-lt (unsigned_abs n * unsigned_abs a) c (2 ^ 40) (2 ^ 20) (mul-lt (unsigned_abs n) (unsigned_abs a) (2 ^ 20) (2 ^ 20) i j) k in
     rw (unsigned_abs-mul n a) (omega arith)
 
-pub two_small : (n a : ℤ) → unsigned_abs n < 2 ^ 20 → unsigned_abs a < 2 ^ 20 → unsigned_abs (n *ℤ a) < 2 ^ 63
-two_small n a h k = let p = mul-lt (unsigned_abs n) (unsigned_abs a) (2 ^ 20) (2 ^ 20) h k in rw (unsigned_abs-mul n a) (omega arith)
+-- what is made of the parts on the way to them is a word with a sign
+pub record AreWords (from factor other : SmallParts) : Type 0 where
+  pub top : SFits w64 from.top
+  pub factor_top : SFits w64 factor.top
+  pub other_top : SFits w64 other.top
+  pub part : SFits w64 (factor.top *ℤ other.top)
+  pub below : factor.bottom * other.bottom < 2 ^ 63
+  pub bottom : from.bottom < 2 ^ 63
 
-pub below_small : (e d : ℕ) → e < 2 ^ 20 → d < 2 ^ 20 → e * d < 2 ^ 63
-below_small e d h k = let p = mul-lt e d (2 ^ 20) (2 ^ 20) h k in omega arith
+pub small_words : (from factor other : SmallParts) → AreSmallParts from → AreSmallParts factor → AreSmallParts other → AreWords from factor other
+small_words from factor other f n o =
+    let p = mul-lt (unsigned_abs factor.top) (unsigned_abs other.top) (2 ^ 20) (2 ^ 20) n.top o.top in
+    let q = mul-lt factor.bottom other.bottom (2 ^ 20) (2 ^ 20) n.bottom o.bottom in
+    record {
+      top = fits_i64 from.top (omega (arith, f.top));
+      factor_top = fits_i64 factor.top (omega (arith, n.top));
+      other_top = fits_i64 other.top (omega (arith, o.top));
+      part = fits_i64 (factor.top *ℤ other.top) (rw (unsigned_abs-mul factor.top other.top) (omega arith));
+      below = omega arith;
+      bottom = omega (arith, f.bottom);
+    }
 
 pub parts_small : (p : SmallParts) → AreSmallParts p → IsSmall (2 ^ 42) (over p.top p.bottom)
 parts_small p h = over_small p.top p.bottom (2 ^ 42) h.above (omega (arith, h.top)) (omega (arith, h.bottom))
