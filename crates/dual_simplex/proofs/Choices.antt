@@ -65,7 +65,7 @@ step_with t r k p x g v u s e d f h =
 
 pub next_place : (t : Tableau) (r k : ℕ) (x g : ℚ) (o : Option Chosen) (b : Chosen) (s : Bool) → Entry t r k x g → o ≡ Some b → IfSome o (IsChosen t r)
     → s ≡ less_by (cmp_ℚ (g /ℚ neg_ℚ x) (b.goal /ℚ neg_ℚ b.cell)) (ltb (standing_at t k) (standing_at t b.place))
-    → Ok (cond s (Some (record { place = k; goal = g; cell = x })) (Some b)) ≡ attempt (ratio_at t r k) (with_cells t r (best_step (λ k. is_negative (cell t r k)) (place_before t r) k (place_of o)))
+    → Ok (Some (cond s (record { place = k; goal = g; cell = x }) b)) ≡ attempt (ratio_at t r k) (with_cells t r (best_step (λ k. is_negative (cell t r k)) (place_before t r) k (place_of o)))
 next_place t r k x g o b s e f i h =
     let d = is_ratio t r b.place b.cell b.goal w.cell_is w.goal_is in
     let a = not_refused t r k x g e in
@@ -74,7 +74,8 @@ next_place t r k x g o b s e f i h =
   where
     w : IsChosen t r b
     w = subst (λ (o : Option Chosen). IfSome o (IsChosen t r)) f i
-    chosen : (s : Bool) → cond s (Some (record { place = k; goal = g; cell = x })) (Some b) ≡ with_cells t r (cond s (Some k) (Some b.place))
+
+    chosen : (s : Bool) → Some (cond s (record { place = k; goal = g; cell = x }) b) ≡ with_cells t r (cond s (Some k) (Some b.place))
     chosen true = cells_of t r k x g e.entry e.goal
     chosen false = cells_of t r b.place b.cell b.goal w.cell_is w.goal_is
 

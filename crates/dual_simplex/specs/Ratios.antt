@@ -1,9 +1,10 @@
 -- The dual ratios with their refusals: at each place with a negative cell, the goal cell over the negated cell.
-use Rattle.std.proofs.Common.{◌≡◌, ℕ, true, cond, Option, Some, None, ◌<◌}
-use Rattle.rational_theory.specs.Rational.{neg_ℚ}
+use Rattle.std.proofs.Common.{◌≡◌, ℕ, pos, true, cond, Option, Some, None, Result, Ordering, ◌<◌}
+use Rattle.rational_theory.specs.Rational.{whole, neg_ℚ, ◌/ℚ◌, ◌<ℚ◌}
+use Rattle.rational_theory.specs.Compare.{cmp_ℚ}
 use Rattle.simplex_theory.specs.Tableau.{Tableau, cell, goal_cell, width}
 use Rattle.simplex_theory.specs.BlandRule.{is_negative}
-use Rattle.narrow_fraction.specs.Attempt.{first_below}
+use Rattle.narrow_fraction.specs.Attempt.{attempt, first_below}
 use Rattle.narrow_fraction.specs.declared.wide.Op.TheVariants.{Div}
 use Rattle.fraction_tableau.specs.Refusals.{refused}
 use Rattle.fraction_tableau.specs.declared.wide_cell.WideCell.{WideCell}
@@ -33,3 +34,14 @@ pub record IsChosen (t : Tableau) (r : ℕ) (c : Chosen) : Type 0 where
   pub cell_is : c.cell ≡ cell t r c.place
   pub negative : is_negative (cell t r c.place) ≡ true
   pub passed : ratio_at t r c.place ≡ None
+
+-- two places of negative cells of row r, where the ratio of the second was not refused
+pub record CanCompare (r : ℕ) (next best : Chosen) : Type 0 where
+  pub next_negative : next.cell <ℚ whole (pos 0)
+  pub best_negative : best.cell <ℚ whole (pos 0)
+  pub passed : refused Div best.goal (neg_ℚ best.cell) r best.place ≡ None
+
+-- how the ratio of the first compares with that of the second, or its refusal
+abbrev pub Compares : ℕ → Chosen → Chosen → Result Ordering WideCell → Type 0
+Compares r next best result =
+    result ≡ attempt (refused Div next.goal (neg_ℚ next.cell) r next.place) (cmp_ℚ (next.goal /ℚ neg_ℚ next.cell) (best.goal /ℚ neg_ℚ best.cell))

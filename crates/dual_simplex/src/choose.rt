@@ -1,6 +1,6 @@
 //! Which row and which place a step takes, by Bland's rule.
 
-ghost use Rattle.std.specs.Prelude.{◌≡◌, ◌<◌, ◌≤◌, IfSome, Some, None, pos, ltb, is_some};
+ghost use Rattle.std.specs.Prelude.{◌≡◌, ◌<◌, ◌≤◌, IfSome, Some, None, pos, ltb, cond, is_some};
 ghost use Rattle.rational_theory.specs.Rational.{whole, neg_ℚ, ◌/ℚ◌, ◌<ℚ◌};
 ghost use Rattle.rational_theory.specs.Compare.{cmp_ℚ};
 ghost use Rattle.simplex_theory.specs.Tableau.{height, width, bound, cell, goal_cell};
@@ -9,7 +9,7 @@ ghost use Rattle.simplex_theory.specs.BlandRule.{chosen_row, chosen_place, is_ne
 ghost use Rattle.narrow_fraction.specs.Attempt.{attempt};
 ghost use Rattle.narrow_fraction.specs.declared.wide.Op.TheVariants.{Div};
 ghost use Rattle.fraction_tableau.specs.Refusals.{refused};
-ghost use Rattle.dual_simplex.specs.Ratios.{ratio_at, ratio_refusal, with_cells, place_of, IsChosen};
+ghost use Rattle.dual_simplex.specs.Ratios.{ratio_at, ratio_refusal, with_cells, place_of, IsChosen, CanCompare, Compares};
 
 use fraction_tableau::{Kept, Tableau, WideCell};
 use narrow_fraction::{Frac, Quotient};
@@ -93,11 +93,8 @@ fn ratio_of(chosen: &Chosen, row: u32) -> Result<Frac, WideCell>
 
 /// How the ratio of a place compares with another one, which was not refused, or its refusal.
 fn compare_fractions(next: &Chosen, best: &Chosen, row: u32) -> Result<Ordering, WideCell>
-    requires next { next.now.cell <ℚ whole (pos 0) }
-    requires best { best.now.cell <ℚ whole (pos 0) }
-    requires passed { refused Div best.now.goal (neg_ℚ best.now.cell) row best.now.place ≡ None }
-    ensures { result ≡ attempt (refused Div next.now.goal (neg_ℚ next.now.cell) row next.now.place)
-        (cmp_ℚ (next.now.goal /ℚ neg_ℚ next.now.cell) (best.now.goal /ℚ neg_ℚ best.now.cell)) }
+    requires { CanCompare row next.now best.now }
+    ensures { Compares row next.now best.now result }
 {
     let ratio = match ratio_of(next, row) {
         Ok(ratio) => ratio,
@@ -111,11 +108,8 @@ fn compare_fractions(next: &Chosen, best: &Chosen, row: u32) -> Result<Ordering,
 
 /// The same: by two products where the rows are narrow, as they mostly are, and so nothing is refused.
 fn compare_ratios(next: &Chosen, best: &Chosen, row: u32) -> Result<Ordering, WideCell>
-    requires next { next.now.cell <ℚ whole (pos 0) }
-    requires best { best.now.cell <ℚ whole (pos 0) }
-    requires passed { refused Div best.now.goal (neg_ℚ best.now.cell) row best.now.place ≡ None }
-    ensures { result ≡ attempt (refused Div next.now.goal (neg_ℚ next.now.cell) row next.now.place)
-        (cmp_ℚ (next.now.goal /ℚ neg_ℚ next.now.cell) (best.now.goal /ℚ neg_ℚ best.now.cell)) }
+    requires { CanCompare row next.now best.now }
+    ensures { Compares row next.now best.now result }
 {
     match next.goal.ratio_order(&next.cell, &best.goal, &best.cell) {
         Some(order) => Ok(order),
@@ -151,6 +145,13 @@ fn is_before(order: Ordering, variable: u32, other_variable: u32) -> bool
     }
 }
 
+/// One of two places.
+fn either(first: bool, next: Chosen, other: Chosen) -> Chosen
+    ensures { result ≡ cond first next other }
+{
+    if first { next } else { other }
+}
+
 /// The better of the place chosen so far and this one, or the refusal of its ratio.
 fn better_place(
     tableau: &Tableau,
@@ -184,15 +185,12 @@ fn better_place(
                 Ok(order) => order,
                 Err(wide) => return Err(wide),
             };
-            if is_before(
+            let before = is_before(
                 order,
                 tableau.standing(entry.place),
                 tableau.standing(other.place),
-            ) {
-                Ok(Some(next))
-            } else {
-                Ok(Some(other))
-            }
+            );
+            Ok(Some(either(before, next, other)))
         }
     }
 }
