@@ -9,11 +9,11 @@ use Rattle.maxband_run.specs.Reading.{IsRoomForFaults}
 use Rattle.maxband_run.specs.declared.answer.Put.{Put}
 use Rattle.maxband_run.specs.Outside.{Outside, NamedBytes, named, put_of, view, IsPut, IsDone, IsUntouched, PutFailed, WriteFailed, IsBroken, OthersKept, PutsCounted}
 use Rattle.maxband_run.specs.Run.{Answers, Ends}
-use Rattle.maxband_run.specs.Laws.{IsReached}
+use Rattle.maxband_run.specs.Status.{IsReached}
 use Rattle.maxband_run.specs.declared.cause.Cause.{Cause}
 use Rattle.maxband_run.specs.declared.cause.Cause.TheVariants as cause
 use Rattle.maxband_run.proofs.Stopped.{same_at, IsStop, stops_stop, stops_room}
-use Rattle.maxband_run.proofs.Once.{finds_reached}
+use Rattle.maxband_run.proofs.Reached.{finds_reached}
 
 -- ---- answers
 -- none is a failed write or want of memory

@@ -12,7 +12,6 @@ use Rattle.plan_text.specs.declared.fault.BadText.{BadText}
 use Rattle.maxband_run.specs.Timed.{timed_of}
 use Rattle.maxband_run.specs.Lines.{cannot_read_line}
 use Rattle.maxband_run.specs.Reading.{Reader, Description, Timing, Certificate, LinkCertificate, Timed, TypedPlan, HasFault, IsBadText, IsRefusedFor, Input, IsUnread, StopsReading, IsRoomForFaults}
-use Rattle.maxband_run.specs.Laws.{IsFault}
 use Rattle.maxband_run.specs.declared.cause.Cause.{Cause}
 use Rattle.maxband_run.specs.declared.cause.Cause.TheVariants as cause
 
@@ -55,18 +54,7 @@ module _ (held : List ℕ → Option (List ℕ)) (before after : List ℕ → �
   stops_stop (i ∷ is) place c l (inl h) = unread_stop i place c l h
   stops_stop (i ∷ is) place c l (inr h) = stops_stop is (place + 1) c l h.2
 
-  -- unless a read failed no count of reads has changed
-  unread_same : (i : Input) (place : ℕ) (c : Cause) (l : List ℕ) → ¬ IsFault c → IsUnread i place held before after c l → SameCounts before after
-  unread_same i place (cause.ReadFault f) l n h = absurd (n tt)
-  unread_same i place (cause.TooLong f) l n h = h.1
-  unread_same i place c l n h = h.0
-
-  pub stops_same : (is : List Input) (place : ℕ) (c : Cause) (l : List ℕ) → ¬ IsFault c → StopsReading is place held before after c l → SameCounts before after
-  stops_same [] place c l n h = absurd h
-  stops_same (i ∷ is) place c l n (inl h) = unread_same i place c l n h
-  stops_same (i ∷ is) place c l n (inr h) = stops_same is (place + 1) c l n h.2
-
-  -- or there was room for the line
+  -- there was room for the line, or no count of reads has changed
   unread_room : (i : Input) (place room : ℕ) (c : Cause) (l : List ℕ) → length (cannot_read_line i.name) ≤ room → IsUnread i place held before after c l
       → (length l ≤ room) ⊎ SameCounts before after
   unread_room i place room (cause.ReadFault f) l few h = inl (subst (λ x. length x ≤ room) (sym h.2) few)

@@ -28,6 +28,3 @@ pub mod Run
 pub mod Program
 pub mod Sought
 pub mod Checked
-pub mod Laws
-pub mod PlanLaws
-pub mod StopLaws

@@ -1,4 +1,4 @@
--- The number of each cause, and of words that are no text, of which there is no run.
+-- The number of each cause, and of words that are no text, of which there is no run; and which causes are answers.
 use Rattle.std.specs.Prelude.{ℕ}
 use Rattle.maxband_run.specs.declared.cause.Cause.{Cause}
 use Rattle.maxband_run.specs.declared.cause.Cause.TheVariants as cause
@@ -22,3 +22,10 @@ number_of (cause.Unmatched end) = 11
 
 abbrev pub no_words : ℕ
 no_words = 12
+
+-- an answer that neither a fault nor want of memory gave
+abbrev pub IsReached : Cause → Type 0
+IsReached (cause.ReadFault file) = ⊥
+IsReached cause.WriteFault = ⊥
+IsReached cause.Memory = ⊥
+IsReached _ = Unit {0}

@@ -58,14 +58,8 @@
 //! (`specs/Numbers.antt`); the limit of work is one of these or none, by the word `all`. Every command has one tail, `deliver`,
 //! whose contract says what each refusal leaves.
 //!
-//! The laws are over the definitions alone (`specs/Laws.antt`, `specs/PlanLaws.antt`, `specs/StopLaws.antt`), and each is said at
-//! its call in `src/top.rt`. `law_one_answer`: where the files tell their bytes, these and the words leave one answer alone, but
-//! that two verdicts of `solve`, of `links` or of `trial`, and two plans of `half`, may differ. `law_solve_says` and its like say
-//! what the numbers of the statuses mean over the model; those of `solve` and `links` are two instances of `SearchSays`, over the
-//! kind of timing that is sought (`specs/Sought.antt`). `law_solve_stop_says` and its like, which speak of boxes and pivots, stand
-//! apart. The laws of completeness say when a run ends with a verdict, those on faults that each is told,
-//! `law_all_never_stops_by_work` that `all` is no limit, and `law_put_is_accepted` that `check` accepts what `solve` put,
-//! `law_plan_is_held` that `hold` accepts what `round` put.
+//! The laws over these definitions alone stand above, in `run_laws`: that files and words leave one answer, and what the numbers of the
+//! statuses say of the model.
 #![tactic(auto)]
 
 mod answer;
@@ -102,13 +96,4 @@ mod usage;
 
 pub use cause::{Cause, Status};
 pub use program::{maxband_main, run_program};
-pub use top::{
-    law_all_never_stops_by_work, law_bands_say, law_check_links_says, law_check_says,
-    law_draw_is_complete, law_draw_says, law_faults_are_counted, law_faults_are_told,
-    law_half_says, law_help_says, law_hold_says, law_links_are_complete, law_links_say,
-    law_links_stop_says, law_make_is_complete, law_one_answer, law_plan_is_held,
-    law_put_is_accepted, law_put_links_are_accepted, law_renew_is_complete, law_renew_says,
-    law_round_from_is_complete, law_round_from_says, law_round_says, law_solve_is_complete,
-    law_solve_says, law_solve_stop_says, law_sweep_is_complete, law_sweep_says,
-    law_timing_is_complete, law_timing_says, law_trial_is_complete, law_words_are_told, run,
-};
+pub use top::run;

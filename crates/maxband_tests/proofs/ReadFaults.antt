@@ -8,7 +8,7 @@ use Rattle.maxband_run.specs.Run.{Ends}
 use Rattle.maxband_run.specs.Status.{number_of}
 use Rattle.maxband_run.specs.declared.cause.Cause.{Cause}
 use Rattle.maxband_run.specs.declared.cause.Cause.TheVariants as cause
-use Rattle.maxband_run.proofs.Once.{finds_reached}
+use Rattle.maxband_run.proofs.Reached.{finds_reached}
 
 stop_counted : (is : List Input) (place : ℕ) (held : List ℕ → Option (List ℕ)) (before after : List ℕ → ℕ) (file : ℕ) (lines : List ℕ)
     → StopsReading is place held before after (cause.ReadFault file) lines → (name : List ℕ) × (after name ≡ next_count (before name))

@@ -1,5 +1,0 @@
-use Rattle.maxband_run.proofs.Says.{check_says}
-use Rattle.maxband_run.proofs.top.law_check_says.Goals as goal
-
-pub returns : goal.returns
-returns c = check_says c.law_accepted_or_refused.ensures.refused

@@ -1,5 +1,0 @@
-use Rattle.maxband_run.proofs.Says.{hold_says}
-use Rattle.maxband_run.proofs.top.law_hold_says.Goals as goal
-
-pub returns : goal.returns
-returns c = hold_says c.law_fails_rules_out.ensures

@@ -1,5 +1,0 @@
-use Rattle.maxband_run.proofs.PlanHeld.{round_says}
-use Rattle.maxband_run.proofs.top.law_round_says.Goals as goal
-
-pub returns : goal.returns
-returns c = round_says c.law_accepted_or_refused.ensures.refused

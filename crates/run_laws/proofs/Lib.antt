@@ -1,0 +1,14 @@
+pub mod Holding
+pub mod Readers
+pub mod Once
+pub mod OneAnswer
+pub mod Complete
+pub mod PutRead
+pub mod PutAccepted
+pub mod Says
+pub mod Unlimited
+pub mod PlanHeld
+pub mod Found
+pub mod PlansSay
+pub mod Statuses
+pub mod Helping

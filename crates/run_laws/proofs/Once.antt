@@ -1,0 +1,308 @@
+-- What a command finds of the same values is one thing, or a verdict of a search.
+use Rattle.std.proofs.Common.{arith, pos, ◌*ℤ◌, ◌++◌, ◌*◌, ◌⊎◌, ap₂, ◌≤◌, ◌≡◌, ℕ, Bool, true, false, List, [], ◌∷◌, Option, Some, None, inl, inr, refl, sym, ◌∙◌, ap, subst}
+use Rattle.progression.specs.Street.{Street, count}
+use Rattle.progression.specs.TimingRecord.{TimingRecord}
+use Rattle.description_reader.specs.Printed.{OneText}
+use Rattle.progression.specs.declared.parts.Dir.{Dir}
+use Rattle.progression.specs.declared.parts.Dir.TheVariants.{Outbound, Inbound}
+use Rattle.artery_model.specs.Valid.{IsValid}
+use Rattle.time_space.specs.declared.failing.Failing.{Failing}
+use Rattle.band_measure.specs.Pairs.{FinerPairs}
+use Rattle.band_measure.specs.Widest.{OneWidest}
+use Rattle.band_measure.specs.declared.pair.Widest.{Widest}
+use Rattle.half_integer.specs.Answers.{OneEnd}
+use Rattle.certificate_model.specs.Warrants.{Warrant}
+use Rattle.time_space.specs.Failing.{FailsRulesOut}
+use Rattle.time_space.specs.FirstFailing.{IsFirstFailing, OneFirst}
+use Rattle.certificate_checker.specs.Laws.{RefusedIsNotAccepted, OneFirstRefusal}
+use Rattle.link_proof.specs.LinkLaws.{LinkRefusedIsNotAccepted, OneFirstLinkRefusal}
+use Rattle.branch_and_bound.specs.declared.found.Verdict.{Verdict}
+use Rattle.branch_and_bound.specs.declared.found.Verdict.TheVariants.{Best, NoTiming, Stopped}
+use Rattle.branch_tree.specs.declared.site.SitePart.{SitePart}
+use Rattle.workload_maker.specs.Made.{made_street}
+use Rattle.artery_model.specs.Faults.{fault_of}
+use Rattle.diagram_print.specs.Measures.{weighted_line}
+use Rattle.half_integer.specs.declared.end.HalfEnd.TheVariants as half_end
+use Rattle.description_reader.specs.Typed.{Typed}
+use Rattle.typed_plan.specs.Counts.{count_fault}
+use Rattle.typed_plan.specs.Grid.{too_fine}
+use Rattle.typed_plan.specs.Ends.{OneTiming}
+use Rattle.maxband_run.specs.Lines.{fails_line, refused_line}
+use Rattle.maxband_run.specs.Command.{Request, Hold, Show, Check, CheckLinks, Solve, Links, Renew, Bands, Round, RoundFrom, Half, TimingOf, Draw, Help, Version, Make, Trial, Sweep, shape}
+use Rattle.maxband_run.specs.Reading.{Input, Value, Values}
+use Rattle.maxband_run.specs.Searched.{cause_of}
+use Rattle.maxband_run.specs.Hold.{HoldFinds}
+use Rattle.maxband_run.specs.Show.{Shows}
+use Rattle.maxband_run.specs.Sought.{Sought, whole_bands, bands_of_links}
+use Rattle.maxband_run.specs.Checked.{Checked, whole_checked, links_checked}
+use Rattle.maxband_run.specs.Check.{Rejects, Checks}
+use Rattle.maxband_run.specs.Status.{IsReached}
+use Rattle.maxband_run.specs.Bands.{IsWidestBand, widest_line, BreaksBase, BandsFinds}
+use Rattle.second_plan.specs.Planned.{IsAnswer}
+use Rattle.second_plan.specs.Ends as second
+use Rattle.second_plan.specs.Ends.{Ends, PlanOrEnd, OnePlan}
+use Rattle.second_plan.specs.declared.answer.PlanEnd.{PlanEnd}
+use Rattle.second_plan.specs.declared.answer.PlanEnd.TheVariants as end
+use Rattle.certificate_checker.specs.Accepted.{limit_of, IsAccepted}
+use Rattle.progression.specs.Good.{Good}
+use Rattle.rational_theory.specs.Rational.{ℚ}
+use Rattle.maxband_run.specs.Round.{plan_lines, unplanned_line, IsCertified, IsRounded, IsUnfit, Unplans, RoundFinds, RoundFromFinds}
+use Rattle.maxband_run.specs.Half.{end_line, HalfFinds}
+use Rattle.maxband_run.specs.Typed.{WritesTiming, TypedFinds}
+use Rattle.maxband_run.specs.Draw.{DrawFinds}
+use Rattle.maxband_run.specs.Run.{Finds}
+use Rattle.run_laws.specs.Laws.{IsVerdict, Agree}
+use Rattle.maxband_run.specs.declared.cause.Cause.{Cause}
+use Rattle.maxband_run.specs.declared.cause.Cause.TheVariants as cause
+use Rattle.run_laws.proofs.Readers.{same_refusal}
+
+-- a search gives a verdict
+pub verdict_cause : (c : Cause) (v : Verdict SitePart) → c ≡ cause_of v → IsVerdict c
+verdict_cause c Best e = subst (λ (d : Cause). IsVerdict d) (sym e) tt
+verdict_cause c NoTiming e = subst (λ (d : Cause). IsVerdict d) (sym e) tt
+verdict_cause c (Stopped stop) e = subst (λ (d : Cause). IsVerdict d) (sym e) tt
+
+pub verdict_reached : (c : Cause) → IsVerdict c → IsReached c
+verdict_reached cause.Done v = tt
+verdict_reached cause.NoTiming v = tt
+verdict_reached (cause.Stopped stop) v = tt
+verdict_reached c v = absurd v
+
+pub show_done : (a : Street) (c : Cause) (l : List ℕ) → Shows a c l → c ≡ cause.Done
+show_done a cause.Done l h = refl
+show_done a c l h = absurd h
+
+-- ---- each command
+hold_once : OneFirst → FailsRulesOut → (a : Street) (t : TimingRecord) (c d : Cause) (x y : List ℕ) → HoldFinds a t c x → HoldFinds a t d y → (c ≡ d) × (x ≡ y)
+hold_once one_first rules a t cause.Done cause.Done x y h k = (refl, h.1 ∙ sym k.1)
+hold_once one_first rules a t cause.Done (cause.Fails f) x y h k = absurd (rules a t f k.0.fails h.0)
+hold_once one_first rules a t cause.Done d x y h k = absurd k
+hold_once one_first rules a t (cause.Fails f) cause.Done x y h k = absurd (rules a t f h.0.fails k.0)
+hold_once one_first rules a t (cause.Fails f) (cause.Fails g) x y h k = let e = one_first a t f g h.0 k.0 in (ap cause.Fails e, h.1 ∙ ap fails_line e ∙ sym k.1)
+hold_once one_first rules a t (cause.Fails f) d x y h k = absurd k
+hold_once one_first rules a t c d x y h k = absurd h
+
+show_once : OneText → (a : Street) (c d : Cause) (x y : List ℕ) → Shows a c x → Shows a d y → (c ≡ d) × (x ≡ y)
+show_once one_text a cause.Done cause.Done x y h k = (refl, one_text.same a x y h.printed k.printed)
+show_once one_text a cause.Done d x y h k = absurd k
+show_once one_text a c d x y h k = absurd h
+
+-- what is refused isn't accepted, and it has one first refusal
+abbrev pub RefusedApart : (k : Sought) → Checked k → Type 0
+RefusedApart k s = (a : Street) (w : Value k.reader) (r : s.Reject) → s.First a w r → (r ≡ s.wanting → ⊥) → s.Accepted a w → ⊥
+
+abbrev OneRefusal : (k : Sought) → Checked k → Type 0
+OneRefusal k s = (a : Street) (w : Value k.reader) (r q : s.Reject) → s.First a w r → s.First a w q → (r ≡ s.wanting → ⊥) → (q ≡ s.wanting → ⊥) → r ≡ q
+
+module _ (k : Sought) (s : Checked k) (once : OneRefusal k s) (a : Street) (w : Value k.reader) where
+  rejects_once : (c d : Cause) (x y : List ℕ) → Rejects k s a w c x → Rejects k s a w d y → (c ≡ d) × (x ≡ y)
+  rejects_once c d x y h o = let e = once a w h.reject o.reject h.first o.first h.kept o.kept in
+      (h.cause_is ∙ ap s.cause e ∙ sym o.cause_is, h.lines_are ∙ ap (s.line (count a)) e ∙ sym o.lines_are)
+
+  checks_once : RefusedApart k s → (c d : Cause) (x y : List ℕ) → Checks k s a w c x → Checks k s a w d y → (c ≡ d) × (x ≡ y)
+  checks_once apart c d x y (inl h) (inl o) = (h.cause_is ∙ sym o.cause_is, h.lines_are ∙ sym o.lines_are)
+  checks_once apart c d x y (inl h) (inr o) = absurd (apart a w o.reject o.first o.kept h.accepted)
+  checks_once apart c d x y (inr h) (inl o) = absurd (apart a w h.reject h.first h.kept o.accepted)
+  checks_once apart c d x y (inr h) (inr o) = rejects_once c d x y h o
+
+-- a rule that speaks of no band and fails first
+breaks_once : OneFirst → (a : Street) (t : TimingRecord) (f g : Failing) (x y : List ℕ) → BreaksBase a t f x → BreaksBase a t g y → (cause.Fails f ≡ cause.Fails g) × (x ≡ y)
+breaks_once one_first a t f g x y h k = let e = one_first a t f g h.first k.first in (ap cause.Fails e, h.lines_are ∙ ap fails_line e ∙ sym k.lines_are)
+
+-- of one direction
+widest_once : OneWidest → FinerPairs → (a : Street) (t : TimingRecord) (d : Dir) (v w : Option Widest) → IsValid a → 2 ≤ t.unit → IsWidestBand a t d v → IsWidestBand a t d w → v ≡ w
+widest_once once finer a t d None None valid unit h k = refl
+widest_once once finer a t d None (Some w) valid unit h k = absurd (h 1 (pos w.first *ℤ pos 1) (w.band * 1) (omega arith) ((finer a t d 1 (pos w.first) w.band valid unit (omega arith)).0 k.runs))
+widest_once once finer a t d (Some v) None valid unit h k = absurd (k 1 (pos v.first *ℤ pos 1) (v.band * 1) (omega arith) ((finer a t d 1 (pos v.first) v.band valid unit (omega arith)).0 h.runs))
+widest_once once finer a t d (Some v) (Some w) valid unit h k =
+    let e = once a t d v.first v.band w.first w.band valid unit h k in
+    ap₂ (λ first band. Some (record { first = first; band = band })) e.0 e.1
+
+bands_once : OneFirst → OneWidest → FinerPairs → (a : Street) (t : TimingRecord) (c d : Cause) (x y : List ℕ) → BandsFinds a t c x → BandsFinds a t d y → (c ≡ d) × (x ≡ y)
+bands_once one_first once finer a t cause.Done cause.Done x y h k =
+    let out = widest_once once finer a t Outbound h.outbound k.outbound h.valid h.unit h.outbound_is k.outbound_is in
+    let in_ = widest_once once finer a t Inbound h.inbound k.inbound h.valid h.unit h.inbound_is k.inbound_is in
+    (refl, h.lines_are ∙ ap₂ (λ v w. widest_line a t Outbound v ++ widest_line a t Inbound w) out in_ ∙ sym k.lines_are)
+bands_once one_first once finer a t cause.Done (cause.Fails f) x y h k = absurd (k.not_base h.base)
+bands_once one_first once finer a t cause.Done d x y h k = absurd k
+bands_once one_first once finer a t (cause.Fails f) cause.Done x y h k = absurd (h.not_base k.base)
+bands_once one_first once finer a t (cause.Fails f) (cause.Fails g) x y h k = breaks_once one_first a t f g x y h k
+bands_once one_first once finer a t (cause.Fails f) d x y h k = absurd k
+bands_once one_first once finer a t c d x y h k = absurd h
+
+-- the value of an option, as the timing and the number of one certificate
+same_value : {V : Type 0} (o : Option V) (x y : V) → o ≡ Some x → o ≡ Some y → y ≡ x
+same_value o x y e f = cc
+
+no_value : {V : Type 0} (o : Option V) (x : V) → o ≡ Some x → o ≡ None → ⊥
+no_value o x e f = absurd cc
+
+same_lines : (a : Street) (k m : ℕ) (ns os : List ℕ) (t u : TimingRecord) (x y : ℚ) → k ≡ m → ns ≡ os → t ≡ u → x ≡ y → plan_lines a k ns t x ≡ plan_lines a m os u y
+same_lines a k m ns os t u x y e f g h = ap₂ (λ n ms. plan_lines a n ms t x) e f ∙ ap₂ (λ p z. plan_lines a m os p z) g h
+
+module _ (a : Street) (w : Warrant) (o : Option TimingRecord) where
+  pub unplanned_accepted : (e : PlanEnd) → Unplans a w o e → IsAccepted a w
+  unplanned_accepted end.NoTimingGiven h = h.0
+  unplanned_accepted e h = h.2.accepted
+
+  fails_apart : FailsRulesOut → (t u : TimingRecord) (f : Failing) → o ≡ Some t → o ≡ Some u → Good a t → IsFirstFailing a u f → ⊥
+  fails_apart rules t u f e g good h = rules a u f h.fails (subst (λ p. Good a p) (sym (same_value o t u e g)) good)
+
+  unplans_unfit : FailsRulesOut → (e : PlanEnd) (u : TimingRecord) (f : Failing) → Unplans a w o e → o ≡ Some u → IsFirstFailing a u f → ⊥
+  unplans_unfit rules end.NoTimingGiven u f h g k = no_value o u g h.1
+  unplans_unfit rules e u f h g k = fails_apart rules h.0 u f h.2.timing_is g h.2.good k
+
+module _ (ends : second.OneEnd) (apart : PlanOrEnd) (one : OnePlan) (a : Street) (w : Warrant) (o : Option TimingRecord) where
+  plans_once : (x y s u : List ℕ) → IsRounded a w o x s → IsRounded a w o y u → x ≡ y
+  plans_once x y s u h k =
+      let t = same_value o h.timing k.timing h.certified.timing_is k.certified.timing_is in
+      let q = same_value (limit_of w.claim) h.claim k.claim h.certified.claim_is k.certified.claim_is in
+      let other = subst (λ c. IsAnswer a c h.timing k.plan) q (subst (λ p. IsAnswer a k.claim p k.plan) t k.answer) in
+      let e = one a h.claim h.timing h.plan k.plan h.certified.valid h.certified.good h.answer other in
+      h.lines_are ∙ same_lines a h.plan.seconds k.plan.seconds h.plan.offsets.items k.plan.offsets.items h.plan.timing k.plan.timing h.plan.loss k.plan.loss e.0 e.1 e.2 e.3 ∙ sym k.lines_are
+
+  -- the timing and the number of another certificate's end
+  ends_here : (t u : TimingRecord) (x y : ℚ) (e : PlanEnd) → IsCertified a w o t x → IsCertified a w o u y → Ends a y u e → Ends a x t e
+  ends_here t u x y e c d h =
+      subst (λ p. Ends a x p e) (same_value o t u c.timing_is d.timing_is) (subst (λ q. Ends a q u e) (same_value (limit_of w.claim) x y c.claim_is d.claim_is) h)
+
+  plan_apart : (e : PlanEnd) (x s : List ℕ) → IsRounded a w o x s → Unplans a w o e → ⊥
+  plan_apart end.NoTimingGiven x s h k = no_value o h.timing h.certified.timing_is k.1
+  plan_apart e x s h k = apart a h.claim h.timing h.plan e h.certified.valid h.certified.good h.answer (ends_here h.timing k.0 h.claim k.1 e h.certified k.2 k.3)
+
+  unplans_once : (e f : PlanEnd) → Unplans a w o e → Unplans a w o f → e ≡ f
+  unplans_once end.NoTimingGiven end.NoTimingGiven h k = refl
+  unplans_once end.NoTimingGiven f h k = absurd (no_value o k.0 k.2.timing_is h.1)
+  unplans_once e end.NoTimingGiven h k = absurd (no_value o h.0 h.2.timing_is k.1)
+  unplans_once e f h k = ends a h.1 h.0 e f h.2.valid h.2.good h.3 (ends_here h.0 k.0 h.1 k.1 f h.2 k.2 k.3)
+
+  module _ (one_first : OneFirst) (rules : FailsRulesOut) (refused : RefusedIsNotAccepted) (once : OneFirstRefusal) where
+    unfit_once : (f g : Failing) (x y : List ℕ) (s u : Option (List ℕ)) → IsUnfit a w o f x s → IsUnfit a w o g y u → (cause.Fails f ≡ cause.Fails g) × (x ≡ y)
+    unfit_once f g x y s u h k =
+        let first = subst (λ p. IsFirstFailing a p g) (same_value o h.timing k.timing h.timing_is k.timing_is) k.first in
+        let e = one_first a h.timing f g h.first first in
+        (ap cause.Fails e, h.lines_are ∙ ap fails_line e ∙ sym k.lines_are)
+
+    from_once : (c d : Cause) (x y : List ℕ) (s u : Option (List ℕ)) → RoundFromFinds a w o c x s → RoundFromFinds a w o d y u → (c ≡ d) × (x ≡ y)
+    from_once cause.Done cause.Done x y s u h k = (refl, plans_once x y h.0 k.0 h.2 k.2)
+    from_once cause.Done (cause.Rejected r) x y s u h k = absurd (refused a w k.0.reject k.0.first k.0.kept h.2.certified.accepted)
+    from_once cause.Done (cause.Fails f) x y s u h k = absurd (fails_apart a w o rules h.2.timing k.timing f h.2.certified.timing_is k.timing_is h.2.certified.good k.first)
+    from_once cause.Done (cause.Unplanned e) x y s u h k = absurd (plan_apart e x h.0 h.2 k.first)
+    from_once cause.Done d x y s u h k = absurd k
+    from_once (cause.Rejected r) cause.Done x y s u h k = absurd (refused a w h.0.reject h.0.first h.0.kept k.2.certified.accepted)
+    from_once (cause.Rejected r) (cause.Rejected q) x y s u h k = rejects_once whole_bands whole_checked once a w (cause.Rejected r) (cause.Rejected q) x y h.0 k.0
+    from_once (cause.Rejected r) (cause.Fails f) x y s u h k = absurd (refused a w h.0.reject h.0.first h.0.kept k.accepted)
+    from_once (cause.Rejected r) (cause.Unplanned e) x y s u h k = absurd (refused a w h.0.reject h.0.first h.0.kept (unplanned_accepted a w o e k.first))
+    from_once (cause.Rejected r) d x y s u h k = absurd k
+    from_once (cause.Fails f) cause.Done x y s u h k = absurd (fails_apart a w o rules k.2.timing h.timing f k.2.certified.timing_is h.timing_is k.2.certified.good h.first)
+    from_once (cause.Fails f) (cause.Rejected r) x y s u h k = absurd (refused a w k.0.reject k.0.first k.0.kept h.accepted)
+    from_once (cause.Fails f) (cause.Fails g) x y s u h k = unfit_once f g x y s u h k
+    from_once (cause.Fails f) (cause.Unplanned e) x y s u h k = absurd (unplans_unfit a w o rules e h.timing f k.first h.timing_is h.first)
+    from_once (cause.Fails f) d x y s u h k = absurd k
+    from_once (cause.Unplanned e) cause.Done x y s u h k = absurd (plan_apart e y k.0 k.2 h.first)
+    from_once (cause.Unplanned e) (cause.Rejected r) x y s u h k = absurd (refused a w k.0.reject k.0.first k.0.kept (unplanned_accepted a w o e h.first))
+    from_once (cause.Unplanned e) (cause.Fails f) x y s u h k = absurd (unplans_unfit a w o rules e k.timing f h.first k.timing_is k.first)
+    from_once (cause.Unplanned e) (cause.Unplanned f) x y s u h k = let same = unplans_once e f h.first k.first in
+        (ap cause.Unplanned same, h.lines_are ∙ ap unplanned_line same ∙ sym k.lines_are)
+    from_once (cause.Unplanned e) d x y s u h k = absurd k
+    from_once c d x y s u h k = absurd h
+
+-- what is found of the certificate's own timing is found of it as of any
+own_from : (a : Street) (w : Warrant) (c : Cause) (l : List ℕ) (bytes : Option (List ℕ)) → RoundFinds a w c l bytes → RoundFromFinds a w w.timing c l bytes
+own_from a w cause.Done l bytes h = h
+own_from a w (cause.Rejected r) l bytes h = h
+own_from a w (cause.Unplanned e) l bytes h = h
+own_from a w c l bytes h = absurd h
+
+-- of several half-cycle plans that are as wide any may be told
+half_once : OneFirst → OneEnd → (a : Street) (t : TimingRecord) (c d : Cause) (x y : List ℕ) (s u : Option (List ℕ)) → HalfFinds a t c x s → HalfFinds a t d y u → ((c ≡ d) × (x ≡ y)) ⊎ (IsVerdict c × IsVerdict d)
+half_once one_first ends a t cause.Done cause.Done x y s u h k = inr (tt, tt)
+half_once one_first ends a t cause.Done (cause.Fails f) x y s u h k = absurd (k.0.not_base h.base)
+half_once one_first ends a t cause.Done (cause.Unmatched e) x y s u h k = absurd (ends.not_ready a t e k.first h.ready)
+half_once one_first ends a t cause.Done d x y s u h k = absurd k
+half_once one_first ends a t (cause.Fails f) cause.Done x y s u h k = absurd (h.0.not_base k.base)
+half_once one_first ends a t (cause.Fails f) (cause.Fails g) x y s u h k = inl (breaks_once one_first a t f g x y h.0 k.0)
+half_once one_first ends a t (cause.Fails f) (cause.Unmatched e) x y s u h k = absurd (h.0.not_base k.base)
+half_once one_first ends a t (cause.Fails f) d x y s u h k = absurd k
+half_once one_first ends a t (cause.Unmatched e) cause.Done x y s u h k = absurd (ends.not_ready a t e h.first k.ready)
+half_once one_first ends a t (cause.Unmatched e) (cause.Fails f) x y s u h k = absurd (k.0.not_base h.base)
+half_once one_first ends a t (cause.Unmatched e) (cause.Unmatched f) x y s u h k =
+    let same = ends.once a t e f h.first k.first in
+    inl (ap cause.Unmatched same, h.lines_are ∙ ap end_line same ∙ sym k.lines_are)
+half_once one_first ends a t (cause.Unmatched e) d x y s u h k = absurd k
+half_once one_first ends a t c d x y s u h k = absurd h
+
+-- ---- a typed plan
+writes_once : OneFirst → OneWidest → FinerPairs → (a : Street) (t : TimingRecord) (c d : Cause) (x y : List ℕ) (s u : Option (List ℕ)) → WritesTiming a t c x s → WritesTiming a t d y u → (c ≡ d) × (x ≡ y)
+writes_once one_first once finer a t cause.Done cause.Done x y s u h k =
+    let e = bands_once one_first once finer a t cause.Done cause.Done h.2.bands k.2.bands h.2.measured k.2.measured in
+    (refl, h.2.lines_are ∙ ap (λ l. l ++ weighted_line a t) e.1 ∙ sym k.2.lines_are)
+writes_once one_first once finer a t cause.Done (cause.Fails f) x y s u h k = absurd (k.0.not_base h.2.measured.base)
+writes_once one_first once finer a t cause.Done d x y s u h k = absurd k
+writes_once one_first once finer a t (cause.Fails f) cause.Done x y s u h k = absurd (h.0.not_base k.2.measured.base)
+writes_once one_first once finer a t (cause.Fails f) (cause.Fails g) x y s u h k = breaks_once one_first a t f g x y h.0 k.0
+writes_once one_first once finer a t (cause.Fails f) d x y s u h k = absurd k
+writes_once one_first once finer a t c d x y s u h k = absurd h
+
+module _ (one : OneTiming) (one_first : OneFirst) (once : OneWidest) (finer : FinerPairs) (a : Street) (p : Typed) where
+  typed_once : (c d : Cause) (x y : List ℕ) (s u : Option (List ℕ)) → TypedFinds a p c x s → TypedFinds a p d y u → (c ≡ d) × (x ≡ y)
+  typed_once c d x y s u (inl h) (inl k) =
+      let e = one a p k.timing h.timing h.valid k.timing_is h.timing_is in
+      writes_once one_first once finer a h.timing c d x y s u h.finds (subst (λ (t : TimingRecord). WritesTiming a t d y u) e k.finds)
+  typed_once c d x y s u (inl h) (inr (inl k)) = absurd (no_value (count_fault a p) (fault_of k.refusal) k.first h.timing_is.counts)
+  typed_once c d x y s u (inl h) (inr (inr k)) = absurd (no_value (too_fine a p) k.ticks k.first.1 h.timing_is.fine)
+  typed_once c d x y s u (inr (inl h)) (inl k) = absurd (no_value (count_fault a p) (fault_of h.refusal) h.first k.timing_is.counts)
+  typed_once c d x y s u (inr (inl h)) (inr (inl k)) =
+      let e = same_refusal h.refusal k.refusal (sym (same_value (count_fault a p) (fault_of h.refusal) (fault_of k.refusal) h.first k.first)) in
+      (h.cause_is ∙ ap cause.Refused e ∙ sym k.cause_is, h.lines_are ∙ ap refused_line e ∙ sym k.lines_are)
+  typed_once c d x y s u (inr (inl h)) (inr (inr k)) = absurd (no_value (count_fault a p) (fault_of h.refusal) h.first k.first.0)
+  typed_once c d x y s u (inr (inr h)) (inl k) = absurd (no_value (too_fine a p) h.ticks h.first.1 k.timing_is.fine)
+  typed_once c d x y s u (inr (inr h)) (inr (inl k)) = absurd (no_value (count_fault a p) (fault_of k.refusal) k.first h.first.0)
+  typed_once c d x y s u (inr (inr h)) (inr (inr k)) =
+      let e = sym (same_value (too_fine a p) h.ticks k.ticks h.first.1 k.first.1) in
+      (h.cause_is ∙ ap (λ n. cause.Unmatched (half_end.TooFine n)) e ∙ sym k.cause_is, h.lines_are ∙ ap (λ n. end_line (half_end.TooFine n)) e ∙ sym k.lines_are)
+
+draw_once : OneFirst → FailsRulesOut → (a : Street) (o : Option TimingRecord) (c d : Cause) (x y : List ℕ) (s u : Option (List ℕ)) → DrawFinds a o c x s → DrawFinds a o d y u → (c ≡ d) × (x ≡ y)
+draw_once one_first rules a None c d x y s u h k = (h.0 ∙ sym k.0, h.1 ∙ sym k.1)
+draw_once one_first rules a (Some t) cause.Done cause.Done x y s u h k = (refl, h.2.lines_are ∙ sym k.2.lines_are)
+draw_once one_first rules a (Some t) cause.Done (cause.Fails f) x y s u h k = absurd (rules a t f k.0.fails h.2.good)
+draw_once one_first rules a (Some t) cause.Done d x y s u h k = absurd k
+draw_once one_first rules a (Some t) (cause.Fails f) cause.Done x y s u h k = absurd (rules a t f h.0.fails k.2.good)
+draw_once one_first rules a (Some t) (cause.Fails f) (cause.Fails g) x y s u h k = let e = one_first a t f g h.0 k.0 in (ap cause.Fails e, h.1 ∙ ap fails_line e ∙ sym k.1)
+draw_once one_first rules a (Some t) (cause.Fails f) d x y s u h k = absurd k
+draw_once one_first rules a (Some t) c d x y s u h k = absurd h
+
+-- ---- every command
+module _ (one_text : OneText) (one_first : OneFirst) (rules : FailsRulesOut) (apart : RefusedIsNotAccepted) (once : OneFirstRefusal) (widest : OneWidest) (finer : FinerPairs)
+    (one_timing : OneTiming) (ends : OneEnd) (plan_ends : second.OneEnd) (plan_or : PlanOrEnd) (one_plan : OnePlan) (links_apart : LinkRefusedIsNotAccepted) (links_once : OneFirstLinkRefusal) where
+  pub finds_once : (asked : Option Request) (v : Values (shape asked).inputs) (c d : Cause) (x y : List ℕ) (s t : Option (List ℕ))
+      → Finds asked v c x s → Finds asked v d y t → Agree (shape asked).chooses (shape asked).inputs c x d y
+  finds_once None v c d x y s t h k = (h.0 ∙ sym k.0, h.1 ∙ sym k.1)
+  finds_once (Some (Hold artery timing)) v c d x y s t h k = hold_once one_first rules v.0 v.1.0 c d x y h k
+  finds_once (Some (Show artery)) v c d x y s t h k = show_once one_text v.0 c d x y h k
+  finds_once (Some (Check artery certificate)) v c d x y s t h k = checks_once whole_bands whole_checked once v.0 v.1.0 apart c d x y h k
+  finds_once (Some (CheckLinks artery certificate)) v c d x y s t h k = checks_once bands_of_links links_checked links_once v.0 v.1.0 links_apart c d x y h k
+  finds_once (Some (Solve artery certificate limit)) v c d x y s t h k =
+      inr (verdict_cause c h.2.found.verdict h.2.cause_is, verdict_cause d k.2.found.verdict k.2.cause_is)
+  finds_once (Some (Links artery certificate limit)) v c d x y s t h k =
+      inr (verdict_cause c h.2.found.verdict h.2.cause_is, verdict_cause d k.2.found.verdict k.2.cause_is)
+  finds_once (Some (Renew certificate new)) v c d x y s t h k = (h.2.cause_is ∙ sym k.2.cause_is, h.2.lines_are ∙ sym k.2.lines_are)
+  finds_once (Some (Bands artery timing)) v c d x y s t h k = bands_once one_first widest finer v.0 v.1.0 c d x y h k
+  finds_once (Some (Round artery certificate plan)) v c d x y s t h k =
+      from_once plan_ends plan_or one_plan v.0 v.1.0 v.1.0.timing one_first rules apart once c d x y s t (own_from v.0 v.1.0 c x s h) (own_from v.0 v.1.0 d y t k)
+  finds_once (Some (RoundFrom artery certificate other plan)) v c d x y s t h k = from_once plan_ends plan_or one_plan v.0 v.1.0 v.1.1.0 one_first rules apart once c d x y s t h k
+  finds_once (Some (Half artery timing new)) v c d x y s t h k = half_once one_first ends v.0 v.1.0 c d x y s t h k
+  finds_once (Some (TimingOf artery plan timing)) v c d x y s t h k = typed_once one_timing one_first widest finer v.0 v.1.0 c d x y s t h k
+  finds_once (Some (Draw artery timed drawing)) v c d x y s t h k = draw_once one_first rules v.0 v.1.0 c d x y s t h k
+  finds_once (Some Help) v c d x y s t h k = (h.0 ∙ sym k.0, h.1 ∙ sym k.1)
+  finds_once (Some Version) v c d x y s t h k = (h.0 ∙ sym k.0, h.1 ∙ sym k.1)
+  finds_once (Some (Make signals seed)) v c d x y s t h k = show_once one_text (made_street signals seed) c d x y h k
+  finds_once (Some (Trial signals seed limit)) v c d x y s t h k =
+      (verdict_cause c h.found.verdict h.cause_is, verdict_cause d k.found.verdict k.cause_is)
+  finds_once (Some (Sweep artery table limit cycles)) v c d x y s t h k = (h.2.cause_is ∙ sym k.2.cause_is, h.2.lines_are ∙ sym k.2.lines_are)
+
+-- files that stop the reading in one way
+pub stops_agree : (chooses : Bool) (is : List Input) (c d : Cause) (x y : List ℕ) → (is ≡ [] → ⊥) → (c ≡ d) × (x ≡ y) → Agree chooses is c x d y
+stops_agree false is c d x y n e = e
+stops_agree true [] c d x y n e = absurd (n refl)
+stops_agree true (i ∷ is) c d x y n e = inl e

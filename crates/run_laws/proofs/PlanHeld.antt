@@ -1,0 +1,103 @@
+-- The plan that `round` puts is good, and `hold` accepts it.
+use Rattle.std.proofs.Common.{◌≡◌, ℕ, List, [], ◌∷◌, Option, Some, Ok, refl, sym, ◌∙◌, ap, subst}
+use Rattle.std.specs.Prelude.{IsSome}
+use Rattle.outer_edge.specs.Held.{HoldsExactly}
+use Rattle.outer_edge.specs.Taken.{Appends}
+use Rattle.rational_theory.specs.Rational.{ℚ, ◌+ℚ◌, ◌-ℚ◌, ◌≤ℚ◌}
+use Rattle.rational_theory.proofs.Ring.{ring, at, minus, ◌⊕◌}
+use Rattle.progression.specs.Street.{Street}
+use Rattle.progression.specs.TimingRecord.{TimingRecord}
+use Rattle.progression.specs.Good.{Good}
+use Rattle.progression.specs.Best.{weighted_band}
+use Rattle.search_box.proofs.Streets.{street_of}
+use Rattle.time_space.specs.Failing.{FailsRulesOut}
+use Rattle.certificate_model.specs.Warrants.{Warrant}
+use Rattle.certificate_checker.specs.Laws.{RefusedIsNotAccepted}
+use Rattle.certificate_checker.proofs.Meaning.{accepted_holds}
+use Rattle.plan_text.specs.Spelling.{timing_text}
+use Rattle.plan_text.specs.Reading.{timing_of}
+use Rattle.maxband_run.specs.Command.{Hold, Round, RoundFrom}
+use Rattle.maxband_run.specs.Outside.{Outside}
+use Rattle.maxband_run.specs.Reading.{Reads, Description, Timing}
+use Rattle.maxband_run.specs.Hold.{HoldFinds}
+use Rattle.maxband_run.specs.Run.{Ends}
+use Rattle.run_laws.specs.PlanLaws.{PutsPlan, RoundSays, RoundFromSays, PlanIsHeld}
+use Rattle.maxband_run.specs.Round.{IsCertified, IsRounded}
+use Rattle.maxband_run.specs.declared.cause.Cause.{Cause}
+use Rattle.maxband_run.specs.declared.cause.Cause.TheVariants as cause
+use Rattle.run_laws.proofs.Complete.{Completes}
+use Rattle.run_laws.proofs.PutRead.{verdict_found, is_put, reads_put, finds_of}
+use Rattle.run_laws.proofs.Found.{zero_is, found_done, found_four}
+use Rattle.maxband_run.proofs.Planning.{claim_bounds}
+use Rattle.run_laws.proofs.PlansSay.{round_four, round_ten, from_four, from_ten}
+use Rattle.run_laws.proofs.Readers.{OneReading}
+
+-- no good timing exceeds what an accepted certificate claims
+lost : (a : Street) (w : Warrant) (o : Option TimingRecord) (timing : TimingRecord) (claim band loss : ℚ) → IsCertified a w o timing claim → loss ≡ claim -ℚ band → (s : TimingRecord) → Good a s → weighted_band a s ≤ℚ (band +ℚ loss)
+lost a w o timing claim band loss c e s good =
+    let below : weighted_band a s ≤ℚ claim = claim_bounds a w.claim w.timing claim c.claim_is (accepted_holds a w (street_of a c.valid) c.accepted) s good in
+    let whole : claim ≡ band +ℚ loss = ring (at 0) (at 1 ⊕ (at 0 ⊕ minus (at 1))) (claim ∷ band ∷ []) refl ∙ ap (λ l. band +ℚ l) (sym e) in
+    subst (λ x. weighted_band a s ≤ℚ x) whole below
+
+-- what is found of a rounded timing, and put
+rounded_put : (before now : Outside) (artery plan : List ℕ) (a : Street) (w : Warrant) (o : Option TimingRecord) (lines text : List ℕ) → Reads Description (before.holds artery) a
+    → IsRounded a w o lines text → HoldsExactly (now.holds plan) text → Appends before.taken now.taken lines → PutsPlan before now artery plan
+rounded_put before now artery plan a w o lines text description r held told = record {
+  street = a;
+  timing = r.plan.timing;
+  seconds = r.plan.seconds;
+  offsets = r.plan.offsets.items;
+  loss = r.plan.loss;
+  description = description;
+  good = r.answer.good;
+  best = r.best;
+  lost = lost a w o r.timing r.claim (weighted_band a r.plan.timing) r.plan.loss r.certified r.answer.loss;
+  put = subst (λ (x : List ℕ). HoldsExactly (now.holds plan) x) r.written held;
+  read_back = subst (λ (x : List ℕ). timing_of x ≡ Ok r.plan.timing) r.written r.read_back;
+  told = subst (λ (l : List ℕ). Appends before.taken now.taken l) r.lines_are told;
+}
+
+module _ (before now : Outside) (artery certificate plan : List ℕ) where
+  puts_plan : Completes before now (Some (Round artery certificate plan)) cause.Done → PutsPlan before now artery plan
+  puts_plan h =
+      let f = verdict_found before.holds before.reads now.reads (Some (Round artery certificate plan)) cause.Done h.0 h.1 tt h.2 in
+      let held = is_put before now plan f.finds.0 h.0 h.1 f.bytes f.put_is f.finds.1 h.3 in
+      rounded_put before now artery plan f.values.0 f.values.1.0 f.values.1.0.timing h.0 f.finds.0 f.read.0 f.finds.2 held.0 h.3.written
+
+  -- and the description is as it was, where it is another file
+  kept_artery : (artery ≡ plan → ⊥) → Completes before now (Some (Round artery certificate plan)) cause.Done → now.holds artery ≡ before.holds artery
+  kept_artery two h =
+      let f = verdict_found before.holds before.reads now.reads (Some (Round artery certificate plan)) cause.Done h.0 h.1 tt h.2 in
+      (is_put before now plan f.finds.0 h.0 h.1 f.bytes f.put_is f.finds.1 h.3).1 artery two
+
+pub round_says : RefusedIsNotAccepted → RoundSays
+round_says apart before now artery certificate plan c h = (
+  (λ e. puts_plan before now artery certificate plan (subst (λ (d : Cause). Ends before now (Some (Round artery certificate plan)) d) (zero_is c e) h)),
+  (λ e. round_four before now artery certificate plan apart c e (found_four before now (Some (Round artery certificate plan)) c e h)),
+  (λ e. round_ten before now artery certificate plan c e h),
+)
+
+pub round_from_says : RefusedIsNotAccepted → FailsRulesOut → RoundFromSays
+round_from_says apart rules before now artery certificate other plan c h = (
+  (λ e. let f = found_done before now (Some (RoundFrom artery certificate other plan)) c e h in
+      let k = f.answer.finds in
+      rounded_put before now artery plan f.answer.values.0 f.answer.values.1.0 f.answer.values.1.1.0 f.lines k.0 f.answer.read.0 k.2
+      (is_put before now plan k.0 f.lines f.put f.answer.bytes f.answer.put_is k.1 f.done).0 f.done.written),
+  (λ e. from_four before now artery certificate other plan apart rules c e (found_four before now (Some (RoundFrom artery certificate other plan)) c e h)),
+  (λ e. from_ten before now artery certificate other plan c e h),
+)
+
+good_done : FailsRulesOut → (a : Street) (t : TimingRecord) (c : Cause) (lines : List ℕ) → Good a t → HoldFinds a t c lines → c ≡ cause.Done
+good_done rules a t cause.Done lines good h = refl
+good_done rules a t (cause.Fails f) lines good h = absurd (rules a t f h.0.fails good)
+good_done rules a t c lines good h = absurd h
+
+pub plan_held : OneReading → FailsRulesOut → PlanIsHeld
+plan_held reader rules before between now artery certificate plan c d two told put_told few e h m k =
+    let done = subst (λ (b : Cause). Ends before between (Some (Round artery certificate plan)) b) (zero_is c e) h in
+    let p = puts_plan before between artery certificate plan done in
+    let kept = kept_artery before between artery certificate plan two done in
+    let reads = reads_put Timing (between.holds plan) (timing_text p.timing) p.timing put_told few p.put p.read_back in
+    let first = subst (λ o. Reads Description o p.street) (sym kept) p.description in
+    let found = finds_of reader between now (Some (Hold artery plan)) (p.street, (p.timing, tt)) d (subst (λ o. IsSome o) (sym kept) told, (put_told, tt)) (first, (reads, tt)) m k in
+    good_done rules p.street p.timing d found.0 p.good found.2

@@ -1,0 +1,424 @@
+-- What the statuses of `bands`, `half`, `timing`, `draw` and `sweep` say of the model, and those of `round` but 0.
+use Rattle.std.proofs.Common.{◌≡◌, ◌⊎◌, ℕ, List, [], ◌∷◌, Option, Some, None, Ok, inl, inr, refl, sym, ◌∙◌, ap, subst, arith}
+use Rattle.std.specs.List.{AllZip}
+use Rattle.rational_theory.specs.Rational.{ℚ}
+use Rattle.outer_edge.specs.Held.{HoldsExactly}
+use Rattle.outer_edge.specs.Taken.{Appends}
+use Rattle.progression.specs.Street.{Street}
+use Rattle.progression.specs.TimingRecord.{TimingRecord}
+use Rattle.time_space.specs.Failing.{FailsRulesOut}
+use Rattle.time_space.specs.declared.failing.Failing.{Failing}
+use Rattle.half_integer.specs.Answers.{OneEnd}
+use Rattle.half_integer.specs.declared.end.HalfEnd.{HalfEnd}
+use Rattle.second_plan.specs.declared.answer.PlanEnd.{PlanEnd}
+use Rattle.plan_text.specs.Reading.{timing_of}
+use Rattle.certificate_checker.specs.Laws.{RefusedIsNotAccepted}
+use Rattle.cycle_sweep.specs.declared.row.SweepRow.{SweepRow}
+use Rattle.cycle_sweep.specs.Rows.{IsRow}
+use Rattle.cycle_sweep.specs.Says.{RowsSay}
+use Rattle.maxband_run.specs.Command.{Bands, Round, RoundFrom, Half, TimingOf, Draw, Sweep, shape}
+use Rattle.maxband_run.specs.Outside.{Outside, NamedBytes, put_of, IsPut, IsDone}
+use Rattle.maxband_run.specs.Half.{HasNoHalfPlan, IsHalfPlan}
+use Rattle.description_reader.specs.Typed.{Typed}
+use Rattle.typed_plan.specs.Ends.{IsTimingOf}
+use Rattle.maxband_run.specs.Typed.{WritesTiming, TypedFinds}
+use Rattle.maxband_run.specs.Draw.{DrawFinds}
+use Rattle.maxband_run.specs.Reading.{Reads, Description, Timed, TypedPlan}
+use Rattle.maxband_run.specs.Run.{Ends}
+use Rattle.maxband_run.specs.Sought.{whole_bands}
+use Rattle.maxband_run.specs.Checked.{whole_checked}
+use Rattle.run_laws.specs.Laws.{SaysRejected}
+use Rattle.run_laws.specs.PlanLaws.{SaysWidest, SaysNoBase, BandsSay, PutsHalf, SaysNoHalf, SaysHalf, SaysUnmatched, HalfSays, SaysUnplanned, SaysUnplannedFrom, PutsTyped, StopsTyped, SaysMiscounted, SaysBroken, SaysTooFine, TimingSays, PutsPicture, SaysFailing, SaysUntimed, DrawSays, SaysCycle, PutsTable, SweepSays}
+use Rattle.maxband_run.specs.Status.{number_of, IsReached}
+use Rattle.maxband_run.specs.declared.cause.Cause.{Cause}
+use Rattle.maxband_run.specs.declared.cause.Cause.TheVariants as cause
+use Rattle.run_laws.proofs.Found.{Found, found, found_done, found_four, ten_is, eleven_is}
+use Rattle.run_laws.proofs.Once.{unplanned_accepted}
+use Rattle.run_laws.proofs.PutRead.{is_put, reached_ends}
+
+-- ---- bands
+module _ (before now : Outside) (artery timing : List ℕ) where
+  says_widest : Found before now (Some (Bands artery timing)) cause.Done → SaysWidest before now artery timing
+  says_widest f =
+      let k = f.answer.finds in
+      record {
+        street = f.answer.values.0;
+        plan = f.answer.values.1.0;
+        outbound = k.outbound;
+        inbound = k.inbound;
+        description = f.answer.read.0;
+        text = f.answer.read.1.0;
+        base = k.base;
+        outbound_is = k.outbound_is;
+        inbound_is = k.inbound_is;
+        told = subst (λ (l : List ℕ). Appends before.taken now.taken l) k.lines_are f.done.written;
+      }
+
+  says_no_base : (f : Failing) → Found before now (Some (Bands artery timing)) (cause.Fails f) → SaysNoBase before artery timing (cause.Fails f)
+  says_no_base f k = record {
+    street = k.answer.values.0;
+    plan = k.answer.values.1.0;
+    failing = f;
+    description = k.answer.read.0;
+    text = k.answer.read.1.0;
+    fails = k.answer.finds.first.fails;
+    not_base = k.answer.finds.not_base;
+    cause_is = refl;
+  }
+
+  bands_four : (c : Cause) → number_of c ≡ 4 → Found before now (Some (Bands artery timing)) c → SaysNoBase before artery timing c
+  bands_four (cause.Fails f) e k = says_no_base f k
+  bands_four (cause.Rejected r) e k = absurd k.answer.finds
+  bands_four (cause.LinkRejected r) e k = absurd k.answer.finds
+  bands_four c e k = absurd cc
+
+pub bands_say : BandsSay
+bands_say before now artery timing c h = (
+  (λ e. says_widest before now artery timing (found_done before now (Some (Bands artery timing)) c e h)),
+  (λ e. bands_four before now artery timing c e (found_four before now (Some (Bands artery timing)) c e h)),
+)
+
+-- ---- half
+module _ (before now : Outside) (artery timing new : List ℕ) where
+  says_half : Found before now (Some (Half artery timing new)) cause.Done → SaysHalf before now artery timing new
+  says_half f =
+      let a = f.answer.values.0 in
+      let t = f.answer.values.1.0 in
+      let k = f.answer.finds in
+      let none : HasNoHalfPlan a t f.lines f.answer.bytes → SaysNoHalf before now a t = λ h. record {
+        none = h.none;
+        kept = subst (λ p. IsPut p before.holds now.holds) (f.answer.put_is ∙ ap (put_of (Some new)) h.no_put) f.done.files;
+        told = subst (λ (l : List ℕ). Appends before.taken now.taken l) h.lines_are f.done.written;
+      } in
+      let some : (text : List ℕ) → f.answer.bytes ≡ Some text → IsHalfPlan a t f.lines text → PutsHalf before now a t new = λ text e h. record {
+        plan = h.plan;
+        best = h.best;
+        put = subst (λ (x : List ℕ). HoldsExactly (now.holds new) x) h.written (is_put before now new text f.lines f.put f.answer.bytes f.answer.put_is e f.done).0;
+        read_back = subst (λ (x : List ℕ). timing_of x ≡ Ok h.plan) h.written h.read_back;
+        told = subst (λ (l : List ℕ). Appends before.taken now.taken l) h.lines_are f.done.written;
+      } in
+      record {
+        street = a;
+        plan = t;
+        description = f.answer.read.0;
+        text = f.answer.read.1.0;
+        base = k.base;
+        found = elim k.found [ inl h ↦ inl (none h) | inr h ↦ inr (some h.0 h.1 h.2) ];
+      }
+
+  half_no_base : (f : Failing) → Found before now (Some (Half artery timing new)) (cause.Fails f) → SaysNoBase before artery timing (cause.Fails f)
+  half_no_base f k = record {
+    street = k.answer.values.0;
+    plan = k.answer.values.1.0;
+    failing = f;
+    description = k.answer.read.0;
+    text = k.answer.read.1.0;
+    fails = k.answer.finds.0.first.fails;
+    not_base = k.answer.finds.0.not_base;
+    cause_is = refl;
+  }
+
+  half_four : (c : Cause) → number_of c ≡ 4 → Found before now (Some (Half artery timing new)) c → SaysNoBase before artery timing c
+  half_four (cause.Fails f) e k = half_no_base f k
+  half_four (cause.Rejected r) e k = absurd k.answer.finds
+  half_four (cause.LinkRejected r) e k = absurd k.answer.finds
+  half_four c e k = absurd cc
+
+  says_unmatched : OneEnd → (reason : HalfEnd) → Found before now (Some (Half artery timing new)) (cause.Unmatched reason) → SaysUnmatched before artery timing (cause.Unmatched reason)
+  says_unmatched ends reason k = record {
+    street = k.answer.values.0;
+    plan = k.answer.values.1.0;
+    reason = reason;
+    description = k.answer.read.0;
+    text = k.answer.read.1.0;
+    base = k.answer.finds.base;
+    first = k.answer.finds.first;
+    not_ready = ends.not_ready k.answer.values.0 k.answer.values.1.0 reason k.answer.finds.first;
+    cause_is = refl;
+  }
+
+  half_eleven : OneEnd → (c : Cause) (reason : HalfEnd) → c ≡ cause.Unmatched reason → Ends before now (Some (Half artery timing new)) c → SaysUnmatched before artery timing c
+  half_eleven ends c reason e h = subst (λ (d : Cause). SaysUnmatched before artery timing d) (sym e)
+      (says_unmatched ends reason (found before now (Some (Half artery timing new)) (cause.Unmatched reason) tt (λ s. s) (subst (λ (d : Cause). Ends before now (Some (Half artery timing new)) d) e h)))
+
+pub half_says : OneEnd → HalfSays
+half_says ends before now artery timing new c h = (
+  (λ e. says_half before now artery timing new (found_done before now (Some (Half artery timing new)) c e h)),
+  (λ e. half_four before now artery timing new c e (found_four before now (Some (Half artery timing new)) c e h)),
+  (λ e. let r = eleven_is c e in half_eleven before now artery timing new ends c r.0 r.1 h),
+)
+
+-- ---- round
+module _ (before now : Outside) (artery certificate plan : List ℕ) where
+  pub round_four : RefusedIsNotAccepted → (c : Cause) → number_of c ≡ 4 → Found before now (Some (Round artery certificate plan)) c → SaysRejected whole_bands whole_checked before artery certificate c
+  round_four apart (cause.Rejected r) e k =
+      let h = k.answer.finds.0 in
+      record {
+        street = k.answer.values.0;
+        warrant = k.answer.values.1.0;
+        reject = h.reject;
+        description = k.answer.read.0;
+        text = k.answer.read.1.0;
+        first = h.first;
+        not_accepted = apart k.answer.values.0 k.answer.values.1.0 h.reject h.first h.kept;
+        cause_is = h.cause_is;
+      }
+  round_four apart (cause.Fails f) e k = absurd k.answer.finds
+  round_four apart (cause.LinkRejected r) e k = absurd k.answer.finds
+  round_four apart c e k = absurd cc
+
+  says_unplanned : (reason : PlanEnd) → Found before now (Some (Round artery certificate plan)) (cause.Unplanned reason) → SaysUnplanned before artery certificate (cause.Unplanned reason)
+  says_unplanned reason k = record {
+    street = k.answer.values.0;
+    warrant = k.answer.values.1.0;
+    reason = reason;
+    description = k.answer.read.0;
+    text = k.answer.read.1.0;
+    accepted = unplanned_accepted k.answer.values.0 k.answer.values.1.0 k.answer.values.1.0.timing reason k.answer.finds.first;
+    first = k.answer.finds.first;
+    cause_is = refl;
+  }
+
+  pub round_ten : (c : Cause) → number_of c ≡ 10 → Ends before now (Some (Round artery certificate plan)) c → SaysUnplanned before artery certificate c
+  round_ten c n h = let r = ten_is c n in
+      subst (λ (d : Cause). SaysUnplanned before artery certificate d) (sym r.1)
+      (says_unplanned r.0 (found before now (Some (Round artery certificate plan)) (cause.Unplanned r.0) tt (λ s. s) (subst (λ (d : Cause). Ends before now (Some (Round artery certificate plan)) d) r.1 h)))
+
+-- ---- round-from
+module _ (before now : Outside) (artery certificate other plan : List ℕ) where
+  pub from_four : RefusedIsNotAccepted → FailsRulesOut → (c : Cause) → number_of c ≡ 4 → Found before now (Some (RoundFrom artery certificate other plan)) c
+      → SaysRejected whole_bands whole_checked before artery certificate c ⊎ SaysFailing before artery other c
+  from_four apart rules (cause.Rejected r) e k =
+      let h = k.answer.finds.0 in
+      inl (record {
+        street = k.answer.values.0;
+        warrant = k.answer.values.1.0;
+        reject = h.reject;
+        description = k.answer.read.0;
+        text = k.answer.read.1.0;
+        first = h.first;
+        not_accepted = apart k.answer.values.0 k.answer.values.1.0 h.reject h.first h.kept;
+        cause_is = h.cause_is;
+      })
+  from_four apart rules (cause.Fails f) e k =
+      let h = k.answer.finds in
+      inr (record {
+        street = k.answer.values.0;
+        timing = h.timing;
+        failing = f;
+        description = k.answer.read.0;
+        text = subst (λ (o : Option TimingRecord). Reads Timed (before.holds other) o) h.timing_is k.answer.read.1.1.0;
+        fails = h.first.fails;
+        not_good = rules k.answer.values.0 h.timing f h.first.fails;
+        cause_is = refl;
+      })
+  from_four apart rules (cause.LinkRejected r) e k = absurd k.answer.finds
+  from_four apart rules c e k = absurd cc
+
+  says_from_unplanned : (reason : PlanEnd) → Found before now (Some (RoundFrom artery certificate other plan)) (cause.Unplanned reason)
+      → SaysUnplannedFrom before artery certificate other (cause.Unplanned reason)
+  says_from_unplanned reason k = record {
+    street = k.answer.values.0;
+    warrant = k.answer.values.1.0;
+    given = k.answer.values.1.1.0;
+    reason = reason;
+    description = k.answer.read.0;
+    text = k.answer.read.1.0;
+    given_is = k.answer.read.1.1.0;
+    accepted = unplanned_accepted k.answer.values.0 k.answer.values.1.0 k.answer.values.1.1.0 reason k.answer.finds.first;
+    first = k.answer.finds.first;
+    cause_is = refl;
+  }
+
+  pub from_ten : (c : Cause) → number_of c ≡ 10 → Ends before now (Some (RoundFrom artery certificate other plan)) c → SaysUnplannedFrom before artery certificate other c
+  from_ten c n h = let r = ten_is c n in
+      subst (λ (d : Cause). SaysUnplannedFrom before artery certificate other d) (sym r.1)
+      (says_from_unplanned r.0 (found before now (Some (RoundFrom artery certificate other plan)) (cause.Unplanned r.0) tt (λ s. s)
+      (subst (λ (d : Cause). Ends before now (Some (RoundFrom artery certificate other plan)) d) r.1 h)))
+
+-- ---- timing
+three_reached : (c : Cause) → number_of c ≡ 3 → IsReached c
+three_reached (cause.Refused r) e = tt
+three_reached (cause.BadText b) e = tt
+three_reached c e = absurd cc
+
+three_four : ◌≡◌ {A = ℕ} 3 4 → ⊥
+three_four e = omega (arith, e)
+
+eleven_four : ◌≡◌ {A = ℕ} 11 4 → ⊥
+eleven_four e = omega (arith, e)
+
+eleven_three : ◌≡◌ {A = ℕ} 11 3 → ⊥
+eleven_three e = omega (arith, e)
+
+-- no timing is put with status 3
+no_three : (a : Street) (t : TimingRecord) (c : Cause) (l : List ℕ) (bytes : Option (List ℕ)) → number_of c ≡ 3 → WritesTiming a t c l bytes → ⊥
+no_three a t cause.Done l bytes e h = absurd cc
+no_three a t (cause.Fails f) l bytes e h = absurd cc
+no_three a t c l bytes e h = h
+
+module _ (before now : Outside) (artery plan timing : List ℕ) where
+  kept_none : (lines : List ℕ) (put : Option NamedBytes) (bytes : Option (List ℕ)) → put ≡ put_of (Some timing) bytes → bytes ≡ None → IsDone before now lines put → IsPut None before.holds now.holds
+  kept_none lines put bytes e n h = subst (λ (p : Option NamedBytes). IsPut p before.holds now.holds) (e ∙ ap (put_of (Some timing)) n) h.files
+
+  module _ (a : Street) (p : Typed) (d : Reads Description (before.holds artery) a) (r : Reads TypedPlan (before.holds plan) p) where
+    typed_put : (f : Found before now (Some (TimingOf artery plan timing)) cause.Done) → TypedFinds a p cause.Done f.lines f.answer.bytes → PutsTyped before now artery plan timing
+    typed_put f (inl h) =
+        let k = h.finds in
+        record {
+          street = a;
+          typed = p;
+          made = h.timing;
+          bands = k.2.bands;
+          description = d;
+          text = r;
+          made_is = h.timing_is;
+          measured = k.2.measured;
+          put = subst (λ (x : List ℕ). HoldsExactly (now.holds timing) x) k.2.written (is_put before now timing k.0 f.lines f.put f.answer.bytes f.answer.put_is k.1 f.done).0;
+          read_back = subst (λ (x : List ℕ). timing_of x ≡ Ok h.timing) k.2.written k.2.read_back;
+          told = subst (λ (l : List ℕ). Appends before.taken now.taken l) k.2.lines_are f.done.written;
+        }
+    typed_put f (inr (inl h)) = let e = h.cause_is in absurd cc
+    typed_put f (inr (inr h)) = let e = h.cause_is in absurd cc
+
+    module _ (lines : List ℕ) (put : Option NamedBytes) (bytes : Option (List ℕ)) (put_is : put ≡ put_of (Some timing) bytes) (done : IsDone before now lines put) where
+      miscounted : (c : Cause) → number_of c ≡ 3 → TypedFinds a p c lines bytes → SaysMiscounted before now artery plan c
+      miscounted c e (inl h) = absurd (no_three a h.timing c lines bytes e h.finds)
+      miscounted c e (inr (inl h)) =
+          record { street = a; typed = p; refusal = h.refusal; description = d; text = r; first = h.first; cause_is = h.cause_is; kept = kept_none lines put bytes put_is h.no_put done }
+      miscounted c e (inr (inr h)) = absurd (eleven_three (sym (ap number_of h.cause_is) ∙ e))
+
+      breaks : (t : TimingRecord) → IsTimingOf a p t → (c : Cause) → number_of c ≡ 4 → WritesTiming a t c lines bytes → SaysBroken before now artery plan c
+      breaks t is (cause.Fails f) e h = record {
+        street = a;
+        typed = p;
+        made = t;
+        failing = f;
+        description = d;
+        text = r;
+        made_is = is;
+        fails = h.0.first.fails;
+        not_base = h.0.not_base;
+        cause_is = refl;
+        kept = kept_none lines put bytes put_is h.1 done;
+      }
+      breaks t is cause.Done e h = absurd cc
+      breaks t is c e h = absurd h
+
+      broken : (c : Cause) → number_of c ≡ 4 → TypedFinds a p c lines bytes → SaysBroken before now artery plan c
+      broken c e (inl h) = breaks h.timing h.timing_is c e h.finds
+      broken c e (inr (inl h)) = absurd (three_four (sym (ap number_of h.cause_is) ∙ e))
+      broken c e (inr (inr h)) = absurd (eleven_four (sym (ap number_of h.cause_is) ∙ e))
+
+      too_fine_of : (reason : HalfEnd) → TypedFinds a p (cause.Unmatched reason) lines bytes → SaysTooFine before now artery plan (cause.Unmatched reason)
+      too_fine_of reason (inl h) = absurd h.finds
+      too_fine_of reason (inr (inl h)) = let e = h.cause_is in absurd cc
+      too_fine_of reason (inr (inr h)) =
+          record { street = a; typed = p; ticks = h.ticks; description = d; text = r; first = h.first; cause_is = h.cause_is; kept = kept_none lines put bytes put_is h.no_put done }
+
+  timing_three : (c : Cause) → number_of c ≡ 3 → Ends before now (Some (TimingOf artery plan timing)) c → StopsTyped before now artery plan timing c ⊎ SaysMiscounted before now artery plan c
+  timing_three c n h =
+      let e = reached_ends before now (Some (TimingOf artery plan timing)) c (three_reached c n) h in
+      elim e.2 [
+        | inl s ↦ inl (record { lines = e.0; stops = s.stops; kept = subst (λ (p : Option NamedBytes). IsPut p before.holds now.holds) s.no_put e.3.files })
+        | inr k ↦ inr (miscounted k.values.0 k.values.1.0 k.read.0 k.read.1.0 e.0 e.1 k.bytes k.put_is e.3 c n k.finds)
+      ]
+
+  timing_eleven : (c : Cause) (reason : HalfEnd) → c ≡ cause.Unmatched reason → Ends before now (Some (TimingOf artery plan timing)) c → SaysTooFine before now artery plan c
+  timing_eleven c reason e h =
+      let f = found before now (Some (TimingOf artery plan timing)) (cause.Unmatched reason) tt (λ s. s) (subst (λ (d : Cause). Ends before now (Some (TimingOf artery plan timing)) d) e h) in
+      subst (λ (d : Cause). SaysTooFine before now artery plan d) (sym e)
+      (too_fine_of f.answer.values.0 f.answer.values.1.0 f.answer.read.0 f.answer.read.1.0 f.lines f.put f.answer.bytes f.answer.put_is f.done reason f.answer.finds)
+
+pub timing_says : TimingSays
+timing_says before now artery plan timing c h = (
+  (λ e. let f = found_done before now (Some (TimingOf artery plan timing)) c e h in
+      typed_put before now artery plan timing f.answer.values.0 f.answer.values.1.0 f.answer.read.0 f.answer.read.1.0 f f.answer.finds),
+  (λ e. timing_three before now artery plan timing c e h),
+  (λ e. let f = found_four before now (Some (TimingOf artery plan timing)) c e h in
+      broken before now artery plan timing f.answer.values.0 f.answer.values.1.0 f.answer.read.0 f.answer.read.1.0 f.lines f.put f.answer.bytes f.answer.put_is f.done c e f.answer.finds),
+  (λ e. let r = eleven_is c e in timing_eleven before now artery plan timing c r.0 r.1 h),
+)
+
+-- ---- draw
+ten_apart : ◌≡◌ {A = ℕ} 10 4 → ⊥
+ten_apart e = omega (arith, e)
+
+module _ (rules : FailsRulesOut) (before now : Outside) (artery timed picture : List ℕ) where
+  -- what is found of the timing, where the file has one
+  picture_of : (a : Street) (o : Option TimingRecord) (f : Found before now (Some (Draw artery timed picture)) cause.Done) → Reads Description (before.holds artery) a → Reads Timed (before.holds timed) o
+      → DrawFinds a o cause.Done f.lines f.answer.bytes → PutsPicture before now artery timed picture
+  picture_of a None f d r h = let e = h.0 in absurd cc
+  picture_of a (Some t) f d r h = record {
+    street = a;
+    timing = t;
+    description = d;
+    text = r;
+    good = h.2.good;
+    put = subst (λ (x : List ℕ). HoldsExactly (now.holds picture) x) h.2.text_is (is_put before now picture h.0 f.lines f.put f.answer.bytes f.answer.put_is h.1 f.done).0;
+    told = subst (λ (l : List ℕ). Appends before.taken now.taken l) h.2.lines_are f.done.written;
+  }
+
+  undrawn_of : (a : Street) (o : Option TimingRecord) (c : Cause) (l : List ℕ) (bytes : Option (List ℕ)) → Reads Description (before.holds artery) a → Reads Timed (before.holds timed) o → number_of c ≡ 4
+      → DrawFinds a o c l bytes → SaysFailing before artery timed c
+  undrawn_of a None c l bytes d r e h = absurd (ten_apart (sym (ap number_of h.0) ∙ e))
+  undrawn_of a (Some t) (cause.Fails f) l bytes d r e h = record {
+    street = a;
+    timing = t;
+    failing = f;
+    description = d;
+    text = r;
+    fails = h.0.fails;
+    not_good = rules a t f h.0.fails;
+    cause_is = refl;
+  }
+  undrawn_of a (Some t) cause.Done l bytes d r e h = absurd cc
+  undrawn_of a (Some t) c l bytes d r e h = absurd h
+
+  untimed_of : (a : Street) (o : Option TimingRecord) (reason : PlanEnd) (l : List ℕ) (bytes : Option (List ℕ)) → Reads Description (before.holds artery) a → Reads Timed (before.holds timed) o
+      → DrawFinds a o (cause.Unplanned reason) l bytes → SaysUntimed before artery timed (cause.Unplanned reason)
+  untimed_of a None reason l bytes d r h = record { street = a; description = d; text = r; cause_is = h.0 }
+  untimed_of a (Some t) reason l bytes d r h = absurd h
+
+  draw_ten : (c : Cause) (reason : PlanEnd) → c ≡ cause.Unplanned reason → Ends before now (Some (Draw artery timed picture)) c → SaysUntimed before artery timed c
+  draw_ten c reason e h =
+      let f = found before now (Some (Draw artery timed picture)) (cause.Unplanned reason) tt (λ s. s) (subst (λ (d : Cause). Ends before now (Some (Draw artery timed picture)) d) e h) in
+      subst (λ (d : Cause). SaysUntimed before artery timed d) (sym e)
+      (untimed_of f.answer.values.0 f.answer.values.1.0 reason f.lines f.answer.bytes f.answer.read.0 f.answer.read.1.0 f.answer.finds)
+
+pub draw_says : FailsRulesOut → DrawSays
+draw_says rules before now artery timed picture c h = (
+  (λ e. let f = found_done before now (Some (Draw artery timed picture)) c e h in
+      picture_of rules before now artery timed picture f.answer.values.0 f.answer.values.1.0 f f.answer.read.0 f.answer.read.1.0 f.answer.finds),
+  (λ e. let f = found_four before now (Some (Draw artery timed picture)) c e h in
+      undrawn_of rules before now artery timed picture f.answer.values.0 f.answer.values.1.0 c f.lines f.answer.bytes f.answer.read.0 f.answer.read.1.0 e f.answer.finds),
+  (λ e. let r = ten_is c e in draw_ten rules before now artery timed picture c r.0 r.1 h),
+)
+
+-- ---- sweep
+each_row : RowsSay → (a : Street) (limit : Option ℕ) (cycles : List ℚ) (rows : List SweepRow) → AllZip (IsRow a limit) cycles rows → AllZip (SaysCycle a limit) cycles rows
+each_row say a limit [] [] h = tt
+each_row say a limit [] (row ∷ rows) h = absurd h
+each_row say a limit (cycle ∷ cycles) [] h = absurd h
+each_row say a limit (cycle ∷ cycles) (row ∷ rows) h = (record { found = h.0; says = say a limit cycle row h.0 }, each_row say a limit cycles rows h.1)
+
+module _ (say : RowsSay) (before now : Outside) (artery table : List ℕ) (limit : Option ℕ) (words : List (List ℕ)) where
+  puts_table : Found before now (Some (Sweep artery table limit words)) cause.Done → PutsTable before now artery table limit words
+  puts_table f =
+      let a = f.answer.values.0 in
+      let k = f.answer.finds in
+      let held = is_put before now table k.0 f.lines f.put f.answer.bytes f.answer.put_is k.1 f.done in
+      record {
+        street = a;
+        cycles = k.2.cycles;
+        rows = k.2.rows;
+        description = f.answer.read.0;
+        cycles_are = k.2.cycles_are;
+        each = each_row say a limit k.2.cycles k.2.rows k.2.rows_are;
+        put = subst (λ (x : List ℕ). HoldsExactly (now.holds table) x) k.2.table_is held.0;
+        told = subst (λ (l : List ℕ). Appends before.taken now.taken l) k.2.lines_are f.done.written;
+      }
+
+pub sweep_says : RowsSay → SweepSays
+sweep_says say before now artery table limit words c h e =
+    puts_table say before now artery table limit words (found_done before now (Some (Sweep artery table limit words)) c e h)

@@ -1,0 +1,58 @@
+-- A later run over the file that a run put.
+use Rattle.std.proofs.Common.{◌≡◌, ℕ, ◌≤◌, List, length, Option, Some, None, inl, inr, sym, subst}
+use Rattle.std.specs.Prelude.{IsSome, IfSome}
+use Rattle.outer_edge.specs.Held.{HoldsExactly}
+use Rattle.outer_edge.specs.Taken.{Appends}
+use Rattle.maxband_run.specs.Command.{Request, shape}
+use Rattle.maxband_run.specs.Outside.{Outside, NamedBytes, put_of, IsPut, IsDone}
+use Rattle.maxband_run.specs.Reading.{Reader, Value, most_bytes, IsReadAs, Reads, Values, AreRead, AreTold}
+use Rattle.maxband_run.specs.Run.{Answers, Answered, Finds, Ends}
+use Rattle.run_laws.specs.Laws.{IsVerdict}
+use Rattle.maxband_run.specs.Status.{IsReached}
+use Rattle.maxband_run.specs.declared.cause.Cause.{Cause}
+use Rattle.maxband_run.specs.declared.cause.Cause.TheVariants as cause
+use Rattle.run_laws.proofs.Holding.{told_has}
+use Rattle.run_laws.proofs.Readers.{OneReading, all_apart, same_values}
+use Rattle.maxband_run.proofs.Stopped.{IsStop, stops_stop}
+
+pub reached_ends : (before now : Outside) (asked : Option Request) (c : Cause) → IsReached c → Ends before now asked c
+    → (lines : List ℕ) × (put : Option NamedBytes) × Answers before.holds before.reads now.reads asked c lines put × IsDone before now lines put
+reached_ends before now asked cause.WriteFault n h = absurd n
+reached_ends before now asked cause.Memory n h = absurd n
+reached_ends before now asked c n h = h
+
+verdict_stops : (c : Cause) → IsVerdict c → IsStop c → ⊥
+verdict_stops (cause.ReadFault file) v s = v
+verdict_stops (cause.TooLong file) v s = v
+verdict_stops (cause.Refused r) v s = v
+verdict_stops (cause.BadText b) v s = v
+verdict_stops c v s = s
+
+-- a verdict is found, and is no reading that stops
+pub verdict_found : (held : List ℕ → Option (List ℕ)) (before after : List ℕ → ℕ) (asked : Option Request) (c : Cause) (lines : List ℕ) (put : Option NamedBytes)
+    → IsVerdict c → Answers held before after asked c lines put → Answered held before after asked c lines put
+verdict_found held before after asked c lines put v (inl h) = absurd (verdict_stops c v (stops_stop held before after (shape asked).inputs 1 c lines h.stops))
+verdict_found held before after asked c lines put v (inr h) = h
+
+-- what these bytes leave in the files, where they are put into the file of this name
+pub is_put : (before now : Outside) (name text lines : List ℕ) (put : Option NamedBytes) (bytes : Option (List ℕ))
+    → put ≡ put_of (Some name) bytes → bytes ≡ Some text → IsDone before now lines put → IsPut (put_of (Some name) (Some text)) before.holds now.holds
+is_put before now name text lines put bytes e f h = subst (λ (o : Option (List ℕ)). IsPut (put_of (Some name) o) before.holds now.holds) f (subst (λ (p : Option NamedBytes). IsPut p before.holds now.holds) e h.files)
+
+-- a file that holds a text is read as what the text is read as
+pub reads_put : (r : Reader) (o : Option (List ℕ)) (text : List ℕ) (v : Value r) → IsSome o → IfSome o (λ bytes. length bytes ≤ most_bytes r) → HoldsExactly o text → IsReadAs r text v → Reads r o v
+reads_put r None text v told few h is = absurd cc
+reads_put r (Some x) text v told few h is = told_has (most_bytes r) x (λ y. IsReadAs r y v) (few, subst (λ y. IsReadAs r y v) (sym h) is)
+
+-- a reached end of a run over files that tell their bytes, and that are read as these values, is what is found of these
+pub finds_of : OneReading → (before now : Outside) (asked : Option Request) (v : Values (shape asked).inputs) (c : Cause)
+    → AreTold before.holds (shape asked).inputs → AreRead (shape asked).inputs before.holds v → IsReached c → Ends before now asked c
+    → (lines : List ℕ) × (bytes : Option (List ℕ)) × Finds asked v c lines bytes × Appends before.taken now.taken lines
+finds_of reader before now asked v c told read n h =
+    let e = reached_ends before now asked c n h in
+    elim e.2 [
+      | inl stops ↦ absurd (all_apart reader before.holds before.reads now.reads (shape asked).inputs 1 v c e.0 told n read stops.stops)
+      | inr found ↦
+          let same = same_values reader before.holds before.reads now.reads (shape asked).inputs found.values v told found.read read in
+          (e.0, found.bytes, subst (λ (z : Values (shape asked).inputs). Finds asked z c e.0 found.bytes) same found.finds, e.3.written)
+    ]

@@ -1,0 +1,437 @@
+-- What the numbers of the statuses say of the model.
+use Rattle.std.proofs.Common.{◌≡◌, ℕ, List, Option, Some, None, Ok, ◌<◌, inl, inr, refl, sym, ◌∙◌, ap, subst, arith}
+use Rattle.std.specs.Prelude.{IfSome, option_map}
+use Rattle.outer_edge.specs.Held.{HoldsExactly}
+use Rattle.outer_edge.specs.Taken.{Appends}
+use Rattle.rational_theory.specs.Rational.{ℚ, ◌≤ℚ◌}
+use Rattle.progression.specs.Street.{Street}
+use Rattle.progression.specs.TimingRecord.{TimingRecord}
+use Rattle.plan_text.specs.CertificateReading.{certificate_of}
+use Rattle.certificate_model.specs.declared.certificate.Claim.{Claim}
+use Rattle.certificate_model.specs.declared.certificate.Claim.TheVariants as claim
+use Rattle.time_space.specs.Failing.{FailsRulesOut}
+use Rattle.certificate_checker.specs.Laws.{RefusedIsNotAccepted}
+use Rattle.link_proof.specs.LinkLaws.{LinkRefusedIsNotAccepted}
+use Rattle.branch_and_bound.specs.Rules.{Rules}
+use Rattle.branch_and_bound.specs.Answer.{IsAnswer, IsStoppedAnswer}
+use Rattle.branch_and_bound.specs.declared.incumbent.Incumbent.{Incumbent}
+use Rattle.branch_and_bound.specs.declared.node.TreeNode.{TreeNode}
+use Rattle.branch_and_bound.specs.declared.found.Site.{Site}
+use Rattle.branch_and_bound.specs.declared.found.Stop.{Stop}
+use Rattle.branch_and_bound.specs.declared.found.Stop.TheVariants.{Work, Wide}
+use Rattle.branch_and_bound.specs.declared.found.Verdict.{Verdict}
+use Rattle.branch_and_bound.specs.declared.found.Verdict.TheVariants.{Best, NoTiming, Stopped}
+use Rattle.branch_tree.specs.declared.site.SitePart.{SitePart}
+use Rattle.branch_tree.specs.Certified.{claim_by, warrant_of}
+use Rattle.branch_tree.specs.ArteryRules.{rules_of}
+use Rattle.branch_tree.specs.Searches.{incumbent_of}
+use Rattle.branch_tree.specs.SiteNames.{IsSiteOf, EndsAt}
+use Rattle.branch_tree.specs.Enough.{enough_of, IsTooLow, IsWithin}
+use Rattle.link_theory.specs.LinkRecord.{LinkRecord}
+use Rattle.multi_band.specs.LinkCertified.{link_warrant_of}
+use Rattle.multi_band.specs.LinkKind.{link_bands as kind_of_links}
+use Rattle.multi_band.specs.LinkRules.{link_rules}
+use Rattle.multi_band.specs.LinkSearches.{link_incumbent_of}
+use Rattle.multi_band.specs.LinkSites.{IsLinkSiteOf}
+use Rattle.multi_band.specs.LinkEnough.{link_enough_of}
+use Rattle.maxband_run.specs.Command.{Request, Hold, Check, CheckLinks, Solve, Links, Renew}
+use Rattle.maxband_run.specs.Outside.{Outside}
+use Rattle.branch_tree.specs.Kinds.{ProvesOf as Proves}
+use Rattle.branch_tree.specs.WholeBands.{whole_bands as kind_of_whole}
+use Rattle.maxband_run.specs.Searched.{cause_of}
+use Rattle.maxband_run.specs.Reading.{Value, IsReadAs, Reads, Description}
+use Rattle.maxband_run.specs.Sought.{Sought, whole_bands, bands_of_links}
+use Rattle.maxband_run.specs.Run.{Ends}
+use Rattle.run_laws.specs.Laws.{IsVerdict, IsWholeLimit, PutsBest, PutsNone, PutsBound, SearchSays, SolveSays, LinksSay, HoldSays, CheckSays, CheckLinksSays, SaysGood, SaysBroken, SaysAccepted, SaysRejected, SaysChecked, PutsRenewed, RenewSays}
+use Rattle.run_laws.specs.StopLaws.{IsOutOfWork, StopsFor, SearchStops, whole_stops, link_stops, StopSays, SolveStopSays, LinksStopSays}
+use Rattle.maxband_run.specs.Status.{number_of}
+use Rattle.maxband_run.specs.declared.cause.Cause.{Cause}
+use Rattle.maxband_run.specs.declared.cause.Cause.TheVariants as cause
+use Rattle.maxband_run.specs.Checked.{Checked, whole_checked, links_checked}
+use Rattle.maxband_run.specs.Check.{Accepts, Rejects, Checks}
+use Rattle.run_laws.proofs.Complete.{Completes}
+use Rattle.run_laws.proofs.Found.{Found, zero_is, found_done, found_four}
+use Rattle.maxband_run.proofs.Reached.{AllFour}
+use Rattle.run_laws.proofs.Once.{RefusedApart}
+use Rattle.run_laws.proofs.PutRead.{verdict_found, is_put}
+
+-- ---- which cause has a number
+one_is : (c : Cause) → number_of c ≡ 1 → c ≡ cause.NoTiming
+one_is cause.NoTiming e = refl
+one_is c e = absurd cc
+
+two_is : (c : Cause) → number_of c ≡ 2 → (stop : Stop SitePart) × (c ≡ cause.Stopped stop)
+two_is (cause.Stopped stop) e = (stop, refl)
+two_is c e = absurd cc
+
+-- ---- a search
+-- of a found answer the verdict that has this cause
+verdict_done : (v : Verdict SitePart) → cause.Done ≡ cause_of v → v ≡ Best
+verdict_done Best e = refl
+verdict_done v e = absurd cc
+
+verdict_none : (v : Verdict SitePart) → cause.NoTiming ≡ cause_of v → v ≡ NoTiming
+verdict_none NoTiming e = refl
+verdict_none v e = absurd cc
+
+same_stop : (stop other : Stop SitePart) → cause.Stopped stop ≡ cause.Stopped other → other ≡ stop
+same_stop stop other e = cc
+
+verdict_stopped : (stop : Stop SitePart) (v : Verdict SitePart) → cause.Stopped stop ≡ cause_of v → v ≡ Stopped stop
+verdict_stopped stop (Stopped other) e = ap Stopped (same_stop stop other e)
+verdict_stopped stop v e = absurd cc
+
+-- what a verdict says of the timing and the bound, of any kind of timing
+abbrev IsBestOf : (k : Sought) → Street → Option k.Timing → ℚ → Type 0
+IsBestOf k a None bound = ⊥
+IsBestOf k a (Some plan) bound = k.Best a plan × (k.value a plan ≡ bound)
+
+abbrev ProvesOf : (k : Sought) → Street → Option k.Timing → ℚ → Verdict SitePart → Type 0
+ProvesOf k a timing bound Best = IsBestOf k a timing bound
+ProvesOf k a timing bound NoTiming = (timing ≡ None) × k.NoneGood a
+ProvesOf k a timing bound (Stopped stop) = k.Bounded a bound × IfSome timing (λ plan. k.Good a plan × (k.value a plan ≤ℚ bound))
+
+abbrev claimed_by : (k : Sought) → Street → Option k.Timing → ℚ → Verdict SitePart → Claim
+claimed_by k a timing bound verdict = claim_by verdict bound (option_map (k.value a) timing)
+
+-- what the text that is put tells of what was found, and why the search stopped, where it did
+record Tells (k : Sought) (stops : SearchStops k.Timing) (a : Street) (limit : Option ℕ) (c : Cause) (text : List ℕ) : Type 0 where
+  pub verdict : Verdict SitePart
+  pub timing : Option k.Timing
+  pub bound : ℚ
+  pub warrant : Value k.reader
+  pub cause_is : c ≡ cause_of verdict
+  pub proves : ProvesOf k a timing bound verdict
+  pub read_back : IsReadAs k.reader text warrant
+  pub claim_is : k.claim warrant ≡ claimed_by k a timing bound verdict
+  pub timing_is : k.timing warrant ≡ timing
+  pub why : (stop : Stop SitePart) → verdict ≡ Stopped stop → stops a limit timing bound stop
+
+record HasPut (k : Sought) (stops : SearchStops k.Timing) (before now : Outside) (artery certificate : List ℕ) (limit : Option ℕ) (c : Cause) : Type 0 where
+  pub street : Street
+  pub description : Reads Description (before.holds artery) street
+  pub text : List ℕ
+  pub held : HoldsExactly (now.holds certificate) text
+  pub tells : Tells k stops street limit c text
+
+best_plan : (k : Sought) (a : Street) (timing : Option k.Timing) (bound : ℚ) → IsBestOf k a timing bound → (plan : k.Timing) × (timing ≡ Some plan) × k.Best a plan
+best_plan k a None bound h = absurd h
+best_plan k a (Some plan) bound h = (plan, refl, h.0)
+
+-- a stop for such a reason spent the whole limit, where it is by work
+abbrev WholeLimits : (T : Type 0) → SearchStops T → Type 0
+WholeLimits T stops = (a : Street) (limit : Option ℕ) (timing : Option T) (bound : ℚ) (stop : Stop SitePart) → stops a limit timing bound stop → IsWholeLimit limit stop
+
+module _ (k : Sought) (stops : SearchStops k.Timing) (whole : WholeLimits k.Timing stops) (before now : Outside) (artery certificate : List ℕ) (limit : Option ℕ) where
+  puts_best : HasPut k stops before now artery certificate limit cause.Done → PutsBest k before now artery certificate
+  puts_best h =
+      let a = h.street in
+      let t = h.tells in
+      let is = verdict_done t.verdict t.cause_is in
+      let best = best_plan k a t.timing t.bound (subst (λ (v : Verdict SitePart). ProvesOf k a t.timing t.bound v) is t.proves) in
+      let claimed : k.claim t.warrant ≡ claim.Best (k.value a best.0) =
+      t.claim_is ∙ ap (claimed_by k a t.timing t.bound) is ∙ ap (λ (o : Option k.Timing). claimed_by k a o t.bound Best) best.1 in
+      record { street = a; plan = best.0; description = h.description; best = best.2; put = (h.text, h.held, t.warrant, t.read_back, claimed, t.timing_is ∙ best.1) }
+
+  puts_none : HasPut k stops before now artery certificate limit cause.NoTiming → PutsNone k before now artery certificate
+  puts_none h =
+      let a = h.street in
+      let t = h.tells in
+      let is = verdict_none t.verdict t.cause_is in
+      let none = subst (λ (v : Verdict SitePart). ProvesOf k a t.timing t.bound v) is t.proves in
+      let claimed : k.claim t.warrant ≡ claim.NoTiming = t.claim_is ∙ ap (claimed_by k a t.timing t.bound) is in
+      record { street = a; description = h.description; none = none.1; put = (h.text, h.held, t.warrant, t.read_back, claimed, t.timing_is ∙ none.0) }
+
+  abbrev PutsStop : Cause → Type 0
+  PutsStop c = (p : PutsBound k before now artery certificate limit c) × stops p.street limit p.timing p.bound p.stop
+
+  puts_stop : (stop : Stop SitePart) → HasPut k stops before now artery certificate limit (cause.Stopped stop) → PutsStop (cause.Stopped stop)
+  puts_stop stop h =
+      let a = h.street in
+      let t = h.tells in
+      let is = verdict_stopped stop t.verdict t.cause_is in
+      let bound = subst (λ (v : Verdict SitePart). ProvesOf k a t.timing t.bound v) is t.proves in
+      let claimed : k.claim t.warrant ≡ claim.Stopped t.bound (option_map (k.value a) t.timing) = t.claim_is ∙ ap (claimed_by k a t.timing t.bound) is in
+      let why = t.why stop is in (
+        record {
+          street = a;
+          bound = t.bound;
+          timing = t.timing;
+          stop = stop;
+          description = h.description;
+          bounded = bound.0;
+          good = bound.1;
+          put = (h.text, h.held, t.warrant, t.read_back, claimed, t.timing_is);
+          cause_is = refl;
+          whole_limit = whole a limit t.timing t.bound stop why;
+        },
+        why,
+      )
+
+module _ (k : Sought) (stops : SearchStops k.Timing) (whole : WholeLimits k.Timing stops) (asks : List ℕ → List ℕ → Option ℕ → Request)
+    (put : (before now : Outside) (artery certificate : List ℕ) (limit : Option ℕ) (c : Cause) → IsVerdict c → Completes before now (Some (asks artery certificate limit)) c → HasPut k stops before now artery certificate limit c)
+  where
+    module _ (before now : Outside) (artery certificate : List ℕ) (limit : Option ℕ) where
+      zero_says : (c : Cause) → c ≡ cause.Done → Ends before now (Some (asks artery certificate limit)) c → PutsBest k before now artery certificate
+      zero_says c e h =
+          puts_best k stops whole before now artery certificate limit (put before now artery certificate limit cause.Done tt (subst (λ (d : Cause). Ends before now (Some (asks artery certificate limit)) d) e h))
+
+      one_says : (c : Cause) → c ≡ cause.NoTiming → Ends before now (Some (asks artery certificate limit)) c → PutsNone k before now artery certificate
+      one_says c e h =
+          puts_none k stops whole before now artery certificate limit (put before now artery certificate limit cause.NoTiming tt (subst (λ (d : Cause). Ends before now (Some (asks artery certificate limit)) d) e h))
+
+      two_says : (c : Cause) (stop : Stop SitePart) → c ≡ cause.Stopped stop → Ends before now (Some (asks artery certificate limit)) c → PutsStop k stops whole before now artery certificate limit c
+      two_says c stop e h = subst (λ (d : Cause). PutsStop k stops whole before now artery certificate limit d) (sym e)
+          (puts_stop k stops whole before now artery certificate limit stop (put before now artery certificate limit (cause.Stopped stop) tt (subst (λ (d : Cause). Ends before now (Some (asks artery certificate limit)) d) e h)))
+
+    stop_says : StopSays k stops asks
+    stop_says before now artery certificate limit c h e = let s = two_is c e in two_says before now artery certificate limit c s.0 s.1 h
+
+    search_says : SearchSays k asks
+    search_says before now artery certificate limit c h = (
+      (λ e. zero_says before now artery certificate limit c (zero_is c e) h),
+      (λ e. one_says before now artery certificate limit c (one_is c e) h),
+      (λ e. (stop_says before now artery certificate limit c h e).0),
+    )
+
+-- ---- why it stopped
+module _ {T K : Type 0} (r : Rules T K SitePart) (enough : ℕ) (IsNamed : Site SitePart → Type 0) (limit : Option ℕ) (bound : ℚ) where
+  whole_limit : (best : Option (Incumbent T)) (stop : Stop SitePart) → StopsFor r enough IsNamed limit best bound stop → IsWholeLimit limit stop
+  whole_limit best (Work units) h = h.by_work.1 ∙ ap Some (sym h.by_work.0)
+  whole_limit best (Wide site) h = tt
+
+  too_low : (spent : ℕ) → limit ≡ Some spent → IsTooLow enough limit → spent < enough
+  too_low spent e h = subst (λ (o : Option ℕ). IsTooLow enough o) e h
+
+  out_of_work : (nodes : List TreeNode) (best : Option (Incumbent T)) (spent : ℕ) (stop : Stop SitePart)
+      → IsStoppedAnswer r limit nodes best bound spent stop → IsWithin {W = SitePart} enough limit (Stopped stop) → IsOutOfWork enough limit spent stop
+  out_of_work nodes best spent (Work units) h w = (h.cause.0, h.cause.1, too_low spent h.cause.1 w)
+  out_of_work nodes best spent (Wide site) h w = tt
+
+  stopped_for : (nodes : List TreeNode) (best : Option (Incumbent T)) (spent : ℕ) (verdict : Verdict SitePart) → IsAnswer r limit nodes best bound spent verdict → IsWithin enough limit verdict → EndsAt IsNamed verdict
+      → (stop : Stop SitePart) → verdict ≡ Stopped stop → StopsFor r enough IsNamed limit best bound stop
+  stopped_for nodes best spent verdict h w n stop e =
+      let answer : IsStoppedAnswer r limit nodes best bound spent stop = subst (λ (v : Verdict SitePart). IsAnswer r limit nodes best bound spent v) e h in
+      let within : IsWithin {W = SitePart} enough limit (Stopped stop) = subst (λ (v : Verdict SitePart). IsWithin enough limit v) e w in
+      record {
+        nodes = nodes;
+        spent = spent;
+        answer = answer;
+        by_work = out_of_work nodes best spent stop answer within;
+        named = subst (λ (v : Verdict SitePart). EndsAt IsNamed v) e n;
+      }
+
+-- ---- solve
+whole_proves : (a : Street) (timing : Option TimingRecord) (bound : ℚ) (verdict : Verdict SitePart) → Proves (kind_of_whole a) timing bound verdict → ProvesOf whole_bands a timing bound verdict
+whole_proves a None bound Best h = absurd h
+whole_proves a (Some plan) bound Best h = h
+whole_proves a timing bound NoTiming h = h
+whole_proves a timing bound (Stopped stop) h = h
+
+solve_put : (before now : Outside) (artery certificate : List ℕ) (limit : Option ℕ) (c : Cause) → IsVerdict c → Completes before now (Some (Solve artery certificate limit)) c
+    → HasPut whole_bands whole_stops before now artery certificate limit c
+solve_put before now artery certificate limit c v h =
+    let f = verdict_found before.holds before.reads now.reads (Some (Solve artery certificate limit)) c h.0 h.1 v h.2 in
+    let s = f.finds.2 in
+    record {
+      street = f.values.0;
+      description = f.read.0;
+      text = f.finds.0;
+      held = (is_put before now certificate f.finds.0 h.0 h.1 f.bytes f.put_is f.finds.1 h.3).0;
+      tells = record {
+        verdict = s.found.verdict;
+        timing = s.found.timing;
+        bound = s.found.bound;
+        warrant = warrant_of f.values.0 s.found;
+        cause_is = s.cause_is;
+        proves = whole_proves f.values.0 s.found.timing s.found.bound s.found.verdict s.searched.proves;
+        read_back = s.certificate_is.read_back;
+        claim_is = refl;
+        timing_is = refl;
+        why = stopped_for (rules_of f.values.0) (enough_of f.values.0) (IsSiteOf f.values.0) limit s.found.bound s.found.nodes.items (incumbent_of f.values.0 s.found.timing) s.found.spent s.found.verdict
+            s.searched.search s.searched.enough s.searched.site;
+      };
+    }
+
+whole_spent : WholeLimits TimingRecord whole_stops
+whole_spent a limit timing bound stop h = whole_limit (rules_of a) (enough_of a) (IsSiteOf a) limit bound (incumbent_of a timing) stop h
+
+pub solve_says : SolveSays
+solve_says = search_says whole_bands whole_stops whole_spent Solve solve_put
+
+pub solve_stop_says : SolveStopSays
+solve_stop_says = stop_says whole_bands whole_stops whole_spent Solve solve_put
+
+-- ---- links
+link_proves : (a : Street) (timing : Option LinkRecord) (bound : ℚ) (verdict : Verdict SitePart) → Proves (kind_of_links a) timing bound verdict → ProvesOf bands_of_links a timing bound verdict
+link_proves a None bound Best h = absurd h
+link_proves a (Some plan) bound Best h = h
+link_proves a timing bound NoTiming h = h
+link_proves a timing bound (Stopped stop) h = h
+
+links_put : (before now : Outside) (artery certificate : List ℕ) (limit : Option ℕ) (c : Cause) → IsVerdict c → Completes before now (Some (Links artery certificate limit)) c
+    → HasPut bands_of_links link_stops before now artery certificate limit c
+links_put before now artery certificate limit c v h =
+    let f = verdict_found before.holds before.reads now.reads (Some (Links artery certificate limit)) c h.0 h.1 v h.2 in
+    let s = f.finds.2 in
+    record {
+      street = f.values.0;
+      description = f.read.0;
+      text = f.finds.0;
+      held = (is_put before now certificate f.finds.0 h.0 h.1 f.bytes f.put_is f.finds.1 h.3).0;
+      tells = record {
+        verdict = s.found.verdict;
+        timing = s.found.timing;
+        bound = s.found.bound;
+        warrant = link_warrant_of f.values.0 s.found;
+        cause_is = s.cause_is;
+        proves = link_proves f.values.0 s.found.timing s.found.bound s.found.verdict s.searched.proves;
+        read_back = s.certificate_is.read_back;
+        claim_is = refl;
+        timing_is = refl;
+        why = stopped_for (link_rules f.values.0) (link_enough_of f.values.0) (IsLinkSiteOf f.values.0) limit s.found.bound s.found.nodes.items (link_incumbent_of f.values.0 s.found.timing) s.found.spent s.found.verdict
+            s.searched.search s.searched.enough s.searched.site;
+      };
+    }
+
+links_spent : WholeLimits LinkRecord link_stops
+links_spent a limit timing bound stop h = whole_limit (link_rules a) (link_enough_of a) (IsLinkSiteOf a) limit bound (link_incumbent_of a timing) stop h
+
+pub links_say : LinksSay
+links_say = search_says bands_of_links link_stops links_spent Links links_put
+
+pub links_stop_says : LinksStopSays
+links_stop_says = stop_says bands_of_links link_stops links_spent Links links_put
+
+-- ---- hold
+module _ (rules : FailsRulesOut) (before now : Outside) (artery timing : List ℕ) where
+  says_good : Found before now (Some (Hold artery timing)) cause.Done → SaysGood before now artery timing
+  says_good f = record {
+    street = f.answer.values.0;
+    plan = f.answer.values.1.0;
+    description = f.answer.read.0;
+    text = f.answer.read.1.0;
+    good = f.answer.finds.0;
+    told = subst (λ (l : List ℕ). Appends before.taken now.taken l) f.answer.finds.1 f.done.written;
+  }
+
+  says_broken : (c : Cause) → number_of c ≡ 4 → Found before now (Some (Hold artery timing)) c → SaysBroken before artery timing c
+  says_broken (cause.Fails f) e k = record {
+    street = k.answer.values.0;
+    plan = k.answer.values.1.0;
+    failing = f;
+    description = k.answer.read.0;
+    text = k.answer.read.1.0;
+    fails = k.answer.finds.0.fails;
+    not_good = rules k.answer.values.0 k.answer.values.1.0 f k.answer.finds.0.fails;
+    cause_is = refl;
+  }
+  says_broken (cause.Rejected r) e k = absurd k.answer.finds
+  says_broken (cause.LinkRejected r) e k = absurd k.answer.finds
+  says_broken c e k = absurd cc
+
+pub hold_says : FailsRulesOut → HoldSays
+hold_says rules before now artery timing c h = (
+  (λ e. says_good rules before now artery timing (found_done before now (Some (Hold artery timing)) c e h)),
+  (λ e. says_broken rules before now artery timing c e (found_four before now (Some (Hold artery timing)) c e h)),
+)
+
+-- ---- check and check-links
+zero_apart : ◌≡◌ {A = ℕ} 0 4 → ⊥
+zero_apart e = omega (arith, e)
+
+-- what was found of a certificate, and told
+record FoundChecked (k : Sought) (s : Checked k) (before now : Outside) (artery certificate : List ℕ) (c : Cause) : Type 0 where
+  pub street : Street
+  pub warrant : Value k.reader
+  pub lines : List ℕ
+  pub description : Reads Description (before.holds artery) street
+  pub text : Reads k.reader (before.holds certificate) warrant
+  pub finds : Checks k s street warrant c lines
+  pub told : Appends before.taken now.taken lines
+
+module _ (k : Sought) (s : Checked k) (four : AllFour k s) (apart : RefusedApart k s) (before now : Outside) (artery certificate : List ℕ) where
+  accepts_of : (a : Street) (w : Value k.reader) (l : List ℕ) → Checks k s a w cause.Done l → Accepts k s a w cause.Done l
+  accepts_of a w l (inl h) = h
+  accepts_of a w l (inr h) = absurd (zero_apart (ap number_of h.cause_is ∙ four h.reject))
+
+  rejects_of : (a : Street) (w : Value k.reader) (c : Cause) (l : List ℕ) → number_of c ≡ 4 → Checks k s a w c l → Rejects k s a w c l
+  rejects_of a w c l e (inl h) = absurd (zero_apart (sym (ap number_of h.cause_is) ∙ e))
+  rejects_of a w c l e (inr h) = h
+
+  says_accepted : FoundChecked k s before now artery certificate cause.Done → SaysAccepted k s before now artery certificate
+  says_accepted f = let h = accepts_of f.street f.warrant f.lines f.finds in
+      record {
+        street = f.street;
+        warrant = f.warrant;
+        description = f.description;
+        text = f.text;
+        proves = h.proves;
+        told = subst (λ (l : List ℕ). Appends before.taken now.taken l) h.lines_are f.told;
+      }
+
+  says_rejected : (c : Cause) → number_of c ≡ 4 → FoundChecked k s before now artery certificate c → SaysRejected k s before artery certificate c
+  says_rejected c e f = let h = rejects_of f.street f.warrant c f.lines e f.finds in
+      record {
+        street = f.street;
+        warrant = f.warrant;
+        reject = h.reject;
+        description = f.description;
+        text = f.text;
+        first = h.first;
+        not_accepted = apart f.street f.warrant h.reject h.first h.kept;
+        cause_is = h.cause_is;
+      }
+
+module _ (k : Sought) (s : Checked k) (asks : List ℕ → List ℕ → Request)
+    (checked : (before now : Outside) (artery certificate : List ℕ) (c : Cause) → Found before now (Some (asks artery certificate)) c → FoundChecked k s before now artery certificate c) where
+  says_checked : AllFour k s → RefusedApart k s → SaysChecked k s asks
+  says_checked four apart before now artery certificate c h = (
+    (λ e. says_accepted k s four apart before now artery certificate (checked before now artery certificate cause.Done (found_done before now (Some (asks artery certificate)) c e h))),
+    (λ e. says_rejected k s four apart before now artery certificate c e (checked before now artery certificate c (found_four before now (Some (asks artery certificate)) c e h))),
+  )
+
+check_found : (before now : Outside) (artery certificate : List ℕ) (c : Cause) → Found before now (Some (Check artery certificate)) c → FoundChecked whole_bands whole_checked before now artery certificate c
+check_found before now artery certificate c f = record {
+  street = f.answer.values.0;
+  warrant = f.answer.values.1.0;
+  lines = f.lines;
+  description = f.answer.read.0;
+  text = f.answer.read.1.0;
+  finds = f.answer.finds;
+  told = f.done.written;
+}
+
+pub check_says : RefusedIsNotAccepted → CheckSays
+check_says apart = says_checked whole_bands whole_checked Check check_found (λ r. refl) apart
+
+check_links_found : (before now : Outside) (artery certificate : List ℕ) (c : Cause) → Found before now (Some (CheckLinks artery certificate)) c
+    → FoundChecked bands_of_links links_checked before now artery certificate c
+check_links_found before now artery certificate c f = record {
+  street = f.answer.values.0;
+  warrant = f.answer.values.1.0;
+  lines = f.lines;
+  description = f.answer.read.0;
+  text = f.answer.read.1.0;
+  finds = f.answer.finds;
+  told = f.done.written;
+}
+
+pub check_links_says : LinkRefusedIsNotAccepted → CheckLinksSays
+check_links_says apart = says_checked bands_of_links links_checked CheckLinks check_links_found (λ r. refl) apart
+
+-- ---- renew
+module _ (before now : Outside) (certificate new : List ℕ) where
+  puts_renewed : Completes before now (Some (Renew certificate new)) cause.Done → PutsRenewed before now certificate new
+  puts_renewed h =
+      let f = verdict_found before.holds before.reads now.reads (Some (Renew certificate new)) cause.Done h.0 h.1 tt h.2 in
+      let held = is_put before now new f.finds.0 h.0 h.1 f.bytes f.put_is f.finds.1 h.3 in
+      record {
+        warrant = f.values.0;
+        text = f.read.0;
+        put = subst (λ (x : List ℕ). HoldsExactly (now.holds new) x) f.finds.2.text_is.written held.0;
+        read_back = subst (λ (x : List ℕ). certificate_of x ≡ Ok f.values.0) f.finds.2.text_is.written f.finds.2.text_is.read_back;
+      }
+
+pub renew_says : RenewSays
+renew_says before now certificate new c h e = puts_renewed before now certificate new (subst (λ (d : Cause). Ends before now (Some (Renew certificate new)) d) (zero_is c e) h)

@@ -1,0 +1,76 @@
+-- A search without a limit isn't stopped by work.
+use Rattle.std.proofs.Common.{◌≡◌, ℕ, List, [], ◌∷◌, All, Option, Some, None, inl, inr, sym, subst}
+use Rattle.std.specs.List.{AllZip}
+use Rattle.std.proofs.lemmas.List.Elements.{All-nil, All-cons}
+use Rattle.rational_theory.specs.Rational.{ℚ}
+use Rattle.progression.specs.Street.{Street}
+use Rattle.branch_and_bound.specs.declared.found.Verdict.{Verdict}
+use Rattle.branch_and_bound.specs.declared.found.Verdict.TheVariants.{Best, NoTiming, Stopped}
+use Rattle.branch_and_bound.specs.declared.found.Stop.TheVariants.{Work, Wide}
+use Rattle.branch_tree.specs.declared.site.SitePart.{SitePart}
+use Rattle.branch_tree.specs.Enough.{enough_of, IsWithin}
+use Rattle.multi_band.specs.LinkEnough.{link_enough_of}
+use Rattle.cycle_sweep.specs.Rows.{at_cycle}
+use Rattle.cycle_sweep.specs.declared.row.SweepRow.{SweepRow}
+use Rattle.cycle_sweep.specs.declared.row.SweepRow.TheVariants as row
+use Rattle.workload_maker.specs.Made.{made_street}
+use Rattle.maxband_run.specs.Command.{Request, Solve, Links, Trial, Sweep}
+use Rattle.maxband_run.specs.Outside.{Outside, NamedBytes}
+use Rattle.maxband_run.specs.Reading.{input, IsUnread, Description}
+use Rattle.maxband_run.specs.Searched.{cause_of}
+use Rattle.maxband_run.specs.Run.{Answers, Ends}
+use Rattle.run_laws.specs.PlanLaws.{SaysCycle}
+use Rattle.run_laws.specs.StopLaws.{IsUnlimited, EndsOtherThanByWork, IsOtherThanByWork, AllNeverStopsByWork}
+use Rattle.maxband_run.specs.declared.cause.Cause.{Cause}
+use Rattle.maxband_run.specs.declared.cause.Cause.TheVariants as cause
+
+verdict_end : (enough : ℕ) (verdict : Verdict SitePart) → IsWithin enough None verdict → EndsOtherThanByWork (cause_of verdict)
+verdict_end enough Best h = tt
+verdict_end enough NoTiming h = tt
+verdict_end enough (Stopped (Work units)) h = absurd h
+verdict_end enough (Stopped (Wide site)) h = tt
+
+found_end : (enough : ℕ) (c : Cause) (verdict : Verdict SitePart) → c ≡ cause_of verdict → IsWithin enough None verdict → EndsOtherThanByWork c
+found_end enough c verdict e h = subst EndsOtherThanByWork (sym e) (verdict_end enough verdict h)
+
+-- what ends a run at its description
+unread_end : (artery : List ℕ) (held : List ℕ → Option (List ℕ)) (before after : List ℕ → ℕ) (c : Cause) (lines : List ℕ)
+    → IsUnread (input Description artery) 1 held before after c lines → EndsOtherThanByWork c
+unread_end artery held before after (cause.ReadFault file) lines h = tt
+unread_end artery held before after (cause.TooLong file) lines h = tt
+unread_end artery held before after (cause.Refused refusal) lines h = tt
+unread_end artery held before after c lines h = absurd h.1.2
+
+answer_end : (asked : Request) → IsUnlimited asked → (held : List ℕ → Option (List ℕ)) (before after : List ℕ → ℕ) (c : Cause) (lines : List ℕ) (put : Option NamedBytes)
+    → Answers held before after (Some asked) c lines put → EndsOtherThanByWork c
+answer_end (Solve artery certificate None) u held before after c lines put (inl h) = elim h.stops [ inl k ↦ unread_end artery held before after c lines k | inr k ↦ absurd k.2 ]
+answer_end (Solve artery certificate None) u held before after c lines put (inr h) = found_end (enough_of h.values.0) c h.finds.2.found.verdict h.finds.2.cause_is h.finds.2.searched.enough
+answer_end (Links artery certificate None) u held before after c lines put (inl h) = elim h.stops [ inl k ↦ unread_end artery held before after c lines k | inr k ↦ absurd k.2 ]
+answer_end (Links artery certificate None) u held before after c lines put (inr h) = found_end (link_enough_of h.values.0) c h.finds.2.found.verdict h.finds.2.cause_is h.finds.2.searched.enough
+answer_end (Trial signals seed None) u held before after c lines put (inl h) = absurd h.stops
+answer_end (Trial signals seed None) u held before after c lines put (inr h) = found_end (enough_of (made_street signals seed)) c h.finds.found.verdict h.finds.cause_is h.finds.searched.enough
+answer_end (Sweep artery table None words) u held before after c lines put (inl h) = elim h.stops [ inl k ↦ unread_end artery held before after c lines k | inr k ↦ absurd k.2 ]
+answer_end (Sweep artery table None words) u held before after c lines put (inr h) = subst EndsOtherThanByWork (sym h.finds.2.cause_is) tt
+answer_end asked u held before after c lines put h = absurd u
+
+run_end : (before now : Outside) (asked : Request) (c : Cause) → IsUnlimited asked → Ends before now (Some asked) c → EndsOtherThanByWork c
+run_end before now asked cause.WriteFault u h = tt
+run_end before now asked cause.Memory u h = tt
+run_end before now asked c u h = answer_end asked u before.holds before.reads now.reads c h.0 h.1 h.2
+
+-- ---- the rows of a table
+not_work : (enough : ℕ) (verdict : Verdict SitePart) → IsWithin enough None verdict → (units : ℕ) → verdict ≡ Stopped (Work units) → ⊥
+not_work enough verdict h units e = subst (λ (v : Verdict SitePart). IsWithin enough None v) e h
+
+row_end : (a : Street) (cycle : ℚ) (row : SweepRow) → SaysCycle a None cycle row → IsOtherThanByWork row
+row_end a cycle (row.Outside shown) h = tt
+row_end a cycle (row.Searched shown found) h = not_work (enough_of (at_cycle a cycle)) found.verdict h.found.2.enough
+
+rows_end : (a : Street) (cycles : List ℚ) (rows : List SweepRow) → AllZip (SaysCycle a None) cycles rows → All IsOtherThanByWork rows
+rows_end a [] [] h = All-nil IsOtherThanByWork
+rows_end a [] (row ∷ rows) h = absurd h
+rows_end a (cycle ∷ cycles) [] h = absurd h
+rows_end a (cycle ∷ cycles) (row ∷ rows) h = All-cons IsOtherThanByWork row rows (row_end a cycle row h.0) (rows_end a cycles rows h.1)
+
+pub unlimited : AllNeverStopsByWork
+unlimited = record { ends = run_end; rows = λ before now artery table words p. rows_end p.street p.cycles p.rows p.each }

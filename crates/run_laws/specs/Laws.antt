@@ -1,0 +1,276 @@
+-- Statements about the definitions of a run, each of which a public call proves.
+use Rattle.std.specs.Prelude.{◌≡◌, ◌≢◌, ◌⊎◌, ℕ, ◌≤◌, Bool, true, false, List, [], ◌∷◌, ◌++◌, length, Option, Some, None, Ok, IsSome, IfSome, option_map}
+use Rattle.rational_theory.specs.Rational.{ℚ, ◌≤ℚ◌}
+use Rattle.outer_edge.specs.Counts.{Rose, SameCounts}
+use Rattle.outer_edge.specs.Held.{HoldsExactly}
+use Rattle.outer_edge.specs.Taken.{Appends}
+use Rattle.progression.specs.Street.{Street}
+use Rattle.progression.specs.TimingRecord.{TimingRecord}
+use Rattle.progression.specs.Good.{Good}
+use Rattle.progression.specs.Best.{weighted_band}
+use Rattle.time_space.specs.Failing.{Fails}
+use Rattle.time_space.specs.declared.failing.Failing.{Failing}
+use Rattle.certificate_model.specs.Warrants.{Warrant}
+use Rattle.plan_text.specs.SecondText.{second_text}
+use Rattle.plan_text.specs.CertificateReading.{certificate_of}
+use Rattle.certificate_model.specs.declared.certificate.Claim.{Claim}
+use Rattle.certificate_model.specs.declared.certificate.Claim.TheVariants as claim
+use Rattle.branch_and_bound.specs.declared.found.Stop.{Stop}
+use Rattle.branch_and_bound.specs.declared.found.Stop.TheVariants.{Work, Wide}
+use Rattle.branch_tree.specs.declared.site.SitePart.{SitePart}
+use Rattle.branch_tree.specs.Certified.{warrant_of}
+use Rattle.multi_band.specs.LinkCertified.{link_warrant_of}
+use Rattle.maxband_run.specs.CheckLines.{accepted_line}
+use Rattle.maxband_run.specs.Lines.{holds_lines}
+use Rattle.maxband_run.specs.Outside.{Outside, NamedBytes}
+use Rattle.maxband_run.specs.Command.{Request, Hold, Check, CheckLinks, Solve, Links, Renew, Help, Make, Trial, Sweep, shape}
+use Rattle.maxband_run.specs.Reading.{Input, Value, most_bytes, IsReadAs, Reads, Describes, AreTold, Description, Timing, Certificate}
+use Rattle.maxband_run.specs.Usages.{usage_line, usage_of}
+use Rattle.maxband_run.specs.Sought.{Sought, whole_bands, bands_of_links}
+use Rattle.maxband_run.specs.Checked.{Checked, whole_checked, links_checked}
+use Rattle.maxband_run.specs.Solve.{IsSolution}
+use Rattle.maxband_run.specs.Links.{IsLinkSolution}
+use Rattle.maxband_run.specs.Run.{Answers, Ends}
+use Rattle.maxband_run.specs.Status.{number_of, IsReached}
+use Rattle.maxband_run.specs.declared.cause.Cause.{Cause}
+use Rattle.maxband_run.specs.declared.cause.Cause.TheVariants as cause
+
+-- a read, a put or a write failed
+abbrev pub IsFault : Cause → Type 0
+IsFault (cause.ReadFault file) = Unit {0}
+IsFault cause.WriteFault = Unit {0}
+IsFault _ = ⊥
+
+-- an answer that a search gave
+abbrev pub IsVerdict : Cause → Type 0
+IsVerdict cause.Done = Unit {0}
+IsVerdict cause.NoTiming = Unit {0}
+IsVerdict (cause.Stopped stop) = Unit {0}
+IsVerdict _ = ⊥
+
+-- ---- one answer
+-- Two answers to the same words are one. Two of a command that searches may both be verdicts, since of several best timings a search may find any; where it
+-- reads no file they are.
+abbrev pub Agree : Bool → List Input → Cause → List ℕ → Cause → List ℕ → Type 0
+Agree false inputs c x d y = (c ≡ d) × (x ≡ y)
+Agree true [] c x d y = IsVerdict c × IsVerdict d
+Agree true (i ∷ is) c x d y = ((c ≡ d) × (x ≡ y)) ⊎ (IsVerdict c × IsVerdict d)
+
+-- What files that tell their bytes hold, and the words, leave one answer: so each status but 0, 1 and 2 of `solve`, `links` and `trial`, that of a fault and that of want of
+-- memory comes exactly by its cause.
+abbrev pub OneAnswer : Type 0
+OneAnswer = (held : List ℕ → Option (List ℕ)) (before after : List ℕ → ℕ) (asked : Option Request) (c d : Cause) (x y : List ℕ) (p q : Option NamedBytes)
+    → AreTold held (shape asked).inputs → IsReached c → IsReached d
+    → Answers held before after asked c x p → Answers held before after asked d y q → Agree (shape asked).chooses (shape asked).inputs c x d y
+
+-- ---- faults
+-- Unless the run ends by a fault no count has changed: each failed read, put and write is told.
+abbrev pub FaultsAreTold : Type 0
+FaultsAreTold = (before now : Outside) (asked : Option Request) (c : Cause)
+    → Ends before now asked c → ¬ IsFault c
+    → SameCounts before.reads now.reads × SameCounts before.puts now.puts × (now.writes ≡ before.writes)
+
+-- ---- whole runs
+-- Where the file tells bytes that describe an artery, and no read of it, no put of the certificate and no write failed, a search that is asked for so ends with a
+-- verdict or by want of memory.
+abbrev pub SearchIsComplete : (List ℕ → List ℕ → Option ℕ → Request) → Type 0
+SearchIsComplete asks = (before now : Outside) (artery certificate : List ℕ) (limit : Option ℕ) (a : Street) (c : Cause)
+    → IsSome (before.holds artery) → Reads Description (before.holds artery) a
+    → ¬ Rose (before.reads artery) (now.reads artery) → ¬ Rose (before.puts certificate) (now.puts certificate) → ¬ Rose before.writes now.writes
+    → Ends before now (Some (asks artery certificate limit)) c → IsVerdict c ⊎ (c ≡ cause.Memory)
+
+abbrev pub SolveIsComplete : Type 0
+SolveIsComplete = SearchIsComplete Solve
+
+abbrev pub LinksAreComplete : Type 0
+LinksAreComplete = SearchIsComplete Links
+
+-- Where no write failed, `make` is done or ends by want of memory.
+abbrev pub MakeIsComplete : Type 0
+MakeIsComplete = (before now : Outside) (signals seed : ℕ) (c : Cause) → ¬ Rose before.writes now.writes → Ends before now (Some (Make signals seed)) c → (c ≡ cause.Done) ⊎ (c ≡ cause.Memory)
+
+-- Where no write failed, `trial` ends with a verdict or by want of memory.
+abbrev pub TrialIsComplete : Type 0
+TrialIsComplete = (before now : Outside) (signals seed : ℕ) (limit : Option ℕ) (c : Cause)
+    → ¬ Rose before.writes now.writes → Ends before now (Some (Trial signals seed limit)) c → IsVerdict c ⊎ (c ≡ cause.Memory)
+
+-- Where the file tells bytes that describe an artery, and no read of it, no put of the table and no write failed, `sweep` is done or ends by want of memory.
+abbrev pub SweepIsComplete : Type 0
+SweepIsComplete = (before now : Outside) (artery table : List ℕ) (limit : Option ℕ) (cycles : List (List ℕ)) (a : Street) (c : Cause)
+    → IsSome (before.holds artery) → Reads Description (before.holds artery) a
+    → ¬ Rose (before.reads artery) (now.reads artery) → ¬ Rose (before.puts table) (now.puts table) → ¬ Rose before.writes now.writes
+    → Ends before now (Some (Sweep artery table limit cycles)) c → (c ≡ cause.Done) ⊎ (c ≡ cause.Memory)
+
+-- Where the file tells bytes that are a certificate, and no read of it, no put of the new file and no write failed, `renew` is done or ends by want of memory.
+abbrev pub RenewIsComplete : Type 0
+RenewIsComplete = (before now : Outside) (certificate new : List ℕ) (w : Warrant) (c : Cause)
+    → IsSome (before.holds certificate) → Reads Certificate (before.holds certificate) w
+    → ¬ Rose (before.reads certificate) (now.reads certificate) → ¬ Rose (before.puts new) (now.puts new) → ¬ Rose before.writes now.writes
+    → Ends before now (Some (Renew certificate new)) c → (c ≡ cause.Done) ⊎ (c ≡ cause.Memory)
+
+-- a search within the limit ends with this cause, these lines, this text and this certificate
+abbrev pub Solves : Sought → Type 1
+Solves k = Street → Option ℕ → Cause → List ℕ → List ℕ → Value k.reader → Type 0
+
+abbrev pub whole_solves : Solves whole_bands
+whole_solves a limit c lines text w = (s : IsSolution a limit c lines text) × (w ≡ warrant_of a s.found)
+
+abbrev pub links_solve : Solves bands_of_links
+links_solve a limit c lines text w = (s : IsLinkSolution a limit c lines text) × (w ≡ link_warrant_of a s.found)
+
+-- What a search found, of the artery that the file described, and that the check accepts the file that was put with just the claim of that.
+pub record IsConfirmed (k : Sought) (s : Checked k) (solves : Solves k) (before between now : Outside) (artery certificate : List ℕ) (limit : Option ℕ) (c d : Cause) : Type 0 where
+  pub street : Street
+  pub lines : List ℕ
+  pub text : List ℕ
+  pub warrant : Value k.reader
+  pub description : Reads Description (before.holds artery) street
+  pub solved : solves street limit c lines text warrant
+  pub done : d ≡ cause.Done
+  pub certificate_is : Reads k.reader (between.holds certificate) warrant
+  pub accepted : s.Accepted street warrant
+  pub proves : s.Proves street warrant
+  pub told : Appends between.taken now.taken (accepted_line (k.claim warrant))
+
+-- After a verdict of a search that is asked for so, a run of its check over the same description and the file that was put accepts what was found, unless a fault or
+-- want of memory ends it: where these are two files that tell their bytes, and the certificate isn't too long to be read.
+abbrev pub SearchIsAccepted : (k : Sought) → Checked k → Solves k → (List ℕ → List ℕ → Option ℕ → Request) → (List ℕ → List ℕ → Request) → Type 0
+SearchIsAccepted k s solves asks checks = (before between now : Outside) (artery certificate : List ℕ) (limit : Option ℕ) (c d : Cause)
+    → artery ≢ certificate → IsSome (before.holds artery) → IsSome (between.holds certificate) → IfSome (between.holds certificate) (λ bytes. length bytes ≤ most_bytes k.reader)
+    → IsVerdict c → Ends before between (Some (asks artery certificate limit)) c
+    → IsReached d → Ends between now (Some (checks artery certificate)) d → IsConfirmed k s solves before between now artery certificate limit c d
+
+abbrev pub PutIsAccepted : Type 0
+PutIsAccepted = SearchIsAccepted whole_bands whole_checked whole_solves Solve Check
+
+abbrev pub PutLinksAreAccepted : Type 0
+PutLinksAreAccepted = SearchIsAccepted bands_of_links links_checked links_solve Links CheckLinks
+
+-- ---- what the numbers of the statuses say of the model
+-- the file holds, where it is told, a text that is read as a certificate with this claim and this timing
+abbrev pub HoldsCertificate : (k : Sought) → Option (List ℕ) → Claim → Option k.Timing → Type 0
+HoldsCertificate k held claimed timing =
+    (text : List ℕ) × HoldsExactly held text × (w : Value k.reader) × IsReadAs k.reader text w × (k.claim w ≡ claimed) × (k.timing w ≡ timing)
+
+-- A search with status 0: this timing is best on the described artery, and the file that is put has it, with its value.
+pub record PutsBest (k : Sought) (before now : Outside) (artery certificate : List ℕ) : Type 0 where
+  pub street : Street
+  pub plan : k.Timing
+  pub description : Describes (before.holds artery) street
+  pub best : k.Best street plan
+  pub put : HoldsCertificate k (now.holds certificate) (claim.Best (k.value street plan)) (Some plan)
+
+-- With status 1: no timing is good on the described artery, and the file that is put claims it.
+pub record PutsNone (k : Sought) (before now : Outside) (artery certificate : List ℕ) : Type 0 where
+  pub street : Street
+  pub description : Describes (before.holds artery) street
+  pub none : k.NoneGood street
+  pub put : HoldsCertificate k (now.holds certificate) claim.NoTiming None
+
+-- a stop by work spent all units of the limit
+abbrev pub IsWholeLimit : Option ℕ → Stop SitePart → Type 0
+IsWholeLimit limit (Work units) = limit ≡ Some units
+IsWholeLimit limit (Wide site) = Unit {0}
+
+-- With status 2: no good timing of the described artery has a value above the bound, a timing that stands is good and no better than that, the file that is put has
+-- both, and the cause is why the search stopped: by work only where the whole limit was spent.
+pub record PutsBound (k : Sought) (before now : Outside) (artery certificate : List ℕ) (limit : Option ℕ) (c : Cause) : Type 0 where
+  pub street : Street
+  pub bound : ℚ
+  pub timing : Option k.Timing
+  pub stop : Stop SitePart
+  pub description : Describes (before.holds artery) street
+  pub bounded : k.Bounded street bound
+  pub good : IfSome timing (λ plan. k.Good street plan × (k.value street plan ≤ℚ bound))
+  pub put : HoldsCertificate k (now.holds certificate) (claim.Stopped bound (option_map (k.value street) timing)) timing
+  pub cause_is : c ≡ cause.Stopped stop
+  pub whole_limit : IsWholeLimit limit stop
+
+-- what the statuses of a command say that is asked for so and searches for this
+abbrev pub SearchSays : Sought → (List ℕ → List ℕ → Option ℕ → Request) → Type 0
+SearchSays k asks = (before now : Outside) (artery certificate : List ℕ) (limit : Option ℕ) (c : Cause) → Ends before now (Some (asks artery certificate limit)) c
+    → (number_of c ≡ 0 → PutsBest k before now artery certificate)
+    × (number_of c ≡ 1 → PutsNone k before now artery certificate)
+    × (number_of c ≡ 2 → PutsBound k before now artery certificate limit c)
+
+abbrev pub SolveSays : Type 0
+SolveSays = SearchSays whole_bands Solve
+
+abbrev pub LinksSay : Type 0
+LinksSay = SearchSays bands_of_links Links
+
+-- `--help` with status 0: the usage by which this is asked for has its line in what was written
+pub record TellsUsage (before now : Outside) (asked : Request) : Type 0 where
+  pub front : List ℕ
+  pub back : List ℕ
+  pub told : Appends before.taken now.taken (front ++ (usage_line (usage_of asked) ++ back))
+
+-- so of each request
+abbrev pub HelpSays : Type 0
+HelpSays = (before now : Outside) (asked : Request) (c : Cause) → Ends before now (Some Help) c → number_of c ≡ 0 → TellsUsage before now asked
+
+-- `hold` with status 0: the timing of the second file is good on the artery of the first, and its weighted band is printed
+pub record SaysGood (before now : Outside) (artery timing : List ℕ) : Type 0 where
+  pub street : Street
+  pub plan : TimingRecord
+  pub description : Reads Description (before.holds artery) street
+  pub text : Reads Timing (before.holds timing) plan
+  pub good : Good street plan
+  pub told : Appends before.taken now.taken (holds_lines (weighted_band street plan))
+
+-- `hold` with status 4: this rule fails, so that the timing isn't good
+pub record SaysBroken (before : Outside) (artery timing : List ℕ) (c : Cause) : Type 0 where
+  pub street : Street
+  pub plan : TimingRecord
+  pub failing : Failing
+  pub description : Reads Description (before.holds artery) street
+  pub text : Reads Timing (before.holds timing) plan
+  pub fails : Fails street plan failing
+  pub not_good : ¬ Good street plan
+  pub cause_is : c ≡ cause.Fails failing
+
+abbrev pub HoldSays : Type 0
+HoldSays = (before now : Outside) (artery timing : List ℕ) (c : Cause) → Ends before now (Some (Hold artery timing)) c
+    → (number_of c ≡ 0 → SaysGood before now artery timing) × (number_of c ≡ 4 → SaysBroken before artery timing c)
+
+-- a check with status 0: what the certificate of the second file claims holds of every timing of its kind on the artery of the first, and the claim is printed
+pub record SaysAccepted (k : Sought) (s : Checked k) (before now : Outside) (artery certificate : List ℕ) : Type 0 where
+  pub street : Street
+  pub warrant : Value k.reader
+  pub description : Reads Description (before.holds artery) street
+  pub text : Reads k.reader (before.holds certificate) warrant
+  pub proves : s.Proves street warrant
+  pub told : Appends before.taken now.taken (accepted_line (k.claim warrant))
+
+-- a check with status 4: the certificate isn't accepted, and this is its first refusal
+pub record SaysRejected (k : Sought) (s : Checked k) (before : Outside) (artery certificate : List ℕ) (c : Cause) : Type 0 where
+  pub street : Street
+  pub warrant : Value k.reader
+  pub reject : s.Reject
+  pub description : Reads Description (before.holds artery) street
+  pub text : Reads k.reader (before.holds certificate) warrant
+  pub first : s.First street warrant reject
+  pub not_accepted : ¬ s.Accepted street warrant
+  pub cause_is : c ≡ s.cause reject
+
+-- what the statuses of a command say that is asked for so and checks these
+abbrev pub SaysChecked : (k : Sought) → Checked k → (List ℕ → List ℕ → Request) → Type 0
+SaysChecked k s asks = (before now : Outside) (artery certificate : List ℕ) (c : Cause) → Ends before now (Some (asks artery certificate)) c
+    → (number_of c ≡ 0 → SaysAccepted k s before now artery certificate) × (number_of c ≡ 4 → SaysRejected k s before artery certificate c)
+
+abbrev pub CheckSays : Type 0
+CheckSays = SaysChecked whole_bands whole_checked Check
+
+abbrev pub CheckLinksSays : Type 0
+CheckLinksSays = SaysChecked bands_of_links links_checked CheckLinks
+
+-- `renew` with status 0: the file that is put holds, where it is told, the second text of the certificate that the first file held, and that text is read as just
+-- this certificate
+pub record PutsRenewed (before now : Outside) (certificate new : List ℕ) : Type 0 where
+  pub warrant : Warrant
+  pub text : Reads Certificate (before.holds certificate) warrant
+  pub put : HoldsExactly (now.holds new) (second_text warrant)
+  pub read_back : certificate_of (second_text warrant) ≡ Ok warrant
+
+abbrev pub RenewSays : Type 0
+RenewSays = (before now : Outside) (certificate new : List ℕ) (c : Cause) → Ends before now (Some (Renew certificate new)) c → number_of c ≡ 0 → PutsRenewed before now certificate new

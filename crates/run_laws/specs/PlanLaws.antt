@@ -1,0 +1,346 @@
+-- What the statuses of `bands`, `half`, `timing`, `round`, `draw` and `sweep` say of the model: statements about the definitions of a run, each of which a public call proves.
+use Rattle.std.specs.Prelude.{◌≡◌, ◌≢◌, ◌⊎◌, ℕ, ◌≤◌, List, ◌++◌, length, codes, Option, None, Some, Ok, IsSome, IfSome}
+use Rattle.std.specs.List.{AllZip}
+use Rattle.rational_theory.specs.Rational.{ℚ, ◌+ℚ◌, ◌≤ℚ◌}
+use Rattle.outer_edge.specs.Counts.{Rose}
+use Rattle.outer_edge.specs.Held.{SameFiles, HoldsExactly}
+use Rattle.outer_edge.specs.Taken.{Appends}
+use Rattle.progression.specs.Street.{Street}
+use Rattle.progression.specs.TimingRecord.{TimingRecord}
+use Rattle.progression.specs.Good.{Good, IsBase}
+use Rattle.progression.specs.Best.{weighted_band}
+use Rattle.progression.specs.declared.parts.Dir.TheVariants.{Outbound, Inbound}
+use Rattle.time_space.specs.Failing.{Fails}
+use Rattle.time_space.specs.declared.failing.Failing.{Failing}
+use Rattle.band_measure.specs.declared.pair.Widest.{Widest}
+use Rattle.mirror_theory.specs.EqualBands.{HasNone, IsHalfCycleBest}
+use Rattle.half_integer.specs.Answers as half
+use Rattle.half_integer.specs.declared.end.HalfEnd.{HalfEnd}
+use Rattle.second_plan.specs.Planned.{IsBestOfOffsets}
+use Rattle.second_plan.specs.declared.answer.PlanEnd.{PlanEnd}
+use Rattle.second_plan.specs.declared.answer.PlanEnd.TheVariants as end
+use Rattle.diagram_print.specs.Measures.{weighted_line}
+use Rattle.half_integer.specs.declared.end.HalfEnd.TheVariants as half_end
+use Rattle.artery_model.specs.declared.kind.Refusal.{Refusal}
+use Rattle.description_reader.specs.Typed.{Typed}
+use Rattle.typed_plan.specs.Ends.{IsTimingOf, Refuses}
+use Rattle.typed_plan.specs.declared.timing.TypedFault.TheVariants as fault
+use Rattle.diagram_draw.specs.Pages.{drawing, svg_text}
+use Rattle.certificate_model.specs.Warrants.{Warrant}
+use Rattle.plan_text.specs.Spelling.{timing_text}
+use Rattle.plan_text.specs.Reading.{timing_of}
+use Rattle.certificate_checker.specs.Accepted.{IsAccepted}
+use Rattle.cycle_sweep.specs.declared.row.SweepRow.{SweepRow}
+use Rattle.cycle_sweep.specs.Rows.{IsRow}
+use Rattle.cycle_sweep.specs.Says.{SaysRow}
+use Rattle.cycle_sweep.specs.Table.{row_fields, sweep_text}
+use Rattle.maxband_run.specs.Cycles.{AreCycles}
+use Rattle.maxband_run.specs.Outside.{Outside}
+use Rattle.maxband_run.specs.Command.{Hold, Bands, Round, RoundFrom, Half, TimingOf, Draw, Sweep, shape}
+use Rattle.maxband_run.specs.Reading.{most_bytes, Reads, Description, Timing, Certificate, Timed, TypedPlan, StopsReading}
+use Rattle.maxband_run.specs.Bands.{IsWidestBand, widest_line, IsMeasured}
+use Rattle.maxband_run.specs.Half.{half_lines}
+use Rattle.maxband_run.specs.Round.{plan_lines, Unplans}
+use Rattle.maxband_run.specs.Sweep.{rows_line}
+use Rattle.maxband_run.specs.Sought.{whole_bands}
+use Rattle.maxband_run.specs.Checked.{whole_checked}
+use Rattle.maxband_run.specs.Run.{Ends}
+use Rattle.run_laws.specs.Laws.{SaysRejected}
+use Rattle.maxband_run.specs.Status.{number_of, IsReached}
+use Rattle.maxband_run.specs.declared.cause.Cause.{Cause}
+use Rattle.maxband_run.specs.declared.cause.Cause.TheVariants as cause
+
+-- ---- bands
+-- `bands` with status 0: the timing of the second file keeps the rules of the artery of the first that speak of no band, and these are the widest bands on its offsets,
+-- over all finer grids
+pub record SaysWidest (before now : Outside) (artery timing : List ℕ) : Type 0 where
+  pub street : Street
+  pub plan : TimingRecord
+  pub outbound : Option Widest
+  pub inbound : Option Widest
+  pub description : Reads Description (before.holds artery) street
+  pub text : Reads Timing (before.holds timing) plan
+  pub base : IsBase street plan
+  pub outbound_is : IsWidestBand street plan Outbound outbound
+  pub inbound_is : IsWidestBand street plan Inbound inbound
+  pub told : Appends before.taken now.taken (widest_line street plan Outbound outbound ++ widest_line street plan Inbound inbound)
+
+-- `bands` and `half` with status 4: this rule that speaks of no band fails
+pub record SaysNoBase (before : Outside) (artery timing : List ℕ) (c : Cause) : Type 0 where
+  pub street : Street
+  pub plan : TimingRecord
+  pub failing : Failing
+  pub description : Reads Description (before.holds artery) street
+  pub text : Reads Timing (before.holds timing) plan
+  pub fails : Fails street plan failing
+  pub not_base : ¬ IsBase street plan
+  pub cause_is : c ≡ cause.Fails failing
+
+abbrev pub BandsSay : Type 0
+BandsSay = (before now : Outside) (artery timing : List ℕ) (c : Cause) → Ends before now (Some (Bands artery timing)) c
+    → (number_of c ≡ 0 → SaysWidest before now artery timing) × (number_of c ≡ 4 → SaysNoBase before artery timing c)
+
+-- ---- half
+-- a timing with the widest equal bands over all offsets on all grids is put and told
+pub record PutsHalf (before now : Outside) (a : Street) (t : TimingRecord) (new : List ℕ) : Type 0 where
+  pub plan : TimingRecord
+  pub best : IsHalfCycleBest a t plan
+  pub put : HoldsExactly (now.holds new) (timing_text plan)
+  pub read_back : timing_of (timing_text plan) ≡ Ok plan
+  pub told : Appends before.taken now.taken (half_lines a plan)
+
+-- no offsets on any grid have equal bands: no file changes
+pub record SaysNoHalf (before now : Outside) (a : Street) (t : TimingRecord) : Type 0 where
+  pub none : HasNone a t
+  pub kept : SameFiles before.holds now.holds
+  pub told : Appends before.taken now.taken (codes "no equal band\n")
+
+-- `half` with status 0: one of the two, of a timing that keeps the rules that speak of no band
+pub record SaysHalf (before now : Outside) (artery timing new : List ℕ) : Type 0 where
+  pub street : Street
+  pub plan : TimingRecord
+  pub description : Reads Description (before.holds artery) street
+  pub text : Reads Timing (before.holds timing) plan
+  pub base : IsBase street plan
+  pub found : SaysNoHalf before now street plan ⊎ PutsHalf before now street plan new
+
+-- `half` with status 11: the timing can have no half-cycle plan, for this first reason
+pub record SaysUnmatched (before : Outside) (artery timing : List ℕ) (c : Cause) : Type 0 where
+  pub street : Street
+  pub plan : TimingRecord
+  pub reason : HalfEnd
+  pub description : Reads Description (before.holds artery) street
+  pub text : Reads Timing (before.holds timing) plan
+  pub base : IsBase street plan
+  pub first : half.Ends street plan reason
+  pub not_ready : ¬ half.IsReady street plan
+  pub cause_is : c ≡ cause.Unmatched reason
+
+abbrev pub HalfSays : Type 0
+HalfSays = (before now : Outside) (artery timing new : List ℕ) (c : Cause) → Ends before now (Some (Half artery timing new)) c
+    → (number_of c ≡ 0 → SaysHalf before now artery timing new) × (number_of c ≡ 4 → SaysNoBase before artery timing c) × (number_of c ≡ 11 → SaysUnmatched before artery timing c)
+
+-- ---- round
+-- `round` with status 0: the file that is put holds, where it is told, the text of a timing that is good on the described artery and is read back. No good timing with its
+-- offsets, patterns, runs and cycle has a greater weighted band on its grid (on a finer one, some may), and none at all has one that is greater by more than the loss.
+pub record PutsPlan (before now : Outside) (artery plan : List ℕ) : Type 0 where
+  pub street : Street
+  pub timing : TimingRecord
+  pub seconds : ℕ
+  pub offsets : List ℕ
+  pub loss : ℚ
+  pub description : Reads Description (before.holds artery) street
+  pub good : Good street timing
+  pub best : IsBestOfOffsets street timing
+  pub lost : (s : TimingRecord) → Good street s → weighted_band street s ≤ℚ (weighted_band street timing +ℚ loss)
+  pub put : HoldsExactly (now.holds plan) (timing_text timing)
+  pub read_back : timing_of (timing_text timing) ≡ Ok timing
+  pub told : Appends before.taken now.taken (plan_lines street seconds offsets timing loss)
+
+-- `round` with status 10: the certificate is accepted, and no plan is made of it, for this first reason
+pub record SaysUnplanned (before : Outside) (artery certificate : List ℕ) (c : Cause) : Type 0 where
+  pub street : Street
+  pub warrant : Warrant
+  pub reason : PlanEnd
+  pub description : Reads Description (before.holds artery) street
+  pub text : Reads Certificate (before.holds certificate) warrant
+  pub accepted : IsAccepted street warrant
+  pub first : Unplans street warrant warrant.timing reason
+  pub cause_is : c ≡ cause.Unplanned reason
+
+abbrev pub RoundSays : Type 0
+RoundSays = (before now : Outside) (artery certificate plan : List ℕ) (c : Cause) → Ends before now (Some (Round artery certificate plan)) c
+    → (number_of c ≡ 0 → PutsPlan before now artery plan) × (number_of c ≡ 4 → SaysRejected whole_bands whole_checked before artery certificate c) × (number_of c ≡ 10 → SaysUnplanned before artery certificate c)
+
+-- `draw` and `round-from` with status 4: this rule fails, so that the timing isn't good
+pub record SaysFailing (before : Outside) (artery timed : List ℕ) (c : Cause) : Type 0 where
+  pub street : Street
+  pub timing : TimingRecord
+  pub failing : Failing
+  pub description : Reads Description (before.holds artery) street
+  pub text : Reads Timed (before.holds timed) (Some timing)
+  pub fails : Fails street timing failing
+  pub not_good : ¬ Good street timing
+  pub cause_is : c ≡ cause.Fails failing
+
+-- `round-from` with status 10: the certificate is accepted, and no plan is made of the other timing, for this first reason
+pub record SaysUnplannedFrom (before : Outside) (artery certificate other : List ℕ) (c : Cause) : Type 0 where
+  pub street : Street
+  pub warrant : Warrant
+  pub given : Option TimingRecord
+  pub reason : PlanEnd
+  pub description : Reads Description (before.holds artery) street
+  pub text : Reads Certificate (before.holds certificate) warrant
+  pub given_is : Reads Timed (before.holds other) given
+  pub accepted : IsAccepted street warrant
+  pub first : Unplans street warrant given reason
+  pub cause_is : c ≡ cause.Unplanned reason
+
+abbrev pub RoundFromSays : Type 0
+RoundFromSays = (before now : Outside) (artery certificate other plan : List ℕ) (c : Cause) → Ends before now (Some (RoundFrom artery certificate other plan)) c
+    → (number_of c ≡ 0 → PutsPlan before now artery plan)
+    × (number_of c ≡ 4 → SaysRejected whole_bands whole_checked before artery certificate c ⊎ SaysFailing before artery other c)
+    × (number_of c ≡ 10 → SaysUnplannedFrom before artery certificate other c)
+
+-- a plan is made, the certificate is rejected, the other timing breaks a rule, or no plan is made of it
+abbrev pub IsRoundingEnd : Cause → Type 0
+IsRoundingEnd cause.Done = Unit {0}
+IsRoundingEnd (cause.Rejected r) = Unit {0}
+IsRoundingEnd (cause.Fails f) = Unit {0}
+IsRoundingEnd (cause.Unplanned e) = Unit {0}
+IsRoundingEnd c = ⊥
+
+-- Where the files tell bytes that describe an artery, are a certificate, and are a timing or a certificate, and no read of them, no put of the plan and no write failed, the
+-- run ends so, or by want of memory.
+abbrev pub RoundFromIsComplete : Type 0
+RoundFromIsComplete = (before now : Outside) (artery certificate other plan : List ℕ) (a : Street) (w : Warrant) (o : Option TimingRecord) (c : Cause)
+    → IsSome (before.holds artery) → IsSome (before.holds certificate) → IsSome (before.holds other)
+    → Reads Description (before.holds artery) a → Reads Certificate (before.holds certificate) w → Reads Timed (before.holds other) o
+    → ¬ Rose (before.reads artery) (now.reads artery) → ¬ Rose (before.reads certificate) (now.reads certificate) → ¬ Rose (before.reads other) (now.reads other)
+    → ¬ Rose (before.puts plan) (now.puts plan) → ¬ Rose before.writes now.writes
+    → Ends before now (Some (RoundFrom artery certificate other plan)) c → IsRoundingEnd c ⊎ (c ≡ cause.Memory)
+
+-- So a run of `hold` over the same description and the file that was put accepts it, unless a fault or want of memory ends it: where these are two files that tell
+-- their bytes, and the plan isn't too long to be read.
+abbrev pub PlanIsHeld : Type 0
+PlanIsHeld = (before between now : Outside) (artery certificate plan : List ℕ) (c d : Cause)
+    → artery ≢ plan → IsSome (before.holds artery) → IsSome (between.holds plan) → IfSome (between.holds plan) (λ bytes. length bytes ≤ most_bytes Timing)
+    → number_of c ≡ 0 → Ends before between (Some (Round artery certificate plan)) c → IsReached d → Ends between now (Some (Hold artery plan)) d → d ≡ cause.Done
+
+-- ---- timing
+-- `timing` with status 0: the file that is put holds, where it is told, the text of the timing of the typed plan, which keeps the rules that speak of no band and is read
+-- back; its widest bands and its weighted band were told
+pub record PutsTyped (before now : Outside) (artery plan timing : List ℕ) : Type 0 where
+  pub street : Street
+  pub typed : Typed
+  pub made : TimingRecord
+  pub bands : List ℕ
+  pub description : Reads Description (before.holds artery) street
+  pub text : Reads TypedPlan (before.holds plan) typed
+  pub made_is : IsTimingOf street typed made
+  pub measured : IsMeasured street made bands
+  pub put : HoldsExactly (now.holds timing) (timing_text made)
+  pub read_back : timing_of (timing_text made) ≡ Ok made
+  pub told : Appends before.taken now.taken (bands ++ weighted_line street made)
+
+-- with status 3: one of the two files isn't read
+pub record StopsTyped (before now : Outside) (artery plan timing : List ℕ) (c : Cause) : Type 0 where
+  pub lines : List ℕ
+  pub stops : StopsReading (shape (Some (TimingOf artery plan timing))).inputs 1 before.holds before.reads now.reads c lines
+  pub kept : SameFiles before.holds now.holds
+
+-- or the plan has more or fewer numbers at this place than the artery has signals or links
+pub record SaysMiscounted (before now : Outside) (artery plan : List ℕ) (c : Cause) : Type 0 where
+  pub street : Street
+  pub typed : Typed
+  pub refusal : Refusal
+  pub description : Reads Description (before.holds artery) street
+  pub text : Reads TypedPlan (before.holds plan) typed
+  pub first : Refuses street typed (fault.Refused refusal)
+  pub cause_is : c ≡ cause.Refused refusal
+  pub kept : SameFiles before.holds now.holds
+
+-- with status 4: the plan's timing breaks this rule that speaks of no band
+pub record SaysBroken (before now : Outside) (artery plan : List ℕ) (c : Cause) : Type 0 where
+  pub street : Street
+  pub typed : Typed
+  pub made : TimingRecord
+  pub failing : Failing
+  pub description : Reads Description (before.holds artery) street
+  pub text : Reads TypedPlan (before.holds plan) typed
+  pub made_is : IsTimingOf street typed made
+  pub fails : Fails street made failing
+  pub not_base : ¬ IsBase street made
+  pub cause_is : c ≡ cause.Fails failing
+  pub kept : SameFiles before.holds now.holds
+
+-- with status 11: so many ticks are past the limit of a timing
+pub record SaysTooFine (before now : Outside) (artery plan : List ℕ) (c : Cause) : Type 0 where
+  pub street : Street
+  pub typed : Typed
+  pub ticks : ℕ
+  pub description : Reads Description (before.holds artery) street
+  pub text : Reads TypedPlan (before.holds plan) typed
+  pub first : Refuses street typed (fault.TooFine ticks)
+  pub cause_is : c ≡ cause.Unmatched (half_end.TooFine ticks)
+  pub kept : SameFiles before.holds now.holds
+
+abbrev pub TimingSays : Type 0
+TimingSays = (before now : Outside) (artery plan timing : List ℕ) (c : Cause) → Ends before now (Some (TimingOf artery plan timing)) c
+    → (number_of c ≡ 0 → PutsTyped before now artery plan timing)
+    × (number_of c ≡ 3 → StopsTyped before now artery plan timing c ⊎ SaysMiscounted before now artery plan c)
+    × (number_of c ≡ 4 → SaysBroken before now artery plan c)
+    × (number_of c ≡ 11 → SaysTooFine before now artery plan c)
+
+-- a timing is put, the plan isn't of the artery, its timing breaks a rule, or it has too many ticks
+abbrev pub IsTypedEnd : Cause → Type 0
+IsTypedEnd cause.Done = Unit {0}
+IsTypedEnd (cause.Refused r) = Unit {0}
+IsTypedEnd (cause.Fails f) = Unit {0}
+IsTypedEnd (cause.Unmatched (half_end.TooFine ticks)) = Unit {0}
+IsTypedEnd c = ⊥
+
+-- Where the files tell bytes that describe an artery and give a plan, and no read of them, no put of the timing and no write failed, the run ends so, or by want of memory.
+abbrev pub TimingIsComplete : Type 0
+TimingIsComplete = (before now : Outside) (artery plan timing : List ℕ) (a : Street) (p : Typed) (c : Cause)
+    → IsSome (before.holds artery) → IsSome (before.holds plan) → Reads Description (before.holds artery) a → Reads TypedPlan (before.holds plan) p
+    → ¬ Rose (before.reads artery) (now.reads artery) → ¬ Rose (before.reads plan) (now.reads plan) → ¬ Rose (before.puts timing) (now.puts timing) → ¬ Rose before.writes now.writes
+    → Ends before now (Some (TimingOf artery plan timing)) c → IsTypedEnd c ⊎ (c ≡ cause.Memory)
+
+-- ---- draw
+-- `draw` with status 0: the timing of the second file is good on the artery of the first, and the file that is put holds, where it is told, the picture of it
+pub record PutsPicture (before now : Outside) (artery timed picture : List ℕ) : Type 0 where
+  pub street : Street
+  pub timing : TimingRecord
+  pub description : Reads Description (before.holds artery) street
+  pub text : Reads Timed (before.holds timed) (Some timing)
+  pub good : Good street timing
+  pub put : HoldsExactly (now.holds picture) (svg_text (drawing street timing))
+  pub told : Appends before.taken now.taken (codes "drawn\n")
+
+-- with status 10: the second file is a certificate without a timing
+pub record SaysUntimed (before : Outside) (artery timed : List ℕ) (c : Cause) : Type 0 where
+  pub street : Street
+  pub description : Reads Description (before.holds artery) street
+  pub text : Reads Timed (before.holds timed) None
+  pub cause_is : c ≡ cause.Unplanned end.NoTimingGiven
+
+abbrev pub DrawSays : Type 0
+DrawSays = (before now : Outside) (artery timed picture : List ℕ) (c : Cause) → Ends before now (Some (Draw artery timed picture)) c
+    → (number_of c ≡ 0 → PutsPicture before now artery timed picture) × (number_of c ≡ 4 → SaysFailing before artery timed c) × (number_of c ≡ 10 → SaysUntimed before artery timed c)
+
+-- the timing is drawn, it breaks a rule, or there is none
+abbrev pub IsDrawingEnd : Cause → Type 0
+IsDrawingEnd cause.Done = Unit {0}
+IsDrawingEnd (cause.Fails f) = Unit {0}
+IsDrawingEnd (cause.Unplanned end.NoTimingGiven) = Unit {0}
+IsDrawingEnd c = ⊥
+
+-- Where the files tell bytes that describe an artery and are a timing or a certificate, and no read of them, no put of the picture and no write failed, the run ends so,
+-- or by want of memory.
+abbrev pub DrawIsComplete : Type 0
+DrawIsComplete = (before now : Outside) (artery timed picture : List ℕ) (a : Street) (o : Option TimingRecord) (c : Cause)
+    → IsSome (before.holds artery) → IsSome (before.holds timed) → Reads Description (before.holds artery) a → Reads Timed (before.holds timed) o
+    → ¬ Rose (before.reads artery) (now.reads artery) → ¬ Rose (before.reads timed) (now.reads timed) → ¬ Rose (before.puts picture) (now.puts picture) → ¬ Rose before.writes now.writes
+    → Ends before now (Some (Draw artery timed picture)) c → IsDrawingEnd c ⊎ (c ≡ cause.Memory)
+
+-- ---- sweep
+-- what is found at a cycle, and what its record says of the street
+pub record SaysCycle (a : Street) (limit : Option ℕ) (cycle : ℚ) (row : SweepRow) : Type 0 where
+  pub found : IsRow a limit cycle row
+  pub says : SaysRow a limit cycle row (row_fields a row)
+
+-- `sweep` with status 0: the file that is put holds, where it is told, the table of the cycles that the words spell, a record for each
+pub record PutsTable (before now : Outside) (artery table : List ℕ) (limit : Option ℕ) (words : List (List ℕ)) : Type 0 where
+  pub street : Street
+  pub cycles : List ℚ
+  pub rows : List SweepRow
+  pub description : Reads Description (before.holds artery) street
+  pub cycles_are : AreCycles words cycles
+  pub each : AllZip (SaysCycle street limit) cycles rows
+  pub put : HoldsExactly (now.holds table) (sweep_text street rows)
+  pub told : Appends before.taken now.taken (rows_line (length words))
+
+abbrev pub SweepSays : Type 0
+SweepSays = (before now : Outside) (artery table : List ℕ) (limit : Option ℕ) (words : List (List ℕ)) (c : Cause) → Ends before now (Some (Sweep artery table limit words)) c
+    → number_of c ≡ 0 → PutsTable before now artery table limit words

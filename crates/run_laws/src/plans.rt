@@ -1,0 +1,98 @@
+//! The laws of plans, bands, pictures and tables.
+
+ghost use Rattle.run_laws.specs.PlanLaws.{BandsSay, HalfSays, RoundSays, RoundFromSays, RoundFromIsComplete, TimingSays, TimingIsComplete, DrawSays};
+ghost use Rattle.run_laws.specs.PlanLaws.{DrawIsComplete, SweepSays, PlanIsHeld};
+
+/// A law over the definitions: after status 0 of `bands` the widest bands on the timing's offsets were printed, and after 4 a rule
+/// fails that speaks of no band.
+pub fn law_bands_say()
+    ensures { BandsSay }
+{}
+
+/// A law over the definitions: after status 0 of `half` the file that it put has a timing with the widest equal bands over all
+/// offsets, or there are none on any grid and nothing was put; after 4 a rule fails that speaks of no band, and after 11 the timing
+/// can have no such plan.
+pub fn law_half_says()
+    ensures { HalfSays }
+{
+    half_integer::law_one_end();
+}
+
+/// A law over the definitions: after status 0 of `round` the file that it put holds the text of a timing that is good on the
+/// described artery and, on its grid, the best with its offsets, and no good timing is better by more than the printed loss; after
+/// 4 the certificate isn't accepted, and after 10 no plan is made of it.
+pub fn law_round_says()
+    ensures { RoundSays }
+{
+    certificate_checker::law_accepted_or_refused();
+}
+
+/// A law over the definitions: after status 0 of `round-from` the file that it put holds the text of a timing that is good on the described
+/// artery and, on its grid, the best with its offsets, and no good timing is better by more than the printed loss; after 4 the certificate
+/// isn't accepted, or the rule that the cause names fails, and after 10 no plan is made of the other timing.
+pub fn law_round_from_says()
+    ensures { RoundFromSays }
+{
+    certificate_checker::law_accepted_or_refused();
+    time_space::law_fails_rules_out();
+}
+
+/// A law over the definitions: where the files of `round-from` are a description of an artery, a certificate, and a timing or a
+/// certificate, and no fault is counted, a plan is put, the certificate is rejected, the timing breaks a rule, no plan is made of it,
+/// or memory is wanting.
+pub fn law_round_from_is_complete()
+    ensures { RoundFromIsComplete }
+{
+    description_reader::law_one_answer();
+    description_reader::law_one_typed();
+}
+
+/// A law over the definitions: after status 0 of `timing` the file that it put holds the text of the timing of the typed plan, which keeps the
+/// rules that speak of no band, and its widest bands were printed. After 3 a file isn't read or the plan has more or fewer numbers than the
+/// artery has signals or links, after 4 a rule fails that speaks of no band, and after 11 the timing has too many ticks; no file changed.
+pub fn law_timing_says()
+    ensures { TimingSays }
+{}
+
+/// A law over the definitions: where the files of `timing` are a description of an artery and a typed plan, and no fault is counted, the
+/// timing is put, the plan isn't of the artery, its timing breaks a rule, it has too many ticks, or memory is wanting.
+pub fn law_timing_is_complete()
+    ensures { TimingIsComplete }
+{
+    description_reader::law_one_answer();
+    description_reader::law_one_typed();
+}
+
+/// A law over the definitions: after status 0 of `draw` the file that it put holds the picture of the timing of its second file, which is
+/// good on the described artery; after 4 the rule that the cause names fails, and after 10 the file is a certificate without a timing.
+pub fn law_draw_says()
+    ensures { DrawSays }
+{
+    time_space::law_fails_rules_out();
+}
+
+/// A law over the definitions: where the description of `draw` is one of an artery, its second file is a timing or a certificate, and no
+/// fault is counted, the picture is put, the timing breaks a rule, the certificate has none, or memory is wanting.
+pub fn law_draw_is_complete()
+    ensures { DrawIsComplete }
+{
+    description_reader::law_one_answer();
+    description_reader::law_one_typed();
+}
+
+/// A law over the definitions: after status 0 of `sweep` the file that it put holds the table of its cycles, and each record says what
+/// holds of the street at its cycle.
+pub fn law_sweep_says()
+    ensures { SweepSays }
+{
+    cycle_sweep::law_rows_say();
+}
+
+/// A law over the definitions: `hold` accepts the plan that `round` put.
+pub fn law_plan_is_held()
+    ensures { PlanIsHeld }
+{
+    description_reader::law_one_answer();
+    description_reader::law_one_typed();
+    time_space::law_fails_rules_out();
+}
