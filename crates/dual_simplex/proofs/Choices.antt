@@ -50,13 +50,6 @@ is_ratio t r k x g e f = ap₂ (λ a b. a *ℚ inverse_ℚ b) f (ap neg_ℚ e)
 cells_of : (t : Tableau) (r k : ℕ) (x g : ℚ) → x ≡ cell t r k → g ≡ goal_cell t k → Some (record { place = k; goal = g; cell = x }) ≡ with_cells t r (Some k)
 cells_of t r k x g e f = ap₂ (λ u v. Some (record { place = k; goal = u; cell = v })) f e
 
-pub first_place : (t : Tableau) (r k : ℕ) (x g : ℚ) (o : Option Chosen) → Entry t r k x g → o ≡ None
-    → Ok (Some (record { place = k; goal = g; cell = x })) ≡ attempt (ratio_at t r k) (with_cells t r (best_step (λ k. is_negative (cell t r k)) (place_before t r) k (place_of o)))
-first_place t r k x g o e f =
-    let a = not_refused t r k x g e in
-    let b : best_step (λ k. is_negative (cell t r k)) (place_before t r) k (place_of o) ≡ Some k = rw f (cond-true _ _ _ (below_zero t r k x g e)) in
-    ap Ok (cells_of t r k x g e.entry e.goal) ∙ sym (ap₂ (λ q s. attempt q (with_cells t r s)) a b)
-
 step_with : (t : Tableau) (r k p : ℕ) (x g v u : ℚ) (s : Bool) → Entry t r k x g → v ≡ ratio t r k → u ≡ ratio t r p → s ≡ less_by (cmp_ℚ v u) (ltb (standing_at t k) (standing_at t p))
     → best_step (λ k. is_negative (cell t r k)) (place_before t r) k (Some p) ≡ cond s (Some k) (Some p)
 step_with t r k p x g v u s e d f h =
