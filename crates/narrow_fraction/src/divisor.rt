@@ -98,11 +98,14 @@ pub fn divided(n: u128, by: u128) -> u128
     }
 }
 
-/// `n % by`, with no division of 128 bits where a shorter one serves.
+/// `n % by`, with no division by 1, and none of 128 bits where a shorter one serves.
 pub fn remainder(n: u128, by: u128) -> u128
     requires { 0 < by }
     ensures { result ≡ n % by }
 {
+    if by == 1 {
+        return 0;
+    }
     match (u64::try_from(n), u64::try_from(by)) {
         (Ok(small), Ok(divisor)) => (small % divisor) as u128,
         _ => n % by,

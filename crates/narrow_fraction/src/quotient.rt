@@ -127,6 +127,9 @@ impl Quotient {
         requires { 0 < denominator }
         ensures { IsNumerator self.now denominator result }
     {
+        if self.is_zero() {
+            return Some(0);
+        }
         match self.numerator_below(denominator) {
             Some(numerator) => Some(numerator),
             None => numerator_of(self.fraction(), denominator),
