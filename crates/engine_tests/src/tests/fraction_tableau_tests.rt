@@ -1,10 +1,10 @@
 //! Tableaus of two columns that were worked by hand.
 
 use crate::tests::two_columns;
-use crate::tests::two_columns::{blank, pivot};
+use crate::tests::two_columns::{blank, pivot, pivot_noting};
 use fraction_tableau::{Tableau, WideCell};
 use named_row::RowId;
-use narrow_fraction::{Frac, Op, Wide};
+use narrow_fraction::{Frac, Op, Quotient, Wide};
 use std::alloc::Global;
 use std::rt::HostRuntime;
 use test_bed::fraction_or_zero;
@@ -166,6 +166,19 @@ fn cells_of_a_pivot(rt: HostRuntime) {
     let pivoted = [[HALF, HALF, TWO], [ONE, (-2, 1), TWO], [(-1, 2), HALF, TWO]];
     assert_eq!(rt; first_other(&tableau, &pivoted), None);
     assert_eq!(rt; variables(&tableau), [1, 3, 0, 2]);
+}
+
+#[test]
+fn a_pivot_notes_its_column(rt: HostRuntime) {
+    let rows = [[ONE, TWO, FOUR], [(3, 1), ZERO, (10, 1)]];
+    let mut tableau = loaded(rt.alloc(), &rows, [ONE, ONE, ONE]).expect(&rt, "a tableau");
+    let unnoted = (7, 1);
+    let mut column = [unnoted; 4].map(|number| Quotient::of_fraction(fraction(number)));
+    assert_eq!(rt; pivot_noting(&mut tableau, 0, 1, &mut column), Some(Ok(())));
+    let noted = [TWO, ZERO, (-1, 1), unnoted];
+    assert!(rt; column == noted.map(|number| Quotient::of_fraction(fraction(number))));
+    let pivoted = [[HALF, HALF, TWO], [(3, 1), ZERO, (10, 1)], [(-1, 2), HALF, TWO]];
+    assert_eq!(rt; first_other(&tableau, &pivoted), None);
 }
 
 const FIRST: Numbers = [(3, 1), (4_194_304, 1), (5, 1)];

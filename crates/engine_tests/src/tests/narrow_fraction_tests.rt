@@ -310,7 +310,7 @@ fn ratios_by_two_products(rt: HostRuntime) {
         ((i64::MAX, 1), (-1, 1), (i64::MAX, 1), (i64::MIN, 1), Some(Ordering::Greater)),
         ((1, 4), (-1, 6), (1, 4), (-1, 5), None),
         ((1, 4), (-1, 6), (1, 3), (-1, 6), None),
-        ((0, 0), (-1, 6), (0, 0), (-1, 6), None),
+        ((0, 0), (-1, 6), (0, 0), (-1, 6), Some(Ordering::Equal)),
     ];
     for (top, bottom, other, other_bottom, want) in table {
         let ratios = [

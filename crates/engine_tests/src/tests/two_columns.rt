@@ -1,11 +1,13 @@
 //! Rows and tableaus of two columns.
 
-ghost use Rattle.std.specs.Prelude.{◌≡◌, length, IfSome, false};
+ghost use Rattle.std.specs.Prelude.{◌≡◌, ◌<◌, length, IfSome, true, false, pos};
+ghost use Rattle.rational_theory.specs.Rational.{whole};
+ghost use Rattle.simplex_theory.specs.Tableau.{cell, height, width};
 ghost use Rattle.fraction_tableau.specs.Loading.{IsUnpivoted};
 
 use fraction_tableau::{Tableau, WideCell};
 use named_row::{Place, Row, RowId};
-use narrow_fraction::Frac;
+use narrow_fraction::{Frac, Quotient};
 use std::alloc::Global;
 
 pub const TWO_126: i128 = 85_070_591_730_234_615_865_843_651_857_942_052_864;
@@ -74,13 +76,39 @@ pub fn load_goal(alloc: Global, tableau: &mut Tableau, numbers: [Frac; 3]) -> Op
     Some(())
 }
 
-/// The pivot, where it may be made.
-pub fn pivot(tableau: &mut Tableau, row: u32, col: u32) -> Option<Result<(), WideCell>> {
+/// Whether a pivot may be made there.
+fn may_pivot(tableau: &Tableau, row: u32, col: u32) -> bool
+    ensures row { result ≡ true → row < height tableau.now.table }
+    ensures col { result ≡ true → col < width tableau.now.table }
+    ensures pivot { result ≡ true → cell tableau.now.table row col ≡ whole (pos 0) → ⊥ }
+    ensures unspent { result ≡ true → tableau.now.spent ≡ false }
+{
     if row >= tableau.rows() || col >= tableau.width() || tableau.is_spent() {
-        return None;
+        return false;
     }
     if tableau.cell(row, col) == Frac::whole(0) {
+        return false;
+    }
+    true
+}
+
+/// The pivot, where it may be made.
+pub fn pivot(tableau: &mut Tableau, row: u32, col: u32) -> Option<Result<(), WideCell>> {
+    if !may_pivot(tableau, row, col) {
         return None;
     }
     Some(tableau.pivot(row, col))
+}
+
+/// The same, with what the rows had at the place noted.
+pub fn pivot_noting(
+    tableau: &mut Tableau,
+    row: u32,
+    col: u32,
+    column: &mut [Quotient],
+) -> Option<Result<(), WideCell>> {
+    if !may_pivot(tableau, row, col) {
+        return None;
+    }
+    Some(tableau.pivot_noting(row, col, column))
 }
