@@ -5,6 +5,7 @@ pub mod Scales
 pub mod Refusals
 pub mod RowChanges
 pub mod NamedTableaus
+pub mod PivotCalls
 pub mod Columns
 pub mod Loading
 pub mod Operations

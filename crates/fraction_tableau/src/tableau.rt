@@ -7,6 +7,7 @@ ghost use Rattle.narrow_fraction.specs.Attempt.{attempt};
 ghost use Rattle.fraction_tableau.specs.Refusals.{pivot_refusal};
 ghost use Rattle.fraction_tableau.specs.KeptCells.{kept_below};
 ghost use Rattle.fraction_tableau.specs.Columns.{IsColumnOf};
+ghost use Rattle.fraction_tableau.specs.PivotCalls.{CanPivot, Pivots};
 ghost use Rattle.fraction_tableau.specs.NamedTableaus.{IsNamed, IsSpentFrom, blank_tableau, number_at, name_at, with_row, with_bound, with_goal_bound, with_goal};
 
 use crate::exchanging::{copy_rows, exchange_cells};
@@ -250,13 +251,8 @@ impl Tableau {
         col: u32,
         column: &mut [Quotient],
     ) -> Result<(), WideCell>
-        requires row { row < height self.old.table }
-        requires col { col < width self.old.table }
-        requires pivot { cell self.old.table row col ≡ whole (pos 0) → ⊥ }
-        requires unspent { self.old.spent ≡ false }
-        ensures outcome { result ≡ attempt (pivot_refusal row col self.old.table.rows self.old.table.goal) tt }
-        ensures exchanged { IfOk result (λ _. self.new ≡ record self.old { table = exchange row col self.old.table }) }
-        ensures spent { IfErr result (λ _. IsSpentFrom self.old self.new) }
+        requires { CanPivot row col self.old }
+        ensures pivots { Pivots row col result self.old self.new }
         ensures room { length column.new ≡ length column.old }
         ensures noted { IfOk result (λ _. IsColumnOf self.old.table col column.new) }
     {

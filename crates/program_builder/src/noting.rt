@@ -1,16 +1,13 @@
 //! What is noted of an entry's turns, and the same turns of bounds alone.
 
-ghost use Rattle.std.specs.Prelude.{◌≡◌, ◌+◌, ◌<◌, ◌≤◌, ℕ, pos, true, false, length, slice_index_or, IfOk, IfErr, IfSome};
+ghost use Rattle.std.specs.Prelude.{◌≡◌, ◌+◌, ◌<◌, pos, true, length, IfOk, IfSome};
 ghost use Rattle.rational_theory.specs.Rational.{whole};
-ghost use Rattle.simplex_theory.specs.Tableau.{cell, height, width, exchange};
-ghost use Rattle.narrow_fraction.specs.Attempt.{attempt};
+ghost use Rattle.simplex_theory.specs.Tableau.{height};
 ghost use Rattle.narrow_fraction.specs.Fraction.{FitsFrac};
 ghost use Rattle.fraction_tableau.specs.Narrow.{IsNarrow};
 ghost use Rattle.fraction_tableau.specs.KeptCells.{number_in};
-ghost use Rattle.fraction_tableau.specs.Refusals.{pivot_refusal};
-ghost use Rattle.fraction_tableau.specs.NamedTableaus.{IsSpentFrom};
-ghost use Rattle.program_builder.specs.declared.noting.Turn.{Turn};
-ghost use Rattle.program_builder.specs.Remembering.{IsLess, AreTurned, IsNoteOf, HaveRoom};
+ghost use Rattle.fraction_tableau.specs.PivotCalls.{CanPivot, Pivots};
+ghost use Rattle.program_builder.specs.Remembering.{IsLess, AreTurned, IsNoteOf};
 
 use fraction_tableau::{Tableau, WideCell};
 use narrow_fraction::{Frac, Memory, Quotient};
@@ -48,34 +45,6 @@ fn less(bound: Frac, factor: &Quotient, own: Frac) -> Option<Frac>
     }
 }
 
-/// The pivot by which a column enters a row, which is noted where there is room for it.
-pub fn pivot_noting(
-    notes: &mut [Turn],
-    turns: usize,
-    tableau: &mut Tableau,
-    row: u32,
-    variable: u32,
-) -> Result<(), WideCell>
-    requires room { HaveRoom notes.old (height tableau.old.table + 1) }
-    requires row { row < height tableau.old.table }
-    requires column { variable < width tableau.old.table }
-    requires pivot { cell tableau.old.table row variable ≡ whole (pos 0) → ⊥ }
-    requires unspent { tableau.old.spent ≡ false }
-    ensures outcome { result ≡ attempt (pivot_refusal row variable tableau.old.table.rows tableau.old.table.goal) tt }
-    ensures exchanged { IfOk result (λ _. tableau.new ≡ record tableau.old { table = exchange row variable tableau.old.table }) }
-    ensures spent { IfErr result (λ _. IsSpentFrom tableau.old tableau.new) }
-    ensures noted { IfOk result (λ _. (d : Turn) → turns < length notes.old
-        → IsNoteOf tableau.old.table row variable (slice_index_or notes.new turns d)) }
-    ensures others { (i : ℕ) (d : Turn) → (i ≡ turns → ⊥) → slice_index_or notes.new i d ≡ slice_index_or notes.old i d }
-    ensures room { HaveRoom notes.new (height tableau.old.table + 1) }
-{
-    if turns < notes.len() {
-        notes[turns].pivot(tableau, row, variable)
-    } else {
-        tableau.pivot(row, variable)
-    }
-}
-
 impl Turn {
     /// Room for the turn of a column that has so many numbers.
     pub fn new(alloc: Global, count: usize) -> Result<Turn, Memory>
@@ -87,15 +56,10 @@ impl Turn {
     }
 
     /// The pivot by which a column enters a row, and its turn, which the pivot notes on the way.
-    fn pivot(&mut self, tableau: &mut Tableau, row: u32, variable: u32) -> Result<(), WideCell>
+    pub fn pivot(&mut self, tableau: &mut Tableau, row: u32, variable: u32) -> Result<(), WideCell>
         requires room { length self.old.column.items ≡ height tableau.old.table + 1 }
-        requires row { row < height tableau.old.table }
-        requires column { variable < width tableau.old.table }
-        requires pivot { cell tableau.old.table row variable ≡ whole (pos 0) → ⊥ }
-        requires unspent { tableau.old.spent ≡ false }
-        ensures outcome { result ≡ attempt (pivot_refusal row variable tableau.old.table.rows tableau.old.table.goal) tt }
-        ensures exchanged { IfOk result (λ _. tableau.new ≡ record tableau.old { table = exchange row variable tableau.old.table }) }
-        ensures spent { IfErr result (λ _. IsSpentFrom tableau.old tableau.new) }
+        requires pivot { CanPivot row variable tableau.old }
+        ensures pivots { Pivots row variable result tableau.old tableau.new }
         ensures noted { IfOk result (λ _. IsNoteOf tableau.old.table row variable self.new) }
         ensures room { length self.new.column.items ≡ length self.old.column.items }
     {

@@ -11,7 +11,7 @@ ghost use Rattle.program_builder.specs.Remembering.{IsNoteOf, AreNotesOf, HaveRo
 ghost use Rattle.program_builder.specs.declared.noting.Turn.{Turn};
 
 use crate::choosing::entry_row;
-use crate::noting::{Turn, pivot_noting};
+use crate::noting::Turn;
 use fraction_tableau::{Tableau, WideCell};
 
 /// The turn of one of the listed variables: a column enters at its row, which is noted, and at a slack nothing happens. The refusal
@@ -36,7 +36,11 @@ fn turn(
 {
     if variable < tableau.width() {
         let row = entry_row(tableau, basis, variable);
-        pivot_noting(notes, turns, tableau, row, variable)
+        if turns < notes.len() {
+            notes[turns].pivot(tableau, row, variable)
+        } else {
+            tableau.pivot(row, variable)
+        }
     } else {
         Ok(())
     }

@@ -1,25 +1,44 @@
-use Rattle.std.proofs.Common.{◌≡◌, ◌<◌, ◌≤◌, IfOk, sym, ◌∙◌, ap, subst, arith}
+use Rattle.std.proofs.Common.{◌≡◌, ℕ, List, Result, ◌<◌, ◌≤◌, IfOk, sym, ◌∙◌, ap, subst, arith}
 use Rattle.simplex_theory.specs.Tableau.{Tableau, width, exchange}
 use Rattle.narrow_fraction.specs.Attempt.{attempt}
+use Rattle.entry_theory.specs.Entry.{entry_row, entry_turn}
 use Rattle.entry_theory.proofs.Rows.{turn_column, turn_slack}
+use Rattle.fraction_tableau.specs.NamedTableaus.{NamedTableau}
 use Rattle.fraction_tableau.specs.Refusals.{pivot_refusal}
+use Rattle.fraction_tableau.specs.declared.wide_cell.WideCell.{WideCell}
+use Rattle.program_builder.specs.EntryRefusals.{turn_refusal}
 use Rattle.program_builder.proofs.EntryRefusals.{refusal_column, refusal_slack}
 use Rattle.program_builder.proofs.turning.turn.Goals as goal
 
-pub returns-then-variable-width-clause-outcome : goal.returns-then-variable-width-clause-outcome
-returns-then-variable-width-clause-outcome c =
-    let t = c.args.tableau.now.table in
-    let l : c.args.variable < width c.args.tableau.now.table = let e = c.width.ensures.count in omega arith in
-    c.pivot_noting.ensures.outcome
-    ∙ ap (λ r. attempt (pivot_refusal r c.args.variable c.args.tableau.now.table.rows c.args.tableau.now.table.goal) tt) c.entry_row-row.ensures
-    ∙ ap (λ o. attempt o tt) (sym (refusal_column c.args.basis.now t c.args.variable l))
+-- column v enters row r
+column_outcome : (vs : List ℕ) (t : Tableau) (v r : ℕ) (o : Result Unit WideCell) → v < width t → r ≡ entry_row vs t v
+    → o ≡ attempt (pivot_refusal r v t.rows t.goal) tt → o ≡ attempt (turn_refusal vs t v) tt
+column_outcome vs t v r o l e p = p ∙ ap (λ k. attempt (pivot_refusal k v t.rows t.goal) tt) e ∙ ap (λ x. attempt x tt) (sym (refusal_column vs t v l))
 
-pub returns-then-variable-width-clause-turned : goal.returns-then-variable-width-clause-turned
-returns-then-variable-width-clause-turned c =
-    let t = c.args.tableau.now.table in
+column_turned : (vs : List ℕ) (s t : NamedTableau) (v r : ℕ) (o : Result Unit WideCell) → v < width s.table → r ≡ entry_row vs s.table v
+    → IfOk o (λ _. t ≡ record s { table = exchange r v s.table }) → IfOk o (λ _. t ≡ record s { table = entry_turn vs s.table v })
+column_turned vs s t v r o l e p =
+    subst (λ (u : Tableau). IfOk o (λ _. t ≡ record s { table = u })) (ap (λ k. exchange k v s.table) e ∙ sym (turn_column vs s.table v l)) p
+
+pub returns-then-turns-notes-clause-outcome : goal.returns-then-turns-notes-clause-outcome
+returns-then-turns-notes-clause-outcome c =
     let l : c.args.variable < width c.args.tableau.now.table = let e = c.width.ensures.count in omega arith in
-    let e = ap (λ r. exchange r c.args.variable c.args.tableau.now.table) c.entry_row-row.ensures ∙ sym (turn_column c.args.basis.now t c.args.variable l) in
-    subst (λ (u : Tableau). IfOk c.pivot_noting.result (λ x. c.pivot_noting.new.tableau ≡ record { table = u; names = c.args.tableau.now.names; spent = c.args.tableau.now.spent })) e c.pivot_noting.ensures.exchanged
+    column_outcome c.args.basis.now c.args.tableau.now.table _ _ _ l c.entry_row-row.ensures c.pivot.ensures.pivots.outcome
+
+pub returns-then-turns-notes-clause-turned : goal.returns-then-turns-notes-clause-turned
+returns-then-turns-notes-clause-turned c =
+    let l : c.args.variable < width c.args.tableau.now.table = let e = c.width.ensures.count in omega arith in
+    column_turned c.args.basis.now c.args.tableau.now c.pivot.new.tableau _ _ _ l c.entry_row-row.ensures c.pivot.ensures.pivots.exchanged
+
+pub returns-else-turns-notes-clause-outcome : goal.returns-else-turns-notes-clause-outcome
+returns-else-turns-notes-clause-outcome c =
+    let l : c.args.variable < width c.args.tableau.now.table = let e = c.width.ensures.count in omega arith in
+    column_outcome c.args.basis.now c.args.tableau.now.table _ _ _ l c.entry_row-row.ensures c.pivot-else-turns-notes.ensures.outcome
+
+pub returns-else-turns-notes-clause-turned : goal.returns-else-turns-notes-clause-turned
+returns-else-turns-notes-clause-turned c =
+    let l : c.args.variable < width c.args.tableau.now.table = let e = c.width.ensures.count in omega arith in
+    column_turned c.args.basis.now c.args.tableau.now c.pivot-else-turns-notes.new.self _ _ _ l c.entry_row-row.ensures c.pivot-else-turns-notes.ensures.exchanged
 
 pub returns-else-variable-width-clause-outcome : goal.returns-else-variable-width-clause-outcome
 returns-else-variable-width-clause-outcome c =

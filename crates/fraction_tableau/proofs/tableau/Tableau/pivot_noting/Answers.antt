@@ -5,13 +5,14 @@ use Rattle.std.proofs.lemmas.List.{with_items_is, get_or_default}
 use Rattle.rational_theory.specs.Rational.{ℚ}
 use Rattle.simplex_theory.specs.Lines.{turned, cleared}
 use Rattle.simplex_theory.specs.Tableau.{Tableau, exchange, height, width}
-use Rattle.fraction_tableau.specs.Refusals.{exchanged_rows}
+use Rattle.narrow_fraction.specs.Attempt.{attempt}
+use Rattle.fraction_tableau.specs.Refusals.{exchanged_rows, pivot_refusal}
 use Rattle.fraction_tableau.specs.NamedTableaus.{NamedTableau}
 use Rattle.fraction_tableau.proofs.Tableaus.{new_table}
 use Rattle.fraction_tableau.proofs.tableau.Tableau.pivot_noting.Goals as goal
 
-pub returns-clause-exchanged : goal.returns-clause-exchanged
-returns-clause-exchanged c =
+pub returns-clause-pivots : goal.returns-clause-pivots
+returns-clause-pivots c =
     let i = c.self.inside in
     let sparse_rows : (with_items i.sparse_rows c.exchange_cells.new.sparse_rows).items ≡ c.exchange_cells.new.sparse_rows =
     with_items_is i.sparse_rows c.exchange_cells.new.sparse_rows (c.exchange_cells.auto.sparse_rows ∙ ap length c.deref_mut.ensures.value ∙ sym i.sparse_rows.ok.0) in
@@ -28,8 +29,14 @@ returns-clause-exchanged c =
     let e : set i.standing.items c.args.col c.index-leaving.result.now ≡ set t.standing c.args.col (get_or t.basic c.args.row 0) =
     ap (set i.standing.items c.args.col) (c.index-leaving.ensures ∙ get_or_default i.basic.items c.args.row c.index-leaving.result.now 0 (let g = c.self.invariant.shaped.basics in omega arith)) in
     let new = new_table t c.args.row c.args.col _ _ _ _ a b d e in
-    λ k. record {
-      table = (new ∙ ap (exchange c.args.row c.args.col) view) k;
-      names = (ap (λ (s : NamedTableau). s.names) c.self.view_is) k;
-      spent = (ap (λ (s : NamedTableau). s.spent) c.self.view_is) k;
+    record {
+      outcome = c.in_default.ensures.outcome
+          ∙ ap (λ (l : List (List ℚ)). attempt (pivot_refusal c.args.row c.args.col l t.goal) tt) c.deref_mut.ensures.value
+          ∙ ap (λ (u : Tableau). attempt (pivot_refusal c.args.row c.args.col u.rows u.goal) tt) view;
+      exchanged = λ k. record {
+        table = (new ∙ ap (exchange c.args.row c.args.col) view) k;
+        names = (ap (λ (s : NamedTableau). s.names) c.self.view_is) k;
+        spent = (ap (λ (s : NamedTableau). s.spent) c.self.view_is) k;
+      };
+      spent = tt;
     }
