@@ -11,7 +11,7 @@ use Rattle.simplex_theory.specs.Tableau.{Tableau, cell, goal_cell, width, standi
 use Rattle.simplex_theory.specs.DualSteps.{ratio}
 use Rattle.simplex_theory.specs.Best.{best, best_step}
 use Rattle.simplex_theory.proofs.Best.{OnBest}
-use Rattle.simplex_theory.specs.BlandRule.{is_negative, place_before, less_by}
+use Rattle.simplex_theory.specs.BlandRule.{is_negative, place_before, less_by, chosen_place}
 use Rattle.narrow_fraction.specs.Attempt.{attempt, earlier, first_below}
 use Rattle.narrow_fraction.proofs.Attempt.{first_stays, none_each}
 use Rattle.fraction_tableau.specs.Refusals.{refused}
@@ -81,6 +81,10 @@ kept_place t r n o (Some j) h l p e = rw e (record { place = (let w = h.within i
 pub place_with : (t : Tableau) (r : ℕ) (b : Option ℕ) → place_of (with_cells t r b) ≡ b
 place_with t r None = refl
 place_with t r (Some j) = refl
+
+-- the place of a best one, where there is one
+pub chosen_at : (t : Tableau) (r : ℕ) (o : Option Chosen) (b : Chosen) → o ≡ Some b → o ≡ with_cells t r (chosen_place t r) → Some b.place ≡ chosen_place t r
+chosen_at t r o b e f = ap place_of (sym e ∙ f) ∙ place_with t r (chosen_place t r)
 
 best_next : (t : Tableau) (r k : ℕ) → best (λ k. is_negative (cell t r k)) (place_before t r) (k + 1) ≡ best_step (λ k. is_negative (cell t r k)) (place_before t r) k (best (λ k. is_negative (cell t r k)) (place_before t r) k)
 best_next t r k = rw add-one refl

@@ -193,6 +193,9 @@ rescaled_times r x i = let l : 1 ≤ r.from = i.above in let p = mul-le-mul_righ
 pub rescaled_size : (r : Rescaling) (x : ℚ) → IsRescaled r x → unsigned_abs (numerator r.from x) < 2 ^ 62
 rescaled_size r x i = let l : 1 ≤ r.times = i.times in let p = mul-le-mul_right (unsigned_abs (numerator r.from x)) l in omega (arith, p, i.size)
 
+pub rescaled_word : (r : Rescaling) (x : ℚ) → IsRescaled r x → SFits w64 (numerator r.from x *ℤ pos r.times)
+rescaled_word r x i = let e = unsigned_abs-mul (numerator r.from x) (pos r.times) in fits_i64 (numerator r.from x *ℤ pos r.times) (rw e (omega (arith, i.size)))
+
 pub first_above : (m g e : ℕ) → m * g ≡ e → 0 < e → 0 < m
 first_above zero g e h k = absurd (omega (arith, h, k))
 first_above (suc m) g e h k = omega arith

@@ -177,7 +177,11 @@ fn a_pivot_notes_its_column(rt: HostRuntime) {
     assert_eq!(rt; pivot_noting(&mut tableau, 0, 1, &mut column), Some(Ok(())));
     let noted = [TWO, ZERO, (-1, 1), unnoted];
     assert!(rt; column == noted.map(|number| Quotient::of_fraction(fraction(number))));
-    let pivoted = [[HALF, HALF, TWO], [(3, 1), ZERO, (10, 1)], [(-1, 2), HALF, TWO]];
+    let pivoted = [
+        [HALF, HALF, TWO],
+        [(3, 1), ZERO, (10, 1)],
+        [(-1, 2), HALF, TWO],
+    ];
     assert_eq!(rt; first_other(&tableau, &pivoted), None);
 }
 

@@ -281,8 +281,10 @@ fn a_number_less_a_product_of_small_ones(rt: HostRuntime) {
         ((1, 2), (1, 2), (-1_048_576, 1), None),
     ];
     for (factor, other, from, want) in table {
-        let less = quotient(factor.0, factor.1)
-            .less_times(fraction(other.0, other.1), fraction(from.0, from.1));
+        let less = quotient(factor.0, factor.1).less_times(
+            fraction(other.0, other.1),
+            fraction(from.0, from.1),
+        );
         match (less, want) {
             (Some(less), Some(want)) => assert!(rt; less == fraction(want.0, want.1)),
             (less, want) => assert!(rt; less.is_none() && want.is_none()),
@@ -307,7 +309,13 @@ fn ratios_by_two_products(rt: HostRuntime) {
         ((1, 4), (-2, 6), (1, 4), (-1, 6), Some(Ordering::Less)),
         ((-1, 4), (-2, 6), (-1, 4), (-1, 6), Some(Ordering::Greater)),
         ((0, 0), (-2, 6), (1, 4), (-1, 6), Some(Ordering::Less)),
-        ((i64::MAX, 1), (-1, 1), (i64::MAX, 1), (i64::MIN, 1), Some(Ordering::Greater)),
+        (
+            (i64::MAX, 1),
+            (-1, 1),
+            (i64::MAX, 1),
+            (i64::MIN, 1),
+            Some(Ordering::Greater),
+        ),
         ((1, 4), (-1, 6), (1, 4), (-1, 5), None),
         ((1, 4), (-1, 6), (1, 3), (-1, 6), None),
         ((0, 0), (-1, 6), (0, 0), (-1, 6), Some(Ordering::Equal)),

@@ -8,7 +8,7 @@ use Rattle.simplex_theory.proofs.BlandRule.{chosen_choice, chosen_row_in}
 use Rattle.narrow_fraction.proofs.Attempt.{attempt_ok, attempt_err}
 use Rattle.dual_simplex.specs.Ratios.{place_of}
 use Rattle.dual_simplex.proofs.Steps.{step_optimal, step_wide_ratio, step_infeasible, step_pivoted, step_wide}
-use Rattle.dual_simplex.proofs.Choices.{place_with}
+use Rattle.dual_simplex.proofs.Choices.{place_with, chosen_at}
 use Rattle.dual_simplex.proofs.dual.step.Goals as goal
 
 pub returns-in_default-clause-outcome : goal.returns-in_default-clause-outcome
@@ -33,39 +33,30 @@ pivot-requires-clause-row c = (chosen_row_in c.args.tableau.now.table c.in-Some.
 pub pivot-requires-clause-col : goal.pivot-requires-clause-col
 pivot-requires-clause-col c =
     let t = c.args.tableau.now.table in
-    let r = c.in-Some.ensures in
     let q = attempt_ok _ _ _ c.in-Ok.ensures in
-    let p = ap place_of (sym c.in-Some-chosen.is ∙ q.1) ∙ place_with t c.in-Some.row (chosen_place t c.in-Some.row) in
-    (chosen_choice t c.in-Some.row c.in-Some-chosen.best.place (sym r) (sym p)).place
+    (chosen_choice t c.in-Some.row c.in-Some-chosen.best.place (sym c.in-Some.ensures) (sym (chosen_at t c.in-Some.row _ c.in-Some-chosen.best c.in-Some-chosen.is q.1))).place
 
 pub pivot-requires-clause-pivot : goal.pivot-requires-clause-pivot
 pivot-requires-clause-pivot c =
     let t = c.args.tableau.now.table in
-    let r = c.in-Some.ensures in
     let q = attempt_ok _ _ _ c.in-Ok.ensures in
-    let p = ap place_of (sym c.in-Some-chosen.is ∙ q.1) ∙ place_with t c.in-Some.row (chosen_place t c.in-Some.row) in
-    negative_nonzero _ (chosen_choice t c.in-Some.row c.in-Some-chosen.best.place (sym r) (sym p)).entering
+    negative_nonzero _ (chosen_choice t c.in-Some.row c.in-Some-chosen.best.place (sym c.in-Some.ensures) (sym (chosen_at t c.in-Some.row _ c.in-Some-chosen.best c.in-Some-chosen.is q.1))).entering
 
 pub returns-in-Ok-pivot-clause-outcome : goal.returns-in-Ok-pivot-clause-outcome
 returns-in-Ok-pivot-clause-outcome c =
     let t = c.args.tableau.now.table in
-    let r = c.in-Some.ensures in
     let q = attempt_ok _ _ _ c.in-Ok.ensures in
-    let p = ap place_of (sym c.in-Some-chosen.is ∙ q.1) ∙ place_with t c.in-Some.row (chosen_place t c.in-Some.row) in
-    sym (step_pivoted t c.in-Some.row c.in-Some-chosen.best.place r q.0 p (attempt_ok _ _ _ c.in-Ok-pivot.ensures.outcome).0)
+    sym (step_pivoted t c.in-Some.row c.in-Some-chosen.best.place c.in-Some.ensures q.0 (chosen_at t c.in-Some.row _ c.in-Some-chosen.best c.in-Some-chosen.is q.1) (attempt_ok _ _ _ c.in-Ok-pivot.ensures.outcome).0)
 
 pub returns-in-Err-pivot-clause-outcome : goal.returns-in-Err-pivot-clause-outcome
 returns-in-Err-pivot-clause-outcome c =
     let t = c.args.tableau.now.table in
-    let r = c.in-Some.ensures in
     let q = attempt_ok _ _ _ c.in-Ok.ensures in
-    let p = ap place_of (sym c.in-Some-chosen.is ∙ q.1) ∙ place_with t c.in-Some.row (chosen_place t c.in-Some.row) in
-    sym (step_wide t c.in-Some.row c.in-Some-chosen.best.place c.in-Err-pivot.cell r q.0 p (attempt_err _ _ _ c.in-Err-pivot.ensures.outcome))
+    sym (step_wide t c.in-Some.row c.in-Some-chosen.best.place c.in-Err-pivot.cell c.in-Some.ensures q.0 (chosen_at t c.in-Some.row _ c.in-Some-chosen.best c.in-Some-chosen.is q.1) (attempt_err _ _ _ c.in-Err-pivot.ensures.outcome))
 
 pub returns-in-Ok-pivot-clause-dual : goal.returns-in-Ok-pivot-clause-dual
 returns-in-Ok-pivot-clause-dual c =
     let t = c.args.tableau.now.table in
     let q = attempt_ok _ _ _ c.in-Ok.ensures in
-    let p = ap place_of (sym c.in-Some-chosen.is ∙ q.1) ∙ place_with t c.in-Some.row (chosen_place t c.in-Some.row) in
-    let choice = chosen_choice t c.in-Some.row c.in-Some-chosen.best.place (sym c.in-Some.ensures) (sym p) in
+    let choice = chosen_choice t c.in-Some.row c.in-Some-chosen.best.place (sym c.in-Some.ensures) (sym (chosen_at t c.in-Some.row _ c.in-Some-chosen.best c.in-Some-chosen.is q.1)) in
     λ _. subst IsDual (sym (ap (λ (s : NamedTableau). s.table) c.in-Ok-pivot.ensures.exchanged)) (dual-exchange _ _ t c.requires.dual choice)
