@@ -1,13 +1,12 @@
 -- Where all numbers of the rows of a pivot are small, none of its operations is refused.
-use Rattle.std.proofs.Common.{◌≡◌, ℕ, zero, suc, ℤ, pos, negsuc, neg_ℤ, zero-lt-suc, Bool, true, false, cond, eqb, Option, None, List, length, get_or, refl, sym, ◌∙◌, ap, subst, ◌*ℤ◌, ◌*◌, ◌/◌, ◌<◌, ◌^◌, unsigned_abs, arith, mul-pos, div-le_self}
-use Rattle.std.proofs.lemmas.Int.{ints, unsigned_abs-mul}
+use Rattle.std.proofs.Common.{◌≡◌, ℕ, zero, suc, ℤ, pos, negsuc, neg_ℤ, zero-lt-suc, Bool, true, false, cond, eqb, Option, None, List, length, get_or, refl, sym, ◌∙◌, ap, subst, ◌<◌, ◌^◌, unsigned_abs, arith}
 use Rattle.rational_theory.specs.laws.Fractions.{abs-neg_ℤ}
-use Rattle.rational_theory.specs.Rational.{ℚ, over, neg_ℚ, whole, inverse_ℚ, turned, ◌*ℚ◌}
+use Rattle.rational_theory.specs.Rational.{ℚ, whole, inverse_ℚ, turned, ◌*ℚ◌}
 use Rattle.rational_theory.proofs.Arithmetic.{*ℚ_comm}
 use Rattle.rational_theory.proofs.Order.{zero_num, inverse_not_zero, *ℚ_cancel, *ℚ-inverse}
 use Rattle.narrow_fraction.specs.Attempt.{earlier, first_below}
 use Rattle.narrow_fraction.specs.Fraction.{FitsFrac}
-use Rattle.narrow_fraction.proofs.Small.{IsSmall, small_product, product_fits, difference_fits, over_small}
+use Rattle.narrow_fraction.proofs.Small.{IsSmall, product_fits, difference_fits, over_small}
 use Rattle.narrow_fraction.specs.declared.wide.Op.TheVariants.{Mul, Div, Sub}
 use Rattle.fraction_tableau.specs.Refusals.{refused, turn_at, clear_at, turn_refusal, clear_refusal}
 use Rattle.fraction_tableau.specs.Scales.{IsScaled}
