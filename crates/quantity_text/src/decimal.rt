@@ -4,6 +4,7 @@ ghost use Rattle.std.specs.Prelude.{◌≡◌, ◌+◌, ◌*◌, ◌/◌, ◌<�
 ghost use Rattle.std.specs.Fmt.{decimal};
 ghost use Rattle.quantity_text.specs.Decimal.{decimal_spelling, last_digits};
 
+use crate::writing::{push_byte, push_bytes, push_number};
 use narrow_fraction::{Frac, Memory};
 use std::alloc::Global;
 
@@ -17,32 +18,50 @@ pub fn decimal_text(alloc: Global, value: Frac, places: u32) -> Result<Vec<u8>, 
     requires most_places { places ≤ 9 }
     ensures { IfOk result (λ text. text.items ≡ decimal_spelling value places) }
 {
-    let top = value.num().unsigned_abs();
-    let bottom = value.den().unsigned_abs();
-    quotient_text(alloc, top, bottom, places)
-}
-
-/// `top / bottom` with so many places.
-fn quotient_text(alloc: Global, top: u128, bottom: u128, places: u32) -> Result<Vec<u8>, Memory>
-    requires above { 0 < bottom }
-    requires bottom { bottom ≤ 2 ^ 120 }
-    ensures { IfOk result (λ text. text.items ≡ decimal (top / bottom) ++ 46 ∷ last_digits places (top * 10 ^ places / bottom)) }
-{
-    let mut text = whole_part(alloc, top / bottom)?;
-    let mut rest = top % bottom;
-    for place in 0..places {
-        let _ = place;
-        push(&mut text, next_digit(rest, bottom))?;
-        rest = rest * 10 % bottom;
-    }
+    let mut text = Vec::new(alloc);
+    push_decimal(alloc, &mut text, value, places)?;
     Ok(text)
 }
 
-/// The digits before the point, and the point.
-fn whole_part(alloc: Global, whole: u128) -> Result<Vec<u8>, Memory>
-    ensures { IfOk result (λ text. text.items ≡ decimal whole ++ 46 ∷ []) }
+/// Writes the same at the end of what is there.
+pub fn push_decimal(
+    alloc: Global,
+    out: &mut Vec<u8>,
+    value: Frac,
+    places: u32,
+) -> Result<(), Memory>
+    requires least { pos 0 ≤ℤ value.num }
+    requires denominator { value.den ≤ 2 ^ 120 }
+    requires some_places { 1 ≤ places }
+    requires most_places { places ≤ 9 }
+    ensures { OnOk result (out.new.items ≡ out.old.items ++ decimal_spelling value places) }
 {
-    Ok(format!(in alloc; "{whole}.")?.into_bytes())
+    let top = value.num().unsigned_abs();
+    let bottom = value.den().unsigned_abs();
+    push_quotient(alloc, out, top, bottom, places)
+}
+
+/// Writes `top / bottom` with so many places.
+fn push_quotient(
+    alloc: Global,
+    out: &mut Vec<u8>,
+    top: u128,
+    bottom: u128,
+    places: u32,
+) -> Result<(), Memory>
+    requires above { 0 < bottom }
+    requires bottom { bottom ≤ 2 ^ 120 }
+    ensures { OnOk result (out.new.items ≡ out.old.items ++ (decimal (top / bottom) ++ 46 ∷ last_digits places (top * 10 ^ places / bottom))) }
+{
+    push_number(alloc, out, top / bottom)?;
+    push_bytes(out, b".")?;
+    let mut rest = top % bottom;
+    for place in 0..places {
+        let _ = place;
+        push_byte(out, next_digit(rest, bottom))?;
+        rest = rest * 10 % bottom;
+    }
+    Ok(())
 }
 
 /// The next digit of a long division.
@@ -52,11 +71,4 @@ fn next_digit(rest: u128, bottom: u128) -> u8
     ensures { result ≡ 48 + rest * 10 / bottom }
 {
     b'0' + (rest * 10 / bottom) as u8
-}
-
-fn push(text: &mut Vec<u8>, byte: u8) -> Result<(), Memory>
-    ensures { OnOk result (text.new.items ≡ text.old.items ++ byte ∷ []) }
-{
-    text.push(byte)?;
-    Ok(())
 }

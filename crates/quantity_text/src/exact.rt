@@ -1,7 +1,6 @@
 //! Exact spellings, written.
 
-ghost use Rattle.std.specs.Prelude.{◌≡◌, ◌++◌, IfOk, string_bytes};
-ghost use Rattle.std.specs.Fmt.{signed_decimal};
+ghost use Rattle.std.specs.Prelude.{◌≡◌, IfOk, string_bytes};
 ghost use Rattle.quantity_text.specs.Exact.{denominator_text, exact_spelling};
 
 use narrow_fraction::{Frac, Memory};
@@ -18,17 +17,18 @@ pub fn exact_text(alloc: Global, value: Frac) -> Result<Vec<u8>, Memory>
 pub fn exact_string(alloc: Global, value: Frac) -> Result<String, AllocError>
     ensures { IfOk result (λ text. string_bytes text ≡ exact_spelling value) }
 {
-    spelled(alloc, value.num(), value.den().unsigned_abs())
+    let num = value.num();
+    let denominator = denominator_text(alloc, value.den().unsigned_abs())?;
+    format!(in alloc; "{num}{denominator}")
 }
 
-/// The text of a numerator over a denominator.
-#[tactic(auto, using(crate::proofs::Spellings::over_one))]
-fn spelled(alloc: Global, num: i128, den: u128) -> Result<String, AllocError>
-    ensures { IfOk result (λ text. string_bytes text ≡ signed_decimal num ++ denominator_text den) }
+/// What follows a numerator: nothing where the denominator is 1.
+fn denominator_text(alloc: Global, den: u128) -> Result<String, AllocError>
+    ensures { IfOk result (λ text. string_bytes text ≡ denominator_text den) }
 {
     if den == 1 {
-        format!(in alloc; "{num}")
+        Ok(String::new(alloc))
     } else {
-        format!(in alloc; "{num}/{den}")
+        format!(in alloc; "/{den}")
     }
 }

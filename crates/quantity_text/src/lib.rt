@@ -17,11 +17,11 @@ mod numeral;
 mod quantity;
 mod writing;
 
-pub use decimal::decimal_text;
+pub use decimal::{decimal_text, push_decimal};
 pub use exact::{exact_string, exact_text};
 pub use exact_read::{law_one_spelling, parse_exact};
 pub use quantity::{BadNumber, parse_quantity};
-pub use writing::{push_bytes, push_decimal, push_exact, push_number, push_text, push_whole};
+pub use writing::{push_bytes, push_exact, push_number, push_text, push_whole};
 
 #[cfg(test)]
 mod tests;
