@@ -22,6 +22,3 @@ pub use exact::{exact_string, exact_text};
 pub use exact_read::{law_one_spelling, parse_exact};
 pub use quantity::{BadNumber, parse_quantity};
 pub use writing::{push_bytes, push_exact, push_number, push_text, push_whole};
-
-#[cfg(test)]
-mod tests;

@@ -1,4 +1,4 @@
-//! Tests of what is read and written: `description_reader`, `typed_plan` and `plan_text`, through what is public of them.
+//! Tests of what is read and written: `quantity_text`, `description_reader`, `typed_plan` and `plan_text`, through what is public of them.
 #![tactic(auto)]
 
 #[cfg(test)]

@@ -2,4 +2,5 @@
 
 mod description_reader_tests;
 mod plan_text_tests;
+mod quantity_text_tests;
 mod typed_plan_tests;

@@ -1,7 +1,11 @@
 //! Rows of texts and fractions that were worked by hand.
 
-use crate::{BadNumber, decimal_text, exact_text, parse_exact, parse_quantity};
-use narrow_fraction::Frac;
+use narrow_fraction::{Frac, Memory};
+use quantity_text::{
+    BadNumber, decimal_text, exact_text, parse_exact, parse_quantity, push_bytes, push_decimal,
+    push_exact, push_number, push_text, push_whole,
+};
+use std::alloc::Global;
 use std::test::Fail;
 
 #[test]
@@ -98,5 +102,32 @@ fn decimals_are_cut_and_not_rounded(rt: HostRuntime) -> Result<(), Fail> {
         let text = decimal_text(rt.alloc(), value, places).map_err(|_| "memory")?;
         assert_eq!(rt; text.as_slice(), want.as_bytes());
     }
+    Ok(())
+}
+
+/// What the calls that write at the end of a text write, one after another.
+fn written(alloc: Global) -> Result<Vec<u8>, Memory> {
+    let mut out = Vec::new(alloc);
+    push_bytes(&mut out, b"cut ")?;
+    let value = Frac::whole(7);
+    if value.num() >= 0 && value.den() <= 1000 {
+        push_decimal(alloc, &mut out, value, 3)?;
+    }
+    push_text(&mut out, " of ")?;
+    push_exact(alloc, &mut out, value)?;
+    push_text(&mut out, ", signal ")?;
+    push_number(alloc, &mut out, 24)?;
+    push_text(&mut out, " at ")?;
+    push_whole(alloc, &mut out, -10)?;
+    Ok(out)
+}
+
+#[test]
+fn texts_are_written_at_the_end(rt: HostRuntime) -> Result<(), Fail> {
+    let text = written(rt.alloc()).map_err(|_| "memory")?;
+    assert_eq!(rt;
+        text.as_slice(),
+        b"cut 7.000 of 7, signal 24 at -10".as_slice()
+    );
     Ok(())
 }
