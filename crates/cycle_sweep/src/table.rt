@@ -13,7 +13,6 @@ use artery_model::Artery;
 use branch_tree::{Found, value_of};
 use csv::Writer;
 use narrow_fraction::{Frac, Memory};
-use quantity_text::exact_text;
 use std::alloc::Global;
 use std::io::Write;
 
@@ -32,7 +31,7 @@ fn outside_record(alloc: Global, cycle: Frac) -> Result<Record, Memory>
     ensures { IfOk result (λ r. fields r.cycle.items r.verdict.now r.weighted.items r.bound.items r.cause.now ≡ outside_fields cycle) }
 {
     Ok(Record {
-        cycle: exact_text(alloc, cycle)?,
+        cycle: number_text(alloc, Some(cycle))?,
         verdict: "outside",
         weighted: number_text(alloc, None)?,
         bound: number_text(alloc, None)?,
@@ -52,7 +51,7 @@ fn found_record(
     let value = value_of(artery, &found.timing);
     let bound = bound_of(&found.verdict, found.bound, value);
     Ok(Record {
-        cycle: exact_text(alloc, cycle)?,
+        cycle: number_text(alloc, Some(cycle))?,
         verdict: verdict_word(&found.verdict),
         weighted: number_text(alloc, value)?,
         bound: number_text(alloc, bound)?,

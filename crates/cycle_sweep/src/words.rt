@@ -1,11 +1,11 @@
 //! The words and numbers of a record.
 
-ghost use Rattle.std.specs.Prelude.{◌≡◌, IfOk};
-ghost use Rattle.cycle_sweep.specs.Table.{verdict_text, cause_text, number_text, bound_of, stop_text, dash};
+ghost use Rattle.std.specs.Prelude.{◌≡◌, ◌++◌, IfOk, OnOk};
+ghost use Rattle.cycle_sweep.specs.Table.{verdict_text, cause_text, number_text, bound_of, stop_text};
 
 use branch_tree::{Stop, Verdict};
 use narrow_fraction::{Frac, Memory};
-use quantity_text::exact_text;
+use quantity_text::{push_exact, push_text};
 use std::alloc::Global;
 
 /// The verdict's word.
@@ -50,19 +50,21 @@ pub(crate) fn bound_of(verdict: &Verdict, bound: Frac, value: Option<Frac>) -> O
     }
 }
 
-fn dash(alloc: Global) -> Result<Vec<u8>, Memory>
-    ensures { IfOk result (λ text. text.items ≡ dash) }
+/// Writes the exact text of a number, and `-` where there is none.
+fn push_value(alloc: Global, out: &mut Vec<u8>, number: Option<Frac>) -> Result<(), Memory>
+    ensures { OnOk result (out.new.items ≡ out.old.items ++ number_text number) }
 {
-    let text = String::from_str(alloc, "-")?;
-    Ok(text.into_bytes())
+    match number {
+        Some(number) => push_exact(alloc, out, number),
+        None => push_text(out, "-"),
+    }
 }
 
 /// The exact text of a number, and `-` where there is none.
 pub(crate) fn number_text(alloc: Global, number: Option<Frac>) -> Result<Vec<u8>, Memory>
     ensures { IfOk result (λ text. text.items ≡ number_text number) }
 {
-    match number {
-        Some(number) => exact_text(alloc, number),
-        None => dash(alloc),
-    }
+    let mut text = Vec::new(alloc);
+    push_value(alloc, &mut text, number)?;
+    Ok(text)
 }

@@ -44,10 +44,10 @@ more_flat view f old xs i d x before after lt is e g =
     ∙ ap (λ (y : List (List ℕ)). old ++ ended y) (flat_map_more f [] (map view (take i xs)) (view x) ∙ ap (flat_map f) (sym (map_more view xs i d x lt is)))
 
 -- one more number
-pub pushed : (front ns : List ℕ) (i : ℕ) (before word after : List ℕ) → i < length ns → before ≡ front ++ flat_map spaced (take i ns) → word ≡ spaced (get_or ns i 0) → after ≡ before ++ word
+pub pushed : (front ns : List ℕ) (i : ℕ) (before after : List ℕ) → i < length ns → before ≡ front ++ flat_map spaced (take i ns) → after ≡ before ++ spaced (get_or ns i 0)
     → after ≡ front ++ flat_map spaced (take (i + 1) ns)
-pushed front ns i before word after lt e w f =
-    f ∙ (λ j. e j ++ w j) ∙ flat_map_more spaced front (take i ns) (get_or ns i 0)
+pushed front ns i before after lt e f =
+    f ∙ ap (λ (y : List ℕ). y ++ spaced (get_or ns i 0)) e ∙ flat_map_more spaced front (take i ns) (get_or ns i 0)
     ∙ ap (λ (y : List ℕ). front ++ flat_map spaced y) (sym (take_more ns i 0 lt))
 
 -- all numbers, and the end of the line

@@ -61,11 +61,13 @@ words_more (Named table) row w = row_more (is_lone_in table row.family) (family_
 words_more (Listed rows) row w = one_word_more (decimal (place_of_row rows row)) [] w
 
 -- the line of a row and its multiplier
-pub weight_written : (names : Naming) (form : LeafForm) (w : Weight) (old words after : List ℕ) → words ≡ old ++ line_of (name_words names w.row) → after ≡ words ++ 32 ∷ (multiplier_word form w ++ 10 ∷ []) → after ≡ old ++ ended (weight_line names form w ∷ [])
-weight_written names form w old words after e f =
+pub weight_written : (names : Naming) (form : LeafForm) (w : Weight) (old words spaced multiplied after : List ℕ) → words ≡ old ++ line_of (name_words names w.row) → spaced ≡ words ++ 32 ∷ [] → multiplied ≡ spaced ++ multiplier_word form w → after ≡ multiplied ++ 10 ∷ []
+    → after ≡ old ++ ended (weight_line names form w ∷ [])
+weight_written names form w old words spaced multiplied after e s m f =
     let name = line_of (name_words names w.row) in
     let by = multiplier_word form w in
-    f ∙ ap (λ (y : List ℕ). y ++ 32 ∷ (by ++ 10 ∷ [])) e ∙ append_assoc old name (32 ∷ (by ++ 10 ∷ []))
+    f ∙ ap (λ (y : List ℕ). y ++ 10 ∷ []) (m ∙ ap (λ (y : List ℕ). y ++ by) s ∙ append_assoc words (32 ∷ []) by) ∙ append_assoc words (32 ∷ by) (10 ∷ [])
+    ∙ ap (λ (y : List ℕ). y ++ 32 ∷ (by ++ 10 ∷ [])) e ∙ append_assoc old name (32 ∷ (by ++ 10 ∷ []))
     ∙ ap (λ (y : List ℕ). old ++ y) (sym (append_assoc name (32 ∷ by) (10 ∷ [])) ∙ ap (λ (y : List ℕ). y ++ 10 ∷ []) (sym (words_more names w.row by)))
 
 -- ---- claims

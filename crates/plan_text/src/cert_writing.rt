@@ -1,9 +1,8 @@
 //! The text of a certificate, written.
 
 ghost use Rattle.std.specs.Prelude.{◌≡◌, ◌++◌, ◌∷◌, [], ◌<◌, ◌^◌, Ok, IfOk, OnOk};
-ghost use Rattle.std.specs.Fmt.{decimal};
 ghost use Rattle.narrow_fraction.specs.Fraction.{FitsFrac};
-ghost use Rattle.quantity_text.specs.Exact.{exact_spelling};
+ghost use Rattle.search_box.specs.declared.span.At.TheVariants.{Loop, Turn};
 ghost use Rattle.certificate_model.specs.Words.{line_of};
 ghost use Rattle.certificate_model.specs.Families.{table_of, row_words_in, IsNamedIn};
 ghost use Rattle.certificate_model.specs.Warrants.{SplitAt, warrant_of, HasTiming, IsCertificateIn};
@@ -13,37 +12,20 @@ ghost use Rattle.plan_text.specs.FirstText.{first_text, certificate_text};
 ghost use Rattle.plan_text.specs.CertificateReading.{certificate_of};
 
 use crate::timing_text::{OneBand, TimingKind};
+use crate::writing::push_spaced;
 use certificate_model::{CertNode, Certificate, Claim, FamilyName, family_name_in, is_lone_in};
 use named_row::RowId;
 use narrow_fraction::{Frac, Memory};
-use quantity_text::exact_text;
+use quantity_text::{push_bytes, push_exact, push_number, push_text, push_whole};
 use search_box::At;
 use std::alloc::Global;
-
-/// Writes bytes at the end.
-pub(crate) fn push(out: &mut Vec<u8>, bytes: &[u8]) -> Result<(), Memory>
-    ensures { OnOk result (out.new.items ≡ out.old.items ++ bytes.now) }
-{
-    out.extend_from_slice(bytes)?;
-    Ok(())
-}
 
 /// Writes a line at the end.
 pub fn push_line(out: &mut Vec<u8>, line: &[u8]) -> Result<(), Memory>
     ensures { OnOk result (out.new.items ≡ out.old.items ++ ended (line.now ∷ [])) }
 {
-    push(out, line)?;
-    push(out, b"\n")
-}
-
-/// Writes a fraction after a space, and the end of its line.
-pub(crate) fn push_fraction(alloc: Global, out: &mut Vec<u8>, value: Frac) -> Result<(), Memory>
-    ensures text { OnOk result (out.new.items ≡ out.old.items ++ 32 ∷ (exact_spelling value ++ 10 ∷ [])) }
-    ensures held { OnOk result (FitsFrac value) }
-{
-    let text = exact_text(alloc, value.fitting())?;
-    push(out, b" ")?;
-    push_line(out, text.as_slice())
+    push_bytes(out, line)?;
+    push_text(out, "\n")
 }
 
 /// Writes a line of a key and a fraction at the end.
@@ -51,16 +33,10 @@ fn push_value(alloc: Global, out: &mut Vec<u8>, key: &[u8], value: Frac) -> Resu
     ensures text { OnOk result (out.new.items ≡ out.old.items ++ ended (line_of (fraction_words key.now value) ∷ [])) }
     ensures held { OnOk result (FitsFrac value) }
 {
-    push(out, key)?;
-    push_fraction(alloc, out, value)
-}
-
-/// Writes an index after a space.
-fn push_index(alloc: Global, out: &mut Vec<u8>, index: u32) -> Result<(), Memory>
-    ensures { OnOk result (out.new.items ≡ out.old.items ++ 32 ∷ decimal index) }
-{
-    let text = format!(in alloc; " {index}")?;
-    push(out, text.as_bytes())
+    push_bytes(out, key)?;
+    push_text(out, " ")?;
+    push_exact(alloc, out, value.fitting())?;
+    push_text(out, "\n")
 }
 
 /// Writes the name of a row.
@@ -74,11 +50,42 @@ pub(crate) fn push_name(
     ensures text { OnOk result (out.new.items ≡ out.old.items ++ line_of (row_words_in (table_of names.now) row)) }
     ensures held { row.index < 2 ^ 32 }
 {
-    push(out, family_name_in(names, row.family).as_bytes())?;
+    push_text(out, family_name_in(names, row.family))?;
     if is_lone_in(names, row.family) {
         Ok(())
     } else {
-        push_index(alloc, out, row.index)
+        push_spaced(alloc, out, row.index as u128)
+    }
+}
+
+/// Writes the words of a split of a loop.
+fn push_loop(alloc: Global, out: &mut Vec<u8>, link: u32, at: i64) -> Result<(), Memory>
+    ensures { OnOk result (out.new.items ≡ out.old.items ++ line_of (split_words (Loop link at))) }
+{
+    push_text(out, "split loop")?;
+    push_spaced(alloc, out, link as u128)?;
+    push_text(out, " ")?;
+    push_whole(alloc, out, at as i128)
+}
+
+/// Writes the words of a split of a turn.
+fn push_turn(alloc: Global, out: &mut Vec<u8>, signal: u32, rank: u32) -> Result<(), Memory>
+    ensures { OnOk result (out.new.items ≡ out.old.items ++ line_of (split_words (Turn signal rank))) }
+{
+    push_text(out, "split turn")?;
+    push_spaced(alloc, out, signal as u128)?;
+    push_text(out, " ")?;
+    push_number(alloc, out, rank as u128)
+}
+
+/// Writes the words of a split.
+fn push_place(alloc: Global, out: &mut Vec<u8>, place: At) -> Result<(), Memory>
+    ensures text { OnOk result (out.new.items ≡ out.old.items ++ line_of (split_words place)) }
+    ensures held { IsHeldNode (SplitAt place) }
+{
+    match place {
+        At::Loop { link, at } => push_loop(alloc, out, link, at),
+        At::Turn { signal, rank } => push_turn(alloc, out, signal, rank),
     }
 }
 
@@ -87,11 +94,8 @@ pub(crate) fn push_split(alloc: Global, out: &mut Vec<u8>, place: At) -> Result<
     ensures text { OnOk result (out.new.items ≡ out.old.items ++ ended (line_of (split_words place) ∷ [])) }
     ensures held { IsHeldNode (SplitAt place) }
 {
-    let text = match place {
-        At::Loop { link, at } => format!(in alloc; "split loop {link} {at}"),
-        At::Turn { signal, rank } => format!(in alloc; "split turn {signal} {rank}"),
-    };
-    push_line(out, text?.as_bytes())
+    push_place(alloc, out, place)?;
+    push_text(out, "\n")
 }
 
 /// Writes the lines of a timing, if there is one.

@@ -6,14 +6,15 @@ ghost use Rattle.certificate_model.specs.Families.{IsNamed};
 ghost use Rattle.plan_text.specs.SecondText.{row_line, row_lines, second_text};
 ghost use Rattle.plan_text.specs.CertificateReading.{certificate_of};
 
-use crate::cert_writing::{push, push_claim, push_line, push_name};
+use crate::cert_writing::{push_claim, push_line, push_name};
 use crate::listed::rows_of;
 use crate::naming::Naming;
 use crate::timing_text::OneBand;
-use crate::tree_writing::push_tree;
+use crate::tree_writing::{push_count, push_tree};
 use certificate_model::{Certificate, FAMILIES};
 use named_row::RowId;
 use narrow_fraction::Memory;
+use quantity_text::push_text;
 use std::alloc::Global;
 
 /// Writes the line of a row's name.
@@ -23,7 +24,7 @@ fn push_row(alloc: Global, out: &mut Vec<u8>, row: RowId) -> Result<(), Memory>
     ensures { OnOk result (out.new.items ≡ out.old.items ++ ended (row_line row ∷ [])) }
 {
     push_name(alloc, out, &FAMILIES, row)?;
-    push(out, b"\n")
+    push_text(out, "\n")
 }
 
 fn push_names(alloc: Global, out: &mut Vec<u8>, rows: &[RowId]) -> Result<(), Memory>
@@ -41,9 +42,8 @@ fn push_rows(alloc: Global, out: &mut Vec<u8>, rows: &[RowId]) -> Result<(), Mem
     requires { All IsNamed rows.now }
     ensures { OnOk result (out.new.items ≡ out.old.items ++ ended (row_lines rows.now)) }
 {
-    let count = rows.len();
-    let text = format!(in alloc; "rows {count}")?;
-    push_line(out, text.as_bytes())?;
+    push_text(out, "rows")?;
+    push_count(alloc, out, rows.len())?;
     push_names(alloc, out, rows)
 }
 

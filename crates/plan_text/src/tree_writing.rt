@@ -1,32 +1,24 @@
 //! The tree of a certificate, written: its leaves name their rows by their names or by their places in a list.
 
-ghost use Rattle.std.specs.Prelude.{◌≡◌, ◌++◌, ◌∷◌, [], All, None, map, flat_map, OnOk};
-ghost use Rattle.std.specs.Fmt.{decimal, signed_decimal};
+ghost use Rattle.std.specs.Prelude.{◌≡◌, ◌++◌, ◌∷◌, [], All, map, flat_map, OnOk};
+ghost use Rattle.std.specs.Fmt.{decimal};
 ghost use Rattle.certificate_model.specs.Words.{line_of};
 ghost use Rattle.plan_text.specs.Spelling.{ended};
 ghost use Rattle.certificate_model.specs.Warrants.{node_of, LeafOf};
 ghost use Rattle.plan_text.specs.CertificateText.{IsHeldWeight, IsHeldNode};
-ghost use Rattle.plan_text.specs.Leaves.{AscendRows, place_of_row, multiplier_word, IsWritable};
+ghost use Rattle.plan_text.specs.Leaves.{multiplier_word, IsWritable};
 ghost use Rattle.plan_text.specs.Namings.{naming_of, name_words, weight_line, first_words, leaf_lines, form_by, node_lines, tree_lines, HasWords, IsWritableNode, AreWritable};
 
-use crate::cert_writing::{push, push_fraction, push_line, push_name, push_split};
+use crate::cert_writing::{push_line, push_name, push_split};
 use crate::form::{LeafForm, form_of, whole_over};
 use crate::listed::place_of_row;
 use crate::naming::{Naming, fractions_key};
+use crate::writing::push_spaced;
 use certificate_model::CertNode;
 use named_row::{RowId, Weight};
 use narrow_fraction::Memory;
+use quantity_text::{push_bytes, push_exact, push_number, push_text, push_whole};
 use std::alloc::Global;
-
-/// Writes the place of a row in a list.
-fn push_place(alloc: Global, out: &mut Vec<u8>, rows: &[RowId], row: RowId) -> Result<(), Memory>
-    requires { AscendRows None rows.now }
-    ensures { OnOk result (out.new.items ≡ out.old.items ++ decimal (place_of_row rows.now row)) }
-{
-    let place = place_of_row(rows, row);
-    let text = format!(in alloc; "{place}")?;
-    push(out, text.as_bytes())
-}
 
 /// Writes the name of a row, or its place.
 fn push_words(alloc: Global, out: &mut Vec<u8>, names: Naming, row: RowId) -> Result<(), Memory>
@@ -35,19 +27,11 @@ fn push_words(alloc: Global, out: &mut Vec<u8>, names: Naming, row: RowId) -> Re
 {
     match names {
         Naming::Named(families) => push_name(alloc, out, families, row),
-        Naming::Listed(rows) => push_place(alloc, out, rows, row),
+        Naming::Listed(rows) => push_number(alloc, out, place_of_row(rows, row) as u128),
     }
 }
 
-/// Writes a whole number after a space, and the end of its line.
-fn push_whole(alloc: Global, out: &mut Vec<u8>, whole: i128) -> Result<(), Memory>
-    ensures { OnOk result (out.new.items ≡ out.old.items ++ 32 ∷ (signed_decimal whole ++ 10 ∷ [])) }
-{
-    let text = format!(in alloc; " {whole}\n")?;
-    push(out, text.as_bytes())
-}
-
-/// Writes a multiplier after a space, and the end of its line.
+/// Writes a multiplier.
 fn push_multiplier(
     alloc: Global,
     out: &mut Vec<u8>,
@@ -55,11 +39,11 @@ fn push_multiplier(
     weight: &Weight,
 ) -> Result<(), Memory>
     requires { IsWritable form weight.now }
-    ensures { OnOk result (out.new.items ≡ out.old.items ++ 32 ∷ (multiplier_word form weight.now ++ 10 ∷ [])) }
+    ensures { OnOk result (out.new.items ≡ out.old.items ++ multiplier_word form weight.now) }
 {
     match form {
         LeafForm::Over(denominator) => push_whole(alloc, out, whole_over(denominator, weight.by)),
-        LeafForm::Plain => push_fraction(alloc, out, weight.by),
+        LeafForm::Plain => push_exact(alloc, out, weight.by),
     }
 }
 
@@ -80,7 +64,9 @@ fn push_weight(
     let _fitting = weight.by.fitting();
     let _index = weight.row.index;
     push_words(alloc, out, names, weight.row)?;
-    push_multiplier(alloc, out, form, weight)
+    push_text(out, " ")?;
+    push_multiplier(alloc, out, form, weight)?;
+    push_text(out, "\n")
 }
 
 fn push_weights(
@@ -101,6 +87,14 @@ fn push_weights(
     Ok(())
 }
 
+/// Writes how many rows there are after a space, and the end of its line.
+pub(crate) fn push_count(alloc: Global, out: &mut Vec<u8>, count: usize) -> Result<(), Memory>
+    ensures { OnOk result (out.new.items ≡ out.old.items ++ 32 ∷ (decimal count ++ 10 ∷ [])) }
+{
+    push_spaced(alloc, out, count as u128)?;
+    push_text(out, "\n")
+}
+
 /// Writes the first line of a leaf with so many rows.
 fn push_head(
     alloc: Global,
@@ -113,13 +107,13 @@ fn push_head(
 {
     match form {
         LeafForm::Over(denominator) => {
-            let text = format!(in alloc; "leaf {denominator} {count}")?;
-            push_line(out, text.as_bytes())
+            push_text(out, "leaf")?;
+            push_spaced(alloc, out, denominator)?;
+            push_count(alloc, out, count)
         }
         LeafForm::Plain => {
-            push(out, fractions_key(names))?;
-            let text = format!(in alloc; " {count}")?;
-            push_line(out, text.as_bytes())
+            push_bytes(out, fractions_key(names))?;
+            push_count(alloc, out, count)
         }
     }
 }

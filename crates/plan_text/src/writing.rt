@@ -1,14 +1,40 @@
 //! The text of a timing, written.
 
 ghost use Rattle.std.specs.Prelude.{◌≡◌, ◌++◌, ◌∷◌, [], ◌<◌, ◌^◌, pos, Ok, IfOk, OnOk};
+ghost use Rattle.std.specs.Fmt.{decimal};
 ghost use Rattle.progression.specs.TimingRecord.{first};
 ghost use Rattle.plan_text.specs.Spelling.{spelled, ended, base_lines, plan_lines, timing_text, IsHeld};
 ghost use Rattle.plan_text.specs.Reading.{timing_of};
 
 use narrow_fraction::Memory;
 use progression::Dir;
+use quantity_text::{push_bytes, push_number, push_text};
 use std::alloc::{AllocError, Global};
 use time_space::Timing;
+
+/// Writes a number after a space.
+pub(crate) fn push_spaced(alloc: Global, out: &mut Vec<u8>, number: u128) -> Result<(), Memory>
+    ensures { OnOk result (out.new.items ≡ out.old.items ++ 32 ∷ decimal number) }
+{
+    push_text(out, " ")?;
+    push_number(alloc, out, number)
+}
+
+/// Writes a line of a key and numbers.
+fn push_spelled(
+    alloc: Global,
+    out: &mut Vec<u8>,
+    key: &[u8],
+    numbers: &[u128],
+) -> Result<(), Memory>
+    ensures { OnOk result (out.new.items ≡ out.old.items ++ (spelled key.now numbers.now ++ 10 ∷ [])) }
+{
+    push_bytes(out, key)?;
+    for number in numbers {
+        push_spaced(alloc, out, *number)?;
+    }
+    push_text(out, "\n")
+}
 
 /// Writes a line of a key and numbers at the end.
 pub fn push_numbers(
@@ -19,13 +45,10 @@ pub fn push_numbers(
 ) -> Result<(), AllocError>
     ensures { OnOk result (out.new.items ≡ out.old.items ++ (spelled key.now numbers.now ++ 10 ∷ [])) }
 {
-    out.extend_from_slice(key)?;
-    for number in numbers {
-        let word = format!(in alloc; " {number}")?;
-        out.extend_from_slice(word.as_bytes())?;
+    match push_spelled(alloc, out, key, numbers) {
+        Ok(()) => Ok(()),
+        Err(_) => Err(AllocError),
     }
-    out.push(b'\n')?;
-    Ok(())
 }
 
 fn widened(alloc: Global, patterns: &[u32]) -> Result<Vec<u128>, AllocError>
