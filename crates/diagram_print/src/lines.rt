@@ -1,6 +1,6 @@
 //! The lines of what a search found.
 
-ghost use Rattle.std.specs.Prelude.{◌≡◌, IfOk, IfSome, option_map, string_bytes};
+ghost use Rattle.std.specs.Prelude.{◌≡◌, ◌++◌, IfOk, OnOk, IfSome, option_map, string_bytes};
 ghost use Rattle.progression.specs.Street.{count};
 ghost use Rattle.progression.specs.Good.{Good};
 ghost use Rattle.linear_theory.specs.Boxes.{IsBoxOf};
@@ -8,16 +8,16 @@ ghost use Rattle.certificate_model.specs.Families.{table_of};
 ghost use Rattle.branch_tree.specs.SiteNames.{StopsAt, EndsAt, HasSite};
 ghost use Rattle.diagram_print.specs.Report.{timing_lines, bound_line, found_lines, best_lines, open_lines, verdict_lines, report_lines};
 
-use crate::chart::diagram;
-use crate::measures::measure_lines;
-use crate::offsets::signal_lines;
-use crate::speeds::link_lines;
+use crate::chart::push_diagram;
+use crate::measures::push_measure_lines;
+use crate::offsets::push_signal_lines;
+use crate::speeds::push_link_lines;
 use crate::stopped::stop_lines;
 use artery_model::Artery;
 use branch_tree::{Found, Stop, Verdict};
 use certificate_model::{FAMILIES, FamilyName};
 use narrow_fraction::{Frac, Memory};
-use quantity_text::exact_string;
+use quantity_text::{exact_string, push_text};
 use std::alloc::Global;
 use time_space::Timing;
 
@@ -91,19 +91,30 @@ pub fn verdict_lines(
     }
 }
 
+/// Writes the lines of a timing.
+fn push_timing_lines(
+    alloc: Global,
+    out: &mut Vec<u8>,
+    artery: &Artery,
+    timing: &Timing,
+) -> Result<(), Memory>
+    requires { Good artery.now timing.now }
+    ensures { OnOk result (out.new.items ≡ out.old.items ++ timing_lines artery.now timing.now) }
+{
+    push_measure_lines(alloc, out, artery, timing)?;
+    push_signal_lines(alloc, out, artery, timing)?;
+    push_link_lines(alloc, out, artery, timing)?;
+    push_text(out, "diagram\n")?;
+    push_diagram(alloc, out, artery, timing)
+}
+
 /// The lines of a timing.
 fn timing_lines(alloc: Global, artery: &Artery, timing: &Timing) -> Result<Vec<u8>, Memory>
     requires { Good artery.now timing.now }
     ensures { IfOk result (λ lines. lines.items ≡ timing_lines artery.now timing.now) }
 {
-    let mut lines = measure_lines(alloc, artery, timing)?;
-    let signals = signal_lines(alloc, artery, timing)?;
-    let links = link_lines(alloc, artery, timing)?;
-    let diagram = diagram(alloc, artery, timing)?;
-    lines.extend_from_slice(signals.as_slice())?;
-    lines.extend_from_slice(links.as_slice())?;
-    lines.extend_from_slice(b"diagram\n")?;
-    lines.extend_from_slice(diagram.as_slice())?;
+    let mut lines = Vec::new(alloc);
+    push_timing_lines(alloc, &mut lines, artery, timing)?;
     Ok(lines)
 }
 
