@@ -1,13 +1,14 @@
 //! The time-space diagram in text.
 
-ghost use Rattle.std.specs.Prelude.{◌≡◌, ◌<◌, ◌≤◌, ◌^◌, pos, length, unsigned_abs, IfOk};
+ghost use Rattle.std.specs.Prelude.{◌≡◌, ◌++◌, ◌<◌, ◌≤◌, ◌^◌, pos, length, unsigned_abs, IfOk, OnOk};
 ghost use Rattle.progression.specs.Street.{count};
 ghost use Rattle.diagram_print.specs.Diagram.{tick_at, arrow, mark_at, marks, all_marks, diagram_line, signal_rows, diagram_lines};
 
 use crate::measures::dir_name;
 use artery_model::{Artery, Dir};
 use narrow_fraction::Memory;
-use std::alloc::{AllocError, Global};
+use quantity_text::{push_number, push_text};
+use std::alloc::Global;
 use time_space::{Timing, cycle, green, in_band};
 
 /// How many characters stand for a cycle.
@@ -51,82 +52,97 @@ fn mark_at(artery: &Artery, timing: &Timing, dir: Dir, signal: u32, place: u32) 
     }
 }
 
-/// So many characters of a signal and direction, from the first on.
-fn marks(
-    alloc: Global,
+/// Writes so many characters of a signal and direction, from the first on.
+fn push_marks(
+    out: &mut Vec<u8>,
     artery: &Artery,
     timing: &Timing,
     dir: Dir,
     signal: u32,
     places: u32,
-) -> Result<Vec<u8>, AllocError>
+) -> Result<(), Memory>
     requires shape { length timing.now.patterns ≡ count artery.now }
     requires first { 1 ≤ signal }
     requires last { signal ≤ count artery.now }
     requires places { places ≤ 60 }
-    ensures { IfOk result (λ text. text.items ≡ marks artery.now timing.now dir signal places) }
+    ensures { OnOk result (out.new.items ≡ out.old.items ++ marks artery.now timing.now dir signal places) }
 {
-    let mut text = Vec::new(alloc);
     for place in 0..places {
-        text.push(mark_at(artery, timing, dir, signal, place))?;
+        out.push(mark_at(artery, timing, dir, signal, place))?;
     }
-    Ok(text)
+    Ok(())
 }
 
-/// The characters of a whole cycle.
+/// Writes the characters of a whole cycle.
 #[tactic(auto, unfolding(crate::specs::Diagram::all_marks))]
-fn all_marks(
-    alloc: Global,
+fn push_all_marks(
+    out: &mut Vec<u8>,
     artery: &Artery,
     timing: &Timing,
     dir: Dir,
     signal: u32,
-) -> Result<Vec<u8>, AllocError>
+) -> Result<(), Memory>
     requires shape { length timing.now.patterns ≡ count artery.now }
     requires first { 1 ≤ signal }
     requires last { signal ≤ count artery.now }
-    ensures { IfOk result (λ text. text.items ≡ all_marks artery.now timing.now dir signal) }
+    ensures { OnOk result (out.new.items ≡ out.old.items ++ all_marks artery.now timing.now dir signal) }
 {
-    marks(alloc, artery, timing, dir, signal, PLACES)
+    push_marks(out, artery, timing, dir, signal, PLACES)
 }
 
-/// The line of a signal and direction.
-fn diagram_line(
+/// Writes the line of a signal and direction.
+fn push_diagram_line(
     alloc: Global,
+    out: &mut Vec<u8>,
     artery: &Artery,
     timing: &Timing,
     dir: Dir,
     signal: u32,
-) -> Result<Vec<u8>, Memory>
+) -> Result<(), Memory>
     requires shape { length timing.now.patterns ≡ count artery.now }
     requires first { 1 ≤ signal }
     requires last { signal ≤ count artery.now }
-    ensures { IfOk result (λ line. line.items ≡ diagram_line artery.now timing.now dir signal) }
+    ensures { OnOk result (out.new.items ≡ out.old.items ++ diagram_line artery.now timing.now dir signal) }
 {
-    let dir_name = dir_name(dir);
-    let marks = all_marks(alloc, artery, timing, dir, signal)?;
-    let mut line = format!(in alloc; "{signal} {dir_name} ")?.into_bytes();
-    line.extend_from_slice(marks.as_slice())?;
-    line.extend_from_slice(b"\n")?;
-    Ok(line)
+    push_number(alloc, out, signal as u128)?;
+    push_text(out, " ")?;
+    push_text(out, dir_name(dir))?;
+    push_text(out, " ")?;
+    push_all_marks(out, artery, timing, dir, signal)?;
+    push_text(out, "\n")
 }
 
-/// The lines of a signal: outbound, then inbound.
-fn signal_rows(
+/// Writes the lines of a signal: outbound, then inbound.
+fn push_signal_rows(
     alloc: Global,
+    out: &mut Vec<u8>,
     artery: &Artery,
     timing: &Timing,
     signal: u32,
-) -> Result<Vec<u8>, Memory>
+) -> Result<(), Memory>
     requires shape { length timing.now.patterns ≡ count artery.now }
     requires first { 1 ≤ signal }
     requires last { signal ≤ count artery.now }
-    ensures { IfOk result (λ rows. rows.items ≡ signal_rows artery.now timing.now signal) }
+    ensures { OnOk result (out.new.items ≡ out.old.items ++ signal_rows artery.now timing.now signal) }
 {
-    let mut rows = diagram_line(alloc, artery, timing, Dir::Outbound, signal)?;
-    let inbound = diagram_line(alloc, artery, timing, Dir::Inbound, signal)?;
-    rows.extend_from_slice(inbound.as_slice())?;
-    Ok(rows)
+    push_diagram_line(alloc, out, artery, timing, Dir::Outbound, signal)?;
+    push_diagram_line(alloc, out, artery, timing, Dir::Inbound, signal)
+}
+
+/// Writes the time-space diagram of a timing, as `diagram` has it.
+pub fn push_diagram(
+    alloc: Global,
+    out: &mut Vec<u8>,
+    artery: &Artery,
+    timing: &Timing,
+) -> Result<(), Memory>
+    requires { length timing.now.patterns ≡ count artery.now }
+    ensures { OnOk result (out.new.items ≡ out.old.items ++ diagram_lines artery.now timing.now) }
+{
+    for signal in (1..artery.count() + 1).rev() {
+        push_signal_rows(alloc, out, artery, timing, signal)?;
+    }
+    Ok(())
 }
 
 /// The time-space diagram of a timing in text: for each signal, from the last down to the first, a line of the outbound
@@ -139,9 +155,6 @@ pub fn diagram(alloc: Global, artery: &Artery, timing: &Timing) -> Result<Vec<u8
     ensures { IfOk result (λ lines. lines.items ≡ diagram_lines artery.now timing.now) }
 {
     let mut lines = Vec::new(alloc);
-    for signal in (1..artery.count() + 1).rev() {
-        let rows = signal_rows(alloc, artery, timing, signal)?;
-        lines.extend_from_slice(rows.as_slice())?;
-    }
+    push_diagram(alloc, &mut lines, artery, timing)?;
     Ok(lines)
 }

@@ -1,6 +1,6 @@
 //! The lines of what a search found.
 
-ghost use Rattle.std.specs.Prelude.{◌≡◌, IfOk, IfSome, option_map, string_bytes};
+ghost use Rattle.std.specs.Prelude.{◌≡◌, ◌++◌, IfOk, OnOk, IfSome, option_map};
 ghost use Rattle.progression.specs.Street.{count};
 ghost use Rattle.progression.specs.Good.{Good};
 ghost use Rattle.linear_theory.specs.Boxes.{IsBoxOf};
@@ -8,66 +8,86 @@ ghost use Rattle.certificate_model.specs.Families.{table_of};
 ghost use Rattle.branch_tree.specs.SiteNames.{StopsAt, EndsAt, HasSite};
 ghost use Rattle.diagram_print.specs.Report.{timing_lines, bound_line, found_lines, best_lines, open_lines, verdict_lines, report_lines};
 
-use crate::chart::diagram;
-use crate::measures::measure_lines;
-use crate::offsets::signal_lines;
-use crate::speeds::link_lines;
-use crate::stopped::stop_lines;
+use crate::chart::push_diagram;
+use crate::measures::push_measure_lines;
+use crate::offsets::push_signal_lines;
+use crate::speeds::push_link_lines;
+use crate::stopped::push_stop_lines;
 use artery_model::Artery;
 use branch_tree::{Found, Stop, Verdict};
 use certificate_model::{FAMILIES, FamilyName};
 use narrow_fraction::{Frac, Memory};
-use quantity_text::exact_string;
+use quantity_text::{push_bytes, push_exact, push_text};
 use std::alloc::Global;
 use time_space::Timing;
 
-/// The lines of the timing of a stopped search, if there is one.
-fn found_lines(alloc: Global, timing: Option<Vec<u8>>) -> Result<Vec<u8>, Memory>
-    ensures { IfOk result (λ lines. lines.items ≡ found_lines (option_map (λ t. t.items) timing)) }
+/// Writes the lines of the timing of a stopped search, if there is one.
+fn push_found(out: &mut Vec<u8>, timing: Option<Vec<u8>>) -> Result<(), Memory>
+    ensures { OnOk result (out.new.items ≡ out.old.items ++ found_lines (option_map (λ t. t.items) timing)) }
 {
     match timing {
-        Some(timing) => Ok(timing),
-        None => Ok(Vec::from_slice(alloc, b"no timing\n")?),
+        Some(timing) => push_bytes(out, timing.as_slice()),
+        None => push_text(out, "no timing\n"),
     }
 }
 
-/// The lines of the timing that a best verdict claims.
-fn best_lines(alloc: Global, timing: Option<Vec<u8>>) -> Result<Vec<u8>, Memory>
-    ensures { IfOk result (λ lines. lines.items ≡ best_lines (option_map (λ t. t.items) timing)) }
+/// Writes the lines of the timing that a best verdict claims.
+fn push_best(out: &mut Vec<u8>, timing: Option<Vec<u8>>) -> Result<(), Memory>
+    ensures { OnOk result (out.new.items ≡ out.old.items ++ best_lines (option_map (λ t. t.items) timing)) }
 {
-    let mut lines = Vec::from_slice(alloc, b"verdict best\n")?;
+    push_text(out, "verdict best\n")?;
     if let Some(timing) = timing {
-        lines.extend_from_slice(timing.as_slice())?;
+        push_bytes(out, timing.as_slice())?;
     }
-    Ok(lines)
+    Ok(())
 }
 
-/// The line of the bound.
-fn bound_line(alloc: Global, bound: Frac) -> Result<String, Memory>
-    ensures { IfOk result (λ text. string_bytes text ≡ bound_line bound) }
+/// Writes the line of the bound.
+fn push_bound(alloc: Global, out: &mut Vec<u8>, bound: Frac) -> Result<(), Memory>
+    ensures { OnOk result (out.new.items ≡ out.old.items ++ bound_line bound) }
 {
-    let bound = exact_string(alloc, bound)?;
-    Ok(format!(in alloc; "bound {bound}\n")?)
+    push_text(out, "bound ")?;
+    push_exact(alloc, out, bound)?;
+    push_text(out, "\n")
 }
 
-/// The lines of a stopped search.
-fn open_lines(
+/// Writes the lines of a stopped search.
+fn push_open(
     alloc: Global,
+    out: &mut Vec<u8>,
     artery: &Artery,
     names: &[FamilyName],
     stop: &Stop,
     bound: Frac,
     timing: Option<Vec<u8>>,
-) -> Result<Vec<u8>, Memory>
+) -> Result<(), Memory>
     requires { StopsAt (λ site. IsBoxOf artery.now site.area) stop.now }
-    ensures { IfOk result (λ lines. lines.items ≡ open_lines (table_of names.now) (count artery.now) (option_map (λ t. t.items) timing) bound stop.now) }
+    ensures { OnOk result (out.new.items ≡ out.old.items ++ open_lines (table_of names.now) (count artery.now) (option_map (λ t. t.items) timing) bound stop.now) }
 {
-    let stop = stop_lines(alloc, artery, names, stop)?;
-    let bound = bound_line(alloc, bound)?;
-    let found = found_lines(alloc, timing)?;
-    let mut lines = format!(in alloc; "verdict open\n{stop}{bound}")?.into_bytes();
-    lines.extend_from_slice(found.as_slice())?;
-    Ok(lines)
+    push_text(out, "verdict open\n")?;
+    push_stop_lines(alloc, out, artery, names, stop)?;
+    push_bound(alloc, out, bound)?;
+    push_found(out, timing)
+}
+
+/// Writes the lines that tell how a search ended, as `verdict_lines` has them.
+pub fn push_verdict(
+    alloc: Global,
+    out: &mut Vec<u8>,
+    artery: &Artery,
+    names: &[FamilyName],
+    verdict: &Verdict,
+    bound: Frac,
+    timing: Option<Vec<u8>>,
+) -> Result<(), Memory>
+    requires { EndsAt (λ site. IsBoxOf artery.now site.area) verdict.now }
+    ensures { OnOk result (out.new.items ≡ out.old.items ++ verdict_lines (table_of names.now) (count artery.now) (option_map (λ t. t.items) timing) bound verdict.now) }
+{
+    match verdict {
+        Verdict::Best => push_best(out, timing),
+        Verdict::NoTiming => push_text(out, "verdict none\n"),
+        Verdict::Stopped(stop) => push_open(alloc, out, artery, names, stop, bound, timing),
+    }
 }
 
 /// The lines that tell how a search of this artery ended, whatever kind of timing it looked for: the verdict; where the search
@@ -84,11 +104,26 @@ pub fn verdict_lines(
     requires { EndsAt (λ site. IsBoxOf artery.now site.area) verdict.now }
     ensures { IfOk result (λ lines. lines.items ≡ verdict_lines (table_of names.now) (count artery.now) (option_map (λ t. t.items) timing) bound verdict.now) }
 {
-    match verdict {
-        Verdict::Best => best_lines(alloc, timing),
-        Verdict::NoTiming => Ok(Vec::from_slice(alloc, b"verdict none\n")?),
-        Verdict::Stopped(stop) => open_lines(alloc, artery, names, stop, bound, timing),
-    }
+    let mut lines = Vec::new(alloc);
+    push_verdict(alloc, &mut lines, artery, names, verdict, bound, timing)?;
+    Ok(lines)
+}
+
+/// Writes the lines of a timing.
+fn push_timing_lines(
+    alloc: Global,
+    out: &mut Vec<u8>,
+    artery: &Artery,
+    timing: &Timing,
+) -> Result<(), Memory>
+    requires { Good artery.now timing.now }
+    ensures { OnOk result (out.new.items ≡ out.old.items ++ timing_lines artery.now timing.now) }
+{
+    push_measure_lines(alloc, out, artery, timing)?;
+    push_signal_lines(alloc, out, artery, timing)?;
+    push_link_lines(alloc, out, artery, timing)?;
+    push_text(out, "diagram\n")?;
+    push_diagram(alloc, out, artery, timing)
 }
 
 /// The lines of a timing.
@@ -96,14 +131,8 @@ fn timing_lines(alloc: Global, artery: &Artery, timing: &Timing) -> Result<Vec<u
     requires { Good artery.now timing.now }
     ensures { IfOk result (λ lines. lines.items ≡ timing_lines artery.now timing.now) }
 {
-    let mut lines = measure_lines(alloc, artery, timing)?;
-    let signals = signal_lines(alloc, artery, timing)?;
-    let links = link_lines(alloc, artery, timing)?;
-    let diagram = diagram(alloc, artery, timing)?;
-    lines.extend_from_slice(signals.as_slice())?;
-    lines.extend_from_slice(links.as_slice())?;
-    lines.extend_from_slice(b"diagram\n")?;
-    lines.extend_from_slice(diagram.as_slice())?;
+    let mut lines = Vec::new(alloc);
+    push_timing_lines(alloc, &mut lines, artery, timing)?;
     Ok(lines)
 }
 

@@ -1,12 +1,12 @@
 //! Measures of a timing: each is printed exact, and cut after some decimal places.
 
-ghost use Rattle.std.specs.Prelude.{◌≡◌, ◌++◌, codes, ◌<◌, ◌≤◌, ◌^◌, pos, ◌≤ℤ◌, IfOk};
+ghost use Rattle.std.specs.Prelude.{◌≡◌, ◌++◌, [], ◌<◌, ◌≤◌, ◌^◌, pos, ◌≤ℤ◌, IfOk, OnOk};
 ghost use Rattle.rational_theory.specs.Rational.{over};
 ghost use Rattle.diagram_print.specs.Measures.{dir_name, measure_text, measure_line, weighted_line, band_line, cycle_line, measure_lines};
 
 use artery_model::{Artery, Dir};
 use narrow_fraction::{Frac, Memory};
-use quantity_text::{decimal_text, exact_string};
+use quantity_text::{push_decimal, push_exact, push_text};
 use std::alloc::Global;
 use time_space::{Timing, value};
 use timing_measures::{band_share, cycle_seconds, quotient};
@@ -21,28 +21,40 @@ pub fn dir_name(dir: Dir) -> &'static str
     }
 }
 
-/// A name, a fraction, and the same fraction cut after so many decimal places.
-pub fn measure_text(alloc: Global, name: &str, value: Frac, places: u32) -> Result<Vec<u8>, Memory>
+/// Writes what follows the name of a measure: a fraction, and the same fraction cut after so many decimal places.
+pub fn push_measure(
+    alloc: Global,
+    out: &mut Vec<u8>,
+    value: Frac,
+    places: u32,
+) -> Result<(), Memory>
     requires least { pos 0 ≤ℤ value.num }
     requires denominator { value.den ≤ 2 ^ 120 }
     requires some_places { 1 ≤ places }
     requires most_places { places ≤ 9 }
-    ensures { IfOk result (λ text. text.items ≡ measure_text name.now value places) }
+    ensures { OnOk result (out.new.items ≡ out.old.items ++ measure_text [] value places) }
 {
-    let exact = exact_string(alloc, value)?;
-    let decimals = decimal_text(alloc, value, places)?;
-    let mut text = format!(in alloc; "{name} {exact} = ")?.into_bytes();
-    text.extend_from_slice(decimals.as_slice())?;
-    Ok(text)
+    push_text(out, " ")?;
+    push_exact(alloc, out, value)?;
+    push_text(out, " = ")?;
+    push_decimal(alloc, out, value, places)
 }
 
-/// The text with its line feed.
-fn ended(text: Vec<u8>) -> Result<Vec<u8>, Memory>
-    ensures { IfOk result (λ line. line.items ≡ text.items ++ codes "\n") }
+/// Writes the same, and the end of the line.
+pub fn push_measure_line(
+    alloc: Global,
+    out: &mut Vec<u8>,
+    value: Frac,
+    places: u32,
+) -> Result<(), Memory>
+    requires least { pos 0 ≤ℤ value.num }
+    requires denominator { value.den ≤ 2 ^ 120 }
+    requires some_places { 1 ≤ places }
+    requires most_places { places ≤ 9 }
+    ensures { OnOk result (out.new.items ≡ out.old.items ++ measure_line [] value places) }
 {
-    let mut line = text;
-    line.extend_from_slice(b"\n")?;
-    Ok(line)
+    push_measure(alloc, out, value, places)?;
+    push_text(out, "\n")
 }
 
 /// A name, a fraction of at least 0, and the same fraction cut after so many decimal places, as a line. The error is want of memory.
@@ -53,8 +65,10 @@ pub fn measure_line(alloc: Global, name: &str, value: Frac, places: u32) -> Resu
     requires most_places { places ≤ 9 }
     ensures { IfOk result (λ line. line.items ≡ measure_line name.now value places) }
 {
-    let text = measure_text(alloc, name, value, places)?;
-    ended(text)
+    let mut line = Vec::new(alloc);
+    push_text(&mut line, name)?;
+    push_measure_line(alloc, &mut line, value, places)?;
+    Ok(line)
 }
 
 /// The quotient of two whole numbers, as a measure.
@@ -72,7 +86,10 @@ pub fn quotient_text(
     requires most_places { places ≤ 9 }
     ensures { IfOk result (λ text. text.items ≡ measure_text name.now (over (pos top) bottom) places) }
 {
-    measure_text(alloc, name, quotient(top, bottom), places)
+    let mut text = Vec::new(alloc);
+    push_text(&mut text, name)?;
+    push_measure(alloc, &mut text, quotient(top, bottom), places)?;
+    Ok(text)
 }
 
 /// The same as a line.
@@ -90,15 +107,57 @@ pub fn quotient_line(
     requires most_places { places ≤ 9 }
     ensures { IfOk result (λ line. line.items ≡ measure_line name.now (over (pos top) bottom) places) }
 {
-    let text = quotient_text(alloc, name, top, bottom, places)?;
-    ended(text)
+    measure_line(alloc, name, quotient(top, bottom), places)
+}
+
+/// Writes the line of the weighted band.
+pub fn push_weighted_line(
+    alloc: Global,
+    out: &mut Vec<u8>,
+    artery: &Artery,
+    timing: &Timing,
+) -> Result<(), Memory>
+    ensures { OnOk result (out.new.items ≡ out.old.items ++ weighted_line artery.now timing.now) }
+{
+    push_text(out, "weighted")?;
+    push_measure_line(alloc, out, value(artery, timing), 6)
+}
+
+/// Writes the line of a direction's band, a fraction of the cycle.
+pub fn push_band_line(
+    alloc: Global,
+    out: &mut Vec<u8>,
+    artery: &Artery,
+    timing: &Timing,
+    dir: Dir,
+) -> Result<(), Memory>
+    ensures { OnOk result (out.new.items ≡ out.old.items ++ band_line artery.now timing.now dir) }
+{
+    push_text(out, "band ")?;
+    push_text(out, dir_name(dir))?;
+    push_measure_line(alloc, out, band_share(artery, timing, dir), 6)
+}
+
+/// Writes the line of the cycle, in seconds.
+pub fn push_cycle_line(
+    alloc: Global,
+    out: &mut Vec<u8>,
+    artery: &Artery,
+    timing: &Timing,
+) -> Result<(), Memory>
+    ensures { OnOk result (out.new.items ≡ out.old.items ++ cycle_line artery.now timing.now) }
+{
+    push_text(out, "cycle")?;
+    push_measure_line(alloc, out, cycle_seconds(artery, timing), 3)
 }
 
 /// The line of the weighted band.
 pub fn weighted_line(alloc: Global, artery: &Artery, timing: &Timing) -> Result<Vec<u8>, Memory>
     ensures { IfOk result (λ line. line.items ≡ weighted_line artery.now timing.now) }
 {
-    measure_line(alloc, "weighted", value(artery, timing), 6)
+    let mut line = Vec::new(alloc);
+    push_weighted_line(alloc, &mut line, artery, timing)?;
+    Ok(line)
 }
 
 /// The line of a direction's band, a fraction of the cycle.
@@ -110,28 +169,31 @@ pub fn band_line(
 ) -> Result<Vec<u8>, Memory>
     ensures { IfOk result (λ line. line.items ≡ band_line artery.now timing.now dir) }
 {
-    let dir_name = dir_name(dir);
-    let name = format!(in alloc; "band {dir_name}")?;
-    measure_line(alloc, name.as_str(), band_share(artery, timing, dir), 6)
+    let mut line = Vec::new(alloc);
+    push_band_line(alloc, &mut line, artery, timing, dir)?;
+    Ok(line)
 }
 
 /// The line of the cycle, in seconds.
 pub fn cycle_line(alloc: Global, artery: &Artery, timing: &Timing) -> Result<Vec<u8>, Memory>
     ensures { IfOk result (λ line. line.items ≡ cycle_line artery.now timing.now) }
 {
-    measure_line(alloc, "cycle", cycle_seconds(artery, timing), 3)
+    let mut line = Vec::new(alloc);
+    push_cycle_line(alloc, &mut line, artery, timing)?;
+    Ok(line)
 }
 
-/// The lines of the bands and of the cycle.
-pub fn measure_lines(alloc: Global, artery: &Artery, timing: &Timing) -> Result<Vec<u8>, Memory>
-    ensures { IfOk result (λ lines. lines.items ≡ measure_lines artery.now timing.now) }
+/// Writes the lines of the bands and of the cycle.
+pub fn push_measure_lines(
+    alloc: Global,
+    out: &mut Vec<u8>,
+    artery: &Artery,
+    timing: &Timing,
+) -> Result<(), Memory>
+    ensures { OnOk result (out.new.items ≡ out.old.items ++ measure_lines artery.now timing.now) }
 {
-    let mut lines = weighted_line(alloc, artery, timing)?;
-    let outbound = band_line(alloc, artery, timing, Dir::Outbound)?;
-    let inbound = band_line(alloc, artery, timing, Dir::Inbound)?;
-    let cycle = cycle_line(alloc, artery, timing)?;
-    lines.extend_from_slice(outbound.as_slice())?;
-    lines.extend_from_slice(inbound.as_slice())?;
-    lines.extend_from_slice(cycle.as_slice())?;
-    Ok(lines)
+    push_weighted_line(alloc, out, artery, timing)?;
+    push_band_line(alloc, out, artery, timing, Dir::Outbound)?;
+    push_band_line(alloc, out, artery, timing, Dir::Inbound)?;
+    push_cycle_line(alloc, out, artery, timing)
 }

@@ -1,11 +1,13 @@
 //! The names of rows and columns, as they are printed.
 
-ghost use Rattle.std.specs.Prelude.{◌≡◌, ◌<◌, ◌^◌, IfOk, string_bytes};
+ghost use Rattle.std.specs.Prelude.{◌≡◌, ◌++◌, ◌<◌, ◌^◌, IfOk, OnOk, string_bytes};
 ghost use Rattle.certificate_model.specs.Families.{table_of};
 ghost use Rattle.diagram_print.specs.Names.{row_text, row_text_in, numbered, column_text, place_text};
 
 use certificate_model::{FAMILIES, FamilyName, family_name_in, is_lone_in};
 use named_row::{Place, RowId};
+use narrow_fraction::Memory;
+use quantity_text::push_text;
 use std::alloc::{AllocError, Global};
 
 /// A name with a number.
@@ -84,4 +86,43 @@ pub fn place_text(alloc: Global, signals: u32, place: Place) -> Result<String, A
         Place::Cell(column) => column_text(alloc, signals, column),
         Place::Bound => String::from_str(alloc, "bound"),
     }
+}
+
+/// Writes a row's name, as `row_text_in` has it.
+pub fn push_row_text(
+    alloc: Global,
+    out: &mut Vec<u8>,
+    names: &[FamilyName],
+    row: RowId,
+) -> Result<(), Memory>
+    ensures { OnOk result (out.new.items ≡ out.old.items ++ row_text_in (table_of names.now) row) }
+{
+    let text = row_text_in(alloc, names, row)?;
+    push_text(out, text.as_str())
+}
+
+/// Writes the name of a column, as `column_text` has it.
+pub fn push_column_text(
+    alloc: Global,
+    out: &mut Vec<u8>,
+    signals: u32,
+    column: u32,
+) -> Result<(), Memory>
+    ensures { OnOk result (out.new.items ≡ out.old.items ++ column_text signals column) }
+{
+    let text = column_text(alloc, signals, column)?;
+    push_text(out, text.as_str())
+}
+
+/// Writes the name of a place of a row, as `place_text` has it.
+pub fn push_place_text(
+    alloc: Global,
+    out: &mut Vec<u8>,
+    signals: u32,
+    place: Place,
+) -> Result<(), Memory>
+    ensures { OnOk result (out.new.items ≡ out.old.items ++ place_text signals place) }
+{
+    let text = place_text(alloc, signals, place)?;
+    push_text(out, text.as_str())
 }

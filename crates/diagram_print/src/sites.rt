@@ -1,83 +1,139 @@
 //! Where a run left 128 bits. The rows of a leaf have their names in a table of families.
 
-ghost use Rattle.std.specs.Prelude.{◌≡◌, IfOk, string_bytes};
+ghost use Rattle.std.specs.Prelude.{◌≡◌, ◌++◌, codes, OnOk};
+ghost use Rattle.std.specs.Fmt.{decimal};
 ghost use Rattle.certificate_model.specs.Families.{table_of};
 ghost use Rattle.diagram_print.specs.Sites.{cell_line, leaf_line, product_line, number_line, timing_line, site_line, op_name, wide_line, timing_operands, operands_line};
 
-use crate::names::{column_text, place_text, row_text_in};
+use crate::names::{push_column_text, push_place_text, push_row_text};
 use branch_tree::SitePart;
 use certificate_model::FamilyName;
 use fraction_tableau::WideCell;
 use named_row::{Place, RowId};
 use narrow_fraction::{Memory, Op, Wide};
 use offset_recovery::WideTiming;
-use quantity_text::exact_string;
+use quantity_text::{push_exact, push_number, push_text};
 use std::alloc::Global;
 
-/// The line of a cell of the tableau, by its row and place.
-fn cell_line(alloc: Global, kind: &str, cell: WideCell) -> Result<String, Memory>
-    ensures { IfOk result (λ text. string_bytes text ≡ cell_line kind.now cell) }
+/// Writes words, a number and the end of the line.
+pub fn push_count_line(
+    alloc: Global,
+    out: &mut Vec<u8>,
+    words: &str,
+    number: u128,
+) -> Result<(), Memory>
+    ensures { OnOk result (out.new.items ≡ out.old.items ++ (words.now ++ (decimal number ++ codes "\n"))) }
 {
-    let row = cell.row;
-    let col = cell.col;
-    Ok(format!(in alloc; "site {kind} {row} {col}\n")?)
+    push_text(out, words)?;
+    push_number(alloc, out, number)?;
+    push_text(out, "\n")
 }
 
-/// The line of a place of a leaf's sum, at which this row was added.
-fn leaf_line(
+/// Writes words, two numbers and the end of the line.
+fn push_pair_line(
     alloc: Global,
+    out: &mut Vec<u8>,
+    words: &str,
+    first: u128,
+    second: u128,
+) -> Result<(), Memory>
+    ensures { OnOk result (out.new.items ≡ out.old.items ++ (words.now ++ (decimal first ++ (codes " " ++ (decimal second ++ codes "\n"))))) }
+{
+    push_text(out, words)?;
+    push_number(alloc, out, first)?;
+    push_count_line(alloc, out, " ", second)
+}
+
+/// Writes the line of a cell of the tableau, by its row and place.
+fn push_cell_line(
+    alloc: Global,
+    out: &mut Vec<u8>,
+    kind: &str,
+    cell: WideCell,
+) -> Result<(), Memory>
+    ensures { OnOk result (out.new.items ≡ out.old.items ++ cell_line kind.now cell) }
+{
+    push_text(out, "site ")?;
+    push_text(out, kind)?;
+    push_pair_line(alloc, out, " ", cell.row as u128, cell.col as u128)
+}
+
+/// Writes the line of a place of a leaf's sum, at which this row was added.
+fn push_leaf_line(
+    alloc: Global,
+    out: &mut Vec<u8>,
     names: &[FamilyName],
     signals: u32,
     row: RowId,
     place: Place,
-) -> Result<String, Memory>
-    ensures { IfOk result (λ text. string_bytes text ≡ leaf_line (table_of names.now) signals row place) }
+) -> Result<(), Memory>
+    ensures { OnOk result (out.new.items ≡ out.old.items ++ leaf_line (table_of names.now) signals row place) }
 {
-    let row = row_text_in(alloc, names, row)?;
-    let place = place_text(alloc, signals, place)?;
-    Ok(format!(in alloc; "site leaf {row} {place}\n")?)
+    push_text(out, "site leaf ")?;
+    push_row_text(alloc, out, names, row)?;
+    push_text(out, " ")?;
+    push_place_text(alloc, out, signals, place)?;
+    push_text(out, "\n")
 }
 
-fn product_line(alloc: Global, signals: u32, column: u32) -> Result<String, Memory>
-    ensures { IfOk result (λ text. string_bytes text ≡ product_line signals column) }
+fn push_product_line(
+    alloc: Global,
+    out: &mut Vec<u8>,
+    signals: u32,
+    column: u32,
+) -> Result<(), Memory>
+    ensures { OnOk result (out.new.items ≡ out.old.items ++ product_line signals column) }
 {
-    let column = column_text(alloc, signals, column)?;
-    Ok(format!(in alloc; "site product {column}\n")?)
+    push_text(out, "site product ")?;
+    push_column_text(alloc, out, signals, column)?;
+    push_text(out, "\n")
 }
 
-fn number_line(alloc: Global, signals: u32, column: u32) -> Result<String, Memory>
-    ensures { IfOk result (λ text. string_bytes text ≡ number_line signals column) }
+fn push_number_line(
+    alloc: Global,
+    out: &mut Vec<u8>,
+    signals: u32,
+    column: u32,
+) -> Result<(), Memory>
+    ensures { OnOk result (out.new.items ≡ out.old.items ++ number_line signals column) }
 {
-    let column = column_text(alloc, signals, column)?;
-    Ok(format!(in alloc; "site number {column}\n")?)
+    push_text(out, "site number ")?;
+    push_column_text(alloc, out, signals, column)?;
+    push_text(out, "\n")
 }
 
-/// The line of a number of a timing.
-fn timing_line(alloc: Global, signals: u32, refused: WideTiming) -> Result<String, Memory>
-    ensures { IfOk result (λ text. string_bytes text ≡ timing_line signals refused) }
+/// Writes the line of a number of a timing.
+fn push_timing_line(
+    alloc: Global,
+    out: &mut Vec<u8>,
+    signals: u32,
+    refused: WideTiming,
+) -> Result<(), Memory>
+    ensures { OnOk result (out.new.items ≡ out.old.items ++ timing_line signals refused) }
 {
     match refused {
-        WideTiming::Sum { link, .. } => Ok(format!(in alloc; "site sum {link}\n")?),
-        WideTiming::Product { column, .. } => product_line(alloc, signals, column),
-        WideTiming::Unit { .. } => Ok(String::from_str(alloc, "site unit\n")?),
-        WideTiming::Number { column, .. } => number_line(alloc, signals, column),
+        WideTiming::Sum { link, .. } => push_count_line(alloc, out, "site sum ", link as u128),
+        WideTiming::Product { column, .. } => push_product_line(alloc, out, signals, column),
+        WideTiming::Unit { .. } => push_text(out, "site unit\n"),
+        WideTiming::Number { column, .. } => push_number_line(alloc, out, signals, column),
     }
 }
 
-/// The line of the operation's site, on an artery with so many signals.
-pub fn site_line(
+/// Writes the line of the operation's site, on an artery with so many signals.
+pub fn push_site_line(
     alloc: Global,
+    out: &mut Vec<u8>,
     names: &[FamilyName],
     signals: u32,
     part: SitePart,
-) -> Result<String, Memory>
-    ensures { IfOk result (λ text. string_bytes text ≡ site_line (table_of names.now) signals part) }
+) -> Result<(), Memory>
+    ensures { OnOk result (out.new.items ≡ out.old.items ++ site_line (table_of names.now) signals part) }
 {
     match part {
-        SitePart::Ratio(cell) => cell_line(alloc, "ratio", cell),
-        SitePart::Cell(cell) => cell_line(alloc, "cell", cell),
-        SitePart::LeafSum { row, at } => leaf_line(alloc, names, signals, row, at.place),
-        SitePart::Timing(refused) => timing_line(alloc, signals, refused),
+        SitePart::Ratio(cell) => push_cell_line(alloc, out, "ratio", cell),
+        SitePart::Cell(cell) => push_cell_line(alloc, out, "cell", cell),
+        SitePart::LeafSum { row, at } => push_leaf_line(alloc, out, names, signals, row, at.place),
+        SitePart::Timing(refused) => push_timing_line(alloc, out, signals, refused),
     }
 }
 
@@ -93,36 +149,45 @@ fn op_name(op: Op) -> &'static str
     }
 }
 
-/// The operands of a refused operation.
-fn wide_line(alloc: Global, refused: Wide) -> Result<String, Memory>
-    ensures { IfOk result (λ text. string_bytes text ≡ wide_line refused) }
+/// Writes the operands of a refused operation.
+fn push_wide_line(alloc: Global, out: &mut Vec<u8>, refused: Wide) -> Result<(), Memory>
+    ensures { OnOk result (out.new.items ≡ out.old.items ++ wide_line refused) }
 {
-    let op = op_name(refused.op);
-    let left = exact_string(alloc, refused.left)?;
-    let right = exact_string(alloc, refused.right)?;
-    Ok(format!(in alloc; "operands {op} {left} {right}\n")?)
+    push_text(out, "operands ")?;
+    push_text(out, op_name(refused.op))?;
+    push_text(out, " ")?;
+    push_exact(alloc, out, refused.left)?;
+    push_text(out, " ")?;
+    push_exact(alloc, out, refused.right)?;
+    push_text(out, "\n")
 }
 
-/// The operands, or the numbers, of a refused timing.
-fn timing_operands(alloc: Global, refused: WideTiming) -> Result<String, Memory>
-    ensures { IfOk result (λ text. string_bytes text ≡ timing_operands refused) }
+/// Writes the operands, or the numbers, of a refused timing.
+fn push_timing_operands(alloc: Global, out: &mut Vec<u8>, refused: WideTiming) -> Result<(), Memory>
+    ensures { OnOk result (out.new.items ≡ out.old.items ++ timing_operands refused) }
 {
     match refused {
-        WideTiming::Sum { wide, .. } => wide_line(alloc, wide),
-        WideTiming::Product { wide, .. } => wide_line(alloc, wide),
-        WideTiming::Unit { left, right } => Ok(format!(in alloc; "operands lcm {left} {right}\n")?),
-        WideTiming::Number { ticks, .. } => Ok(format!(in alloc; "operands ticks {ticks}\n")?),
+        WideTiming::Sum { wide, .. } => push_wide_line(alloc, out, wide),
+        WideTiming::Product { wide, .. } => push_wide_line(alloc, out, wide),
+        WideTiming::Unit { left, right } => push_pair_line(
+            alloc,
+            out,
+            "operands lcm ",
+            left,
+            right,
+        ),
+        WideTiming::Number { ticks, .. } => push_count_line(alloc, out, "operands ticks ", ticks),
     }
 }
 
-/// The line of the operation's operands.
-pub fn operands_line(alloc: Global, part: SitePart) -> Result<String, Memory>
-    ensures { IfOk result (λ text. string_bytes text ≡ operands_line part) }
+/// Writes the line of the operation's operands.
+pub fn push_operands_line(alloc: Global, out: &mut Vec<u8>, part: SitePart) -> Result<(), Memory>
+    ensures { OnOk result (out.new.items ≡ out.old.items ++ operands_line part) }
 {
     match part {
-        SitePart::Ratio(cell) => wide_line(alloc, cell.wide),
-        SitePart::Cell(cell) => wide_line(alloc, cell.wide),
-        SitePart::LeafSum { at, .. } => wide_line(alloc, at.wide),
-        SitePart::Timing(refused) => timing_operands(alloc, refused),
+        SitePart::Ratio(cell) => push_wide_line(alloc, out, cell.wide),
+        SitePart::Cell(cell) => push_wide_line(alloc, out, cell.wide),
+        SitePart::LeafSum { at, .. } => push_wide_line(alloc, out, at.wide),
+        SitePart::Timing(refused) => push_timing_operands(alloc, out, refused),
     }
 }

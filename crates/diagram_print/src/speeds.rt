@@ -1,59 +1,78 @@
 //! The lines of a timing's links.
 
-ghost use Rattle.std.specs.Prelude.{◌≡◌, ◌<◌, ◌≤◌, IfOk, string_bytes};
+ghost use Rattle.std.specs.Prelude.{◌≡◌, ◌++◌, ◌<◌, ◌≤◌, IfOk, OnOk};
 ghost use Rattle.progression.specs.Street.{count};
 ghost use Rattle.progression.specs.Good.{IsBase};
 ghost use Rattle.diagram_print.specs.Speeds.{link_name, speed_line, speed_lines, link_lines};
 
-use crate::measures::{dir_name, measure_line};
+use crate::measures::{dir_name, push_measure_line};
 use artery_model::{Artery, Dir};
 use narrow_fraction::Memory;
+use quantity_text::{push_number, push_text};
 use std::alloc::Global;
 use time_space::Timing;
 use timing_measures::link_speed;
 
-/// What stands before a link's speed.
-fn link_name(alloc: Global, dir: Dir, link: u32) -> Result<String, Memory>
-    ensures { IfOk result (λ text. string_bytes text ≡ link_name dir link) }
+/// Writes what stands before a link's speed.
+fn push_link_name(alloc: Global, out: &mut Vec<u8>, dir: Dir, link: u32) -> Result<(), Memory>
+    ensures { OnOk result (out.new.items ≡ out.old.items ++ link_name dir link) }
 {
-    let dir_name = dir_name(dir);
-    Ok(format!(in alloc; "link {link} {dir_name}")?)
+    push_text(out, "link ")?;
+    push_number(alloc, out, link as u128)?;
+    push_text(out, " ")?;
+    push_text(out, dir_name(dir))
 }
 
-/// The line of a direction's speed on a link, in the description's units.
-fn speed_line(
+/// Writes the line of a direction's speed on a link, in the description's units.
+fn push_speed_line(
     alloc: Global,
+    out: &mut Vec<u8>,
     artery: &Artery,
     timing: &Timing,
     dir: Dir,
     link: u32,
-) -> Result<Vec<u8>, Memory>
+) -> Result<(), Memory>
     requires base { IsBase artery.now timing.now }
     requires first { 1 ≤ link }
     requires last { link < count artery.now }
-    ensures { IfOk result (λ line. line.items ≡ speed_line artery.now timing.now dir link) }
+    ensures { OnOk result (out.new.items ≡ out.old.items ++ speed_line artery.now timing.now dir link) }
 {
-    let name = link_name(alloc, dir, link)?;
-    let speed = link_speed(artery, timing, dir, link);
-    measure_line(alloc, name.as_str(), speed, 3)
+    push_link_name(alloc, out, dir, link)?;
+    push_measure_line(alloc, out, link_speed(artery, timing, dir, link), 3)
 }
 
-/// The lines of both speeds on a link.
-fn speed_lines(
+/// Writes the lines of both speeds on a link.
+fn push_speed_lines(
     alloc: Global,
+    out: &mut Vec<u8>,
     artery: &Artery,
     timing: &Timing,
     link: u32,
-) -> Result<Vec<u8>, Memory>
+) -> Result<(), Memory>
     requires base { IsBase artery.now timing.now }
     requires first { 1 ≤ link }
     requires last { link < count artery.now }
-    ensures { IfOk result (λ lines. lines.items ≡ speed_lines artery.now timing.now link) }
+    ensures { OnOk result (out.new.items ≡ out.old.items ++ speed_lines artery.now timing.now link) }
 {
-    let mut lines = speed_line(alloc, artery, timing, Dir::Outbound, link)?;
-    let inbound = speed_line(alloc, artery, timing, Dir::Inbound, link)?;
-    lines.extend_from_slice(inbound.as_slice())?;
-    Ok(lines)
+    push_speed_line(alloc, out, artery, timing, Dir::Outbound, link)?;
+    push_speed_line(alloc, out, artery, timing, Dir::Inbound, link)
+}
+
+/// Writes the lines of the links, from the first on: the speeds in both directions, in the description's units. The timing keeps
+/// the rules that don't speak of bands.
+pub fn push_link_lines(
+    alloc: Global,
+    out: &mut Vec<u8>,
+    artery: &Artery,
+    timing: &Timing,
+) -> Result<(), Memory>
+    requires { IsBase artery.now timing.now }
+    ensures { OnOk result (out.new.items ≡ out.old.items ++ link_lines artery.now timing.now) }
+{
+    for link in 1..artery.count() {
+        push_speed_lines(alloc, out, artery, timing, link)?;
+    }
+    Ok(())
 }
 
 /// The lines of the links, from the first on: the speeds in both directions, in the description's units. The timing keeps the rules
@@ -63,9 +82,6 @@ pub fn link_lines(alloc: Global, artery: &Artery, timing: &Timing) -> Result<Vec
     ensures { IfOk result (λ lines. lines.items ≡ link_lines artery.now timing.now) }
 {
     let mut lines = Vec::new(alloc);
-    for link in 1..artery.count() {
-        let speeds = speed_lines(alloc, artery, timing, link)?;
-        lines.extend_from_slice(speeds.as_slice())?;
-    }
+    push_link_lines(alloc, &mut lines, artery, timing)?;
     Ok(lines)
 }

@@ -1,118 +1,129 @@
 //! Why a search stopped.
 
-ghost use Rattle.std.specs.Prelude.{◌≡◌, ◌+◌, ◌≤◌, length, flat_map, IfOk, string_bytes};
+ghost use Rattle.std.specs.Prelude.{◌≡◌, ◌++◌, ◌+◌, ◌≤◌, length, flat_map, OnOk};
 ghost use Rattle.search_box.specs.Seen.{span_of};
 ghost use Rattle.linear_theory.specs.Boxes.{turn_span};
 ghost use Rattle.linear_theory.specs.Boxes.{IsBoxOf};
 ghost use Rattle.progression.specs.Street.{count};
 ghost use Rattle.certificate_model.specs.Families.{table_of};
 ghost use Rattle.branch_tree.specs.SiteNames.{StopsAt};
-ghost use Rattle.diagram_print.specs.Report.{span_text, ranks_text, loops_line, shifts_line, pivots_line, wide_lines, stop_lines};
+ghost use Rattle.diagram_print.specs.Report.{span_text, ranks_text, loops_line, shifts_line, wide_lines, stop_lines};
 ghost use Rattle.artery_model.specs.Bounds.{most_signals};
 
-use crate::sites::{operands_line, site_line};
+use crate::sites::{push_count_line, push_operands_line, push_site_line};
 use artery_model::Artery;
 use branch_tree::{Site, Stop};
 use certificate_model::FamilyName;
 use narrow_fraction::Memory;
+use quantity_text::{push_text, push_whole};
 use search_box::{SearchBox, Span};
 use std::alloc::Global;
 
-/// A space, and the two ends of a span.
-fn span_text(alloc: Global, span: Span) -> Result<String, Memory>
-    ensures { IfOk result (λ text. string_bytes text ≡ span_text (span_of span)) }
+/// Writes a space, and the two ends of a span.
+fn push_span(alloc: Global, out: &mut Vec<u8>, span: Span) -> Result<(), Memory>
+    ensures { OnOk result (out.new.items ≡ out.old.items ++ span_text (span_of span)) }
 {
-    let least = span.least;
-    let most = span.most;
-    Ok(format!(in alloc; " {least}:{most}")?)
+    push_text(out, " ")?;
+    push_whole(alloc, out, span.least as i128)?;
+    push_text(out, ":")?;
+    push_whole(alloc, out, span.most as i128)
 }
 
-/// The spans of so many links.
-fn loops_text(alloc: Global, area: &SearchBox, links: u32) -> Result<String, Memory>
+/// Writes the spans of so many links.
+fn push_loops(alloc: Global, out: &mut Vec<u8>, area: &SearchBox, links: u32) -> Result<(), Memory>
     requires count { length area.now.loops ≡ links }
     requires few { links ≤ most_signals }
-    ensures { IfOk result (λ text. string_bytes text ≡ flat_map span_text area.now.loops) }
+    ensures { OnOk result (out.new.items ≡ out.old.items ++ flat_map span_text area.now.loops) }
 {
-    let mut text = String::new(alloc);
     for link in 1..links + 1 {
-        let span = span_text(alloc, area.loop_span(link))?;
-        text.push_str(span.as_str())?;
+        push_span(alloc, out, area.loop_span(link))?;
     }
-    Ok(text)
+    Ok(())
 }
 
-/// The ranks of so many signals.
-fn shifts_text(alloc: Global, area: &SearchBox, signals: u32) -> Result<String, Memory>
+/// Writes the ranks of so many signals.
+fn push_shifts(
+    alloc: Global,
+    out: &mut Vec<u8>,
+    area: &SearchBox,
+    signals: u32,
+) -> Result<(), Memory>
     requires count { length area.now.turns ≡ signals }
     requires few { signals ≤ most_signals }
-    ensures { IfOk result (λ text. string_bytes text ≡ flat_map ranks_text area.now.turns) }
+    ensures { OnOk result (out.new.items ≡ out.old.items ++ flat_map ranks_text area.now.turns) }
 {
-    let mut text = String::new(alloc);
     for signal in 1..signals + 1 {
-        let span = span_text(alloc, area.turn_span(signal))?;
-        text.push_str(span.as_str())?;
+        push_span(alloc, out, area.turn_span(signal))?;
     }
-    Ok(text)
+    Ok(())
 }
 
-/// The line of a box's spans of block sums, of so many links.
-fn loops_line(alloc: Global, area: &SearchBox, links: u32) -> Result<String, Memory>
+/// Writes the line of a box's spans of block sums, of so many links.
+fn push_loops_line(
+    alloc: Global,
+    out: &mut Vec<u8>,
+    area: &SearchBox,
+    links: u32,
+) -> Result<(), Memory>
     requires count { length area.now.loops ≡ links }
     requires few { links ≤ most_signals }
-    ensures { IfOk result (λ text. string_bytes text ≡ loops_line area.now) }
+    ensures { OnOk result (out.new.items ≡ out.old.items ++ loops_line area.now) }
 {
-    let loops = loops_text(alloc, area, links)?;
-    Ok(format!(in alloc; "loops{loops}\n")?)
+    push_text(out, "loops")?;
+    push_loops(alloc, out, area, links)?;
+    push_text(out, "\n")
 }
 
-/// The line of a box's spans of ranks, of so many signals.
-fn shifts_line(alloc: Global, area: &SearchBox, signals: u32) -> Result<String, Memory>
+/// Writes the line of a box's spans of ranks, of so many signals.
+fn push_shifts_line(
+    alloc: Global,
+    out: &mut Vec<u8>,
+    area: &SearchBox,
+    signals: u32,
+) -> Result<(), Memory>
     requires count { length area.now.turns ≡ signals }
     requires few { signals ≤ most_signals }
-    ensures { IfOk result (λ text. string_bytes text ≡ shifts_line area.now) }
+    ensures { OnOk result (out.new.items ≡ out.old.items ++ shifts_line area.now) }
 {
-    let shifts = shifts_text(alloc, area, signals)?;
-    Ok(format!(in alloc; "shifts{shifts}\n")?)
+    push_text(out, "shifts")?;
+    push_shifts(alloc, out, area, signals)?;
+    push_text(out, "\n")
 }
 
-fn pivots_line(alloc: Global, pivots: u64) -> Result<String, Memory>
-    ensures { IfOk result (λ text. string_bytes text ≡ pivots_line pivots) }
-{
-    Ok(format!(in alloc; "pivots {pivots}\n")?)
-}
-
-/// The lines of an operation that left 128 bits, on an artery with so many signals.
-fn wide_lines(
+/// Writes the lines of an operation that left 128 bits, on an artery with so many signals.
+fn push_wide_lines(
     alloc: Global,
+    out: &mut Vec<u8>,
     names: &[FamilyName],
     signals: u32,
     site: &Site,
-) -> Result<String, Memory>
+) -> Result<(), Memory>
     requires loops { length site.now.area.loops + 1 ≡ signals }
     requires turns { length site.now.area.turns ≡ signals }
     requires few { signals ≤ most_signals }
-    ensures { IfOk result (λ text. string_bytes text ≡ wide_lines (table_of names.now) signals site.now) }
+    ensures { OnOk result (out.new.items ≡ out.old.items ++ wide_lines (table_of names.now) signals site.now) }
 {
-    let loops = loops_line(alloc, &site.area, signals - 1)?;
-    let shifts = shifts_line(alloc, &site.area, signals)?;
-    let pivots = pivots_line(alloc, site.pivots)?;
-    let place = site_line(alloc, names, signals, site.part)?;
-    let operands = operands_line(alloc, site.part)?;
-    Ok(format!(in alloc; "stopped wide\n{loops}{shifts}{pivots}{place}{operands}")?)
+    push_text(out, "stopped wide\n")?;
+    push_loops_line(alloc, out, &site.area, signals - 1)?;
+    push_shifts_line(alloc, out, &site.area, signals)?;
+    push_count_line(alloc, out, "pivots ", site.pivots as u128)?;
+    push_site_line(alloc, out, names, signals, site.part)?;
+    push_operands_line(alloc, out, site.part)
 }
 
-/// The lines that tell why a search of this artery stopped.
-pub fn stop_lines(
+/// Writes the lines that tell why a search of this artery stopped.
+pub fn push_stop_lines(
     alloc: Global,
+    out: &mut Vec<u8>,
     artery: &Artery,
     names: &[FamilyName],
     stop: &Stop,
-) -> Result<String, Memory>
+) -> Result<(), Memory>
     requires { StopsAt (λ site. IsBoxOf artery.now site.area) stop.now }
-    ensures { IfOk result (λ text. string_bytes text ≡ stop_lines (table_of names.now) (count artery.now) stop.now) }
+    ensures { OnOk result (out.new.items ≡ out.old.items ++ stop_lines (table_of names.now) (count artery.now) stop.now) }
 {
     match stop {
-        Stop::Work { spent } => Ok(format!(in alloc; "stopped work {spent}\n")?),
-        Stop::Wide(site) => wide_lines(alloc, names, artery.count(), site),
+        Stop::Work { spent } => push_count_line(alloc, out, "stopped work ", *spent as u128),
+        Stop::Wide(site) => push_wide_lines(alloc, out, names, artery.count(), site),
     }
 }

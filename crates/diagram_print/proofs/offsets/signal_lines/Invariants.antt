@@ -1,7 +1,0 @@
-use Rattle.std.proofs.Common.{◌≡◌, ◌-◌, flat_map}
-use Rattle.std.specs.List.{range_with_len}
-use Rattle.diagram_print.specs.Offsets.{signal_line}
-use Rattle.diagram_print.proofs.offsets.signal_lines.Given as goal
-
-abbrev pub invariant-loop-signal : goal.invariant-loop-signal
-invariant-loop-signal l = l.lines.items ≡ flat_map (signal_line l.artery l.timing) (range_with_len 1 (l.signal - 1))
