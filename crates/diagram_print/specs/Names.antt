@@ -9,15 +9,11 @@ use Rattle.named_row.specs.declared.names.RowId.{RowId}
 use Rattle.named_row.specs.declared.names.Place.{Place}
 use Rattle.named_row.specs.declared.names.Place.TheVariants.{Cell, Bound}
 use Rattle.certificate_model.specs.Words.{line_of}
-use Rattle.certificate_model.specs.Families.{Table, ordinary, row_words_in}
+use Rattle.certificate_model.specs.Families.{Table, row_words_in}
 
 -- a row, as certificates over a table of families name it
 abbrev pub row_text_in : Table → RowId → List ℕ
 row_text_in table row = line_of (row_words_in table row)
-
--- and as ordinary ones do
-abbrev pub row_text : RowId → List ℕ
-row_text row = row_text_in ordinary row
 
 -- a name with a number
 abbrev pub numbered : List ℕ → ℕ → List ℕ

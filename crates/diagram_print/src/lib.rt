@@ -15,9 +15,9 @@
 //!
 //! What is told of a verdict is said once for timings of any kind: `verdict_lines` is a function of the table of families by which
 //! rows are named, of the lines of the timing, if there is one, of the bound and of the verdict, and asks only that the box of a
-//! site is one of the artery. `report` is that over the artery's own table and the lines of its timing. `link_lines` asks of a
-//! timing the rules that speak of no band (`IsBase`). `row_text_in` names a row over any table of families, as that of links, and
-//! `column_text` the halves of links behind the columns that every artery has.
+//! site is one of the artery. `report` is that over the artery's own table and the lines of its timing. `push_link_lines` asks of a
+//! timing the rules that speak of no band (`IsBase`). `push_row` names a row over any table of families, as that of links, and
+//! `push_column` the halves of links behind the columns that every artery has. What is named `push_..` writes at the end of a text.
 #![tactic(auto)]
 
 mod chart;
@@ -32,8 +32,8 @@ mod stopped;
 pub use chart::diagram;
 pub use lines::{report, verdict_lines};
 pub use measures::{
-    band_line, cycle_line, dir_name, measure_line, quotient_line, quotient_text, weighted_line,
+    dir_name, push_band_line, push_cycle_line, push_measure, push_measure_line, push_weighted_line,
 };
-pub use names::{column_text, place_text, row_text, row_text_in};
-pub use offsets::signal_lines;
-pub use speeds::link_lines;
+pub use names::{push_column, push_place, push_row};
+pub use offsets::push_signal_lines;
+pub use speeds::push_link_lines;

@@ -53,7 +53,6 @@ fn push_bound(alloc: Global, out: &mut Vec<u8>, bound: Frac) -> Result<(), Memor
 
 /// Writes the lines of a stopped search.
 fn push_open(
-    alloc: Global,
     out: &mut Vec<u8>,
     artery: &Artery,
     names: &[FamilyName],
@@ -64,30 +63,11 @@ fn push_open(
     requires { StopsAt (λ site. IsBoxOf artery.now site.area) stop.now }
     ensures { OnOk result (out.new.items ≡ out.old.items ++ open_lines (table_of names.now) (count artery.now) (option_map (λ t. t.items) timing) bound stop.now) }
 {
+    let alloc = *out.allocator();
     push_text(out, "verdict open\n")?;
     push_stop_lines(alloc, out, artery, names, stop)?;
     push_bound(alloc, out, bound)?;
     push_found(out, timing)
-}
-
-/// Writes the lines that tell how a search ended, as `verdict_lines` has them.
-pub fn push_verdict(
-    alloc: Global,
-    out: &mut Vec<u8>,
-    artery: &Artery,
-    names: &[FamilyName],
-    verdict: &Verdict,
-    bound: Frac,
-    timing: Option<Vec<u8>>,
-) -> Result<(), Memory>
-    requires { EndsAt (λ site. IsBoxOf artery.now site.area) verdict.now }
-    ensures { OnOk result (out.new.items ≡ out.old.items ++ verdict_lines (table_of names.now) (count artery.now) (option_map (λ t. t.items) timing) bound verdict.now) }
-{
-    match verdict {
-        Verdict::Best => push_best(out, timing),
-        Verdict::NoTiming => push_text(out, "verdict none\n"),
-        Verdict::Stopped(stop) => push_open(alloc, out, artery, names, stop, bound, timing),
-    }
 }
 
 /// The lines that tell how a search of this artery ended, whatever kind of timing it looked for: the verdict; where the search
@@ -105,7 +85,11 @@ pub fn verdict_lines(
     ensures { IfOk result (λ lines. lines.items ≡ verdict_lines (table_of names.now) (count artery.now) (option_map (λ t. t.items) timing) bound verdict.now) }
 {
     let mut lines = Vec::new(alloc);
-    push_verdict(alloc, &mut lines, artery, names, verdict, bound, timing)?;
+    match verdict {
+        Verdict::Best => push_best(&mut lines, timing)?,
+        Verdict::NoTiming => push_text(&mut lines, "verdict none\n")?,
+        Verdict::Stopped(stop) => push_open(&mut lines, artery, names, stop, bound, timing)?,
+    }
     Ok(lines)
 }
 
@@ -126,16 +110,6 @@ fn push_timing_lines(
     push_diagram(alloc, out, artery, timing)
 }
 
-/// The lines of a timing.
-fn timing_lines(alloc: Global, artery: &Artery, timing: &Timing) -> Result<Vec<u8>, Memory>
-    requires { Good artery.now timing.now }
-    ensures { IfOk result (λ lines. lines.items ≡ timing_lines artery.now timing.now) }
-{
-    let mut lines = Vec::new(alloc);
-    push_timing_lines(alloc, &mut lines, artery, timing)?;
-    Ok(lines)
-}
-
 /// The lines of the timing that a search found, where there is one.
 fn lines_of(
     alloc: Global,
@@ -146,7 +120,11 @@ fn lines_of(
     ensures { IfOk result (λ lines. option_map (λ l. l.items) lines ≡ option_map (timing_lines artery.now) timing.now) }
 {
     match timing {
-        Some(timing) => Ok(Some(timing_lines(alloc, artery, timing)?)),
+        Some(timing) => {
+            let mut lines = Vec::new(alloc);
+            push_timing_lines(alloc, &mut lines, artery, timing)?;
+            Ok(Some(lines))
+        }
         None => Ok(None),
     }
 }

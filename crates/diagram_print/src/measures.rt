@@ -1,7 +1,6 @@
 //! Measures of a timing: each is printed exact, and cut after some decimal places.
 
-ghost use Rattle.std.specs.Prelude.{◌≡◌, ◌++◌, [], ◌<◌, ◌≤◌, ◌^◌, pos, ◌≤ℤ◌, IfOk, OnOk};
-ghost use Rattle.rational_theory.specs.Rational.{over};
+ghost use Rattle.std.specs.Prelude.{◌≡◌, ◌++◌, [], ◌≤◌, ◌^◌, pos, ◌≤ℤ◌, OnOk};
 ghost use Rattle.diagram_print.specs.Measures.{dir_name, measure_text, measure_line, weighted_line, band_line, cycle_line, measure_lines};
 
 use artery_model::{Artery, Dir};
@@ -9,7 +8,7 @@ use narrow_fraction::{Frac, Memory};
 use quantity_text::{push_decimal, push_exact, push_text};
 use std::alloc::Global;
 use time_space::{Timing, value};
-use timing_measures::{band_share, cycle_seconds, quotient};
+use timing_measures::{band_share, cycle_seconds};
 
 /// The printed name of a direction.
 pub fn dir_name(dir: Dir) -> &'static str
@@ -57,59 +56,6 @@ pub fn push_measure_line(
     push_text(out, "\n")
 }
 
-/// A name, a fraction of at least 0, and the same fraction cut after so many decimal places, as a line. The error is want of memory.
-pub fn measure_line(alloc: Global, name: &str, value: Frac, places: u32) -> Result<Vec<u8>, Memory>
-    requires least { pos 0 ≤ℤ value.num }
-    requires denominator { value.den ≤ 2 ^ 120 }
-    requires some_places { 1 ≤ places }
-    requires most_places { places ≤ 9 }
-    ensures { IfOk result (λ line. line.items ≡ measure_line name.now value places) }
-{
-    let mut line = Vec::new(alloc);
-    push_text(&mut line, name)?;
-    push_measure_line(alloc, &mut line, value, places)?;
-    Ok(line)
-}
-
-/// The quotient of two whole numbers, as a measure.
-pub fn quotient_text(
-    alloc: Global,
-    name: &str,
-    top: u128,
-    bottom: u128,
-    places: u32,
-) -> Result<Vec<u8>, Memory>
-    requires top { top < 2 ^ 126 }
-    requires some { 1 ≤ bottom }
-    requires bottom { bottom ≤ 2 ^ 120 }
-    requires some_places { 1 ≤ places }
-    requires most_places { places ≤ 9 }
-    ensures { IfOk result (λ text. text.items ≡ measure_text name.now (over (pos top) bottom) places) }
-{
-    let mut text = Vec::new(alloc);
-    push_text(&mut text, name)?;
-    push_measure(alloc, &mut text, quotient(top, bottom), places)?;
-    Ok(text)
-}
-
-/// The same as a line.
-pub fn quotient_line(
-    alloc: Global,
-    name: &str,
-    top: u128,
-    bottom: u128,
-    places: u32,
-) -> Result<Vec<u8>, Memory>
-    requires top { top < 2 ^ 126 }
-    requires some { 1 ≤ bottom }
-    requires bottom { bottom ≤ 2 ^ 120 }
-    requires some_places { 1 ≤ places }
-    requires most_places { places ≤ 9 }
-    ensures { IfOk result (λ line. line.items ≡ measure_line name.now (over (pos top) bottom) places) }
-{
-    measure_line(alloc, name, quotient(top, bottom), places)
-}
-
 /// Writes the line of the weighted band.
 pub fn push_weighted_line(
     alloc: Global,
@@ -149,38 +95,6 @@ pub fn push_cycle_line(
 {
     push_text(out, "cycle")?;
     push_measure_line(alloc, out, cycle_seconds(artery, timing), 3)
-}
-
-/// The line of the weighted band.
-pub fn weighted_line(alloc: Global, artery: &Artery, timing: &Timing) -> Result<Vec<u8>, Memory>
-    ensures { IfOk result (λ line. line.items ≡ weighted_line artery.now timing.now) }
-{
-    let mut line = Vec::new(alloc);
-    push_weighted_line(alloc, &mut line, artery, timing)?;
-    Ok(line)
-}
-
-/// The line of a direction's band, a fraction of the cycle.
-pub fn band_line(
-    alloc: Global,
-    artery: &Artery,
-    timing: &Timing,
-    dir: Dir,
-) -> Result<Vec<u8>, Memory>
-    ensures { IfOk result (λ line. line.items ≡ band_line artery.now timing.now dir) }
-{
-    let mut line = Vec::new(alloc);
-    push_band_line(alloc, &mut line, artery, timing, dir)?;
-    Ok(line)
-}
-
-/// The line of the cycle, in seconds.
-pub fn cycle_line(alloc: Global, artery: &Artery, timing: &Timing) -> Result<Vec<u8>, Memory>
-    ensures { IfOk result (λ line. line.items ≡ cycle_line artery.now timing.now) }
-{
-    let mut line = Vec::new(alloc);
-    push_cycle_line(alloc, &mut line, artery, timing)?;
-    Ok(line)
 }
 
 /// Writes the lines of the bands and of the cycle.

@@ -1,6 +1,6 @@
 //! The lines of a timing's signals.
 
-ghost use Rattle.std.specs.Prelude.{◌≡◌, ◌++◌, ◌≤◌, length, IfOk, OnOk};
+ghost use Rattle.std.specs.Prelude.{◌≡◌, ◌++◌, ◌≤◌, length, OnOk};
 ghost use Rattle.progression.specs.Street.{count};
 ghost use Rattle.diagram_print.specs.Offsets.{offset_name, signal_line, signal_lines};
 
@@ -65,14 +65,4 @@ pub fn push_signal_lines(
         push_signal_line(alloc, out, artery, timing, signal)?;
     }
     Ok(())
-}
-
-/// The lines of the signals, from the first on.
-pub fn signal_lines(alloc: Global, artery: &Artery, timing: &Timing) -> Result<Vec<u8>, Memory>
-    requires { length timing.now.patterns ≡ count artery.now }
-    ensures { IfOk result (λ lines. lines.items ≡ signal_lines artery.now timing.now) }
-{
-    let mut lines = Vec::new(alloc);
-    push_signal_lines(alloc, &mut lines, artery, timing)?;
-    Ok(lines)
 }

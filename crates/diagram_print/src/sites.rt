@@ -5,7 +5,7 @@ ghost use Rattle.std.specs.Fmt.{decimal};
 ghost use Rattle.certificate_model.specs.Families.{table_of};
 ghost use Rattle.diagram_print.specs.Sites.{cell_line, leaf_line, product_line, number_line, timing_line, site_line, op_name, wide_line, timing_operands, operands_line};
 
-use crate::names::{push_column_text, push_place_text, push_row_text};
+use crate::names::{push_column, push_place, push_row};
 use branch_tree::SitePart;
 use certificate_model::FamilyName;
 use fraction_tableau::WideCell;
@@ -70,9 +70,9 @@ fn push_leaf_line(
     ensures { OnOk result (out.new.items ≡ out.old.items ++ leaf_line (table_of names.now) signals row place) }
 {
     push_text(out, "site leaf ")?;
-    push_row_text(alloc, out, names, row)?;
+    push_row(alloc, out, names, row)?;
     push_text(out, " ")?;
-    push_place_text(alloc, out, signals, place)?;
+    push_place(alloc, out, signals, place)?;
     push_text(out, "\n")
 }
 
@@ -85,7 +85,7 @@ fn push_product_line(
     ensures { OnOk result (out.new.items ≡ out.old.items ++ product_line signals column) }
 {
     push_text(out, "site product ")?;
-    push_column_text(alloc, out, signals, column)?;
+    push_column(alloc, out, signals, column)?;
     push_text(out, "\n")
 }
 
@@ -98,7 +98,7 @@ fn push_number_line(
     ensures { OnOk result (out.new.items ≡ out.old.items ++ number_line signals column) }
 {
     push_text(out, "site number ")?;
-    push_column_text(alloc, out, signals, column)?;
+    push_column(alloc, out, signals, column)?;
     push_text(out, "\n")
 }
 

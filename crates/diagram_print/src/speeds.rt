@@ -1,6 +1,6 @@
 //! The lines of a timing's links.
 
-ghost use Rattle.std.specs.Prelude.{◌≡◌, ◌++◌, ◌<◌, ◌≤◌, IfOk, OnOk};
+ghost use Rattle.std.specs.Prelude.{◌≡◌, ◌++◌, ◌<◌, ◌≤◌, OnOk};
 ghost use Rattle.progression.specs.Street.{count};
 ghost use Rattle.progression.specs.Good.{IsBase};
 ghost use Rattle.diagram_print.specs.Speeds.{link_name, speed_line, speed_lines, link_lines};
@@ -73,15 +73,4 @@ pub fn push_link_lines(
         push_speed_lines(alloc, out, artery, timing, link)?;
     }
     Ok(())
-}
-
-/// The lines of the links, from the first on: the speeds in both directions, in the description's units. The timing keeps the rules
-/// that don't speak of bands.
-pub fn link_lines(alloc: Global, artery: &Artery, timing: &Timing) -> Result<Vec<u8>, Memory>
-    requires { IsBase artery.now timing.now }
-    ensures { IfOk result (λ lines. lines.items ≡ link_lines artery.now timing.now) }
-{
-    let mut lines = Vec::new(alloc);
-    push_link_lines(alloc, &mut lines, artery, timing)?;
-    Ok(lines)
 }

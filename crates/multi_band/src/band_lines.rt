@@ -1,76 +1,74 @@
 //! The lines of a link timing's bands.
 
-ghost use Rattle.std.specs.Prelude.{◌≡◌, ◌<◌, ◌≤◌, length, IfOk, string_bytes};
+ghost use Rattle.std.specs.Prelude.{◌≡◌, ◌++◌, ◌<◌, ◌≤◌, length, OnOk};
 ghost use Rattle.progression.specs.Street.{count};
 ghost use Rattle.multi_band.specs.LinkReport.{band_name, link_band_line, both_band_lines, link_band_lines};
 
 use artery_model::{Artery, Dir};
-use diagram_print::{dir_name, quotient_line};
+use diagram_print::{dir_name, push_measure_line};
 use link_space::LinkTiming;
 use narrow_fraction::Memory;
+use quantity_text::{push_number, push_text};
 use std::alloc::Global;
 use time_space::cycle;
+use timing_measures::quotient;
 
-/// What stands before the band of a direction on a link.
-fn band_name(alloc: Global, dir: Dir, link: u32) -> Result<String, Memory>
-    ensures { IfOk result (λ text. string_bytes text ≡ band_name dir link) }
+/// Writes what stands before the band of a direction on a link.
+fn push_band_name(alloc: Global, out: &mut Vec<u8>, dir: Dir, link: u32) -> Result<(), Memory>
+    ensures { OnOk result (out.new.items ≡ out.old.items ++ band_name dir link) }
 {
-    let dir_name = dir_name(dir);
-    Ok(format!(in alloc; "link {link} band {dir_name}")?)
+    push_text(out, "link ")?;
+    push_number(alloc, out, link as u128)?;
+    push_text(out, " band ")?;
+    push_text(out, dir_name(dir))
 }
 
-/// The line of a direction's band on a link, a fraction of the cycle: it reaches half as far to either side of the line.
-fn link_band_line(
+/// Writes the line of a direction's band on a link, a fraction of the cycle: it reaches half as far to either side of the line.
+fn push_link_band(
     alloc: Global,
+    out: &mut Vec<u8>,
     artery: &Artery,
     timing: &LinkTiming,
     dir: Dir,
     link: u32,
-) -> Result<Vec<u8>, Memory>
+) -> Result<(), Memory>
     requires first { 1 ≤ link }
     requires last { link < length timing.now.patterns }
-    ensures { IfOk result (λ line. line.items ≡ link_band_line artery.now timing.now dir link) }
+    ensures { OnOk result (out.new.items ≡ out.old.items ++ link_band_line artery.now timing.now dir link) }
 {
-    let name = band_name(alloc, dir, link)?;
-    quotient_line(
-        alloc,
-        name.as_str(),
-        2 * timing.half(dir, link),
-        cycle(artery, timing.lines()),
-        6,
-    )
+    push_band_name(alloc, out, dir, link)?;
+    let share = quotient(2 * timing.half(dir, link), cycle(artery, timing.lines()));
+    push_measure_line(alloc, out, share, 6)
 }
 
-/// The lines of both bands on a link.
-fn both_band_lines(
+/// Writes the lines of both bands on a link.
+fn push_both_bands(
     alloc: Global,
+    out: &mut Vec<u8>,
     artery: &Artery,
     timing: &LinkTiming,
     link: u32,
-) -> Result<Vec<u8>, Memory>
+) -> Result<(), Memory>
     requires first { 1 ≤ link }
     requires last { link < length timing.now.patterns }
-    ensures { IfOk result (λ lines. lines.items ≡ both_band_lines artery.now timing.now link) }
+    ensures { OnOk result (out.new.items ≡ out.old.items ++ both_band_lines artery.now timing.now link) }
 {
-    let mut lines = link_band_line(alloc, artery, timing, Dir::Outbound, link)?;
-    let inbound = link_band_line(alloc, artery, timing, Dir::Inbound, link)?;
-    lines.extend_from_slice(inbound.as_slice())?;
-    Ok(lines)
+    push_link_band(alloc, out, artery, timing, Dir::Outbound, link)?;
+    push_link_band(alloc, out, artery, timing, Dir::Inbound, link)
 }
 
-/// The lines of the bands, from the first link on.
-pub fn link_band_lines(
+/// Writes the lines of the bands, from the first link on.
+pub fn push_link_bands(
     alloc: Global,
+    out: &mut Vec<u8>,
     artery: &Artery,
     timing: &LinkTiming,
-) -> Result<Vec<u8>, Memory>
+) -> Result<(), Memory>
     requires { length timing.now.patterns ≡ count artery.now }
-    ensures { IfOk result (λ lines. lines.items ≡ link_band_lines artery.now timing.now) }
+    ensures { OnOk result (out.new.items ≡ out.old.items ++ link_band_lines artery.now timing.now) }
 {
-    let mut lines = Vec::new(alloc);
     for link in 1..artery.count() {
-        let both = both_band_lines(alloc, artery, timing, link)?;
-        lines.extend_from_slice(both.as_slice())?;
+        push_both_bands(alloc, out, artery, timing, link)?;
     }
-    Ok(lines)
+    Ok(())
 }

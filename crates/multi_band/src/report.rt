@@ -1,34 +1,38 @@
 //! The lines of what a search of link timings found.
 
-ghost use Rattle.std.specs.Prelude.{◌≡◌, IfOk, IfSome, option_map};
+ghost use Rattle.std.specs.Prelude.{◌≡◌, ◌++◌, IfOk, OnOk, IfSome, option_map};
 ghost use Rattle.link_theory.specs.GoodLinks.{GoodLinks};
 ghost use Rattle.multi_band.specs.LinkSites.{HasLinkSite};
 ghost use Rattle.multi_band.specs.LinkReport.{link_timing_lines, link_report_lines};
 
-use crate::band_lines::link_band_lines;
+use crate::band_lines::push_link_bands;
 use crate::found::LinkFound;
 use artery_model::Artery;
-use diagram_print::{cycle_line, link_lines, measure_line, signal_lines, verdict_lines};
+use diagram_print::{
+    push_cycle_line, push_link_lines, push_measure_line, push_signal_lines, verdict_lines,
+};
 use link_proof::link_families;
 use link_space::{LinkTiming, link_value};
 use narrow_fraction::Memory;
+use quantity_text::push_text;
 use std::alloc::Global;
 
-/// The lines of a link timing.
-fn link_timing_lines(alloc: Global, artery: &Artery, timing: &LinkTiming) -> Result<Vec<u8>, Memory>
+/// Writes the lines of a link timing.
+fn push_link_timing(
+    alloc: Global,
+    out: &mut Vec<u8>,
+    artery: &Artery,
+    timing: &LinkTiming,
+) -> Result<(), Memory>
     requires { GoodLinks artery.now timing.now }
-    ensures { IfOk result (λ lines. lines.items ≡ link_timing_lines artery.now timing.now) }
+    ensures { OnOk result (out.new.items ≡ out.old.items ++ link_timing_lines artery.now timing.now) }
 {
-    let mut lines = measure_line(alloc, "weighted", link_value(artery, timing), 6)?;
-    let bands = link_band_lines(alloc, artery, timing)?;
-    let cycle = cycle_line(alloc, artery, timing.lines())?;
-    let signals = signal_lines(alloc, artery, timing.lines())?;
-    let links = link_lines(alloc, artery, timing.lines())?;
-    lines.extend_from_slice(bands.as_slice())?;
-    lines.extend_from_slice(cycle.as_slice())?;
-    lines.extend_from_slice(signals.as_slice())?;
-    lines.extend_from_slice(links.as_slice())?;
-    Ok(lines)
+    push_text(out, "weighted")?;
+    push_measure_line(alloc, out, link_value(artery, timing), 6)?;
+    push_link_bands(alloc, out, artery, timing)?;
+    push_cycle_line(alloc, out, artery, timing.lines())?;
+    push_signal_lines(alloc, out, artery, timing.lines())?;
+    push_link_lines(alloc, out, artery, timing.lines())
 }
 
 /// The lines of the link timing that a search found, where there is one.
@@ -41,7 +45,11 @@ fn lines_of(
     ensures { IfOk result (λ lines. option_map (λ l. l.items) lines ≡ option_map (link_timing_lines artery.now) timing.now) }
 {
     match timing {
-        Some(timing) => Ok(Some(link_timing_lines(alloc, artery, timing)?)),
+        Some(timing) => {
+            let mut lines = Vec::new(alloc);
+            push_link_timing(alloc, &mut lines, artery, timing)?;
+            Ok(Some(lines))
+        }
         None => Ok(None),
     }
 }

@@ -7,12 +7,12 @@ ghost use Rattle.branch_tree.specs.Searches.{IsPartOf};
 
 use artery_model::{Artery, Units};
 use branch_tree::{Found, Site, SitePart, Stop, Verdict};
-use diagram_print::{column_text, diagram, place_text, report, row_text, row_text_in};
+use diagram_print::{diagram, push_column, push_place, push_row, report};
 use fraction_tableau::WideCell;
 use named_row::{Place, RowId, WideAt};
-use narrow_fraction::{Frac, Op, Wide};
+use narrow_fraction::{Frac, Memory, Op, Wide};
 use offset_recovery::WideTiming;
-use plan_text::FamilyName;
+use plan_text::{FAMILIES, FamilyName};
 use sample_streets::{
     SampleHead, SampleLink, plain_head, plain_link, plain_signal, range, sample_street,
 };
@@ -369,16 +369,49 @@ fn sites_of_refused_operations(rt: HostRuntime) -> Result<(), Fail> {
     Ok(())
 }
 
-/// Whether the column of this number, of two signals, is named so.
-fn is_column(alloc: Global, number: u32, name: &str) -> Result<bool, Fail> {
-    let column = column_text(alloc, 2, number)?;
-    let place = place_text(alloc, 2, Place::Cell(number))?;
-    Ok(column.as_str() == name && place.as_str() == name)
+/// The name of the column of this number, of two signals.
+fn column_name(alloc: Global, number: u32) -> Result<Vec<u8>, Memory> {
+    let mut name = Vec::new(alloc);
+    push_column(alloc, &mut name, 2, number)?;
+    Ok(name)
 }
 
-fn is_row(alloc: Global, family: u8, index: u32, name: &str) -> Result<bool, Fail> {
-    let row = row_text(alloc, RowId { family, index })?;
-    Ok(row.as_str() == name)
+/// The name of a place of a row, with two signals.
+fn place_name(alloc: Global, place: Place) -> Result<Vec<u8>, Memory> {
+    let mut name = Vec::new(alloc);
+    push_place(alloc, &mut name, 2, place)?;
+    Ok(name)
+}
+
+/// The name of a row over a table of families.
+fn row_name(alloc: Global, names: &[FamilyName], row: RowId) -> Result<Vec<u8>, Memory> {
+    let mut name = Vec::new(alloc);
+    push_row(alloc, &mut name, names, row)?;
+    Ok(name)
+}
+
+/// Whether the column of this number, of two signals, is named so.
+fn is_column(alloc: Global, number: u32, name: &str) -> Result<bool, Fail> {
+    let column = column_name(alloc, number).map_err(|_| "memory")?;
+    let place = place_name(alloc, Place::Cell(number)).map_err(|_| "memory")?;
+    Ok(column.as_slice() == name.as_bytes() && place.as_slice() == name.as_bytes())
+}
+
+fn is_bound(alloc: Global) -> Result<bool, Fail> {
+    let place = place_name(alloc, Place::Bound).map_err(|_| "memory")?;
+    Ok(place.as_slice() == "bound".as_bytes())
+}
+
+/// Whether a row over a table of families is named so.
+fn is_row_of(
+    alloc: Global,
+    names: &[FamilyName],
+    family: u8,
+    index: u32,
+    name: &str,
+) -> Result<bool, Fail> {
+    let row = row_name(alloc, names, RowId { family, index }).map_err(|_| "memory")?;
+    Ok(row.as_slice() == name.as_bytes())
 }
 
 /// The columns of two signals and their names; the one after the last has none.
@@ -404,7 +437,7 @@ fn names_of_places(rt: HostRuntime) -> Result<(), Fail> {
     for (number, name) in COLUMNS {
         assert!(rt; is_column(rt.alloc(), number, name)?);
     }
-    assert!(rt; place_text(rt.alloc(), 2, Place::Bound)?.as_str() == "bound");
+    assert!(rt; is_bound(rt.alloc())?);
     Ok(())
 }
 
@@ -421,7 +454,7 @@ static ROWS: [(u8, u32, &str); 6] = [
 #[test]
 fn names_of_rows(rt: HostRuntime) -> Result<(), Fail> {
     for (family, index, name) in ROWS {
-        assert!(rt; is_row(rt.alloc(), family, index, name)?);
+        assert!(rt; is_row_of(rt.alloc(), &FAMILIES, family, index, name)?);
     }
     Ok(())
 }
@@ -437,14 +470,9 @@ static TABLE: [FamilyName; 2] = [
     },
 ];
 
-fn is_row_of_table(alloc: Global, family: u8, index: u32, name: &str) -> Result<bool, Fail> {
-    let row = row_text_in(alloc, &TABLE, RowId { family, index })?;
-    Ok(row.as_str() == name)
-}
-
 #[test]
 fn names_of_rows_over_a_table(rt: HostRuntime) -> Result<(), Fail> {
-    assert!(rt; is_row_of_table(rt.alloc(), 1, 0, "alone")?);
-    assert!(rt; is_row_of_table(rt.alloc(), 2, 7, "several 7")?);
+    assert!(rt; is_row_of(rt.alloc(), &TABLE, 1, 0, "alone")?);
+    assert!(rt; is_row_of(rt.alloc(), &TABLE, 2, 7, "several 7")?);
     Ok(())
 }
