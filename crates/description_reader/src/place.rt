@@ -1,6 +1,7 @@
 //! The tables of a description and of a plan, and the paths of places in them.
 
-ghost use Rattle.std.specs.Prelude.{◌≡◌, IfOk, string_bytes};
+ghost use Rattle.std.specs.Prelude.{◌≡◌, ◌++◌, IfOk, string_bytes, codes};
+ghost use Rattle.std.specs.Fmt.{decimal};
 ghost use Rattle.description_reader.specs.Places.{key_place, item_place};
 
 use std::alloc::{AllocError, Global};
@@ -32,6 +33,18 @@ pub struct Facts {
     pub timed_in: bool,
 }
 
+/// The path of a key of a signal or a link, as `signal[3].red`.
+fn numbered_place(
+    alloc: Global,
+    table: &str,
+    number: usize,
+    key: &str,
+) -> Result<String, AllocError>
+    ensures { IfOk result (λ s. string_bytes s ≡ table.now ++ (codes "[" ++ (decimal number ++ (codes "]." ++ key.now)))) }
+{
+    format!(in alloc; "{table}[{number}].{key}")
+}
+
 /// The path of a key, as `artery.parts` or `signal[3].red`.
 pub fn key_place(alloc: Global, section: Section, key: &str) -> Result<String, AllocError>
     ensures { IfOk result (λ s. string_bytes s ≡ key_place section key.now) }
@@ -39,8 +52,8 @@ pub fn key_place(alloc: Global, section: Section, key: &str) -> Result<String, A
     match section {
         Section::Root | Section::PlanRoot => String::from_str(alloc, key),
         Section::Artery => format!(in alloc; "artery.{key}"),
-        Section::Signal(number) => format!(in alloc; "signal[{number}].{key}"),
-        Section::Link(number) => format!(in alloc; "link[{number}].{key}"),
+        Section::Signal(number) => numbered_place(alloc, "signal", number, key),
+        Section::Link(number) => numbered_place(alloc, "link", number, key),
         Section::Plan => format!(in alloc; "plan.{key}"),
     }
 }
