@@ -2,7 +2,6 @@ pub mod Decimals
 pub mod ExactTexts
 pub mod Quotients
 pub mod Runs
-pub mod Spellings
 pub mod RunsLaws
 pub mod Numerals
 pub mod ReadBack
