@@ -21,7 +21,7 @@ fn tick_at(cycle: u128, place: u32) -> i128
     ensures value { result ≡ pos (tick_at cycle place) }
     ensures small { unsigned_abs result < 2 ^ 100 }
 {
-    (u128::from(place) * cycle / u128::from(PLACES)) as i128
+    (place as u128 * cycle / PLACES as u128) as i128
 }
 
 /// The character of a band.

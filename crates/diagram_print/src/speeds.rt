@@ -58,8 +58,7 @@ fn push_speed_lines(
     push_speed_line(alloc, out, artery, timing, Dir::Inbound, link)
 }
 
-/// Writes the lines of the links, from the first on: the speeds in both directions, in the description's units. The timing keeps
-/// the rules that don't speak of bands.
+/// Writes the lines of the links, as `link_lines` has them.
 pub fn push_link_lines(
     alloc: Global,
     out: &mut Vec<u8>,

@@ -2,7 +2,6 @@
 
 ghost use Rattle.std.specs.Prelude.{◌≡◌, ◌++◌, ◌+◌, ◌≤◌, length, flat_map, OnOk};
 ghost use Rattle.search_box.specs.Seen.{span_of};
-ghost use Rattle.linear_theory.specs.Boxes.{turn_span};
 ghost use Rattle.linear_theory.specs.Boxes.{IsBoxOf};
 ghost use Rattle.progression.specs.Street.{count};
 ghost use Rattle.certificate_model.specs.Families.{table_of};
