@@ -1,5 +1,4 @@
 pub mod Boxed
 pub mod ColumnNames
-pub mod Pushed
 pub mod RowNames
 pub mod Spans

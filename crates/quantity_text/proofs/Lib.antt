@@ -4,5 +4,6 @@ pub mod Quotients
 pub mod Runs
 pub mod RunsLaws
 pub mod Numerals
+pub mod Pushed
 pub mod ReadBack
 pub mod ExactParts

@@ -2,7 +2,7 @@ use Rattle.std.proofs.Common.{◌+◌, ◌++◌, sym, ap, ◌∙◌, append-nil,
 use Rattle.progression.specs.Street.{count}
 use Rattle.diagram_print.specs.Diagram.{signal_rows}
 use Rattle.timing_measures.proofs.Pieces.{none_down, piece_down, all_down}
-use Rattle.diagram_print.proofs.Pushed.{one_more}
+use Rattle.quantity_text.proofs.Pushed.{one_more}
 use Rattle.diagram_print.proofs.chart.push_diagram.Goals as goal
 
 pub loop-signal-init : goal.loop-signal-init

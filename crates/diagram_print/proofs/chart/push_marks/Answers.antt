@@ -1,7 +1,7 @@
 use Rattle.std.proofs.Common.{◌++◌, ◌∷◌, [], ap, ◌∙◌, arith}
 use Rattle.std.proofs.lemmas.List.FromFn.{map-range_with_len_more}
 use Rattle.diagram_print.specs.Diagram.{mark_at}
-use Rattle.diagram_print.proofs.Pushed.{one_more}
+use Rattle.quantity_text.proofs.Pushed.{one_more}
 use Rattle.diagram_print.proofs.chart.push_marks.Goals as goal
 
 pub loop-place-preserved : goal.loop-place-preserved

@@ -1,7 +1,7 @@
 use Rattle.std.proofs.Common.{arith}
 use Rattle.diagram_print.specs.Offsets.{signal_line}
 use Rattle.timing_measures.proofs.Pieces.{piece_next}
-use Rattle.diagram_print.proofs.Pushed.{one_more}
+use Rattle.quantity_text.proofs.Pushed.{one_more}
 use Rattle.diagram_print.proofs.offsets.push_signal_lines.Goals as goal
 
 pub loop-signal-preserved : goal.loop-signal-preserved

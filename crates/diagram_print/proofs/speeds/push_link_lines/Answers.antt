@@ -3,7 +3,7 @@ use Rattle.std.specs.List.{range_with_len}
 use Rattle.progression.specs.Street.{count}
 use Rattle.diagram_print.specs.Speeds.{speed_lines}
 use Rattle.timing_measures.proofs.Pieces.{piece_next}
-use Rattle.diagram_print.proofs.Pushed.{one_more}
+use Rattle.quantity_text.proofs.Pushed.{one_more}
 use Rattle.diagram_print.proofs.speeds.push_link_lines.Goals as goal
 
 pub loop-link-preserved : goal.loop-link-preserved

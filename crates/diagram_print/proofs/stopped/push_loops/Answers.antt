@@ -2,7 +2,7 @@ use Rattle.std.proofs.Common.{◌++◌, flat_map, ap, ◌∙◌, arith}
 use Rattle.std.proofs.lemmas.List.{take_all}
 use Rattle.linear_theory.specs.Boxes.{no_span}
 use Rattle.diagram_print.specs.Report.{span_text}
-use Rattle.diagram_print.proofs.Pushed.{one_more}
+use Rattle.quantity_text.proofs.Pushed.{one_more}
 use Rattle.diagram_print.proofs.Spans.{next_piece}
 use Rattle.diagram_print.proofs.stopped.push_loops.Goals as goal
 

@@ -3,7 +3,7 @@ use Rattle.std.proofs.lemmas.List.{take_all}
 use Rattle.search_box.specs.Seen.{span_of}
 use Rattle.linear_theory.specs.Boxes.{no_ranks}
 use Rattle.diagram_print.specs.Report.{span_text, ranks_text}
-use Rattle.diagram_print.proofs.Pushed.{one_more}
+use Rattle.quantity_text.proofs.Pushed.{one_more}
 use Rattle.diagram_print.proofs.Spans.{next_piece}
 use Rattle.diagram_print.proofs.stopped.push_shifts.Goals as goal
 

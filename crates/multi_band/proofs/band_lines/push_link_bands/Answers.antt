@@ -2,7 +2,7 @@ use Rattle.std.proofs.Common.{◌≡◌, ◌-◌, ◌++◌, flat_map, ap, ◌∙
 use Rattle.std.specs.List.{range_with_len}
 use Rattle.progression.specs.Street.{count}
 use Rattle.timing_measures.proofs.Pieces.{piece_next}
-use Rattle.diagram_print.proofs.Pushed.{one_more}
+use Rattle.quantity_text.proofs.Pushed.{one_more}
 use Rattle.multi_band.specs.LinkReport.{both_band_lines}
 use Rattle.multi_band.proofs.band_lines.push_link_bands.Goals as goal
 
