@@ -9,3 +9,4 @@ pub mod Ranges
 pub mod Tried
 pub mod Cycling
 pub mod Planning
+pub mod Pushed

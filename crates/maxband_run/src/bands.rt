@@ -1,6 +1,6 @@
 //! The command `bands`.
 
-ghost use Rattle.std.specs.Prelude.{◌≡◌, ◌++◌, ◌<◌, None, Some, IfOk, IfSome, codes};
+ghost use Rattle.std.specs.Prelude.{◌≡◌, ◌++◌, ◌<◌, None, Some, IfOk, IfSome, OnOk, codes};
 ghost use Rattle.progression.specs.Street.{count};
 ghost use Rattle.progression.specs.TimingRecord.{cycle};
 ghost use Rattle.diagram_print.specs.Measures.{dir_name};
@@ -9,56 +9,68 @@ ghost use Rattle.maxband_run.specs.Bands.{widest_line, IsMeasured, BandsFinds};
 
 use crate::answer::{Answer, told};
 use crate::cause::Cause;
-use crate::lines::fails_line;
+use crate::hold::fails;
+use crate::lines::push_number_line;
 use artery_model::{Artery, Dir};
 use band_measure::{Widest, base_holds, widest};
-use diagram_print::{dir_name, quotient_text};
+use diagram_print::{dir_name, push_measure};
 use narrow_fraction::Memory;
+use quantity_text::push_text;
 use std::alloc::Global;
 use time_space::{Timing, cycle};
+use timing_measures::quotient;
 
-/// The line of a direction without a band.
-fn no_band_line(alloc: Global, dir: Dir) -> Result<Vec<u8>, Memory>
-    ensures { IfOk result (λ line. line.items ≡ codes "no band " ++ (dir_name dir ++ codes "\n")) }
+/// Writes the line of a direction without a band.
+fn push_no_band(out: &mut Vec<u8>, dir: Dir) -> Result<(), Memory>
+    ensures { OnOk result (out.new.items ≡ out.old.items ++ (codes "no band " ++ (dir_name dir ++ codes "\n"))) }
 {
-    let name = dir_name(dir);
-    Ok(format!(in alloc; "no band {name}\n")?.into_bytes())
+    push_text(out, "no band ")?;
+    push_text(out, dir_name(dir))?;
+    push_text(out, "\n")
 }
 
-/// The line of a direction's widest band, a fraction of the cycle, with the tick of its first line.
-fn band_line(
+/// The name of a direction's band.
+fn band_name(dir: Dir) -> &'static str
+    ensures { result.now ≡ codes "band " ++ dir_name dir }
+{
+    match dir {
+        Dir::Outbound => "band out",
+        Dir::Inbound => "band in",
+    }
+}
+
+/// Writes the line of a direction's widest band, a fraction of the cycle, with the tick of its first line.
+fn push_band(
     alloc: Global,
+    out: &mut Vec<u8>,
     artery: &Artery,
     timing: &Timing,
     dir: Dir,
     widest: Widest,
-) -> Result<Vec<u8>, Memory>
+) -> Result<(), Memory>
     requires { widest.band < cycle artery.now timing.now }
-    ensures { IfOk result (λ line. line.items ≡ widest_line artery.now timing.now dir (Some widest)) }
+    ensures { OnOk result (out.new.items ≡ out.old.items ++ widest_line artery.now timing.now dir (Some widest)) }
 {
-    let dir_name = dir_name(dir);
-    let name = format!(in alloc; "band {dir_name}")?;
-    let first = widest.first;
-    let end = format!(in alloc; " first {first}\n")?;
-    let mut line = quotient_text(alloc, name.as_str(), widest.band, cycle(artery, timing), 6)?;
-    line.extend_from_slice(end.as_bytes())?;
-    Ok(line)
+    push_text(out, band_name(dir))?;
+    push_measure(alloc, out, quotient(widest.band, cycle(artery, timing)), 6)?;
+    push_number_line(alloc, out, " first ", widest.first)
 }
 
-/// The line of what is measured of a direction.
-fn widest_line(
+/// Writes the line of what is measured of a direction.
+fn push_widest(
     alloc: Global,
+    out: &mut Vec<u8>,
     artery: &Artery,
     timing: &Timing,
     dir: Dir,
     found: Option<Widest>,
-) -> Result<Vec<u8>, Memory>
+) -> Result<(), Memory>
     requires { IfSome found (λ w. w.band < cycle artery.now timing.now) }
-    ensures { IfOk result (λ line. line.items ≡ widest_line artery.now timing.now dir found) }
+    ensures { OnOk result (out.new.items ≡ out.old.items ++ widest_line artery.now timing.now dir found) }
 {
     match found {
-        Some(widest) => band_line(alloc, artery, timing, dir, widest),
-        None => no_band_line(alloc, dir),
+        Some(widest) => push_band(alloc, out, artery, timing, dir, widest),
+        None => push_no_band(out, dir),
     }
 }
 
@@ -71,9 +83,9 @@ pub fn measured(alloc: Global, artery: &Artery, timing: &Timing) -> Result<Vec<u
     prove!(2 <= timing.unit());
     let outbound = widest(artery, timing, Dir::Outbound);
     let inbound = widest(artery, timing, Dir::Inbound);
-    let mut lines = widest_line(alloc, artery, timing, Dir::Outbound, outbound)?;
-    let second = widest_line(alloc, artery, timing, Dir::Inbound, inbound)?;
-    lines.extend_from_slice(second.as_slice())?;
+    let mut lines = Vec::new(alloc);
+    push_widest(alloc, &mut lines, artery, timing, Dir::Outbound, outbound)?;
+    push_widest(alloc, &mut lines, artery, timing, Dir::Inbound, inbound)?;
     Ok(lines)
 }
 
@@ -84,8 +96,7 @@ pub fn bands(alloc: Global, artery: &Artery, timing: &Timing) -> Result<Answer<'
     ensures no_put { IfOk result (λ a. a.put ≡ None) }
 {
     if let Err(failing) = base_holds(artery, timing) {
-        let lines = fails_line(alloc, failing)?.into_bytes();
-        return Ok(told(Cause::Fails(failing), lines));
+        return fails(alloc, failing);
     }
     let lines = measured(alloc, artery, timing)?;
     Ok(told(Cause::Done, lines))

@@ -3,16 +3,27 @@
 ghost use Rattle.std.specs.Prelude.{◌≡◌, ◌≢◌, None, IfOk};
 ghost use Rattle.progression.specs.Street.{count};
 ghost use Rattle.maxband_run.specs.Check.{CheckFinds};
-ghost use Rattle.maxband_run.specs.CheckLines.{rejected_line};
+ghost use Rattle.maxband_run.specs.CheckLines.{accepted_line, rejected_line};
 
 use crate::answer::{Answer, told};
 use crate::cause::Cause;
-use crate::check_lines::{accepted_line, rejected_line};
+use crate::check_lines::{push_accepted, push_rejected};
 use artery_model::Artery;
 use certificate_checker::Reject;
 use narrow_fraction::Memory;
-use plan_text::Certificate;
+use plan_text::{Certificate, Claim};
 use std::alloc::Global;
+
+/// The answer where a certificate that claims this is accepted.
+pub fn accepted(alloc: Global, claim: Claim) -> Result<Answer<'static>, Memory>
+    ensures cause { IfOk result (λ a. a.cause ≡ Cause.Done) }
+    ensures lines { IfOk result (λ a. a.lines.items ≡ accepted_line claim) }
+    ensures no_put { IfOk result (λ a. a.put ≡ None) }
+{
+    let mut lines = Vec::new(alloc);
+    push_accepted(alloc, &mut lines, claim)?;
+    Ok(told(Cause::Done, lines))
+}
 
 /// The answer where a certificate is rejected.
 pub fn rejected(alloc: Global, artery: &Artery, reject: Reject) -> Result<Answer<'static>, Memory>
@@ -21,7 +32,8 @@ pub fn rejected(alloc: Global, artery: &Artery, reject: Reject) -> Result<Answer
     ensures lines { IfOk result (λ a. a.lines.items ≡ rejected_line (count artery.now) reject) }
     ensures no_put { IfOk result (λ a. a.put ≡ None) }
 {
-    let lines = rejected_line(alloc, artery.count(), &reject)?.into_bytes();
+    let mut lines = Vec::new(alloc);
+    push_rejected(alloc, &mut lines, artery.count(), &reject)?;
     Ok(told(Cause::Rejected(reject), lines))
 }
 
@@ -35,10 +47,7 @@ pub fn check(
     ensures no_put { IfOk result (λ a. a.put ≡ None) }
 {
     match certificate_checker::check(alloc, artery, certificate) {
-        Ok(()) => {
-            let lines = accepted_line(alloc, certificate.claim)?.into_bytes();
-            Ok(told(Cause::Done, lines))
-        }
+        Ok(()) => accepted(alloc, certificate.claim),
         Err(reject) => rejected(alloc, artery, reject),
     }
 }

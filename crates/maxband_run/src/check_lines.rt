@@ -1,208 +1,264 @@
 //! The lines of what `check` and `check-links` find.
 
-ghost use Rattle.std.specs.Prelude.{◌≡◌, ◌≢◌, IfOk, string_bytes};
+ghost use Rattle.std.specs.Prelude.{◌≡◌, ◌≢◌, ◌++◌, OnOk, codes};
+ghost use Rattle.std.specs.Fmt.{decimal};
 ghost use Rattle.certificate_model.specs.Families.{table_of};
+ghost use Rattle.diagram_print.specs.Names.{row_text_in, place_text};
 ghost use Rattle.maxband_run.specs.Lines.{failing_text};
 ghost use Rattle.certificate_checker.specs.declared.reject.Reject.TheVariants as refusal;
-ghost use Rattle.maxband_run.specs.CheckLines.{best_line, bound_line, between_line, open_line, accepted_line};
-ghost use Rattle.maxband_run.specs.CheckLines.{leaf_line, wide_line, value_line, below_line, weak_line, split_line, timing_line, rejected_line, link_failing_text, link_rejected_line};
+ghost use Rattle.maxband_run.specs.CheckLines.{open_line, accepted_line};
+ghost use Rattle.maxband_run.specs.CheckLines.{leaf_line, wide_line, value_line, below_line, weak_line, timing_line, rejected_line, link_failing_text, link_rejected_line};
 
-use crate::lines::failing_text;
+use crate::lines::{
+    push_crossing, push_exact_line, push_failing, push_failing_line, push_number_line,
+    push_numbered, push_pair_line,
+};
 use certificate_checker::Reject;
-use diagram_print::{place_text, row_text_in};
+use diagram_print::{push_place, push_row};
 use link_proof::{LinkReject, link_families};
 use link_space::LinkFailing;
 use named_row::{Place, RowId};
-use narrow_fraction::Frac;
+use narrow_fraction::{Frac, Memory};
 use plan_text::{Claim, FAMILIES, FamilyName};
-use quantity_text::exact_string;
-use std::alloc::{AllocError, Global};
+use quantity_text::push_text;
+use std::alloc::Global;
 use time_space::Failing;
 
-fn best_line(alloc: Global, value: Frac) -> Result<String, AllocError>
-    ensures { IfOk result (λ text. string_bytes text ≡ best_line value) }
-{
-    let value = exact_string(alloc, value)?;
-    format!(in alloc; "accepted best {value}\n")
-}
-
-fn bound_line(alloc: Global, bound: Frac) -> Result<String, AllocError>
-    ensures { IfOk result (λ text. string_bytes text ≡ bound_line bound) }
-{
-    let bound = exact_string(alloc, bound)?;
-    format!(in alloc; "accepted open bound {bound}\n")
-}
-
-fn between_line(alloc: Global, bound: Frac, value: Frac) -> Result<String, AllocError>
-    ensures { IfOk result (λ text. string_bytes text ≡ between_line bound value) }
-{
-    let bound = exact_string(alloc, bound)?;
-    let value = exact_string(alloc, value)?;
-    format!(in alloc; "accepted open bound {bound} value {value}\n")
-}
-
-/// The line of a bound, and of the value where a timing was found.
-fn open_line(alloc: Global, bound: Frac, value: Option<Frac>) -> Result<String, AllocError>
-    ensures { IfOk result (λ text. string_bytes text ≡ open_line bound value) }
+/// Writes the line of a bound, and of the value where a timing was found.
+fn push_open(
+    alloc: Global,
+    out: &mut Vec<u8>,
+    bound: Frac,
+    value: Option<Frac>,
+) -> Result<(), Memory>
+    ensures { OnOk result (out.new.items ≡ out.old.items ++ open_line bound value) }
 {
     match value {
-        Some(value) => between_line(alloc, bound, value),
-        None => bound_line(alloc, bound),
+        Some(value) => {
+            push_pair_line(alloc, out, "accepted open bound ", bound, " value ", value)
+        }
+        None => push_exact_line(alloc, out, "accepted open bound ", bound),
     }
 }
 
-/// The line of an accepted certificate that claims this.
-pub fn accepted_line(alloc: Global, claim: Claim) -> Result<String, AllocError>
-    ensures { IfOk result (λ text. string_bytes text ≡ accepted_line claim) }
+/// Writes the line of an accepted certificate that claims this.
+pub fn push_accepted(alloc: Global, out: &mut Vec<u8>, claim: Claim) -> Result<(), Memory>
+    ensures { OnOk result (out.new.items ≡ out.old.items ++ accepted_line claim) }
 {
     match claim {
-        Claim::Best { value } => best_line(alloc, value),
-        Claim::NoTiming => String::from_str(alloc, "accepted none\n"),
-        Claim::Stopped { bound, value } => open_line(alloc, bound, value),
+        Claim::Best { value } => push_exact_line(alloc, out, "accepted best ", value),
+        Claim::NoTiming => push_text(out, "accepted none\n"),
+        Claim::Stopped { bound, value } => push_open(alloc, out, bound, value),
     }
 }
 
-fn value_line(alloc: Global, kept: Frac, claimed: Frac) -> Result<String, AllocError>
-    ensures { IfOk result (λ text. string_bytes text ≡ value_line kept claimed) }
-{
-    let kept = exact_string(alloc, kept)?;
-    let claimed = exact_string(alloc, claimed)?;
-    format!(in alloc; "rejected value kept {kept} claimed {claimed}\n")
-}
-
-fn below_line(alloc: Global, bound: Frac, value: Frac) -> Result<String, AllocError>
-    ensures { IfOk result (λ text. string_bytes text ≡ below_line bound value) }
-{
-    let bound = exact_string(alloc, bound)?;
-    let value = exact_string(alloc, value)?;
-    format!(in alloc; "rejected bound {bound} value {value}\n")
-}
-
-/// The line of a row of a leaf, whose family this table names.
-fn leaf_line(
+/// Writes what begins so, the number of a leaf and the name of its row, whose family this table names.
+fn push_leaf_row(
     alloc: Global,
+    out: &mut Vec<u8>,
+    begin: &str,
+    names: &[FamilyName],
+    leaf: u64,
+    row: RowId,
+) -> Result<(), Memory>
+    ensures { OnOk result (out.new.items ≡ out.old.items ++ (begin.now ++ (decimal leaf ++ (codes " " ++ row_text_in (table_of names.now) row)))) }
+{
+    push_numbered(alloc, out, begin, leaf as u128)?;
+    push_text(out, " ")?;
+    push_row(alloc, out, names, row)
+}
+
+/// Writes the end of a line that names a place.
+fn push_at(alloc: Global, out: &mut Vec<u8>, signals: u32, place: Place) -> Result<(), Memory>
+    ensures { OnOk result (out.new.items ≡ out.old.items ++ (codes " " ++ (place_text signals place ++ codes "\n"))) }
+{
+    push_text(out, " ")?;
+    push_place(alloc, out, signals, place)?;
+    push_text(out, "\n")
+}
+
+/// Writes the line of a row of a leaf, whose family this table names.
+fn push_leaf(
+    alloc: Global,
+    out: &mut Vec<u8>,
     names: &[FamilyName],
     fault: &str,
     leaf: u64,
     row: RowId,
-) -> Result<String, AllocError>
-    ensures { IfOk result (λ text. string_bytes text ≡ leaf_line (table_of names.now) fault.now leaf row) }
+) -> Result<(), Memory>
+    ensures { OnOk result (out.new.items ≡ out.old.items ++ leaf_line (table_of names.now) fault.now leaf row) }
 {
-    let row = row_text_in(alloc, names, row)?;
-    format!(in alloc; "rejected {fault} leaf {leaf} {row}\n")
+    push_text(out, "rejected ")?;
+    push_text(out, fault)?;
+    push_leaf_row(alloc, out, " leaf ", names, leaf, row)?;
+    push_text(out, "\n")
 }
 
-fn wide_line(
+/// Writes the line of a row of a leaf that isn't there.
+fn push_missing(
     alloc: Global,
+    out: &mut Vec<u8>,
+    names: &[FamilyName],
+    leaf: u64,
+    row: RowId,
+) -> Result<(), Memory>
+    ensures { OnOk result (out.new.items ≡ out.old.items ++ leaf_line (table_of names.now) (codes "row") leaf row) }
+{
+    push_leaf(alloc, out, names, "row", leaf, row)
+}
+
+/// Writes the line of a row of a leaf whose multiplier is below 0.
+fn push_negative(
+    alloc: Global,
+    out: &mut Vec<u8>,
+    names: &[FamilyName],
+    leaf: u64,
+    row: RowId,
+) -> Result<(), Memory>
+    ensures { OnOk result (out.new.items ≡ out.old.items ++ leaf_line (table_of names.now) (codes "negative") leaf row) }
+{
+    push_leaf(alloc, out, names, "negative", leaf, row)
+}
+
+/// Writes the line of a leaf's sum that leaves 128 bits.
+fn push_wide(
+    alloc: Global,
+    out: &mut Vec<u8>,
     names: &[FamilyName],
     signals: u32,
     leaf: u64,
     row: RowId,
     place: Place,
-) -> Result<String, AllocError>
-    ensures { IfOk result (λ text. string_bytes text ≡ wide_line (table_of names.now) signals leaf row place) }
+) -> Result<(), Memory>
+    ensures { OnOk result (out.new.items ≡ out.old.items ++ wide_line (table_of names.now) signals leaf row place) }
 {
-    let row = row_text_in(alloc, names, row)?;
-    let place = place_text(alloc, signals, place)?;
-    format!(in alloc; "rejected wide leaf {leaf} {row} {place}\n")
+    push_leaf_row(alloc, out, "rejected wide leaf ", names, leaf, row)?;
+    push_at(alloc, out, signals, place)
 }
 
-fn weak_line(alloc: Global, signals: u32, leaf: u64, place: Place) -> Result<String, AllocError>
-    ensures { IfOk result (λ text. string_bytes text ≡ weak_line signals leaf place) }
+/// Writes the line of a leaf's sum that is too weak.
+fn push_weak(
+    alloc: Global,
+    out: &mut Vec<u8>,
+    signals: u32,
+    leaf: u64,
+    place: Place,
+) -> Result<(), Memory>
+    ensures { OnOk result (out.new.items ≡ out.old.items ++ weak_line signals leaf place) }
 {
-    let place = place_text(alloc, signals, place)?;
-    format!(in alloc; "rejected weak leaf {leaf} {place}\n")
+    push_numbered(alloc, out, "rejected weak leaf ", leaf as u128)?;
+    push_at(alloc, out, signals, place)
 }
 
-fn split_line(alloc: Global, node: u64) -> Result<String, AllocError>
-    ensures { IfOk result (λ text. string_bytes text ≡ split_line node) }
+/// Writes the line of a value that isn't the one that is claimed.
+fn push_value(alloc: Global, out: &mut Vec<u8>, kept: Frac, claimed: Frac) -> Result<(), Memory>
+    ensures { OnOk result (out.new.items ≡ out.old.items ++ value_line kept claimed) }
 {
-    format!(in alloc; "rejected split node {node}\n")
+    push_pair_line(
+        alloc,
+        out,
+        "rejected value kept ",
+        kept,
+        " claimed ",
+        claimed,
+    )
 }
 
-/// The line of a timing that breaks the rule of this text.
-fn timing_line(alloc: Global, rule: &str) -> Result<String, AllocError>
-    ensures { IfOk result (λ text. string_bytes text ≡ timing_line rule.now) }
+/// Writes the line of a bound below the value.
+fn push_below(alloc: Global, out: &mut Vec<u8>, bound: Frac, value: Frac) -> Result<(), Memory>
+    ensures { OnOk result (out.new.items ≡ out.old.items ++ below_line bound value) }
 {
-    format!(in alloc; "rejected timing {rule}\n")
+    push_pair_line(alloc, out, "rejected bound ", bound, " value ", value)
 }
 
-/// The line of a timing that breaks a rule.
-fn failing_line(alloc: Global, failing: Failing) -> Result<String, AllocError>
-    ensures { IfOk result (λ text. string_bytes text ≡ timing_line (failing_text failing)) }
+/// Writes the line of a timing that breaks a rule.
+fn push_timing(alloc: Global, out: &mut Vec<u8>, failing: Failing) -> Result<(), Memory>
+    ensures { OnOk result (out.new.items ≡ out.old.items ++ timing_line (failing_text failing)) }
 {
-    let text = failing_text(alloc, failing)?;
-    timing_line(alloc, text.as_str())
+    push_failing_line(alloc, out, "rejected timing ", failing)
 }
 
-/// The line of a refusal on an artery with so many signals. A refusal for want of memory has none, and is told as such.
+/// Writes the line of a refusal on an artery with so many signals. A refusal for want of memory has none, and is told as such.
 #[tactic(auto, unfolding(certificate_model::specs::Families::ordinary))]
-pub fn rejected_line(alloc: Global, signals: u32, reject: &Reject) -> Result<String, AllocError>
-    ensures kept { IfOk result (λ text. reject.now ≢ Reject.Memory) }
-    ensures line { IfOk result (λ text. string_bytes text ≡ rejected_line signals reject.now) }
+pub fn push_rejected(
+    alloc: Global,
+    out: &mut Vec<u8>,
+    signals: u32,
+    reject: &Reject,
+) -> Result<(), Memory>
+    ensures kept { OnOk result (reject.now ≢ Reject.Memory) }
+    ensures line { OnOk result (out.new.items ≡ out.old.items ++ rejected_line signals reject.now) }
 {
     match reject {
-        Reject::TimingFails(failing) => failing_line(alloc, *failing),
-        Reject::ValueDiffers { kept, claimed } => value_line(alloc, *kept, *claimed),
-        Reject::BoundBelow { bound, value } => below_line(alloc, *bound, *value),
-        Reject::SplitOutside { node } => split_line(alloc, *node),
-        Reject::NoSuchRow { leaf, row } => leaf_line(alloc, &FAMILIES, "row", *leaf, *row),
-        Reject::Negative { leaf, row } => leaf_line(alloc, &FAMILIES, "negative", *leaf, *row),
-        Reject::Wide { leaf, row, at } => {
-            wide_line(alloc, &FAMILIES, signals, *leaf, *row, at.place)
+        Reject::TimingFails(failing) => push_timing(alloc, out, *failing),
+        Reject::ValueDiffers { kept, claimed } => { push_value(alloc, out, *kept, *claimed) }
+        Reject::BoundBelow { bound, value } => { push_below(alloc, out, *bound, *value) }
+        Reject::SplitOutside { node } => {
+            push_number_line(alloc, out, "rejected split node ", *node as u128)
         }
-        Reject::LeafTooWeak { leaf, place } => weak_line(alloc, signals, *leaf, *place),
-        Reject::Memory => Err(AllocError),
+        Reject::NoSuchRow { leaf, row } => push_missing(alloc, out, &FAMILIES, *leaf, *row),
+        Reject::Negative { leaf, row } => push_negative(alloc, out, &FAMILIES, *leaf, *row),
+        Reject::Wide { leaf, row, at } => {
+            push_wide(alloc, out, &FAMILIES, signals, *leaf, *row, at.place)
+        }
+        Reject::LeafTooWeak { leaf, place } => push_weak(alloc, out, signals, *leaf, *place),
+        Reject::Memory => Err(Memory),
     }
 }
 
-/// The text that names a broken rule of link timings.
-fn link_failing_text(alloc: Global, failing: LinkFailing) -> Result<String, AllocError>
-    ensures { IfOk result (λ text. string_bytes text ≡ link_failing_text failing) }
+/// Writes the text that names a broken rule of link timings.
+fn push_link_failing(alloc: Global, out: &mut Vec<u8>, failing: LinkFailing) -> Result<(), Memory>
+    ensures { OnOk result (out.new.items ≡ out.old.items ++ link_failing_text failing) }
 {
     match failing {
-        LinkFailing::Base(failing) => failing_text(alloc, failing),
-        LinkFailing::Ratio { link } => format!(in alloc; "ratio link {link}"),
-        LinkFailing::Outbound { link, signal, tick } => format!(in alloc;
-            "outbound link {link} signal {signal} tick {tick}"
-        ),
-        LinkFailing::Inbound { link, signal, tick } => format!(in alloc;
-            "inbound link {link} signal {signal} tick {tick}"
-        ),
+        LinkFailing::Base(failing) => push_failing(alloc, out, failing),
+        LinkFailing::Ratio { link } => push_numbered(alloc, out, "ratio link ", link as u128),
+        LinkFailing::Outbound { link, signal, tick } => {
+            push_numbered(alloc, out, "outbound link ", link as u128)?;
+            push_crossing(alloc, out, signal, tick)
+        }
+        LinkFailing::Inbound { link, signal, tick } => {
+            push_numbered(alloc, out, "inbound link ", link as u128)?;
+            push_crossing(alloc, out, signal, tick)
+        }
     }
 }
 
-/// The line of a link timing that breaks a rule.
-fn link_failing_line(alloc: Global, failing: LinkFailing) -> Result<String, AllocError>
-    ensures { IfOk result (λ text. string_bytes text ≡ timing_line (link_failing_text failing)) }
+/// Writes the line of a link timing that breaks a rule.
+fn push_link_timing(alloc: Global, out: &mut Vec<u8>, failing: LinkFailing) -> Result<(), Memory>
+    ensures { OnOk result (out.new.items ≡ out.old.items ++ timing_line (link_failing_text failing)) }
 {
-    let text = link_failing_text(alloc, failing)?;
-    timing_line(alloc, text.as_str())
+    push_text(out, "rejected timing ")?;
+    push_link_failing(alloc, out, failing)?;
+    push_text(out, "\n")
 }
 
-/// The line of a refusal of a certificate of link timings, on an artery with so many signals. A refusal for want of memory has none,
-/// and is told as such.
-pub fn link_rejected_line(
+/// Writes the line of a refusal of a certificate of link timings, on an artery with so many signals. A refusal for want of memory
+/// has none, and is told as such.
+pub fn push_link_rejected(
     alloc: Global,
+    out: &mut Vec<u8>,
     signals: u32,
     reject: &LinkReject,
-) -> Result<String, AllocError>
-    ensures kept { IfOk result (λ text. reject.now ≢ refusal.Memory) }
-    ensures line { IfOk result (λ text. string_bytes text ≡ link_rejected_line signals reject.now) }
+) -> Result<(), Memory>
+    ensures kept { OnOk result (reject.now ≢ refusal.Memory) }
+    ensures line { OnOk result (out.new.items ≡ out.old.items ++ link_rejected_line signals reject.now) }
 {
     let names = link_families(alloc)?;
     let names = names.as_slice();
     match reject {
-        LinkReject::TimingFails(failing) => link_failing_line(alloc, *failing),
-        LinkReject::ValueDiffers { kept, claimed } => value_line(alloc, *kept, *claimed),
-        LinkReject::BoundBelow { bound, value } => below_line(alloc, *bound, *value),
-        LinkReject::SplitOutside { node } => split_line(alloc, *node),
-        LinkReject::NoSuchRow { leaf, row } => leaf_line(alloc, names, "row", *leaf, *row),
-        LinkReject::Negative { leaf, row } => leaf_line(alloc, names, "negative", *leaf, *row),
-        LinkReject::Wide { leaf, row, at } => {
-            wide_line(alloc, names, signals, *leaf, *row, at.place)
+        LinkReject::TimingFails(failing) => push_link_timing(alloc, out, *failing),
+        LinkReject::ValueDiffers { kept, claimed } => { push_value(alloc, out, *kept, *claimed) }
+        LinkReject::BoundBelow { bound, value } => { push_below(alloc, out, *bound, *value) }
+        LinkReject::SplitOutside { node } => {
+            push_number_line(alloc, out, "rejected split node ", *node as u128)
         }
-        LinkReject::LeafTooWeak { leaf, place } => weak_line(alloc, signals, *leaf, *place),
-        LinkReject::Memory => Err(AllocError),
+        LinkReject::NoSuchRow { leaf, row } => push_missing(alloc, out, names, *leaf, *row),
+        LinkReject::Negative { leaf, row } => push_negative(alloc, out, names, *leaf, *row),
+        LinkReject::Wide { leaf, row, at } => {
+            push_wide(alloc, out, names, signals, *leaf, *row, at.place)
+        }
+        LinkReject::LeafTooWeak { leaf, place } => push_weak(alloc, out, signals, *leaf, *place),
+        LinkReject::Memory => Err(Memory),
     }
 }

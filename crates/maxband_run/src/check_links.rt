@@ -1,15 +1,31 @@
 //! The command `check-links`.
 
-ghost use Rattle.std.specs.Prelude.{◌≡◌, None, IfOk};
+ghost use Rattle.std.specs.Prelude.{◌≡◌, ◌≢◌, None, IfOk};
+ghost use Rattle.progression.specs.Street.{count};
+ghost use Rattle.certificate_checker.specs.declared.reject.Reject.TheVariants as refusal;
 ghost use Rattle.maxband_run.specs.Check.{CheckLinksFinds};
+ghost use Rattle.maxband_run.specs.CheckLines.{link_rejected_line};
 
 use crate::answer::{Answer, told};
 use crate::cause::Cause;
-use crate::check_lines::{accepted_line, link_rejected_line};
+use crate::check::accepted;
+use crate::check_lines::push_link_rejected;
 use artery_model::Artery;
-use link_proof::{LinkCertificate, link_check};
+use link_proof::{LinkCertificate, LinkReject, link_check};
 use narrow_fraction::Memory;
 use std::alloc::Global;
+
+/// The answer where a certificate of link timings is rejected.
+fn rejected(alloc: Global, artery: &Artery, reject: LinkReject) -> Result<Answer<'static>, Memory>
+    ensures cause { IfOk result (λ a. a.cause ≡ Cause.LinkRejected reject) }
+    ensures kept { IfOk result (λ a. reject ≢ refusal.Memory) }
+    ensures lines { IfOk result (λ a. a.lines.items ≡ link_rejected_line (count artery.now) reject) }
+    ensures no_put { IfOk result (λ a. a.put ≡ None) }
+{
+    let mut lines = Vec::new(alloc);
+    push_link_rejected(alloc, &mut lines, artery.count(), &reject)?;
+    Ok(told(Cause::LinkRejected(reject), lines))
+}
 
 /// Checks the certificate of link timings for the artery: the answer has what is claimed where it is accepted, else the first
 /// refusal.
@@ -22,13 +38,7 @@ pub fn check_links(
     ensures no_put { IfOk result (λ a. a.put ≡ None) }
 {
     match link_check(alloc, artery, certificate) {
-        Ok(()) => {
-            let lines = accepted_line(alloc, certificate.claim)?.into_bytes();
-            Ok(told(Cause::Done, lines))
-        }
-        Err(reject) => {
-            let lines = link_rejected_line(alloc, artery.count(), &reject)?.into_bytes();
-            Ok(told(Cause::LinkRejected(reject), lines))
-        }
+        Ok(()) => accepted(alloc, certificate.claim),
+        Err(reject) => rejected(alloc, artery, reject),
     }
 }

@@ -5,9 +5,10 @@ ghost use Rattle.progression.specs.Good.{Good};
 ghost use Rattle.maxband_run.specs.Outside.{MayPut, view};
 ghost use Rattle.maxband_run.specs.Draw.{TimingFinds, DrawFinds};
 
-use crate::answer::{Answer, Put, told};
+use crate::answer::{Answer, Put};
 use crate::cause::Cause;
-use crate::lines::fails_line;
+use crate::hold::fails;
+use crate::lines::text_lines;
 use crate::readable::Timed;
 use crate::round::unplanned;
 use artery_model::Artery;
@@ -27,11 +28,10 @@ fn draw_good<'a>(
     ensures finds { MayPut drawing.now (TimingFinds artery.now timing.now) result }
 {
     if let Err(failing) = holds(artery, timing) {
-        let lines = fails_line(alloc, failing)?.into_bytes();
-        return Ok(told(Cause::Fails(failing), lines));
+        return fails(alloc, failing);
     }
     let bytes = draw(alloc, artery, timing)?;
-    let lines = String::from_str(alloc, "drawn\n")?.into_bytes();
+    let lines = text_lines(alloc, "drawn\n")?;
     Ok(Answer {
         cause: Cause::Done,
         lines,

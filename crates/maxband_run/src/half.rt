@@ -1,20 +1,23 @@
 //! The command `half`.
 
-ghost use Rattle.std.specs.Prelude.{◌≡◌, ◌≤◌, None, IfOk, length, option_map, string_bytes};
+ghost use Rattle.std.specs.Prelude.{◌≡◌, ◌≤◌, ◌++◌, None, IfOk, OnOk, length, option_map};
 ghost use Rattle.progression.specs.Street.{count};
 ghost use Rattle.maxband_run.specs.Outside.{MayPut, view};
 ghost use Rattle.maxband_run.specs.Half.{phase_name, phase_line, phase_lines, half_lines, end_line, TellsPlan, HalfFinds};
 
 use crate::answer::{Answer, Put, told};
 use crate::cause::Cause;
-use crate::lines::fails_line;
+use crate::hold::fails;
+use crate::lines::{push_number_line, push_numbered, text_lines};
 use artery_model::{Artery, Dir};
-use diagram_print::quotient_line;
+use diagram_print::push_measure_line;
 use half_integer::{HalfEnd, HalfFault, half, half_of};
 use narrow_fraction::Memory;
 use plan_text::write_timing;
-use std::alloc::{AllocError, Global};
+use quantity_text::push_text;
+use std::alloc::Global;
 use time_space::{Timing, cycle};
+use timing_measures::quotient;
 
 fn phase_name(is_later: bool) -> &'static str
     ensures { result.now ≡ phase_name is_later }
@@ -22,34 +25,40 @@ fn phase_name(is_later: bool) -> &'static str
     if is_later { "1" } else { "0" }
 }
 
-/// The line of a signal: whether its red is centred with that of signal 1, or half a cycle later.
-fn phase_line(
+/// Writes the line of a signal: whether its red is centred with that of signal 1, or half a cycle later.
+fn push_phase(
     alloc: Global,
+    out: &mut Vec<u8>,
     artery: &Artery,
     plan: &Timing,
     signal: u32,
-) -> Result<String, AllocError>
+) -> Result<(), Memory>
     requires shape { length plan.now.patterns ≡ count artery.now }
     requires first { 1 ≤ signal }
     requires last { signal ≤ count artery.now }
-    ensures { IfOk result (λ line. string_bytes line ≡ phase_line artery.now plan.now signal) }
+    ensures { OnOk result (out.new.items ≡ out.old.items ++ phase_line artery.now plan.now signal) }
 {
-    let phase = phase_name(half_of(artery, plan, signal));
-    format!(in alloc; "signal {signal} half {phase}\n")
+    push_numbered(alloc, out, "signal ", signal as u128)?;
+    push_text(out, " half ")?;
+    push_text(out, phase_name(half_of(artery, plan, signal)))?;
+    push_text(out, "\n")
 }
 
-/// The lines of the signals, from the first on.
-#[tactic(auto, using(timing_measures::proofs::Pieces::piece_up))]
-fn phase_lines(alloc: Global, artery: &Artery, plan: &Timing) -> Result<Vec<u8>, Memory>
+/// Writes the lines of the signals, from the first on.
+#[tactic(auto, using(crate::proofs::Pushed::pushed_next))]
+fn push_phases(
+    alloc: Global,
+    out: &mut Vec<u8>,
+    artery: &Artery,
+    plan: &Timing,
+) -> Result<(), Memory>
     requires { length plan.now.patterns ≡ count artery.now }
-    ensures { IfOk result (λ lines. lines.items ≡ phase_lines artery.now plan.now) }
+    ensures { OnOk result (out.new.items ≡ out.old.items ++ phase_lines artery.now plan.now) }
 {
-    let mut lines = Vec::new(alloc);
     for signal in 1..artery.count() + 1 {
-        let line = phase_line(alloc, artery, plan, signal)?;
-        lines.extend_from_slice(line.as_bytes())?;
+        push_phase(alloc, out, artery, plan, signal)?;
     }
-    Ok(lines)
+    Ok(())
 }
 
 /// The lines of a half-cycle plan: its band as a fraction of the cycle, and the phase of each signal.
@@ -57,26 +66,24 @@ fn half_lines(alloc: Global, artery: &Artery, plan: &Timing) -> Result<Vec<u8>, 
     requires { length plan.now.patterns ≡ count artery.now }
     ensures { IfOk result (λ lines. lines.items ≡ half_lines artery.now plan.now) }
 {
-    let mut lines = quotient_line(
-        alloc,
-        "equal band",
-        plan.band(Dir::Outbound),
-        cycle(artery, plan),
-        6,
-    )?;
-    let phases = phase_lines(alloc, artery, plan)?;
-    lines.extend_from_slice(phases.as_slice())?;
+    let mut lines = Vec::new(alloc);
+    push_text(&mut lines, "equal band")?;
+    let share = quotient(plan.band(Dir::Outbound), cycle(artery, plan));
+    push_measure_line(alloc, &mut lines, share, 6)?;
+    push_phases(alloc, &mut lines, artery, plan)?;
     Ok(lines)
 }
 
-/// The line of a timing that has no half-cycle plan.
-fn end_line(alloc: Global, end: HalfEnd) -> Result<String, AllocError>
-    ensures { IfOk result (λ line. string_bytes line ≡ end_line end) }
+/// Writes the line of a timing that has no half-cycle plan.
+fn push_end(alloc: Global, out: &mut Vec<u8>, end: HalfEnd) -> Result<(), Memory>
+    ensures { OnOk result (out.new.items ≡ out.old.items ++ end_line end) }
 {
     match end {
-        HalfEnd::Uneven { signal } => format!(in alloc; "uneven signal {signal}\n"),
-        HalfEnd::Unequal { link } => format!(in alloc; "unequal link {link}\n"),
-        HalfEnd::TooFine { ticks } => format!(in alloc; "ticks {ticks}\n"),
+        HalfEnd::Uneven { signal } => {
+            push_number_line(alloc, out, "uneven signal ", signal as u128)
+        }
+        HalfEnd::Unequal { link } => push_number_line(alloc, out, "unequal link ", link as u128),
+        HalfEnd::TooFine { ticks } => push_number_line(alloc, out, "ticks ", ticks),
     }
 }
 
@@ -86,7 +93,8 @@ pub fn unmatched(alloc: Global, end: HalfEnd) -> Result<Answer<'static>, Memory>
     ensures lines { IfOk result (λ a. a.lines.items ≡ end_line end) }
     ensures no_put { IfOk result (λ a. a.put ≡ None) }
 {
-    let lines = end_line(alloc, end)?.into_bytes();
+    let mut lines = Vec::new(alloc);
+    push_end(alloc, &mut lines, end)?;
     Ok(told(Cause::Unmatched(end), lines))
 }
 
@@ -122,13 +130,10 @@ pub fn half_cycle<'a>(
     match half(alloc, artery, timing) {
         Ok(Some(plan)) => tell_plan(alloc, artery, &plan, new),
         Ok(None) => {
-            let lines = String::from_str(alloc, "no equal band\n")?.into_bytes();
+            let lines = text_lines(alloc, "no equal band\n")?;
             Ok(told(Cause::Done, lines))
         }
-        Err(HalfFault::Fails(failing)) => {
-            let lines = fails_line(alloc, failing)?.into_bytes();
-            Ok(told(Cause::Fails(failing), lines))
-        }
+        Err(HalfFault::Fails(failing)) => fails(alloc, failing),
         Err(HalfFault::End(end)) => unmatched(alloc, end),
         Err(HalfFault::Memory) => Err(Memory),
     }

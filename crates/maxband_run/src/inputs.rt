@@ -26,7 +26,7 @@ fn too_long(alloc: Global, name: &str, place: u8) -> Unread
     ensures no_put { IfOk (end_of result) (λ a. a.put ≡ None) }
 {
     match too_long_line(alloc, name) {
-        Ok(line) => Unread::Told(told(Cause::TooLong { file: place }, line.into_bytes())),
+        Ok(line) => Unread::Told(told(Cause::TooLong { file: place }, line)),
         Err(_) => Unread::Memory,
     }
 }

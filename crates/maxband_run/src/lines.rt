@@ -1,14 +1,16 @@
 //! The lines of each answer.
 
-ghost use Rattle.std.specs.Prelude.{◌≡◌, IfOk, length, string_bytes};
+ghost use Rattle.std.specs.Prelude.{◌≡◌, ◌++◌, IfOk, OnOk, codes, length, string_bytes};
+ghost use Rattle.std.specs.Fmt.{decimal, signed_decimal};
+ghost use Rattle.quantity_text.specs.Exact.{exact_spelling};
 ghost use Rattle.maxband_run.specs.Lines.{kind_name, fault_name, least_text, link_text, failing_text};
-ghost use Rattle.maxband_run.specs.Lines.{fails_line, refused_line, bad_text_line, words_line, cannot_read_line, too_long_line, holds_lines};
+ghost use Rattle.maxband_run.specs.Lines.{refused_line, bad_text_line, words_line, cannot_read_line, too_long_line};
 
 use artery_model::{Dir, Kind, Refusal};
 use diagram_print::dir_name;
-use narrow_fraction::Frac;
+use narrow_fraction::{Frac, Memory};
 use plan_text::{BadText, TextFault};
-use quantity_text::exact_string;
+use quantity_text::{push_exact, push_number, push_text, push_whole};
 use std::alloc::{AllocError, Global};
 use time_space::Failing;
 
@@ -44,71 +46,193 @@ fn fault_name(fault: TextFault) -> &'static str
     }
 }
 
-/// The text that names a broken rule.
-pub fn failing_text(alloc: Global, failing: Failing) -> Result<String, AllocError>
-    ensures { IfOk result (λ text. string_bytes text ≡ failing_text failing) }
+/// The lines of a text.
+pub fn text_lines(alloc: Global, text: &str) -> Result<Vec<u8>, Memory>
+    ensures { IfOk result (λ lines. lines.items ≡ text.now) }
+{
+    let mut lines = Vec::new(alloc);
+    push_text(&mut lines, text)?;
+    Ok(lines)
+}
+
+/// Writes a name and a number.
+pub fn push_numbered(
+    alloc: Global,
+    out: &mut Vec<u8>,
+    name: &str,
+    number: u128,
+) -> Result<(), Memory>
+    ensures { OnOk result (out.new.items ≡ out.old.items ++ (name.now ++ decimal number)) }
+{
+    push_text(out, name)?;
+    push_number(alloc, out, number)
+}
+
+/// Writes a line of a name and a number.
+pub fn push_number_line(
+    alloc: Global,
+    out: &mut Vec<u8>,
+    name: &str,
+    number: u128,
+) -> Result<(), Memory>
+    ensures { OnOk result (out.new.items ≡ out.old.items ++ (name.now ++ (decimal number ++ codes "\n"))) }
+{
+    push_numbered(alloc, out, name, number)?;
+    push_text(out, "\n")
+}
+
+/// Writes a name and the exact spelling of a fraction.
+fn push_named_exact(alloc: Global, out: &mut Vec<u8>, name: &str, value: Frac) -> Result<(), Memory>
+    ensures { OnOk result (out.new.items ≡ out.old.items ++ (name.now ++ exact_spelling value)) }
+{
+    push_text(out, name)?;
+    push_exact(alloc, out, value)
+}
+
+/// Writes a line of a name and the exact spelling of a fraction.
+pub fn push_exact_line(
+    alloc: Global,
+    out: &mut Vec<u8>,
+    name: &str,
+    value: Frac,
+) -> Result<(), Memory>
+    ensures { OnOk result (out.new.items ≡ out.old.items ++ (name.now ++ (exact_spelling value ++ codes "\n"))) }
+{
+    push_named_exact(alloc, out, name, value)?;
+    push_text(out, "\n")
+}
+
+/// Writes a line of two fractions, each after a name.
+pub fn push_pair_line(
+    alloc: Global,
+    out: &mut Vec<u8>,
+    name: &str,
+    value: Frac,
+    other_name: &str,
+    other: Frac,
+) -> Result<(), Memory>
+    ensures { OnOk result (out.new.items ≡ out.old.items ++ (name.now ++ (exact_spelling value ++ (other_name.now ++ (exact_spelling other ++ codes "\n"))))) }
+{
+    push_named_exact(alloc, out, name, value)?;
+    push_exact_line(alloc, out, other_name, other)
+}
+
+/// Writes the number of a signal and a tick there.
+pub fn push_crossing(
+    alloc: Global,
+    out: &mut Vec<u8>,
+    signal: u32,
+    tick: i128,
+) -> Result<(), Memory>
+    ensures { OnOk result (out.new.items ≡ out.old.items ++ (codes " signal " ++ (decimal signal ++ (codes " tick " ++ signed_decimal tick)))) }
+{
+    push_numbered(alloc, out, " signal ", signal as u128)?;
+    push_text(out, " tick ")?;
+    push_whole(alloc, out, tick)
+}
+
+/// Writes the rule of the least band of a direction.
+fn push_least(out: &mut Vec<u8>, dir: Dir) -> Result<(), Memory>
+    ensures { OnOk result (out.new.items ≡ out.old.items ++ least_text dir) }
+{
+    push_text(out, "least ")?;
+    push_text(out, dir_name(dir))
+}
+
+/// Writes a rule of one link in one direction.
+fn push_link(
+    alloc: Global,
+    out: &mut Vec<u8>,
+    rule: &str,
+    dir: Dir,
+    link: u32,
+) -> Result<(), Memory>
+    ensures { OnOk result (out.new.items ≡ out.old.items ++ link_text rule.now dir link) }
+{
+    push_text(out, rule)?;
+    push_text(out, " ")?;
+    push_text(out, dir_name(dir))?;
+    push_numbered(alloc, out, " link ", link as u128)
+}
+
+/// Writes the text that names a broken rule.
+pub fn push_failing(alloc: Global, out: &mut Vec<u8>, failing: Failing) -> Result<(), Memory>
+    ensures { OnOk result (out.new.items ≡ out.old.items ++ failing_text failing) }
 {
     match failing {
-        Failing::Shape => String::from_str(alloc, "shape"),
-        Failing::Pattern { signal } => format!(in alloc; "pattern signal {signal}"),
-        Failing::CycleShort => String::from_str(alloc, "cycle short"),
-        Failing::CycleLong => String::from_str(alloc, "cycle long"),
-        Failing::Fast { dir, link } => link_text(alloc, "fast", dir, link),
-        Failing::Slow { dir, link } => link_text(alloc, "slow", dir, link),
-        Failing::Rise { dir, link } => link_text(alloc, "rise", dir, link),
-        Failing::Drop { dir, link } => link_text(alloc, "drop", dir, link),
-        Failing::Ratio => String::from_str(alloc, "ratio"),
-        Failing::Least { dir } => least_text(alloc, dir),
-        Failing::Equal => String::from_str(alloc, "equal"),
-        Failing::Outbound { signal, tick } => format!(in alloc;
-            "outbound signal {signal} tick {tick}"
-        ),
-        Failing::Inbound { signal, tick } => format!(in alloc;
-            "inbound signal {signal} tick {tick}"
-        ),
+        Failing::Shape => push_text(out, "shape"),
+        Failing::Pattern { signal } => push_numbered(alloc, out, "pattern signal ", signal as u128),
+        Failing::CycleShort => push_text(out, "cycle short"),
+        Failing::CycleLong => push_text(out, "cycle long"),
+        Failing::Fast { dir, link } => push_link(alloc, out, "fast", dir, link),
+        Failing::Slow { dir, link } => push_link(alloc, out, "slow", dir, link),
+        Failing::Rise { dir, link } => push_link(alloc, out, "rise", dir, link),
+        Failing::Drop { dir, link } => push_link(alloc, out, "drop", dir, link),
+        Failing::Ratio => push_text(out, "ratio"),
+        Failing::Least { dir } => push_least(out, dir),
+        Failing::Equal => push_text(out, "equal"),
+        Failing::Outbound { signal, tick } => {
+            push_text(out, "outbound")?;
+            push_crossing(alloc, out, signal, tick)
+        }
+        Failing::Inbound { signal, tick } => {
+            push_text(out, "inbound")?;
+            push_crossing(alloc, out, signal, tick)
+        }
     }
 }
 
-/// The rule of the least band of a direction.
-fn least_text(alloc: Global, dir: Dir) -> Result<String, AllocError>
-    ensures { IfOk result (λ text. string_bytes text ≡ least_text dir) }
+/// Writes a line that begins so and names a broken rule.
+pub fn push_failing_line(
+    alloc: Global,
+    out: &mut Vec<u8>,
+    begin: &str,
+    failing: Failing,
+) -> Result<(), Memory>
+    ensures { OnOk result (out.new.items ≡ out.old.items ++ (begin.now ++ (failing_text failing ++ codes "\n"))) }
 {
-    let dir = dir_name(dir);
-    format!(in alloc; "least {dir}")
+    push_text(out, begin)?;
+    push_failing(alloc, out, failing)?;
+    push_text(out, "\n")
 }
 
-/// A rule of one link in one direction.
-fn link_text(alloc: Global, rule: &str, dir: Dir, link: u32) -> Result<String, AllocError>
-    ensures { IfOk result (λ text. string_bytes text ≡ link_text rule.now dir link) }
+/// Writes the line of a description that is refused.
+fn push_refused(out: &mut Vec<u8>, refusal: &Refusal) -> Result<(), Memory>
+    ensures { OnOk result (out.new.items ≡ out.old.items ++ refused_line refusal.now) }
 {
-    let dir = dir_name(dir);
-    format!(in alloc; "{rule} {dir} link {link}")
-}
-
-/// The line of a timing that breaks a rule.
-pub fn fails_line(alloc: Global, failing: Failing) -> Result<String, AllocError>
-    ensures { IfOk result (λ text. string_bytes text ≡ fails_line failing) }
-{
-    let text = failing_text(alloc, failing)?;
-    format!(in alloc; "fails {text}\n")
+    push_text(out, "refused ")?;
+    push_text(out, kind_name(refusal.kind))?;
+    push_text(out, " ")?;
+    push_text(out, refusal.place.as_str())?;
+    push_text(out, "\n")
 }
 
 /// The line of a description that is refused.
-pub fn refused_line(alloc: Global, refusal: &Refusal) -> Result<String, AllocError>
-    ensures { IfOk result (λ text. string_bytes text ≡ refused_line refusal.now) }
+pub fn refused_line(alloc: Global, refusal: &Refusal) -> Result<Vec<u8>, Memory>
+    ensures { IfOk result (λ line. line.items ≡ refused_line refusal.now) }
 {
-    let kind = kind_name(refusal.kind);
-    let place = refusal.place.as_str();
-    format!(in alloc; "refused {kind} {place}\n")
+    let mut line = Vec::new(alloc);
+    push_refused(&mut line, refusal)?;
+    Ok(line)
+}
+
+/// Writes the line of a text with a bad line.
+fn push_bad_text(alloc: Global, out: &mut Vec<u8>, bad: BadText) -> Result<(), Memory>
+    ensures { OnOk result (out.new.items ≡ out.old.items ++ bad_text_line bad) }
+{
+    push_numbered(alloc, out, "refused BadText line ", bad.line as u128)?;
+    push_text(out, " ")?;
+    push_text(out, fault_name(bad.kind))?;
+    push_text(out, "\n")
 }
 
 /// The line of a text with a bad line.
-pub fn bad_text_line(alloc: Global, bad: BadText) -> Result<String, AllocError>
-    ensures { IfOk result (λ text. string_bytes text ≡ bad_text_line bad) }
+pub fn bad_text_line(alloc: Global, bad: BadText) -> Result<Vec<u8>, Memory>
+    ensures { IfOk result (λ line. line.items ≡ bad_text_line bad) }
 {
-    let line = bad.line;
-    let fault = fault_name(bad.kind);
-    format!(in alloc; "refused BadText line {line} {fault}\n")
+    let mut line = Vec::new(alloc);
+    push_bad_text(alloc, &mut line, bad)?;
+    Ok(line)
 }
 
 /// The line of words that are none of the usages.
@@ -136,17 +260,20 @@ pub fn cannot_read_bytes(name: &str) -> u64
     (CANNOT_READ.len() + name.len() + "\n".len()) as u64
 }
 
-/// The line of a file with too many bytes.
-pub fn too_long_line(alloc: Global, name: &str) -> Result<String, AllocError>
-    ensures { IfOk result (λ text. string_bytes text ≡ too_long_line name.now) }
+/// Writes the line of a file with too many bytes.
+fn push_too_long(out: &mut Vec<u8>, name: &str) -> Result<(), Memory>
+    ensures { OnOk result (out.new.items ≡ out.old.items ++ too_long_line name.now) }
 {
-    format!(in alloc; "too long {name}\n")
+    push_text(out, "too long ")?;
+    push_text(out, name)?;
+    push_text(out, "\n")
 }
 
-/// The lines of a timing that holds, with its weighted band.
-pub fn holds_lines(alloc: Global, value: Frac) -> Result<String, AllocError>
-    ensures { IfOk result (λ text. string_bytes text ≡ holds_lines value) }
+/// The line of a file with too many bytes.
+pub fn too_long_line(alloc: Global, name: &str) -> Result<Vec<u8>, Memory>
+    ensures { IfOk result (λ line. line.items ≡ too_long_line name.now) }
 {
-    let value = exact_string(alloc, value)?;
-    format!(in alloc; "holds\nweighted {value}\n")
+    let mut line = Vec::new(alloc);
+    push_too_long(&mut line, name)?;
+    Ok(line)
 }

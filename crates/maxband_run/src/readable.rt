@@ -48,7 +48,7 @@ fn refused(alloc: Global, refusal: Refusal) -> Unread
     ensures no_put { IfOk (end_of result) (λ a. a.put ≡ None) }
 {
     match refused_line(alloc, &refusal) {
-        Ok(line) => Unread::Told(told(Cause::Refused(refusal), line.into_bytes())),
+        Ok(line) => Unread::Told(told(Cause::Refused(refusal), line)),
         Err(_) => Unread::Memory,
     }
 }
@@ -60,7 +60,7 @@ fn bad_text(alloc: Global, bad: BadText) -> Unread
     ensures no_put { IfOk (end_of result) (λ a. a.put ≡ None) }
 {
     match bad_text_line(alloc, bad) {
-        Ok(line) => Unread::Told(told(Cause::BadText(bad), line.into_bytes())),
+        Ok(line) => Unread::Told(told(Cause::BadText(bad), line)),
         Err(_) => Unread::Memory,
     }
 }

@@ -1,71 +1,93 @@
 //! The commands `round` and `round-from`.
 
-ghost use Rattle.std.specs.Prelude.{◌≡◌, ◌≤◌, None, Some, IfOk, length, option_map, string_bytes};
+ghost use Rattle.std.specs.Prelude.{◌≡◌, ◌≤◌, ◌++◌, None, Some, IfOk, OnOk, length, option_map};
 ghost use Rattle.progression.specs.Street.{count};
 ghost use Rattle.progression.specs.Good.{Good};
 ghost use Rattle.certificate_checker.specs.Accepted.{IsAccepted};
 ghost use Rattle.certificate_checker.specs.Claims.{ClaimHolds};
+ghost use Rattle.diagram_print.specs.Measures.{band_line, weighted_line};
 ghost use Rattle.maxband_run.specs.Outside.{MayPut, view};
-ghost use Rattle.maxband_run.specs.Round.{whole_cycle_line, offset_line, offset_lines, loss_line, plan_lines, wide_line, unplanned_line, TellsRounded, RoundFinds, RoundFromFinds};
+ghost use Rattle.maxband_run.specs.Round.{offset_line, offset_lines, plan_lines, unplanned_line, TellsRounded, RoundFinds, RoundFromFinds};
 
 use crate::answer::{Answer, Put, told};
 use crate::cause::Cause;
 use crate::check::rejected;
-use crate::lines::{failing_text, fails_line};
+use crate::hold::fails;
+use crate::lines::{
+    push_exact_line, push_failing_line, push_number_line, push_numbered, push_pair_line,
+};
 use crate::readable::Timed;
 use artery_model::{Artery, Dir};
 use certificate_checker::{check, limit_of};
-use diagram_print::{band_line, dir_name, weighted_line};
-use narrow_fraction::{Frac, Memory, Wide};
+use diagram_print::{dir_name, push_band_line, push_weighted_line};
+use narrow_fraction::Memory;
 use plan_text::{Certificate, write_timing};
-use quantity_text::exact_string;
+use quantity_text::push_text;
 use second_plan::{Plan, PlanEnd, PlanFault, plan};
-use std::alloc::{AllocError, Global};
+use std::alloc::Global;
 use time_space::{Timing, holds};
 use timing_measures::signal_name;
 
-fn whole_cycle_line(alloc: Global, seconds: u64) -> Result<String, AllocError>
-    ensures { IfOk result (λ line. string_bytes line ≡ whole_cycle_line seconds) }
-{
-    format!(in alloc; "cycle {seconds}\n")
-}
-
-/// The line of a signal: its offset in seconds and its name.
-fn offset_line(
+/// Writes the line of a signal: its offset in seconds and its name.
+fn push_offset(
     alloc: Global,
+    out: &mut Vec<u8>,
     artery: &Artery,
     offsets: &[u64],
     signal: u32,
-) -> Result<String, AllocError>
+) -> Result<(), Memory>
     requires shape { length offsets.now ≡ count artery.now }
     requires first { 1 ≤ signal }
     requires last { signal ≤ count artery.now }
-    ensures { IfOk result (λ line. string_bytes line ≡ offset_line artery.now offsets.now signal) }
+    ensures { OnOk result (out.new.items ≡ out.old.items ++ offset_line artery.now offsets.now signal) }
 {
-    let offset = offsets[signal as usize - 1];
-    let name = signal_name(artery, signal);
-    format!(in alloc; "signal {signal} offset {offset} {name}\n")
+    push_numbered(alloc, out, "signal ", signal as u128)?;
+    push_numbered(alloc, out, " offset ", offsets[signal as usize - 1] as u128)?;
+    push_text(out, " ")?;
+    push_text(out, signal_name(artery, signal))?;
+    push_text(out, "\n")
 }
 
-/// The lines of the signals, from the first on.
-#[tactic(auto, using(timing_measures::proofs::Pieces::piece_up))]
-fn offset_lines(alloc: Global, artery: &Artery, offsets: &[u64]) -> Result<Vec<u8>, Memory>
+/// Writes the lines of the signals, from the first on.
+#[tactic(auto, using(crate::proofs::Pushed::pushed_next))]
+fn push_offsets(
+    alloc: Global,
+    out: &mut Vec<u8>,
+    artery: &Artery,
+    offsets: &[u64],
+) -> Result<(), Memory>
     requires { length offsets.now ≡ count artery.now }
-    ensures { IfOk result (λ lines. lines.items ≡ offset_lines artery.now offsets.now) }
+    ensures { OnOk result (out.new.items ≡ out.old.items ++ offset_lines artery.now offsets.now) }
 {
-    let mut lines = Vec::new(alloc);
     for signal in 1..artery.count() + 1 {
-        let line = offset_line(alloc, artery, offsets, signal)?;
-        lines.extend_from_slice(line.as_bytes())?;
+        push_offset(alloc, out, artery, offsets, signal)?;
     }
-    Ok(lines)
+    Ok(())
 }
 
-fn loss_line(alloc: Global, loss: Frac) -> Result<String, AllocError>
-    ensures { IfOk result (λ line. string_bytes line ≡ loss_line loss) }
+/// Writes the lines of the bands of a timing and of its weighted band.
+fn push_measures(
+    alloc: Global,
+    out: &mut Vec<u8>,
+    artery: &Artery,
+    timing: &Timing,
+) -> Result<(), Memory>
+    ensures { OnOk result (out.new.items ≡ out.old.items ++ (band_line artery.now timing.now Dir.Outbound ++ (band_line artery.now timing.now Dir.Inbound ++ weighted_line artery.now timing.now))) }
 {
-    let loss = exact_string(alloc, loss)?;
-    format!(in alloc; "loss {loss}\n")
+    push_band_line(alloc, out, artery, timing, Dir::Outbound)?;
+    push_band_line(alloc, out, artery, timing, Dir::Inbound)?;
+    push_weighted_line(alloc, out, artery, timing)
+}
+
+/// Writes the lines of a plan in whole seconds.
+fn push_plan(alloc: Global, out: &mut Vec<u8>, artery: &Artery, plan: &Plan) -> Result<(), Memory>
+    requires { length plan.now.offsets.items ≡ count artery.now }
+    ensures { OnOk result (out.new.items ≡ out.old.items ++ plan_lines artery.now plan.now.seconds plan.now.offsets.items plan.now.timing plan.now.loss) }
+{
+    push_number_line(alloc, out, "cycle ", plan.seconds as u128)?;
+    push_offsets(alloc, out, artery, plan.offsets.as_slice())?;
+    push_measures(alloc, out, artery, &plan.timing)?;
+    push_exact_line(alloc, out, "loss ", plan.loss)
 }
 
 /// The lines of a plan in whole seconds.
@@ -73,46 +95,33 @@ fn plan_lines(alloc: Global, artery: &Artery, plan: &Plan) -> Result<Vec<u8>, Me
     requires { length plan.now.offsets.items ≡ count artery.now }
     ensures { IfOk result (λ lines. lines.items ≡ plan_lines artery.now plan.now.seconds plan.now.offsets.items plan.now.timing plan.now.loss) }
 {
-    let mut lines = whole_cycle_line(alloc, plan.seconds)?.into_bytes();
-    let offsets = offset_lines(alloc, artery, plan.offsets.as_slice())?;
-    let outbound = band_line(alloc, artery, &plan.timing, Dir::Outbound)?;
-    let inbound = band_line(alloc, artery, &plan.timing, Dir::Inbound)?;
-    let weighted = weighted_line(alloc, artery, &plan.timing)?;
-    let loss = loss_line(alloc, plan.loss)?;
-    lines.extend_from_slice(offsets.as_slice())?;
-    lines.extend_from_slice(outbound.as_slice())?;
-    lines.extend_from_slice(inbound.as_slice())?;
-    lines.extend_from_slice(weighted.as_slice())?;
-    lines.extend_from_slice(loss.as_bytes())?;
+    let mut lines = Vec::new(alloc);
+    push_plan(alloc, &mut lines, artery, plan)?;
     Ok(lines)
 }
 
-/// The line of a loss that leaves 128 bits, with its operands.
-fn wide_line(alloc: Global, wide: Wide) -> Result<String, AllocError>
-    ensures { IfOk result (λ line. string_bytes line ≡ wide_line wide) }
+/// Writes the line of a direction in which no line crosses every signal.
+fn push_no_line(out: &mut Vec<u8>, dir: Dir) -> Result<(), Memory>
+    ensures { OnOk result (out.new.items ≡ out.old.items ++ unplanned_line (PlanEnd.NoLine dir)) }
 {
-    let left = exact_string(alloc, wide.left)?;
-    let right = exact_string(alloc, wide.right)?;
-    format!(in alloc; "no plan wide {left} {right}\n")
+    push_text(out, "no plan line ")?;
+    push_text(out, dir_name(dir))?;
+    push_text(out, "\n")
 }
 
-/// The line of a certificate of which no plan is made.
-fn unplanned_line(alloc: Global, end: PlanEnd) -> Result<String, AllocError>
-    ensures { IfOk result (λ line. string_bytes line ≡ unplanned_line end) }
+/// Writes the line of a certificate of which no plan is made. Where the loss leaves 128 bits it has the operands.
+fn push_unplanned(alloc: Global, out: &mut Vec<u8>, end: &PlanEnd) -> Result<(), Memory>
+    ensures { OnOk result (out.new.items ≡ out.old.items ++ unplanned_line end.now) }
 {
     match end {
-        PlanEnd::NoTimingGiven => String::from_str(alloc, "no plan timing\n"),
-        PlanEnd::NoWholeCycle => String::from_str(alloc, "no plan cycle\n"),
-        PlanEnd::TooFine { ticks } => format!(in alloc; "no plan ticks {ticks}\n"),
-        PlanEnd::NoLine { dir } => {
-            let dir = dir_name(dir);
-            format!(in alloc; "no plan line {dir}\n")
+        PlanEnd::NoTimingGiven => push_text(out, "no plan timing\n"),
+        PlanEnd::NoWholeCycle => push_text(out, "no plan cycle\n"),
+        PlanEnd::TooFine { ticks } => push_number_line(alloc, out, "no plan ticks ", *ticks),
+        PlanEnd::NoLine { dir } => push_no_line(out, *dir),
+        PlanEnd::Fails(failing) => push_failing_line(alloc, out, "no plan ", *failing),
+        PlanEnd::Wide(wide) => {
+            push_pair_line(alloc, out, "no plan wide ", wide.left, " ", wide.right)
         }
-        PlanEnd::Fails(failing) => {
-            let failing = failing_text(alloc, failing)?;
-            format!(in alloc; "no plan {failing}\n")
-        }
-        PlanEnd::Wide(wide) => wide_line(alloc, wide),
     }
 }
 
@@ -122,7 +131,8 @@ pub fn unplanned(alloc: Global, end: PlanEnd) -> Result<Answer<'static>, Memory>
     ensures lines { IfOk result (λ a. a.lines.items ≡ unplanned_line end) }
     ensures no_put { IfOk result (λ a. a.put ≡ None) }
 {
-    let lines = unplanned_line(alloc, end)?.into_bytes();
+    let mut lines = Vec::new(alloc);
+    push_unplanned(alloc, &mut lines, &end)?;
     Ok(told(Cause::Unplanned(end), lines))
 }
 
@@ -211,8 +221,7 @@ pub fn round_from<'a>(
         return unplanned(alloc, PlanEnd::NoTimingGiven);
     };
     if let Err(failing) = holds(artery, timing) {
-        let lines = fails_line(alloc, failing)?.into_bytes();
-        return Ok(told(Cause::Fails(failing), lines));
+        return fails(alloc, failing);
     }
     plan_good(alloc, artery, certificate, timing, name)
 }

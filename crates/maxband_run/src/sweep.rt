@@ -9,15 +9,18 @@ ghost use Rattle.maxband_run.specs.Sweep.{rows_line, IsSweep};
 use crate::answer::{Answer, Put};
 use crate::cause::Cause;
 use crate::cycles::cycles_in;
+use crate::lines::push_number_line;
 use artery_model::Artery;
 use cycle_sweep::{sweep_rows, sweep_table};
 use narrow_fraction::Memory;
-use std::alloc::{AllocError, Global};
+use std::alloc::Global;
 
-fn rows_line(alloc: Global, rows: usize) -> Result<String, AllocError>
-    ensures { IfOk result (λ line. string_bytes line ≡ rows_line rows) }
+fn rows_line(alloc: Global, rows: usize) -> Result<Vec<u8>, Memory>
+    ensures { IfOk result (λ line. line.items ≡ rows_line rows) }
 {
-    format!(in alloc; "rows {rows}\n")
+    let mut line = Vec::new(alloc);
+    push_number_line(alloc, &mut line, "rows ", rows as u128)?;
+    Ok(line)
 }
 
 /// Searches the artery at each cycle that the words spell, each time within the limit of work. The table of what is found is to be
@@ -36,7 +39,7 @@ pub fn sweep<'a>(
     let cycles = cycles_in(alloc, words)?;
     let rows = sweep_rows(alloc, artery, limit, cycles.as_slice())?;
     let bytes = sweep_table(alloc, artery, rows.as_slice())?;
-    let lines = rows_line(alloc, words.len())?.into_bytes();
+    let lines = rows_line(alloc, words.len())?;
     Ok(Answer {
         cause: Cause::Done,
         lines,

@@ -1,59 +1,71 @@
 //! The command `trial`.
 
-ghost use Rattle.std.specs.Prelude.{◌≡◌, ◌≤◌, None, IfOk, string_bytes};
+ghost use Rattle.std.specs.Prelude.{◌≡◌, ◌≤◌, ◌++◌, None, IfOk, OnOk};
 ghost use Rattle.work_meter.specs.Work.{IsBelow};
-ghost use Rattle.maxband_run.specs.Trial.{best_lines, bound_lines, between_lines, open_lines, claim_lines, trial_lines, IsTrial};
+ghost use Rattle.maxband_run.specs.Trial.{open_lines, claim_lines, trial_lines, IsTrial};
 ghost use Rattle.artery_model.specs.Bounds.{least_signals, most_first_signals};
 
 use crate::answer::{Answer, told};
+use crate::lines::{push_exact_line, push_numbered, push_pair_line};
 use crate::searching::{cause_of, search_and_tell};
 use narrow_fraction::{Frac, Memory};
 use plan_text::Claim;
-use quantity_text::exact_string;
-use std::alloc::{AllocError, Global};
+use quantity_text::push_text;
+use std::alloc::Global;
 use workload_maker::make_artery;
 
-fn best_lines(alloc: Global, value: Frac) -> Result<String, AllocError>
-    ensures { IfOk result (λ text. string_bytes text ≡ best_lines value) }
-{
-    let value = exact_string(alloc, value)?;
-    format!(in alloc; "verdict best\nweighted {value}\n")
-}
-
-fn bound_lines(alloc: Global, bound: Frac) -> Result<String, AllocError>
-    ensures { IfOk result (λ text. string_bytes text ≡ bound_lines bound) }
-{
-    let bound = exact_string(alloc, bound)?;
-    format!(in alloc; "verdict open\nbound {bound}\n")
-}
-
-fn between_lines(alloc: Global, bound: Frac, value: Frac) -> Result<String, AllocError>
-    ensures { IfOk result (λ text. string_bytes text ≡ between_lines bound value) }
-{
-    let bound = exact_string(alloc, bound)?;
-    let value = exact_string(alloc, value)?;
-    format!(in alloc; "verdict open\nweighted {value}\nbound {bound}\n")
-}
-
-/// The lines of a stopped search, with its bound and the value where a timing was found.
-fn open_lines(alloc: Global, bound: Frac, value: Option<Frac>) -> Result<String, AllocError>
-    ensures { IfOk result (λ text. string_bytes text ≡ open_lines bound value) }
+/// Writes the lines of a stopped search, with its bound and the value where a timing was found.
+fn push_open(
+    alloc: Global,
+    out: &mut Vec<u8>,
+    bound: Frac,
+    value: Option<Frac>,
+) -> Result<(), Memory>
+    ensures { OnOk result (out.new.items ≡ out.old.items ++ open_lines bound value) }
 {
     match value {
-        Some(value) => between_lines(alloc, bound, value),
-        None => bound_lines(alloc, bound),
+        Some(value) => {
+            push_pair_line(
+                alloc,
+                out,
+                "verdict open\nweighted ",
+                value,
+                "\nbound ",
+                bound,
+            )
+        }
+        None => push_exact_line(alloc, out, "verdict open\nbound ", bound),
     }
 }
 
-/// The lines of what a certificate claims.
-fn claim_lines(alloc: Global, claim: Claim) -> Result<String, AllocError>
-    ensures { IfOk result (λ text. string_bytes text ≡ claim_lines claim) }
+/// Writes the lines of what a certificate claims.
+fn push_claim(alloc: Global, out: &mut Vec<u8>, claim: Claim) -> Result<(), Memory>
+    ensures { OnOk result (out.new.items ≡ out.old.items ++ claim_lines claim) }
 {
     match claim {
-        Claim::Best { value } => best_lines(alloc, value),
-        Claim::NoTiming => String::from_str(alloc, "verdict none\n"),
-        Claim::Stopped { bound, value } => open_lines(alloc, bound, value),
+        Claim::Best { value } => push_exact_line(alloc, out, "verdict best\nweighted ", value),
+        Claim::NoTiming => push_text(out, "verdict none\n"),
+        Claim::Stopped { bound, value } => push_open(alloc, out, bound, value),
     }
+}
+
+/// Writes the lines of a trial whose certificate makes this claim and has a text of so many bytes.
+fn push_trial(
+    alloc: Global,
+    out: &mut Vec<u8>,
+    signals: u32,
+    seed: u64,
+    claim: Claim,
+    bytes: usize,
+) -> Result<(), Memory>
+    ensures { OnOk result (out.new.items ≡ out.old.items ++ trial_lines signals seed claim bytes) }
+{
+    push_numbered(alloc, out, "signals ", signals as u128)?;
+    push_numbered(alloc, out, "\nseed ", seed as u128)?;
+    push_text(out, "\n")?;
+    push_claim(alloc, out, claim)?;
+    push_numbered(alloc, out, "certificate ", bytes as u128)?;
+    push_text(out, "\ncheck accepted\n")
 }
 
 /// The lines of a trial whose certificate makes this claim and has a text of so many bytes.
@@ -63,13 +75,12 @@ fn trial_lines(
     seed: u64,
     claim: Claim,
     bytes: usize,
-) -> Result<String, AllocError>
-    ensures { IfOk result (λ text. string_bytes text ≡ trial_lines signals seed claim bytes) }
+) -> Result<Vec<u8>, Memory>
+    ensures { IfOk result (λ lines. lines.items ≡ trial_lines signals seed claim bytes) }
 {
-    let claim = claim_lines(alloc, claim)?;
-    format!(in alloc;
-        "signals {signals}\nseed {seed}\n{claim}certificate {bytes}\ncheck accepted\n"
-    )
+    let mut lines = Vec::new(alloc);
+    push_trial(alloc, &mut lines, signals, seed, claim, bytes)?;
+    Ok(lines)
 }
 
 /// Makes the artery with so many signals, 2 to 16, from the seed, searches for a best timing of it within the limit of the units of
@@ -89,5 +100,5 @@ pub fn trial(
     let artery = make_artery(alloc, signals, seed)?;
     let searched = search_and_tell(alloc, &artery, limit)?;
     let lines = trial_lines(alloc, signals, seed, searched.claim, searched.text.len())?;
-    Ok(told(cause_of(searched.found.verdict), lines.into_bytes()))
+    Ok(told(cause_of(searched.found.verdict), lines))
 }

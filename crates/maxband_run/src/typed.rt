@@ -8,11 +8,12 @@ use crate::answer::{Answer, Put, told};
 use crate::bands::measured;
 use crate::cause::Cause;
 use crate::half::unmatched;
-use crate::lines::{fails_line, refused_line};
+use crate::hold::fails;
+use crate::lines::refused_line;
 use artery_model::Artery;
 use band_measure::base_holds;
 use description_reader::TypedPlan;
-use diagram_print::weighted_line;
+use diagram_print::push_weighted_line;
 use half_integer::HalfEnd;
 use narrow_fraction::Memory;
 use plan_text::write_timing;
@@ -30,12 +31,10 @@ fn write_measured<'a>(
     ensures finds { MayPut name.now (WritesTiming artery.now timing.now) result }
 {
     if let Err(failing) = base_holds(artery, timing) {
-        let lines = fails_line(alloc, failing)?.into_bytes();
-        return Ok(told(Cause::Fails(failing), lines));
+        return fails(alloc, failing);
     }
     let mut lines = measured(alloc, artery, timing)?;
-    let weighted = weighted_line(alloc, artery, timing)?;
-    lines.extend_from_slice(weighted.as_slice())?;
+    push_weighted_line(alloc, &mut lines, artery, timing)?;
     let bytes = write_timing(alloc, timing)?;
     Ok(Answer {
         cause: Cause::Done,
@@ -58,7 +57,7 @@ pub fn typed_timing<'a>(
     match timing_of(alloc, artery, plan) {
         Ok(timing) => write_measured(alloc, artery, &timing, name),
         Err(TypedFault::Refused(refusal)) => {
-            let lines = refused_line(alloc, &refusal)?.into_bytes();
+            let lines = refused_line(alloc, &refusal)?;
             Ok(told(Cause::Refused(refusal), lines))
         }
         Err(TypedFault::TooFine { ticks }) => unmatched(alloc, HalfEnd::TooFine { ticks }),

@@ -1,9 +1,11 @@
 //! The usages of the program, each with its words and what it does.
 
-ghost use Rattle.std.specs.Prelude.{◌≡◌, IfOk, flat_map, string_bytes};
+ghost use Rattle.std.specs.Prelude.{◌≡◌, ◌++◌, IfOk, OnOk, flat_map};
 ghost use Rattle.maxband_run.specs.Usages.{usage_line, help_text};
 
-use std::alloc::{AllocError, Global};
+use narrow_fraction::Memory;
+use quantity_text::push_text;
+use std::alloc::Global;
 
 /// A kind of words that the program understands.
 #[derive(Clone, Copy)]
@@ -94,23 +96,26 @@ fn usage_line(usage: Usage) -> &'static str
     }
 }
 
-/// The lines of these usages, one after the other.
-fn lines_of(alloc: Global, usages: &[Usage]) -> Result<String, AllocError>
-    ensures { IfOk result (λ text. string_bytes text ≡ flat_map usage_line usages.now) }
+/// Writes the lines of these usages, one after the other.
+fn push_usages(out: &mut Vec<u8>, usages: &[Usage]) -> Result<(), Memory>
+    ensures { OnOk result (out.new.items ≡ out.old.items ++ flat_map usage_line usages.now) }
 {
-    let mut text = String::new(alloc);
     for usage in usages {
-        text.push_str(usage_line(*usage))?;
+        push_text(out, usage_line(*usage))?;
     }
-    Ok(text)
+    Ok(())
 }
 
 /// Each usage with half a line of what it does, and where the statuses are told.
 #[tactic(auto, unfolding(crate::specs::Usages::statuses_line))]
-pub fn help_text(alloc: Global) -> Result<String, AllocError>
-    ensures { IfOk result (λ text. string_bytes text ≡ help_text) }
+pub fn help_text(alloc: Global) -> Result<Vec<u8>, Memory>
+    ensures { IfOk result (λ text. text.items ≡ help_text) }
 {
-    let mut text = lines_of(alloc, &USAGES)?;
-    text.push_str("statuses and formats: man maxband, docs/FORMATS.md\n")?;
+    let mut text = Vec::new(alloc);
+    push_usages(&mut text, &USAGES)?;
+    push_text(
+        &mut text,
+        "statuses and formats: man maxband, docs/FORMATS.md\n",
+    )?;
     Ok(text)
 }
