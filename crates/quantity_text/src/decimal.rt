@@ -19,17 +19,12 @@ pub fn decimal_text(alloc: Global, value: Frac, places: u32) -> Result<Vec<u8>, 
     ensures { IfOk result (λ text. text.items ≡ decimal_spelling value places) }
 {
     let mut text = Vec::new(alloc);
-    push_decimal(alloc, &mut text, value, places)?;
+    push_decimal(&mut text, value, places)?;
     Ok(text)
 }
 
 /// Writes the same at the end of what is there.
-pub fn push_decimal(
-    alloc: Global,
-    out: &mut Vec<u8>,
-    value: Frac,
-    places: u32,
-) -> Result<(), Memory>
+pub fn push_decimal(out: &mut Vec<u8>, value: Frac, places: u32) -> Result<(), Memory>
     requires least { pos 0 ≤ℤ value.num }
     requires denominator { value.den ≤ 2 ^ 120 }
     requires some_places { 1 ≤ places }
@@ -38,22 +33,16 @@ pub fn push_decimal(
 {
     let top = value.num().unsigned_abs();
     let bottom = value.den().unsigned_abs();
-    push_quotient(alloc, out, top, bottom, places)
+    push_quotient(out, top, bottom, places)
 }
 
 /// Writes `top / bottom` with so many places.
-fn push_quotient(
-    alloc: Global,
-    out: &mut Vec<u8>,
-    top: u128,
-    bottom: u128,
-    places: u32,
-) -> Result<(), Memory>
+fn push_quotient(out: &mut Vec<u8>, top: u128, bottom: u128, places: u32) -> Result<(), Memory>
     requires above { 0 < bottom }
     requires bottom { bottom ≤ 2 ^ 120 }
     ensures { OnOk result (out.new.items ≡ out.old.items ++ (decimal (top / bottom) ++ 46 ∷ last_digits places (top * 10 ^ places / bottom))) }
 {
-    push_number(alloc, out, top / bottom)?;
+    push_number(out, top / bottom)?;
     push_bytes(out, b".")?;
     let mut rest = top % bottom;
     for place in 0..places {
