@@ -1,8 +1,8 @@
 //! The words of a drawing.
 
-ghost use Rattle.std.specs.Prelude.{◌≡◌, ◌+◌, ◌-◌, ◌*◌, ◌/◌, ◌<◌, ◌≤◌, ◌^◌, ◌++◌, OnOk, pos, ◌≤ℤ◌, length, unsigned_abs};
+ghost use Rattle.std.specs.Prelude.{◌≡◌, ◌<◌, ◌≤◌, ◌^◌, ◌++◌, OnOk, pos, ◌≤ℤ◌, length};
 ghost use Rattle.std.specs.Fmt.{decimal};
-ghost use Rattle.progression.specs.Street.{count, signal_of};
+ghost use Rattle.progression.specs.Street.{count};
 ghost use Rattle.progression.specs.Good.{IsBase};
 ghost use Rattle.diagram_draw.specs.declared.paint.Letter.TheVariants.{Title, Facts, HeadEnd, Number};
 ghost use Rattle.diagram_draw.specs.Shapes.{words_opening, words_text, caption_text, captions_text};
