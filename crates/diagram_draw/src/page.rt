@@ -1,15 +1,13 @@
 //! The whole drawing, and its text.
 
-ghost use Rattle.std.specs.Prelude.{◌≡◌, ◌+◌, ◌<◌, ◌≤◌, ◌++◌, codes, IfOk, OnOk, pos, length};
+ghost use Rattle.std.specs.Prelude.{◌≡◌, ◌+◌, ◌≤◌, ◌++◌, codes, IfOk, OnOk, pos, length};
 ghost use Rattle.std.specs.Fmt.{decimal};
 ghost use Rattle.progression.specs.Street.{count};
 ghost use Rattle.progression.specs.Good.{IsBase};
 ghost use Rattle.diagram_draw.specs.declared.shape.Shape.TheVariants.{Rect};
 ghost use Rattle.diagram_draw.specs.Shapes.{shapes_text};
-ghost use Rattle.diagram_draw.specs.Frames.{IsFrame, name_room};
+ghost use Rattle.diagram_draw.specs.Frames.{IsFrame};
 ghost use Rattle.diagram_draw.specs.Axes.{back};
-ghost use Rattle.diagram_draw.specs.Bars.{all_bars};
-ghost use Rattle.diagram_draw.specs.Bands.{all_pieces};
 ghost use Rattle.diagram_draw.specs.Captions.{title_text, names};
 ghost use Rattle.diagram_draw.specs.Pages.{key_bar, key_piece, key_shapes, signal_about, signals_about, about_text, field_shapes, drawn, drawing};
 ghost use Rattle.diagram_draw.specs.Pages.{plot_clip, names_clip, clips_text, svg_opening, title_part, about_part, opening_text, definitions_text, field_part};
