@@ -1,126 +1,158 @@
 //! The words of a drawing.
 
-ghost use Rattle.std.specs.Prelude.{◌≡◌, ◌+◌, ◌-◌, ◌*◌, ◌/◌, ◌<◌, ◌≤◌, ◌^◌, ◌++◌, codes, IfOk, OnOk, pos, ◌≤ℤ◌, length, unsigned_abs, string_bytes};
-ghost use Rattle.progression.specs.Street.{count, signal_of};
+ghost use Rattle.std.specs.Prelude.{◌≡◌, ◌<◌, ◌≤◌, ◌^◌, ◌++◌, OnOk, pos, ◌≤ℤ◌, length};
+ghost use Rattle.std.specs.Fmt.{decimal};
+ghost use Rattle.progression.specs.Street.{count};
 ghost use Rattle.progression.specs.Good.{IsBase};
-ghost use Rattle.diagram_draw.specs.Shapes.{words_text, caption_text, captions_text};
+ghost use Rattle.diagram_draw.specs.declared.paint.Letter.TheVariants.{Title, Facts, HeadEnd, Number};
+ghost use Rattle.diagram_draw.specs.Shapes.{words_opening, words_text, caption_text, captions_text};
 ghost use Rattle.diagram_draw.specs.Frames.{IsFrame};
-ghost use Rattle.diagram_draw.specs.Captions.{tenths, seconds_text, percent_text, offset_text, title_of, title_text, band_facts, cycle_facts, inbound_facts, facts_text, unit_of_length, unit_of_speed, title_heads, signal_heads, link_heads, cycles_text, cycle_number, cycle_numbers, second_number, second_numbers, row_level, name_letter, name_caption, names, signal_row, signal_rows, link_level, lengths_text, link_speed_text, link_row, link_rows, red_words, band_words, axis_words, note_words, notes, above, beside, below, captions};
+ghost use Rattle.diagram_draw.specs.Captions.{tenths, seconds_text, percent_text, offset_text, title_of, title_text, band_facts, cycle_facts, inbound_facts};
+ghost use Rattle.diagram_draw.specs.Captions.{facts_text, unit_of_length, unit_of_speed, head_level, title_heads, signal_heads, link_heads, cycles_text};
+ghost use Rattle.diagram_draw.specs.Captions.{cycle_number, cycle_numbers, second_number, second_numbers, row_level, name_letter, name_caption, names};
+ghost use Rattle.diagram_draw.specs.Captions.{signal_row, signal_rows, link_level, lengths_text, link_speed_text, link_row, link_rows, red_words, band_words};
+ghost use Rattle.diagram_draw.specs.Captions.{axis_words, note_words, notes, above, beside, below, captions};
 
 use crate::axes::{cycle_x, second_at, second_x, steps_shown};
-use crate::escape::escaped;
+use crate::escape::push_escaped;
 use crate::frame::{Frame, NAME_LEFT, PLOT_TOP, PLOT_WIDTH, level, plot_bottom};
 use crate::paint::Letter;
-use crate::shape::words_text;
+use crate::shape::{push_words_end, push_words_opening};
 use artery_model::{Artery, Dir, Units};
 use narrow_fraction::{Frac, Memory};
 use progression::Text;
-use quantity_text::decimal_text;
-use std::alloc::{AllocError, Global};
+use quantity_text::{push_decimal, push_number, push_text};
+use std::alloc::Global;
 use time_space::{Timing, cycle};
 use timing_measures::{link_speed, offset, quotient, seconds, signal_name};
 
-/// A number, cut after one decimal place.
-fn tenths(alloc: Global, value: Frac) -> Result<Vec<u8>, Memory>
+/// Writes a number, cut after one decimal place.
+fn push_tenths(alloc: Global, out: &mut Vec<u8>, value: Frac) -> Result<(), Memory>
     requires least { pos 0 ≤ℤ value.num }
     requires denominator { value.den ≤ 2 ^ 120 }
-    ensures { IfOk result (λ text. text.items ≡ tenths value) }
+    ensures { OnOk result (out.new.items ≡ out.old.items ++ tenths value) }
 {
-    decimal_text(alloc, value, 1)
+    push_decimal(alloc, out, value, 1)
 }
 
-fn seconds_text(alloc: Global, timing: &Timing, ticks: u128) -> Result<Vec<u8>, Memory>
-    requires { ticks < 2 ^ 126 }
-    ensures { IfOk result (λ text. text.items ≡ seconds_text timing.now ticks) }
-{
-    tenths(alloc, seconds(timing, ticks))
-}
-
-/// A direction's band in hundredths of the cycle.
-fn percent_text(
+/// Writes ticks as seconds.
+fn push_seconds(
     alloc: Global,
+    out: &mut Vec<u8>,
+    timing: &Timing,
+    ticks: u128,
+) -> Result<(), Memory>
+    requires { ticks < 2 ^ 126 }
+    ensures { OnOk result (out.new.items ≡ out.old.items ++ seconds_text timing.now ticks) }
+{
+    push_tenths(alloc, out, seconds(timing, ticks))
+}
+
+/// Writes a direction's band in hundredths of the cycle.
+fn push_percent(
+    alloc: Global,
+    out: &mut Vec<u8>,
     artery: &Artery,
     timing: &Timing,
     dir: Dir,
-) -> Result<Vec<u8>, Memory>
-    ensures { IfOk result (λ text. text.items ≡ percent_text artery.now timing.now dir) }
+) -> Result<(), Memory>
+    ensures { OnOk result (out.new.items ≡ out.old.items ++ percent_text artery.now timing.now dir) }
 {
     let share = quotient(100 * timing.band(dir), cycle(artery, timing));
-    tenths(alloc, share)
+    push_tenths(alloc, out, share)
 }
 
-pub fn offset_text(
+/// Writes the offset of a signal.
+pub fn push_offset(
     alloc: Global,
+    out: &mut Vec<u8>,
     artery: &Artery,
     timing: &Timing,
     signal: u32,
-) -> Result<Vec<u8>, Memory>
+) -> Result<(), Memory>
     requires first { 1 ≤ signal }
     requires last { signal ≤ length timing.now.patterns }
-    ensures { IfOk result (λ text. text.items ≡ offset_text artery.now timing.now signal) }
+    ensures { OnOk result (out.new.items ≡ out.old.items ++ offset_text artery.now timing.now signal) }
 {
-    tenths(alloc, offset(artery, timing, signal))
+    push_tenths(alloc, out, offset(artery, timing, signal))
 }
 
-/// The name of the street, or what the drawing is.
-fn title_of(alloc: Global, name: &Option<Text>) -> Result<Vec<u8>, Memory>
-    ensures { IfOk result (λ text. text.items ≡ title_of name.now) }
+/// Writes the name of the street, or what the drawing is.
+fn push_title_of(out: &mut Vec<u8>, name: &Option<Text>) -> Result<(), Memory>
+    ensures { OnOk result (out.new.items ≡ out.old.items ++ title_of name.now) }
 {
     match name {
-        Some(name) => escaped(alloc, name.as_str().as_bytes()),
-        None => Ok(Vec::from_slice(alloc, b"Time-space diagram")?),
+        Some(name) => push_escaped(out, name.as_str().as_bytes()),
+        None => push_text(out, "Time-space diagram"),
     }
 }
 
-pub fn title_text(alloc: Global, artery: &Artery) -> Result<Vec<u8>, Memory>
-    ensures { IfOk result (λ text. text.items ≡ title_text artery.now) }
+/// Writes the title.
+pub fn push_title(out: &mut Vec<u8>, artery: &Artery) -> Result<(), Memory>
+    ensures { OnOk result (out.new.items ≡ out.old.items ++ title_text artery.now) }
 {
-    title_of(alloc, &artery.head().name)
+    push_title_of(out, &artery.head().name)
 }
 
-/// A band in seconds and as a part of the cycle.
+/// Writes a band in seconds and as a part of the cycle.
 #[tactic(auto, unfolding(crate::specs::Captions::band_facts))]
-fn band_facts(alloc: Global, artery: &Artery, timing: &Timing, dir: Dir) -> Result<Vec<u8>, Memory>
-    ensures { IfOk result (λ text. text.items ≡ band_facts artery.now timing.now dir) }
+fn push_band_facts(
+    alloc: Global,
+    out: &mut Vec<u8>,
+    artery: &Artery,
+    timing: &Timing,
+    dir: Dir,
+) -> Result<(), Memory>
+    ensures { OnOk result (out.new.items ≡ out.old.items ++ band_facts artery.now timing.now dir) }
 {
-    let mut text = seconds_text(alloc, timing, timing.band(dir))?;
-    let share = percent_text(alloc, artery, timing, dir)?;
-    text.extend_from_slice(b" s = ")?;
-    text.extend_from_slice(share.as_slice())?;
-    Ok(text)
+    push_seconds(alloc, out, timing, timing.band(dir))?;
+    push_text(out, " s = ")?;
+    push_percent(alloc, out, artery, timing, dir)
 }
 
+/// Writes the cycle, and what stands before the outbound band.
 #[tactic(auto, unfolding(crate::specs::Captions::cycle_facts))]
-fn cycle_facts(alloc: Global, artery: &Artery, timing: &Timing) -> Result<Vec<u8>, Memory>
-    ensures { IfOk result (λ text. text.items ≡ cycle_facts artery.now timing.now) }
+fn push_cycle_facts(
+    alloc: Global,
+    out: &mut Vec<u8>,
+    artery: &Artery,
+    timing: &Timing,
+) -> Result<(), Memory>
+    ensures { OnOk result (out.new.items ≡ out.old.items ++ cycle_facts artery.now timing.now) }
 {
-    let cycle = seconds_text(alloc, timing, cycle(artery, timing))?;
-    let mut text = Vec::from_slice(alloc, b"cycle ")?;
-    text.extend_from_slice(cycle.as_slice())?;
-    text.extend_from_slice(b" s &#183; outbound band ")?;
-    Ok(text)
+    push_text(out, "cycle ")?;
+    push_seconds(alloc, out, timing, cycle(artery, timing))?;
+    push_text(out, " s &#183; outbound band ")
 }
 
-fn inbound_facts(alloc: Global, artery: &Artery, timing: &Timing) -> Result<Vec<u8>, Memory>
-    ensures { IfOk result (λ text. text.items ≡ inbound_facts artery.now timing.now) }
+/// Writes the inbound band, and what stands before it.
+#[tactic(auto, unfolding(crate::specs::Captions::inbound_facts))]
+fn push_inbound_facts(
+    alloc: Global,
+    out: &mut Vec<u8>,
+    artery: &Artery,
+    timing: &Timing,
+) -> Result<(), Memory>
+    ensures { OnOk result (out.new.items ≡ out.old.items ++ inbound_facts artery.now timing.now) }
 {
-    let inbound = band_facts(alloc, artery, timing, Dir::Inbound)?;
-    let mut text = Vec::from_slice(alloc, b" % of the cycle &#183; inbound band ")?;
-    text.extend_from_slice(inbound.as_slice())?;
-    text.extend_from_slice(b" %")?;
-    Ok(text)
+    push_text(out, " % of the cycle &#183; inbound band ")?;
+    push_band_facts(alloc, out, artery, timing, Dir::Inbound)?;
+    push_text(out, " %")
 }
 
-/// The cycle and both bands.
-pub fn facts_text(alloc: Global, artery: &Artery, timing: &Timing) -> Result<Vec<u8>, Memory>
-    ensures { IfOk result (λ text. text.items ≡ facts_text artery.now timing.now) }
+/// Writes the cycle and both bands.
+#[tactic(auto, unfolding(crate::specs::Captions::facts_text))]
+pub fn push_facts(
+    alloc: Global,
+    out: &mut Vec<u8>,
+    artery: &Artery,
+    timing: &Timing,
+) -> Result<(), Memory>
+    ensures { OnOk result (out.new.items ≡ out.old.items ++ facts_text artery.now timing.now) }
 {
-    let mut text = cycle_facts(alloc, artery, timing)?;
-    let outbound = band_facts(alloc, artery, timing, Dir::Outbound)?;
-    let inbound = inbound_facts(alloc, artery, timing)?;
-    text.extend_from_slice(outbound.as_slice())?;
-    text.extend_from_slice(inbound.as_slice())?;
-    Ok(text)
+    push_cycle_facts(alloc, out, artery, timing)?;
+    push_band_facts(alloc, out, artery, timing, Dir::Outbound)?;
+    push_inbound_facts(alloc, out, artery, timing)
 }
 
 fn unit_of_length(units: Units) -> &'static str
@@ -141,178 +173,218 @@ fn unit_of_speed(units: Units) -> &'static str
     }
 }
 
-/// Puts words at a point behind a text.
-fn put(
+/// Writes the beginning of words at a point.
+fn push_opening(
     alloc: Global,
-    text: &mut Vec<u8>,
+    out: &mut Vec<u8>,
     letter: Letter,
     x: u32,
     y: u32,
-    words: &[u8],
 ) -> Result<(), Memory>
-    ensures { OnOk result (text.new.items ≡ text.old.items ++ words_text letter (pos x) (pos y) words.now) }
+    ensures { OnOk result (out.new.items ≡ out.old.items ++ words_opening letter (pos x) (pos y)) }
 {
-    let piece = words_text(alloc, letter, i128::from(x), i128::from(y), words)?;
-    text.extend_from_slice(piece.as_slice())?;
-    Ok(())
+    push_words_opening(alloc, out, letter, i128::from(x), i128::from(y))
 }
 
-/// The words of a speed column.
-fn speed_head(alloc: Global, name: &str, units: Units) -> Result<String, AllocError>
-    ensures { IfOk result (λ text. string_bytes text ≡ name.now ++ (codes " " ++ unit_of_speed units)) }
+/// Writes words at a point.
+#[tactic(auto, unfolding(crate::specs::Shapes::words_text))]
+fn push_words(
+    alloc: Global,
+    out: &mut Vec<u8>,
+    letter: Letter,
+    x: u32,
+    y: u32,
+    words: &str,
+) -> Result<(), Memory>
+    ensures { OnOk result (out.new.items ≡ out.old.items ++ words_text letter (pos x) (pos y) words.now) }
 {
-    let unit = unit_of_speed(units);
-    format!(in alloc; "{name} {unit}")
+    push_opening(alloc, out, letter, x, y)?;
+    push_text(out, words)?;
+    push_words_end(out)
 }
 
 const HEAD_LEVEL: u32 = PLOT_TOP - 90;
 
-/// The title, and what is measured.
-#[tactic(auto, unfolding(crate::specs::Captions::title_heads))]
-fn title_heads(alloc: Global, artery: &Artery, timing: &Timing) -> Result<Vec<u8>, Memory>
-    ensures { IfOk result (λ text. text.items ≡ captions_text (title_heads artery.now timing.now)) }
+/// Writes the title, where it stands.
+#[tactic(auto, unfolding(crate::specs::Shapes::words_text))]
+fn push_title_words(alloc: Global, out: &mut Vec<u8>, artery: &Artery) -> Result<(), Memory>
+    ensures { OnOk result (out.new.items ≡ out.old.items ++ words_text Title (pos 220) (pos 480) (title_text artery.now)) }
 {
-    let title = title_text(alloc, artery)?;
-    let facts = facts_text(alloc, artery, timing)?;
-    let mut text = Vec::new(alloc);
-    put(alloc, &mut text, Letter::Title, 220, 480, title.as_slice())?;
-    put(alloc, &mut text, Letter::Facts, 220, 830, facts.as_slice())?;
-    Ok(text)
+    push_opening(alloc, out, Letter::Title, 220, 480)?;
+    push_title(out, artery)?;
+    push_words_end(out)
 }
 
-/// What stands above the columns of the signals.
-fn signal_heads(alloc: Global, frame: Frame) -> Result<Vec<u8>, Memory>
-    requires { IsFrame frame }
-    ensures { IfOk result (λ text. text.items ≡ captions_text (signal_heads frame)) }
+/// Writes what is measured, where it stands.
+#[tactic(auto, unfolding(crate::specs::Shapes::words_text))]
+fn push_facts_words(
+    alloc: Global,
+    out: &mut Vec<u8>,
+    artery: &Artery,
+    timing: &Timing,
+) -> Result<(), Memory>
+    ensures { OnOk result (out.new.items ≡ out.old.items ++ words_text Facts (pos 220) (pos 830) (facts_text artery.now timing.now)) }
 {
-    let mut text = Vec::new(alloc);
-    put(
+    push_opening(alloc, out, Letter::Facts, 220, 830)?;
+    push_facts(alloc, out, artery, timing)?;
+    push_words_end(out)
+}
+
+/// Writes the title, and what is measured.
+#[tactic(auto, unfolding(crate::specs::Captions::title_heads))]
+fn push_title_heads(
+    alloc: Global,
+    out: &mut Vec<u8>,
+    artery: &Artery,
+    timing: &Timing,
+) -> Result<(), Memory>
+    ensures { OnOk result (out.new.items ≡ out.old.items ++ captions_text (title_heads artery.now timing.now)) }
+{
+    push_title_words(alloc, out, artery)?;
+    push_facts_words(alloc, out, artery, timing)
+}
+
+/// Writes what stands above the columns of the signals.
+#[tactic(auto, unfolding(crate::specs::Captions::signal_heads))]
+fn push_signal_heads(alloc: Global, out: &mut Vec<u8>, frame: Frame) -> Result<(), Memory>
+    requires { IsFrame frame }
+    ensures { OnOk result (out.new.items ≡ out.old.items ++ captions_text (signal_heads frame)) }
+{
+    push_words(alloc, out, Letter::Head, NAME_LEFT, HEAD_LEVEL, "signal")?;
+    push_words(
         alloc,
-        &mut text,
-        Letter::Head,
-        NAME_LEFT,
-        HEAD_LEVEL,
-        b"signal",
-    )?;
-    put(
-        alloc,
-        &mut text,
+        out,
         Letter::HeadEnd,
         frame.left - 810,
         HEAD_LEVEL,
-        b"pattern",
+        "pattern",
     )?;
-    put(
+    push_words(
         alloc,
-        &mut text,
+        out,
         Letter::HeadEnd,
         frame.left - 170,
         HEAD_LEVEL,
-        b"offset, s",
-    )?;
-    Ok(text)
-}
-
-/// What stands above the columns of the links.
-#[tactic(auto, unfolding(crate::specs::Captions::link_heads))]
-fn link_heads(alloc: Global, frame: Frame, units: Units) -> Result<Vec<u8>, Memory>
-    requires { IsFrame frame }
-    ensures { IfOk result (λ text. text.items ≡ captions_text (link_heads frame units)) }
-{
-    let right = frame.left + PLOT_WIDTH;
-    let length = unit_of_length(units);
-    let outbound = speed_head(alloc, "out", units)?;
-    let inbound = speed_head(alloc, "in", units)?;
-    let mut text = Vec::new(alloc);
-    put(
-        alloc,
-        &mut text,
-        Letter::HeadEnd,
-        right + 880,
-        HEAD_LEVEL,
-        length.as_bytes(),
-    )?;
-    put(
-        alloc,
-        &mut text,
-        Letter::HeadEnd,
-        right + 1480,
-        HEAD_LEVEL,
-        outbound.as_bytes(),
-    )?;
-    put(
-        alloc,
-        &mut text,
-        Letter::HeadEnd,
-        right + 2060,
-        HEAD_LEVEL,
-        inbound.as_bytes(),
-    )?;
-    Ok(text)
-}
-
-fn cycles_text(alloc: Global, cycles: u32) -> Result<String, AllocError>
-    ensures { IfOk result (λ text. string_bytes text ≡ cycles_text cycles) }
-{
-    if cycles == 1 {
-        format!(in alloc; "{cycles} cycle")
-    } else {
-        format!(in alloc; "{cycles} cycles")
-    }
-}
-
-fn cycle_number(alloc: Global, frame: Frame, cycles: u32) -> Result<Vec<u8>, Memory>
-    requires frame { IsFrame frame }
-    requires cycles { cycles ≤ 12 }
-    ensures { IfOk result (λ text. text.items ≡ caption_text (cycle_number frame cycles)) }
-{
-    let words = cycles_text(alloc, cycles)?;
-    let x = cycle_x(frame, cycles);
-    words_text(
-        alloc,
-        Letter::HeadMiddle,
-        x,
-        i128::from(HEAD_LEVEL),
-        words.as_bytes(),
+        "offset, s",
     )
 }
 
-/// The numbers of cycles above the field.
-fn cycle_numbers(alloc: Global, frame: Frame) -> Result<Vec<u8>, Memory>
-    requires { IsFrame frame }
-    ensures { IfOk result (λ text. text.items ≡ captions_text (cycle_numbers frame)) }
+/// Writes what stands above a column of speeds.
+#[tactic(auto, unfolding(crate::specs::Shapes::words_text))]
+fn push_speed_head(
+    alloc: Global,
+    out: &mut Vec<u8>,
+    x: u32,
+    name: &str,
+    units: Units,
+) -> Result<(), Memory>
+    ensures { OnOk result (out.new.items ≡ out.old.items ++ words_text HeadEnd (pos x) head_level (name.now ++ unit_of_speed units)) }
 {
-    let mut text = Vec::new(alloc);
-    for cycles in 1..frame.cycles + 1 {
-        let number = cycle_number(alloc, frame, cycles)?;
-        text.extend_from_slice(number.as_slice())?;
-    }
-    Ok(text)
+    push_opening(alloc, out, Letter::HeadEnd, x, HEAD_LEVEL)?;
+    push_text(out, name)?;
+    push_text(out, unit_of_speed(units))?;
+    push_words_end(out)
 }
 
-fn second_number(alloc: Global, frame: Frame, timing: &Timing, line: u32) -> Result<Vec<u8>, Memory>
+/// Writes what stands above the columns of the links.
+#[tactic(auto, unfolding(crate::specs::Captions::link_heads))]
+fn push_link_heads(
+    alloc: Global,
+    out: &mut Vec<u8>,
+    frame: Frame,
+    units: Units,
+) -> Result<(), Memory>
+    requires { IsFrame frame }
+    ensures { OnOk result (out.new.items ≡ out.old.items ++ captions_text (link_heads frame units)) }
+{
+    let right = frame.left + PLOT_WIDTH;
+    push_words(
+        alloc,
+        out,
+        Letter::HeadEnd,
+        right + 880,
+        HEAD_LEVEL,
+        unit_of_length(units),
+    )?;
+    push_speed_head(alloc, out, right + 1480, "out ", units)?;
+    push_speed_head(alloc, out, right + 2060, "in ", units)
+}
+
+/// Writes how many cycles there are.
+fn push_cycles(alloc: Global, out: &mut Vec<u8>, cycles: u32) -> Result<(), Memory>
+    ensures { OnOk result (out.new.items ≡ out.old.items ++ cycles_text cycles) }
+{
+    push_number(alloc, out, cycles as u128)?;
+    if cycles == 1 {
+        push_text(out, " cycle")
+    } else {
+        push_text(out, " cycles")
+    }
+}
+
+/// Writes the number of cycles where so many end.
+#[tactic(auto, unfolding(crate::specs::Shapes::words_text))]
+fn push_cycle_number(
+    alloc: Global,
+    out: &mut Vec<u8>,
+    frame: Frame,
+    cycles: u32,
+) -> Result<(), Memory>
+    requires frame { IsFrame frame }
+    requires cycles { cycles ≤ 12 }
+    ensures { OnOk result (out.new.items ≡ out.old.items ++ caption_text (cycle_number frame cycles)) }
+{
+    let x = cycle_x(frame, cycles);
+    push_words_opening(alloc, out, Letter::HeadMiddle, x, i128::from(HEAD_LEVEL))?;
+    push_cycles(alloc, out, cycles)?;
+    push_words_end(out)
+}
+
+/// Writes the numbers of cycles above the field.
+fn push_cycle_numbers(alloc: Global, out: &mut Vec<u8>, frame: Frame) -> Result<(), Memory>
+    requires { IsFrame frame }
+    ensures { OnOk result (out.new.items ≡ out.old.items ++ captions_text (cycle_numbers frame)) }
+{
+    for cycles in 1..frame.cycles + 1 {
+        push_cycle_number(alloc, out, frame, cycles)?;
+    }
+    Ok(())
+}
+
+/// Writes the second of a line below it.
+#[tactic(auto, unfolding(crate::specs::Shapes::words_text))]
+fn push_second_number(
+    alloc: Global,
+    out: &mut Vec<u8>,
+    frame: Frame,
+    timing: &Timing,
+    line: u32,
+) -> Result<(), Memory>
     requires frame { IsFrame frame }
     requires line { line ≤ 19 }
-    ensures { IfOk result (λ text. text.items ≡ caption_text (second_number frame timing.now line)) }
+    ensures { OnOk result (out.new.items ≡ out.old.items ++ caption_text (second_number frame timing.now line)) }
 {
-    let second = second_at(frame, timing, line);
-    let words = format!(in alloc; "{second}")?;
     let x = second_x(frame, timing, line);
     let y = i128::from(plot_bottom(frame) + 210);
-    words_text(alloc, Letter::Axis, x, y, words.as_bytes())
+    push_words_opening(alloc, out, Letter::Axis, x, y)?;
+    push_number(alloc, out, second_at(frame, timing, line) as u128)?;
+    push_words_end(out)
 }
 
-/// The numbers of seconds below the field.
-fn second_numbers(alloc: Global, frame: Frame, timing: &Timing) -> Result<Vec<u8>, Memory>
+/// Writes the numbers of seconds below the field.
+fn push_second_numbers(
+    alloc: Global,
+    out: &mut Vec<u8>,
+    frame: Frame,
+    timing: &Timing,
+) -> Result<(), Memory>
     requires { IsFrame frame }
-    ensures { IfOk result (λ text. text.items ≡ captions_text (second_numbers frame timing.now)) }
+    ensures { OnOk result (out.new.items ≡ out.old.items ++ captions_text (second_numbers frame timing.now)) }
 {
-    let mut text = Vec::new(alloc);
     for line in 0..steps_shown(frame, timing) {
-        let number = second_number(alloc, frame, timing, line)?;
-        text.extend_from_slice(number.as_slice())?;
+        push_second_number(alloc, out, frame, timing, line)?;
     }
-    Ok(text)
+    Ok(())
 }
 
 /// Where the words of a signal stand.
@@ -337,101 +409,119 @@ fn name_letter(bytes: usize) -> Letter
     }
 }
 
-fn name_caption(
+/// Writes the name of a signal.
+#[tactic(auto, unfolding(crate::specs::Shapes::words_text))]
+fn push_name(
     alloc: Global,
+    out: &mut Vec<u8>,
     frame: Frame,
     artery: &Artery,
     signal: u32,
-) -> Result<Vec<u8>, Memory>
+) -> Result<(), Memory>
     requires frame { IsFrame frame }
     requires first { 1 ≤ signal }
     requires last { signal ≤ count artery.now }
-    ensures { IfOk result (λ text. text.items ≡ caption_text (name_caption frame artery.now signal)) }
+    ensures { OnOk result (out.new.items ≡ out.old.items ++ caption_text (name_caption frame artery.now signal)) }
 {
     let name = signal_name(artery, signal);
     let letter = name_letter(name.len());
-    let words = escaped(alloc, name.as_bytes())?;
     let y = row_level(frame, artery, signal);
-    words_text(
-        alloc,
-        letter,
-        i128::from(NAME_LEFT),
-        i128::from(y),
-        words.as_slice(),
-    )
+    push_opening(alloc, out, letter, NAME_LEFT, y)?;
+    push_escaped(out, name.as_bytes())?;
+    push_words_end(out)
 }
 
-/// The names of the signals.
-pub fn names(alloc: Global, frame: Frame, artery: &Artery) -> Result<Vec<u8>, Memory>
-    requires { IsFrame frame }
-    ensures { IfOk result (λ text. text.items ≡ captions_text (names frame artery.now)) }
-{
-    let mut text = Vec::new(alloc);
-    for signal in 1..artery.count() + 1 {
-        let name = name_caption(alloc, frame, artery, signal)?;
-        text.extend_from_slice(name.as_slice())?;
-    }
-    Ok(text)
-}
-
-/// The numbers of a signal: its own, its pattern and its offset.
-#[tactic(auto, unfolding(crate::specs::Captions::signal_row))]
-fn signal_row(
+/// Writes the names of the signals.
+pub fn push_names(
     alloc: Global,
+    out: &mut Vec<u8>,
+    frame: Frame,
+    artery: &Artery,
+) -> Result<(), Memory>
+    requires { IsFrame frame }
+    ensures { OnOk result (out.new.items ≡ out.old.items ++ captions_text (names frame artery.now)) }
+{
+    for signal in 1..artery.count() + 1 {
+        push_name(alloc, out, frame, artery, signal)?;
+    }
+    Ok(())
+}
+
+/// Writes a number at a point.
+#[tactic(auto, unfolding(crate::specs::Shapes::words_text))]
+fn push_number_words(
+    alloc: Global,
+    out: &mut Vec<u8>,
+    x: u32,
+    y: u32,
+    number: u32,
+) -> Result<(), Memory>
+    ensures { OnOk result (out.new.items ≡ out.old.items ++ words_text Number (pos x) (pos y) (decimal number)) }
+{
+    push_opening(alloc, out, Letter::Number, x, y)?;
+    push_number(alloc, out, number as u128)?;
+    push_words_end(out)
+}
+
+/// Writes the offset of a signal at a point.
+#[tactic(auto, unfolding(crate::specs::Shapes::words_text))]
+fn push_offset_words(
+    alloc: Global,
+    out: &mut Vec<u8>,
+    x: u32,
+    y: u32,
+    artery: &Artery,
+    timing: &Timing,
+    signal: u32,
+) -> Result<(), Memory>
+    requires first { 1 ≤ signal }
+    requires last { signal ≤ length timing.now.patterns }
+    ensures { OnOk result (out.new.items ≡ out.old.items ++ words_text Number (pos x) (pos y) (offset_text artery.now timing.now signal)) }
+{
+    push_opening(alloc, out, Letter::Number, x, y)?;
+    push_offset(alloc, out, artery, timing, signal)?;
+    push_words_end(out)
+}
+
+/// Writes the numbers of a signal: its own, its pattern and its offset.
+#[tactic(auto, unfolding(crate::specs::Captions::signal_row))]
+fn push_signal_row(
+    alloc: Global,
+    out: &mut Vec<u8>,
     frame: Frame,
     artery: &Artery,
     timing: &Timing,
     signal: u32,
-) -> Result<Vec<u8>, Memory>
+) -> Result<(), Memory>
     requires frame { IsFrame frame }
     requires shape { length timing.now.patterns ≡ count artery.now }
     requires first { 1 ≤ signal }
     requires last { signal ≤ count artery.now }
-    ensures { IfOk result (λ text. text.items ≡ captions_text (signal_row frame artery.now timing.now signal)) }
+    ensures { OnOk result (out.new.items ≡ out.old.items ++ captions_text (signal_row frame artery.now timing.now signal)) }
 {
     let y = row_level(frame, artery, signal);
-    let number = format!(in alloc; "{signal}")?;
     let pattern = timing.pattern(signal);
-    let pattern = format!(in alloc; "{pattern}")?;
-    let offset = offset_text(alloc, artery, timing, signal)?;
-    let mut text = Vec::new(alloc);
-    put(alloc, &mut text, Letter::Number, 330, y, number.as_bytes())?;
-    put(
-        alloc,
-        &mut text,
-        Letter::Number,
-        frame.left - 810,
-        y,
-        pattern.as_bytes(),
-    )?;
-    put(
-        alloc,
-        &mut text,
-        Letter::Number,
-        frame.left - 170,
-        y,
-        offset.as_slice(),
-    )?;
-    Ok(text)
+    push_number_words(alloc, out, 330, y, signal)?;
+    push_number_words(alloc, out, frame.left - 810, y, pattern)?;
+    push_offset_words(alloc, out, frame.left - 170, y, artery, timing, signal)
 }
 
-/// The numbers of the signals.
-fn signal_rows(
+/// Writes the numbers of the signals.
+fn push_signal_rows(
     alloc: Global,
+    out: &mut Vec<u8>,
     frame: Frame,
     artery: &Artery,
     timing: &Timing,
-) -> Result<Vec<u8>, Memory>
+) -> Result<(), Memory>
     requires frame { IsFrame frame }
     requires shape { length timing.now.patterns ≡ count artery.now }
-    ensures { IfOk result (λ text. text.items ≡ captions_text (signal_rows frame artery.now timing.now)) }
+    ensures { OnOk result (out.new.items ≡ out.old.items ++ captions_text (signal_rows frame artery.now timing.now)) }
 {
-    let mut text = Vec::new(alloc);
     for signal in 1..artery.count() + 1 {
-        let row = signal_row(alloc, frame, artery, timing, signal)?;
-        text.extend_from_slice(row.as_slice())?;
+        push_signal_row(alloc, out, frame, artery, timing, signal)?;
     }
-    Ok(text)
+    Ok(())
 }
 
 /// Where the words of a link stand.
@@ -446,153 +536,178 @@ fn link_level(frame: Frame, artery: &Artery, link: u32) -> u32
     (level(frame, artery, link) + level(frame, artery, link + 1)) / 2 + 50
 }
 
-/// The length of a link, or both where they differ.
-fn lengths_text(alloc: Global, out: u32, back: u32) -> Result<String, AllocError>
-    ensures { IfOk result (λ text. string_bytes text ≡ lengths_text out back) }
+/// Writes the length of a link, or both where they differ.
+fn push_lengths(alloc: Global, out: &mut Vec<u8>, outbound: u32, inbound: u32) -> Result<(), Memory>
+    ensures { OnOk result (out.new.items ≡ out.old.items ++ lengths_text outbound inbound) }
 {
-    if out == back {
-        format!(in alloc; "{out}")
-    } else {
-        format!(in alloc; "{out}/{back}")
+    push_number(alloc, out, outbound as u128)?;
+    if outbound == inbound {
+        return Ok(());
     }
+    push_text(out, "/")?;
+    push_number(alloc, out, inbound as u128)
 }
 
-fn link_speed_text(
+/// Writes the length of a link at a point, or both where they differ.
+#[tactic(auto, unfolding(crate::specs::Shapes::words_text))]
+fn push_lengths_words(
     alloc: Global,
+    out: &mut Vec<u8>,
+    x: u32,
+    y: u32,
+    outbound: u32,
+    inbound: u32,
+) -> Result<(), Memory>
+    ensures { OnOk result (out.new.items ≡ out.old.items ++ words_text Number (pos x) (pos y) (lengths_text outbound inbound)) }
+{
+    push_opening(alloc, out, Letter::Number, x, y)?;
+    push_lengths(alloc, out, outbound, inbound)?;
+    push_words_end(out)
+}
+
+/// Writes the speed in a direction on a link.
+fn push_link_speed(
+    alloc: Global,
+    out: &mut Vec<u8>,
     artery: &Artery,
     timing: &Timing,
     dir: Dir,
     link: u32,
-) -> Result<Vec<u8>, Memory>
+) -> Result<(), Memory>
     requires base { IsBase artery.now timing.now }
     requires first { 1 ≤ link }
     requires last { link < count artery.now }
-    ensures { IfOk result (λ text. text.items ≡ link_speed_text artery.now timing.now dir link) }
+    ensures { OnOk result (out.new.items ≡ out.old.items ++ link_speed_text artery.now timing.now dir link) }
 {
-    tenths(alloc, link_speed(artery, timing, dir, link))
+    push_tenths(alloc, out, link_speed(artery, timing, dir, link))
 }
 
-/// The numbers of a link: its length, and the speed in each direction.
-#[tactic(auto, unfolding(crate::specs::Captions::link_row))]
-fn link_row(
+/// Writes the speed in a direction on a link at a point.
+#[tactic(auto, unfolding(crate::specs::Shapes::words_text))]
+fn push_speed_words(
     alloc: Global,
+    out: &mut Vec<u8>,
+    x: u32,
+    y: u32,
+    artery: &Artery,
+    timing: &Timing,
+    dir: Dir,
+    link: u32,
+) -> Result<(), Memory>
+    requires base { IsBase artery.now timing.now }
+    requires first { 1 ≤ link }
+    requires last { link < count artery.now }
+    ensures { OnOk result (out.new.items ≡ out.old.items ++ words_text Number (pos x) (pos y) (link_speed_text artery.now timing.now dir link)) }
+{
+    push_opening(alloc, out, Letter::Number, x, y)?;
+    push_link_speed(alloc, out, artery, timing, dir, link)?;
+    push_words_end(out)
+}
+
+/// Writes the numbers of a link: its length, and the speed in each direction.
+#[tactic(auto, unfolding(crate::specs::Captions::link_row))]
+fn push_link_row(
+    alloc: Global,
+    out: &mut Vec<u8>,
     frame: Frame,
     artery: &Artery,
     timing: &Timing,
     link: u32,
-) -> Result<Vec<u8>, Memory>
+) -> Result<(), Memory>
     requires frame { IsFrame frame }
     requires base { IsBase artery.now timing.now }
     requires first { 1 ≤ link }
     requires last { link < count artery.now }
-    ensures { IfOk result (λ text. text.items ≡ captions_text (link_row frame artery.now timing.now link)) }
+    ensures { OnOk result (out.new.items ≡ out.old.items ++ captions_text (link_row frame artery.now timing.now link)) }
 {
     let y = link_level(frame, artery, link);
     let right = frame.left + PLOT_WIDTH;
-    let out = artery.distance(Dir::Outbound, link);
-    let back = artery.distance(Dir::Inbound, link);
-    let lengths = lengths_text(alloc, out, back)?;
-    let outbound = link_speed_text(alloc, artery, timing, Dir::Outbound, link)?;
-    let inbound = link_speed_text(alloc, artery, timing, Dir::Inbound, link)?;
-    let mut text = Vec::new(alloc);
-    put(
+    let outbound = artery.distance(Dir::Outbound, link);
+    let inbound = artery.distance(Dir::Inbound, link);
+    push_lengths_words(alloc, out, right + 880, y, outbound, inbound)?;
+    push_speed_words(
         alloc,
-        &mut text,
-        Letter::Number,
-        right + 880,
-        y,
-        lengths.as_bytes(),
-    )?;
-    put(
-        alloc,
-        &mut text,
-        Letter::Number,
+        out,
         right + 1480,
         y,
-        outbound.as_slice(),
+        artery,
+        timing,
+        Dir::Outbound,
+        link,
     )?;
-    put(
+    push_speed_words(
         alloc,
-        &mut text,
-        Letter::Number,
+        out,
         right + 2060,
         y,
-        inbound.as_slice(),
-    )?;
-    Ok(text)
+        artery,
+        timing,
+        Dir::Inbound,
+        link,
+    )
 }
 
-/// The numbers of the links.
-fn link_rows(
+/// Writes the numbers of the links.
+fn push_link_rows(
     alloc: Global,
+    out: &mut Vec<u8>,
     frame: Frame,
     artery: &Artery,
     timing: &Timing,
-) -> Result<Vec<u8>, Memory>
+) -> Result<(), Memory>
     requires frame { IsFrame frame }
     requires base { IsBase artery.now timing.now }
-    ensures { IfOk result (λ text. text.items ≡ captions_text (link_rows frame artery.now timing.now)) }
+    ensures { OnOk result (out.new.items ≡ out.old.items ++ captions_text (link_rows frame artery.now timing.now)) }
 {
-    let mut text = Vec::new(alloc);
     for link in 1..artery.count() {
-        let row = link_row(alloc, frame, artery, timing, link)?;
-        text.extend_from_slice(row.as_slice())?;
+        push_link_row(alloc, out, frame, artery, timing, link)?;
     }
-    Ok(text)
+    Ok(())
 }
 
-/// What explains the reds.
-fn red_words(alloc: Global, frame: Frame) -> Result<Vec<u8>, Memory>
+/// Writes what explains the reds.
+#[tactic(auto, unfolding(crate::specs::Captions::red_words))]
+fn push_red_words(alloc: Global, out: &mut Vec<u8>, frame: Frame) -> Result<(), Memory>
     requires { IsFrame frame }
-    ensures { IfOk result (λ text. text.items ≡ captions_text (red_words frame)) }
+    ensures { OnOk result (out.new.items ≡ out.old.items ++ captions_text (red_words frame)) }
 {
     let left = frame.left;
     let level = plot_bottom(frame) + 785;
-    let mut text = Vec::new(alloc);
-    put(
+    push_words(alloc, out, Letter::Key, left + 480, level, "common red")?;
+    push_words(
         alloc,
-        &mut text,
-        Letter::Key,
-        left + 480,
-        level,
-        b"common red",
-    )?;
-    put(
-        alloc,
-        &mut text,
+        out,
         Letter::Key,
         left + 1980,
         level,
-        b"red for the opposing left turn",
-    )?;
-    Ok(text)
+        "red for the opposing left turn",
+    )
 }
 
-/// What explains the bands.
-fn band_words(alloc: Global, frame: Frame) -> Result<Vec<u8>, Memory>
+/// Writes what explains the bands.
+#[tactic(auto, unfolding(crate::specs::Captions::band_words))]
+fn push_band_words(alloc: Global, out: &mut Vec<u8>, frame: Frame) -> Result<(), Memory>
     requires { IsFrame frame }
-    ensures { IfOk result (λ text. text.items ≡ captions_text (band_words frame)) }
+    ensures { OnOk result (out.new.items ≡ out.old.items ++ captions_text (band_words frame)) }
 {
     let left = frame.left;
     let level = plot_bottom(frame) + 785;
-    let mut text = Vec::new(alloc);
-    put(
+    push_words(
         alloc,
-        &mut text,
+        out,
         Letter::Key,
         left + 4600,
         level,
-        b"outbound band, lower bars",
+        "outbound band, lower bars",
     )?;
-    put(
+    push_words(
         alloc,
-        &mut text,
+        out,
         Letter::Key,
         left + 7000,
         level,
-        b"inbound band, upper bars",
-    )?;
-    Ok(text)
+        "inbound band, upper bars",
+    )
 }
 
 fn axis_words() -> &'static str
@@ -607,92 +722,88 @@ fn note_words() -> &'static str
     "Where a queue is given time to clear, vehicles reach the signal that long after the band begins there."
 }
 
-/// What explains the axis and the bands.
+/// Writes what explains the axis and the bands.
 #[tactic(auto, unfolding(crate::specs::Captions::notes))]
-fn notes(alloc: Global, frame: Frame) -> Result<Vec<u8>, Memory>
+fn push_notes(alloc: Global, out: &mut Vec<u8>, frame: Frame) -> Result<(), Memory>
     requires { IsFrame frame }
-    ensures { IfOk result (λ text. text.items ≡ captions_text (notes frame)) }
+    ensures { OnOk result (out.new.items ≡ out.old.items ++ captions_text (notes frame)) }
 {
     let bottom = plot_bottom(frame);
-    let axis = axis_words();
-    let note = note_words();
-    let mut text = Vec::new(alloc);
-    put(
+    push_words(
         alloc,
-        &mut text,
+        out,
         Letter::Axis,
         frame.left + 4500,
         bottom + 420,
-        axis.as_bytes(),
+        axis_words(),
     )?;
-    put(
+    push_words(
         alloc,
-        &mut text,
+        out,
         Letter::Note,
         frame.left,
         bottom + 1010,
-        note.as_bytes(),
-    )?;
-    Ok(text)
+        note_words(),
+    )
 }
 
-/// The words above the field.
-fn above(alloc: Global, frame: Frame, artery: &Artery, timing: &Timing) -> Result<Vec<u8>, Memory>
-    requires { IsFrame frame }
-    ensures { IfOk result (λ text. text.items ≡ captions_text (above frame artery.now timing.now)) }
-{
-    let mut text = title_heads(alloc, artery, timing)?;
-    let signals = signal_heads(alloc, frame)?;
-    let links = link_heads(alloc, frame, artery.head().units)?;
-    let cycles = cycle_numbers(alloc, frame)?;
-    text.extend_from_slice(signals.as_slice())?;
-    text.extend_from_slice(links.as_slice())?;
-    text.extend_from_slice(cycles.as_slice())?;
-    Ok(text)
-}
-
-/// The words beside the field.
-fn beside(alloc: Global, frame: Frame, artery: &Artery, timing: &Timing) -> Result<Vec<u8>, Memory>
-    requires frame { IsFrame frame }
-    requires base { IsBase artery.now timing.now }
-    ensures { IfOk result (λ text. text.items ≡ captions_text (beside frame artery.now timing.now)) }
-{
-    let mut text = signal_rows(alloc, frame, artery, timing)?;
-    let links = link_rows(alloc, frame, artery, timing)?;
-    text.extend_from_slice(links.as_slice())?;
-    Ok(text)
-}
-
-/// The words below the field.
-fn below(alloc: Global, frame: Frame, timing: &Timing) -> Result<Vec<u8>, Memory>
-    requires { IsFrame frame }
-    ensures { IfOk result (λ text. text.items ≡ captions_text (below frame timing.now)) }
-{
-    let mut text = second_numbers(alloc, frame, timing)?;
-    let reds = red_words(alloc, frame)?;
-    let bands = band_words(alloc, frame)?;
-    let notes = notes(alloc, frame)?;
-    text.extend_from_slice(reds.as_slice())?;
-    text.extend_from_slice(bands.as_slice())?;
-    text.extend_from_slice(notes.as_slice())?;
-    Ok(text)
-}
-
-/// All words but the names.
-pub fn captions(
+/// Writes the words above the field.
+fn push_above(
     alloc: Global,
+    out: &mut Vec<u8>,
     frame: Frame,
     artery: &Artery,
     timing: &Timing,
-) -> Result<Vec<u8>, Memory>
+) -> Result<(), Memory>
+    requires { IsFrame frame }
+    ensures { OnOk result (out.new.items ≡ out.old.items ++ captions_text (above frame artery.now timing.now)) }
+{
+    push_title_heads(alloc, out, artery, timing)?;
+    push_signal_heads(alloc, out, frame)?;
+    push_link_heads(alloc, out, frame, artery.head().units)?;
+    push_cycle_numbers(alloc, out, frame)
+}
+
+/// Writes the words beside the field.
+fn push_beside(
+    alloc: Global,
+    out: &mut Vec<u8>,
+    frame: Frame,
+    artery: &Artery,
+    timing: &Timing,
+) -> Result<(), Memory>
     requires frame { IsFrame frame }
     requires base { IsBase artery.now timing.now }
-    ensures { IfOk result (λ text. text.items ≡ captions_text (captions frame artery.now timing.now)) }
+    ensures { OnOk result (out.new.items ≡ out.old.items ++ captions_text (beside frame artery.now timing.now)) }
 {
-    let mut text = above(alloc, frame, artery, timing)?;
-    let beside = beside(alloc, frame, artery, timing)?;
-    let below = below(alloc, frame, timing)?;
-    text.extend_from_slice(beside.as_slice())?;
-    text.extend_from_slice(below.as_slice())?;
-    Ok(text)
+    push_signal_rows(alloc, out, frame, artery, timing)?;
+    push_link_rows(alloc, out, frame, artery, timing)
+}
+
+/// Writes the words below the field.
+fn push_below(alloc: Global, out: &mut Vec<u8>, frame: Frame, timing: &Timing) -> Result<(), Memory>
+    requires { IsFrame frame }
+    ensures { OnOk result (out.new.items ≡ out.old.items ++ captions_text (below frame timing.now)) }
+{
+    push_second_numbers(alloc, out, frame, timing)?;
+    push_red_words(alloc, out, frame)?;
+    push_band_words(alloc, out, frame)?;
+    push_notes(alloc, out, frame)
+}
+
+/// Writes all words but the names.
+pub fn push_captions(
+    alloc: Global,
+    out: &mut Vec<u8>,
+    frame: Frame,
+    artery: &Artery,
+    timing: &Timing,
+) -> Result<(), Memory>
+    requires frame { IsFrame frame }
+    requires base { IsBase artery.now timing.now }
+    ensures { OnOk result (out.new.items ≡ out.old.items ++ captions_text (captions frame artery.now timing.now)) }
+{
+    push_above(alloc, out, frame, artery, timing)?;
+    push_beside(alloc, out, frame, artery, timing)?;
+    push_below(alloc, out, frame, timing)
 }

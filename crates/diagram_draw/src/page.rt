@@ -1,29 +1,31 @@
 //! The whole drawing, and its text.
 
-ghost use Rattle.std.specs.Prelude.{◌≡◌, ◌+◌, ◌-◌, ◌*◌, ◌<◌, ◌≤◌, ◌++◌, codes, IfOk, pos, length, string_bytes};
+ghost use Rattle.std.specs.Prelude.{◌≡◌, ◌+◌, ◌≤◌, ◌++◌, codes, IfOk, OnOk, pos, length};
 ghost use Rattle.std.specs.Fmt.{decimal};
 ghost use Rattle.progression.specs.Street.{count};
 ghost use Rattle.progression.specs.Good.{IsBase};
 ghost use Rattle.diagram_draw.specs.declared.shape.Shape.TheVariants.{Rect};
-ghost use Rattle.diagram_draw.specs.Shapes.{shapes_text, captions_text};
-ghost use Rattle.diagram_draw.specs.Frames.{IsFrame, page_width, page_height, name_room};
-ghost use Rattle.diagram_draw.specs.Bars.{all_bars};
-ghost use Rattle.diagram_draw.specs.Bands.{all_pieces};
+ghost use Rattle.diagram_draw.specs.Shapes.{shapes_text};
+ghost use Rattle.diagram_draw.specs.Frames.{IsFrame};
+ghost use Rattle.diagram_draw.specs.Axes.{back};
 ghost use Rattle.diagram_draw.specs.Captions.{title_text, names};
-ghost use Rattle.diagram_draw.specs.Pages.{key_top, key_bar, key_piece, key_shapes, signal_about, signals_about, about_text, field_shapes, drawn, drawing, plot_clip, names_clip, clips_text, svg_opening, title_part, about_part, opening_text, definitions_text, field_part, names_part, head_text, body_text, tail_text, svg_text};
+ghost use Rattle.diagram_draw.specs.Pages.{key_bar, key_piece, key_shapes, signal_about, signals_about, about_text, field_shapes, drawn, drawing};
+ghost use Rattle.diagram_draw.specs.Pages.{plot_clip, names_clip, clips_text, svg_opening, title_part, about_part, opening_text, definitions_text, field_part};
+ghost use Rattle.diagram_draw.specs.Pages.{names_part, head_text, body_text, tail_text, svg_text};
 
 use crate::axes::back;
 use crate::bands::all_pieces;
 use crate::bars::all_bars;
-use crate::captions::{captions, facts_text, names, offset_text, title_text};
-use crate::escape::escaped;
+use crate::captions::{push_captions, push_facts, push_names, push_offset, push_title};
+use crate::escape::push_escaped;
 use crate::frame::{BAR_HEIGHT, Frame, PLOT_WIDTH, frame_of, name_room, plot_bottom};
 use crate::paint::Paint;
-use crate::shape::{Shape, Side, shapes_text};
-use crate::style::{style_text, tile_text};
+use crate::shape::{Shape, Side, push_shapes};
+use crate::style::{push_style, tile_text};
 use artery_model::Artery;
 use narrow_fraction::Memory;
-use std::alloc::{AllocError, Global};
+use quantity_text::{push_number, push_text};
+use std::alloc::Global;
 use time_space::Timing;
 use timing_measures::signal_name;
 
@@ -92,57 +94,65 @@ fn key_shapes(alloc: Global, frame: Frame) -> Result<Vec<Shape>, Memory>
     Ok(shapes)
 }
 
-fn signal_opening(alloc: Global, signal: u32) -> Result<String, AllocError>
-    ensures { IfOk result (λ text. string_bytes text ≡ codes "; signal " ++ (decimal signal ++ codes ", ")) }
+/// Writes what stands before the name of a signal.
+fn push_signal_opening(alloc: Global, out: &mut Vec<u8>, signal: u32) -> Result<(), Memory>
+    ensures { OnOk result (out.new.items ≡ out.old.items ++ (codes "; signal " ++ (decimal signal ++ codes ", "))) }
 {
-    format!(in alloc; "; signal {signal}, ")
+    push_text(out, "; signal ")?;
+    push_number(alloc, out, signal as u128)?;
+    push_text(out, ", ")
 }
 
-/// What is read aloud of a signal.
-fn signal_about(
+/// Writes what is read aloud of a signal.
+#[tactic(auto, unfolding(crate::specs::Pages::signal_about))]
+fn push_signal_about(
     alloc: Global,
+    out: &mut Vec<u8>,
     artery: &Artery,
     timing: &Timing,
     signal: u32,
-) -> Result<Vec<u8>, Memory>
+) -> Result<(), Memory>
     requires shape { length timing.now.patterns ≡ count artery.now }
     requires first { 1 ≤ signal }
     requires last { signal ≤ count artery.now }
-    ensures { IfOk result (λ text. text.items ≡ signal_about artery.now timing.now signal) }
+    ensures { OnOk result (out.new.items ≡ out.old.items ++ signal_about artery.now timing.now signal) }
 {
-    let name = escaped(alloc, signal_name(artery, signal).as_bytes())?;
-    let offset = offset_text(alloc, artery, timing, signal)?;
-    let mut text = signal_opening(alloc, signal)?.into_bytes();
-    text.extend_from_slice(name.as_slice())?;
-    text.extend_from_slice(b", offset ")?;
-    text.extend_from_slice(offset.as_slice())?;
-    text.extend_from_slice(b" s")?;
-    Ok(text)
+    push_signal_opening(alloc, out, signal)?;
+    push_escaped(out, signal_name(artery, signal).as_bytes())?;
+    push_text(out, ", offset ")?;
+    push_offset(alloc, out, artery, timing, signal)?;
+    push_text(out, " s")
 }
 
-/// The same of all signals.
-fn signals_about(alloc: Global, artery: &Artery, timing: &Timing) -> Result<Vec<u8>, Memory>
+/// Writes the same of all signals.
+fn push_signals_about(
+    alloc: Global,
+    out: &mut Vec<u8>,
+    artery: &Artery,
+    timing: &Timing,
+) -> Result<(), Memory>
     requires { length timing.now.patterns ≡ count artery.now }
-    ensures { IfOk result (λ text. text.items ≡ signals_about artery.now timing.now) }
+    ensures { OnOk result (out.new.items ≡ out.old.items ++ signals_about artery.now timing.now) }
 {
-    let mut text = Vec::new(alloc);
     for signal in 1..artery.count() + 1 {
-        let piece = signal_about(alloc, artery, timing, signal)?;
-        text.extend_from_slice(piece.as_slice())?;
+        push_signal_about(alloc, out, artery, timing, signal)?;
     }
-    Ok(text)
+    Ok(())
 }
 
-/// What is read aloud of the drawing.
+/// Writes what is read aloud of the drawing.
 #[tactic(auto, unfolding(crate::specs::Pages::about_text))]
-fn about_text(alloc: Global, artery: &Artery, timing: &Timing) -> Result<Vec<u8>, Memory>
+fn push_about(
+    alloc: Global,
+    out: &mut Vec<u8>,
+    artery: &Artery,
+    timing: &Timing,
+) -> Result<(), Memory>
     requires { length timing.now.patterns ≡ count artery.now }
-    ensures { IfOk result (λ text. text.items ≡ about_text artery.now timing.now) }
+    ensures { OnOk result (out.new.items ≡ out.old.items ++ about_text artery.now timing.now) }
 {
-    let mut text = facts_text(alloc, artery, timing)?;
-    let signals = signals_about(alloc, artery, timing)?;
-    text.extend_from_slice(signals.as_slice())?;
-    Ok(text)
+    push_facts(alloc, out, artery, timing)?;
+    push_signals_about(alloc, out, artery, timing)
 }
 
 /// What is seen through the field of the diagram.
@@ -162,201 +172,254 @@ fn field_shapes(
     Ok(shapes)
 }
 
-/// Through which the field is seen.
+/// Writes through which the field is seen.
 #[tactic(auto, unfolding(crate::specs::Pages::plot_clip))]
-fn plot_clip(alloc: Global, frame: Frame) -> Result<String, AllocError>
+fn push_plot_clip(alloc: Global, out: &mut Vec<u8>, frame: Frame) -> Result<(), Memory>
     requires { IsFrame frame }
-    ensures { IfOk result (λ text. string_bytes text ≡ plot_clip frame) }
+    ensures { OnOk result (out.new.items ≡ out.old.items ++ plot_clip frame) }
 {
-    let left = frame.left;
     let height = frame.span + 520;
-    format!(in alloc;
-        "<clipPath id=\"plot\"><rect x=\"{left}\" y=\"1500\" width=\"9000\" height=\"{height}\"/></clipPath>\n"
-    )
+    push_text(out, "<clipPath id=\"plot\"><rect x=\"")?;
+    push_number(alloc, out, frame.left as u128)?;
+    push_text(out, "\" y=\"1500\" width=\"9000\" height=\"")?;
+    push_number(alloc, out, height as u128)?;
+    push_text(out, "\"/></clipPath>\n")
 }
 
-/// Through which the names are seen.
+/// Writes through which the names are seen.
 #[tactic(auto, unfolding(crate::specs::Pages::names_clip))]
-fn names_clip(alloc: Global, frame: Frame, room: u32) -> Result<String, AllocError>
+fn push_names_clip(alloc: Global, out: &mut Vec<u8>, frame: Frame, room: u32) -> Result<(), Memory>
     requires { IsFrame frame }
-    ensures { IfOk result (λ text. string_bytes text ≡ names_clip frame room) }
+    ensures { OnOk result (out.new.items ≡ out.old.items ++ names_clip frame room) }
 {
     let height = frame.span + 520;
-    format!(in alloc;
-        "<clipPath id=\"names\"><rect x=\"430\" y=\"1500\" width=\"{room}\" height=\"{height}\"/></clipPath>\n"
-    )
+    push_text(
+        out,
+        "<clipPath id=\"names\"><rect x=\"430\" y=\"1500\" width=\"",
+    )?;
+    push_number(alloc, out, room as u128)?;
+    push_text(out, "\" height=\"")?;
+    push_number(alloc, out, height as u128)?;
+    push_text(out, "\"/></clipPath>\n")
 }
 
-fn clips_text(alloc: Global, frame: Frame, room: u32) -> Result<String, AllocError>
+/// Writes through which the field and the names are seen.
+fn push_clips(alloc: Global, out: &mut Vec<u8>, frame: Frame, room: u32) -> Result<(), Memory>
     requires { IsFrame frame }
-    ensures { IfOk result (λ text. string_bytes text ≡ clips_text frame room) }
+    ensures { OnOk result (out.new.items ≡ out.old.items ++ clips_text frame room) }
 {
-    let plot = plot_clip(alloc, frame)?;
-    let names = names_clip(alloc, frame, room)?;
-    format!(in alloc; "{plot}{names}")
+    push_plot_clip(alloc, out, frame)?;
+    push_names_clip(alloc, out, frame, room)
 }
 
-/// The beginning of the document.
+/// Writes the beginning of the document.
 #[tactic(auto, unfolding(crate::specs::Pages::svg_opening))]
-fn svg_opening(alloc: Global, frame: Frame) -> Result<String, AllocError>
+fn push_svg_opening(alloc: Global, out: &mut Vec<u8>, frame: Frame) -> Result<(), Memory>
     requires { IsFrame frame }
-    ensures { IfOk result (λ text. string_bytes text ≡ svg_opening frame) }
+    ensures { OnOk result (out.new.items ≡ out.old.items ++ svg_opening frame) }
 {
     let width = frame.left + PLOT_WIDTH + 2200;
     let height = plot_bottom(frame) + 1200;
-    format!(in alloc;
-        "<svg xmlns=\"http://www.w3.org/2000/svg\" viewBox=\"0 0 {width} {height}\" role=\"img\" aria-labelledby=\"title desc\">\n"
-    )
+    push_text(
+        out,
+        "<svg xmlns=\"http://www.w3.org/2000/svg\" viewBox=\"0 0 ",
+    )?;
+    push_number(alloc, out, width as u128)?;
+    push_text(out, " ")?;
+    push_number(alloc, out, height as u128)?;
+    push_text(out, "\" role=\"img\" aria-labelledby=\"title desc\">\n")
 }
 
+/// Writes the title of the document.
 #[tactic(auto, unfolding(crate::specs::Pages::title_part))]
-fn title_part(alloc: Global, title: &[u8]) -> Result<Vec<u8>, Memory>
-    ensures { IfOk result (λ text. text.items ≡ title_part title.now) }
+fn push_title_part(out: &mut Vec<u8>, artery: &Artery) -> Result<(), Memory>
+    ensures { OnOk result (out.new.items ≡ out.old.items ++ title_part (title_text artery.now)) }
 {
-    let mut text = Vec::from_slice(alloc, b"<title id=\"title\">")?;
-    text.extend_from_slice(title)?;
-    text.extend_from_slice(b"</title>\n")?;
-    Ok(text)
+    push_text(out, "<title id=\"title\">")?;
+    push_title(out, artery)?;
+    push_text(out, "</title>\n")
 }
 
+/// Writes what is read aloud, as a part of the document.
 #[tactic(auto, unfolding(crate::specs::Pages::about_part))]
-fn about_part(alloc: Global, about: &[u8]) -> Result<Vec<u8>, Memory>
-    ensures { IfOk result (λ text. text.items ≡ about_part about.now) }
+fn push_about_part(
+    alloc: Global,
+    out: &mut Vec<u8>,
+    artery: &Artery,
+    timing: &Timing,
+) -> Result<(), Memory>
+    requires { length timing.now.patterns ≡ count artery.now }
+    ensures { OnOk result (out.new.items ≡ out.old.items ++ about_part (about_text artery.now timing.now)) }
 {
-    let mut text = Vec::from_slice(alloc, b"<desc id=\"desc\">")?;
-    text.extend_from_slice(about)?;
-    text.extend_from_slice(b"</desc>\n")?;
-    Ok(text)
+    push_text(out, "<desc id=\"desc\">")?;
+    push_about(alloc, out, artery, timing)?;
+    push_text(out, "</desc>\n")
 }
 
-/// The beginning of the document, with its title and what is read aloud.
-fn opening_text(
+/// Writes the beginning of the document, with its title and what is read aloud.
+fn push_opening(
     alloc: Global,
+    out: &mut Vec<u8>,
     frame: Frame,
     artery: &Artery,
     timing: &Timing,
-) -> Result<Vec<u8>, Memory>
+) -> Result<(), Memory>
     requires frame { IsFrame frame }
     requires shape { length timing.now.patterns ≡ count artery.now }
-    ensures { IfOk result (λ text. text.items ≡ opening_text (drawn frame artery.now timing.now)) }
+    ensures { OnOk result (out.new.items ≡ out.old.items ++ opening_text (drawn frame artery.now timing.now)) }
 {
-    let title = title_text(alloc, artery)?;
-    let about = about_text(alloc, artery, timing)?;
-    let title = title_part(alloc, title.as_slice())?;
-    let about = about_part(alloc, about.as_slice())?;
-    let mut text = svg_opening(alloc, frame)?.into_bytes();
-    text.extend_from_slice(title.as_slice())?;
-    text.extend_from_slice(about.as_slice())?;
-    Ok(text)
+    push_svg_opening(alloc, out, frame)?;
+    push_title_part(out, artery)?;
+    push_about_part(alloc, out, artery, timing)
 }
 
-/// What the shapes refer to.
+/// Writes what the shapes refer to.
 #[tactic(auto, unfolding(crate::specs::Pages::definitions_text))]
-fn definitions_text(alloc: Global, frame: Frame, room: u32) -> Result<Vec<u8>, Memory>
+fn push_definitions(alloc: Global, out: &mut Vec<u8>, frame: Frame, room: u32) -> Result<(), Memory>
     requires { IsFrame frame }
-    ensures { IfOk result (λ text. text.items ≡ definitions_text frame room) }
+    ensures { OnOk result (out.new.items ≡ out.old.items ++ definitions_text frame room) }
 {
-    let tile = tile_text();
-    let clips = clips_text(alloc, frame, room)?;
-    let mut text = Vec::from_slice(alloc, b"<defs>\n")?;
-    text.extend_from_slice(tile.as_bytes())?;
-    text.extend_from_slice(clips.as_bytes())?;
-    text.extend_from_slice(b"</defs>\n")?;
-    Ok(text)
+    push_text(out, "<defs>\n")?;
+    push_text(out, tile_text())?;
+    push_clips(alloc, out, frame, room)?;
+    push_text(out, "</defs>\n")
 }
 
-/// What comes before the shapes.
-fn head_text(
+/// Writes what comes before the shapes.
+#[tactic(auto, unfolding(crate::specs::Pages::head_text))]
+fn push_head(
     alloc: Global,
+    out: &mut Vec<u8>,
     frame: Frame,
     artery: &Artery,
     timing: &Timing,
-) -> Result<Vec<u8>, Memory>
+) -> Result<(), Memory>
     requires frame { IsFrame frame }
     requires shape { length timing.now.patterns ≡ count artery.now }
-    ensures { IfOk result (λ text. text.items ≡ head_text (drawn frame artery.now timing.now)) }
+    ensures { OnOk result (out.new.items ≡ out.old.items ++ head_text (drawn frame artery.now timing.now)) }
 {
-    let mut text = opening_text(alloc, frame, artery, timing)?;
-    let style = style_text(alloc)?;
-    let definitions = definitions_text(alloc, frame, name_room(artery))?;
-    text.extend_from_slice(style.as_slice())?;
-    text.extend_from_slice(definitions.as_slice())?;
-    Ok(text)
+    push_opening(alloc, out, frame, artery, timing)?;
+    push_style(out)?;
+    push_definitions(alloc, out, frame, name_room(artery))
 }
 
-fn field_part(alloc: Global, shapes: &[Shape]) -> Result<Vec<u8>, Memory>
-    ensures { IfOk result (λ text. text.items ≡ field_part shapes.now) }
-{
-    let field = shapes_text(alloc, shapes)?;
-    let mut text = Vec::from_slice(alloc, b"<g clip-path=\"url(#plot)\">\n")?;
-    text.extend_from_slice(field.as_slice())?;
-    text.extend_from_slice(b"</g>\n")?;
-    Ok(text)
-}
-
-fn names_part(alloc: Global, frame: Frame, artery: &Artery) -> Result<Vec<u8>, Memory>
-    requires { IsFrame frame }
-    ensures { IfOk result (λ text. text.items ≡ names_part (names frame artery.now)) }
-{
-    let names = names(alloc, frame, artery)?;
-    let mut text = Vec::from_slice(alloc, b"<g clip-path=\"url(#names)\">\n")?;
-    text.extend_from_slice(names.as_slice())?;
-    text.extend_from_slice(b"</g>\n")?;
-    Ok(text)
-}
-
-/// What is behind the words.
-fn body_text(
+/// Writes what stands behind.
+fn push_back(
     alloc: Global,
+    out: &mut Vec<u8>,
     frame: Frame,
     artery: &Artery,
     timing: &Timing,
-) -> Result<Vec<u8>, Memory>
+) -> Result<(), Memory>
+    requires { IsFrame frame }
+    ensures { OnOk result (out.new.items ≡ out.old.items ++ shapes_text (back frame artery.now timing.now)) }
+{
+    let shapes = back(alloc, frame, artery, timing)?;
+    push_shapes(alloc, out, shapes.as_slice())
+}
+
+/// Writes the part of the document with what is seen through the field.
+#[tactic(auto, unfolding(crate::specs::Pages::field_part))]
+fn push_field_part(alloc: Global, out: &mut Vec<u8>, shapes: &[Shape]) -> Result<(), Memory>
+    ensures { OnOk result (out.new.items ≡ out.old.items ++ field_part shapes.now) }
+{
+    push_text(out, "<g clip-path=\"url(#plot)\">\n")?;
+    push_shapes(alloc, out, shapes)?;
+    push_text(out, "</g>\n")
+}
+
+/// Writes what is seen through the field.
+fn push_field(
+    alloc: Global,
+    out: &mut Vec<u8>,
+    frame: Frame,
+    artery: &Artery,
+    timing: &Timing,
+) -> Result<(), Memory>
     requires frame { IsFrame frame }
     requires shape { length timing.now.patterns ≡ count artery.now }
-    ensures { IfOk result (λ text. text.items ≡ body_text (drawn frame artery.now timing.now)) }
+    ensures { OnOk result (out.new.items ≡ out.old.items ++ field_part (field_shapes frame artery.now timing.now)) }
 {
-    let back = back(alloc, frame, artery, timing)?;
-    let field = field_shapes(alloc, frame, artery, timing)?;
-    let mut text = shapes_text(alloc, back.as_slice())?;
-    let field = field_part(alloc, field.as_slice())?;
-    let names = names_part(alloc, frame, artery)?;
-    text.extend_from_slice(field.as_slice())?;
-    text.extend_from_slice(names.as_slice())?;
-    Ok(text)
+    let shapes = field_shapes(alloc, frame, artery, timing)?;
+    push_field_part(alloc, out, shapes.as_slice())
 }
 
-/// The words, and what explains the shapes.
-fn tail_text(
+/// Writes the part of the document with the names.
+#[tactic(auto, unfolding(crate::specs::Pages::names_part))]
+fn push_names_part(
     alloc: Global,
+    out: &mut Vec<u8>,
+    frame: Frame,
+    artery: &Artery,
+) -> Result<(), Memory>
+    requires { IsFrame frame }
+    ensures { OnOk result (out.new.items ≡ out.old.items ++ names_part (names frame artery.now)) }
+{
+    push_text(out, "<g clip-path=\"url(#names)\">\n")?;
+    push_names(alloc, out, frame, artery)?;
+    push_text(out, "</g>\n")
+}
+
+/// Writes what is behind the words.
+#[tactic(auto, unfolding(crate::specs::Pages::body_text))]
+fn push_body(
+    alloc: Global,
+    out: &mut Vec<u8>,
     frame: Frame,
     artery: &Artery,
     timing: &Timing,
-) -> Result<Vec<u8>, Memory>
+) -> Result<(), Memory>
     requires frame { IsFrame frame }
-    requires base { IsBase artery.now timing.now }
-    ensures { IfOk result (λ text. text.items ≡ tail_text (drawn frame artery.now timing.now)) }
+    requires shape { length timing.now.patterns ≡ count artery.now }
+    ensures { OnOk result (out.new.items ≡ out.old.items ++ body_text (drawn frame artery.now timing.now)) }
 {
-    let keys = key_shapes(alloc, frame)?;
-    let mut text = shapes_text(alloc, keys.as_slice())?;
-    let words = captions(alloc, frame, artery, timing)?;
-    text.extend_from_slice(words.as_slice())?;
-    text.extend_from_slice(b"</svg>\n")?;
-    Ok(text)
+    push_back(alloc, out, frame, artery, timing)?;
+    push_field(alloc, out, frame, artery, timing)?;
+    push_names_part(alloc, out, frame, artery)
 }
 
-/// The text of the drawing on a frame.
-fn drawn(alloc: Global, frame: Frame, artery: &Artery, timing: &Timing) -> Result<Vec<u8>, Memory>
+/// Writes the shapes that explain the others.
+fn push_keys(alloc: Global, out: &mut Vec<u8>, frame: Frame) -> Result<(), Memory>
+    requires { IsFrame frame }
+    ensures { OnOk result (out.new.items ≡ out.old.items ++ shapes_text (key_shapes frame)) }
+{
+    let shapes = key_shapes(alloc, frame)?;
+    push_shapes(alloc, out, shapes.as_slice())
+}
+
+/// Writes the words, and what explains the shapes.
+#[tactic(auto, unfolding(crate::specs::Pages::tail_text))]
+fn push_tail(
+    alloc: Global,
+    out: &mut Vec<u8>,
+    frame: Frame,
+    artery: &Artery,
+    timing: &Timing,
+) -> Result<(), Memory>
     requires frame { IsFrame frame }
     requires base { IsBase artery.now timing.now }
-    ensures { IfOk result (λ text. text.items ≡ svg_text (drawn frame artery.now timing.now)) }
+    ensures { OnOk result (out.new.items ≡ out.old.items ++ tail_text (drawn frame artery.now timing.now)) }
 {
-    let mut text = head_text(alloc, frame, artery, timing)?;
-    let body = body_text(alloc, frame, artery, timing)?;
-    let tail = tail_text(alloc, frame, artery, timing)?;
-    text.extend_from_slice(body.as_slice())?;
-    text.extend_from_slice(tail.as_slice())?;
-    Ok(text)
+    push_keys(alloc, out, frame)?;
+    push_captions(alloc, out, frame, artery, timing)?;
+    push_text(out, "</svg>\n")
+}
+
+/// Writes the drawing on a frame.
+fn push_drawn(
+    alloc: Global,
+    out: &mut Vec<u8>,
+    frame: Frame,
+    artery: &Artery,
+    timing: &Timing,
+) -> Result<(), Memory>
+    requires frame { IsFrame frame }
+    requires base { IsBase artery.now timing.now }
+    ensures { OnOk result (out.new.items ≡ out.old.items ++ svg_text (drawn frame artery.now timing.now)) }
+{
+    push_head(alloc, out, frame, artery, timing)?;
+    push_body(alloc, out, frame, artery, timing)?;
+    push_tail(alloc, out, frame, artery, timing)
 }
 
 /// The time-space diagram of a timing as an SVG document: time to the right, in two to twelve cycles, and distance upwards, to scale;
@@ -367,5 +430,7 @@ pub fn draw(alloc: Global, artery: &Artery, timing: &Timing) -> Result<Vec<u8>, 
     ensures { IfOk result (λ text. text.items ≡ svg_text (drawing artery.now timing.now)) }
 {
     let frame = frame_of(artery, timing);
-    drawn(alloc, frame, artery, timing)
+    let mut text = Vec::new(alloc);
+    push_drawn(alloc, &mut text, frame, artery, timing)?;
+    Ok(text)
 }

@@ -1,9 +1,0 @@
-use Rattle.diagram_draw.specs.Captions.{inbound_facts}
-use Rattle.diagram_draw.proofs.Chains.{with_more, with_text}
-use Rattle.diagram_draw.proofs.captions.inbound_facts.Goals as goal
-
-pub returns : goal.returns
-unfolding inbound_facts
-returns c =
-    let one = with_more _ _ _ _ _ _ c.in_ok-extend_from_slice.ensures.items c.as_slice.ensures.value c.in_ok-inbound.ensures c.in_ok-text.ensures.items in
-    with_text _ _ _ _ c.in_ok-extend_from_slice-2.ensures.items one
