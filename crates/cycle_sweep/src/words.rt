@@ -51,11 +51,11 @@ pub(crate) fn bound_of(verdict: &Verdict, bound: Frac, value: Option<Frac>) -> O
 }
 
 /// Writes the exact text of a number, and `-` where there is none.
-fn push_value(alloc: Global, out: &mut Vec<u8>, number: Option<Frac>) -> Result<(), Memory>
+fn push_value(out: &mut Vec<u8>, number: Option<Frac>) -> Result<(), Memory>
     ensures { OnOk result (out.new.items ≡ out.old.items ++ number_text number) }
 {
     match number {
-        Some(number) => push_exact(alloc, out, number),
+        Some(number) => push_exact(out, number),
         None => push_text(out, "-"),
     }
 }
@@ -65,6 +65,6 @@ pub(crate) fn number_text(alloc: Global, number: Option<Frac>) -> Result<Vec<u8>
     ensures { IfOk result (λ text. text.items ≡ number_text number) }
 {
     let mut text = Vec::new(alloc);
-    push_value(alloc, &mut text, number)?;
+    push_value(&mut text, number)?;
     Ok(text)
 }

@@ -22,49 +22,36 @@ use artery_model::{Artery, Dir, Units};
 use narrow_fraction::{Frac, Memory};
 use progression::Text;
 use quantity_text::{push_decimal, push_number, push_text};
-use std::alloc::Global;
 use time_space::{Timing, cycle};
 use timing_measures::{link_speed, offset, quotient, seconds, signal_name};
 
 /// Writes a number, cut after one decimal place.
-fn push_tenths(alloc: Global, out: &mut Vec<u8>, value: Frac) -> Result<(), Memory>
+fn push_tenths(out: &mut Vec<u8>, value: Frac) -> Result<(), Memory>
     requires least { pos 0 ≤ℤ value.num }
     requires denominator { value.den ≤ 2 ^ 120 }
     ensures { OnOk result (out.new.items ≡ out.old.items ++ tenths value) }
 {
-    push_decimal(alloc, out, value, 1)
+    push_decimal(out, value, 1)
 }
 
 /// Writes ticks as seconds.
-fn push_seconds(
-    alloc: Global,
-    out: &mut Vec<u8>,
-    timing: &Timing,
-    ticks: u128,
-) -> Result<(), Memory>
+fn push_seconds(out: &mut Vec<u8>, timing: &Timing, ticks: u128) -> Result<(), Memory>
     requires { ticks < 2 ^ 126 }
     ensures { OnOk result (out.new.items ≡ out.old.items ++ seconds_text timing.now ticks) }
 {
-    push_tenths(alloc, out, seconds(timing, ticks))
+    push_tenths(out, seconds(timing, ticks))
 }
 
 /// Writes a direction's band in hundredths of the cycle.
-fn push_percent(
-    alloc: Global,
-    out: &mut Vec<u8>,
-    artery: &Artery,
-    timing: &Timing,
-    dir: Dir,
-) -> Result<(), Memory>
+fn push_percent(out: &mut Vec<u8>, artery: &Artery, timing: &Timing, dir: Dir) -> Result<(), Memory>
     ensures { OnOk result (out.new.items ≡ out.old.items ++ percent_text artery.now timing.now dir) }
 {
     let share = quotient(100 * timing.band(dir), cycle(artery, timing));
-    push_tenths(alloc, out, share)
+    push_tenths(out, share)
 }
 
 /// Writes the offset of a signal.
 pub fn push_offset(
-    alloc: Global,
     out: &mut Vec<u8>,
     artery: &Artery,
     timing: &Timing,
@@ -74,7 +61,7 @@ pub fn push_offset(
     requires last { signal ≤ length timing.now.patterns }
     ensures { OnOk result (out.new.items ≡ out.old.items ++ offset_text artery.now timing.now signal) }
 {
-    push_tenths(alloc, out, offset(artery, timing, signal))
+    push_tenths(out, offset(artery, timing, signal))
 }
 
 /// Writes the name of the street, or what the drawing is.
@@ -97,7 +84,6 @@ pub fn push_title(out: &mut Vec<u8>, artery: &Artery) -> Result<(), Memory>
 /// Writes a band in seconds and as a part of the cycle.
 #[tactic(auto, unfolding(crate::specs::Captions::band_facts))]
 fn push_band_facts(
-    alloc: Global,
     out: &mut Vec<u8>,
     artery: &Artery,
     timing: &Timing,
@@ -105,54 +91,39 @@ fn push_band_facts(
 ) -> Result<(), Memory>
     ensures { OnOk result (out.new.items ≡ out.old.items ++ band_facts artery.now timing.now dir) }
 {
-    push_seconds(alloc, out, timing, timing.band(dir))?;
+    push_seconds(out, timing, timing.band(dir))?;
     push_text(out, " s = ")?;
-    push_percent(alloc, out, artery, timing, dir)
+    push_percent(out, artery, timing, dir)
 }
 
 /// Writes the cycle, and what stands before the outbound band.
 #[tactic(auto, unfolding(crate::specs::Captions::cycle_facts))]
-fn push_cycle_facts(
-    alloc: Global,
-    out: &mut Vec<u8>,
-    artery: &Artery,
-    timing: &Timing,
-) -> Result<(), Memory>
+fn push_cycle_facts(out: &mut Vec<u8>, artery: &Artery, timing: &Timing) -> Result<(), Memory>
     ensures { OnOk result (out.new.items ≡ out.old.items ++ cycle_facts artery.now timing.now) }
 {
     push_text(out, "cycle ")?;
-    push_seconds(alloc, out, timing, cycle(artery, timing))?;
+    push_seconds(out, timing, cycle(artery, timing))?;
     push_text(out, " s &#183; outbound band ")
 }
 
 /// Writes the inbound band, and what stands before it.
 #[tactic(auto, unfolding(crate::specs::Captions::inbound_facts))]
-fn push_inbound_facts(
-    alloc: Global,
-    out: &mut Vec<u8>,
-    artery: &Artery,
-    timing: &Timing,
-) -> Result<(), Memory>
+fn push_inbound_facts(out: &mut Vec<u8>, artery: &Artery, timing: &Timing) -> Result<(), Memory>
     ensures { OnOk result (out.new.items ≡ out.old.items ++ inbound_facts artery.now timing.now) }
 {
     push_text(out, " % of the cycle &#183; inbound band ")?;
-    push_band_facts(alloc, out, artery, timing, Dir::Inbound)?;
+    push_band_facts(out, artery, timing, Dir::Inbound)?;
     push_text(out, " %")
 }
 
 /// Writes the cycle and both bands.
 #[tactic(auto, unfolding(crate::specs::Captions::facts_text))]
-pub fn push_facts(
-    alloc: Global,
-    out: &mut Vec<u8>,
-    artery: &Artery,
-    timing: &Timing,
-) -> Result<(), Memory>
+pub fn push_facts(out: &mut Vec<u8>, artery: &Artery, timing: &Timing) -> Result<(), Memory>
     ensures { OnOk result (out.new.items ≡ out.old.items ++ facts_text artery.now timing.now) }
 {
-    push_cycle_facts(alloc, out, artery, timing)?;
-    push_band_facts(alloc, out, artery, timing, Dir::Outbound)?;
-    push_inbound_facts(alloc, out, artery, timing)
+    push_cycle_facts(out, artery, timing)?;
+    push_band_facts(out, artery, timing, Dir::Outbound)?;
+    push_inbound_facts(out, artery, timing)
 }
 
 fn unit_of_length(units: Units) -> &'static str
@@ -174,31 +145,18 @@ fn unit_of_speed(units: Units) -> &'static str
 }
 
 /// Writes the beginning of words at a point.
-fn push_opening(
-    alloc: Global,
-    out: &mut Vec<u8>,
-    letter: Letter,
-    x: u32,
-    y: u32,
-) -> Result<(), Memory>
+fn push_opening(out: &mut Vec<u8>, letter: Letter, x: u32, y: u32) -> Result<(), Memory>
     ensures { OnOk result (out.new.items ≡ out.old.items ++ words_opening letter (pos x) (pos y)) }
 {
-    push_words_opening(alloc, out, letter, i128::from(x), i128::from(y))
+    push_words_opening(out, letter, i128::from(x), i128::from(y))
 }
 
 /// Writes words at a point.
 #[tactic(auto, unfolding(crate::specs::Shapes::words_text))]
-fn push_words(
-    alloc: Global,
-    out: &mut Vec<u8>,
-    letter: Letter,
-    x: u32,
-    y: u32,
-    words: &str,
-) -> Result<(), Memory>
+fn push_words(out: &mut Vec<u8>, letter: Letter, x: u32, y: u32, words: &str) -> Result<(), Memory>
     ensures { OnOk result (out.new.items ≡ out.old.items ++ words_text letter (pos x) (pos y) words.now) }
 {
-    push_opening(alloc, out, letter, x, y)?;
+    push_opening(out, letter, x, y)?;
     push_text(out, words)?;
     push_words_end(out)
 }
@@ -207,52 +165,41 @@ const HEAD_LEVEL: u32 = PLOT_TOP - 90;
 
 /// Writes the title, where it stands.
 #[tactic(auto, unfolding(crate::specs::Shapes::words_text))]
-fn push_title_words(alloc: Global, out: &mut Vec<u8>, artery: &Artery) -> Result<(), Memory>
+fn push_title_words(out: &mut Vec<u8>, artery: &Artery) -> Result<(), Memory>
     ensures { OnOk result (out.new.items ≡ out.old.items ++ words_text Title (pos 220) (pos 480) (title_text artery.now)) }
 {
-    push_opening(alloc, out, Letter::Title, 220, 480)?;
+    push_opening(out, Letter::Title, 220, 480)?;
     push_title(out, artery)?;
     push_words_end(out)
 }
 
 /// Writes what is measured, where it stands.
 #[tactic(auto, unfolding(crate::specs::Shapes::words_text))]
-fn push_facts_words(
-    alloc: Global,
-    out: &mut Vec<u8>,
-    artery: &Artery,
-    timing: &Timing,
-) -> Result<(), Memory>
+fn push_facts_words(out: &mut Vec<u8>, artery: &Artery, timing: &Timing) -> Result<(), Memory>
     ensures { OnOk result (out.new.items ≡ out.old.items ++ words_text Facts (pos 220) (pos 830) (facts_text artery.now timing.now)) }
 {
-    push_opening(alloc, out, Letter::Facts, 220, 830)?;
-    push_facts(alloc, out, artery, timing)?;
+    push_opening(out, Letter::Facts, 220, 830)?;
+    push_facts(out, artery, timing)?;
     push_words_end(out)
 }
 
 /// Writes the title, and what is measured.
 #[tactic(auto, unfolding(crate::specs::Captions::title_heads))]
-fn push_title_heads(
-    alloc: Global,
-    out: &mut Vec<u8>,
-    artery: &Artery,
-    timing: &Timing,
-) -> Result<(), Memory>
+fn push_title_heads(out: &mut Vec<u8>, artery: &Artery, timing: &Timing) -> Result<(), Memory>
     ensures { OnOk result (out.new.items ≡ out.old.items ++ captions_text (title_heads artery.now timing.now)) }
 {
-    push_title_words(alloc, out, artery)?;
-    push_facts_words(alloc, out, artery, timing)
+    push_title_words(out, artery)?;
+    push_facts_words(out, artery, timing)
 }
 
 /// Writes what stands above the columns of the signals.
 #[tactic(auto, unfolding(crate::specs::Captions::signal_heads))]
-fn push_signal_heads(alloc: Global, out: &mut Vec<u8>, frame: Frame) -> Result<(), Memory>
+fn push_signal_heads(out: &mut Vec<u8>, frame: Frame) -> Result<(), Memory>
     requires { IsFrame frame }
     ensures { OnOk result (out.new.items ≡ out.old.items ++ captions_text (signal_heads frame)) }
 {
-    push_words(alloc, out, Letter::Head, NAME_LEFT, HEAD_LEVEL, "signal")?;
+    push_words(out, Letter::Head, NAME_LEFT, HEAD_LEVEL, "signal")?;
     push_words(
-        alloc,
         out,
         Letter::HeadEnd,
         frame.left - 810,
@@ -260,7 +207,6 @@ fn push_signal_heads(alloc: Global, out: &mut Vec<u8>, frame: Frame) -> Result<(
         "pattern",
     )?;
     push_words(
-        alloc,
         out,
         Letter::HeadEnd,
         frame.left - 170,
@@ -271,16 +217,10 @@ fn push_signal_heads(alloc: Global, out: &mut Vec<u8>, frame: Frame) -> Result<(
 
 /// Writes what stands above a column of speeds.
 #[tactic(auto, unfolding(crate::specs::Shapes::words_text))]
-fn push_speed_head(
-    alloc: Global,
-    out: &mut Vec<u8>,
-    x: u32,
-    name: &str,
-    units: Units,
-) -> Result<(), Memory>
+fn push_speed_head(out: &mut Vec<u8>, x: u32, name: &str, units: Units) -> Result<(), Memory>
     ensures { OnOk result (out.new.items ≡ out.old.items ++ words_text HeadEnd (pos x) head_level (name.now ++ unit_of_speed units)) }
 {
-    push_opening(alloc, out, Letter::HeadEnd, x, HEAD_LEVEL)?;
+    push_opening(out, Letter::HeadEnd, x, HEAD_LEVEL)?;
     push_text(out, name)?;
     push_text(out, unit_of_speed(units))?;
     push_words_end(out)
@@ -288,33 +228,27 @@ fn push_speed_head(
 
 /// Writes what stands above the columns of the links.
 #[tactic(auto, unfolding(crate::specs::Captions::link_heads))]
-fn push_link_heads(
-    alloc: Global,
-    out: &mut Vec<u8>,
-    frame: Frame,
-    units: Units,
-) -> Result<(), Memory>
+fn push_link_heads(out: &mut Vec<u8>, frame: Frame, units: Units) -> Result<(), Memory>
     requires { IsFrame frame }
     ensures { OnOk result (out.new.items ≡ out.old.items ++ captions_text (link_heads frame units)) }
 {
     let right = frame.left + PLOT_WIDTH;
     push_words(
-        alloc,
         out,
         Letter::HeadEnd,
         right + 880,
         HEAD_LEVEL,
         unit_of_length(units),
     )?;
-    push_speed_head(alloc, out, right + 1480, "out ", units)?;
-    push_speed_head(alloc, out, right + 2060, "in ", units)
+    push_speed_head(out, right + 1480, "out ", units)?;
+    push_speed_head(out, right + 2060, "in ", units)
 }
 
 /// Writes how many cycles there are.
-fn push_cycles(alloc: Global, out: &mut Vec<u8>, cycles: u32) -> Result<(), Memory>
+fn push_cycles(out: &mut Vec<u8>, cycles: u32) -> Result<(), Memory>
     ensures { OnOk result (out.new.items ≡ out.old.items ++ cycles_text cycles) }
 {
-    push_number(alloc, out, cycles as u128)?;
+    push_number(out, cycles as u128)?;
     if cycles == 1 {
         push_text(out, " cycle")
     } else {
@@ -324,29 +258,24 @@ fn push_cycles(alloc: Global, out: &mut Vec<u8>, cycles: u32) -> Result<(), Memo
 
 /// Writes the number of cycles where so many end.
 #[tactic(auto, unfolding(crate::specs::Shapes::words_text))]
-fn push_cycle_number(
-    alloc: Global,
-    out: &mut Vec<u8>,
-    frame: Frame,
-    cycles: u32,
-) -> Result<(), Memory>
+fn push_cycle_number(out: &mut Vec<u8>, frame: Frame, cycles: u32) -> Result<(), Memory>
     requires frame { IsFrame frame }
     requires cycles { cycles ≤ 12 }
     ensures { OnOk result (out.new.items ≡ out.old.items ++ caption_text (cycle_number frame cycles)) }
 {
     let x = cycle_x(frame, cycles);
-    push_words_opening(alloc, out, Letter::HeadMiddle, x, i128::from(HEAD_LEVEL))?;
-    push_cycles(alloc, out, cycles)?;
+    push_words_opening(out, Letter::HeadMiddle, x, i128::from(HEAD_LEVEL))?;
+    push_cycles(out, cycles)?;
     push_words_end(out)
 }
 
 /// Writes the numbers of cycles above the field.
-fn push_cycle_numbers(alloc: Global, out: &mut Vec<u8>, frame: Frame) -> Result<(), Memory>
+fn push_cycle_numbers(out: &mut Vec<u8>, frame: Frame) -> Result<(), Memory>
     requires { IsFrame frame }
     ensures { OnOk result (out.new.items ≡ out.old.items ++ captions_text (cycle_numbers frame)) }
 {
     for cycles in 1..frame.cycles + 1 {
-        push_cycle_number(alloc, out, frame, cycles)?;
+        push_cycle_number(out, frame, cycles)?;
     }
     Ok(())
 }
@@ -354,7 +283,6 @@ fn push_cycle_numbers(alloc: Global, out: &mut Vec<u8>, frame: Frame) -> Result<
 /// Writes the second of a line below it.
 #[tactic(auto, unfolding(crate::specs::Shapes::words_text))]
 fn push_second_number(
-    alloc: Global,
     out: &mut Vec<u8>,
     frame: Frame,
     timing: &Timing,
@@ -366,23 +294,18 @@ fn push_second_number(
 {
     let x = second_x(frame, timing, line);
     let y = i128::from(plot_bottom(frame) + 210);
-    push_words_opening(alloc, out, Letter::Axis, x, y)?;
-    push_number(alloc, out, second_at(frame, timing, line) as u128)?;
+    push_words_opening(out, Letter::Axis, x, y)?;
+    push_number(out, second_at(frame, timing, line) as u128)?;
     push_words_end(out)
 }
 
 /// Writes the numbers of seconds below the field.
-fn push_second_numbers(
-    alloc: Global,
-    out: &mut Vec<u8>,
-    frame: Frame,
-    timing: &Timing,
-) -> Result<(), Memory>
+fn push_second_numbers(out: &mut Vec<u8>, frame: Frame, timing: &Timing) -> Result<(), Memory>
     requires { IsFrame frame }
     ensures { OnOk result (out.new.items ≡ out.old.items ++ captions_text (second_numbers frame timing.now)) }
 {
     for line in 0..steps_shown(frame, timing) {
-        push_second_number(alloc, out, frame, timing, line)?;
+        push_second_number(out, frame, timing, line)?;
     }
     Ok(())
 }
@@ -411,13 +334,7 @@ fn name_letter(bytes: usize) -> Letter
 
 /// Writes the name of a signal.
 #[tactic(auto, unfolding(crate::specs::Shapes::words_text))]
-fn push_name(
-    alloc: Global,
-    out: &mut Vec<u8>,
-    frame: Frame,
-    artery: &Artery,
-    signal: u32,
-) -> Result<(), Memory>
+fn push_name(out: &mut Vec<u8>, frame: Frame, artery: &Artery, signal: u32) -> Result<(), Memory>
     requires frame { IsFrame frame }
     requires first { 1 ≤ signal }
     requires last { signal ≤ count artery.now }
@@ -426,47 +343,35 @@ fn push_name(
     let name = signal_name(artery, signal);
     let letter = name_letter(name.len());
     let y = row_level(frame, artery, signal);
-    push_opening(alloc, out, letter, NAME_LEFT, y)?;
+    push_opening(out, letter, NAME_LEFT, y)?;
     push_escaped(out, name.as_bytes())?;
     push_words_end(out)
 }
 
 /// Writes the names of the signals.
-pub fn push_names(
-    alloc: Global,
-    out: &mut Vec<u8>,
-    frame: Frame,
-    artery: &Artery,
-) -> Result<(), Memory>
+pub fn push_names(out: &mut Vec<u8>, frame: Frame, artery: &Artery) -> Result<(), Memory>
     requires { IsFrame frame }
     ensures { OnOk result (out.new.items ≡ out.old.items ++ captions_text (names frame artery.now)) }
 {
     for signal in 1..artery.count() + 1 {
-        push_name(alloc, out, frame, artery, signal)?;
+        push_name(out, frame, artery, signal)?;
     }
     Ok(())
 }
 
 /// Writes a number at a point.
 #[tactic(auto, unfolding(crate::specs::Shapes::words_text))]
-fn push_number_words(
-    alloc: Global,
-    out: &mut Vec<u8>,
-    x: u32,
-    y: u32,
-    number: u32,
-) -> Result<(), Memory>
+fn push_number_words(out: &mut Vec<u8>, x: u32, y: u32, number: u32) -> Result<(), Memory>
     ensures { OnOk result (out.new.items ≡ out.old.items ++ words_text Number (pos x) (pos y) (decimal number)) }
 {
-    push_opening(alloc, out, Letter::Number, x, y)?;
-    push_number(alloc, out, number as u128)?;
+    push_opening(out, Letter::Number, x, y)?;
+    push_number(out, number as u128)?;
     push_words_end(out)
 }
 
 /// Writes the offset of a signal at a point.
 #[tactic(auto, unfolding(crate::specs::Shapes::words_text))]
 fn push_offset_words(
-    alloc: Global,
     out: &mut Vec<u8>,
     x: u32,
     y: u32,
@@ -478,15 +383,14 @@ fn push_offset_words(
     requires last { signal ≤ length timing.now.patterns }
     ensures { OnOk result (out.new.items ≡ out.old.items ++ words_text Number (pos x) (pos y) (offset_text artery.now timing.now signal)) }
 {
-    push_opening(alloc, out, Letter::Number, x, y)?;
-    push_offset(alloc, out, artery, timing, signal)?;
+    push_opening(out, Letter::Number, x, y)?;
+    push_offset(out, artery, timing, signal)?;
     push_words_end(out)
 }
 
 /// Writes the numbers of a signal: its own, its pattern and its offset.
 #[tactic(auto, unfolding(crate::specs::Captions::signal_row))]
 fn push_signal_row(
-    alloc: Global,
     out: &mut Vec<u8>,
     frame: Frame,
     artery: &Artery,
@@ -501,14 +405,13 @@ fn push_signal_row(
 {
     let y = row_level(frame, artery, signal);
     let pattern = timing.pattern(signal);
-    push_number_words(alloc, out, 330, y, signal)?;
-    push_number_words(alloc, out, frame.left - 810, y, pattern)?;
-    push_offset_words(alloc, out, frame.left - 170, y, artery, timing, signal)
+    push_number_words(out, 330, y, signal)?;
+    push_number_words(out, frame.left - 810, y, pattern)?;
+    push_offset_words(out, frame.left - 170, y, artery, timing, signal)
 }
 
 /// Writes the numbers of the signals.
 fn push_signal_rows(
-    alloc: Global,
     out: &mut Vec<u8>,
     frame: Frame,
     artery: &Artery,
@@ -519,7 +422,7 @@ fn push_signal_rows(
     ensures { OnOk result (out.new.items ≡ out.old.items ++ captions_text (signal_rows frame artery.now timing.now)) }
 {
     for signal in 1..artery.count() + 1 {
-        push_signal_row(alloc, out, frame, artery, timing, signal)?;
+        push_signal_row(out, frame, artery, timing, signal)?;
     }
     Ok(())
 }
@@ -537,21 +440,20 @@ fn link_level(frame: Frame, artery: &Artery, link: u32) -> u32
 }
 
 /// Writes the length of a link, or both where they differ.
-fn push_lengths(alloc: Global, out: &mut Vec<u8>, outbound: u32, inbound: u32) -> Result<(), Memory>
+fn push_lengths(out: &mut Vec<u8>, outbound: u32, inbound: u32) -> Result<(), Memory>
     ensures { OnOk result (out.new.items ≡ out.old.items ++ lengths_text outbound inbound) }
 {
-    push_number(alloc, out, outbound as u128)?;
+    push_number(out, outbound as u128)?;
     if outbound == inbound {
         return Ok(());
     }
     push_text(out, "/")?;
-    push_number(alloc, out, inbound as u128)
+    push_number(out, inbound as u128)
 }
 
 /// Writes the length of a link at a point, or both where they differ.
 #[tactic(auto, unfolding(crate::specs::Shapes::words_text))]
 fn push_lengths_words(
-    alloc: Global,
     out: &mut Vec<u8>,
     x: u32,
     y: u32,
@@ -560,14 +462,13 @@ fn push_lengths_words(
 ) -> Result<(), Memory>
     ensures { OnOk result (out.new.items ≡ out.old.items ++ words_text Number (pos x) (pos y) (lengths_text outbound inbound)) }
 {
-    push_opening(alloc, out, Letter::Number, x, y)?;
-    push_lengths(alloc, out, outbound, inbound)?;
+    push_opening(out, Letter::Number, x, y)?;
+    push_lengths(out, outbound, inbound)?;
     push_words_end(out)
 }
 
 /// Writes the speed in a direction on a link.
 fn push_link_speed(
-    alloc: Global,
     out: &mut Vec<u8>,
     artery: &Artery,
     timing: &Timing,
@@ -579,13 +480,12 @@ fn push_link_speed(
     requires last { link < count artery.now }
     ensures { OnOk result (out.new.items ≡ out.old.items ++ link_speed_text artery.now timing.now dir link) }
 {
-    push_tenths(alloc, out, link_speed(artery, timing, dir, link))
+    push_tenths(out, link_speed(artery, timing, dir, link))
 }
 
 /// Writes the speed in a direction on a link at a point.
 #[tactic(auto, unfolding(crate::specs::Shapes::words_text))]
 fn push_speed_words(
-    alloc: Global,
     out: &mut Vec<u8>,
     x: u32,
     y: u32,
@@ -599,15 +499,14 @@ fn push_speed_words(
     requires last { link < count artery.now }
     ensures { OnOk result (out.new.items ≡ out.old.items ++ words_text Number (pos x) (pos y) (link_speed_text artery.now timing.now dir link)) }
 {
-    push_opening(alloc, out, Letter::Number, x, y)?;
-    push_link_speed(alloc, out, artery, timing, dir, link)?;
+    push_opening(out, Letter::Number, x, y)?;
+    push_link_speed(out, artery, timing, dir, link)?;
     push_words_end(out)
 }
 
 /// Writes the numbers of a link: its length, and the speed in each direction.
 #[tactic(auto, unfolding(crate::specs::Captions::link_row))]
 fn push_link_row(
-    alloc: Global,
     out: &mut Vec<u8>,
     frame: Frame,
     artery: &Artery,
@@ -624,32 +523,13 @@ fn push_link_row(
     let right = frame.left + PLOT_WIDTH;
     let outbound = artery.distance(Dir::Outbound, link);
     let inbound = artery.distance(Dir::Inbound, link);
-    push_lengths_words(alloc, out, right + 880, y, outbound, inbound)?;
-    push_speed_words(
-        alloc,
-        out,
-        right + 1480,
-        y,
-        artery,
-        timing,
-        Dir::Outbound,
-        link,
-    )?;
-    push_speed_words(
-        alloc,
-        out,
-        right + 2060,
-        y,
-        artery,
-        timing,
-        Dir::Inbound,
-        link,
-    )
+    push_lengths_words(out, right + 880, y, outbound, inbound)?;
+    push_speed_words(out, right + 1480, y, artery, timing, Dir::Outbound, link)?;
+    push_speed_words(out, right + 2060, y, artery, timing, Dir::Inbound, link)
 }
 
 /// Writes the numbers of the links.
 fn push_link_rows(
-    alloc: Global,
     out: &mut Vec<u8>,
     frame: Frame,
     artery: &Artery,
@@ -660,22 +540,21 @@ fn push_link_rows(
     ensures { OnOk result (out.new.items ≡ out.old.items ++ captions_text (link_rows frame artery.now timing.now)) }
 {
     for link in 1..artery.count() {
-        push_link_row(alloc, out, frame, artery, timing, link)?;
+        push_link_row(out, frame, artery, timing, link)?;
     }
     Ok(())
 }
 
 /// Writes what explains the reds.
 #[tactic(auto, unfolding(crate::specs::Captions::red_words))]
-fn push_red_words(alloc: Global, out: &mut Vec<u8>, frame: Frame) -> Result<(), Memory>
+fn push_red_words(out: &mut Vec<u8>, frame: Frame) -> Result<(), Memory>
     requires { IsFrame frame }
     ensures { OnOk result (out.new.items ≡ out.old.items ++ captions_text (red_words frame)) }
 {
     let left = frame.left;
     let level = plot_bottom(frame) + 785;
-    push_words(alloc, out, Letter::Key, left + 480, level, "common red")?;
+    push_words(out, Letter::Key, left + 480, level, "common red")?;
     push_words(
-        alloc,
         out,
         Letter::Key,
         left + 1980,
@@ -686,14 +565,13 @@ fn push_red_words(alloc: Global, out: &mut Vec<u8>, frame: Frame) -> Result<(), 
 
 /// Writes what explains the bands.
 #[tactic(auto, unfolding(crate::specs::Captions::band_words))]
-fn push_band_words(alloc: Global, out: &mut Vec<u8>, frame: Frame) -> Result<(), Memory>
+fn push_band_words(out: &mut Vec<u8>, frame: Frame) -> Result<(), Memory>
     requires { IsFrame frame }
     ensures { OnOk result (out.new.items ≡ out.old.items ++ captions_text (band_words frame)) }
 {
     let left = frame.left;
     let level = plot_bottom(frame) + 785;
     push_words(
-        alloc,
         out,
         Letter::Key,
         left + 4600,
@@ -701,7 +579,6 @@ fn push_band_words(alloc: Global, out: &mut Vec<u8>, frame: Frame) -> Result<(),
         "outbound band, lower bars",
     )?;
     push_words(
-        alloc,
         out,
         Letter::Key,
         left + 7000,
@@ -724,32 +601,23 @@ fn note_words() -> &'static str
 
 /// Writes what explains the axis and the bands.
 #[tactic(auto, unfolding(crate::specs::Captions::notes))]
-fn push_notes(alloc: Global, out: &mut Vec<u8>, frame: Frame) -> Result<(), Memory>
+fn push_notes(out: &mut Vec<u8>, frame: Frame) -> Result<(), Memory>
     requires { IsFrame frame }
     ensures { OnOk result (out.new.items ≡ out.old.items ++ captions_text (notes frame)) }
 {
     let bottom = plot_bottom(frame);
     push_words(
-        alloc,
         out,
         Letter::Axis,
         frame.left + 4500,
         bottom + 420,
         axis_words(),
     )?;
-    push_words(
-        alloc,
-        out,
-        Letter::Note,
-        frame.left,
-        bottom + 1010,
-        note_words(),
-    )
+    push_words(out, Letter::Note, frame.left, bottom + 1010, note_words())
 }
 
 /// Writes the words above the field.
 fn push_above(
-    alloc: Global,
     out: &mut Vec<u8>,
     frame: Frame,
     artery: &Artery,
@@ -758,15 +626,14 @@ fn push_above(
     requires { IsFrame frame }
     ensures { OnOk result (out.new.items ≡ out.old.items ++ captions_text (above frame artery.now timing.now)) }
 {
-    push_title_heads(alloc, out, artery, timing)?;
-    push_signal_heads(alloc, out, frame)?;
-    push_link_heads(alloc, out, frame, artery.head().units)?;
-    push_cycle_numbers(alloc, out, frame)
+    push_title_heads(out, artery, timing)?;
+    push_signal_heads(out, frame)?;
+    push_link_heads(out, frame, artery.head().units)?;
+    push_cycle_numbers(out, frame)
 }
 
 /// Writes the words beside the field.
 fn push_beside(
-    alloc: Global,
     out: &mut Vec<u8>,
     frame: Frame,
     artery: &Artery,
@@ -776,24 +643,23 @@ fn push_beside(
     requires base { IsBase artery.now timing.now }
     ensures { OnOk result (out.new.items ≡ out.old.items ++ captions_text (beside frame artery.now timing.now)) }
 {
-    push_signal_rows(alloc, out, frame, artery, timing)?;
-    push_link_rows(alloc, out, frame, artery, timing)
+    push_signal_rows(out, frame, artery, timing)?;
+    push_link_rows(out, frame, artery, timing)
 }
 
 /// Writes the words below the field.
-fn push_below(alloc: Global, out: &mut Vec<u8>, frame: Frame, timing: &Timing) -> Result<(), Memory>
+fn push_below(out: &mut Vec<u8>, frame: Frame, timing: &Timing) -> Result<(), Memory>
     requires { IsFrame frame }
     ensures { OnOk result (out.new.items ≡ out.old.items ++ captions_text (below frame timing.now)) }
 {
-    push_second_numbers(alloc, out, frame, timing)?;
-    push_red_words(alloc, out, frame)?;
-    push_band_words(alloc, out, frame)?;
-    push_notes(alloc, out, frame)
+    push_second_numbers(out, frame, timing)?;
+    push_red_words(out, frame)?;
+    push_band_words(out, frame)?;
+    push_notes(out, frame)
 }
 
 /// Writes all words but the names.
 pub fn push_captions(
-    alloc: Global,
     out: &mut Vec<u8>,
     frame: Frame,
     artery: &Artery,
@@ -803,7 +669,7 @@ pub fn push_captions(
     requires base { IsBase artery.now timing.now }
     ensures { OnOk result (out.new.items ≡ out.old.items ++ captions_text (captions frame artery.now timing.now)) }
 {
-    push_above(alloc, out, frame, artery, timing)?;
-    push_beside(alloc, out, frame, artery, timing)?;
-    push_below(alloc, out, frame, timing)
+    push_above(out, frame, artery, timing)?;
+    push_beside(out, frame, artery, timing)?;
+    push_below(out, frame, timing)
 }

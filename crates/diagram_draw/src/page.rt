@@ -95,18 +95,17 @@ fn key_shapes(alloc: Global, frame: Frame) -> Result<Vec<Shape>, Memory>
 }
 
 /// Writes what stands before the name of a signal.
-fn push_signal_opening(alloc: Global, out: &mut Vec<u8>, signal: u32) -> Result<(), Memory>
+fn push_signal_opening(out: &mut Vec<u8>, signal: u32) -> Result<(), Memory>
     ensures { OnOk result (out.new.items ≡ out.old.items ++ (codes "; signal " ++ (decimal signal ++ codes ", "))) }
 {
     push_text(out, "; signal ")?;
-    push_number(alloc, out, signal as u128)?;
+    push_number(out, signal as u128)?;
     push_text(out, ", ")
 }
 
 /// Writes what is read aloud of a signal.
 #[tactic(auto, unfolding(crate::specs::Pages::signal_about))]
 fn push_signal_about(
-    alloc: Global,
     out: &mut Vec<u8>,
     artery: &Artery,
     timing: &Timing,
@@ -117,42 +116,32 @@ fn push_signal_about(
     requires last { signal ≤ count artery.now }
     ensures { OnOk result (out.new.items ≡ out.old.items ++ signal_about artery.now timing.now signal) }
 {
-    push_signal_opening(alloc, out, signal)?;
+    push_signal_opening(out, signal)?;
     push_escaped(out, signal_name(artery, signal).as_bytes())?;
     push_text(out, ", offset ")?;
-    push_offset(alloc, out, artery, timing, signal)?;
+    push_offset(out, artery, timing, signal)?;
     push_text(out, " s")
 }
 
 /// Writes the same of all signals.
-fn push_signals_about(
-    alloc: Global,
-    out: &mut Vec<u8>,
-    artery: &Artery,
-    timing: &Timing,
-) -> Result<(), Memory>
+fn push_signals_about(out: &mut Vec<u8>, artery: &Artery, timing: &Timing) -> Result<(), Memory>
     requires { length timing.now.patterns ≡ count artery.now }
     ensures { OnOk result (out.new.items ≡ out.old.items ++ signals_about artery.now timing.now) }
 {
     for signal in 1..artery.count() + 1 {
-        push_signal_about(alloc, out, artery, timing, signal)?;
+        push_signal_about(out, artery, timing, signal)?;
     }
     Ok(())
 }
 
 /// Writes what is read aloud of the drawing.
 #[tactic(auto, unfolding(crate::specs::Pages::about_text))]
-fn push_about(
-    alloc: Global,
-    out: &mut Vec<u8>,
-    artery: &Artery,
-    timing: &Timing,
-) -> Result<(), Memory>
+fn push_about(out: &mut Vec<u8>, artery: &Artery, timing: &Timing) -> Result<(), Memory>
     requires { length timing.now.patterns ≡ count artery.now }
     ensures { OnOk result (out.new.items ≡ out.old.items ++ about_text artery.now timing.now) }
 {
-    push_facts(alloc, out, artery, timing)?;
-    push_signals_about(alloc, out, artery, timing)
+    push_facts(out, artery, timing)?;
+    push_signals_about(out, artery, timing)
 }
 
 /// What is seen through the field of the diagram.
@@ -174,21 +163,21 @@ fn field_shapes(
 
 /// Writes through which the field is seen.
 #[tactic(auto, unfolding(crate::specs::Pages::plot_clip))]
-fn push_plot_clip(alloc: Global, out: &mut Vec<u8>, frame: Frame) -> Result<(), Memory>
+fn push_plot_clip(out: &mut Vec<u8>, frame: Frame) -> Result<(), Memory>
     requires { IsFrame frame }
     ensures { OnOk result (out.new.items ≡ out.old.items ++ plot_clip frame) }
 {
     let height = frame.span + 520;
     push_text(out, "<clipPath id=\"plot\"><rect x=\"")?;
-    push_number(alloc, out, frame.left as u128)?;
+    push_number(out, frame.left as u128)?;
     push_text(out, "\" y=\"1500\" width=\"9000\" height=\"")?;
-    push_number(alloc, out, height as u128)?;
+    push_number(out, height as u128)?;
     push_text(out, "\"/></clipPath>\n")
 }
 
 /// Writes through which the names are seen.
 #[tactic(auto, unfolding(crate::specs::Pages::names_clip))]
-fn push_names_clip(alloc: Global, out: &mut Vec<u8>, frame: Frame, room: u32) -> Result<(), Memory>
+fn push_names_clip(out: &mut Vec<u8>, frame: Frame, room: u32) -> Result<(), Memory>
     requires { IsFrame frame }
     ensures { OnOk result (out.new.items ≡ out.old.items ++ names_clip frame room) }
 {
@@ -197,24 +186,24 @@ fn push_names_clip(alloc: Global, out: &mut Vec<u8>, frame: Frame, room: u32) ->
         out,
         "<clipPath id=\"names\"><rect x=\"430\" y=\"1500\" width=\"",
     )?;
-    push_number(alloc, out, room as u128)?;
+    push_number(out, room as u128)?;
     push_text(out, "\" height=\"")?;
-    push_number(alloc, out, height as u128)?;
+    push_number(out, height as u128)?;
     push_text(out, "\"/></clipPath>\n")
 }
 
 /// Writes through which the field and the names are seen.
-fn push_clips(alloc: Global, out: &mut Vec<u8>, frame: Frame, room: u32) -> Result<(), Memory>
+fn push_clips(out: &mut Vec<u8>, frame: Frame, room: u32) -> Result<(), Memory>
     requires { IsFrame frame }
     ensures { OnOk result (out.new.items ≡ out.old.items ++ clips_text frame room) }
 {
-    push_plot_clip(alloc, out, frame)?;
-    push_names_clip(alloc, out, frame, room)
+    push_plot_clip(out, frame)?;
+    push_names_clip(out, frame, room)
 }
 
 /// Writes the beginning of the document.
 #[tactic(auto, unfolding(crate::specs::Pages::svg_opening))]
-fn push_svg_opening(alloc: Global, out: &mut Vec<u8>, frame: Frame) -> Result<(), Memory>
+fn push_svg_opening(out: &mut Vec<u8>, frame: Frame) -> Result<(), Memory>
     requires { IsFrame frame }
     ensures { OnOk result (out.new.items ≡ out.old.items ++ svg_opening frame) }
 {
@@ -224,9 +213,9 @@ fn push_svg_opening(alloc: Global, out: &mut Vec<u8>, frame: Frame) -> Result<()
         out,
         "<svg xmlns=\"http://www.w3.org/2000/svg\" viewBox=\"0 0 ",
     )?;
-    push_number(alloc, out, width as u128)?;
+    push_number(out, width as u128)?;
     push_text(out, " ")?;
-    push_number(alloc, out, height as u128)?;
+    push_number(out, height as u128)?;
     push_text(out, "\" role=\"img\" aria-labelledby=\"title desc\">\n")
 }
 
@@ -242,23 +231,17 @@ fn push_title_part(out: &mut Vec<u8>, artery: &Artery) -> Result<(), Memory>
 
 /// Writes what is read aloud, as a part of the document.
 #[tactic(auto, unfolding(crate::specs::Pages::about_part))]
-fn push_about_part(
-    alloc: Global,
-    out: &mut Vec<u8>,
-    artery: &Artery,
-    timing: &Timing,
-) -> Result<(), Memory>
+fn push_about_part(out: &mut Vec<u8>, artery: &Artery, timing: &Timing) -> Result<(), Memory>
     requires { length timing.now.patterns ≡ count artery.now }
     ensures { OnOk result (out.new.items ≡ out.old.items ++ about_part (about_text artery.now timing.now)) }
 {
     push_text(out, "<desc id=\"desc\">")?;
-    push_about(alloc, out, artery, timing)?;
+    push_about(out, artery, timing)?;
     push_text(out, "</desc>\n")
 }
 
 /// Writes the beginning of the document, with its title and what is read aloud.
 fn push_opening(
-    alloc: Global,
     out: &mut Vec<u8>,
     frame: Frame,
     artery: &Artery,
@@ -268,27 +251,26 @@ fn push_opening(
     requires shape { length timing.now.patterns ≡ count artery.now }
     ensures { OnOk result (out.new.items ≡ out.old.items ++ opening_text (drawn frame artery.now timing.now)) }
 {
-    push_svg_opening(alloc, out, frame)?;
+    push_svg_opening(out, frame)?;
     push_title_part(out, artery)?;
-    push_about_part(alloc, out, artery, timing)
+    push_about_part(out, artery, timing)
 }
 
 /// Writes what the shapes refer to.
 #[tactic(auto, unfolding(crate::specs::Pages::definitions_text))]
-fn push_definitions(alloc: Global, out: &mut Vec<u8>, frame: Frame, room: u32) -> Result<(), Memory>
+fn push_definitions(out: &mut Vec<u8>, frame: Frame, room: u32) -> Result<(), Memory>
     requires { IsFrame frame }
     ensures { OnOk result (out.new.items ≡ out.old.items ++ definitions_text frame room) }
 {
     push_text(out, "<defs>\n")?;
     push_text(out, tile_text())?;
-    push_clips(alloc, out, frame, room)?;
+    push_clips(out, frame, room)?;
     push_text(out, "</defs>\n")
 }
 
 /// Writes what comes before the shapes.
 #[tactic(auto, unfolding(crate::specs::Pages::head_text))]
 fn push_head(
-    alloc: Global,
     out: &mut Vec<u8>,
     frame: Frame,
     artery: &Artery,
@@ -298,14 +280,13 @@ fn push_head(
     requires shape { length timing.now.patterns ≡ count artery.now }
     ensures { OnOk result (out.new.items ≡ out.old.items ++ head_text (drawn frame artery.now timing.now)) }
 {
-    push_opening(alloc, out, frame, artery, timing)?;
+    push_opening(out, frame, artery, timing)?;
     push_style(out)?;
-    push_definitions(alloc, out, frame, name_room(artery))
+    push_definitions(out, frame, name_room(artery))
 }
 
 /// Writes what stands behind.
 fn push_back(
-    alloc: Global,
     out: &mut Vec<u8>,
     frame: Frame,
     artery: &Artery,
@@ -314,23 +295,23 @@ fn push_back(
     requires { IsFrame frame }
     ensures { OnOk result (out.new.items ≡ out.old.items ++ shapes_text (back frame artery.now timing.now)) }
 {
+    let alloc = *out.allocator();
     let shapes = back(alloc, frame, artery, timing)?;
-    push_shapes(alloc, out, shapes.as_slice())
+    push_shapes(out, shapes.as_slice())
 }
 
 /// Writes the part of the document with what is seen through the field.
 #[tactic(auto, unfolding(crate::specs::Pages::field_part))]
-fn push_field_part(alloc: Global, out: &mut Vec<u8>, shapes: &[Shape]) -> Result<(), Memory>
+fn push_field_part(out: &mut Vec<u8>, shapes: &[Shape]) -> Result<(), Memory>
     ensures { OnOk result (out.new.items ≡ out.old.items ++ field_part shapes.now) }
 {
     push_text(out, "<g clip-path=\"url(#plot)\">\n")?;
-    push_shapes(alloc, out, shapes)?;
+    push_shapes(out, shapes)?;
     push_text(out, "</g>\n")
 }
 
 /// Writes what is seen through the field.
 fn push_field(
-    alloc: Global,
     out: &mut Vec<u8>,
     frame: Frame,
     artery: &Artery,
@@ -340,30 +321,25 @@ fn push_field(
     requires shape { length timing.now.patterns ≡ count artery.now }
     ensures { OnOk result (out.new.items ≡ out.old.items ++ field_part (field_shapes frame artery.now timing.now)) }
 {
+    let alloc = *out.allocator();
     let shapes = field_shapes(alloc, frame, artery, timing)?;
-    push_field_part(alloc, out, shapes.as_slice())
+    push_field_part(out, shapes.as_slice())
 }
 
 /// Writes the part of the document with the names.
 #[tactic(auto, unfolding(crate::specs::Pages::names_part))]
-fn push_names_part(
-    alloc: Global,
-    out: &mut Vec<u8>,
-    frame: Frame,
-    artery: &Artery,
-) -> Result<(), Memory>
+fn push_names_part(out: &mut Vec<u8>, frame: Frame, artery: &Artery) -> Result<(), Memory>
     requires { IsFrame frame }
     ensures { OnOk result (out.new.items ≡ out.old.items ++ names_part (names frame artery.now)) }
 {
     push_text(out, "<g clip-path=\"url(#names)\">\n")?;
-    push_names(alloc, out, frame, artery)?;
+    push_names(out, frame, artery)?;
     push_text(out, "</g>\n")
 }
 
 /// Writes what is behind the words.
 #[tactic(auto, unfolding(crate::specs::Pages::body_text))]
 fn push_body(
-    alloc: Global,
     out: &mut Vec<u8>,
     frame: Frame,
     artery: &Artery,
@@ -373,24 +349,24 @@ fn push_body(
     requires shape { length timing.now.patterns ≡ count artery.now }
     ensures { OnOk result (out.new.items ≡ out.old.items ++ body_text (drawn frame artery.now timing.now)) }
 {
-    push_back(alloc, out, frame, artery, timing)?;
-    push_field(alloc, out, frame, artery, timing)?;
-    push_names_part(alloc, out, frame, artery)
+    push_back(out, frame, artery, timing)?;
+    push_field(out, frame, artery, timing)?;
+    push_names_part(out, frame, artery)
 }
 
 /// Writes the shapes that explain the others.
-fn push_keys(alloc: Global, out: &mut Vec<u8>, frame: Frame) -> Result<(), Memory>
+fn push_keys(out: &mut Vec<u8>, frame: Frame) -> Result<(), Memory>
     requires { IsFrame frame }
     ensures { OnOk result (out.new.items ≡ out.old.items ++ shapes_text (key_shapes frame)) }
 {
+    let alloc = *out.allocator();
     let shapes = key_shapes(alloc, frame)?;
-    push_shapes(alloc, out, shapes.as_slice())
+    push_shapes(out, shapes.as_slice())
 }
 
 /// Writes the words, and what explains the shapes.
 #[tactic(auto, unfolding(crate::specs::Pages::tail_text))]
 fn push_tail(
-    alloc: Global,
     out: &mut Vec<u8>,
     frame: Frame,
     artery: &Artery,
@@ -400,14 +376,13 @@ fn push_tail(
     requires base { IsBase artery.now timing.now }
     ensures { OnOk result (out.new.items ≡ out.old.items ++ tail_text (drawn frame artery.now timing.now)) }
 {
-    push_keys(alloc, out, frame)?;
-    push_captions(alloc, out, frame, artery, timing)?;
+    push_keys(out, frame)?;
+    push_captions(out, frame, artery, timing)?;
     push_text(out, "</svg>\n")
 }
 
 /// Writes the drawing on a frame.
 fn push_drawn(
-    alloc: Global,
     out: &mut Vec<u8>,
     frame: Frame,
     artery: &Artery,
@@ -417,9 +392,9 @@ fn push_drawn(
     requires base { IsBase artery.now timing.now }
     ensures { OnOk result (out.new.items ≡ out.old.items ++ svg_text (drawn frame artery.now timing.now)) }
 {
-    push_head(alloc, out, frame, artery, timing)?;
-    push_body(alloc, out, frame, artery, timing)?;
-    push_tail(alloc, out, frame, artery, timing)
+    push_head(out, frame, artery, timing)?;
+    push_body(out, frame, artery, timing)?;
+    push_tail(out, frame, artery, timing)
 }
 
 /// The time-space diagram of a timing as an SVG document: time to the right, in two to twelve cycles, and distance upwards, to scale;
@@ -431,6 +406,6 @@ pub fn draw(alloc: Global, artery: &Artery, timing: &Timing) -> Result<Vec<u8>, 
 {
     let frame = frame_of(artery, timing);
     let mut text = Vec::new(alloc);
-    push_drawn(alloc, &mut text, frame, artery, timing)?;
+    push_drawn(&mut text, frame, artery, timing)?;
     Ok(text)
 }

@@ -92,7 +92,6 @@ fn push_all_marks(
 
 /// Writes the line of a signal and direction.
 fn push_diagram_line(
-    alloc: Global,
     out: &mut Vec<u8>,
     artery: &Artery,
     timing: &Timing,
@@ -104,7 +103,7 @@ fn push_diagram_line(
     requires last { signal ≤ count artery.now }
     ensures { OnOk result (out.new.items ≡ out.old.items ++ diagram_line artery.now timing.now dir signal) }
 {
-    push_number(alloc, out, signal as u128)?;
+    push_number(out, signal as u128)?;
     push_text(out, " ")?;
     push_text(out, dir_name(dir))?;
     push_text(out, " ")?;
@@ -114,7 +113,6 @@ fn push_diagram_line(
 
 /// Writes the lines of a signal: outbound, then inbound.
 fn push_signal_rows(
-    alloc: Global,
     out: &mut Vec<u8>,
     artery: &Artery,
     timing: &Timing,
@@ -125,22 +123,17 @@ fn push_signal_rows(
     requires last { signal ≤ count artery.now }
     ensures { OnOk result (out.new.items ≡ out.old.items ++ signal_rows artery.now timing.now signal) }
 {
-    push_diagram_line(alloc, out, artery, timing, Dir::Outbound, signal)?;
-    push_diagram_line(alloc, out, artery, timing, Dir::Inbound, signal)
+    push_diagram_line(out, artery, timing, Dir::Outbound, signal)?;
+    push_diagram_line(out, artery, timing, Dir::Inbound, signal)
 }
 
 /// Writes the time-space diagram of a timing, as `diagram` has it.
-pub fn push_diagram(
-    alloc: Global,
-    out: &mut Vec<u8>,
-    artery: &Artery,
-    timing: &Timing,
-) -> Result<(), Memory>
+pub fn push_diagram(out: &mut Vec<u8>, artery: &Artery, timing: &Timing) -> Result<(), Memory>
     requires { length timing.now.patterns ≡ count artery.now }
     ensures { OnOk result (out.new.items ≡ out.old.items ++ diagram_lines artery.now timing.now) }
 {
     for signal in (1..artery.count() + 1).rev() {
-        push_signal_rows(alloc, out, artery, timing, signal)?;
+        push_signal_rows(out, artery, timing, signal)?;
     }
     Ok(())
 }
@@ -155,6 +148,6 @@ pub fn diagram(alloc: Global, artery: &Artery, timing: &Timing) -> Result<Vec<u8
     ensures { IfOk result (λ lines. lines.items ≡ diagram_lines artery.now timing.now) }
 {
     let mut lines = Vec::new(alloc);
-    push_diagram(alloc, &mut lines, artery, timing)?;
+    push_diagram(&mut lines, artery, timing)?;
     Ok(lines)
 }

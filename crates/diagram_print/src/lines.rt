@@ -43,11 +43,11 @@ fn push_best(out: &mut Vec<u8>, timing: Option<Vec<u8>>) -> Result<(), Memory>
 }
 
 /// Writes the line of the bound.
-fn push_bound(alloc: Global, out: &mut Vec<u8>, bound: Frac) -> Result<(), Memory>
+fn push_bound(out: &mut Vec<u8>, bound: Frac) -> Result<(), Memory>
     ensures { OnOk result (out.new.items ≡ out.old.items ++ bound_line bound) }
 {
     push_text(out, "bound ")?;
-    push_exact(alloc, out, bound)?;
+    push_exact(out, bound)?;
     push_text(out, "\n")
 }
 
@@ -65,8 +65,8 @@ fn push_open(
 {
     let alloc = *out.allocator();
     push_text(out, "verdict open\n")?;
-    push_stop_lines(alloc, out, artery, names, stop)?;
-    push_bound(alloc, out, bound)?;
+    push_stop_lines(out, artery, names, stop)?;
+    push_bound(out, bound)?;
     push_found(out, timing)
 }
 
@@ -94,20 +94,15 @@ pub fn verdict_lines(
 }
 
 /// Writes the lines of a timing.
-fn push_timing_lines(
-    alloc: Global,
-    out: &mut Vec<u8>,
-    artery: &Artery,
-    timing: &Timing,
-) -> Result<(), Memory>
+fn push_timing_lines(out: &mut Vec<u8>, artery: &Artery, timing: &Timing) -> Result<(), Memory>
     requires { Good artery.now timing.now }
     ensures { OnOk result (out.new.items ≡ out.old.items ++ timing_lines artery.now timing.now) }
 {
-    push_measure_lines(alloc, out, artery, timing)?;
-    push_signal_lines(alloc, out, artery, timing)?;
-    push_link_lines(alloc, out, artery, timing)?;
+    push_measure_lines(out, artery, timing)?;
+    push_signal_lines(out, artery, timing)?;
+    push_link_lines(out, artery, timing)?;
     push_text(out, "diagram\n")?;
-    push_diagram(alloc, out, artery, timing)
+    push_diagram(out, artery, timing)
 }
 
 /// The lines of the timing that a search found, where there is one.
@@ -122,7 +117,7 @@ fn lines_of(
     match timing {
         Some(timing) => {
             let mut lines = Vec::new(alloc);
-            push_timing_lines(alloc, &mut lines, artery, timing)?;
+            push_timing_lines(&mut lines, artery, timing)?;
             Ok(Some(lines))
         }
         None => Ok(None),

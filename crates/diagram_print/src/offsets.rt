@@ -8,31 +8,24 @@ use crate::measures::push_measure;
 use artery_model::Artery;
 use narrow_fraction::Memory;
 use quantity_text::{push_number, push_text};
-use std::alloc::Global;
 use time_space::Timing;
 use timing_measures::{offset, signal_name};
 
 /// Writes what stands before a signal's offset.
-fn push_offset_name(
-    alloc: Global,
-    out: &mut Vec<u8>,
-    timing: &Timing,
-    signal: u32,
-) -> Result<(), Memory>
+fn push_offset_name(out: &mut Vec<u8>, timing: &Timing, signal: u32) -> Result<(), Memory>
     requires first { 1 ≤ signal }
     requires last { signal ≤ length timing.now.patterns }
     ensures { OnOk result (out.new.items ≡ out.old.items ++ offset_name timing.now signal) }
 {
     push_text(out, "signal ")?;
-    push_number(alloc, out, signal as u128)?;
+    push_number(out, signal as u128)?;
     push_text(out, " pattern ")?;
-    push_number(alloc, out, timing.pattern(signal) as u128)?;
+    push_number(out, timing.pattern(signal) as u128)?;
     push_text(out, " offset")
 }
 
 /// Writes the line of a signal: its pattern, its offset in seconds and its name.
 fn push_signal_line(
-    alloc: Global,
     out: &mut Vec<u8>,
     artery: &Artery,
     timing: &Timing,
@@ -43,8 +36,8 @@ fn push_signal_line(
     requires last { signal ≤ count artery.now }
     ensures { OnOk result (out.new.items ≡ out.old.items ++ signal_line artery.now timing.now signal) }
 {
-    push_offset_name(alloc, out, timing, signal)?;
-    push_measure(alloc, out, offset(artery, timing, signal), 3)?;
+    push_offset_name(out, timing, signal)?;
+    push_measure(out, offset(artery, timing, signal), 3)?;
     push_text(out, " ")?;
     push_text(out, signal_name(artery, signal))?;
     push_text(out, "\n")
@@ -52,17 +45,12 @@ fn push_signal_line(
 
 /// Writes the lines of the signals, from the first on.
 #[tactic(auto, using(timing_measures::proofs::Pieces::piece_up))]
-pub fn push_signal_lines(
-    alloc: Global,
-    out: &mut Vec<u8>,
-    artery: &Artery,
-    timing: &Timing,
-) -> Result<(), Memory>
+pub fn push_signal_lines(out: &mut Vec<u8>, artery: &Artery, timing: &Timing) -> Result<(), Memory>
     requires { length timing.now.patterns ≡ count artery.now }
     ensures { OnOk result (out.new.items ≡ out.old.items ++ signal_lines artery.now timing.now) }
 {
     for signal in 1..artery.count() + 1 {
-        push_signal_line(alloc, out, artery, timing, signal)?;
+        push_signal_line(out, artery, timing, signal)?;
     }
     Ok(())
 }

@@ -9,23 +9,21 @@ use crate::measures::{dir_name, push_measure_line};
 use artery_model::{Artery, Dir};
 use narrow_fraction::Memory;
 use quantity_text::{push_number, push_text};
-use std::alloc::Global;
 use time_space::Timing;
 use timing_measures::link_speed;
 
 /// Writes what stands before a link's speed.
-fn push_link_name(alloc: Global, out: &mut Vec<u8>, dir: Dir, link: u32) -> Result<(), Memory>
+fn push_link_name(out: &mut Vec<u8>, dir: Dir, link: u32) -> Result<(), Memory>
     ensures { OnOk result (out.new.items ≡ out.old.items ++ link_name dir link) }
 {
     push_text(out, "link ")?;
-    push_number(alloc, out, link as u128)?;
+    push_number(out, link as u128)?;
     push_text(out, " ")?;
     push_text(out, dir_name(dir))
 }
 
 /// Writes the line of a direction's speed on a link, in the description's units.
 fn push_speed_line(
-    alloc: Global,
     out: &mut Vec<u8>,
     artery: &Artery,
     timing: &Timing,
@@ -37,13 +35,12 @@ fn push_speed_line(
     requires last { link < count artery.now }
     ensures { OnOk result (out.new.items ≡ out.old.items ++ speed_line artery.now timing.now dir link) }
 {
-    push_link_name(alloc, out, dir, link)?;
-    push_measure_line(alloc, out, link_speed(artery, timing, dir, link), 3)
+    push_link_name(out, dir, link)?;
+    push_measure_line(out, link_speed(artery, timing, dir, link), 3)
 }
 
 /// Writes the lines of both speeds on a link.
 fn push_speed_lines(
-    alloc: Global,
     out: &mut Vec<u8>,
     artery: &Artery,
     timing: &Timing,
@@ -54,22 +51,17 @@ fn push_speed_lines(
     requires last { link < count artery.now }
     ensures { OnOk result (out.new.items ≡ out.old.items ++ speed_lines artery.now timing.now link) }
 {
-    push_speed_line(alloc, out, artery, timing, Dir::Outbound, link)?;
-    push_speed_line(alloc, out, artery, timing, Dir::Inbound, link)
+    push_speed_line(out, artery, timing, Dir::Outbound, link)?;
+    push_speed_line(out, artery, timing, Dir::Inbound, link)
 }
 
 /// Writes the lines of the links, as `link_lines` has them.
-pub fn push_link_lines(
-    alloc: Global,
-    out: &mut Vec<u8>,
-    artery: &Artery,
-    timing: &Timing,
-) -> Result<(), Memory>
+pub fn push_link_lines(out: &mut Vec<u8>, artery: &Artery, timing: &Timing) -> Result<(), Memory>
     requires { IsBase artery.now timing.now }
     ensures { OnOk result (out.new.items ≡ out.old.items ++ link_lines artery.now timing.now) }
 {
     for link in 1..artery.count() {
-        push_speed_lines(alloc, out, artery, timing, link)?;
+        push_speed_lines(out, artery, timing, link)?;
     }
     Ok(())
 }

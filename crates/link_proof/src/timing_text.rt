@@ -51,10 +51,10 @@ impl TimingKind for LinkBands {
         }
     }
 
-    fn push_timing(alloc: Global, out: &mut Vec<u8>, timing: &LinkTiming) -> Result<(), Memory> {
-        push_base(alloc, out, timing.lines())?;
-        push_numbers(alloc, out, b"half_out", timing.half_out())?;
-        push_numbers(alloc, out, b"half_in", timing.half_in())?;
+    fn push_timing(out: &mut Vec<u8>, timing: &LinkTiming) -> Result<(), Memory> {
+        push_base(out, timing.lines())?;
+        push_numbers(out, b"half_out", timing.half_out())?;
+        push_numbers(out, b"half_in", timing.half_in())?;
         Ok(())
     }
 
@@ -63,8 +63,9 @@ impl TimingKind for LinkBands {
         tree_at(alloc, Naming::Named(names.as_slice()), line, bytes)
     }
 
-    fn push_named_tree(alloc: Global, out: &mut Vec<u8>, nodes: &[CertNode]) -> Result<(), Memory> {
+    fn push_named_tree(out: &mut Vec<u8>, nodes: &[CertNode]) -> Result<(), Memory> {
+        let alloc = *out.allocator();
         let names = link_families(alloc)?;
-        push_tree(alloc, out, Naming::Named(names.as_slice()), nodes)
+        push_tree(out, Naming::Named(names.as_slice()), nodes)
     }
 }

@@ -41,7 +41,6 @@ fn band_name(dir: Dir) -> &'static str
 
 /// Writes the line of a direction's widest band, a fraction of the cycle, with the tick of its first line.
 fn push_band(
-    alloc: Global,
     out: &mut Vec<u8>,
     artery: &Artery,
     timing: &Timing,
@@ -52,13 +51,12 @@ fn push_band(
     ensures { OnOk result (out.new.items ≡ out.old.items ++ widest_line artery.now timing.now dir (Some widest)) }
 {
     push_text(out, band_name(dir))?;
-    push_measure(alloc, out, quotient(widest.band, cycle(artery, timing)), 6)?;
-    push_number_line(alloc, out, " first ", widest.first)
+    push_measure(out, quotient(widest.band, cycle(artery, timing)), 6)?;
+    push_number_line(out, " first ", widest.first)
 }
 
 /// Writes the line of what is measured of a direction.
 fn push_widest(
-    alloc: Global,
     out: &mut Vec<u8>,
     artery: &Artery,
     timing: &Timing,
@@ -69,7 +67,7 @@ fn push_widest(
     ensures { OnOk result (out.new.items ≡ out.old.items ++ widest_line artery.now timing.now dir found) }
 {
     match found {
-        Some(widest) => push_band(alloc, out, artery, timing, dir, widest),
+        Some(widest) => push_band(out, artery, timing, dir, widest),
         None => push_no_band(out, dir),
     }
 }
@@ -84,8 +82,8 @@ pub fn measured(alloc: Global, artery: &Artery, timing: &Timing) -> Result<Vec<u
     let outbound = widest(artery, timing, Dir::Outbound);
     let inbound = widest(artery, timing, Dir::Inbound);
     let mut lines = Vec::new(alloc);
-    push_widest(alloc, &mut lines, artery, timing, Dir::Outbound, outbound)?;
-    push_widest(alloc, &mut lines, artery, timing, Dir::Inbound, inbound)?;
+    push_widest(&mut lines, artery, timing, Dir::Outbound, outbound)?;
+    push_widest(&mut lines, artery, timing, Dir::Inbound, inbound)?;
     Ok(lines)
 }
 

@@ -21,7 +21,7 @@ pub fn accepted(alloc: Global, claim: Claim) -> Result<Answer<'static>, Memory>
     ensures no_put { IfOk result (λ a. a.put ≡ None) }
 {
     let mut lines = Vec::new(alloc);
-    push_accepted(alloc, &mut lines, claim)?;
+    push_accepted(&mut lines, claim)?;
     Ok(told(Cause::Done, lines))
 }
 
@@ -33,7 +33,7 @@ pub fn rejected(alloc: Global, artery: &Artery, reject: Reject) -> Result<Answer
     ensures no_put { IfOk result (λ a. a.put ≡ None) }
 {
     let mut lines = Vec::new(alloc);
-    push_rejected(alloc, &mut lines, artery.count(), &reject)?;
+    push_rejected(&mut lines, artery.count(), &reject)?;
     Ok(told(Cause::Rejected(reject), lines))
 }
 

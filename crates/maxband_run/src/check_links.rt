@@ -23,7 +23,7 @@ fn rejected(alloc: Global, artery: &Artery, reject: LinkReject) -> Result<Answer
     ensures no_put { IfOk result (λ a. a.put ≡ None) }
 {
     let mut lines = Vec::new(alloc);
-    push_link_rejected(alloc, &mut lines, artery.count(), &reject)?;
+    push_link_rejected(&mut lines, artery.count(), &reject)?;
     Ok(told(Cause::LinkRejected(reject), lines))
 }
 

@@ -26,19 +26,13 @@ fn phase_name(is_later: bool) -> &'static str
 }
 
 /// Writes the line of a signal: whether its red is centred with that of signal 1, or half a cycle later.
-fn push_phase(
-    alloc: Global,
-    out: &mut Vec<u8>,
-    artery: &Artery,
-    plan: &Timing,
-    signal: u32,
-) -> Result<(), Memory>
+fn push_phase(out: &mut Vec<u8>, artery: &Artery, plan: &Timing, signal: u32) -> Result<(), Memory>
     requires shape { length plan.now.patterns ≡ count artery.now }
     requires first { 1 ≤ signal }
     requires last { signal ≤ count artery.now }
     ensures { OnOk result (out.new.items ≡ out.old.items ++ phase_line artery.now plan.now signal) }
 {
-    push_numbered(alloc, out, "signal ", signal as u128)?;
+    push_numbered(out, "signal ", signal as u128)?;
     push_text(out, " half ")?;
     push_text(out, phase_name(half_of(artery, plan, signal)))?;
     push_text(out, "\n")
@@ -46,17 +40,12 @@ fn push_phase(
 
 /// Writes the lines of the signals, from the first on.
 #[tactic(auto, using(crate::proofs::Pushed::pushed_next))]
-fn push_phases(
-    alloc: Global,
-    out: &mut Vec<u8>,
-    artery: &Artery,
-    plan: &Timing,
-) -> Result<(), Memory>
+fn push_phases(out: &mut Vec<u8>, artery: &Artery, plan: &Timing) -> Result<(), Memory>
     requires { length plan.now.patterns ≡ count artery.now }
     ensures { OnOk result (out.new.items ≡ out.old.items ++ phase_lines artery.now plan.now) }
 {
     for signal in 1..artery.count() + 1 {
-        push_phase(alloc, out, artery, plan, signal)?;
+        push_phase(out, artery, plan, signal)?;
     }
     Ok(())
 }
@@ -69,21 +58,19 @@ fn half_lines(alloc: Global, artery: &Artery, plan: &Timing) -> Result<Vec<u8>, 
     let mut lines = Vec::new(alloc);
     push_text(&mut lines, "equal band")?;
     let share = quotient(plan.band(Dir::Outbound), cycle(artery, plan));
-    push_measure_line(alloc, &mut lines, share, 6)?;
-    push_phases(alloc, &mut lines, artery, plan)?;
+    push_measure_line(&mut lines, share, 6)?;
+    push_phases(&mut lines, artery, plan)?;
     Ok(lines)
 }
 
 /// Writes the line of a timing that has no half-cycle plan.
-fn push_end(alloc: Global, out: &mut Vec<u8>, end: HalfEnd) -> Result<(), Memory>
+fn push_end(out: &mut Vec<u8>, end: HalfEnd) -> Result<(), Memory>
     ensures { OnOk result (out.new.items ≡ out.old.items ++ end_line end) }
 {
     match end {
-        HalfEnd::Uneven { signal } => {
-            push_number_line(alloc, out, "uneven signal ", signal as u128)
-        }
-        HalfEnd::Unequal { link } => push_number_line(alloc, out, "unequal link ", link as u128),
-        HalfEnd::TooFine { ticks } => push_number_line(alloc, out, "ticks ", ticks),
+        HalfEnd::Uneven { signal } => { push_number_line(out, "uneven signal ", signal as u128) }
+        HalfEnd::Unequal { link } => push_number_line(out, "unequal link ", link as u128),
+        HalfEnd::TooFine { ticks } => push_number_line(out, "ticks ", ticks),
     }
 }
 
@@ -94,7 +81,7 @@ pub fn unmatched(alloc: Global, end: HalfEnd) -> Result<Answer<'static>, Memory>
     ensures no_put { IfOk result (λ a. a.put ≡ None) }
 {
     let mut lines = Vec::new(alloc);
-    push_end(alloc, &mut lines, end)?;
+    push_end(&mut lines, end)?;
     Ok(told(Cause::Unmatched(end), lines))
 }
 

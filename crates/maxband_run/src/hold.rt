@@ -17,7 +17,7 @@ fn holds_lines(alloc: Global, value: Frac) -> Result<Vec<u8>, Memory>
     ensures { IfOk result (λ lines. lines.items ≡ holds_lines value) }
 {
     let mut lines = Vec::new(alloc);
-    push_exact_line(alloc, &mut lines, "holds\nweighted ", value)?;
+    push_exact_line(&mut lines, "holds\nweighted ", value)?;
     Ok(lines)
 }
 
@@ -28,7 +28,7 @@ pub fn fails(alloc: Global, failing: Failing) -> Result<Answer<'static>, Memory>
     ensures no_put { IfOk result (λ a. a.put ≡ None) }
 {
     let mut lines = Vec::new(alloc);
-    push_failing_line(alloc, &mut lines, "fails ", failing)?;
+    push_failing_line(&mut lines, "fails ", failing)?;
     Ok(told(Cause::Fails(failing), lines))
 }
 

@@ -56,55 +56,39 @@ pub fn text_lines(alloc: Global, text: &str) -> Result<Vec<u8>, Memory>
 }
 
 /// Writes a name and a number.
-pub fn push_numbered(
-    alloc: Global,
-    out: &mut Vec<u8>,
-    name: &str,
-    number: u128,
-) -> Result<(), Memory>
+pub fn push_numbered(out: &mut Vec<u8>, name: &str, number: u128) -> Result<(), Memory>
     ensures { OnOk result (out.new.items ≡ out.old.items ++ (name.now ++ decimal number)) }
 {
     push_text(out, name)?;
-    push_number(alloc, out, number)
+    push_number(out, number)
 }
 
 /// Writes a line of a name and a number.
-pub fn push_number_line(
-    alloc: Global,
-    out: &mut Vec<u8>,
-    name: &str,
-    number: u128,
-) -> Result<(), Memory>
+pub fn push_number_line(out: &mut Vec<u8>, name: &str, number: u128) -> Result<(), Memory>
     ensures { OnOk result (out.new.items ≡ out.old.items ++ (name.now ++ (decimal number ++ codes "\n"))) }
 {
-    push_numbered(alloc, out, name, number)?;
+    push_numbered(out, name, number)?;
     push_text(out, "\n")
 }
 
 /// Writes a name and the exact spelling of a fraction.
-fn push_named_exact(alloc: Global, out: &mut Vec<u8>, name: &str, value: Frac) -> Result<(), Memory>
+fn push_named_exact(out: &mut Vec<u8>, name: &str, value: Frac) -> Result<(), Memory>
     ensures { OnOk result (out.new.items ≡ out.old.items ++ (name.now ++ exact_spelling value)) }
 {
     push_text(out, name)?;
-    push_exact(alloc, out, value)
+    push_exact(out, value)
 }
 
 /// Writes a line of a name and the exact spelling of a fraction.
-pub fn push_exact_line(
-    alloc: Global,
-    out: &mut Vec<u8>,
-    name: &str,
-    value: Frac,
-) -> Result<(), Memory>
+pub fn push_exact_line(out: &mut Vec<u8>, name: &str, value: Frac) -> Result<(), Memory>
     ensures { OnOk result (out.new.items ≡ out.old.items ++ (name.now ++ (exact_spelling value ++ codes "\n"))) }
 {
-    push_named_exact(alloc, out, name, value)?;
+    push_named_exact(out, name, value)?;
     push_text(out, "\n")
 }
 
 /// Writes a line of two fractions, each after a name.
 pub fn push_pair_line(
-    alloc: Global,
     out: &mut Vec<u8>,
     name: &str,
     value: Frac,
@@ -113,22 +97,17 @@ pub fn push_pair_line(
 ) -> Result<(), Memory>
     ensures { OnOk result (out.new.items ≡ out.old.items ++ (name.now ++ (exact_spelling value ++ (other_name.now ++ (exact_spelling other ++ codes "\n"))))) }
 {
-    push_named_exact(alloc, out, name, value)?;
-    push_exact_line(alloc, out, other_name, other)
+    push_named_exact(out, name, value)?;
+    push_exact_line(out, other_name, other)
 }
 
 /// Writes the number of a signal and a tick there.
-pub fn push_crossing(
-    alloc: Global,
-    out: &mut Vec<u8>,
-    signal: u32,
-    tick: i128,
-) -> Result<(), Memory>
+pub fn push_crossing(out: &mut Vec<u8>, signal: u32, tick: i128) -> Result<(), Memory>
     ensures { OnOk result (out.new.items ≡ out.old.items ++ (codes " signal " ++ (decimal signal ++ (codes " tick " ++ signed_decimal tick)))) }
 {
-    push_numbered(alloc, out, " signal ", signal as u128)?;
+    push_numbered(out, " signal ", signal as u128)?;
     push_text(out, " tick ")?;
-    push_whole(alloc, out, tick)
+    push_whole(out, tick)
 }
 
 /// Writes the rule of the least band of a direction.
@@ -140,59 +119,48 @@ fn push_least(out: &mut Vec<u8>, dir: Dir) -> Result<(), Memory>
 }
 
 /// Writes a rule of one link in one direction.
-fn push_link(
-    alloc: Global,
-    out: &mut Vec<u8>,
-    rule: &str,
-    dir: Dir,
-    link: u32,
-) -> Result<(), Memory>
+fn push_link(out: &mut Vec<u8>, rule: &str, dir: Dir, link: u32) -> Result<(), Memory>
     ensures { OnOk result (out.new.items ≡ out.old.items ++ link_text rule.now dir link) }
 {
     push_text(out, rule)?;
     push_text(out, " ")?;
     push_text(out, dir_name(dir))?;
-    push_numbered(alloc, out, " link ", link as u128)
+    push_numbered(out, " link ", link as u128)
 }
 
 /// Writes the text that names a broken rule.
-pub fn push_failing(alloc: Global, out: &mut Vec<u8>, failing: Failing) -> Result<(), Memory>
+pub fn push_failing(out: &mut Vec<u8>, failing: Failing) -> Result<(), Memory>
     ensures { OnOk result (out.new.items ≡ out.old.items ++ failing_text failing) }
 {
     match failing {
         Failing::Shape => push_text(out, "shape"),
-        Failing::Pattern { signal } => push_numbered(alloc, out, "pattern signal ", signal as u128),
+        Failing::Pattern { signal } => push_numbered(out, "pattern signal ", signal as u128),
         Failing::CycleShort => push_text(out, "cycle short"),
         Failing::CycleLong => push_text(out, "cycle long"),
-        Failing::Fast { dir, link } => push_link(alloc, out, "fast", dir, link),
-        Failing::Slow { dir, link } => push_link(alloc, out, "slow", dir, link),
-        Failing::Rise { dir, link } => push_link(alloc, out, "rise", dir, link),
-        Failing::Drop { dir, link } => push_link(alloc, out, "drop", dir, link),
+        Failing::Fast { dir, link } => push_link(out, "fast", dir, link),
+        Failing::Slow { dir, link } => push_link(out, "slow", dir, link),
+        Failing::Rise { dir, link } => push_link(out, "rise", dir, link),
+        Failing::Drop { dir, link } => push_link(out, "drop", dir, link),
         Failing::Ratio => push_text(out, "ratio"),
         Failing::Least { dir } => push_least(out, dir),
         Failing::Equal => push_text(out, "equal"),
         Failing::Outbound { signal, tick } => {
             push_text(out, "outbound")?;
-            push_crossing(alloc, out, signal, tick)
+            push_crossing(out, signal, tick)
         }
         Failing::Inbound { signal, tick } => {
             push_text(out, "inbound")?;
-            push_crossing(alloc, out, signal, tick)
+            push_crossing(out, signal, tick)
         }
     }
 }
 
 /// Writes a line that begins so and names a broken rule.
-pub fn push_failing_line(
-    alloc: Global,
-    out: &mut Vec<u8>,
-    begin: &str,
-    failing: Failing,
-) -> Result<(), Memory>
+pub fn push_failing_line(out: &mut Vec<u8>, begin: &str, failing: Failing) -> Result<(), Memory>
     ensures { OnOk result (out.new.items ≡ out.old.items ++ (begin.now ++ (failing_text failing ++ codes "\n"))) }
 {
     push_text(out, begin)?;
-    push_failing(alloc, out, failing)?;
+    push_failing(out, failing)?;
     push_text(out, "\n")
 }
 
@@ -217,10 +185,10 @@ pub fn refused_line(alloc: Global, refusal: &Refusal) -> Result<Vec<u8>, Memory>
 }
 
 /// Writes the line of a text with a bad line.
-fn push_bad_text(alloc: Global, out: &mut Vec<u8>, bad: BadText) -> Result<(), Memory>
+fn push_bad_text(out: &mut Vec<u8>, bad: BadText) -> Result<(), Memory>
     ensures { OnOk result (out.new.items ≡ out.old.items ++ bad_text_line bad) }
 {
-    push_numbered(alloc, out, "refused BadText line ", bad.line as u128)?;
+    push_numbered(out, "refused BadText line ", bad.line as u128)?;
     push_text(out, " ")?;
     push_text(out, fault_name(bad.kind))?;
     push_text(out, "\n")
@@ -231,7 +199,7 @@ pub fn bad_text_line(alloc: Global, bad: BadText) -> Result<Vec<u8>, Memory>
     ensures { IfOk result (λ line. line.items ≡ bad_text_line bad) }
 {
     let mut line = Vec::new(alloc);
-    push_bad_text(alloc, &mut line, bad)?;
+    push_bad_text(&mut line, bad)?;
     Ok(line)
 }
 

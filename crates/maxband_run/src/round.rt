@@ -30,7 +30,6 @@ use timing_measures::signal_name;
 
 /// Writes the line of a signal: its offset in seconds and its name.
 fn push_offset(
-    alloc: Global,
     out: &mut Vec<u8>,
     artery: &Artery,
     offsets: &[u64],
@@ -41,8 +40,8 @@ fn push_offset(
     requires last { signal ≤ count artery.now }
     ensures { OnOk result (out.new.items ≡ out.old.items ++ offset_line artery.now offsets.now signal) }
 {
-    push_numbered(alloc, out, "signal ", signal as u128)?;
-    push_numbered(alloc, out, " offset ", offsets[signal as usize - 1] as u128)?;
+    push_numbered(out, "signal ", signal as u128)?;
+    push_numbered(out, " offset ", offsets[signal as usize - 1] as u128)?;
     push_text(out, " ")?;
     push_text(out, signal_name(artery, signal))?;
     push_text(out, "\n")
@@ -50,44 +49,34 @@ fn push_offset(
 
 /// Writes the lines of the signals, from the first on.
 #[tactic(auto, using(crate::proofs::Pushed::pushed_next))]
-fn push_offsets(
-    alloc: Global,
-    out: &mut Vec<u8>,
-    artery: &Artery,
-    offsets: &[u64],
-) -> Result<(), Memory>
+fn push_offsets(out: &mut Vec<u8>, artery: &Artery, offsets: &[u64]) -> Result<(), Memory>
     requires { length offsets.now ≡ count artery.now }
     ensures { OnOk result (out.new.items ≡ out.old.items ++ offset_lines artery.now offsets.now) }
 {
     for signal in 1..artery.count() + 1 {
-        push_offset(alloc, out, artery, offsets, signal)?;
+        push_offset(out, artery, offsets, signal)?;
     }
     Ok(())
 }
 
 /// Writes the lines of the bands of a timing and of its weighted band.
-fn push_measures(
-    alloc: Global,
-    out: &mut Vec<u8>,
-    artery: &Artery,
-    timing: &Timing,
-) -> Result<(), Memory>
+fn push_measures(out: &mut Vec<u8>, artery: &Artery, timing: &Timing) -> Result<(), Memory>
     ensures { OnOk result (out.new.items ≡ out.old.items ++ (band_line artery.now timing.now Dir.Outbound ++ (band_line artery.now timing.now Dir.Inbound ++ weighted_line artery.now timing.now))) }
 {
-    push_band_line(alloc, out, artery, timing, Dir::Outbound)?;
-    push_band_line(alloc, out, artery, timing, Dir::Inbound)?;
-    push_weighted_line(alloc, out, artery, timing)
+    push_band_line(out, artery, timing, Dir::Outbound)?;
+    push_band_line(out, artery, timing, Dir::Inbound)?;
+    push_weighted_line(out, artery, timing)
 }
 
 /// Writes the lines of a plan in whole seconds.
-fn push_plan(alloc: Global, out: &mut Vec<u8>, artery: &Artery, plan: &Plan) -> Result<(), Memory>
+fn push_plan(out: &mut Vec<u8>, artery: &Artery, plan: &Plan) -> Result<(), Memory>
     requires { length plan.now.offsets.items ≡ count artery.now }
     ensures { OnOk result (out.new.items ≡ out.old.items ++ plan_lines artery.now plan.now.seconds plan.now.offsets.items plan.now.timing plan.now.loss) }
 {
-    push_number_line(alloc, out, "cycle ", plan.seconds as u128)?;
-    push_offsets(alloc, out, artery, plan.offsets.as_slice())?;
-    push_measures(alloc, out, artery, &plan.timing)?;
-    push_exact_line(alloc, out, "loss ", plan.loss)
+    push_number_line(out, "cycle ", plan.seconds as u128)?;
+    push_offsets(out, artery, plan.offsets.as_slice())?;
+    push_measures(out, artery, &plan.timing)?;
+    push_exact_line(out, "loss ", plan.loss)
 }
 
 /// The lines of a plan in whole seconds.
@@ -96,7 +85,7 @@ fn plan_lines(alloc: Global, artery: &Artery, plan: &Plan) -> Result<Vec<u8>, Me
     ensures { IfOk result (λ lines. lines.items ≡ plan_lines artery.now plan.now.seconds plan.now.offsets.items plan.now.timing plan.now.loss) }
 {
     let mut lines = Vec::new(alloc);
-    push_plan(alloc, &mut lines, artery, plan)?;
+    push_plan(&mut lines, artery, plan)?;
     Ok(lines)
 }
 
@@ -110,18 +99,16 @@ fn push_no_line(out: &mut Vec<u8>, dir: Dir) -> Result<(), Memory>
 }
 
 /// Writes the line of a certificate of which no plan is made. Where the loss leaves 128 bits it has the operands.
-fn push_unplanned(alloc: Global, out: &mut Vec<u8>, end: &PlanEnd) -> Result<(), Memory>
+fn push_unplanned(out: &mut Vec<u8>, end: &PlanEnd) -> Result<(), Memory>
     ensures { OnOk result (out.new.items ≡ out.old.items ++ unplanned_line end.now) }
 {
     match end {
         PlanEnd::NoTimingGiven => push_text(out, "no plan timing\n"),
         PlanEnd::NoWholeCycle => push_text(out, "no plan cycle\n"),
-        PlanEnd::TooFine { ticks } => push_number_line(alloc, out, "no plan ticks ", *ticks),
+        PlanEnd::TooFine { ticks } => push_number_line(out, "no plan ticks ", *ticks),
         PlanEnd::NoLine { dir } => push_no_line(out, *dir),
-        PlanEnd::Fails(failing) => push_failing_line(alloc, out, "no plan ", *failing),
-        PlanEnd::Wide(wide) => {
-            push_pair_line(alloc, out, "no plan wide ", wide.left, " ", wide.right)
-        }
+        PlanEnd::Fails(failing) => push_failing_line(out, "no plan ", *failing),
+        PlanEnd::Wide(wide) => { push_pair_line(out, "no plan wide ", wide.left, " ", wide.right) }
     }
 }
 
@@ -132,7 +119,7 @@ pub fn unplanned(alloc: Global, end: PlanEnd) -> Result<Answer<'static>, Memory>
     ensures no_put { IfOk result (λ a. a.put ≡ None) }
 {
     let mut lines = Vec::new(alloc);
-    push_unplanned(alloc, &mut lines, &end)?;
+    push_unplanned(&mut lines, &end)?;
     Ok(told(Cause::Unplanned(end), lines))
 }
 

@@ -19,7 +19,7 @@ fn rows_line(alloc: Global, rows: usize) -> Result<Vec<u8>, Memory>
     ensures { IfOk result (λ line. line.items ≡ rows_line rows) }
 {
     let mut line = Vec::new(alloc);
-    push_number_line(alloc, &mut line, "rows ", rows as u128)?;
+    push_number_line(&mut line, "rows ", rows as u128)?;
     Ok(line)
 }
 

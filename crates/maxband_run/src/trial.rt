@@ -15,43 +15,28 @@ use std::alloc::Global;
 use workload_maker::make_artery;
 
 /// Writes the lines of a stopped search, with its bound and the value where a timing was found.
-fn push_open(
-    alloc: Global,
-    out: &mut Vec<u8>,
-    bound: Frac,
-    value: Option<Frac>,
-) -> Result<(), Memory>
+fn push_open(out: &mut Vec<u8>, bound: Frac, value: Option<Frac>) -> Result<(), Memory>
     ensures { OnOk result (out.new.items ≡ out.old.items ++ open_lines bound value) }
 {
     match value {
-        Some(value) => {
-            push_pair_line(
-                alloc,
-                out,
-                "verdict open\nweighted ",
-                value,
-                "\nbound ",
-                bound,
-            )
-        }
-        None => push_exact_line(alloc, out, "verdict open\nbound ", bound),
+        Some(value) => { push_pair_line(out, "verdict open\nweighted ", value, "\nbound ", bound) }
+        None => push_exact_line(out, "verdict open\nbound ", bound),
     }
 }
 
 /// Writes the lines of what a certificate claims.
-fn push_claim(alloc: Global, out: &mut Vec<u8>, claim: Claim) -> Result<(), Memory>
+fn push_claim(out: &mut Vec<u8>, claim: Claim) -> Result<(), Memory>
     ensures { OnOk result (out.new.items ≡ out.old.items ++ claim_lines claim) }
 {
     match claim {
-        Claim::Best { value } => push_exact_line(alloc, out, "verdict best\nweighted ", value),
+        Claim::Best { value } => push_exact_line(out, "verdict best\nweighted ", value),
         Claim::NoTiming => push_text(out, "verdict none\n"),
-        Claim::Stopped { bound, value } => push_open(alloc, out, bound, value),
+        Claim::Stopped { bound, value } => push_open(out, bound, value),
     }
 }
 
 /// Writes the lines of a trial whose certificate makes this claim and has a text of so many bytes.
 fn push_trial(
-    alloc: Global,
     out: &mut Vec<u8>,
     signals: u32,
     seed: u64,
@@ -60,11 +45,11 @@ fn push_trial(
 ) -> Result<(), Memory>
     ensures { OnOk result (out.new.items ≡ out.old.items ++ trial_lines signals seed claim bytes) }
 {
-    push_numbered(alloc, out, "signals ", signals as u128)?;
-    push_numbered(alloc, out, "\nseed ", seed as u128)?;
+    push_numbered(out, "signals ", signals as u128)?;
+    push_numbered(out, "\nseed ", seed as u128)?;
     push_text(out, "\n")?;
-    push_claim(alloc, out, claim)?;
-    push_numbered(alloc, out, "certificate ", bytes as u128)?;
+    push_claim(out, claim)?;
+    push_numbered(out, "certificate ", bytes as u128)?;
     push_text(out, "\ncheck accepted\n")
 }
 
@@ -79,7 +64,7 @@ fn trial_lines(
     ensures { IfOk result (λ lines. lines.items ≡ trial_lines signals seed claim bytes) }
 {
     let mut lines = Vec::new(alloc);
-    push_trial(alloc, &mut lines, signals, seed, claim, bytes)?;
+    push_trial(&mut lines, signals, seed, claim, bytes)?;
     Ok(lines)
 }
 

@@ -34,7 +34,7 @@ fn write_measured<'a>(
         return fails(alloc, failing);
     }
     let mut lines = measured(alloc, artery, timing)?;
-    push_weighted_line(alloc, &mut lines, artery, timing)?;
+    push_weighted_line(&mut lines, artery, timing)?;
     let bytes = write_timing(alloc, timing)?;
     Ok(Answer {
         cause: Cause::Done,

@@ -9,23 +9,21 @@ use diagram_print::{dir_name, push_measure_line};
 use link_space::LinkTiming;
 use narrow_fraction::Memory;
 use quantity_text::{push_number, push_text};
-use std::alloc::Global;
 use time_space::cycle;
 use timing_measures::quotient;
 
 /// Writes what stands before the band of a direction on a link.
-fn push_band_name(alloc: Global, out: &mut Vec<u8>, dir: Dir, link: u32) -> Result<(), Memory>
+fn push_band_name(out: &mut Vec<u8>, dir: Dir, link: u32) -> Result<(), Memory>
     ensures { OnOk result (out.new.items ≡ out.old.items ++ band_name dir link) }
 {
     push_text(out, "link ")?;
-    push_number(alloc, out, link as u128)?;
+    push_number(out, link as u128)?;
     push_text(out, " band ")?;
     push_text(out, dir_name(dir))
 }
 
 /// Writes the line of a direction's band on a link, a fraction of the cycle: it reaches half as far to either side of the line.
 fn push_link_band(
-    alloc: Global,
     out: &mut Vec<u8>,
     artery: &Artery,
     timing: &LinkTiming,
@@ -36,14 +34,13 @@ fn push_link_band(
     requires last { link < length timing.now.patterns }
     ensures { OnOk result (out.new.items ≡ out.old.items ++ link_band_line artery.now timing.now dir link) }
 {
-    push_band_name(alloc, out, dir, link)?;
+    push_band_name(out, dir, link)?;
     let share = quotient(2 * timing.half(dir, link), cycle(artery, timing.lines()));
-    push_measure_line(alloc, out, share, 6)
+    push_measure_line(out, share, 6)
 }
 
 /// Writes the lines of both bands on a link.
 fn push_both_bands(
-    alloc: Global,
     out: &mut Vec<u8>,
     artery: &Artery,
     timing: &LinkTiming,
@@ -53,13 +50,12 @@ fn push_both_bands(
     requires last { link < length timing.now.patterns }
     ensures { OnOk result (out.new.items ≡ out.old.items ++ both_band_lines artery.now timing.now link) }
 {
-    push_link_band(alloc, out, artery, timing, Dir::Outbound, link)?;
-    push_link_band(alloc, out, artery, timing, Dir::Inbound, link)
+    push_link_band(out, artery, timing, Dir::Outbound, link)?;
+    push_link_band(out, artery, timing, Dir::Inbound, link)
 }
 
 /// Writes the lines of the bands, from the first link on.
 pub fn push_link_bands(
-    alloc: Global,
     out: &mut Vec<u8>,
     artery: &Artery,
     timing: &LinkTiming,
@@ -68,7 +64,7 @@ pub fn push_link_bands(
     ensures { OnOk result (out.new.items ≡ out.old.items ++ link_band_lines artery.now timing.now) }
 {
     for link in 1..artery.count() {
-        push_both_bands(alloc, out, artery, timing, link)?;
+        push_both_bands(out, artery, timing, link)?;
     }
     Ok(())
 }

@@ -18,21 +18,16 @@ use quantity_text::push_text;
 use std::alloc::Global;
 
 /// Writes the lines of a link timing.
-fn push_link_timing(
-    alloc: Global,
-    out: &mut Vec<u8>,
-    artery: &Artery,
-    timing: &LinkTiming,
-) -> Result<(), Memory>
+fn push_link_timing(out: &mut Vec<u8>, artery: &Artery, timing: &LinkTiming) -> Result<(), Memory>
     requires { GoodLinks artery.now timing.now }
     ensures { OnOk result (out.new.items ≡ out.old.items ++ link_timing_lines artery.now timing.now) }
 {
     push_text(out, "weighted")?;
-    push_measure_line(alloc, out, link_value(artery, timing), 6)?;
-    push_link_bands(alloc, out, artery, timing)?;
-    push_cycle_line(alloc, out, artery, timing.lines())?;
-    push_signal_lines(alloc, out, artery, timing.lines())?;
-    push_link_lines(alloc, out, artery, timing.lines())
+    push_measure_line(out, link_value(artery, timing), 6)?;
+    push_link_bands(out, artery, timing)?;
+    push_cycle_line(out, artery, timing.lines())?;
+    push_signal_lines(out, artery, timing.lines())?;
+    push_link_lines(out, artery, timing.lines())
 }
 
 /// The lines of the link timing that a search found, where there is one.
@@ -47,7 +42,7 @@ fn lines_of(
     match timing {
         Some(timing) => {
             let mut lines = Vec::new(alloc);
-            push_link_timing(alloc, &mut lines, artery, timing)?;
+            push_link_timing(&mut lines, artery, timing)?;
             Ok(Some(lines))
         }
         None => Ok(None),

@@ -29,23 +29,18 @@ pub fn push_line(out: &mut Vec<u8>, line: &[u8]) -> Result<(), Memory>
 }
 
 /// Writes a line of a key and a fraction at the end.
-fn push_value(alloc: Global, out: &mut Vec<u8>, key: &[u8], value: Frac) -> Result<(), Memory>
+fn push_value(out: &mut Vec<u8>, key: &[u8], value: Frac) -> Result<(), Memory>
     ensures text { OnOk result (out.new.items ≡ out.old.items ++ ended (line_of (fraction_words key.now value) ∷ [])) }
     ensures held { OnOk result (FitsFrac value) }
 {
     push_bytes(out, key)?;
     push_text(out, " ")?;
-    push_exact(alloc, out, value.fitting())?;
+    push_exact(out, value.fitting())?;
     push_text(out, "\n")
 }
 
 /// Writes the name of a row.
-pub(crate) fn push_name(
-    alloc: Global,
-    out: &mut Vec<u8>,
-    names: &[FamilyName],
-    row: RowId,
-) -> Result<(), Memory>
+pub(crate) fn push_name(out: &mut Vec<u8>, names: &[FamilyName], row: RowId) -> Result<(), Memory>
     requires { IsNamedIn (table_of names.now) row }
     ensures text { OnOk result (out.new.items ≡ out.old.items ++ line_of (row_words_in (table_of names.now) row)) }
     ensures held { row.index < 2 ^ 32 }
@@ -54,61 +49,57 @@ pub(crate) fn push_name(
     if is_lone_in(names, row.family) {
         Ok(())
     } else {
-        push_spaced(alloc, out, row.index as u128)
+        push_spaced(out, row.index as u128)
     }
 }
 
 /// Writes the words of a split of a loop.
-fn push_loop(alloc: Global, out: &mut Vec<u8>, link: u32, at: i64) -> Result<(), Memory>
+fn push_loop(out: &mut Vec<u8>, link: u32, at: i64) -> Result<(), Memory>
     ensures { OnOk result (out.new.items ≡ out.old.items ++ line_of (split_words (Loop link at))) }
 {
     push_text(out, "split loop")?;
-    push_spaced(alloc, out, link as u128)?;
+    push_spaced(out, link as u128)?;
     push_text(out, " ")?;
-    push_whole(alloc, out, at as i128)
+    push_whole(out, at as i128)
 }
 
 /// Writes the words of a split of a turn.
-fn push_turn(alloc: Global, out: &mut Vec<u8>, signal: u32, rank: u32) -> Result<(), Memory>
+fn push_turn(out: &mut Vec<u8>, signal: u32, rank: u32) -> Result<(), Memory>
     ensures { OnOk result (out.new.items ≡ out.old.items ++ line_of (split_words (Turn signal rank))) }
 {
     push_text(out, "split turn")?;
-    push_spaced(alloc, out, signal as u128)?;
+    push_spaced(out, signal as u128)?;
     push_text(out, " ")?;
-    push_number(alloc, out, rank as u128)
+    push_number(out, rank as u128)
 }
 
 /// Writes the words of a split.
-fn push_place(alloc: Global, out: &mut Vec<u8>, place: At) -> Result<(), Memory>
+fn push_place(out: &mut Vec<u8>, place: At) -> Result<(), Memory>
     ensures text { OnOk result (out.new.items ≡ out.old.items ++ line_of (split_words place)) }
     ensures held { IsHeldNode (SplitAt place) }
 {
     match place {
-        At::Loop { link, at } => push_loop(alloc, out, link, at),
-        At::Turn { signal, rank } => push_turn(alloc, out, signal, rank),
+        At::Loop { link, at } => push_loop(out, link, at),
+        At::Turn { signal, rank } => push_turn(out, signal, rank),
     }
 }
 
 /// Writes the line of a split.
-pub(crate) fn push_split(alloc: Global, out: &mut Vec<u8>, place: At) -> Result<(), Memory>
+pub(crate) fn push_split(out: &mut Vec<u8>, place: At) -> Result<(), Memory>
     ensures text { OnOk result (out.new.items ≡ out.old.items ++ ended (line_of (split_words place) ∷ [])) }
     ensures held { IsHeldNode (SplitAt place) }
 {
-    push_place(alloc, out, place)?;
+    push_place(out, place)?;
     push_text(out, "\n")
 }
 
 /// Writes the lines of a timing, if there is one.
-fn push_timing<K: TimingKind>(
-    alloc: Global,
-    out: &mut Vec<u8>,
-    timing: &Option<K::Timing>,
-) -> Result<(), Memory>
+fn push_timing<K: TimingKind>(out: &mut Vec<u8>, timing: &Option<K::Timing>) -> Result<(), Memory>
     ensures text { OnOk result (out.new.items ≡ out.old.items ++ ended (timing_part K.text timing.now)) }
     ensures held { OnOk result (IsHeldTiming K.text timing.now) }
 {
     match timing {
-        Some(timing) => K::push_timing(alloc, out, timing),
+        Some(timing) => K::push_timing(out, timing),
         None => Ok(()),
     }
 }
@@ -116,7 +107,6 @@ fn push_timing<K: TimingKind>(
 /// Writes the lines of a claim and its timing, from the second line of a certificate on.
 #[tactic(auto, unfolding(crate::specs::CertificateText::claim_lines))]
 pub fn push_claim<K: TimingKind>(
-    alloc: Global,
     out: &mut Vec<u8>,
     claim: &Claim,
     timing: &Option<K::Timing>,
@@ -129,17 +119,17 @@ pub fn push_claim<K: TimingKind>(
     match claim {
         Claim::Best { value } => {
             push_line(out, b"verdict best")?;
-            push_value(alloc, out, b"value", *value)?;
-            push_timing::<K>(alloc, out, timing)
+            push_value(out, b"value", *value)?;
+            push_timing::<K>(out, timing)
         }
         Claim::NoTiming => push_line(out, b"verdict none"),
         Claim::Stopped { bound, value } => {
             push_line(out, b"verdict open")?;
-            push_value(alloc, out, b"bound", *bound)?;
+            push_value(out, b"bound", *bound)?;
             match value {
                 Some(value) => {
-                    push_value(alloc, out, b"value", *value)?;
-                    push_timing::<K>(alloc, out, timing)
+                    push_value(out, b"value", *value)?;
+                    push_timing::<K>(out, timing)
                 }
                 None => push_line(out, b"no timing"),
             }
@@ -161,8 +151,8 @@ pub fn write_named<K: TimingKind>(
 {
     let mut out = Vec::new(alloc);
     push_line(&mut out, head)?;
-    push_claim::<K>(alloc, &mut out, claim, timing)?;
-    K::push_named_tree(alloc, &mut out, nodes)?;
+    push_claim::<K>(&mut out, claim, timing)?;
+    K::push_named_tree(&mut out, nodes)?;
     Ok(out)
 }
 

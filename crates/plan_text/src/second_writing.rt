@@ -19,32 +19,32 @@ use std::alloc::Global;
 
 /// Writes the line of a row's name.
 #[tactic(auto, unfolding(certificate_model::specs::Families::ordinary))]
-fn push_row(alloc: Global, out: &mut Vec<u8>, row: RowId) -> Result<(), Memory>
+fn push_row(out: &mut Vec<u8>, row: RowId) -> Result<(), Memory>
     requires { IsNamed row }
     ensures { OnOk result (out.new.items ≡ out.old.items ++ ended (row_line row ∷ [])) }
 {
-    push_name(alloc, out, &FAMILIES, row)?;
+    push_name(out, &FAMILIES, row)?;
     push_text(out, "\n")
 }
 
-fn push_names(alloc: Global, out: &mut Vec<u8>, rows: &[RowId]) -> Result<(), Memory>
+fn push_names(out: &mut Vec<u8>, rows: &[RowId]) -> Result<(), Memory>
     requires { All IsNamed rows.now }
     ensures { OnOk result (out.new.items ≡ out.old.items ++ ended (map row_line rows.now)) }
 {
     for row in rows {
-        push_row(alloc, out, *row)?;
+        push_row(out, *row)?;
     }
     Ok(())
 }
 
 /// Writes how many rows there are, and their names.
-fn push_rows(alloc: Global, out: &mut Vec<u8>, rows: &[RowId]) -> Result<(), Memory>
+fn push_rows(out: &mut Vec<u8>, rows: &[RowId]) -> Result<(), Memory>
     requires { All IsNamed rows.now }
     ensures { OnOk result (out.new.items ≡ out.old.items ++ ended (row_lines rows.now)) }
 {
     push_text(out, "rows")?;
-    push_count(alloc, out, rows.len())?;
-    push_names(alloc, out, rows)
+    push_count(out, rows.len())?;
+    push_names(out, rows)
 }
 
 /// The one text of a certificate in format 2, which is read again as that very certificate: the rows that its leaves name are listed
@@ -56,10 +56,9 @@ pub fn write_second(alloc: Global, certificate: &Certificate) -> Result<Vec<u8>,
     let rows = rows_of(alloc, certificate.nodes.as_slice())?;
     let mut out = Vec::new(alloc);
     push_line(&mut out, b"maxband-certificate 2")?;
-    push_claim::<OneBand>(alloc, &mut out, &certificate.claim, &certificate.timing)?;
-    push_rows(alloc, &mut out, rows.as_slice())?;
+    push_claim::<OneBand>(&mut out, &certificate.claim, &certificate.timing)?;
+    push_rows(&mut out, rows.as_slice())?;
     push_tree(
-        alloc,
         &mut out,
         Naming::Listed(rows.as_slice()),
         certificate.nodes.as_slice(),

@@ -42,7 +42,7 @@ pub trait TimingKind {
         ensures { Gives (λ x. (x.0, x.1.now)) result (text.read line bytes.now) };
 
     /// Writes the lines of a timing at the end.
-    fn push_timing(alloc: Global, out: &mut Vec<u8>, timing: &Self::Timing) -> Result<(), Memory>
+    fn push_timing(out: &mut Vec<u8>, timing: &Self::Timing) -> Result<(), Memory>
         ensures text { OnOk result (out.new.items ≡ out.old.items ++ ended (text.lines timing.now)) }
         ensures held { OnOk result (text.IsHeld timing.now) };
 
@@ -52,7 +52,7 @@ pub trait TimingKind {
         ensures { Gives (λ x. map node_of x.items) result (tree_at (Named table) line bytes.now) };
 
     /// Writes the lines of such a tree at the end.
-    fn push_named_tree(alloc: Global, out: &mut Vec<u8>, nodes: &[CertNode]) -> Result<(), Memory>
+    fn push_named_tree(out: &mut Vec<u8>, nodes: &[CertNode]) -> Result<(), Memory>
         requires { All (IsNodeIn table) (map node_of nodes.now) }
         ensures text { OnOk result (out.new.items ≡ out.old.items ++ ended (tree_lines (Named table) (map node_of nodes.now))) }
         ensures held { OnOk result (All IsHeldNode (map node_of nodes.now)) };
@@ -76,8 +76,8 @@ impl TimingKind for OneBand {
         plan_at(alloc, line, bytes)
     }
 
-    fn push_timing(alloc: Global, out: &mut Vec<u8>, timing: &Timing) -> Result<(), Memory> {
-        push_plan(alloc, out, timing)
+    fn push_timing(out: &mut Vec<u8>, timing: &Timing) -> Result<(), Memory> {
+        push_plan(out, timing)
     }
 
     #[tactic(auto, unfolding(certificate_model::specs::Families::ordinary))]
@@ -86,7 +86,7 @@ impl TimingKind for OneBand {
     }
 
     #[tactic(auto, unfolding(certificate_model::specs::Families::ordinary))]
-    fn push_named_tree(alloc: Global, out: &mut Vec<u8>, nodes: &[CertNode]) -> Result<(), Memory> {
-        push_tree(alloc, out, Naming::Named(&FAMILIES), nodes)
+    fn push_named_tree(out: &mut Vec<u8>, nodes: &[CertNode]) -> Result<(), Memory> {
+        push_tree(out, Naming::Named(&FAMILIES), nodes)
     }
 }

@@ -18,38 +18,31 @@ use certificate_model::CertNode;
 use named_row::{RowId, Weight};
 use narrow_fraction::Memory;
 use quantity_text::{push_bytes, push_exact, push_number, push_text, push_whole};
-use std::alloc::Global;
 
 /// Writes the name of a row, or its place.
-fn push_words(alloc: Global, out: &mut Vec<u8>, names: Naming, row: RowId) -> Result<(), Memory>
+fn push_words(out: &mut Vec<u8>, names: Naming, row: RowId) -> Result<(), Memory>
     requires { HasWords (naming_of names) row }
     ensures { OnOk result (out.new.items ≡ out.old.items ++ line_of (name_words (naming_of names.entry) row)) }
 {
     match names {
-        Naming::Named(families) => push_name(alloc, out, families, row),
-        Naming::Listed(rows) => push_number(alloc, out, place_of_row(rows, row) as u128),
+        Naming::Named(families) => push_name(out, families, row),
+        Naming::Listed(rows) => push_number(out, place_of_row(rows, row) as u128),
     }
 }
 
 /// Writes a multiplier.
-fn push_multiplier(
-    alloc: Global,
-    out: &mut Vec<u8>,
-    form: LeafForm,
-    weight: &Weight,
-) -> Result<(), Memory>
+fn push_multiplier(out: &mut Vec<u8>, form: LeafForm, weight: &Weight) -> Result<(), Memory>
     requires { IsWritable form weight.now }
     ensures { OnOk result (out.new.items ≡ out.old.items ++ multiplier_word form weight.now) }
 {
     match form {
-        LeafForm::Over(denominator) => push_whole(alloc, out, whole_over(denominator, weight.by)),
-        LeafForm::Plain => push_exact(alloc, out, weight.by),
+        LeafForm::Over(denominator) => push_whole(out, whole_over(denominator, weight.by)),
+        LeafForm::Plain => push_exact(out, weight.by),
     }
 }
 
 /// Writes the line of a row and its multiplier.
 fn push_weight(
-    alloc: Global,
     out: &mut Vec<u8>,
     names: Naming,
     form: LeafForm,
@@ -63,14 +56,13 @@ fn push_weight(
     // Its multiplier fits, and its index is one of 32 bits.
     let _fitting = weight.by.fitting();
     let _index = weight.row.index;
-    push_words(alloc, out, names, weight.row)?;
+    push_words(out, names, weight.row)?;
     push_text(out, " ")?;
-    push_multiplier(alloc, out, form, weight)?;
+    push_multiplier(out, form, weight)?;
     push_text(out, "\n")
 }
 
 fn push_weights(
-    alloc: Global,
     out: &mut Vec<u8>,
     names: Naming,
     form: LeafForm,
@@ -82,38 +74,32 @@ fn push_weights(
     ensures held { OnOk result (All IsHeldWeight weights.now) }
 {
     for weight in weights {
-        push_weight(alloc, out, names, form, weight)?;
+        push_weight(out, names, form, weight)?;
     }
     Ok(())
 }
 
 /// Writes how many rows there are after a space, and the end of its line.
-pub(crate) fn push_count(alloc: Global, out: &mut Vec<u8>, count: usize) -> Result<(), Memory>
+pub(crate) fn push_count(out: &mut Vec<u8>, count: usize) -> Result<(), Memory>
     ensures { OnOk result (out.new.items ≡ out.old.items ++ 32 ∷ (decimal count ++ 10 ∷ [])) }
 {
-    push_spaced(alloc, out, count as u128)?;
+    push_spaced(out, count as u128)?;
     push_text(out, "\n")
 }
 
 /// Writes the first line of a leaf with so many rows.
-fn push_head(
-    alloc: Global,
-    out: &mut Vec<u8>,
-    names: Naming,
-    form: LeafForm,
-    count: usize,
-) -> Result<(), Memory>
+fn push_head(out: &mut Vec<u8>, names: Naming, form: LeafForm, count: usize) -> Result<(), Memory>
     ensures { OnOk result (out.new.items ≡ out.old.items ++ ended (line_of (first_words (naming_of names.entry) form count) ∷ [])) }
 {
     match form {
         LeafForm::Over(denominator) => {
             push_text(out, "leaf")?;
-            push_spaced(alloc, out, denominator)?;
-            push_count(alloc, out, count)
+            push_spaced(out, denominator)?;
+            push_count(out, count)
         }
         LeafForm::Plain => {
             push_bytes(out, fractions_key(names))?;
-            push_count(alloc, out, count)
+            push_count(out, count)
         }
     }
 }
@@ -129,62 +115,47 @@ fn form_by(names: Naming, weights: &[Weight]) -> LeafForm
 }
 
 /// Writes the lines of a leaf.
-fn push_leaf(
-    alloc: Global,
-    out: &mut Vec<u8>,
-    names: Naming,
-    weights: &[Weight],
-) -> Result<(), Memory>
+fn push_leaf(out: &mut Vec<u8>, names: Naming, weights: &[Weight]) -> Result<(), Memory>
     requires { IsWritableNode (naming_of names) (LeafOf weights.now) }
     ensures text { OnOk result (out.new.items ≡ out.old.items ++ ended (leaf_lines (naming_of names.entry) (form_by (naming_of names.entry) weights.now) weights.now)) }
     ensures held { OnOk result (All IsHeldWeight weights.now) }
 {
     let form = form_by(names, weights);
-    push_head(alloc, out, names, form, weights.len())?;
-    push_weights(alloc, out, names, form, weights)
+    push_head(out, names, form, weights.len())?;
+    push_weights(out, names, form, weights)
 }
 
 /// Writes the lines of a node.
 #[tactic(auto, unfolding(crate::specs::Namings::node_lines))]
-fn push_node(alloc: Global, out: &mut Vec<u8>, names: Naming, node: &CertNode) -> Result<(), Memory>
+fn push_node(out: &mut Vec<u8>, names: Naming, node: &CertNode) -> Result<(), Memory>
     requires { IsWritableNode (naming_of names) (node_of node.now) }
     ensures text { OnOk result (out.new.items ≡ out.old.items ++ ended (node_lines (naming_of names.entry) (node_of node.now))) }
     ensures held { OnOk result (IsHeldNode (node_of node.now)) }
 {
     match node {
-        CertNode::Split(place) => push_split(alloc, out, *place),
-        CertNode::Leaf(leaf) => push_leaf(alloc, out, names, leaf.multipliers.as_slice()),
+        CertNode::Split(place) => push_split(out, *place),
+        CertNode::Leaf(leaf) => push_leaf(out, names, leaf.multipliers.as_slice()),
     }
 }
 
-fn push_nodes(
-    alloc: Global,
-    out: &mut Vec<u8>,
-    names: Naming,
-    nodes: &[CertNode],
-) -> Result<(), Memory>
+fn push_nodes(out: &mut Vec<u8>, names: Naming, nodes: &[CertNode]) -> Result<(), Memory>
     requires { AreWritable (naming_of names) (map node_of nodes.now) }
     ensures text { OnOk result (out.new.items ≡ out.old.items ++ ended (flat_map (node_lines (naming_of names.entry)) (map node_of nodes.now))) }
     ensures held { OnOk result (All IsHeldNode (map node_of nodes.now)) }
 {
     for node in nodes {
-        push_node(alloc, out, names, node)?;
+        push_node(out, names, node)?;
     }
     Ok(())
 }
 
 /// Writes the lines of a tree, from `tree` to `end`.
-pub fn push_tree(
-    alloc: Global,
-    out: &mut Vec<u8>,
-    names: Naming,
-    nodes: &[CertNode],
-) -> Result<(), Memory>
+pub fn push_tree(out: &mut Vec<u8>, names: Naming, nodes: &[CertNode]) -> Result<(), Memory>
     requires { AreWritable (naming_of names) (map node_of nodes.now) }
     ensures text { OnOk result (out.new.items ≡ out.old.items ++ ended (tree_lines (naming_of names.entry) (map node_of nodes.now))) }
     ensures held { OnOk result (All IsHeldNode (map node_of nodes.now)) }
 {
     push_line(out, b"tree")?;
-    push_nodes(alloc, out, names, nodes)?;
+    push_nodes(out, names, nodes)?;
     push_line(out, b"end")
 }

@@ -13,39 +13,29 @@ use std::alloc::{AllocError, Global};
 use time_space::Timing;
 
 /// Writes a number after a space.
-pub(crate) fn push_spaced(alloc: Global, out: &mut Vec<u8>, number: u128) -> Result<(), Memory>
+pub(crate) fn push_spaced(out: &mut Vec<u8>, number: u128) -> Result<(), Memory>
     ensures { OnOk result (out.new.items ≡ out.old.items ++ 32 ∷ decimal number) }
 {
     push_text(out, " ")?;
-    push_number(alloc, out, number)
+    push_number(out, number)
 }
 
 /// Writes a line of a key and numbers.
-fn push_spelled(
-    alloc: Global,
-    out: &mut Vec<u8>,
-    key: &[u8],
-    numbers: &[u128],
-) -> Result<(), Memory>
+fn push_spelled(out: &mut Vec<u8>, key: &[u8], numbers: &[u128]) -> Result<(), Memory>
     ensures { OnOk result (out.new.items ≡ out.old.items ++ (spelled key.now numbers.now ++ 10 ∷ [])) }
 {
     push_bytes(out, key)?;
     for number in numbers {
-        push_spaced(alloc, out, *number)?;
+        push_spaced(out, *number)?;
     }
     push_text(out, "\n")
 }
 
 /// Writes a line of a key and numbers at the end.
-pub fn push_numbers(
-    alloc: Global,
-    out: &mut Vec<u8>,
-    key: &[u8],
-    numbers: &[u128],
-) -> Result<(), AllocError>
+pub fn push_numbers(out: &mut Vec<u8>, key: &[u8], numbers: &[u128]) -> Result<(), AllocError>
     ensures { OnOk result (out.new.items ≡ out.old.items ++ (spelled key.now numbers.now ++ 10 ∷ [])) }
 {
-    match push_spelled(alloc, out, key, numbers) {
+    match push_spelled(out, key, numbers) {
         Ok(()) => Ok(()),
         Err(_) => Err(AllocError),
     }
@@ -70,21 +60,21 @@ fn first_of(timing: &Timing, dir: Dir) -> u128
 }
 
 /// Writes the seven lines of a timing's numbers that speak of no band at the end.
-pub fn push_base(alloc: Global, out: &mut Vec<u8>, timing: &Timing) -> Result<(), Memory>
+pub fn push_base(out: &mut Vec<u8>, timing: &Timing) -> Result<(), Memory>
     ensures text { OnOk result (out.new.items ≡ out.old.items ++ ended (base_lines timing.now)) }
     ensures held { OnOk result (IsHeld timing.now) }
 {
+    let alloc = *out.allocator();
     // Its bands are below the limit too.
     let _bands = [timing.band(Dir::Outbound), timing.band(Dir::Inbound)];
     let patterns = widened(alloc, timing.patterns())?;
-    push_numbers(alloc, out, b"grid", &[timing.grid()])?;
-    push_numbers(alloc, out, b"unit", &[timing.unit()])?;
-    push_numbers(alloc, out, b"pattern", patterns.as_slice())?;
-    push_numbers(alloc, out, b"red", timing.reds())?;
-    push_numbers(alloc, out, b"run_out", timing.run_out())?;
-    push_numbers(alloc, out, b"run_in", timing.run_in())?;
+    push_numbers(out, b"grid", &[timing.grid()])?;
+    push_numbers(out, b"unit", &[timing.unit()])?;
+    push_numbers(out, b"pattern", patterns.as_slice())?;
+    push_numbers(out, b"red", timing.reds())?;
+    push_numbers(out, b"run_out", timing.run_out())?;
+    push_numbers(out, b"run_in", timing.run_in())?;
     push_numbers(
-        alloc,
         out,
         b"first",
         &[
@@ -96,13 +86,12 @@ pub fn push_base(alloc: Global, out: &mut Vec<u8>, timing: &Timing) -> Result<()
 }
 
 /// Writes the eight lines of a timing's numbers at the end.
-pub(crate) fn push_plan(alloc: Global, out: &mut Vec<u8>, timing: &Timing) -> Result<(), Memory>
+pub(crate) fn push_plan(out: &mut Vec<u8>, timing: &Timing) -> Result<(), Memory>
     ensures text { OnOk result (out.new.items ≡ out.old.items ++ ended (plan_lines timing.now)) }
     ensures held { OnOk result (IsHeld timing.now) }
 {
-    push_base(alloc, out, timing)?;
+    push_base(out, timing)?;
     push_numbers(
-        alloc,
         out,
         b"band",
         &[timing.band(Dir::Outbound), timing.band(Dir::Inbound)],
@@ -116,8 +105,8 @@ pub fn write_timing(alloc: Global, timing: &Timing) -> Result<Vec<u8>, Memory>
     ensures read_back { IfOk result (λ v. timing_of v.items ≡ Ok timing.now) }
 {
     let mut out = Vec::new(alloc);
-    push_numbers(alloc, &mut out, b"maxband-timing 1", &[])?;
-    push_plan(alloc, &mut out, timing)?;
-    push_numbers(alloc, &mut out, b"end", &[])?;
+    push_numbers(&mut out, b"maxband-timing 1", &[])?;
+    push_plan(&mut out, timing)?;
+    push_numbers(&mut out, b"end", &[])?;
     Ok(out)
 }

@@ -372,21 +372,21 @@ fn sites_of_refused_operations(rt: HostRuntime) -> Result<(), Fail> {
 /// The name of the column of this number, of two signals.
 fn column_name(alloc: Global, number: u32) -> Result<Vec<u8>, Memory> {
     let mut name = Vec::new(alloc);
-    push_column(alloc, &mut name, 2, number)?;
+    push_column(&mut name, 2, number)?;
     Ok(name)
 }
 
 /// The name of a place of a row, with two signals.
 fn place_name(alloc: Global, place: Place) -> Result<Vec<u8>, Memory> {
     let mut name = Vec::new(alloc);
-    push_place(alloc, &mut name, 2, place)?;
+    push_place(&mut name, 2, place)?;
     Ok(name)
 }
 
 /// The name of a row over a table of families.
 fn row_name(alloc: Global, names: &[FamilyName], row: RowId) -> Result<Vec<u8>, Memory> {
     let mut name = Vec::new(alloc);
-    push_row(alloc, &mut name, names, row)?;
+    push_row(&mut name, names, row)?;
     Ok(name)
 }
 

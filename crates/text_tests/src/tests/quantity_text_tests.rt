@@ -111,14 +111,14 @@ fn written(alloc: Global) -> Result<Vec<u8>, Memory> {
     push_bytes(&mut out, b"cut ")?;
     let value = Frac::whole(7);
     if value.num() >= 0 && value.den() <= 1000 {
-        push_decimal(alloc, &mut out, value, 3)?;
+        push_decimal(&mut out, value, 3)?;
     }
     push_text(&mut out, " of ")?;
-    push_exact(alloc, &mut out, value)?;
+    push_exact(&mut out, value)?;
     push_text(&mut out, ", signal ")?;
-    push_number(alloc, &mut out, 24)?;
+    push_number(&mut out, 24)?;
     push_text(&mut out, " at ")?;
-    push_whole(alloc, &mut out, -10)?;
+    push_whole(&mut out, -10)?;
     Ok(out)
 }
 
