@@ -22,3 +22,13 @@ pub five_pushed : {A : Type 0} (start one two three four five v w x y z : List A
     → five ≡ start ++ (v ++ (w ++ (x ++ (y ++ z))))
 five_pushed start one two three four five v w x y z p q r s t =
     two_pushed start one five v (w ++ (x ++ (y ++ z))) p (four_pushed one two three four five w x y z q r s t)
+
+pub six_pushed : {A : Type 0} (start one two three four five six u v w x y z : List A) → one ≡ start ++ u → two ≡ one ++ v → three ≡ two ++ w → four ≡ three ++ x → five ≡ four ++ y → six ≡ five ++ z
+    → six ≡ start ++ (u ++ (v ++ (w ++ (x ++ (y ++ z)))))
+six_pushed start one two three four five six u v w x y z p q r h i j =
+    two_pushed start one six u (v ++ (w ++ (x ++ (y ++ z)))) p (five_pushed one two three four five six v w x y z q r h i j)
+
+pub eight_pushed : {A : Type 0} (start one two three four five six seven eight s t u v w x y z : List A) → one ≡ start ++ s → two ≡ one ++ t → three ≡ two ++ u → four ≡ three ++ v → five ≡ four ++ w → six ≡ five ++ x → seven ≡ six ++ y → eight ≡ seven ++ z
+    → eight ≡ start ++ (s ++ (t ++ (u ++ (v ++ (w ++ (x ++ (y ++ z)))))))
+eight_pushed start one two three four five six seven eight s t u v w x y z p q r h i j k l =
+    two_pushed start one eight s (t ++ (u ++ (v ++ (w ++ (x ++ (y ++ z)))))) p (two_pushed one two eight t (u ++ (v ++ (w ++ (x ++ (y ++ z))))) q (six_pushed two three four five six seven eight u v w x y z r h i j k l))

@@ -1,8 +1,8 @@
 use Rattle.std.proofs.lemmas.Result.{on_ok_weaker}
 use Rattle.diagram_draw.specs.Pages.{about_text}
-use Rattle.diagram_draw.proofs.Chains.{two_written}
+use Rattle.quantity_text.proofs.Pushed.{two_pushed}
 use Rattle.diagram_draw.proofs.page.push_about.Goals as goal
 
 pub returns : goal.returns
 unfolding about_text
-returns c = on_ok_weaker c.push_signals_about.result (two_written _ _ _ _ _ c.in_ok-push_facts.ensures) c.push_signals_about.ensures
+returns c = on_ok_weaker c.push_signals_about.result (two_pushed _ _ _ _ _ c.in_ok-push_facts.ensures) c.push_signals_about.ensures
