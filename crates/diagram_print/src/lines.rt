@@ -63,7 +63,6 @@ fn push_open(
     requires { StopsAt (λ site. IsBoxOf artery.now site.area) stop.now }
     ensures { OnOk result (out.new.items ≡ out.old.items ++ open_lines (table_of names.now) (count artery.now) (option_map (λ t. t.items) timing) bound stop.now) }
 {
-    let alloc = *out.allocator();
     push_text(out, "verdict open\n")?;
     push_stop_lines(out, artery, names, stop)?;
     push_bound(out, bound)?;
