@@ -68,7 +68,7 @@ fn push_end(out: &mut Vec<u8>, end: HalfEnd) -> Result<(), Memory>
     ensures { OnOk result (out.new.items ≡ out.old.items ++ end_line end) }
 {
     match end {
-        HalfEnd::Uneven { signal } => { push_number_line(out, "uneven signal ", signal as u128) }
+        HalfEnd::Uneven { signal } => push_number_line(out, "uneven signal ", signal as u128),
         HalfEnd::Unequal { link } => push_number_line(out, "unequal link ", link as u128),
         HalfEnd::TooFine { ticks } => push_number_line(out, "ticks ", ticks),
     }

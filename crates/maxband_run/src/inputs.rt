@@ -49,10 +49,7 @@ fn bytes_of<T: Readable, F: Files>(
     };
     match read_whole(alloc, files, name, T::most_bytes()) {
         Ok(bytes) => Ok(bytes),
-        Err(ReadEnd::ReadFault) => Err(Unread::Told(told(
-            Cause::ReadFault { file: place },
-            line.into_bytes(),
-        ))),
+        Err(ReadEnd::ReadFault) => Err(Unread::Told(told(Cause::ReadFault { file: place }, line))),
         Err(ReadEnd::TooLong) => Err(too_long(alloc, name, place)),
         Err(ReadEnd::Memory) => Err(Unread::Memory),
     }

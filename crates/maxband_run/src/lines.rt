@@ -213,12 +213,22 @@ pub fn words_line(alloc: Global) -> Result<String, AllocError>
 /// What the line of a file that couldn't be read begins with.
 const CANNOT_READ: &str = "cannot read ";
 
-/// The line of a file that couldn't be read.
-pub fn cannot_read_line(alloc: Global, name: &str) -> Result<String, AllocError>
-    ensures { IfOk result (λ text. string_bytes text ≡ cannot_read_line name.now) }
+/// Writes the line of a file that couldn't be read.
+fn push_cannot_read(out: &mut Vec<u8>, name: &str) -> Result<(), Memory>
+    ensures { OnOk result (out.new.items ≡ out.old.items ++ cannot_read_line name.now) }
 {
-    let begin = CANNOT_READ;
-    format!(in alloc; "{begin}{name}\n")
+    push_text(out, CANNOT_READ)?;
+    push_text(out, name)?;
+    push_text(out, "\n")
+}
+
+/// The line of a file that couldn't be read.
+pub fn cannot_read_line(alloc: Global, name: &str) -> Result<Vec<u8>, Memory>
+    ensures { IfOk result (λ line. line.items ≡ cannot_read_line name.now) }
+{
+    let mut line = Vec::new(alloc);
+    push_cannot_read(&mut line, name)?;
+    Ok(line)
 }
 
 /// How many bytes that line has.

@@ -43,6 +43,7 @@ pub record AreWords (from factor other : SmallParts) : Type 0 where
   pub part : SFits w64 (factor.top *ℤ other.top)
   pub below : factor.bottom * other.bottom < 2 ^ 63
   pub bottom : from.bottom < 2 ^ 63
+  pub under : factor.bottom * other.bottom * from.bottom < 2 ^ 63
 
 pub small_words : (from factor other : SmallParts) → AreSmallParts from → AreSmallParts factor → AreSmallParts other → AreWords from factor other
 small_words from factor other f n o =
@@ -55,6 +56,7 @@ small_words from factor other f n o =
       part = fits_i64 (factor.top *ℤ other.top) (rw (unsigned_abs-mul factor.top other.top) (omega arith));
       below = omega arith;
       bottom = omega (arith, f.bottom);
+      under = omega (arith, mul-lt (factor.bottom * other.bottom) from.bottom (2 ^ 40) (2 ^ 20) q f.bottom);
     }
 
 pub parts_small : (p : SmallParts) → AreSmallParts p → IsSmall (2 ^ 42) (over p.top p.bottom)

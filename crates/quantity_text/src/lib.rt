@@ -2,7 +2,7 @@
 //!
 //! A text is seen as the list of its bytes and a `Frac` as the rational number that it is. `specs/` has the grammars:
 //! `quantity_of` gives what a quantity means, `exact_spelling` is the one text of a fraction, and `decimal_spelling`
-//! cuts it at a place. Begin with `parse_quantity` for what users write, and with `exact_text` for what is printed.
+//! cuts it at a place. Begin with `parse_quantity` for what users write, and with `push_exact` for what is printed.
 //!
 //! `exact_text` writes the one spelling of a fraction and `parse_exact` reads just that, so that `2/4`, `3/1`, `-0` and `01` are
 //! none; `parse_quantity` reads the spellings that a description may use. Each answers exactly by its grammar. What `exact_string`
