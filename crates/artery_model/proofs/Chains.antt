@@ -1,5 +1,5 @@
 -- Refusals of a list of tests that are made one after another.
-use Rattle.std.proofs.Common.{◌≡◌, List, [], ◌∷◌, Option, None, Some, Result, refl}
+use Rattle.std.proofs.Common.{◌≡◌, List, [], ◌∷◌, Option, None, Some, Result, Bool, true, false, ◌&&◌, ◌∙◌, refl}
 use Rattle.artery_model.specs.Faults.{Fault, first_fault, Names, Judges}
 use Rattle.artery_model.specs.declared.kind.Flaw.{Flaw}
 use Rattle.artery_model.specs.declared.kind.Flaw.TheVariants.{Refused, Memory}
@@ -23,3 +23,11 @@ last_step (Some f) = refl
 -- the last test decides
 pub last_judged : {X : Type 0} (r : Result X Flaw) (f : Option Fault) → Judges r f → Judges r (first_fault (f ∷ []))
 last_judged r f h = rw (last_step f) h
+
+-- ---- two tests joined by `&&`, as the code makes them: the second decides where the first holds
+pub and_then : (v a b : Bool) → a ≡ true → v ≡ b → v ≡ (a && b)
+and_then v a b p e = rw p e
+
+-- and otherwise it isn't made
+pub and_else : (v a b : Bool) → a ≡ false → v ≡ a → v ≡ (a && b)
+and_else v a b p e = rw p (e ∙ p)

@@ -1,5 +1,5 @@
 -- Names among the names that were seen.
-use Rattle.std.proofs.Common.{◌≡◌, ℕ, suc, ◌+◌, ◌<◌, List, [], ◌∷◌, ◌++◌, refl, sym, ◌∙◌, ap, map, Bor, nat_eq, ◌||◌, Bool, true, false, true≢false, not, length, drop, slice_index_or, Some, drop-cons, arith}
+use Rattle.std.proofs.Common.{◌≡◌, ℕ, suc, ◌+◌, ◌<◌, List, [], ◌∷◌, ◌++◌, refl, sym, ◌∙◌, ap, map, Bor, nat_eq, ◌||◌, Bool, true, false, true≢false, if◌then◌else◌, not, length, drop, slice_index_or, Some, drop-cons, arith}
 use Rattle.std.specs.Prelude.{codes}
 use Rattle.std.specs.List.{list_any}
 use Rattle.std.specs.Cmp.Lexicographic.{pointwise}
@@ -17,6 +17,11 @@ among_refs (k ∷ ks) name = ap (λ b. pointwise nat_eq name k.now || b) (among_
 pub map_more : (ks : List (Bor (List ℕ))) (k : Bor (List ℕ)) → map (λ k. k.now) (ks ++ k ∷ []) ≡ map (λ k. k.now) ks ++ k.now ∷ []
 map_more [] k = refl
 map_more (x ∷ ks) k = ap (λ xs. x.now ∷ xs) (map_more ks k)
+
+-- a name that is new goes last
+pub goes_last : (ks more : List (Bor (List ℕ))) (seen new : Bool) (k : Bor (List ℕ)) → new ≡ not seen → more ≡ (if seen then ks else ks ++ k ∷ []) → new ≡ true → map (λ k. k.now) more ≡ map (λ k. k.now) ks ++ k.now ∷ []
+goes_last ks more true new k e f t = absurd (true≢false (sym t ∙ e))
+goes_last ks more false new k e f t = rw f (map_more ks k)
 
 drop_at : (signals : List Signal) (k : ℕ) (s : Signal) → k < length signals → s ≡ slice_index_or signals k s → drop k signals ≡ s ∷ drop (k + 1) signals
 drop_at signals k s lt at =

@@ -1,5 +1,5 @@
 -- An artery with no fault is valid.
-use Rattle.std.proofs.Common.{◌≡◌, ℕ, zero, suc, ℤ, pos, negsuc, ◌+◌, ◌-◌, ◌<◌, ◌≤◌, ◌==◌, ◌≤ℤ◌, ◌*ℤ◌, List, [], ◌∷◌, length, slice_index_or, Option, None, Some, Bool, true, false, true≢false, ◌&&◌, ◌||◌, not, if◌then◌else◌, nat_le, nat_lt, refl, sym, arith, le_antisymm, not, subst}
+use Rattle.std.proofs.Common.{◌≡◌, ℕ, zero, suc, ℤ, pos, negsuc, ◌+◌, ◌-◌, ◌<◌, ◌≤◌, ◌==◌, ◌≤ℤ◌, ◌*ℤ◌, List, [], ◌∷◌, length, slice_index_or, Option, None, Some, Bool, true, false, true≢false, ◌&&◌, ◌||◌, not, if◌then◌else◌, nat_le, nat_lt, refl, sym, arith, not, subst}
 use Rattle.std.specs.Prelude.{codes}
 use Rattle.std.proofs.lemmas.Bool.Decides.{nat_tests}
 use Rattle.std.proofs.lemmas.Int.{ints}

@@ -12,7 +12,6 @@ use progression::Signal;
 use std::alloc::Global;
 
 /// Notes a name, and answers whether it is new. The only error is want of memory.
-#[tactic(auto, using(crate::proofs::Repeats::among_refs, crate::proofs::Repeats::map_more))]
 fn note_name<'a>(seen: &mut IndexSet<&'a str>, name: &'a str) -> Result<bool, Flaw>
     ensures repeated { IfOk result (λ new. new ≡ not (list_any (λ t. is_text name.now t) (map (λ k. k.now) seen.old.keys))) }
     ensures added { IfOk result (λ new. new ≡ true → map (λ k. k.now) seen.new.keys ≡ map (λ k. k.now) seen.old.keys ++ name.now ∷ []) }

@@ -1,9 +1,9 @@
 //! Values outside their limits.
 
-ghost use Rattle.std.specs.Prelude.{◌≡◌, ◌==◌, nat_le, not, ◌&&◌, length};
+ghost use Rattle.std.specs.Prelude.{◌≡◌, ◌==◌, nat_le, not, ◌&&◌, length, unsigned_abs};
 ghost use Rattle.std.specs.List.{list_all};
 ghost use Rattle.rational_theory.specs.Rational.{whole};
-ghost use Rattle.artery_model.specs.Bounds.{least_distance, most_distance, least_speed, most_speed, least_signals, most_signals_in, least_share, most_share_in};
+ghost use Rattle.artery_model.specs.Bounds.{least_distance, most_distance, least_speed, most_speed, least_signals, most_signals_in, least_share, most_share_in, most_numerator, most_denominator};
 ghost use Rattle.artery_model.specs.Faults.{first_fault, unless, each_numbered, link_place, Judges};
 ghost use Rattle.artery_model.specs.Limits.{within, in_range, is_name, is_name_if_there, pair_ranges, head_ranges, signal_ranges, change_ranges, link_ranges, range_tests};
 
@@ -19,15 +19,26 @@ use narrow_fraction::Frac;
 use progression::{Head, Link, Pair, Signal, Text};
 use std::alloc::Global;
 
+/// Whether a number lies between two, both among them.
+fn is_between(low: u32, high: u32, number: u32) -> bool
+    ensures { result ≡ in_range low high number }
+{
+    low <= number && number <= high
+}
+
+/// Whether a numerator is at most `MOST_NUMERATOR` in size and the denominator at most `MOST_DENOMINATOR`.
+fn is_small(value: Frac) -> bool
+    ensures { result ≡ (nat_le (unsigned_abs value.num) most_numerator && nat_le value.den most_denominator) }
+{
+    value.num().unsigned_abs() <= MOST_NUMERATOR && value.den().unsigned_abs() <= MOST_DENOMINATOR
+}
+
 /// Whether a quantity lies between two whole numbers, both among them, its numerator being at most `MOST_NUMERATOR` in
 /// size and its denominator at most `MOST_DENOMINATOR`.
 pub fn is_within(low: i64, high: i64, value: Frac) -> bool
     ensures { result ≡ within (whole low) (whole high) value }
 {
-    value.num().unsigned_abs() <= MOST_NUMERATOR
-        && value.den().unsigned_abs() <= MOST_DENOMINATOR
-        && Frac::whole(low) <= value
-        && value <= Frac::whole(high)
+    is_small(value) && Frac::whole(low) <= value && value <= Frac::whole(high)
 }
 
 fn is_plain(byte: u8) -> bool
@@ -96,7 +107,7 @@ fn check_head(alloc: Global, head: &Head) -> Result<(), Flaw>
 {
     let named = is_name_if_there(&head.name);
     check(alloc, named, Kind::OutOfRange, "artery.name")?;
-    let parts = LEAST_PARTS <= head.parts && head.parts <= MOST_PARTS;
+    let parts = is_between(LEAST_PARTS, MOST_PARTS, head.parts);
     check(alloc, parts, Kind::OutOfRange, "artery.parts")?;
     check_pair(alloc, LEAST_CYCLE, MOST_CYCLE, head.cycle, "artery.cycle")?;
     let ratio = is_within(LEAST_RATIO, MOST_RATIO, head.ratio);
@@ -118,7 +129,7 @@ fn check_signal_ranges(
     ensures { Judges result (signal_ranges parts number signal.now) }
 {
     let kind = Kind::OutOfRange;
-    let red = 1 <= signal.red && signal.red <= parts.saturating_sub(1);
+    let red = is_between(1, parts.saturating_sub(1), signal.red);
     check_signal(alloc, is_name(signal.name.as_str()), kind, number, "name")?;
     check_signal(alloc, red, kind, number, "red")?;
     check_signal(alloc, signal.left_out < parts, kind, number, "left_out")?;
@@ -140,7 +151,7 @@ fn check_distance(alloc: Global, distance: u32, link: usize, key: &str) -> Resul
     ensures { Judges result (unless (in_range least_distance most_distance distance) Kind.OutOfRange (link_place link key.now)) }
 {
     let place = link_place(alloc, link, key)?;
-    let passes = LEAST_DISTANCE <= distance && distance <= MOST_DISTANCE;
+    let passes = is_between(LEAST_DISTANCE, MOST_DISTANCE, distance);
     check(alloc, passes, Kind::OutOfRange, place.as_str())
 }
 
@@ -199,7 +210,7 @@ pub(crate) fn check_ranges(
 ) -> Result<(), Flaw>
     ensures { Judges result (first_fault (range_tests (record { head = head.now; signals = signals.now; links = links.now }))) }
 {
-    let version = FIRST_VERSION <= head.version && head.version <= SECOND_VERSION;
+    let version = is_between(FIRST_VERSION, SECOND_VERSION, head.version);
     check(alloc, version, Kind::OutOfRange, "version")?;
     let count = is_count(head.version, signals.len());
     check(alloc, count, Kind::OutOfRange, "signal")?;
