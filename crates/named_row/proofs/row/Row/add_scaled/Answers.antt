@@ -1,4 +1,4 @@
-use Rattle.std.proofs.Common.{length, sym, ◌∙◌, ap, ap₂}
+use Rattle.std.proofs.Common.{◌<◌, length, sym, ◌∙◌, ap, ap₂, subst}
 use Rattle.std.proofs.lemmas.List.{with_items_is}
 use Rattle.rational_theory.specs.Rational.{◌+ℚ◌, ◌*ℚ◌}
 use Rattle.rational_theory.specs.Rows.{add, scale}
@@ -66,3 +66,48 @@ returns-in-Err-add_number-clause-left c =
     let e = w ∙ c.in_default.ensures.sum ∙ ap₂ (λ x y. add x (scale c.args.by y)) a b in
     let q = refused_there _ _ _ _ _ (attempt_err _ _ _ c.in-Err-add_number.ensures) in
     left_is _ c.args.by c.args.other.now c.args.self.now _ _ (left_at_bound c.args.by c.args.self.now.coefs c.args.other.now.coefs _ _ q e) p
+
+pub invariant_of-self : goal.invariant_of-self
+invariant_of-self c =
+    let w = with_items_is c.self.inside.coefs c.add_cells.new.coefs (c.in-Err.ensures.width ∙ ap length c.deref_mut.ensures.value ∙ sym c.self.inside.coefs.ok.0) in
+    subst (λ n. n < 4294967296) (sym (ap length w ∙ c.in-Err.ensures.width ∙ ap length c.deref_mut.ensures.value)) c.self.invariant
+
+pub invariant_of-self-in-Ok : goal.invariant_of-self-in-Ok
+invariant_of-self-in-Ok c =
+    let w = with_items_is c.self.inside.coefs c.add_cells.new.coefs (c.in_default.ensures.width ∙ ap length c.deref_mut.ensures.value ∙ sym c.self.inside.coefs.ok.0) in
+    subst (λ n. n < 4294967296) (sym (ap length w ∙ c.in_default.ensures.width ∙ ap length c.deref_mut.ensures.value)) c.self.invariant
+
+pub invariant_of-self-in-Err-add_number : goal.invariant_of-self-in-Err-add_number
+invariant_of-self-in-Err-add_number c =
+    let w = with_items_is c.self.inside.coefs c.add_cells.new.coefs (c.in_default.ensures.width ∙ ap length c.deref_mut.ensures.value ∙ sym c.self.inside.coefs.ok.0) in
+    subst (λ n. n < 4294967296) (sym (ap length w ∙ c.in_default.ensures.width ∙ ap length c.deref_mut.ensures.value)) c.self.invariant
+
+pub returns-in-Err-clause-width : goal.returns-in-Err-clause-width
+returns-in-Err-clause-width c =
+    let a = c.deref_mut.ensures.value ∙ ap (λ (t : Sheet). t.coefs) c.self.view_is in
+    let w = with_items_is c.self.inside.coefs c.add_cells.new.coefs (c.in-Err.ensures.width ∙ ap length c.deref_mut.ensures.value ∙ sym c.self.inside.coefs.ok.0) in
+    ap length w ∙ c.in-Err.ensures.width ∙ ap length a
+
+pub returns-in-Ok-clause-width : goal.returns-in-Ok-clause-width
+returns-in-Ok-clause-width c =
+    let a = c.deref_mut.ensures.value ∙ ap (λ (t : Sheet). t.coefs) c.self.view_is in
+    let w = with_items_is c.self.inside.coefs c.add_cells.new.coefs (c.in_default.ensures.width ∙ ap length c.deref_mut.ensures.value ∙ sym c.self.inside.coefs.ok.0) in
+    ap length w ∙ c.in_default.ensures.width ∙ ap length a
+
+pub returns-in-Err-add_number-clause-width : goal.returns-in-Err-add_number-clause-width
+returns-in-Err-add_number-clause-width c =
+    let a = c.deref_mut.ensures.value ∙ ap (λ (t : Sheet). t.coefs) c.self.view_is in
+    let w = with_items_is c.self.inside.coefs c.add_cells.new.coefs (c.in_default.ensures.width ∙ ap length c.deref_mut.ensures.value ∙ sym c.self.inside.coefs.ok.0) in
+    ap length w ∙ c.in_default.ensures.width ∙ ap length a
+
+pub returns-in-Ok-clause-unspent : goal.returns-in-Ok-clause-unspent
+returns-in-Ok-clause-unspent c = ap (λ (t : Sheet). t.spent) c.self.view_is ∙ c.requires.unspent
+
+pub add_cells-requires-clause-same : goal.add_cells-requires-clause-same
+add_cells-requires-clause-same c =
+    let a = c.deref_mut.ensures.value ∙ ap (λ (t : Sheet). t.coefs) c.self.view_is in
+    let b = c.deref.ensures.value ∙ ap (λ (t : Sheet). t.coefs) c.other.view_is in
+    ap length b ∙ c.requires.width ∙ sym (ap length a)
+
+pub add_cells-requires-clause-width : goal.add_cells-requires-clause-width
+add_cells-requires-clause-width c = subst (λ n. n < 4294967296) (sym (ap length c.deref_mut.ensures.value)) c.self.invariant
