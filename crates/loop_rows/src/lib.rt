@@ -7,7 +7,7 @@
 //! point meets its rows that counts for its `Problem`; `Progression` is the problem of the timings of one artery. Which rows
 //! there are, and what they say, is defined in `linear_theory` (`specs/Rows.antt`, `specs/Names.antt`); `laws` says over
 //! those definitions alone what they promise. The families are those of `ArteryFamily`, each by one name, here and there; a new one
-//! is a variant with its line in each table of `families.rt` and an arm of `with_family`.
+//! is a variant with its line in each table of `families.rt` and an arm of `family_of`.
 //!
 //! For the rows of another linear program: families of another `Problem`, whose rows `fill_cells` makes and `fill_by` asks for; a
 //! `RowTable`, whose rows `next_in` names in their order; a `RowSource`, whose rows `sum_of` adds up. Those of an artery are the

@@ -1,11 +1,12 @@
 //! The rows of an artery by their names.
 
-ghost use Rattle.std.specs.Prelude.{◌≡◌, ◌↔◌, ◌+◌, IsTrue, IfSome, None, length, true, false};
+ghost use Rattle.std.specs.Prelude.{◌≡◌, ◌↔◌, ◌+◌, ℕ, IsTrue, IfSome, MatchOption, None, length, true, false};
 ghost use Rattle.progression.specs.Street.{count};
 ghost use Rattle.linear_theory.specs.Places.{width};
 ghost use Rattle.linear_theory.specs.Boxes.{Area, IsBoxOf};
 ghost use Rattle.linear_theory.specs.Rows.{goal_form};
-ghost use Rattle.linear_theory.specs.Names.{HasRow, form_of, name_of};
+ghost use Rattle.linear_theory.specs.Names.{HasRow, NoRow, form_of, name_of};
+ghost use Rattle.loop_rows.specs.Families.{number_of, row_in};
 ghost use Rattle.loop_rows.specs.Writing.{written};
 ghost use Rattle.linear_theory.specs.Names.{last_family};
 ghost use Rattle.linear_theory.proofs.Families.{family_most, index_most};
@@ -25,35 +26,34 @@ use search_box::SearchBox;
 /// The greatest number of a family.
 const LAST_FAMILY: u8 = 21;
 
-/// What a call gives for the family of a number, which is its first argument. Where no family has the number, the call isn't
-/// made, and the last expression stands in its place.
-macro_rules! with_family {
-    ($number:expr, $call:ident($($given:expr),*), $none:expr) => {
-        match $number {
-            1 => $call(&ArteryFamily::WaitRow(Dir::Outbound), $($given),*),
-            2 => $call(&ArteryFamily::WaitRow(Dir::Inbound), $($given),*),
-            3 => $call(&ArteryFamily::FastRow(Dir::Outbound), $($given),*),
-            4 => $call(&ArteryFamily::FastRow(Dir::Inbound), $($given),*),
-            5 => $call(&ArteryFamily::SlowRow(Dir::Outbound), $($given),*),
-            6 => $call(&ArteryFamily::SlowRow(Dir::Inbound), $($given),*),
-            7 => $call(&ArteryFamily::RiseRow(Dir::Outbound), $($given),*),
-            8 => $call(&ArteryFamily::RiseRow(Dir::Inbound), $($given),*),
-            9 => $call(&ArteryFamily::DropRow(Dir::Outbound), $($given),*),
-            10 => $call(&ArteryFamily::DropRow(Dir::Inbound), $($given),*),
-            11 => $call(&ArteryFamily::CycleLowRow, $($given),*),
-            12 => $call(&ArteryFamily::CycleHighRow, $($given),*),
-            13 => $call(&ArteryFamily::RatioRow, $($given),*),
-            14 => $call(&ArteryFamily::LoopLowRow, $($given),*),
-            15 => $call(&ArteryFamily::LoopHighRow, $($given),*),
-            16 => $call(&ArteryFamily::TurnLowRow, $($given),*),
-            17 => $call(&ArteryFamily::TurnHighRow, $($given),*),
-            18 => $call(&ArteryFamily::LeastRow(Dir::Outbound), $($given),*),
-            19 => $call(&ArteryFamily::LeastRow(Dir::Inbound), $($given),*),
-            20 => $call(&ArteryFamily::EqualLowRow, $($given),*),
-            21 => $call(&ArteryFamily::EqualHighRow, $($given),*),
-            _ => $none,
-        }
-    };
+/// The family of a number, or None where no family has it.
+fn family_of(number: u8) -> Option<ArteryFamily>
+    ensures { MatchOption result ((i : ℕ) → name_of number i ≡ NoRow) (λ f. (number_of f ≡ number) × ((i : ℕ) → name_of number i ≡ row_in f i)) }
+{
+    match number {
+        1 => Some(ArteryFamily::WaitRow(Dir::Outbound)),
+        2 => Some(ArteryFamily::WaitRow(Dir::Inbound)),
+        3 => Some(ArteryFamily::FastRow(Dir::Outbound)),
+        4 => Some(ArteryFamily::FastRow(Dir::Inbound)),
+        5 => Some(ArteryFamily::SlowRow(Dir::Outbound)),
+        6 => Some(ArteryFamily::SlowRow(Dir::Inbound)),
+        7 => Some(ArteryFamily::RiseRow(Dir::Outbound)),
+        8 => Some(ArteryFamily::RiseRow(Dir::Inbound)),
+        9 => Some(ArteryFamily::DropRow(Dir::Outbound)),
+        10 => Some(ArteryFamily::DropRow(Dir::Inbound)),
+        11 => Some(ArteryFamily::CycleLowRow),
+        12 => Some(ArteryFamily::CycleHighRow),
+        13 => Some(ArteryFamily::RatioRow),
+        14 => Some(ArteryFamily::LoopLowRow),
+        15 => Some(ArteryFamily::LoopHighRow),
+        16 => Some(ArteryFamily::TurnLowRow),
+        17 => Some(ArteryFamily::TurnHighRow),
+        18 => Some(ArteryFamily::LeastRow(Dir::Outbound)),
+        19 => Some(ArteryFamily::LeastRow(Dir::Inbound)),
+        20 => Some(ArteryFamily::EqualLowRow),
+        21 => Some(ArteryFamily::EqualHighRow),
+        _ => None,
+    }
 }
 
 /// Fills the row of this index of a family, where the artery has it, and answers whether it has. Each point that counts for
@@ -92,7 +92,10 @@ pub fn fill_row(artery: &Artery, area: &SearchBox, row: RowId, into: &mut Row) -
     ensures same { result ≡ false → into.new ≡ into.old }
     ensures width { length into.new.coefs ≡ width (count artery.now) }
 {
-    with_family!(row.family, fill_by(artery, area, row, into), false)
+    match family_of(row.family) {
+        Some(family) => fill_by(&family, artery, area, row, into),
+        None => false,
+    }
 }
 
 /// The bound that the row of this name has for a box, where it depends on the box; its other numbers never do. None where the
@@ -137,7 +140,10 @@ pub fn has_by<F: Family>(family: &F, artery: &Artery, index: u32) -> bool
 pub fn has_row(artery: &Artery, family: u8, index: u32) -> bool
     ensures { IsTrue result ↔ HasRow artery.now (name_of family index) }
 {
-    with_family!(family, has_by(artery, index), false)
+    match family_of(family) {
+        Some(family) => has_by(&family, artery, index),
+        None => false,
+    }
 }
 
 /// The rows of an artery.
