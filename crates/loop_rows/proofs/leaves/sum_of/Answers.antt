@@ -25,9 +25,9 @@ returns-in_err-add_weight-clause-fault g c =
     let rows = g.S.RowSource.rows c.args.source.now in
     let items = c.args.leaf.now.multipliers.items in
     let i = c.loop-weight.weight-index in
-    let refused = attempt_err _ _ _ c.in_err-add_weight.ensures.outcome in
     let below = c.loop-weight-test.true in
-    let left = at_left items i c.weight-item.result (omega arith) (c.weight-item.is ∙ ap (λ xs. get_or xs i c.weight-item.result) c.deref-weight-items.ensures.value) in
+    let left = at_left items i c.weight-item.result (omega (arith, below)) (c.weight-item.is ∙ ap (λ xs. get_or xs i c.weight-item.result) c.deref-weight-items.ensures.value) in
+    let refused = attempt_err _ _ _ c.in_err-add_weight.ensures.outcome in
     let first = left_refused rows c.loop-weight.sum (drop i items) (drop (i + 1) items) c.weight-item.result c.in_err-add_weight.field-0.0 left refused in
     let p = err_from_is_err_and c.from_residual-in_err-add_weight.result c.from_residual-in_err-add_weight.ensures.1 in
-    rw (p.1, p.2) (first_of_all _ c.in_err-add_weight.field-0.0 (c.loop-weight.invariant.fault ∙ first))
+    rw (p.1, p.2) (first_of_all (fault_of rows items) c.in_err-add_weight.field-0.0 (c.loop-weight.invariant.fault ∙ first))
