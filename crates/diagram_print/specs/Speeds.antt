@@ -9,11 +9,12 @@ use Rattle.progression.specs.declared.parts.Dir.TheVariants.{Outbound, Inbound}
 use Rattle.timing_measures.specs.Measures.{link_speed}
 use Rattle.diagram_print.specs.Measures.{dir_name, measure_line}
 
-abbrev pub link_name : Dir → ℕ → List ℕ
-link_name d i = codes "link " ++ (decimal i ++ (codes " " ++ dir_name d))
+-- what stands before a measure of a direction on a link
+abbrev pub link_name : List ℕ → Dir → ℕ → List ℕ
+link_name between d i = codes "link " ++ (decimal i ++ (between ++ dir_name d))
 
 abbrev pub speed_line : Street → TimingRecord → Dir → ℕ → List ℕ
-speed_line a t d i = measure_line (link_name d i) (link_speed a t d i) 3
+speed_line a t d i = measure_line (link_name (codes " ") d i) (link_speed a t d i) 3
 
 -- outbound and inbound
 abbrev pub speed_lines : Street → TimingRecord → ℕ → List ℕ

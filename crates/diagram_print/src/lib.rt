@@ -36,4 +36,4 @@ pub use measures::{
 };
 pub use names::{push_column, push_place, push_row};
 pub use offsets::push_signal_lines;
-pub use speeds::push_link_lines;
+pub use speeds::{push_link_lines, push_link_name};

@@ -12,13 +12,18 @@ use quantity_text::{push_number, push_text};
 use time_space::Timing;
 use timing_measures::link_speed;
 
-/// Writes what stands before a link's speed.
-fn push_link_name(out: &mut Vec<u8>, dir: Dir, link: u32) -> Result<(), Memory>
-    ensures { OnOk result (out.new.items ≡ out.old.items ++ link_name dir link) }
+/// Writes what stands before a measure of a direction on a link, with these words between the link's number and the direction.
+pub fn push_link_name(
+    out: &mut Vec<u8>,
+    link: u32,
+    between: &str,
+    dir: Dir,
+) -> Result<(), Memory>
+    ensures { OnOk result (out.new.items ≡ out.old.items ++ link_name between.now dir link) }
 {
     push_text(out, "link ")?;
     push_number(out, link as u128)?;
-    push_text(out, " ")?;
+    push_text(out, between)?;
     push_text(out, dir_name(dir))
 }
 
@@ -35,7 +40,7 @@ fn push_speed_line(
     requires last { link < count artery.now }
     ensures { OnOk result (out.new.items ≡ out.old.items ++ speed_line artery.now timing.now dir link) }
 {
-    push_link_name(out, dir, link)?;
+    push_link_name(out, link, " ", dir)?;
     push_measure_line(out, link_speed(artery, timing, dir, link), 3)
 }
 

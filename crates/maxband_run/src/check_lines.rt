@@ -68,7 +68,7 @@ fn push_at(out: &mut Vec<u8>, signals: u32, place: Place) -> Result<(), Memory>
     push_text(out, "\n")
 }
 
-/// Writes the line of a row of a leaf that isn't there or whose multiplier is below 0. This table names its family.
+/// Writes the line of a row of a leaf, whose family this table names.
 fn push_leaf(
     out: &mut Vec<u8>,
     names: &[FamilyName],
@@ -82,6 +82,30 @@ fn push_leaf(
     push_text(out, fault)?;
     push_leaf_row(out, " leaf ", names, leaf, row)?;
     push_text(out, "\n")
+}
+
+/// Writes the line of a row of a leaf that isn't there.
+fn push_missing(
+    out: &mut Vec<u8>,
+    names: &[FamilyName],
+    leaf: u64,
+    row: RowId,
+) -> Result<(), Memory>
+    ensures { OnOk result (out.new.items ≡ out.old.items ++ leaf_line (table_of names.now) (codes "row") leaf row) }
+{
+    push_leaf(out, names, "row", leaf, row)
+}
+
+/// Writes the line of a row of a leaf whose multiplier is below 0.
+fn push_negative(
+    out: &mut Vec<u8>,
+    names: &[FamilyName],
+    leaf: u64,
+    row: RowId,
+) -> Result<(), Memory>
+    ensures { OnOk result (out.new.items ≡ out.old.items ++ leaf_line (table_of names.now) (codes "negative") leaf row) }
+{
+    push_leaf(out, names, "negative", leaf, row)
 }
 
 /// Writes the line of a leaf's sum that leaves 128 bits.
@@ -141,8 +165,8 @@ pub fn push_rejected(out: &mut Vec<u8>, signals: u32, reject: &Reject) -> Result
         Reject::SplitOutside { node } => {
             push_number_line(out, "rejected split node ", *node as u128)
         }
-        Reject::NoSuchRow { leaf, row } => push_leaf(out, &FAMILIES, "row", *leaf, *row),
-        Reject::Negative { leaf, row } => push_leaf(out, &FAMILIES, "negative", *leaf, *row),
+        Reject::NoSuchRow { leaf, row } => push_missing(out, &FAMILIES, *leaf, *row),
+        Reject::Negative { leaf, row } => push_negative(out, &FAMILIES, *leaf, *row),
         Reject::Wide { leaf, row, at } => {
             push_wide(out, &FAMILIES, signals, *leaf, *row, at.place)
         }
@@ -198,8 +222,8 @@ pub fn push_link_rejected(
         LinkReject::SplitOutside { node } => {
             push_number_line(out, "rejected split node ", *node as u128)
         }
-        LinkReject::NoSuchRow { leaf, row } => push_leaf(out, names, "row", *leaf, *row),
-        LinkReject::Negative { leaf, row } => push_leaf(out, names, "negative", *leaf, *row),
+        LinkReject::NoSuchRow { leaf, row } => push_missing(out, names, *leaf, *row),
+        LinkReject::Negative { leaf, row } => push_negative(out, names, *leaf, *row),
         LinkReject::Wide { leaf, row, at } => {
             push_wide(out, names, signals, *leaf, *row, at.place)
         }

@@ -10,25 +10,14 @@ use std::test::Fail;
 
 /// Two signals 25 seconds apart with a cycle of 100 seconds, half of it red. The block sum is 0 or 1, the shifts are 0, and
 /// no weighted band is above 1/2.
-const NEAR: &str = "[artery]
+const NEAR: &str = "signal = [{ name = \"A\", red = 50 }, { name = \"B\", red = 50 }]
+link = [{ distance_out = 250, distance_in = 250, speed_out = [36, 36], speed_in = [36, 36] }]
+
+[artery]
 units = \"metric\"
 parts = 100
-cycle = [\"100\", \"100\"]
-ratio = \"1\"
-
-[[signal]]
-name = \"A\"
-red = 50
-
-[[signal]]
-name = \"B\"
-red = 50
-
-[[link]]
-distance_out = 250
-distance_in = 250
-speed_out = [\"36\", \"36\"]
-speed_in = [\"36\", \"36\"]
+cycle = [100, 100]
+ratio = 1
 ";
 
 /// Seven signals far apart, driven through at one pace: a search that is not done by the usual limit of work, which is 100000 units.

@@ -1,7 +1,6 @@
 -- The lines of what a search of an artery's links found. What they share with the report of whole bands is cited from there.
 use Rattle.std.specs.Prelude.{ℕ, pos, ◌*◌, ◌-◌, List, ◌++◌, codes, option_map}
 use Rattle.std.specs.List.{flat_map, range_with_len}
-use Rattle.std.specs.Fmt.{decimal}
 use Rattle.rational_theory.specs.Rational.{ℚ, over}
 use Rattle.progression.specs.Street.{Street, count}
 use Rattle.progression.specs.TimingRecord.{cycle}
@@ -11,20 +10,17 @@ use Rattle.link_theory.specs.LinkRecord.{LinkRecord, lines, half}
 use Rattle.link_theory.specs.BestLinks.{link_value}
 use Rattle.link_proof.specs.LinkFamilies.{links}
 use Rattle.multi_band.specs.LinkTold.{LinkFound}
-use Rattle.diagram_print.specs.Measures.{dir_name, measure_line, cycle_line}
+use Rattle.diagram_print.specs.Measures.{measure_line, cycle_line}
 use Rattle.diagram_print.specs.Offsets.{signal_lines}
-use Rattle.diagram_print.specs.Speeds.{link_lines}
+use Rattle.diagram_print.specs.Speeds.{link_name, link_lines}
 use Rattle.diagram_print.specs.Report.{verdict_lines}
 
 -- a link's band is twice its half, as a fraction of the cycle
 abbrev pub link_share : Street → LinkRecord → Dir → ℕ → ℚ
 link_share a t d i = over (pos (2 * half t d i)) (cycle a (lines t))
 
-abbrev pub band_name : Dir → ℕ → List ℕ
-band_name d i = codes "link " ++ (decimal i ++ (codes " band " ++ dir_name d))
-
 abbrev pub link_band_line : Street → LinkRecord → Dir → ℕ → List ℕ
-link_band_line a t d i = measure_line (band_name d i) (link_share a t d i) 6
+link_band_line a t d i = measure_line (link_name (codes " band ") d i) (link_share a t d i) 6
 
 -- outbound and inbound
 abbrev pub both_band_lines : Street → LinkRecord → ℕ → List ℕ

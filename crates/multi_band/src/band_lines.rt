@@ -2,25 +2,14 @@
 
 ghost use Rattle.std.specs.Prelude.{◌≡◌, ◌++◌, ◌<◌, ◌≤◌, length, OnOk};
 ghost use Rattle.progression.specs.Street.{count};
-ghost use Rattle.multi_band.specs.LinkReport.{band_name, link_band_line, both_band_lines, link_band_lines};
+ghost use Rattle.multi_band.specs.LinkReport.{link_band_line, both_band_lines, link_band_lines};
 
 use artery_model::{Artery, Dir};
-use diagram_print::{dir_name, push_measure_line};
+use diagram_print::{push_link_name, push_measure_line};
 use link_space::LinkTiming;
 use narrow_fraction::Memory;
-use quantity_text::{push_number, push_text};
 use time_space::cycle;
 use timing_measures::quotient;
-
-/// Writes what stands before the band of a direction on a link.
-fn push_band_name(out: &mut Vec<u8>, dir: Dir, link: u32) -> Result<(), Memory>
-    ensures { OnOk result (out.new.items ≡ out.old.items ++ band_name dir link) }
-{
-    push_text(out, "link ")?;
-    push_number(out, link as u128)?;
-    push_text(out, " band ")?;
-    push_text(out, dir_name(dir))
-}
 
 /// Writes the line of a direction's band on a link, a fraction of the cycle: it reaches half as far to either side of the line.
 fn push_link_band(
@@ -34,7 +23,7 @@ fn push_link_band(
     requires last { link < length timing.now.patterns }
     ensures { OnOk result (out.new.items ≡ out.old.items ++ link_band_line artery.now timing.now dir link) }
 {
-    push_band_name(out, dir, link)?;
+    push_link_name(out, link, " band ", dir)?;
     let share = quotient(2 * timing.half(dir, link), cycle(artery, timing.lines()));
     push_measure_line(out, share, 6)
 }

@@ -14,6 +14,6 @@ returns c =
     let right = to_z-of_z w128 c.args.right c.ranges.right in
     let bottom = to_z-of_z w128 c.args.bottom c.ranges.bottom in
     on_ok_weaker c.push_text.result
-    (λ e. three_pushed _ _ _ _ _ _ _ c.in_ok-push_rect_opening.ensures c.in_ok-push_rect_edges.ensures e
+    (λ e. three_pushed _ _ _ _ _ _ _ c.in_ok-push_around.ensures c.in_ok-push_rect_edges.ensures e
     ∙ (λ i. c.args.out.now.items ++ (rect_opening c.args.paint ++ (rect_edges (left i) (top i) (right i) (bottom i) ++ codes "z\"/>\n"))))
     c.push_text.ensures

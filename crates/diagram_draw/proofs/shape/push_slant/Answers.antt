@@ -16,6 +16,6 @@ returns c =
     let tr = to_z-of_z w128 c.args.to.right (search rules) in
     let tv = to_z-of_z w128 c.args.to.level (search rules) in
     on_ok_weaker c.push_text-2.result
-    (λ e. five_pushed _ _ _ _ _ _ _ _ _ _ _ c.in_ok-push_slant_opening.ensures c.in_ok-push_edge.ensures c.in_ok-push_text.ensures c.in_ok-push_edge-2.ensures e
+    (λ e. five_pushed _ _ _ _ _ _ _ _ _ _ _ c.in_ok-push_around.ensures c.in_ok-push_edge.ensures c.in_ok-push_text.ensures c.in_ok-push_edge-2.ensures e
     ∙ (λ i. c.args.out.now.items ++ (slant_opening c.args.paint ++ (edge_text (fl i) (fv i) (tl i) (tv i) ++ (codes " " ++ (edge_text (tr i) (tv i) (fr i) (fv i) ++ codes "\"/>\n"))))))
     c.push_text-2.ensures

@@ -1,11 +1,11 @@
-use Rattle.std.proofs.Common.{◌++◌, ◌∙◌, codes}
+use Rattle.std.proofs.Common.{◌++◌, ◌∙◌}
 use Rattle.std.proofs.lemmas.Result.{on_ok_weaker}
 use Rattle.quantity_text.proofs.Pushed.{three_pushed}
-use Rattle.diagram_draw.proofs.shape.push_slant_opening.Goals as goal
+use Rattle.diagram_draw.proofs.shape.push_around.Goals as goal
 
 pub returns : goal.returns
 returns c =
     on_ok_weaker c.push_text-3.result
     (λ e. three_pushed _ _ _ _ _ _ _ c.in_ok-push_text.ensures c.in_ok-push_text-2.ensures e
-    ∙ (λ i. c.args.out.now.items ++ (codes "<polygon class=\"" ++ (c.paint_class.ensures i ++ codes "\" points=\""))))
+    ∙ (λ i. c.args.out.now.items ++ (c.args.begin.now ++ (c.paint_class.ensures i ++ c.args.end.now))))
     c.push_text-3.ensures
