@@ -1,15 +1,15 @@
 //! The rows of links by their names.
 
-ghost use Rattle.std.specs.Prelude.{◌≡◌, ◌↔◌, ◌-◌, ◌*◌, ◌≤◌, ◌<◌, IsTrue, length, true, false};
+ghost use Rattle.std.specs.Prelude.{◌≡◌, ◌↔◌, ◌-◌, ◌≤◌, ◌<◌, ℕ, IsTrue, MatchOption, length, true, false};
 ghost use Rattle.progression.specs.Street.{count};
 ghost use Rattle.linear_theory.specs.Places.{width};
 ghost use Rattle.linear_theory.specs.Boxes.{IsBoxOf};
-ghost use Rattle.linear_theory.specs.Names.{HasRow, name_of, form_of};
+ghost use Rattle.linear_theory.specs.Names.{name_of};
 ghost use Rattle.loop_rows.specs.Following.{IsNextIn};
-ghost use Rattle.loop_rows.specs.Writing.{written};
 ghost use Rattle.link_theory.specs.LinkColumns.{link_width};
-ghost use Rattle.link_theory.specs.LinkNames.{NamesNoBand, HasLinkRow, link_name_of, last_link_family};
+ghost use Rattle.link_theory.specs.LinkNames.{OfLines, NamesNoBand, HasLinkRow, link_name_of, last_link_family};
 ghost use Rattle.link_theory.proofs.LinkFamilies.{link_family_most, link_index_most};
+ghost use Rattle.link_space.specs.LinkFamilies.{number_of, row_in};
 ghost use Rattle.link_space.specs.LinkSheets.{wide_sheet, link_sheet, IsFilledLinks};
 ghost use Rattle.link_space.specs.LinkWeights.{rows_of_links};
 
@@ -23,24 +23,32 @@ use search_box::SearchBox;
 /// The greatest number of a family.
 const LAST_LINK_FAMILY: u8 = 30;
 
-/// What a call gives for the family of a number, which is its first argument, where the family is one of links; for a family of
-/// the lines the first expression, and where links have no rows of the number the last.
-macro_rules! with_link_family {
-    ($number:expr, $line:expr, $call:ident($($given:expr),*), $none:expr) => {
-        match $number {
-            3 | 4 | 5 | 6 | 7 | 8 | 9 | 10 | 11 | 12 | 14 | 15 | 16 | 17 => $line,
-            22 => $call(&LinkFamily::NearRow(Dir::Outbound, End::Here), $($given),*),
-            23 => $call(&LinkFamily::NearRow(Dir::Outbound, End::Next), $($given),*),
-            24 => $call(&LinkFamily::FarRow(Dir::Outbound, End::Here), $($given),*),
-            25 => $call(&LinkFamily::FarRow(Dir::Outbound, End::Next), $($given),*),
-            26 => $call(&LinkFamily::NearRow(Dir::Inbound, End::Here), $($given),*),
-            27 => $call(&LinkFamily::NearRow(Dir::Inbound, End::Next), $($given),*),
-            28 => $call(&LinkFamily::FarRow(Dir::Inbound, End::Here), $($given),*),
-            29 => $call(&LinkFamily::FarRow(Dir::Inbound, End::Next), $($given),*),
-            30 => $call(&LinkFamily::LinkRatioRow, $($given),*),
-            _ => $none,
-        }
-    };
+/// The family of links of a number, or None where no family of links has it.
+fn link_family_of(number: u8) -> Option<LinkFamily>
+    ensures { MatchOption result ((i : ℕ) → link_name_of number i ≡ OfLines (name_of number i)) (λ f. (number_of f ≡ number) × ((i : ℕ) → link_name_of number i ≡ row_in f i)) }
+{
+    match number {
+        22 => Some(LinkFamily::NearRow(Dir::Outbound, End::Here)),
+        23 => Some(LinkFamily::NearRow(Dir::Outbound, End::Next)),
+        24 => Some(LinkFamily::FarRow(Dir::Outbound, End::Here)),
+        25 => Some(LinkFamily::FarRow(Dir::Outbound, End::Next)),
+        26 => Some(LinkFamily::NearRow(Dir::Inbound, End::Here)),
+        27 => Some(LinkFamily::NearRow(Dir::Inbound, End::Next)),
+        28 => Some(LinkFamily::FarRow(Dir::Inbound, End::Here)),
+        29 => Some(LinkFamily::FarRow(Dir::Inbound, End::Next)),
+        30 => Some(LinkFamily::LinkRatioRow),
+        _ => None,
+    }
+}
+
+/// Whether a number is that of a family of the lines whose rows name no band, as the lines of links have them.
+fn is_of_lines(number: u8) -> bool
+    ensures { (i : ℕ) → IsTrue result ↔ NamesNoBand (name_of number i) }
+{
+    matches!(
+        number,
+        3 | 4 | 5 | 6 | 7 | 8 | 9 | 10 | 11 | 12 | 14 | 15 | 16 | 17
+    )
 }
 
 /// A row's numbers, in a row that may be wider; its further cells are 0.
@@ -58,20 +66,22 @@ fn copy_row(from: &Row, columns: u32, into: &mut Row)
     into.set(Place::Bound, from.get(Place::Bound));
 }
 
-/// Fills a row of the lines at the artery's width, and copies it.
+/// Fills a row of the lines at the artery's width, and copies it, where links have the row.
 fn fill_line(artery: &Artery, area: &SearchBox, row: RowId, room: &mut Row, into: &mut Row) -> bool
-    requires no_band { NamesNoBand (name_of row.family row.index) }
     requires boxed { IsBoxOf artery.now area.now }
     requires room { length room.old.coefs ≡ width (count artery.now) }
     requires columns { length into.old.coefs ≡ link_width (count artery.now) }
-    ensures there { IsTrue result ↔ HasRow artery.now (name_of row.family row.index) }
-    ensures row { result ≡ true → into.new ≡ wide_sheet (2 * (count artery.now - 1)) (written artery.now (form_of artery.now area.now (name_of row.family row.index))) }
+    ensures there { IsTrue result ↔ HasLinkRow artery.now (OfLines (name_of row.family row.index)) }
+    ensures row { result ≡ true → into.new ≡ link_sheet artery.now area.now (OfLines (name_of row.family row.index)) }
     ensures met { result ≡ true → IsFilledLinks artery.now area.now into.new }
     ensures same { result ≡ false → into.new ≡ into.old }
     ensures width { length into.new.coefs ≡ link_width (count artery.now) }
     ensures room { length room.new.coefs ≡ width (count artery.now) }
 {
     prove!(2 <= artery.count());
+    if !is_of_lines(row.family) {
+        return false;
+    }
     if !fill_row(artery, area, row, room) {
         return false;
     }
@@ -99,24 +109,20 @@ pub fn fill_link_row(
     ensures width { length into.new.coefs ≡ link_width (count artery.now) }
     ensures room { length room.new.coefs ≡ width (count artery.now) }
 {
-    with_link_family!(
-        row.family,
-        fill_line(artery, area, row, room, into),
-        fill_by(artery, area, row, into),
-        false
-    )
+    match link_family_of(row.family) {
+        Some(family) => fill_by(&family, artery, area, row, into),
+        None => fill_line(artery, area, row, room, into),
+    }
 }
 
 /// Whether the artery has the row of this name.
 fn has_link_row(artery: &Artery, family: u8, index: u32) -> bool
     ensures { IsTrue result ↔ HasLinkRow artery.now (link_name_of family index) }
 {
-    with_link_family!(
-        family,
-        has_row(artery, family, index),
-        has_by(artery, index),
-        false
-    )
+    match link_family_of(family) {
+        Some(family) => has_by(&family, artery, index),
+        None => is_of_lines(family) && has_row(artery, family, index),
+    }
 }
 
 /// The rows of links of an artery.

@@ -1,6 +1,6 @@
 //! A link timing, seen as a link plan.
 
-ghost use Rattle.std.specs.Prelude.{◌≡◌, All, IfNone, IfSome, ◌+◌, ◌<◌, ◌≤◌, ◌^◌, length};
+ghost use Rattle.std.specs.Prelude.{◌≡◌, ◌↔◌, All, IsTrue, IfNone, IfSome, ◌+◌, ◌<◌, ◌≤◌, ◌^◌, length};
 ghost use Rattle.link_theory.specs.LinkRecord.{LinkRecord, IsLinkRecord, lines, half};
 ghost use Rattle.link_space.specs.LinkTiming.{IsLinkTiming, link_plan_of};
 ghost use Rattle.artery_model.specs.Bounds.{least_signals, most_signals};
@@ -30,6 +30,14 @@ impl Model for LinkTiming {
     ghost invariant = { λ t. IsLinked t.lines t.half_out.items t.half_in.items };
 }
 
+/// Whether these are the halves of a direction for so many signals: one for each link, and each of them small.
+fn are_halves(halves: &[u128], count: u32) -> bool
+    requires { 1 ≤ count }
+    ensures { IsTrue result ↔ ((length halves.now + 1 ≡ count) × All (λ n. n < 2 ^ 80) halves.now) }
+{
+    halves.len() == count as usize - 1 && are_below_limit(halves)
+}
+
 impl LinkTiming {
     /// The link timing of these numbers, or None where one of them is outside its limits.
     ///
@@ -56,11 +64,8 @@ impl LinkTiming {
         let lines = Timing::new(
             grid, unit, patterns, reds, run_out, run_in, first_out, first_in, 0, 0,
         )?;
-        let links = lines.count() as usize - 1;
-        if half_out.len() != links || half_in.len() != links {
-            return None;
-        }
-        if !are_below_limit(half_out.as_slice()) || !are_below_limit(half_in.as_slice()) {
+        let count = lines.count();
+        if !are_halves(half_out.as_slice(), count) || !are_halves(half_in.as_slice(), count) {
             return None;
         }
         Some(LinkTiming {
