@@ -1,3 +1,4 @@
+pub mod Fits
 pub mod Fractions
 pub mod Remainders
 pub mod Firsts

@@ -35,3 +35,7 @@ widths_fit d n o i h k p q =
     let first : d * o ≤ 1000 * 2 ^ 92 = let below : o ≤ 2 ^ 92 = omega (arith, p) in mul-le h below in
     let second : n * i ≤ 100000 * 2 ^ 92 = let below : i ≤ 2 ^ 92 = omega (arith, q) in mul-le k below in
     omega (arith, first, second)
+
+-- a denominator times a cycle
+pub cycle_size : (d k : ℕ) → d ≤ most_denominator → k < 2 ^ 92 → d * k ≤ 2 ^ 120
+cycle_size d k h p = let most : d * k ≤ 1000 * 2 ^ 92 = let below : k ≤ 2 ^ 92 = omega (arith, p) in mul-le h below in omega (arith, most)

@@ -48,7 +48,7 @@ pub fn cycle(artery: &Artery, timing: &Timing) -> u128
     ensures least { 4 ≤ result }
     ensures most { result < 2 ^ 92 }
 {
-    u128::from(artery.parts()) * timing.unit()
+    artery.parts() as u128 * timing.unit()
 }
 
 /// Whether the red of a direction begins before the common red, under this pattern: the left turn against it lags.
@@ -70,7 +70,7 @@ fn ahead(artery: &Artery, timing: &Timing, dir: Dir, signal: u32) -> u128
     ensures small { result < 2 ^ 92 }
 {
     if is_early(dir, timing.pattern(signal)) {
-        u128::from(artery.left_against(dir, signal)) * timing.unit()
+        artery.left_against(dir, signal) as u128 * timing.unit()
     } else {
         0
     }
@@ -97,7 +97,7 @@ pub fn red_ticks(artery: &Artery, timing: &Timing, dir: Dir, signal: u32) -> u12
     ensures green { result < cycle artery.now timing.now }
     ensures small { result < 2 ^ 92 }
 {
-    u128::from(artery.red(dir, signal)) * timing.unit()
+    artery.red(dir, signal) as u128 * timing.unit()
 }
 
 /// How many ticks after its first line the band first meets a red at a place in travel order.
@@ -125,12 +125,11 @@ pub fn advance(artery: &Artery, timing: &Timing, dir: Dir, place: u32) -> i128
 {
     let count = artery.count();
     let run = timing.run(dir, leg(dir, count, place));
-    let clearance = u128::from(artery.clearance(dir, stop(dir, count, place + 1))) * timing.unit();
+    let clearance = artery.clearance(dir, stop(dir, count, place + 1)) as u128 * timing.unit();
     run as i128 - clearance as i128
 }
 
 /// The tick at which a direction's first line crosses the next signal, from the tick at which it crosses this one.
-#[tactic(auto, using(progression::proofs::Crossings::crossing_next))]
 pub fn next_line(artery: &Artery, timing: &Timing, dir: Dir, place: u32, line: i128) -> i128
     requires on_way { place + 1 < count artery.now }
     requires shape { length timing.now.patterns ≡ count artery.now }

@@ -1,5 +1,5 @@
 //! Comparisons of ticks with limits that are fractions, exactly and within 128 bits.
-#![tactic(auto, using(crate::proofs::GridLimits::least_is, crate::proofs::GridLimits::most_is))]
+#![tactic(auto)]
 
 ghost use Rattle.std.specs.Prelude.{◌≡◌, ◌↔◌, IsTrue, ◌+◌, ◌*◌, ◌<◌, ◌≤◌, ◌^◌, pos, ◌*ℤ◌, ◌-ℤ◌, unsigned_abs};
 ghost use Rattle.rational_theory.specs.Rational.{◌*ℚ◌, ◌≤ℚ◌};
@@ -72,7 +72,7 @@ fn grid_and_lengths(grid: u128, paces: Paces) -> u128
     ensures value { result ≡ grid * (paces.distance * paces.next_distance) }
     ensures most { result < 2 ^ 110 }
 {
-    grid * (u128::from(paces.distance) * u128::from(paces.next_distance))
+    grid * (paces.distance as u128 * paces.next_distance as u128)
 }
 
 /// The change of pace times both distances.
@@ -80,8 +80,8 @@ fn change_of(paces: Paces) -> i128
     ensures value { result ≡ pos (paces.next_run * paces.distance) -ℤ pos (paces.run * paces.next_distance) }
     ensures small { unsigned_abs result < 2 ^ 95 }
 {
-    (paces.next_run * u128::from(paces.distance)) as i128
-        - (paces.run * u128::from(paces.next_distance)) as i128
+    (paces.next_run * paces.distance as u128) as i128
+        - (paces.run * paces.next_distance as u128) as i128
 }
 
 /// The change of pace times both distances and the denominator of its limit.
@@ -94,7 +94,6 @@ fn scaled(change: i128, den: u128) -> i128
 }
 
 /// Whether the pace changes by at least `limit`.
-#[tactic(auto, using(crate::proofs::Fractions::drop_is))]
 pub fn is_change_at_least(paces: Paces, limit: Frac, grid: u128) -> bool
     requires num { unsigned_abs limit.num ≤ most_numerator }
     requires den { limit.den ≤ 5280000 }
@@ -106,7 +105,6 @@ pub fn is_change_at_least(paces: Paces, limit: Frac, grid: u128) -> bool
 }
 
 /// Whether the pace changes by at most `limit`.
-#[tactic(auto, using(crate::proofs::Fractions::rise_is))]
 pub fn is_change_at_most(paces: Paces, limit: Frac, grid: u128) -> bool
     requires num { unsigned_abs limit.num ≤ most_numerator }
     requires den { limit.den ≤ 5280000 }
@@ -149,7 +147,6 @@ fn rest_times_band(ratio: Frac, number: i128, band: u128) -> i128
 }
 
 /// Whether two bands keep the ratio.
-#[tactic(auto, using(crate::proofs::Fractions::ratio_is))]
 pub fn is_in_ratio(ratio: Frac, band_out: u128, band_in: u128) -> bool
     requires num { unsigned_abs ratio.num ≤ most_numerator }
     requires den { ratio.den ≤ most_denominator }

@@ -97,7 +97,6 @@ fn link_failing(rule: LinkRule, dir: Dir, link: u32) -> Failing
     }
 }
 
-#[tactic(auto, using(crate::proofs::Firsts::after_links, crate::proofs::Firsts::both_ways, crate::proofs::Firsts::first_link_out, crate::proofs::Firsts::first_link_in))]
 fn check_links(artery: &Artery, timing: &Timing, rule: LinkRule) -> Result<(), Failing>
     requires shape { length timing.now.patterns ≡ count artery.now }
     requires before { NoneBefore artery.now timing.now (link_order rule) }
@@ -207,7 +206,6 @@ fn check_inbound(artery: &Artery, timing: &Timing) -> Result<(), Failing>
 
 /// Whether the timing keeps the rules that speak of no band, which are those of patterns, cycle, runs and changes of pace: Ok
 /// where it does, and else the first rule that it breaks. Its firsts and bands play no part.
-#[tactic(auto, using(crate::proofs::RulesOut::not_base))]
 pub fn base_holds(artery: &Artery, timing: &Timing) -> Result<(), Failing>
     ensures base { OnOk result (IsBase artery.now timing.now) }
     ensures shape { OnOk result (length timing.now.patterns ≡ count artery.now) }
