@@ -3,7 +3,9 @@ use Rattle.time_space.proofs.RulesOut.{not_base}
 use Rattle.time_space.proofs.rules.base_holds.Goals as goal
 
 pub returns-in_err-check_shape-clause-refused : goal.returns-in_err-check_shape-clause-refused
-returns-in_err-check_shape-clause-refused c = rw (err_from_is_err_and c.from_residual.result c.from_residual.ensures.1).1 (not_base _ _ _ c.in_err-check_shape.ensures.first c.in_err-check_shape.ensures.order)
+returns-in_err-check_shape-clause-refused c =
+    rw (err_from_is_err_and c.from_residual.result c.from_residual.ensures.1).1
+    (not_base _ _ _ c.in_err-check_shape.ensures.first c.in_err-check_shape.ensures.order)
 
 pub returns-in_err-check_shape-clause-first : goal.returns-in_err-check_shape-clause-first
 returns-in_err-check_shape-clause-first c = let p = err_from_is_err_and c.from_residual.result c.from_residual.ensures.1 in rw (p.1, p.2) c.in_err-check_shape.ensures.first
@@ -12,7 +14,9 @@ pub returns-in_err-check_shape-clause-order : goal.returns-in_err-check_shape-cl
 returns-in_err-check_shape-clause-order c = let p = err_from_is_err_and c.from_residual.result c.from_residual.ensures.1 in rw (p.1, p.2) c.in_err-check_shape.ensures.order
 
 pub returns-in_err-check_patterns-clause-refused : goal.returns-in_err-check_patterns-clause-refused
-returns-in_err-check_patterns-clause-refused c = rw (err_from_is_err_and c.from_residual-in_err-check_patterns.result c.from_residual-in_err-check_patterns.ensures.1).1 (not_base _ _ _ c.in_err-check_patterns.ensures.first c.in_err-check_patterns.ensures.order)
+returns-in_err-check_patterns-clause-refused c =
+    rw (err_from_is_err_and c.from_residual-in_err-check_patterns.result c.from_residual-in_err-check_patterns.ensures.1).1
+    (not_base _ _ _ c.in_err-check_patterns.ensures.first c.in_err-check_patterns.ensures.order)
 
 pub returns-in_err-check_patterns-clause-first : goal.returns-in_err-check_patterns-clause-first
 returns-in_err-check_patterns-clause-first c = let p = err_from_is_err_and c.from_residual-in_err-check_patterns.result c.from_residual-in_err-check_patterns.ensures.1 in rw (p.1, p.2) c.in_err-check_patterns.ensures.first
@@ -21,7 +25,9 @@ pub returns-in_err-check_patterns-clause-order : goal.returns-in_err-check_patte
 returns-in_err-check_patterns-clause-order c = let p = err_from_is_err_and c.from_residual-in_err-check_patterns.result c.from_residual-in_err-check_patterns.ensures.1 in rw (p.1, p.2) c.in_err-check_patterns.ensures.order
 
 pub returns-in_err-check_cycle_least-clause-refused : goal.returns-in_err-check_cycle_least-clause-refused
-returns-in_err-check_cycle_least-clause-refused c = rw (err_from_is_err_and c.from_residual-in_err-check_cycle_least.result c.from_residual-in_err-check_cycle_least.ensures.1).1 (not_base _ _ _ c.in_err-check_cycle_least.ensures.first c.in_err-check_cycle_least.ensures.order)
+returns-in_err-check_cycle_least-clause-refused c =
+    rw (err_from_is_err_and c.from_residual-in_err-check_cycle_least.result c.from_residual-in_err-check_cycle_least.ensures.1).1
+    (not_base _ _ _ c.in_err-check_cycle_least.ensures.first c.in_err-check_cycle_least.ensures.order)
 
 pub returns-in_err-check_cycle_least-clause-first : goal.returns-in_err-check_cycle_least-clause-first
 returns-in_err-check_cycle_least-clause-first c = let p = err_from_is_err_and c.from_residual-in_err-check_cycle_least.result c.from_residual-in_err-check_cycle_least.ensures.1 in rw (p.1, p.2) c.in_err-check_cycle_least.ensures.first
@@ -30,7 +36,9 @@ pub returns-in_err-check_cycle_least-clause-order : goal.returns-in_err-check_cy
 returns-in_err-check_cycle_least-clause-order c = let p = err_from_is_err_and c.from_residual-in_err-check_cycle_least.result c.from_residual-in_err-check_cycle_least.ensures.1 in rw (p.1, p.2) c.in_err-check_cycle_least.ensures.order
 
 pub returns-in_err-check_cycle_most-clause-refused : goal.returns-in_err-check_cycle_most-clause-refused
-returns-in_err-check_cycle_most-clause-refused c = rw (err_from_is_err_and c.from_residual-in_err-check_cycle_most.result c.from_residual-in_err-check_cycle_most.ensures.1).1 (not_base _ _ _ c.in_err-check_cycle_most.ensures.first c.in_err-check_cycle_most.ensures.order)
+returns-in_err-check_cycle_most-clause-refused c =
+    rw (err_from_is_err_and c.from_residual-in_err-check_cycle_most.result c.from_residual-in_err-check_cycle_most.ensures.1).1
+    (not_base _ _ _ c.in_err-check_cycle_most.ensures.first c.in_err-check_cycle_most.ensures.order)
 
 pub returns-in_err-check_cycle_most-clause-first : goal.returns-in_err-check_cycle_most-clause-first
 returns-in_err-check_cycle_most-clause-first c = let p = err_from_is_err_and c.from_residual-in_err-check_cycle_most.result c.from_residual-in_err-check_cycle_most.ensures.1 in rw (p.1, p.2) c.in_err-check_cycle_most.ensures.first
@@ -39,7 +47,9 @@ pub returns-in_err-check_cycle_most-clause-order : goal.returns-in_err-check_cyc
 returns-in_err-check_cycle_most-clause-order c = let p = err_from_is_err_and c.from_residual-in_err-check_cycle_most.result c.from_residual-in_err-check_cycle_most.ensures.1 in rw (p.1, p.2) c.in_err-check_cycle_most.ensures.order
 
 pub returns-in_err-check_links-clause-refused : goal.returns-in_err-check_links-clause-refused
-returns-in_err-check_links-clause-refused c = rw (err_from_is_err_and c.from_residual-in_err-check_links.result c.from_residual-in_err-check_links.ensures.1).1 (not_base _ _ _ c.in_err-check_links.ensures.first c.in_err-check_links.ensures.order)
+returns-in_err-check_links-clause-refused c =
+    rw (err_from_is_err_and c.from_residual-in_err-check_links.result c.from_residual-in_err-check_links.ensures.1).1
+    (not_base _ _ _ c.in_err-check_links.ensures.first c.in_err-check_links.ensures.order)
 
 pub returns-in_err-check_links-clause-first : goal.returns-in_err-check_links-clause-first
 returns-in_err-check_links-clause-first c = let p = err_from_is_err_and c.from_residual-in_err-check_links.result c.from_residual-in_err-check_links.ensures.1 in rw (p.1, p.2) c.in_err-check_links.ensures.first
@@ -48,7 +58,9 @@ pub returns-in_err-check_links-clause-order : goal.returns-in_err-check_links-cl
 returns-in_err-check_links-clause-order c = let p = err_from_is_err_and c.from_residual-in_err-check_links.result c.from_residual-in_err-check_links.ensures.1 in rw (p.1, p.2) c.in_err-check_links.ensures.order
 
 pub returns-in_err-check_links-2-clause-refused : goal.returns-in_err-check_links-2-clause-refused
-returns-in_err-check_links-2-clause-refused c = rw (err_from_is_err_and c.from_residual-in_err-check_links-2.result c.from_residual-in_err-check_links-2.ensures.1).1 (not_base _ _ _ c.in_err-check_links-2.ensures.first c.in_err-check_links-2.ensures.order)
+returns-in_err-check_links-2-clause-refused c =
+    rw (err_from_is_err_and c.from_residual-in_err-check_links-2.result c.from_residual-in_err-check_links-2.ensures.1).1
+    (not_base _ _ _ c.in_err-check_links-2.ensures.first c.in_err-check_links-2.ensures.order)
 
 pub returns-in_err-check_links-2-clause-first : goal.returns-in_err-check_links-2-clause-first
 returns-in_err-check_links-2-clause-first c = let p = err_from_is_err_and c.from_residual-in_err-check_links-2.result c.from_residual-in_err-check_links-2.ensures.1 in rw (p.1, p.2) c.in_err-check_links-2.ensures.first
@@ -57,7 +69,9 @@ pub returns-in_err-check_links-2-clause-order : goal.returns-in_err-check_links-
 returns-in_err-check_links-2-clause-order c = let p = err_from_is_err_and c.from_residual-in_err-check_links-2.result c.from_residual-in_err-check_links-2.ensures.1 in rw (p.1, p.2) c.in_err-check_links-2.ensures.order
 
 pub returns-in_err-check_links-3-clause-refused : goal.returns-in_err-check_links-3-clause-refused
-returns-in_err-check_links-3-clause-refused c = rw (err_from_is_err_and c.from_residual-in_err-check_links-3.result c.from_residual-in_err-check_links-3.ensures.1).1 (not_base _ _ _ c.in_err-check_links-3.ensures.first c.in_err-check_links-3.ensures.order)
+returns-in_err-check_links-3-clause-refused c =
+    rw (err_from_is_err_and c.from_residual-in_err-check_links-3.result c.from_residual-in_err-check_links-3.ensures.1).1
+    (not_base _ _ _ c.in_err-check_links-3.ensures.first c.in_err-check_links-3.ensures.order)
 
 pub returns-in_err-check_links-3-clause-first : goal.returns-in_err-check_links-3-clause-first
 returns-in_err-check_links-3-clause-first c = let p = err_from_is_err_and c.from_residual-in_err-check_links-3.result c.from_residual-in_err-check_links-3.ensures.1 in rw (p.1, p.2) c.in_err-check_links-3.ensures.first
@@ -66,7 +80,9 @@ pub returns-in_err-check_links-3-clause-order : goal.returns-in_err-check_links-
 returns-in_err-check_links-3-clause-order c = let p = err_from_is_err_and c.from_residual-in_err-check_links-3.result c.from_residual-in_err-check_links-3.ensures.1 in rw (p.1, p.2) c.in_err-check_links-3.ensures.order
 
 pub returns-in_err-check_links-4-clause-refused : goal.returns-in_err-check_links-4-clause-refused
-returns-in_err-check_links-4-clause-refused c = rw (err_from_is_err_and c.from_residual-in_err-check_links-4.result c.from_residual-in_err-check_links-4.ensures.1).1 (not_base _ _ _ c.in_err-check_links-4.ensures.first c.in_err-check_links-4.ensures.order)
+returns-in_err-check_links-4-clause-refused c =
+    rw (err_from_is_err_and c.from_residual-in_err-check_links-4.result c.from_residual-in_err-check_links-4.ensures.1).1
+    (not_base _ _ _ c.in_err-check_links-4.ensures.first c.in_err-check_links-4.ensures.order)
 
 pub returns-in_err-check_links-4-clause-first : goal.returns-in_err-check_links-4-clause-first
 returns-in_err-check_links-4-clause-first c = let p = err_from_is_err_and c.from_residual-in_err-check_links-4.result c.from_residual-in_err-check_links-4.ensures.1 in rw (p.1, p.2) c.in_err-check_links-4.ensures.first
