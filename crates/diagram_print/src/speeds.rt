@@ -13,12 +13,7 @@ use time_space::Timing;
 use timing_measures::link_speed;
 
 /// Writes what stands before a measure of a direction on a link, with these words between the link's number and the direction.
-pub fn push_link_name(
-    out: &mut Vec<u8>,
-    link: u32,
-    between: &str,
-    dir: Dir,
-) -> Result<(), Memory>
+pub fn push_link_name(out: &mut Vec<u8>, link: u32, between: &str, dir: Dir) -> Result<(), Memory>
     ensures { OnOk result (out.new.items ≡ out.old.items ++ link_name between.now dir link) }
 {
     push_text(out, "link ")?;
