@@ -1,6 +1,7 @@
-use Rattle.std.proofs.Common.{◌∙◌, subst, Some}
+use Rattle.std.proofs.Common.{◌∙◌, subst, Some, IfOk}
 use Rattle.branch_and_bound.specs.Matchings.{Matches}
 use Rattle.branch_and_bound.specs.State.{IsShown}
+use Rattle.branch_and_bound.specs.Answer.{IsFound}
 use Rattle.branch_and_bound.proofs.Halting.{undone_answer}
 use Rattle.branch_and_bound.proofs.best_first.run.Goals as goal
 
@@ -27,3 +28,12 @@ returns-in-Err-Stopped g c =
       timing = c.halt.ensures.timing;
       answer = rw (c.halt.ensures.nodes, c.halt.ensures.bound, c.halt.ensures.spent, c.halt.ensures.verdict) answer;
     }
+
+pub grow-requires-clause-greatest : goal.grow-requires-clause-greatest
+grow-requires-clause-greatest g c = rw c.as_slice.ensures.value at c.in-Some.ensures.greatest
+
+pub finish-requires-clause-settled : goal.finish-requires-clause-settled
+finish-requires-clause-settled g c = rw c.as_slice.ensures.value at c.in_default.ensures.none
+
+pub returns : goal.returns
+returns g c = subst (λ limit. IfOk c.finish.result (IsFound (g.P.Relaxation.rules c.args.relaxation.now) limit)) c.splits.invariant.limit c.finish.ensures
