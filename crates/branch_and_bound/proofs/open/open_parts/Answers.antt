@@ -1,3 +1,4 @@
+use Rattle.std.proofs.Common.{◌∙◌}
 use Rattle.std.proofs.lemmas.Result.{err_from_is_err_and}
 use Rattle.branch_and_bound.specs.Lines.{low_line, high_line}
 use Rattle.branch_and_bound.specs.Lineages.{at_low}
@@ -35,3 +36,15 @@ returns-clause-ends g c = λ line cut.
     let low = c.in_ok-low.ensures.ends line (low_line place line) place (low_is r line _ _ _ _ cut c.in_ok-low_box.ensures.low) in
     let high = c.in_ok-high.ensures.ends line (high_line place line) place (high_is r line _ _ _ _ cut c.in_ok-low_box.ensures.high) in
     record { middle = c.open_side.new.progress; low_is = low.0; low_cost = low.1; high_is = high.0; high_cost = high.1 }
+
+pub open_side-requires-2-clause-within : goal.open_side-requires-2-clause-within
+open_side-requires-2-clause-within g c =
+    let line = c.requires.cut.0 in let place = c.args.cut.now.place in
+    let low = c.in_ok-low.ensures.ends line (low_line place line) place (low_is _ line _ _ _ _ c.requires.cut.1 c.in_ok-low_box.ensures.low) in
+    low.1.within
+
+pub returns-in_err-high-clause-limit : goal.returns-in_err-high-clause-limit
+returns-in_err-high-clause-limit g c = c.in_err-high.ensures.limit ∙ c.in_ok-low.ensures.limit
+
+pub returns-clause-limit : goal.returns-clause-limit
+returns-clause-limit g c = c.in_ok-high.ensures.limit ∙ c.in_ok-low.ensures.limit
