@@ -4,15 +4,16 @@ use Rattle.std.specs.Prelude.{option_map, IsSome}
 use Rattle.outer_edge.specs.Counts.{next_count, NoneFell, SameCounts, CountedAt}
 use Rattle.outer_edge.specs.Held.{SameFiles, OthersSame}
 use Rattle.outer_edge.specs.Taken.{Appends, AppendsFront}
-use Rattle.maxband_run.specs.Command.{Request, shape}
-use Rattle.maxband_run.specs.Reading.{IsRoomForFaults}
-use Rattle.maxband_run.specs.declared.answer.Put.{Put}
-use Rattle.maxband_run.specs.Outside.{Outside, NamedBytes, named, put_of, view, IsPut, IsDone, IsUntouched, PutFailed, WriteFailed, IsBroken, OthersKept, PutsCounted}
+use Rattle.run_inputs.specs.Command.{Request, shape}
+use Rattle.run_inputs.specs.Reading.{IsRoomForFaults}
+use Rattle.run_inputs.specs.declared.answer.Put.{Put}
+use Rattle.run_inputs.specs.Puts.{NamedBytes, named, put_of, view}
+use Rattle.maxband_run.specs.Outside.{Outside, IsPut, IsDone, IsUntouched, PutFailed, WriteFailed, IsBroken, OthersKept, PutsCounted}
 use Rattle.maxband_run.specs.Run.{Answers, Ends}
-use Rattle.maxband_run.specs.Status.{IsReached}
-use Rattle.maxband_run.specs.declared.cause.Cause.{Cause}
-use Rattle.maxband_run.specs.declared.cause.Cause.TheVariants as cause
-use Rattle.maxband_run.proofs.Stopped.{same_at, IsStop, stops_stop, stops_room}
+use Rattle.run_inputs.specs.Status.{IsReached}
+use Rattle.run_inputs.specs.declared.cause.Cause.{Cause}
+use Rattle.run_inputs.specs.declared.cause.Cause.TheVariants as cause
+use Rattle.run_inputs.proofs.Stopped.{same_at, IsStop, stops_stop, stops_room}
 use Rattle.maxband_run.proofs.Reached.{finds_reached}
 
 -- ---- answers

@@ -1,12 +1,4 @@
-pub mod Stopped
-pub mod Told
-pub mod Timing
 pub mod Reached
+pub mod Told
 pub mod Delivered
 pub mod Running
-pub mod Spelled
-pub mod Ranges
-pub mod Tried
-pub mod Cycling
-pub mod Planning
-pub mod Pushed

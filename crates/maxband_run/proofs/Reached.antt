@@ -8,23 +8,23 @@ use Rattle.branch_and_bound.specs.declared.found.Verdict.TheVariants.{Best, NoTi
 use Rattle.branch_tree.specs.declared.site.SitePart.{SitePart}
 use Rattle.workload_maker.specs.Made.{made_street}
 use Rattle.description_reader.specs.Typed.{Typed}
-use Rattle.maxband_run.specs.Command.{Request, Hold, Show, Check, CheckLinks, Solve, Links, Renew, Bands, Round, RoundFrom, Half, TimingOf, Draw, Help, Version, Make, Trial, Sweep, shape}
-use Rattle.maxband_run.specs.Reading.{Value, Values}
-use Rattle.maxband_run.specs.Searched.{cause_of}
-use Rattle.maxband_run.specs.Hold.{HoldFinds}
-use Rattle.maxband_run.specs.Show.{Shows}
-use Rattle.maxband_run.specs.Sought.{Sought, whole_bands, bands_of_links}
-use Rattle.maxband_run.specs.Checked.{Checked, whole_checked, links_checked}
-use Rattle.maxband_run.specs.Check.{Checks}
-use Rattle.maxband_run.specs.Status.{number_of, IsReached}
-use Rattle.maxband_run.specs.Bands.{BandsFinds}
-use Rattle.maxband_run.specs.Round.{RoundFinds, RoundFromFinds}
-use Rattle.maxband_run.specs.Half.{HalfFinds}
-use Rattle.maxband_run.specs.Typed.{WritesTiming, TypedFinds}
-use Rattle.maxband_run.specs.Draw.{DrawFinds}
+use Rattle.run_inputs.specs.Command.{Request, Hold, Show, Check, CheckLinks, Solve, Links, Renew, Bands, Round, RoundFrom, Half, TimingOf, Draw, Help, Version, Make, Trial, Sweep, shape}
+use Rattle.run_inputs.specs.Reading.{Value, Values}
+use Rattle.run_commands.specs.Searched.{cause_of}
+use Rattle.run_commands.specs.Hold.{HoldFinds}
+use Rattle.run_commands.specs.Show.{Shows}
+use Rattle.run_commands.specs.Sought.{Sought, whole_bands, bands_of_links}
+use Rattle.run_commands.specs.Checked.{Checked, whole_checked, links_checked}
+use Rattle.run_commands.specs.Check.{Checks}
+use Rattle.run_inputs.specs.Status.{number_of, IsReached}
+use Rattle.run_commands.specs.Bands.{BandsFinds}
+use Rattle.run_commands.specs.Round.{RoundFinds, RoundFromFinds}
+use Rattle.run_commands.specs.Half.{HalfFinds}
+use Rattle.run_commands.specs.Typed.{WritesTiming, TypedFinds}
+use Rattle.run_commands.specs.Draw.{DrawFinds}
 use Rattle.maxband_run.specs.Run.{Finds}
-use Rattle.maxband_run.specs.declared.cause.Cause.{Cause}
-use Rattle.maxband_run.specs.declared.cause.Cause.TheVariants as cause
+use Rattle.run_inputs.specs.declared.cause.Cause.{Cause}
+use Rattle.run_inputs.specs.declared.cause.Cause.TheVariants as cause
 
 -- ---- each command
 search_reached : (c : Cause) (v : Verdict SitePart) → c ≡ cause_of v → IsReached c

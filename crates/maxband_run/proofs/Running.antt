@@ -2,13 +2,14 @@
 use Rattle.std.proofs.Common.{◌≡◌, ℕ, ◌<◌, List, length, Option, ◌⊎◌, sym, subst}
 use Rattle.std.specs.Prelude.{option_map, IsSome}
 use Rattle.outer_edge.specs.Counts.{SameCounts}
-use Rattle.maxband_run.specs.Command.{Request, shape}
-use Rattle.maxband_run.specs.Reading.{IsRoomForFaults}
-use Rattle.maxband_run.specs.Outside.{Outside, view, IsDone, IsUntouched, IsBroken}
+use Rattle.run_inputs.specs.Command.{Request, shape}
+use Rattle.run_inputs.specs.Reading.{IsRoomForFaults}
+use Rattle.run_inputs.specs.Puts.{view}
+use Rattle.maxband_run.specs.Outside.{Outside, IsDone, IsUntouched, IsBroken}
 use Rattle.maxband_run.specs.Run.{Answers, Ends}
-use Rattle.maxband_run.specs.declared.answer.Put.{Put}
-use Rattle.maxband_run.specs.declared.cause.Cause.{Cause}
-use Rattle.maxband_run.specs.declared.cause.Cause.TheVariants as cause
+use Rattle.run_inputs.specs.declared.answer.Put.{Put}
+use Rattle.run_inputs.specs.declared.cause.Cause.{Cause}
+use Rattle.run_inputs.specs.declared.cause.Cause.TheVariants as cause
 use Rattle.maxband_run.proofs.Delivered.{IsRead, done_ends, done_since, untouched_since, broken_since, answered_since, wanted_counts}
 
 -- an answer was reached, and its lines were passed on

@@ -1,14 +1,11 @@
 -- The outside, as the program sees it at a moment, and what an answer leaves there.
-use Rattle.std.specs.Prelude.{◌≡◌, ◌⊎◌, ℕ, List, Option, Some, None, IfOk, Result, option_map}
+use Rattle.std.specs.Prelude.{◌≡◌, ◌⊎◌, ℕ, List, Option, Some, None}
 use Rattle.outer_edge.specs.Counts.{next_count, NoneFell, SameCounts, CountedAt}
 use Rattle.outer_edge.specs.Held.{SameFiles, OthersSame, HoldsExactly}
 use Rattle.outer_edge.specs.Taken.{Appends, AppendsFront}
 use Rattle.outer_edge.specs.declared.files.Files as files
 use Rattle.outer_edge.specs.declared.sink.Sink as sink
-use Rattle.narrow_fraction.specs.declared.memory.Memory.{Memory}
-use Rattle.maxband_run.specs.declared.answer.Answer.{Answer}
-use Rattle.maxband_run.specs.declared.answer.Put.{Put}
-use Rattle.maxband_run.specs.declared.cause.Cause.{Cause}
+use Rattle.run_inputs.specs.Puts.{NamedBytes}
 
 -- what the files hold, how many reads and how many puts of each name have failed, what the output took, and how many writes have failed
 pub record Outside : Type 0 where
@@ -24,35 +21,6 @@ outside holds reads puts taken writes = record { holds = holds; reads = reads; p
 -- what the program sees of files and an output
 abbrev pub seen : {F K : Type 0} → files.Ghosts F → sink.Ghosts K → F → K → Outside
 seen f k files out = outside (f.holds files) (f.read_faults files) (f.put_faults files) (k.taken out) (k.faults out)
-
--- the bytes that are to be put into a file
-pub record NamedBytes : Type 0 where
-  pub name : List ℕ
-  pub bytes : List ℕ
-
-abbrev pub named : List ℕ → List ℕ → NamedBytes
-named n xs = record { name = n; bytes = xs }
-
--- there are bytes, and this holds of them
-abbrev pub With : (List ℕ → Type 0) → Option (List ℕ) → Type 0
-With p put = (bytes : List ℕ) × (put ≡ Some bytes) × p bytes
-
--- into this file, where there is one, these bytes, where there are any
-abbrev pub put_of : Option (List ℕ) → Option (List ℕ) → Option NamedBytes
-put_of None bytes = None
-put_of (Some name) None = None
-put_of (Some name) (Some bytes) = Some (named name bytes)
-
-abbrev pub view : Put → NamedBytes
-view put = named put.name.now put.bytes.items
-
--- of an answer that puts bytes into the file of this name: this is found of its cause, its lines and these bytes
-abbrev pub Puts : List ℕ → (Cause → List ℕ → List ℕ → Type 0) → Result Answer Memory → Type 0
-Puts name p r = IfOk r (λ a. (bytes : List ℕ) × p a.cause a.lines.items bytes × (option_map view a.put ≡ Some (named name bytes)))
-
--- and of one that may put none
-abbrev pub MayPut : List ℕ → (Cause → List ℕ → Option (List ℕ) → Type 0) → Result Answer Memory → Type 0
-MayPut name p r = IfOk r (λ a. (bytes : Option (List ℕ)) × p a.cause a.lines.items bytes × (option_map view a.put ≡ put_of (Some name) bytes))
 
 -- ---- an answer with these lines, of which bytes may be put
 -- the file that is put holds these bytes, where it is told, and every other file is as before

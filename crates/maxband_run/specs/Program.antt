@@ -3,12 +3,12 @@ use Rattle.std.specs.Prelude.{◌≡◌, ◌⊎◌, ℕ, ◌≤◌, List}
 use Rattle.outer_edge.specs.Counts.{NoneFell}
 use Rattle.outer_edge.specs.declared.files.Files as files
 use Rattle.outer_edge.specs.declared.sink.Sink as sink
-use Rattle.maxband_run.specs.Command.{request_of, shape}
+use Rattle.run_inputs.specs.Command.{request_of, shape}
 use Rattle.maxband_run.specs.Outside.{seen, OthersKept, PutsCounted}
 use Rattle.maxband_run.specs.Run.{Ends, LeavesAlone}
-use Rattle.maxband_run.specs.Status.{number_of, no_words}
-use Rattle.maxband_run.specs.declared.cause.Cause.{Cause}
-use Rattle.maxband_run.specs.declared.cause.Cause.TheVariants as cause
+use Rattle.run_inputs.specs.Status.{number_of, no_words}
+use Rattle.run_inputs.specs.declared.cause.Cause.{Cause}
+use Rattle.run_inputs.specs.declared.cause.Cause.TheVariants as cause
 
 -- These words were run, from the files and the output before to those after, and the status is the number of the cause.
 pub record ExitsBy {F K : Type 0} (f : files.Ghosts F) (k : sink.Ghosts K) (before after : F) (old new : K) (words : List (List ℕ)) (status : ℕ) : Type 0 where

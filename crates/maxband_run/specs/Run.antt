@@ -3,29 +3,30 @@ use Rattle.std.specs.Prelude.{◌≡◌, ◌⊎◌, ℕ, List, [], Option, Some,
 use Rattle.narrow_fraction.specs.declared.memory.Memory.{Memory}
 use Rattle.outer_edge.specs.Counts.{SameCounts}
 use Rattle.outer_edge.specs.declared.files.Files.{Ghosts}
-use Rattle.maxband_run.specs.Outside.{Outside, NamedBytes, With, put_of, view, IsDone, IsUntouched, IsBroken}
-use Rattle.maxband_run.specs.Command.{Request, Hold, Show, Check, CheckLinks, Solve, Links, Renew, Bands, Round, RoundFrom, Half, TimingOf, Draw, Help, Version, Make, Trial, Sweep, shape}
-use Rattle.maxband_run.specs.Reading.{Input, Values, AreRead, StopsReading, end_of}
-use Rattle.maxband_run.specs.Lines.{words_line}
-use Rattle.maxband_run.specs.Hold.{HoldFinds}
-use Rattle.maxband_run.specs.Show.{Shows}
-use Rattle.maxband_run.specs.Check.{CheckFinds, CheckLinksFinds}
-use Rattle.maxband_run.specs.Solve.{IsSolution}
-use Rattle.maxband_run.specs.Links.{IsLinkSolution}
-use Rattle.maxband_run.specs.Renew.{IsRenewal}
-use Rattle.maxband_run.specs.Bands.{BandsFinds}
-use Rattle.maxband_run.specs.Round.{RoundFinds, RoundFromFinds}
-use Rattle.maxband_run.specs.Half.{HalfFinds}
-use Rattle.maxband_run.specs.Typed.{TypedFinds}
-use Rattle.maxband_run.specs.Draw.{DrawFinds}
-use Rattle.maxband_run.specs.Help.{HelpFinds, VersionFinds}
-use Rattle.maxband_run.specs.Make.{Makes}
-use Rattle.maxband_run.specs.Trial.{IsTrial}
-use Rattle.maxband_run.specs.Sweep.{IsSweep}
-use Rattle.maxband_run.specs.declared.answer.Answer.{Answer}
-use Rattle.maxband_run.specs.declared.answer.Unread.{Unread}
-use Rattle.maxband_run.specs.declared.cause.Cause.{Cause}
-use Rattle.maxband_run.specs.declared.cause.Cause.TheVariants as cause
+use Rattle.run_inputs.specs.Puts.{NamedBytes, With, put_of, view}
+use Rattle.maxband_run.specs.Outside.{Outside, IsDone, IsUntouched, IsBroken}
+use Rattle.run_inputs.specs.Command.{Request, Hold, Show, Check, CheckLinks, Solve, Links, Renew, Bands, Round, RoundFrom, Half, TimingOf, Draw, Help, Version, Make, Trial, Sweep, shape}
+use Rattle.run_inputs.specs.Reading.{Input, Values, AreRead, StopsReading, end_of}
+use Rattle.run_inputs.specs.Lines.{words_line}
+use Rattle.run_commands.specs.Hold.{HoldFinds}
+use Rattle.run_commands.specs.Show.{Shows}
+use Rattle.run_commands.specs.Check.{CheckFinds, CheckLinksFinds}
+use Rattle.run_commands.specs.Solve.{IsSolution}
+use Rattle.run_commands.specs.Links.{IsLinkSolution}
+use Rattle.run_commands.specs.Renew.{IsRenewal}
+use Rattle.run_commands.specs.Bands.{BandsFinds}
+use Rattle.run_commands.specs.Round.{RoundFinds, RoundFromFinds}
+use Rattle.run_commands.specs.Half.{HalfFinds}
+use Rattle.run_commands.specs.Typed.{TypedFinds}
+use Rattle.run_commands.specs.Draw.{DrawFinds}
+use Rattle.run_commands.specs.Help.{HelpFinds, VersionFinds}
+use Rattle.run_commands.specs.Make.{Makes}
+use Rattle.run_commands.specs.Trial.{IsTrial}
+use Rattle.run_commands.specs.Sweep.{IsSweep}
+use Rattle.run_inputs.specs.declared.answer.Answer.{Answer}
+use Rattle.run_inputs.specs.declared.answer.Unread.{Unread}
+use Rattle.run_inputs.specs.declared.cause.Cause.{Cause}
+use Rattle.run_inputs.specs.declared.cause.Cause.TheVariants as cause
 
 -- What each command finds of the values that its files are read as: the cause, the lines, and the bytes of the file that it puts, where it puts one.
 abbrev pub Finds : (asked : Option Request) → Values (shape asked).inputs → Cause → List ℕ → Option (List ℕ) → Type 0

@@ -1,34 +1,32 @@
 //! The answers of the commands: their files are read one after the other, and what is found of these is told.
 
 ghost use Rattle.std.specs.Prelude.{◌≡◌, Some, None, IfOk, map, option_map, string_bytes};
-ghost use Rattle.maxband_run.specs.Lines.{words_line};
-ghost use Rattle.maxband_run.specs.Reading.{LeavesFiles};
-ghost use Rattle.maxband_run.specs.Command.{Hold, Show, Check, CheckLinks, Solve, Links, Renew, Bands, Round, RoundFrom, Half, TimingOf, Draw, Sweep, view, shape, InLimits};
+ghost use Rattle.run_inputs.specs.Lines.{words_line};
+ghost use Rattle.run_inputs.specs.Reading.{LeavesFiles};
+ghost use Rattle.run_inputs.specs.Command.{Hold, Show, Check, CheckLinks, Solve, Links, Renew, Bands, Round, RoundFrom, Half, TimingOf, Draw, Sweep, view, shape, InLimits};
 ghost use Rattle.maxband_run.specs.Run.{ended, IsAnswered, LeavesAlone};
 
-use crate::answer::{Answer, Unread, told};
-use crate::bands::bands;
-use crate::cause::Cause;
-use crate::check::check;
-use crate::check_links::check_links;
-use crate::command::Command;
-use crate::draw::draw_timing;
-use crate::half::half_cycle;
-use crate::help::{help, version};
-use crate::hold::hold;
-use crate::inputs::{read_both, read_one, read_three};
-use crate::lines::words_line;
-use crate::links::links;
-use crate::make::make;
-use crate::renew::renew;
-use crate::round::{round, round_from};
-use crate::show::show;
-use crate::solve::solve;
-use crate::sweep::sweep;
-use crate::trial::trial;
-use crate::typed::typed_timing;
 use narrow_fraction::Memory;
 use outer_edge::Files;
+use run_commands::bands::bands;
+use run_commands::check::check;
+use run_commands::check_links::check_links;
+use run_commands::draw::draw_timing;
+use run_commands::half::half_cycle;
+use run_commands::help::{help, version};
+use run_commands::hold::hold;
+use run_commands::links::links;
+use run_commands::make::make;
+use run_commands::renew::renew;
+use run_commands::round::{round, round_from};
+use run_commands::show::show;
+use run_commands::solve::solve;
+use run_commands::sweep::sweep;
+use run_commands::trial::trial;
+use run_commands::typed::typed_timing;
+use run_inputs::{
+    Answer, Cause, Command, Unread, read_both, read_one, read_three, told, words_line,
+};
 use std::alloc::Global;
 
 /// The answer to words that are none of the usages.

@@ -3,12 +3,12 @@
 ghost use Rattle.std.specs.Prelude.{◌≡◌, ◌⊎◌, IfErr, IfOk, IsErr, MatchResult, OnErr, drop, map, string_bytes};
 ghost use Rattle.std.specs.Process.{exit_status};
 ghost use Rattle.std.specs.Vec.Iter.{into_iter_items};
-ghost use Rattle.maxband_run.specs.Status.{number_of, no_words};
+ghost use Rattle.run_inputs.specs.Status.{number_of, no_words};
 ghost use Rattle.maxband_run.specs.Program.{ExitsBy, Exits, HasNoWords};
 
-use crate::cause::{Cause, NO_WORDS};
 use crate::top::run;
 use outer_edge::{Files, RealFiles, RealOut, Sink};
+use run_inputs::{Cause, NO_WORDS};
 use std::alloc::{AllocError, Global};
 use std::io::ErrorKind;
 use std::process::ExitCode;

@@ -2,17 +2,16 @@
 
 ghost use Rattle.std.specs.Prelude.{◌≡◌, ◌≤◌, map, string_bytes};
 ghost use Rattle.outer_edge.specs.Counts.{NoneFell};
-ghost use Rattle.maxband_run.specs.Status.{number_of};
-ghost use Rattle.maxband_run.specs.Command.{request_of, shape};
+ghost use Rattle.run_inputs.specs.Status.{number_of};
+ghost use Rattle.run_inputs.specs.Command.{request_of, shape};
 ghost use Rattle.maxband_run.specs.Outside.{seen, OthersKept, PutsCounted};
 ghost use Rattle.maxband_run.specs.Run.{Ends, LeavesAlone};
 
 use crate::answers::answer_to;
-use crate::cause::{Cause, Status};
-use crate::command::{command_in, room_for_faults};
 use crate::finish::{Undelivered, deliver};
 use narrow_fraction::Memory;
 use outer_edge::{Files, Sink};
+use run_inputs::{Cause, Status, command_in, room_for_faults};
 use std::alloc::Global;
 
 fn status(cause: Cause) -> Status

@@ -1,13 +1,13 @@
 -- A run that ends by a failed read has counted one, so over files that count none there is no such run.
 use Rattle.std.proofs.Common.{◌≡◌, ◌≢◌, ℕ, ◌+◌, List, [], ◌∷◌, Option, inl, inr, arith}
 use Rattle.outer_edge.specs.Counts.{next_count}
-use Rattle.maxband_run.specs.Command.{Request, shape}
+use Rattle.run_inputs.specs.Command.{Request, shape}
 use Rattle.maxband_run.specs.Outside.{Outside}
-use Rattle.maxband_run.specs.Reading.{Input, StopsReading}
+use Rattle.run_inputs.specs.Reading.{Input, StopsReading}
 use Rattle.maxband_run.specs.Run.{Ends}
-use Rattle.maxband_run.specs.Status.{number_of}
-use Rattle.maxband_run.specs.declared.cause.Cause.{Cause}
-use Rattle.maxband_run.specs.declared.cause.Cause.TheVariants as cause
+use Rattle.run_inputs.specs.Status.{number_of}
+use Rattle.run_inputs.specs.declared.cause.Cause.{Cause}
+use Rattle.run_inputs.specs.declared.cause.Cause.TheVariants as cause
 use Rattle.maxband_run.proofs.Reached.{finds_reached}
 
 stop_counted : (is : List Input) (place : ℕ) (held : List ℕ → Option (List ℕ)) (before after : List ℕ → ℕ) (file : ℕ) (lines : List ℕ)

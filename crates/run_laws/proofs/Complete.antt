@@ -2,23 +2,24 @@
 use Rattle.std.proofs.Common.{◌≡◌, ℕ, ◌+◌, List, [], ◌∷◌, Option, Some, None, ◌⊎◌, inl, inr, refl, sym, ◌∙◌, ap, subst, arith}
 use Rattle.outer_edge.specs.Counts.{next_count, Rose, SameCounts}
 use Rattle.workload_maker.specs.Made.{made_street}
-use Rattle.maxband_run.specs.Command.{Request, Solve, Links, Renew, RoundFrom, TimingOf, Draw, Make, Trial, Sweep, shape}
-use Rattle.maxband_run.specs.Outside.{Outside, NamedBytes, named, put_of, IsDone, IsBroken}
+use Rattle.run_inputs.specs.Command.{Request, Solve, Links, Renew, RoundFrom, TimingOf, Draw, Make, Trial, Sweep, shape}
+use Rattle.run_inputs.specs.Puts.{NamedBytes, named, put_of}
+use Rattle.maxband_run.specs.Outside.{Outside, IsDone, IsBroken}
 use Rattle.progression.specs.Street.{Street}
 use Rattle.progression.specs.TimingRecord.{TimingRecord}
 use Rattle.certificate_model.specs.Warrants.{Warrant}
-use Rattle.maxband_run.specs.Round.{RoundFromFinds}
+use Rattle.run_commands.specs.Round.{RoundFromFinds}
 use Rattle.description_reader.specs.Typed.{Typed}
-use Rattle.maxband_run.specs.Typed.{WritesTiming, TypedFinds}
-use Rattle.maxband_run.specs.Draw.{DrawFinds}
+use Rattle.run_commands.specs.Typed.{WritesTiming, TypedFinds}
+use Rattle.run_commands.specs.Draw.{DrawFinds}
 use Rattle.run_laws.specs.PlanLaws.{IsDrawingEnd, DrawIsComplete, IsRoundingEnd, RoundFromIsComplete, IsTypedEnd, TimingIsComplete}
-use Rattle.maxband_run.specs.Reading.{Input, Values, AreRead, AreTold, IsUnread, StopsReading}
+use Rattle.run_inputs.specs.Reading.{Input, Values, AreRead, AreTold, IsUnread, StopsReading}
 use Rattle.maxband_run.specs.Run.{Answers, Answered, Ends}
 use Rattle.run_laws.specs.Laws.{IsFault, IsVerdict, FaultsAreTold, SolveIsComplete, LinksAreComplete, MakeIsComplete, TrialIsComplete, SweepIsComplete, RenewIsComplete}
-use Rattle.maxband_run.specs.declared.cause.Cause.{Cause}
-use Rattle.maxband_run.specs.declared.cause.Cause.TheVariants as cause
+use Rattle.run_inputs.specs.declared.cause.Cause.{Cause}
+use Rattle.run_inputs.specs.declared.cause.Cause.TheVariants as cause
 use Rattle.run_laws.proofs.Readers.{OneReading, all_apart}
-use Rattle.maxband_run.proofs.Stopped.{stops_stop}
+use Rattle.run_inputs.proofs.Stopped.{stops_stop}
 use Rattle.run_laws.proofs.Once.{verdict_cause, show_done}
 
 -- what was counted rose

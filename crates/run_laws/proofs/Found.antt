@@ -1,16 +1,17 @@
 -- What a run found, where no file stopped it and it ended with its answer; and which cause has a number.
 use Rattle.std.proofs.Common.{◌≡◌, ℕ, List, Option, inl, inr, refl, subst}
-use Rattle.maxband_run.specs.Command.{Request, shape}
-use Rattle.maxband_run.specs.Outside.{Outside, NamedBytes, IsDone}
+use Rattle.run_inputs.specs.Command.{Request, shape}
+use Rattle.run_inputs.specs.Puts.{NamedBytes}
+use Rattle.maxband_run.specs.Outside.{Outside, IsDone}
 use Rattle.maxband_run.specs.Run.{Answered, Ends}
-use Rattle.maxband_run.specs.Status.{number_of, IsReached}
-use Rattle.maxband_run.specs.declared.cause.Cause.{Cause}
-use Rattle.maxband_run.specs.declared.cause.Cause.TheVariants as cause
+use Rattle.run_inputs.specs.Status.{number_of, IsReached}
+use Rattle.run_inputs.specs.declared.cause.Cause.{Cause}
+use Rattle.run_inputs.specs.declared.cause.Cause.TheVariants as cause
 use Rattle.half_integer.specs.declared.end.HalfEnd.{HalfEnd}
 use Rattle.second_plan.specs.declared.answer.PlanEnd.{PlanEnd}
 use Rattle.maxband_run.proofs.Reached.{four_reached}
 use Rattle.run_laws.proofs.PutRead.{reached_ends}
-use Rattle.maxband_run.proofs.Stopped.{IsStop, stops_stop}
+use Rattle.run_inputs.proofs.Stopped.{IsStop, stops_stop}
 
 pub record Found (before now : Outside) (asked : Option Request) (c : Cause) : Type 0 where
   pub lines : List ℕ

@@ -1,11 +1,11 @@
 -- What `--help` says.
 use Rattle.std.proofs.Common.{◌≡◌, ℕ, List, [], ◌∷◌, ◌++◌, Some, flat_map, ◌⊎◌, inl, inr, refl, sym, ◌∙◌, ap, subst, append_assoc}
 use Rattle.outer_edge.specs.Taken.{Appends}
-use Rattle.maxband_run.specs.Command.{Help}
-use Rattle.maxband_run.specs.Usages.{usage_line, usages, usage_of, statuses_line}
+use Rattle.run_inputs.specs.Command.{Help}
+use Rattle.run_commands.specs.Usages.{usage_line, usages, usage_of, statuses_line}
 use Rattle.run_laws.specs.Laws.{HelpSays}
-use Rattle.maxband_run.specs.declared.usage.Usage.{Usage}
-use Rattle.maxband_run.specs.declared.usage.Usage.TheVariants as usage
+use Rattle.run_commands.specs.declared.usage.Usage.{Usage}
+use Rattle.run_commands.specs.declared.usage.Usage.TheVariants as usage
 use Rattle.run_laws.proofs.Found.{found_done}
 
 -- it is one of them

@@ -1,6 +1,6 @@
 -- What a file has, said of the bytes that it tells.
 use Rattle.std.proofs.Common.{ℕ, ◌≤◌, List, length, Some, refl, subst}
-use Rattle.maxband_run.specs.Reading.{HasBytes}
+use Rattle.run_inputs.specs.Reading.{HasBytes}
 
 module _ (limit : ℕ) (x : List ℕ) (p : List ℕ → Type 0) where
   -- they are within the limit, and it holds of them

@@ -27,17 +27,18 @@ use Rattle.description_reader.specs.Typed.{Typed}
 use Rattle.typed_plan.specs.Counts.{count_fault}
 use Rattle.typed_plan.specs.Grid.{too_fine}
 use Rattle.typed_plan.specs.Ends.{OneTiming}
-use Rattle.maxband_run.specs.Lines.{fails_line, refused_line}
-use Rattle.maxband_run.specs.Command.{Request, Hold, Show, Check, CheckLinks, Solve, Links, Renew, Bands, Round, RoundFrom, Half, TimingOf, Draw, Help, Version, Make, Trial, Sweep, shape}
-use Rattle.maxband_run.specs.Reading.{Input, Value, Values}
-use Rattle.maxband_run.specs.Searched.{cause_of}
-use Rattle.maxband_run.specs.Hold.{HoldFinds}
-use Rattle.maxband_run.specs.Show.{Shows}
-use Rattle.maxband_run.specs.Sought.{Sought, whole_bands, bands_of_links}
-use Rattle.maxband_run.specs.Checked.{Checked, whole_checked, links_checked}
-use Rattle.maxband_run.specs.Check.{Rejects, Checks}
-use Rattle.maxband_run.specs.Status.{IsReached}
-use Rattle.maxband_run.specs.Bands.{IsWidestBand, widest_line, BreaksBase, BandsFinds}
+use Rattle.run_inputs.specs.Lines.{refused_line}
+use Rattle.run_commands.specs.Lines.{fails_line}
+use Rattle.run_inputs.specs.Command.{Request, Hold, Show, Check, CheckLinks, Solve, Links, Renew, Bands, Round, RoundFrom, Half, TimingOf, Draw, Help, Version, Make, Trial, Sweep, shape}
+use Rattle.run_inputs.specs.Reading.{Input, Value, Values}
+use Rattle.run_commands.specs.Searched.{cause_of}
+use Rattle.run_commands.specs.Hold.{HoldFinds}
+use Rattle.run_commands.specs.Show.{Shows}
+use Rattle.run_commands.specs.Sought.{Sought, whole_bands, bands_of_links}
+use Rattle.run_commands.specs.Checked.{Checked, whole_checked, links_checked}
+use Rattle.run_commands.specs.Check.{Rejects, Checks}
+use Rattle.run_inputs.specs.Status.{IsReached}
+use Rattle.run_commands.specs.Bands.{IsWidestBand, widest_line, BreaksBase, BandsFinds}
 use Rattle.second_plan.specs.Planned.{IsAnswer}
 use Rattle.second_plan.specs.Ends as second
 use Rattle.second_plan.specs.Ends.{Ends, PlanOrEnd, OnePlan}
@@ -46,14 +47,14 @@ use Rattle.second_plan.specs.declared.answer.PlanEnd.TheVariants as end
 use Rattle.certificate_checker.specs.Accepted.{limit_of, IsAccepted}
 use Rattle.progression.specs.Good.{Good}
 use Rattle.rational_theory.specs.Rational.{ℚ}
-use Rattle.maxband_run.specs.Round.{plan_lines, unplanned_line, IsCertified, IsRounded, IsUnfit, Unplans, RoundFinds, RoundFromFinds}
-use Rattle.maxband_run.specs.Half.{end_line, HalfFinds}
-use Rattle.maxband_run.specs.Typed.{WritesTiming, TypedFinds}
-use Rattle.maxband_run.specs.Draw.{DrawFinds}
+use Rattle.run_commands.specs.Round.{plan_lines, unplanned_line, IsCertified, IsRounded, IsUnfit, Unplans, RoundFinds, RoundFromFinds}
+use Rattle.run_commands.specs.Half.{end_line, HalfFinds}
+use Rattle.run_commands.specs.Typed.{WritesTiming, TypedFinds}
+use Rattle.run_commands.specs.Draw.{DrawFinds}
 use Rattle.maxband_run.specs.Run.{Finds}
 use Rattle.run_laws.specs.Laws.{IsVerdict, Agree}
-use Rattle.maxband_run.specs.declared.cause.Cause.{Cause}
-use Rattle.maxband_run.specs.declared.cause.Cause.TheVariants as cause
+use Rattle.run_inputs.specs.declared.cause.Cause.{Cause}
+use Rattle.run_inputs.specs.declared.cause.Cause.TheVariants as cause
 use Rattle.run_laws.proofs.Readers.{same_refusal}
 
 -- a search gives a verdict

@@ -11,11 +11,11 @@ use Rattle.typed_plan.specs.Ends.{OneTiming}
 use Rattle.half_integer.specs.Answers.{OneEnd}
 use Rattle.second_plan.specs.Ends as second
 use Rattle.second_plan.specs.Ends.{PlanOrEnd, OnePlan}
-use Rattle.maxband_run.specs.Command.{shape}
-use Rattle.maxband_run.specs.Reading.{Input, Values, StopsReading}
+use Rattle.run_inputs.specs.Command.{shape}
+use Rattle.run_inputs.specs.Reading.{Input, Values, StopsReading}
 use Rattle.maxband_run.specs.Run.{Finds}
 use Rattle.run_laws.specs.Laws.{OneAnswer}
-use Rattle.maxband_run.specs.declared.cause.Cause.{Cause}
+use Rattle.run_inputs.specs.declared.cause.Cause.{Cause}
 use Rattle.run_laws.proofs.Readers.{OneReading, one_stop, all_apart, same_values}
 use Rattle.run_laws.proofs.Once.{finds_once, stops_agree}
 

@@ -16,19 +16,19 @@ use Rattle.certificate_checker.specs.Laws.{RefusedIsNotAccepted}
 use Rattle.certificate_checker.proofs.Meaning.{accepted_holds}
 use Rattle.plan_text.specs.Spelling.{timing_text}
 use Rattle.plan_text.specs.Reading.{timing_of}
-use Rattle.maxband_run.specs.Command.{Hold, Round, RoundFrom}
+use Rattle.run_inputs.specs.Command.{Hold, Round, RoundFrom}
 use Rattle.maxband_run.specs.Outside.{Outside}
-use Rattle.maxband_run.specs.Reading.{Reads, Description, Timing}
-use Rattle.maxband_run.specs.Hold.{HoldFinds}
+use Rattle.run_inputs.specs.Reading.{Reads, Description, Timing}
+use Rattle.run_commands.specs.Hold.{HoldFinds}
 use Rattle.maxband_run.specs.Run.{Ends}
 use Rattle.run_laws.specs.PlanLaws.{PutsPlan, RoundSays, RoundFromSays, PlanIsHeld}
-use Rattle.maxband_run.specs.Round.{IsCertified, IsRounded}
-use Rattle.maxband_run.specs.declared.cause.Cause.{Cause}
-use Rattle.maxband_run.specs.declared.cause.Cause.TheVariants as cause
+use Rattle.run_commands.specs.Round.{IsCertified, IsRounded}
+use Rattle.run_inputs.specs.declared.cause.Cause.{Cause}
+use Rattle.run_inputs.specs.declared.cause.Cause.TheVariants as cause
 use Rattle.run_laws.proofs.Complete.{Completes}
 use Rattle.run_laws.proofs.PutRead.{verdict_found, is_put, reads_put, finds_of}
 use Rattle.run_laws.proofs.Found.{zero_is, found_done, found_four}
-use Rattle.maxband_run.proofs.Planning.{claim_bounds}
+use Rattle.run_commands.proofs.Planning.{claim_bounds}
 use Rattle.run_laws.proofs.PlansSay.{round_four, round_ten, from_four, from_ten}
 use Rattle.run_laws.proofs.Readers.{OneReading}
 

@@ -16,22 +16,23 @@ use Rattle.certificate_checker.specs.Laws.{RefusedIsNotAccepted}
 use Rattle.cycle_sweep.specs.declared.row.SweepRow.{SweepRow}
 use Rattle.cycle_sweep.specs.Rows.{IsRow}
 use Rattle.cycle_sweep.specs.Says.{RowsSay}
-use Rattle.maxband_run.specs.Command.{Bands, Round, RoundFrom, Half, TimingOf, Draw, Sweep, shape}
-use Rattle.maxband_run.specs.Outside.{Outside, NamedBytes, put_of, IsPut, IsDone}
-use Rattle.maxband_run.specs.Half.{HasNoHalfPlan, IsHalfPlan}
+use Rattle.run_inputs.specs.Command.{Bands, Round, RoundFrom, Half, TimingOf, Draw, Sweep}
+use Rattle.run_inputs.specs.Puts.{NamedBytes, put_of}
+use Rattle.maxband_run.specs.Outside.{Outside, IsPut, IsDone}
+use Rattle.run_commands.specs.Half.{HasNoHalfPlan, IsHalfPlan}
 use Rattle.description_reader.specs.Typed.{Typed}
 use Rattle.typed_plan.specs.Ends.{IsTimingOf}
-use Rattle.maxband_run.specs.Typed.{WritesTiming, TypedFinds}
-use Rattle.maxband_run.specs.Draw.{DrawFinds}
-use Rattle.maxband_run.specs.Reading.{Reads, Description, Timed, TypedPlan}
+use Rattle.run_commands.specs.Typed.{WritesTiming, TypedFinds}
+use Rattle.run_commands.specs.Draw.{DrawFinds}
+use Rattle.run_inputs.specs.Reading.{Reads, Description, Timed, TypedPlan}
 use Rattle.maxband_run.specs.Run.{Ends}
-use Rattle.maxband_run.specs.Sought.{whole_bands}
-use Rattle.maxband_run.specs.Checked.{whole_checked}
+use Rattle.run_commands.specs.Sought.{whole_bands}
+use Rattle.run_commands.specs.Checked.{whole_checked}
 use Rattle.run_laws.specs.Laws.{SaysRejected}
 use Rattle.run_laws.specs.PlanLaws.{SaysWidest, SaysNoBase, BandsSay, PutsHalf, SaysNoHalf, SaysHalf, SaysUnmatched, HalfSays, SaysUnplanned, SaysUnplannedFrom, PutsTyped, StopsTyped, SaysMiscounted, SaysBroken, SaysTooFine, TimingSays, PutsPicture, SaysFailing, SaysUntimed, DrawSays, SaysCycle, PutsTable, SweepSays}
-use Rattle.maxband_run.specs.Status.{number_of, IsReached}
-use Rattle.maxband_run.specs.declared.cause.Cause.{Cause}
-use Rattle.maxband_run.specs.declared.cause.Cause.TheVariants as cause
+use Rattle.run_inputs.specs.Status.{number_of, IsReached}
+use Rattle.run_inputs.specs.declared.cause.Cause.{Cause}
+use Rattle.run_inputs.specs.declared.cause.Cause.TheVariants as cause
 use Rattle.run_laws.proofs.Found.{Found, found, found_done, found_four, ten_is, eleven_is}
 use Rattle.run_laws.proofs.Once.{unplanned_accepted}
 use Rattle.run_laws.proofs.PutRead.{is_put, reached_ends}

@@ -7,16 +7,17 @@ use Rattle.certificate_checker.specs.Laws.{RefusedIsNotAccepted}
 use Rattle.link_proof.specs.LinkLaws.{LinkRefusedIsNotAccepted}
 use Rattle.branch_tree.specs.Certified.{warrant_of}
 use Rattle.multi_band.specs.LinkCertified.{link_warrant_of}
-use Rattle.maxband_run.specs.Command.{Request, Check, CheckLinks, Solve, Links}
-use Rattle.maxband_run.specs.Outside.{Outside, put_of, IsPut}
-use Rattle.maxband_run.specs.Reading.{Value, IsReadAs, Reads, Description}
-use Rattle.maxband_run.specs.Sought.{Sought, whole_bands, bands_of_links}
-use Rattle.maxband_run.specs.Checked.{Checked, whole_checked, links_checked}
-use Rattle.maxband_run.specs.Check.{Accepts, Checks}
+use Rattle.run_inputs.specs.Command.{Request, Check, CheckLinks, Solve, Links}
+use Rattle.run_inputs.specs.Puts.{put_of}
+use Rattle.maxband_run.specs.Outside.{Outside, IsPut}
+use Rattle.run_inputs.specs.Reading.{Value, IsReadAs, Reads, Description}
+use Rattle.run_commands.specs.Sought.{Sought, whole_bands, bands_of_links}
+use Rattle.run_commands.specs.Checked.{Checked, whole_checked, links_checked}
+use Rattle.run_commands.specs.Check.{Accepts, Checks}
 use Rattle.maxband_run.specs.Run.{Ends}
 use Rattle.run_laws.specs.Laws.{IsVerdict, Solves, whole_solves, links_solve, SearchIsAccepted, PutIsAccepted, PutLinksAreAccepted}
-use Rattle.maxband_run.specs.Status.{IsReached}
-use Rattle.maxband_run.specs.declared.cause.Cause.{Cause}
+use Rattle.run_inputs.specs.Status.{IsReached}
+use Rattle.run_inputs.specs.declared.cause.Cause.{Cause}
 use Rattle.run_laws.proofs.Complete.{Completes}
 use Rattle.run_laws.proofs.PutRead.{reached_ends, verdict_found, is_put, reads_put, finds_of}
 use Rattle.run_laws.proofs.Once.{RefusedApart, verdict_reached}

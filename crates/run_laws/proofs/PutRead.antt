@@ -3,17 +3,18 @@ use Rattle.std.proofs.Common.{◌≡◌, ℕ, ◌≤◌, List, length, Option, S
 use Rattle.std.specs.Prelude.{IsSome, IfSome}
 use Rattle.outer_edge.specs.Held.{HoldsExactly}
 use Rattle.outer_edge.specs.Taken.{Appends}
-use Rattle.maxband_run.specs.Command.{Request, shape}
-use Rattle.maxband_run.specs.Outside.{Outside, NamedBytes, put_of, IsPut, IsDone}
-use Rattle.maxband_run.specs.Reading.{Reader, Value, most_bytes, IsReadAs, Reads, Values, AreRead, AreTold}
+use Rattle.run_inputs.specs.Command.{Request, shape}
+use Rattle.run_inputs.specs.Puts.{NamedBytes, put_of}
+use Rattle.maxband_run.specs.Outside.{Outside, IsPut, IsDone}
+use Rattle.run_inputs.specs.Reading.{Reader, Value, most_bytes, IsReadAs, Reads, Values, AreRead, AreTold}
 use Rattle.maxband_run.specs.Run.{Answers, Answered, Finds, Ends}
 use Rattle.run_laws.specs.Laws.{IsVerdict}
-use Rattle.maxband_run.specs.Status.{IsReached}
-use Rattle.maxband_run.specs.declared.cause.Cause.{Cause}
-use Rattle.maxband_run.specs.declared.cause.Cause.TheVariants as cause
+use Rattle.run_inputs.specs.Status.{IsReached}
+use Rattle.run_inputs.specs.declared.cause.Cause.{Cause}
+use Rattle.run_inputs.specs.declared.cause.Cause.TheVariants as cause
 use Rattle.run_laws.proofs.Holding.{told_has}
 use Rattle.run_laws.proofs.Readers.{OneReading, all_apart, same_values}
-use Rattle.maxband_run.proofs.Stopped.{IsStop, stops_stop}
+use Rattle.run_inputs.proofs.Stopped.{IsStop, stops_stop}
 
 pub reached_ends : (before now : Outside) (asked : Option Request) (c : Cause) → IsReached c → Ends before now asked c
     → (lines : List ℕ) × (put : Option NamedBytes) × Answers before.holds before.reads now.reads asked c lines put × IsDone before now lines put

@@ -10,12 +10,12 @@ use Rattle.plan_text.specs.Reading.{timing_of}
 use Rattle.plan_text.specs.CertificateReading.{certificate_of}
 use Rattle.link_proof.specs.LinkWarrants.{links_of}
 use Rattle.plan_text.specs.declared.fault.BadText.{BadText}
-use Rattle.maxband_run.specs.Timed.{timed_of}
-use Rattle.maxband_run.specs.Lines.{refused_line, bad_text_line, too_long_line}
-use Rattle.maxband_run.specs.Reading.{Reader, Description, Timing, Certificate, LinkCertificate, Timed, TypedPlan, HasFault, IsBadText, Value, most_bytes, IsReadAs, IsRefusedFor, Input, HasBytes, Reads, IsUnread, Values, AreRead, StopsReading, AreTold}
-use Rattle.maxband_run.specs.Status.{IsReached}
-use Rattle.maxband_run.specs.declared.cause.Cause.{Cause}
-use Rattle.maxband_run.specs.declared.cause.Cause.TheVariants as cause
+use Rattle.run_inputs.specs.Timed.{timed_of}
+use Rattle.run_inputs.specs.Lines.{refused_line, bad_text_line, too_long_line}
+use Rattle.run_inputs.specs.Reading.{Reader, Description, Timing, Certificate, LinkCertificate, Timed, TypedPlan, HasFault, IsBadText, Value, most_bytes, IsReadAs, IsRefusedFor, Input, HasBytes, Reads, IsUnread, Values, AreRead, StopsReading, AreTold}
+use Rattle.run_inputs.specs.Status.{IsReached}
+use Rattle.run_inputs.specs.declared.cause.Cause.{Cause}
+use Rattle.run_inputs.specs.declared.cause.Cause.TheVariants as cause
 use Rattle.run_laws.proofs.Holding.{has_told}
 
 -- ---- bytes

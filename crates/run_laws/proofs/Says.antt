@@ -34,21 +34,21 @@ use Rattle.multi_band.specs.LinkRules.{link_rules}
 use Rattle.multi_band.specs.LinkSearches.{link_incumbent_of}
 use Rattle.multi_band.specs.LinkSites.{IsLinkSiteOf}
 use Rattle.multi_band.specs.LinkEnough.{link_enough_of}
-use Rattle.maxband_run.specs.Command.{Request, Hold, Check, CheckLinks, Solve, Links, Renew}
+use Rattle.run_inputs.specs.Command.{Request, Hold, Check, CheckLinks, Solve, Links, Renew}
 use Rattle.maxband_run.specs.Outside.{Outside}
 use Rattle.branch_tree.specs.Kinds.{ProvesOf as Proves}
 use Rattle.branch_tree.specs.WholeBands.{whole_bands as kind_of_whole}
-use Rattle.maxband_run.specs.Searched.{cause_of}
-use Rattle.maxband_run.specs.Reading.{Value, IsReadAs, Reads, Description}
-use Rattle.maxband_run.specs.Sought.{Sought, whole_bands, bands_of_links}
+use Rattle.run_commands.specs.Searched.{cause_of}
+use Rattle.run_inputs.specs.Reading.{Value, IsReadAs, Reads, Description}
+use Rattle.run_commands.specs.Sought.{Sought, whole_bands, bands_of_links}
 use Rattle.maxband_run.specs.Run.{Ends}
 use Rattle.run_laws.specs.Laws.{IsVerdict, IsWholeLimit, PutsBest, PutsNone, PutsBound, SearchSays, SolveSays, LinksSay, HoldSays, CheckSays, CheckLinksSays, SaysGood, SaysBroken, SaysAccepted, SaysRejected, SaysChecked, PutsRenewed, RenewSays}
 use Rattle.run_laws.specs.StopLaws.{IsOutOfWork, StopsFor, SearchStops, whole_stops, link_stops, StopSays, SolveStopSays, LinksStopSays}
-use Rattle.maxband_run.specs.Status.{number_of}
-use Rattle.maxband_run.specs.declared.cause.Cause.{Cause}
-use Rattle.maxband_run.specs.declared.cause.Cause.TheVariants as cause
-use Rattle.maxband_run.specs.Checked.{Checked, whole_checked, links_checked}
-use Rattle.maxband_run.specs.Check.{Accepts, Rejects, Checks}
+use Rattle.run_inputs.specs.Status.{number_of}
+use Rattle.run_inputs.specs.declared.cause.Cause.{Cause}
+use Rattle.run_inputs.specs.declared.cause.Cause.TheVariants as cause
+use Rattle.run_commands.specs.Checked.{Checked, whole_checked, links_checked}
+use Rattle.run_commands.specs.Check.{Accepts, Rejects, Checks}
 use Rattle.run_laws.proofs.Complete.{Completes}
 use Rattle.run_laws.proofs.Found.{Found, zero_is, found_done, found_four}
 use Rattle.maxband_run.proofs.Reached.{AllFour}

@@ -1,22 +1,23 @@
 -- When the statuses of words and of faults come.
 use Rattle.std.proofs.Common.{◌≡◌, ℕ, ◌+◌, List, [], ◌∷◌, Option, Some, None, inl, inr, refl, ◌∙◌, ap, subst, arith}
 use Rattle.outer_edge.specs.Counts.{Rose}
-use Rattle.maxband_run.specs.Command.{Request, Hold, Show, Check, CheckLinks, Solve, Links, Renew, Bands, Round, RoundFrom, Half, TimingOf, Draw, Help, Version, Make, Trial, Sweep, shape}
-use Rattle.maxband_run.specs.Outside.{Outside, NamedBytes}
+use Rattle.run_inputs.specs.Command.{Request, Hold, Show, Check, CheckLinks, Solve, Links, Renew, Bands, Round, RoundFrom, Half, TimingOf, Draw, Help, Version, Make, Trial, Sweep, shape}
+use Rattle.run_inputs.specs.Puts.{NamedBytes}
+use Rattle.maxband_run.specs.Outside.{Outside}
 use Rattle.progression.specs.Street.{Street}
 use Rattle.progression.specs.TimingRecord.{TimingRecord}
 use Rattle.description_reader.specs.Typed.{Typed}
-use Rattle.maxband_run.specs.Typed.{TypedFinds}
-use Rattle.maxband_run.specs.Draw.{DrawFinds}
-use Rattle.maxband_run.specs.Reading.{Input, Value, Values, StopsReading}
-use Rattle.maxband_run.specs.Sought.{Sought, whole_bands, bands_of_links}
-use Rattle.maxband_run.specs.Checked.{Checked, whole_checked, links_checked}
-use Rattle.maxband_run.specs.Check.{Checks}
+use Rattle.run_commands.specs.Typed.{TypedFinds}
+use Rattle.run_commands.specs.Draw.{DrawFinds}
+use Rattle.run_inputs.specs.Reading.{Input, Value, Values, StopsReading}
+use Rattle.run_commands.specs.Sought.{Sought, whole_bands, bands_of_links}
+use Rattle.run_commands.specs.Checked.{Checked, whole_checked, links_checked}
+use Rattle.run_commands.specs.Check.{Checks}
 use Rattle.maxband_run.specs.Run.{Answers, Finds, Ends}
 use Rattle.run_laws.specs.StopLaws.{WordsAreTold, FaultsAreCounted}
-use Rattle.maxband_run.specs.Status.{number_of, IsReached}
-use Rattle.maxband_run.specs.declared.cause.Cause.{Cause}
-use Rattle.maxband_run.specs.declared.cause.Cause.TheVariants as cause
+use Rattle.run_inputs.specs.Status.{number_of, IsReached}
+use Rattle.run_inputs.specs.declared.cause.Cause.{Cause}
+use Rattle.run_inputs.specs.declared.cause.Cause.TheVariants as cause
 use Rattle.run_laws.proofs.Complete.{rose, not_broken}
 use Rattle.run_laws.proofs.Found.{found, five_is, six_is, seven_is}
 use Rattle.maxband_run.proofs.Reached.{AllFour, finds_reached}

@@ -14,15 +14,16 @@ use Rattle.cycle_sweep.specs.Rows.{at_cycle}
 use Rattle.cycle_sweep.specs.declared.row.SweepRow.{SweepRow}
 use Rattle.cycle_sweep.specs.declared.row.SweepRow.TheVariants as row
 use Rattle.workload_maker.specs.Made.{made_street}
-use Rattle.maxband_run.specs.Command.{Request, Solve, Links, Trial, Sweep}
-use Rattle.maxband_run.specs.Outside.{Outside, NamedBytes}
-use Rattle.maxband_run.specs.Reading.{input, IsUnread, Description}
-use Rattle.maxband_run.specs.Searched.{cause_of}
+use Rattle.run_inputs.specs.Command.{Request, Solve, Links, Trial, Sweep}
+use Rattle.run_inputs.specs.Puts.{NamedBytes}
+use Rattle.maxband_run.specs.Outside.{Outside}
+use Rattle.run_inputs.specs.Reading.{input, IsUnread, Description}
+use Rattle.run_commands.specs.Searched.{cause_of}
 use Rattle.maxband_run.specs.Run.{Answers, Ends}
 use Rattle.run_laws.specs.PlanLaws.{SaysCycle}
 use Rattle.run_laws.specs.StopLaws.{IsUnlimited, EndsOtherThanByWork, IsOtherThanByWork, AllNeverStopsByWork}
-use Rattle.maxband_run.specs.declared.cause.Cause.{Cause}
-use Rattle.maxband_run.specs.declared.cause.Cause.TheVariants as cause
+use Rattle.run_inputs.specs.declared.cause.Cause.{Cause}
+use Rattle.run_inputs.specs.declared.cause.Cause.TheVariants as cause
 
 verdict_end : (enough : ℕ) (verdict : Verdict SitePart) → IsWithin enough None verdict → EndsOtherThanByWork (cause_of verdict)
 verdict_end enough Best h = tt

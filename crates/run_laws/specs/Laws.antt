@@ -20,20 +20,21 @@ use Rattle.branch_and_bound.specs.declared.found.Stop.TheVariants.{Work, Wide}
 use Rattle.branch_tree.specs.declared.site.SitePart.{SitePart}
 use Rattle.branch_tree.specs.Certified.{warrant_of}
 use Rattle.multi_band.specs.LinkCertified.{link_warrant_of}
-use Rattle.maxband_run.specs.CheckLines.{accepted_line}
-use Rattle.maxband_run.specs.Lines.{holds_lines}
-use Rattle.maxband_run.specs.Outside.{Outside, NamedBytes}
-use Rattle.maxband_run.specs.Command.{Request, Hold, Check, CheckLinks, Solve, Links, Renew, Help, Make, Trial, Sweep, shape}
-use Rattle.maxband_run.specs.Reading.{Input, Value, most_bytes, IsReadAs, Reads, Describes, AreTold, Description, Timing, Certificate}
-use Rattle.maxband_run.specs.Usages.{usage_line, usage_of}
-use Rattle.maxband_run.specs.Sought.{Sought, whole_bands, bands_of_links}
-use Rattle.maxband_run.specs.Checked.{Checked, whole_checked, links_checked}
-use Rattle.maxband_run.specs.Solve.{IsSolution}
-use Rattle.maxband_run.specs.Links.{IsLinkSolution}
+use Rattle.run_commands.specs.CheckLines.{accepted_line}
+use Rattle.run_commands.specs.Lines.{holds_lines}
+use Rattle.run_inputs.specs.Puts.{NamedBytes}
+use Rattle.maxband_run.specs.Outside.{Outside}
+use Rattle.run_inputs.specs.Command.{Request, Hold, Check, CheckLinks, Solve, Links, Renew, Help, Make, Trial, Sweep, shape}
+use Rattle.run_inputs.specs.Reading.{Input, Value, most_bytes, IsReadAs, Reads, Describes, AreTold, Description, Timing, Certificate}
+use Rattle.run_commands.specs.Usages.{usage_line, usage_of}
+use Rattle.run_commands.specs.Sought.{Sought, whole_bands, bands_of_links}
+use Rattle.run_commands.specs.Checked.{Checked, whole_checked, links_checked}
+use Rattle.run_commands.specs.Solve.{IsSolution}
+use Rattle.run_commands.specs.Links.{IsLinkSolution}
 use Rattle.maxband_run.specs.Run.{Answers, Ends}
-use Rattle.maxband_run.specs.Status.{number_of, IsReached}
-use Rattle.maxband_run.specs.declared.cause.Cause.{Cause}
-use Rattle.maxband_run.specs.declared.cause.Cause.TheVariants as cause
+use Rattle.run_inputs.specs.Status.{number_of, IsReached}
+use Rattle.run_inputs.specs.declared.cause.Cause.{Cause}
+use Rattle.run_inputs.specs.declared.cause.Cause.TheVariants as cause
 
 -- a read, a put or a write failed
 abbrev pub IsFault : Cause → Type 0

@@ -34,21 +34,21 @@ use Rattle.cycle_sweep.specs.declared.row.SweepRow.{SweepRow}
 use Rattle.cycle_sweep.specs.Rows.{IsRow}
 use Rattle.cycle_sweep.specs.Says.{SaysRow}
 use Rattle.cycle_sweep.specs.Table.{row_fields, sweep_text}
-use Rattle.maxband_run.specs.Cycles.{AreCycles}
+use Rattle.run_inputs.specs.Cycles.{AreCycles}
 use Rattle.maxband_run.specs.Outside.{Outside}
-use Rattle.maxband_run.specs.Command.{Hold, Bands, Round, RoundFrom, Half, TimingOf, Draw, Sweep, shape}
-use Rattle.maxband_run.specs.Reading.{most_bytes, Reads, Description, Timing, Certificate, Timed, TypedPlan, StopsReading}
-use Rattle.maxband_run.specs.Bands.{IsWidestBand, widest_line, IsMeasured}
-use Rattle.maxband_run.specs.Half.{half_lines}
-use Rattle.maxband_run.specs.Round.{plan_lines, Unplans}
-use Rattle.maxband_run.specs.Sweep.{rows_line}
-use Rattle.maxband_run.specs.Sought.{whole_bands}
-use Rattle.maxband_run.specs.Checked.{whole_checked}
+use Rattle.run_inputs.specs.Command.{Hold, Bands, Round, RoundFrom, Half, TimingOf, Draw, Sweep, shape}
+use Rattle.run_inputs.specs.Reading.{most_bytes, Reads, Description, Timing, Certificate, Timed, TypedPlan, StopsReading}
+use Rattle.run_commands.specs.Bands.{IsWidestBand, widest_line, IsMeasured}
+use Rattle.run_commands.specs.Half.{half_lines}
+use Rattle.run_commands.specs.Round.{plan_lines, Unplans}
+use Rattle.run_commands.specs.Sweep.{rows_line}
+use Rattle.run_commands.specs.Sought.{whole_bands}
+use Rattle.run_commands.specs.Checked.{whole_checked}
 use Rattle.maxband_run.specs.Run.{Ends}
 use Rattle.run_laws.specs.Laws.{SaysRejected}
-use Rattle.maxband_run.specs.Status.{number_of, IsReached}
-use Rattle.maxband_run.specs.declared.cause.Cause.{Cause}
-use Rattle.maxband_run.specs.declared.cause.Cause.TheVariants as cause
+use Rattle.run_inputs.specs.Status.{number_of, IsReached}
+use Rattle.run_inputs.specs.declared.cause.Cause.{Cause}
+use Rattle.run_inputs.specs.declared.cause.Cause.TheVariants as cause
 
 -- ---- bands
 -- `bands` with status 0: the timing of the second file keeps the rules of the artery of the first that speak of no band, and these are the widest bands on its offsets,

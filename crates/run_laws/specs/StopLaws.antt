@@ -25,14 +25,14 @@ use Rattle.multi_band.specs.LinkEnough.{link_enough_of}
 use Rattle.cycle_sweep.specs.declared.row.SweepRow.{SweepRow}
 use Rattle.cycle_sweep.specs.declared.row.SweepRow.TheVariants as row
 use Rattle.maxband_run.specs.Outside.{Outside}
-use Rattle.maxband_run.specs.Command.{Request, Solve, Links, Trial, Sweep}
-use Rattle.maxband_run.specs.Sought.{Sought, whole_bands, bands_of_links}
+use Rattle.run_inputs.specs.Command.{Request, Solve, Links, Trial, Sweep}
+use Rattle.run_commands.specs.Sought.{Sought, whole_bands, bands_of_links}
 use Rattle.maxband_run.specs.Run.{Ends}
 use Rattle.run_laws.specs.Laws.{PutsBound}
 use Rattle.run_laws.specs.PlanLaws.{PutsTable}
-use Rattle.maxband_run.specs.Status.{number_of, IsReached}
-use Rattle.maxband_run.specs.declared.cause.Cause.{Cause}
-use Rattle.maxband_run.specs.declared.cause.Cause.TheVariants as cause
+use Rattle.run_inputs.specs.Status.{number_of, IsReached}
+use Rattle.run_inputs.specs.declared.cause.Cause.{Cause}
+use Rattle.run_inputs.specs.declared.cause.Cause.TheVariants as cause
 
 -- ---- why a search stopped
 -- by work: it spent all units of its limit, and fewer than are enough

@@ -1,6 +1,6 @@
 //! Tables of cases, and the first that is answered otherwise.
 
-use crate::changed::with_changes;
+use crate::changed::{push_line, with_changes};
 use std::alloc::{AllocError, Global};
 use std::test::Fail;
 
@@ -81,18 +81,38 @@ pub fn all_texts_told<R: Reader>(alloc: Global, reader: &R, cases: &[&str]) -> R
     Ok(())
 }
 
+/// The case of a fault with the changes of the one at this place, where there is one.
+fn with_fault(
+    alloc: Global,
+    fault: &str,
+    faults: &[&str],
+    place: usize,
+) -> Result<String, AllocError> {
+    let (changes, want) = parts(fault);
+    let (others, _) = parts(faults.get(place).copied().unwrap_or(""));
+    format!(in alloc; "{changes}|{others} -> {want}")
+}
+
 /// Cases of faults in the order in which they are looked for: each is told though the next one is there too.
 pub fn each_with_next(alloc: Global, faults: &[&str]) -> Result<Vec<String>, AllocError> {
     let mut cases = Vec::new(alloc);
     for (index, fault) in faults.iter().enumerate() {
-        let (changes, want) = parts(fault);
-        let (others, _) = match faults.get(index.saturating_add(1)) {
-            Some(next) => parts(next),
-            None => ("", ""),
-        };
-        cases.push(format!(in alloc; "{changes}|{others} -> {want}")?)?;
+        cases.push(with_fault(alloc, fault, faults, index.saturating_add(1))?)?;
     }
     Ok(cases)
+}
+
+/// Fails where this text isn't refused for its end at the line after so many.
+fn told_ended<R: Reader>(alloc: Global, reader: &R, text: &str, lines: usize) -> Result<(), Fail> {
+    let next = lines.saturating_add(1);
+    let case = format!(in alloc; "{lines} lines -> {next} Ended")?;
+    told(alloc, reader, text, case.as_str())
+}
+
+/// The same of this text with the first bytes of a line after it.
+fn told_open<R: Reader>(alloc: Global, reader: &R, text: &str, lines: usize) -> Result<(), Fail> {
+    let open = format!(in alloc; "{text}end")?;
+    told_ended(alloc, reader, open.as_str(), lines)
 }
 
 /// Fails where the first lines of a text, so many or fewer, aren't refused at the next line for their end, with the first bytes of a
@@ -100,13 +120,9 @@ pub fn each_with_next(alloc: Global, faults: &[&str]) -> Result<Vec<String>, All
 pub fn all_ends_told<R: Reader>(alloc: Global, reader: &R, base: &str) -> Result<(), Fail> {
     let mut kept = String::new(alloc);
     for (index, line) in base.lines().enumerate() {
-        let number = index.saturating_add(1);
-        let case = format!(in alloc; "{} lines -> {number} Ended", index)?;
-        let open = format!(in alloc; "{}end", kept.as_str())?;
-        told(alloc, reader, kept.as_str(), case.as_str())?;
-        told(alloc, reader, open.as_str(), case.as_str())?;
-        kept.push_str(line)?;
-        kept.push_str("\n")?;
+        told_ended(alloc, reader, kept.as_str(), index)?;
+        told_open(alloc, reader, kept.as_str(), index)?;
+        push_line(&mut kept, line)?;
     }
     Ok(())
 }

@@ -37,14 +37,19 @@ fn in_place<'a>(line: &'a str, number: usize, changes: &'a str) -> &'a str {
     line
 }
 
+/// Writes a line at the end of a text.
+pub fn push_line(text: &mut String, line: &str) -> Result<(), AllocError> {
+    text.push_str(line)?;
+    text.push_str("\n")
+}
+
 /// A text with some of its lines, counted from 1, changed. Changes stand between `|`, each a number, or the first and the last with
 /// `-` between them, then a blank and what stands there now. Without a blank these lines are empty. A change
 /// that begins with a name instead stands in place of the line that begins so.
 pub fn with_changes(alloc: Global, base: &str, changes: &str) -> Result<String, AllocError> {
     let mut out = String::new(alloc);
     for (index, line) in base.lines().enumerate() {
-        out.push_str(in_place(line, index.saturating_add(1), changes))?;
-        out.push_str("\n")?;
+        push_line(&mut out, in_place(line, index.saturating_add(1), changes))?;
     }
     Ok(out)
 }

@@ -1,5 +1,5 @@
 use Rattle.std.proofs.Common.{rules, Some, Ok, refl}
-use Rattle.maxband_run.specs.Command.{Check}
+use Rattle.run_inputs.specs.Command.{Check}
 use Rattle.maxband_run.proofs.Told.{unread, tells}
 use Rattle.maxband_run.proofs.answers.check_answer.Goals as goal
 

@@ -1,5 +1,5 @@
 use Rattle.std.proofs.Common.{rules, Some, Ok, refl}
-use Rattle.maxband_run.specs.Command.{Draw}
+use Rattle.run_inputs.specs.Command.{Draw}
 use Rattle.maxband_run.proofs.Told.{unread, may_put}
 use Rattle.maxband_run.proofs.answers.draw_answer.Goals as goal
 

@@ -1,5 +1,5 @@
 use Rattle.std.proofs.Common.{rules, Some, Ok, refl}
-use Rattle.maxband_run.specs.Command.{Half}
+use Rattle.run_inputs.specs.Command.{Half}
 use Rattle.maxband_run.proofs.Told.{unread, may_put}
 use Rattle.maxband_run.proofs.answers.half_answer.Goals as goal
 

@@ -1,5 +1,5 @@
 use Rattle.std.proofs.Common.{rules, Some, Ok, refl}
-use Rattle.maxband_run.specs.Command.{Hold}
+use Rattle.run_inputs.specs.Command.{Hold}
 use Rattle.maxband_run.proofs.Told.{unread, tells}
 use Rattle.maxband_run.proofs.answers.hold_answer.Goals as goal
 

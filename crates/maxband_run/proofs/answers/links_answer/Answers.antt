@@ -1,6 +1,6 @@
 use Rattle.std.proofs.Common.{rules, Some, Ok, refl}
-use Rattle.maxband_run.specs.Command.{Links}
-use Rattle.maxband_run.specs.Links.{IsLinkSolution}
+use Rattle.run_inputs.specs.Command.{Links}
+use Rattle.run_commands.specs.Links.{IsLinkSolution}
 use Rattle.maxband_run.proofs.Told.{puts}
 use Rattle.maxband_run.proofs.answers.links_answer.Goals as goal
 

@@ -1,6 +1,6 @@
 use Rattle.std.proofs.Common.{rules, Some, Ok, refl}
-use Rattle.maxband_run.specs.Command.{Renew}
-use Rattle.maxband_run.specs.Renew.{IsRenewal}
+use Rattle.run_inputs.specs.Command.{Renew}
+use Rattle.run_commands.specs.Renew.{IsRenewal}
 use Rattle.maxband_run.proofs.Told.{puts}
 use Rattle.maxband_run.proofs.answers.renew_answer.Goals as goal
 

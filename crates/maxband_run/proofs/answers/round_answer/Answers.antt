@@ -1,5 +1,5 @@
 use Rattle.std.proofs.Common.{rules, Some, Ok, refl}
-use Rattle.maxband_run.specs.Command.{Round}
+use Rattle.run_inputs.specs.Command.{Round}
 use Rattle.maxband_run.proofs.Told.{unread, may_put}
 use Rattle.maxband_run.proofs.answers.round_answer.Goals as goal
 

@@ -1,6 +1,6 @@
 use Rattle.std.proofs.Common.{rules, Some, Ok, Err, refl, ap, ◌∙◌}
 use Rattle.std.proofs.lemmas.Result.{err_from_is_err_and}
-use Rattle.maxband_run.specs.Command.{RoundFrom}
+use Rattle.run_inputs.specs.Command.{RoundFrom}
 use Rattle.maxband_run.proofs.Told.{unread, wanting, may_put}
 use Rattle.maxband_run.proofs.answers.round_from_answer.Goals as goal
 

@@ -1,5 +1,5 @@
 use Rattle.std.proofs.Common.{rules, Some, Ok, refl}
-use Rattle.maxband_run.specs.Command.{Show}
+use Rattle.run_inputs.specs.Command.{Show}
 use Rattle.maxband_run.proofs.Told.{tells}
 use Rattle.maxband_run.proofs.answers.show_answer.Goals as goal
 

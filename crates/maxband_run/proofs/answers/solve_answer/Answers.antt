@@ -1,6 +1,6 @@
 use Rattle.std.proofs.Common.{rules, Some, Ok, refl}
-use Rattle.maxband_run.specs.Command.{Solve}
-use Rattle.maxband_run.specs.Solve.{IsSolution}
+use Rattle.run_inputs.specs.Command.{Solve}
+use Rattle.run_commands.specs.Solve.{IsSolution}
 use Rattle.maxband_run.proofs.Told.{puts}
 use Rattle.maxband_run.proofs.answers.solve_answer.Goals as goal
 

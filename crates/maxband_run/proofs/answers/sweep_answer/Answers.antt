@@ -1,7 +1,7 @@
 use Rattle.std.proofs.Common.{rules, Some, Ok, map, refl}
 use Rattle.std.specs.Prelude.{string_bytes}
-use Rattle.maxband_run.specs.Command.{Sweep}
-use Rattle.maxband_run.specs.Sweep.{IsSweep}
+use Rattle.run_inputs.specs.Command.{Sweep}
+use Rattle.run_commands.specs.Sweep.{IsSweep}
 use Rattle.maxband_run.proofs.Told.{puts}
 use Rattle.maxband_run.proofs.answers.sweep_answer.Goals as goal
 

@@ -1,10 +1,10 @@
 use Rattle.std.proofs.Common.{Option, Err, ap, map, subst, sym}
 use Rattle.std.specs.Prelude.{option_map, string_bytes}
-use Rattle.maxband_run.specs.Command as commands
-use Rattle.maxband_run.specs.Command.{Request, request_of, shape, InLimits}
+use Rattle.run_inputs.specs.Command as commands
+use Rattle.run_inputs.specs.Command.{Request, shape, InLimits}
 use Rattle.maxband_run.specs.Outside.{Outside, outside, OthersKept, PutsCounted}
 use Rattle.maxband_run.specs.Run.{Ends}
-use Rattle.maxband_run.proofs.Ranges.{command_limits}
+use Rattle.run_inputs.proofs.Ranges.{command_limits}
 use Rattle.maxband_run.proofs.Delivered.{IsRead, others_since, puts_since_entry}
 use Rattle.maxband_run.proofs.Running.{run_done, run_broken, run_wanted}
 use Rattle.maxband_run.proofs.top.run.Goals as goal

@@ -1,7 +1,0 @@
-use Rattle.std.proofs.Common.{arith}
-use Rattle.std.specs.Prelude.{string_bytes}
-use Rattle.maxband_run.proofs.Cycling.{few_words}
-use Rattle.maxband_run.proofs.command.command_in.Goals as goal
-
-pub returns-in_default : goal.returns-in_default
-returns-in_default c = few_words string_bytes c.args.words.now (omega (arith, c.in_default.len_below))

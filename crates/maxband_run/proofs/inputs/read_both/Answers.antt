@@ -1,6 +1,0 @@
-use Rattle.std.proofs.Common.{rules}
-use Rattle.maxband_run.proofs.Told.{second_unread}
-use Rattle.maxband_run.proofs.inputs.read_both.Goals as goal
-
-pub returns-in_err-other-clause-unread : goal.returns-in_err-other-clause-unread
-returns-in_err-other-clause-unread g c = let both = second_unread _ c.in_ok-one.ensures.read c.in_ok-one.ensures.kept c.in_err-other.ensures.unread in search (rules, both)

@@ -1,6 +1,0 @@
-use Rattle.std.proofs.lemmas.Result.{on_ok_weaker}
-use Rattle.quantity_text.proofs.Pushed.{three_pushed}
-use Rattle.maxband_run.proofs.lines.push_cannot_read.Goals as goal
-
-pub returns : goal.returns
-returns c = on_ok_weaker c.push_text-3.result (λ e. three_pushed _ _ _ _ _ _ _ c.in_ok-push_text.ensures c.in_ok-push_text-2.ensures e) c.push_text-3.ensures

@@ -1,0 +1,46 @@
+-- How the certificates of a kind of timing are checked.
+use Rattle.std.specs.Prelude.{ℕ, List}
+use Rattle.progression.specs.Street.{Street}
+use Rattle.certificate_checker.specs.Accepted.{IsAccepted}
+use Rattle.certificate_checker.specs.Claims as claims
+use Rattle.certificate_checker.specs.Refusals as whole
+use Rattle.certificate_checker.specs.declared.reject.Reject.TheVariants as reject
+use Rattle.link_proof.specs.LinkAccepted.{IsLinkAccepted}
+use Rattle.link_proof.specs.LinkClaims.{LinkClaimHolds}
+use Rattle.link_proof.specs.LinkRefusals as links
+use Rattle.run_inputs.specs.Reading.{Value}
+use Rattle.run_commands.specs.Sought.{Sought, whole_bands, bands_of_links}
+use Rattle.run_commands.specs.CheckLines.{rejected_line, link_rejected_line}
+use Rattle.run_inputs.specs.declared.cause.Cause.{Cause}
+use Rattle.run_inputs.specs.declared.cause.Cause.TheVariants as cause
+
+pub record Checked (k : Sought) : Type 1 where
+  pub Accepted : Street → Value k.reader → Type 0
+  pub Proves : Street → Value k.reader → Type 0  -- the claim holds of all good timings of the artery
+  pub Reject : Type 0  -- why a certificate is refused
+  pub First : Street → Value k.reader → Reject → Type 0
+  pub wanting : Reject  -- memory was wanting, which says nothing of the certificate
+  pub cause : Reject → Cause
+  pub line : ℕ → Reject → List ℕ  -- on an artery with so many signals
+
+abbrev pub whole_checked : Checked whole_bands
+whole_checked = record {
+  Accepted = IsAccepted;
+  Proves = λ a w. claims.ClaimHolds a w.claim w.timing;
+  Reject = whole.Reject;
+  First = whole.IsFirstRefusal;
+  wanting = reject.Memory;
+  cause = cause.Rejected;
+  line = rejected_line;
+}
+
+abbrev pub links_checked : Checked bands_of_links
+links_checked = record {
+  Accepted = IsLinkAccepted;
+  Proves = λ a w. LinkClaimHolds a w.claim w.timing;
+  Reject = links.LinkReject;
+  First = links.IsFirstLinkRefusal;
+  wanting = reject.Memory;
+  cause = cause.LinkRejected;
+  line = link_rejected_line;
+}

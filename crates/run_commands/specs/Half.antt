@@ -1,0 +1,82 @@
+-- What `half` finds of an artery and a timing, what it writes, and what it puts.
+use Rattle.std.specs.Prelude.{◌≡◌, ◌⊎◌, ℕ, List, ◌++◌, codes, Bool, true, false, Option, Some, None, Ok}
+use Rattle.std.specs.List.{flat_map, range_with_len}
+use Rattle.std.specs.Fmt.{decimal}
+use Rattle.progression.specs.Street.{Street, count}
+use Rattle.progression.specs.TimingRecord.{TimingRecord}
+use Rattle.progression.specs.Good.{IsBase}
+use Rattle.progression.specs.declared.parts.Dir.TheVariants.{Outbound}
+use Rattle.plan_text.specs.Spelling.{timing_text}
+use Rattle.plan_text.specs.Reading.{timing_of}
+use Rattle.timing_measures.specs.Measures.{band_share}
+use Rattle.diagram_print.specs.Measures.{measure_line}
+use Rattle.mirror_theory.specs.EqualBands.{HasNone, IsHalfCycleBest}
+use Rattle.half_integer.specs.Phases.{is_later}
+use Rattle.half_integer.specs.Answers.{IsReady, Ends}
+use Rattle.half_integer.specs.declared.end.HalfEnd.{HalfEnd}
+use Rattle.half_integer.specs.declared.end.HalfEnd.TheVariants as end
+use Rattle.run_inputs.specs.Puts.{NamedBytes, named, With}
+use Rattle.run_commands.specs.Bands.{BreaksBase}
+use Rattle.run_inputs.specs.declared.cause.Cause.{Cause}
+use Rattle.run_inputs.specs.declared.cause.Cause.TheVariants as cause
+
+-- ---- the lines
+abbrev pub phase_name : Bool → List ℕ
+phase_name true = codes "1"
+phase_name false = codes "0"
+
+-- whether the red of signal i is centred with that of signal 1, or half a cycle later
+abbrev pub phase_line : Street → TimingRecord → ℕ → List ℕ
+phase_line a s i = codes "signal " ++ (decimal i ++ (codes " half " ++ (phase_name (is_later a s i) ++ codes "\n")))
+
+abbrev pub phase_lines : Street → TimingRecord → List ℕ
+phase_lines a s = flat_map (phase_line a s) (range_with_len 1 (count a))
+
+abbrev pub half_lines : Street → TimingRecord → List ℕ
+half_lines a s = measure_line (codes "equal band") (band_share a s Outbound) 6 ++ phase_lines a s
+
+abbrev pub end_line : HalfEnd → List ℕ
+end_line (end.Uneven i) = codes "uneven signal " ++ (decimal i ++ codes "\n")
+end_line (end.Unequal i) = codes "unequal link " ++ (decimal i ++ codes "\n")
+end_line (end.TooFine n) = codes "ticks " ++ (decimal n ++ codes "\n")
+
+-- ---- the answer
+-- the widest equal bands over all offsets, and the text of the timing that has them, which is read back
+pub record IsHalfPlan (a : Street) (t : TimingRecord) (lines text : List ℕ) : Type 0 where
+  pub plan : TimingRecord
+  pub best : IsHalfCycleBest a t plan
+  pub lines_are : lines ≡ half_lines a plan
+  pub written : text ≡ timing_text plan
+  pub read_back : timing_of text ≡ Ok plan
+
+-- its lines, and its text for the file of this name
+pub record TellsPlan (a : Street) (plan : TimingRecord) (new : List ℕ) (c : Cause) (lines : List ℕ) (put : Option NamedBytes) : Type 0 where
+  pub cause_is : c ≡ cause.Done
+  pub lines_are : lines ≡ half_lines a plan
+  pub put_is : put ≡ Some (named new (timing_text plan))
+  pub read_back : timing_of (timing_text plan) ≡ Ok plan
+
+-- no offsets on any grid have equal bands, and nothing is put
+pub record HasNoHalfPlan (a : Street) (t : TimingRecord) (lines : List ℕ) (put : Option (List ℕ)) : Type 0 where
+  pub none : HasNone a t
+  pub lines_are : lines ≡ codes "no equal band\n"
+  pub no_put : put ≡ None
+
+-- the timing keeps the rules that speak of no band, and can have such plans
+pub record IsHalved (a : Street) (t : TimingRecord) (lines : List ℕ) (put : Option (List ℕ)) : Type 0 where
+  pub base : IsBase a t
+  pub ready : IsReady a t
+  pub found : HasNoHalfPlan a t lines put ⊎ With (IsHalfPlan a t lines) put
+
+-- it keeps them and can have none, for this first reason
+pub record IsUnmatched (a : Street) (t : TimingRecord) (e : HalfEnd) (lines : List ℕ) (put : Option (List ℕ)) : Type 0 where
+  pub base : IsBase a t
+  pub first : Ends a t e
+  pub lines_are : lines ≡ end_line e
+  pub no_put : put ≡ None
+
+abbrev pub HalfFinds : Street → TimingRecord → Cause → List ℕ → Option (List ℕ) → Type 0
+HalfFinds a t cause.Done lines put = IsHalved a t lines put
+HalfFinds a t (cause.Fails f) lines put = BreaksBase a t f lines × (put ≡ None)
+HalfFinds a t (cause.Unmatched e) lines put = IsUnmatched a t e lines put
+HalfFinds a t c lines put = ⊥

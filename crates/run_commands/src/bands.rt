@@ -1,0 +1,99 @@
+//! The command `bands`.
+
+ghost use Rattle.std.specs.Prelude.{◌≡◌, ◌++◌, ◌<◌, None, Some, IfOk, IfSome, OnOk, codes};
+ghost use Rattle.progression.specs.TimingRecord.{cycle};
+ghost use Rattle.diagram_print.specs.Measures.{dir_name};
+ghost use Rattle.progression.specs.Good.{IsBase};
+ghost use Rattle.run_commands.specs.Bands.{widest_line, IsMeasured, BandsFinds};
+
+use crate::hold::fails;
+use crate::lines::push_number_line;
+use artery_model::{Artery, Dir};
+use band_measure::{Widest, base_holds, widest};
+use diagram_print::{dir_name, push_measure};
+use narrow_fraction::Memory;
+use quantity_text::push_text;
+use run_inputs::{Answer, Cause, told};
+use std::alloc::Global;
+use time_space::{Timing, cycle};
+use timing_measures::quotient;
+
+/// Writes the line of a direction without a band.
+fn push_no_band(out: &mut Vec<u8>, dir: Dir) -> Result<(), Memory>
+    ensures { OnOk result (out.new.items ≡ out.old.items ++ (codes "no band " ++ (dir_name dir ++ codes "\n"))) }
+{
+    push_text(out, "no band ")?;
+    push_text(out, dir_name(dir))?;
+    push_text(out, "\n")
+}
+
+/// The name of a direction's band.
+fn band_name(dir: Dir) -> &'static str
+    ensures { result.now ≡ codes "band " ++ dir_name dir }
+{
+    match dir {
+        Dir::Outbound => "band out",
+        Dir::Inbound => "band in",
+    }
+}
+
+/// Writes the line of a direction's widest band, a fraction of the cycle, with the tick of its first line.
+fn push_band(
+    out: &mut Vec<u8>,
+    artery: &Artery,
+    timing: &Timing,
+    dir: Dir,
+    widest: Widest,
+) -> Result<(), Memory>
+    requires { widest.band < cycle artery.now timing.now }
+    ensures { OnOk result (out.new.items ≡ out.old.items ++ widest_line artery.now timing.now dir (Some widest)) }
+{
+    push_text(out, band_name(dir))?;
+    push_measure(out, quotient(widest.band, cycle(artery, timing)), 6)?;
+    push_number_line(out, " first ", widest.first)
+}
+
+/// Writes the line of what is measured of a direction.
+fn push_widest(
+    out: &mut Vec<u8>,
+    artery: &Artery,
+    timing: &Timing,
+    dir: Dir,
+    found: Option<Widest>,
+) -> Result<(), Memory>
+    requires { IfSome found (λ w. w.band < cycle artery.now timing.now) }
+    ensures { OnOk result (out.new.items ≡ out.old.items ++ widest_line artery.now timing.now dir found) }
+{
+    match found {
+        Some(widest) => push_band(out, artery, timing, dir, widest),
+        None => push_no_band(out, dir),
+    }
+}
+
+/// The lines of the widest bands on the offsets of a timing that keeps the rules that speak of no band.
+pub fn measured(alloc: Global, artery: &Artery, timing: &Timing) -> Result<Vec<u8>, Memory>
+    requires { IsBase artery.now timing.now }
+    ensures { IfOk result (λ lines. IsMeasured artery.now timing.now lines.items) }
+{
+    artery.known_valid();
+    prove!(2 <= timing.unit());
+    let outbound = widest(artery, timing, Dir::Outbound);
+    let inbound = widest(artery, timing, Dir::Inbound);
+    let mut lines = Vec::new(alloc);
+    push_widest(&mut lines, artery, timing, Dir::Outbound, outbound)?;
+    push_widest(&mut lines, artery, timing, Dir::Inbound, inbound)?;
+    Ok(lines)
+}
+
+/// Measures the greatest band of each direction on the offsets of the timing, whatever its firsts and bands: where it keeps the rules
+/// that speak of no band, else the answer has the first of these that it breaks.
+pub fn bands(alloc: Global, artery: &Artery, timing: &Timing) -> Result<Answer<'static>, Memory>
+    ensures finds { IfOk result (λ a. BandsFinds artery.now timing.now a.cause a.lines.items) }
+    ensures no_put { IfOk result (λ a. a.put ≡ None) }
+{
+    if let Err(failing) = base_holds(artery, timing) {
+        return fails(alloc, failing);
+    }
+    let lines = measured(alloc, artery, timing)?;
+    Ok(told(Cause::Done, lines))
+}

@@ -1,0 +1,52 @@
+//! The command `check`.
+
+ghost use Rattle.std.specs.Prelude.{◌≡◌, ◌≢◌, None, IfOk};
+ghost use Rattle.progression.specs.Street.{count};
+ghost use Rattle.run_commands.specs.Check.{CheckFinds};
+ghost use Rattle.run_commands.specs.CheckLines.{accepted_line, rejected_line};
+
+use crate::check_lines::{push_accepted, push_rejected};
+use artery_model::Artery;
+use certificate_checker::Reject;
+use narrow_fraction::Memory;
+use plan_text::{Certificate, Claim};
+use run_inputs::{Answer, Cause, told};
+use std::alloc::Global;
+
+/// The answer where a certificate that claims this is accepted.
+pub fn accepted(alloc: Global, claim: Claim) -> Result<Answer<'static>, Memory>
+    ensures cause { IfOk result (λ a. a.cause ≡ Cause.Done) }
+    ensures lines { IfOk result (λ a. a.lines.items ≡ accepted_line claim) }
+    ensures no_put { IfOk result (λ a. a.put ≡ None) }
+{
+    let mut lines = Vec::new(alloc);
+    push_accepted(&mut lines, claim)?;
+    Ok(told(Cause::Done, lines))
+}
+
+/// The answer where a certificate is rejected.
+pub fn rejected(alloc: Global, artery: &Artery, reject: Reject) -> Result<Answer<'static>, Memory>
+    ensures cause { IfOk result (λ a. a.cause ≡ Cause.Rejected reject) }
+    ensures kept { IfOk result (λ a. reject ≢ Reject.Memory) }
+    ensures lines { IfOk result (λ a. a.lines.items ≡ rejected_line (count artery.now) reject) }
+    ensures no_put { IfOk result (λ a. a.put ≡ None) }
+{
+    let mut lines = Vec::new(alloc);
+    push_rejected(&mut lines, artery.count(), &reject)?;
+    Ok(told(Cause::Rejected(reject), lines))
+}
+
+/// Checks the certificate for the artery: the answer has what is claimed where it is accepted, else the first refusal.
+pub fn check(
+    alloc: Global,
+    artery: &Artery,
+    certificate: &Certificate,
+) -> Result<Answer<'static>, Memory>
+    ensures finds { IfOk result (λ a. CheckFinds artery.now certificate.now a.cause a.lines.items) }
+    ensures no_put { IfOk result (λ a. a.put ≡ None) }
+{
+    match certificate_checker::check(alloc, artery, certificate) {
+        Ok(()) => accepted(alloc, certificate.claim),
+        Err(reject) => rejected(alloc, artery, reject),
+    }
+}

@@ -1,0 +1,126 @@
+//! The command `half`.
+
+ghost use Rattle.std.specs.Prelude.{◌≡◌, ◌≤◌, ◌++◌, None, IfOk, OnOk, length, option_map};
+ghost use Rattle.progression.specs.Street.{count};
+ghost use Rattle.run_inputs.specs.Puts.{MayPut, view};
+ghost use Rattle.run_commands.specs.Half.{phase_name, phase_line, phase_lines, half_lines, end_line, TellsPlan, HalfFinds};
+
+use crate::hold::fails;
+use crate::lines::{push_number_line, text_lines};
+use artery_model::{Artery, Dir};
+use diagram_print::push_measure_line;
+use half_integer::{HalfEnd, HalfFault, half, half_of};
+use narrow_fraction::Memory;
+use plan_text::write_timing;
+use quantity_text::push_text;
+use run_inputs::{Answer, Cause, Put, push_numbered, told};
+use std::alloc::Global;
+use time_space::{Timing, cycle};
+use timing_measures::quotient;
+
+fn phase_name(is_later: bool) -> &'static str
+    ensures { result.now ≡ phase_name is_later }
+{
+    if is_later { "1" } else { "0" }
+}
+
+/// Writes the line of a signal: whether its red is centred with that of signal 1, or half a cycle later.
+fn push_phase(out: &mut Vec<u8>, artery: &Artery, plan: &Timing, signal: u32) -> Result<(), Memory>
+    requires shape { length plan.now.patterns ≡ count artery.now }
+    requires first { 1 ≤ signal }
+    requires last { signal ≤ count artery.now }
+    ensures { OnOk result (out.new.items ≡ out.old.items ++ phase_line artery.now plan.now signal) }
+{
+    push_numbered(out, "signal ", signal as u128)?;
+    push_text(out, " half ")?;
+    push_text(out, phase_name(half_of(artery, plan, signal)))?;
+    push_text(out, "\n")
+}
+
+/// Writes the lines of the signals, from the first on.
+#[tactic(auto, using(crate::proofs::Pushed::pushed_next))]
+fn push_phases(out: &mut Vec<u8>, artery: &Artery, plan: &Timing) -> Result<(), Memory>
+    requires { length plan.now.patterns ≡ count artery.now }
+    ensures { OnOk result (out.new.items ≡ out.old.items ++ phase_lines artery.now plan.now) }
+{
+    for signal in 1..artery.count() + 1 {
+        push_phase(out, artery, plan, signal)?;
+    }
+    Ok(())
+}
+
+/// The lines of a half-cycle plan: its band as a fraction of the cycle, and the phase of each signal.
+fn half_lines(alloc: Global, artery: &Artery, plan: &Timing) -> Result<Vec<u8>, Memory>
+    requires { length plan.now.patterns ≡ count artery.now }
+    ensures { IfOk result (λ lines. lines.items ≡ half_lines artery.now plan.now) }
+{
+    let mut lines = Vec::new(alloc);
+    push_text(&mut lines, "equal band")?;
+    let share = quotient(plan.band(Dir::Outbound), cycle(artery, plan));
+    push_measure_line(&mut lines, share, 6)?;
+    push_phases(&mut lines, artery, plan)?;
+    Ok(lines)
+}
+
+/// Writes the line of a timing that has no half-cycle plan.
+fn push_end(out: &mut Vec<u8>, end: HalfEnd) -> Result<(), Memory>
+    ensures { OnOk result (out.new.items ≡ out.old.items ++ end_line end) }
+{
+    match end {
+        HalfEnd::Uneven { signal } => push_number_line(out, "uneven signal ", signal as u128),
+        HalfEnd::Unequal { link } => push_number_line(out, "unequal link ", link as u128),
+        HalfEnd::TooFine { ticks } => push_number_line(out, "ticks ", ticks),
+    }
+}
+
+/// The answer where a timing has no half-cycle plan, or a typed plan no timing: nothing is put.
+pub fn unmatched(alloc: Global, end: HalfEnd) -> Result<Answer<'static>, Memory>
+    ensures cause { IfOk result (λ a. a.cause ≡ Cause.Unmatched end) }
+    ensures lines { IfOk result (λ a. a.lines.items ≡ end_line end) }
+    ensures no_put { IfOk result (λ a. a.put ≡ None) }
+{
+    let mut lines = Vec::new(alloc);
+    push_end(&mut lines, end)?;
+    Ok(told(Cause::Unmatched(end), lines))
+}
+
+/// The answer with a half-cycle plan, whose text is to be put into the file of this name.
+fn tell_plan<'a>(
+    alloc: Global,
+    artery: &Artery,
+    plan: &Timing,
+    new: &'a str,
+) -> Result<Answer<'a>, Memory>
+    requires { length plan.now.patterns ≡ count artery.now }
+    ensures { IfOk result (λ a. TellsPlan artery.now plan.now new.now a.cause a.lines.items (option_map view a.put)) }
+{
+    let lines = half_lines(alloc, artery, plan)?;
+    let bytes = write_timing(alloc, plan)?;
+    Ok(Answer {
+        cause: Cause::Done,
+        lines,
+        put: Some(Put { name: new, bytes }),
+    })
+}
+
+/// Finds the widest equal bands over all offsets of the timing, whose text is to be put into the file of this name. Nothing is put where
+/// there are none, and where the timing breaks a rule that speaks of no band or can't have such a plan.
+pub fn half_cycle<'a>(
+    alloc: Global,
+    artery: &Artery,
+    timing: &Timing,
+    new: &'a str,
+) -> Result<Answer<'a>, Memory>
+    ensures finds { MayPut new.now (HalfFinds artery.now timing.now) result }
+{
+    match half(alloc, artery, timing) {
+        Ok(Some(plan)) => tell_plan(alloc, artery, &plan, new),
+        Ok(None) => {
+            let lines = text_lines(alloc, "no equal band\n")?;
+            Ok(told(Cause::Done, lines))
+        }
+        Err(HalfFault::Fails(failing)) => fails(alloc, failing),
+        Err(HalfFault::End(end)) => unmatched(alloc, end),
+        Err(HalfFault::Memory) => Err(Memory),
+    }
+}

@@ -1,0 +1,46 @@
+//! The command `hold`.
+
+ghost use Rattle.std.specs.Prelude.{◌≡◌, None, IfOk};
+ghost use Rattle.run_commands.specs.Hold.{HoldFinds};
+ghost use Rattle.run_commands.specs.Lines.{fails_line, holds_lines};
+
+use crate::lines::{push_exact_line, push_failing_line};
+use artery_model::Artery;
+use narrow_fraction::{Frac, Memory};
+use run_inputs::{Answer, Cause, told};
+use std::alloc::Global;
+use time_space::{Failing, Timing, holds, value};
+
+/// The lines of a timing that holds, with its weighted band.
+fn holds_lines(alloc: Global, value: Frac) -> Result<Vec<u8>, Memory>
+    ensures { IfOk result (λ lines. lines.items ≡ holds_lines value) }
+{
+    let mut lines = Vec::new(alloc);
+    push_exact_line(&mut lines, "holds\nweighted ", value)?;
+    Ok(lines)
+}
+
+/// The answer where a timing breaks a rule: nothing is put.
+pub fn fails(alloc: Global, failing: Failing) -> Result<Answer<'static>, Memory>
+    ensures cause { IfOk result (λ a. a.cause ≡ Cause.Fails failing) }
+    ensures lines { IfOk result (λ a. a.lines.items ≡ fails_line failing) }
+    ensures no_put { IfOk result (λ a. a.put ≡ None) }
+{
+    let mut lines = Vec::new(alloc);
+    push_failing_line(&mut lines, "fails ", failing)?;
+    Ok(told(Cause::Fails(failing), lines))
+}
+
+/// Tests the timing on the artery: the answer has its weighted band where it holds, else the first rule that it breaks.
+pub fn hold(alloc: Global, artery: &Artery, timing: &Timing) -> Result<Answer<'static>, Memory>
+    ensures finds { IfOk result (λ a. HoldFinds artery.now timing.now a.cause a.lines.items) }
+    ensures no_put { IfOk result (λ a. a.put ≡ None) }
+{
+    match holds(artery, timing) {
+        Ok(()) => {
+            let lines = holds_lines(alloc, value(artery, timing))?;
+            Ok(told(Cause::Done, lines))
+        }
+        Err(failing) => fails(alloc, failing),
+    }
+}

@@ -1,0 +1,46 @@
+//! What each command of the program `maxband` finds in the values of its files, or makes of the numbers among its words, and tells of
+//! it: a cause, lines, and bytes for the one file that it may put. No command reads or puts a file itself. Each has a module.
+//!
+//! - `solve` (`specs/Solve.antt`): of the artery that the file describes an answer of the search with just the limit that the words
+//!   say, which may be none (`IsSearch` of `branch_tree`), and what follows for every good timing on any grid (`ProvesOf`). The
+//!   certificate is accepted, the text that is put is its one spelling and is read back as that very certificate (`IsTextOf`), and
+//!   the output grew by exactly the report. Which of several best timings is found isn't determined. `links` (`specs/Links.antt`)
+//!   is the same over link timings, by `multi_band`.
+//! - `trial` stands on the same definition, for the artery that is made; its lines are a function of that certificate alone, of its
+//!   claim and of the length of its text, beside the two numbers of the words. `make` writes the canonical description of that
+//!   artery, and has no other answer.
+//! - `hold`, `check`, `check-links`: `Done` has behind it that the timing is good with the printed band, or that the certificate is
+//!   accepted and what it claims holds of every good timing on any grid; else the first rule that fails, or the first refusal,
+//!   which is never want of memory.
+//! - `bands` has the widest band of each direction on the timing's offsets, or that none runs on any grid (`IsMeasured`); `round`
+//!   the plan in whole seconds by `second_plan`, with a loss of at least 0, counted from the certificate's bound (`IsRounded`), or
+//!   the first reason for which there is none (`IsUnplanned`); `half` the widest equal bands over all offsets by `half_integer`, or
+//!   that there are none (`IsHalved`), or the first reason for which the timing has no such plan (`IsUnmatched`). Nothing is put
+//!   where nothing was found (`put_of` of `run_inputs`).
+//! - `timing` (`specs/Typed.antt`) puts the one timing that a typed plan has by `typed_plan`, with the widest bands on its offsets,
+//!   where it keeps the rules that speak of no band (`HasTiming`), or tells the first reason for which the plan has none.
+//! - `sweep` (`specs/Sweep.antt`) puts the table of `cycle_sweep` of just the cycles that the words spell, and always ends with
+//!   `Done`; it keeps the words of the cycles, which are read as numbers when the street is there. `renew` puts the second text of
+//!   the certificate that it read.
+#![tactic(auto)]
+
+pub mod bands;
+pub mod check;
+mod check_lines;
+pub mod check_links;
+pub mod draw;
+pub mod half;
+pub mod help;
+pub mod hold;
+mod lines;
+pub mod links;
+pub mod make;
+pub mod renew;
+pub mod round;
+mod searching;
+pub mod show;
+pub mod solve;
+pub mod sweep;
+pub mod trial;
+pub mod typed;
+mod usage;

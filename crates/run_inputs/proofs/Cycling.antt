@@ -1,0 +1,58 @@
+-- The words of cycles, and the cycles that they spell.
+use Rattle.std.proofs.Common.{◌≡◌, ℕ, ◌+◌, ◌<◌, nat_le, ◌&&◌, Bool, true, false, true≢false, List, [], ◌∷◌, ◌++◌, length, map, take, get_or, None, Some, arith, refl, sym, ◌∙◌, ap, subst}
+use Rattle.std.specs.List.{list_all}
+use Rattle.std.proofs.lemmas.List.{take_more, map-append, get_or-map, length-map}
+use Rattle.std.proofs.lemmas.List.Elements.{All-nil, All-cons}
+use Rattle.std.proofs.lemmas.List.Folds.{list_all_at}
+use Rattle.std.proofs.lemmas.Slice.Zip.{all_zipped_more}
+use Rattle.rational_theory.specs.Rational.{ℚ}
+use Rattle.run_inputs.specs.Command.{request_of}
+use Rattle.run_inputs.specs.Cycles.{cycle_of, spells_cycle, are_cycles, SpellCycles, AreCycles, most_cycles}
+
+second_of : (a b : Bool) → (a && b) ≡ true → b ≡ true
+second_of true b e = e
+second_of false b e = absurd (true≢false (sym e))
+
+first_of : (a b : Bool) → (a && b) ≡ true → a ≡ true
+first_of true b e = refl
+first_of false b e = absurd (true≢false (sym e))
+
+each_spelled : (words : List (List ℕ)) → list_all spells_cycle words ≡ true → SpellCycles words
+each_spelled [] e = All-nil (λ word. spells_cycle word ≡ true)
+each_spelled (word ∷ words) e =
+    All-cons (λ word. spells_cycle word ≡ true) word words (first_of (spells_cycle word) (list_all spells_cycle words) e)
+    (each_spelled words (second_of (spells_cycle word) (list_all spells_cycle words) e))
+
+-- words that are cycles spell them
+pub cycles_spelled : (words : List (List ℕ)) → are_cycles words ≡ true → SpellCycles words
+cycles_spelled words e =
+    each_spelled words
+    (second_of (nat_le (length words) most_cycles) (list_all spells_cycle words)
+    (second_of (nat_le 1 (length words)) (nat_le (length words) most_cycles && list_all spells_cycle words) e))
+
+-- the word at one place
+pub word_spelled : {S : Type 0} (text : S → List ℕ) (words : List S) (i : ℕ) (word : S) → i < length words → word ≡ get_or words i word → SpellCycles (map text words)
+    → spells_cycle (text word) ≡ true
+word_spelled text words i word lt is all =
+    let at : get_or (map text words) i [] ≡ text word = get_or-map text words i word [] lt ∙ ap text (sym is) in
+    subst (λ (w : List ℕ). spells_cycle w ≡ true) at (all i [] (subst (λ n. i < n) (sym (length-map words text)) lt))
+
+-- a word that spells no cycle
+pub word_fails : {S : Type 0} (text : S → List ℕ) (words : List S) (i : ℕ) (word : S) → i < length words → word ≡ get_or words i word → spells_cycle (text word) ≡ false
+    → list_all spells_cycle (map text words) ≡ false
+word_fails text words i word lt is fails =
+    let at : get_or (map text words) i [] ≡ text word = get_or-map text words i word [] lt ∙ ap text (sym is) in
+    list_all_at spells_cycle (map text words) i [] (subst (λ n. i < n) (sym (length-map words text)) lt) (ap spells_cycle at ∙ fails)
+
+-- one more word and its cycle
+pub cycles_more : {S : Type 0} (text : S → List ℕ) (words : List S) (i : ℕ) (word : S) (cycles now : List ℚ) (cycle : ℚ) → i < length words → word ≡ get_or words i word
+    → now ≡ cycles ++ cycle ∷ [] → AreCycles (map text (take i words)) cycles → cycle_of (text word) ≡ Some cycle → AreCycles (map text (take (i + 1) words)) now
+cycles_more text words i word cycles now cycle lt is e h k =
+    let taken : take (i + 1) words ≡ take i words ++ word ∷ [] = take_more words i word lt ∙ ap (λ w. take i words ++ w ∷ []) (sym is) in
+    let mapped : map text (take (i + 1) words) ≡ map text (take i words) ++ text word ∷ [] = ap (map text) taken ∙ map-append text (take i words) (word ∷ []) in
+    rw (e, mapped) (all_zipped_more (λ w q. cycle_of w ≡ Some q) (map text (take i words)) cycles (text word) cycle h k)
+
+-- words of no usage
+pub few_words : {S : Type 0} (text : S → List ℕ) (words : List S) → length words < 1 → None ≡ request_of (map text words)
+few_words text [] h = refl
+few_words text (word ∷ more) h = absurd (omega (arith, h))

@@ -1,0 +1,8 @@
+pub mod Numbers
+pub mod Cycles
+pub mod Timed
+pub mod Lines
+pub mod Reading
+pub mod Command
+pub mod Status
+pub mod Puts

@@ -1,0 +1,172 @@
+-- The files that a command reads, one after the other. What a file holds is a function of its name, with the bytes where they are told.
+use Rattle.std.specs.Prelude.{◌≡◌, ◌⊎◌, ℕ, ◌+◌, ◌≤◌, List, [], ◌∷◌, length, Option, None, IfOk, IfSome, IsSome, OnErr, Result, Ok, Err}
+use Rattle.narrow_fraction.specs.declared.memory.Memory.{Memory}
+use Rattle.outer_edge.specs.Counts.{NoneFell, SameCounts, CountedAt}
+use Rattle.outer_edge.specs.Held.{BeginsWith, SameFiles}
+use Rattle.outer_edge.specs.declared.files.Files.{Ghosts}
+use Rattle.progression.specs.Street.{Street}
+use Rattle.progression.specs.TimingRecord.{TimingRecord}
+use Rattle.artery_model.specs.Faults.{Fault, fault_of}
+use Rattle.description_reader.specs.Described.{Described, RefusedAs}
+use Rattle.description_reader.specs.Typed.{Typed, GivesPlan, GivesNone}
+use Rattle.plan_text.specs.Reading.{timing_of}
+use Rattle.certificate_model.specs.Warrants.{Warrant}
+use Rattle.plan_text.specs.CertificateReading.{certificate_of}
+use Rattle.plan_text.specs.declared.fault.BadText.{BadText}
+use Rattle.link_proof.specs.LinkWarrants.{LinkWarrant, links_of}
+use Rattle.run_inputs.specs.Timed.{timed_of}
+use Rattle.run_inputs.specs.Lines.{refused_line, bad_text_line, cannot_read_line, too_long_line}
+use Rattle.run_inputs.specs.declared.answer.Answer.{Answer}
+use Rattle.run_inputs.specs.declared.answer.Unread.{Unread}
+use Rattle.run_inputs.specs.declared.answer.Unread.TheVariants as unread
+use Rattle.run_inputs.specs.declared.cause.Cause.{Cause}
+use Rattle.run_inputs.specs.declared.cause.Cause.TheVariants as cause
+
+-- ---- readers
+pub data Reader : Type 0 where
+  Description : Reader
+  Timing : Reader
+  Certificate : Reader
+  LinkCertificate : Reader  -- a certificate of link timings
+  Timed : Reader  -- a timing or a certificate, of which its timing is taken
+  TypedPlan : Reader  -- a plan as people type it, in seconds
+
+-- what a file is read as
+abbrev pub Value : Reader → Type 0
+Value Description = Street
+Value Timing = TimingRecord
+Value Certificate = Warrant
+Value LinkCertificate = LinkWarrant
+Value Timed = Option TimingRecord
+Value TypedPlan = Typed
+
+-- the most bytes of a description and of a certificate
+abbrev pub most_described : ℕ
+most_described = 1048576
+
+abbrev pub most_certified : ℕ
+most_certified = 268435456
+
+-- the most bytes of such a file
+abbrev pub most_bytes : Reader → ℕ
+most_bytes Description = most_described
+most_bytes Timing = 1048576
+most_bytes Certificate = most_certified
+most_bytes LinkCertificate = most_certified
+most_bytes Timed = most_certified
+most_bytes TypedPlan = 1048576
+
+-- which value the bytes are read as
+abbrev pub IsReadAs : (r : Reader) → List ℕ → Value r → Type 0
+IsReadAs Description bytes a = Described bytes a
+IsReadAs Timing bytes t = timing_of bytes ≡ Ok t
+IsReadAs Certificate bytes w = certificate_of bytes ≡ Ok w
+IsReadAs LinkCertificate bytes w = links_of bytes ≡ Ok w
+IsReadAs Timed bytes t = timed_of bytes ≡ Ok t
+IsReadAs TypedPlan bytes p = GivesPlan bytes p
+
+-- ---- refusals
+-- this is the fault of the bytes
+abbrev pub HasFault : (List ℕ → Fault → Type 0) → List ℕ → Cause → List ℕ → Type 0
+HasFault refuses bytes (cause.Refused r) lines = refuses bytes (fault_of r) × (lines ≡ refused_line r)
+HasFault refuses bytes c lines = ⊥
+
+abbrev pub IsBadText : {V : Type 0} → (List ℕ → Result V BadText) → List ℕ → Cause → List ℕ → Type 0
+IsBadText reads bytes (cause.BadText b) lines = (reads bytes ≡ Err b) × (lines ≡ bad_text_line b)
+IsBadText reads bytes c lines = ⊥
+
+-- for which cause and with which line the bytes are refused
+abbrev pub IsRefusedFor : Reader → List ℕ → Cause → List ℕ → Type 0
+IsRefusedFor Description bytes c lines = HasFault RefusedAs bytes c lines
+IsRefusedFor Timing bytes c lines = IsBadText timing_of bytes c lines
+IsRefusedFor Certificate bytes c lines = IsBadText certificate_of bytes c lines
+IsRefusedFor LinkCertificate bytes c lines = IsBadText links_of bytes c lines
+IsRefusedFor Timed bytes c lines = IsBadText timed_of bytes c lines
+IsRefusedFor TypedPlan bytes c lines = HasFault GivesNone bytes c lines
+
+-- ---- one file
+pub record Input : Type 0 where
+  pub reader : Reader
+  pub name : List ℕ
+
+abbrev pub input : Reader → List ℕ → Input
+input r n = record { reader = r; name = n }
+
+-- three files, in this order
+abbrev pub three_inputs : Reader → Reader → Reader → List ℕ → List ℕ → List ℕ → List Input
+three_inputs r s t one other last = input r one ∷ input s other ∷ input t last ∷ []
+
+-- these are the file's bytes, where it tells them, and no more than the limit
+pub record IsWithinLimit (most : ℕ) (held : Option (List ℕ)) (bytes : List ℕ) : Type 0 where
+  pub few : length bytes ≤ most
+  pub told : IfSome held (λ x. bytes ≡ x)
+
+-- The file has bytes within the limit of which this holds: those that it tells, and also where it tells none there are such bytes.
+abbrev pub HasBytes : ℕ → Option (List ℕ) → (List ℕ → Type 0) → Type 0
+HasBytes most held p = (bytes : List ℕ) × IsWithinLimit most held bytes × p bytes
+
+-- the file is within its limit and describes this artery
+abbrev pub Describes : Option (List ℕ) → Street → Type 0
+Describes held a = HasBytes most_described held (λ bytes. Described bytes a)
+
+-- the file is within its limit and is read as this
+abbrev pub Reads : (r : Reader) → Option (List ℕ) → Value r → Type 0
+Reads r held v = HasBytes (most_bytes r) held (λ bytes. IsReadAs r bytes v)
+
+-- Why the file that a command reads at this place isn't read, and the line of that. A read failed and was counted; or one more byte than the limit was
+-- taken; or the bytes are refused. `before` and `after` count the failed reads of each name.
+abbrev pub IsUnread : Input → ℕ → (List ℕ → Option (List ℕ)) → (List ℕ → ℕ) → (List ℕ → ℕ) → Cause → List ℕ → Type 0
+IsUnread i place held before after (cause.ReadFault file) lines = (file ≡ place) × CountedAt before after i.name × (lines ≡ cannot_read_line i.name)
+IsUnread i place held before after (cause.TooLong file) lines =
+    (file ≡ place) × SameCounts before after × BeginsWith (most_bytes i.reader + 1) (held i.name) × (lines ≡ too_long_line i.name)
+IsUnread i place held before after c lines = SameCounts before after × HasBytes (most_bytes i.reader) (held i.name) (λ bytes. IsRefusedFor i.reader bytes c lines)
+
+-- ---- all files
+-- a value for each file
+abbrev pub Values : List Input → Type 0
+Values [] = Unit {0}
+Values (i ∷ is) = Value i.reader × Values is
+
+-- every file is read as its value
+abbrev pub AreRead : (is : List Input) → (List ℕ → Option (List ℕ)) → Values is → Type 0
+AreRead [] held v = Unit {0}
+AreRead (i ∷ is) held v = Reads i.reader (held i.name) v.0 × AreRead is held v.1
+
+-- so many bytes are room for the line of each file that couldn't be read
+abbrev pub IsRoomForFaults : List Input → ℕ → Type 0
+IsRoomForFaults [] room = Unit {0}
+IsRoomForFaults (i ∷ is) room = (length (cannot_read_line i.name) ≤ room) × IsRoomForFaults is room
+
+-- one of the files, of which the first is read at this place, isn't read, and those before it are
+abbrev pub StopsReading : List Input → ℕ → (List ℕ → Option (List ℕ)) → (List ℕ → ℕ) → (List ℕ → ℕ) → Cause → List ℕ → Type 0
+StopsReading [] place held before after c lines = ⊥
+StopsReading (i ∷ is) place held before after c lines =
+    IsUnread i place held before after c lines ⊎ ((v : Value i.reader) × Reads i.reader (held i.name) v × StopsReading is (place + 1) held before after c lines)
+
+-- the files tell their bytes
+abbrev pub AreTold : (List ℕ → Option (List ℕ)) → List Input → Type 0
+AreTold held [] = Unit {0}
+AreTold held (i ∷ is) = IsSome (held i.name) × AreTold held is
+
+-- ---- what reading does
+-- no file changes, no count of failed reads falls, and no put fails
+pub record LeavesFiles {F : Type 0} (files : Ghosts F) (before now : F) : Type 0 where
+  pub holds : SameFiles (files.holds before) (files.holds now)
+  pub reads : NoneFell (files.read_faults before) (files.read_faults now)
+  pub puts : SameCounts (files.put_faults before) (files.put_faults now)
+
+-- these files were read as their values, and no read failed
+pub record WereRead {F : Type 0} (files : Ghosts F) (before now : F) (is : List Input) (values : Values is) : Type 0 where
+  pub read : AreRead is (files.holds before) values
+  pub counts : SameCounts (files.read_faults before) (files.read_faults now)
+
+-- the answer that tells why a file isn't read, or want of memory
+abbrev pub end_of : Unread → Result Answer Memory
+end_of (unread.Told a) = Ok a
+end_of unread.Memory = Err (record {})
+
+-- One of these files, of which the first is read at this place, wasn't read: an answer that tells why and puts nothing, or want of memory where no read failed.
+pub record WasUnread {F : Type 0} (files : Ghosts F) (before now : F) (is : List Input) (place : ℕ) (end : Unread) : Type 0 where
+  pub told : IfOk (end_of end) (λ a. StopsReading is place (files.holds before) (files.read_faults before) (files.read_faults now) a.cause a.lines.items)
+  pub no_put : IfOk (end_of end) (λ a. a.put ≡ None)
+  pub memory : OnErr (end_of end) (SameCounts (files.read_faults before) (files.read_faults now))

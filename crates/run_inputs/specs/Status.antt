@@ -1,0 +1,31 @@
+-- The number of each cause, and of words that are no text, of which there is no run; and which causes are answers.
+use Rattle.std.specs.Prelude.{ℕ}
+use Rattle.run_inputs.specs.declared.cause.Cause.{Cause}
+use Rattle.run_inputs.specs.declared.cause.Cause.TheVariants as cause
+
+abbrev pub number_of : Cause → ℕ
+number_of cause.Done = 0
+number_of cause.NoTiming = 1
+number_of (cause.Stopped stop) = 2
+number_of (cause.Refused r) = 3
+number_of (cause.BadText b) = 3
+number_of (cause.Fails f) = 4
+number_of (cause.Rejected r) = 4
+number_of (cause.LinkRejected r) = 4
+number_of cause.Words = 5
+number_of (cause.ReadFault file) = 6
+number_of cause.WriteFault = 7
+number_of cause.Memory = 8
+number_of (cause.TooLong file) = 9
+number_of (cause.Unplanned end) = 10
+number_of (cause.Unmatched end) = 11
+
+abbrev pub no_words : ℕ
+no_words = 12
+
+-- an answer that neither a fault nor want of memory gave
+abbrev pub IsReached : Cause → Type 0
+IsReached (cause.ReadFault file) = ⊥
+IsReached cause.WriteFault = ⊥
+IsReached cause.Memory = ⊥
+IsReached _ = Unit {0}

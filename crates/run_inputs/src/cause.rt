@@ -1,0 +1,103 @@
+//! How a run ends.
+
+ghost use Rattle.std.specs.Prelude.{◌≡◌, ◌↔◌, IsTrue};
+ghost use Rattle.run_inputs.specs.Status.{number_of};
+
+use artery_model::Refusal;
+use branch_tree::Stop;
+use certificate_checker::Reject;
+use half_integer::HalfEnd;
+use link_proof::LinkReject;
+use plan_text::BadText;
+use second_plan::PlanEnd;
+use time_space::Failing;
+
+/// The number of the status for words that the system doesn't give as text. It is none of a cause: no run ends with it.
+pub const NO_WORDS: u8 = 12;
+
+/// Why a run ends with its status. `file` is 1 or 2: the first or the second file that the command
+/// reads.
+#[derive(Drop)]
+pub enum Cause {
+    /// The work was done. For `solve`, `links` and `trial`: the timing that was found is a best one.
+    Done,
+    /// There is no good timing, or of `links` no good link timing, on any grid.
+    NoTiming,
+    /// The search stopped, by work or because a number left 128 bits: no good timing is worth more than the bound that was found.
+    Stopped(Stop),
+    /// The first file doesn't describe an artery: what is wrong first, and where.
+    Refused(Refusal),
+    /// The file that the command reads as a timing or a certificate isn't the text of one: its first bad line.
+    BadText(BadText),
+    /// The timing breaks a rule: the first that it breaks.
+    Fails(Failing),
+    /// The certificate is refused: the first refusal, which is never want of memory.
+    Rejected(Reject),
+    /// The certificate of link timings is refused: the first refusal, which is never want of memory.
+    LinkRejected(LinkReject),
+    /// The words are none of the usages.
+    Words,
+    /// A read of this file failed, and was counted.
+    ReadFault { file: u8 },
+    /// The put of the file that the command puts (a certificate, a plan or a table), or a write of its lines, failed and was counted.
+    WriteFault,
+    /// Memory was wanting.
+    Memory,
+    /// This file has more bytes than its limit.
+    TooLong { file: u8 },
+    /// No plan in whole seconds is made of the accepted certificate: the first reason.
+    Unplanned(PlanEnd),
+    /// The timing has no half-cycle plan: the first reason.
+    Unmatched(HalfEnd),
+}
+
+/// How a run ends: a number for the system, and the cause.
+#[derive(Drop)]
+pub struct Status {
+    pub number: u8,
+    pub cause: Cause,
+}
+
+impl Cause {
+    /// The number of the status with this cause.
+    pub fn number(&self) -> u8
+        ensures { result ≡ number_of self.now }
+    {
+        match self {
+            Cause::Done => 0,
+            Cause::NoTiming => 1,
+            Cause::Stopped(_) => 2,
+            Cause::Refused(_) | Cause::BadText(_) => 3,
+            Cause::Fails(_) | Cause::Rejected(_) | Cause::LinkRejected(_) => 4,
+            Cause::Words => 5,
+            Cause::ReadFault { .. } => 6,
+            Cause::WriteFault => 7,
+            Cause::Memory => 8,
+            Cause::TooLong { .. } => 9,
+            Cause::Unplanned(_) => 10,
+            Cause::Unmatched(_) => 11,
+        }
+    }
+    /// Whether memory was wanting.
+    pub fn is_memory(&self) -> bool
+        ensures { IsTrue result ↔ self.now ≡ Cause.Memory }
+    {
+        match self {
+            Cause::Memory => true,
+            Cause::Done
+            | Cause::NoTiming
+            | Cause::Stopped(_)
+            | Cause::Refused(_)
+            | Cause::BadText(_)
+            | Cause::Fails(_)
+            | Cause::Rejected(_)
+            | Cause::LinkRejected(_)
+            | Cause::Words
+            | Cause::ReadFault { .. }
+            | Cause::WriteFault
+            | Cause::TooLong { .. }
+            | Cause::Unplanned(_)
+            | Cause::Unmatched(_) => false,
+        }
+    }
+}

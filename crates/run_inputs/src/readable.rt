@@ -1,0 +1,192 @@
+//! What a file can be read as.
+
+ghost use Rattle.std.specs.Prelude.{◌≡◌, ◌<◌, ◌^◌, None, IfOk, IfErr};
+ghost use Rattle.run_inputs.specs.Lines.{refused_line, bad_text_line};
+ghost use Rattle.run_inputs.specs.Timed.{is_timing};
+ghost use Rattle.run_inputs.specs.Reading.{Reader, Value, most_bytes, end_of, IsReadAs, IsRefusedFor};
+
+use crate::answer::{Unread, told};
+use crate::cause::Cause;
+use crate::lines::{bad_text_line, refused_line};
+use artery_model::{Artery, Flaw, Refusal};
+use description_reader::{TypedPlan, read_artery, read_plan};
+use link_proof::{LinkCertificate, read_links};
+use plan_text::{BadText, Certificate, TextEnd, read_certificate, read_timing};
+use std::alloc::Global;
+use time_space::Timing;
+
+/// The most bytes of a description, a timing or a typed plan.
+const SHORT_FILE: u64 = 1_048_576;
+
+/// The most bytes of a certificate of either kind.
+const LONG_FILE: u64 = 268_435_456;
+
+/// A value that a file is read as.
+pub trait Readable: Drop {
+    /// Its row in the table of readers.
+    ghost reader: { Reader };
+
+    /// The value, as that row has it.
+    ghost value: { Self → Value reader };
+
+    /// The most bytes of such a file.
+    fn most_bytes() -> u64
+        ensures most { result ≡ most_bytes reader }
+        ensures few { result < 2 ^ 63 };
+
+    /// The value that the bytes are read as, or why they are refused.
+    fn read(alloc: Global, bytes: &[u8]) -> Result<Self, Unread>
+        ensures value { IfOk result (λ v. IsReadAs reader bytes.now (value v)) }
+        ensures refused { IfErr result (λ end. IfOk (end_of end) (λ a. IsRefusedFor reader bytes.now a.cause a.lines.items)) }
+        ensures no_put { IfErr result (λ end. IfOk (end_of end) (λ a. a.put ≡ None)) };
+}
+
+/// What is told of a description or a typed plan that is refused.
+fn refused(alloc: Global, refusal: Refusal) -> Unread
+    ensures cause { IfOk (end_of result) (λ a. a.cause ≡ Cause.Refused refusal) }
+    ensures lines { IfOk (end_of result) (λ a. a.lines.items ≡ refused_line refusal) }
+    ensures no_put { IfOk (end_of result) (λ a. a.put ≡ None) }
+{
+    match refused_line(alloc, &refusal) {
+        Ok(line) => Unread::Told(told(Cause::Refused(refusal), line)),
+        Err(_) => Unread::Memory,
+    }
+}
+
+/// What is told of a text with a bad line.
+fn bad_text(alloc: Global, bad: BadText) -> Unread
+    ensures cause { IfOk (end_of result) (λ a. a.cause ≡ Cause.BadText bad) }
+    ensures lines { IfOk (end_of result) (λ a. a.lines.items ≡ bad_text_line bad) }
+    ensures no_put { IfOk (end_of result) (λ a. a.put ≡ None) }
+{
+    match bad_text_line(alloc, bad) {
+        Ok(line) => Unread::Told(told(Cause::BadText(bad), line)),
+        Err(_) => Unread::Memory,
+    }
+}
+
+/// The artery that a description describes.
+impl Readable for Artery {
+    ghost reader = { Reader.Description };
+
+    ghost value = { λ a. a };
+
+    fn most_bytes() -> u64 {
+        SHORT_FILE
+    }
+
+    fn read(alloc: Global, bytes: &[u8]) -> Result<Artery, Unread> {
+        match read_artery(alloc, bytes) {
+            Ok(artery) => Ok(artery),
+            Err(Flaw::Refused(refusal)) => Err(refused(alloc, refusal)),
+            Err(Flaw::Memory) => Err(Unread::Memory),
+        }
+    }
+}
+
+/// The plan that a text gives, typed in seconds.
+impl Readable for TypedPlan {
+    ghost reader = { Reader.TypedPlan };
+
+    ghost value = { λ p. p };
+
+    fn most_bytes() -> u64 {
+        SHORT_FILE
+    }
+
+    fn read(alloc: Global, bytes: &[u8]) -> Result<TypedPlan, Unread> {
+        match read_plan(alloc, bytes) {
+            Ok(plan) => Ok(plan),
+            Err(Flaw::Refused(refusal)) => Err(refused(alloc, refusal)),
+            Err(Flaw::Memory) => Err(Unread::Memory),
+        }
+    }
+}
+
+impl Readable for Timing {
+    ghost reader = { Reader.Timing };
+
+    ghost value = { λ t. t };
+
+    fn most_bytes() -> u64 {
+        SHORT_FILE
+    }
+
+    fn read(alloc: Global, bytes: &[u8]) -> Result<Timing, Unread> {
+        match read_timing(alloc, bytes) {
+            Ok(timing) => Ok(timing),
+            Err(TextEnd::Bad(bad)) => Err(bad_text(alloc, bad)),
+            Err(TextEnd::Memory) => Err(Unread::Memory),
+        }
+    }
+}
+
+impl Readable for Certificate {
+    ghost reader = { Reader.Certificate };
+
+    ghost value = { λ w. w };
+
+    fn most_bytes() -> u64 {
+        LONG_FILE
+    }
+
+    fn read(alloc: Global, bytes: &[u8]) -> Result<Certificate, Unread> {
+        match read_certificate(alloc, bytes) {
+            Ok(certificate) => Ok(certificate),
+            Err(TextEnd::Bad(bad)) => Err(bad_text(alloc, bad)),
+            Err(TextEnd::Memory) => Err(Unread::Memory),
+        }
+    }
+}
+
+/// The timing that a file has: the text of a timing, or a certificate, which may have none.
+#[derive(Drop)]
+pub struct Timed {
+    pub timing: Option<Timing>,
+}
+
+/// Whether the first line is that of a timing.
+fn is_timing(bytes: &[u8]) -> bool
+    ensures { result ≡ is_timing bytes.now }
+{
+    bytes.starts_with(b"maxband-timing 1\n")
+}
+
+impl Readable for Timed {
+    ghost reader = { Reader.Timed };
+
+    ghost value = { λ t. t.timing };
+
+    fn most_bytes() -> u64 {
+        LONG_FILE
+    }
+
+    #[tactic(auto, using(crate::proofs::Timing::timing_read, crate::proofs::Timing::certificate_read))]
+    fn read(alloc: Global, bytes: &[u8]) -> Result<Timed, Unread> {
+        if is_timing(bytes) {
+            let plan = <Timing as Readable>::read(alloc, bytes)?;
+            return Ok(Timed { timing: Some(plan) });
+        }
+        let warrant = <Certificate as Readable>::read(alloc, bytes)?;
+        let Certificate { timing, .. } = warrant;
+        Ok(Timed { timing })
+    }
+}
+
+impl Readable for LinkCertificate {
+    ghost reader = { Reader.LinkCertificate };
+
+    ghost value = { λ w. w };
+
+    fn most_bytes() -> u64 {
+        LONG_FILE
+    }
+
+    fn read(alloc: Global, bytes: &[u8]) -> Result<LinkCertificate, Unread> {
+        match read_links(alloc, bytes) {
+            Ok(certificate) => Ok(certificate),
+            Err(TextEnd::Bad(bad)) => Err(bad_text(alloc, bad)),
+            Err(TextEnd::Memory) => Err(Unread::Memory),
+        }
+    }
+}
