@@ -87,22 +87,40 @@ static REFUSALS: [&str; 22] = [
     "6 speed_out = [\"99.991\", \"99.989\", \"99.971\", \"99.961\", \"99.929\", \"99.923\", \"99.907\"] -> ticks 99841088358677995881502010",
 ];
 
-/// The description of the street of the examples.
-fn broadway(alloc: Global) -> Result<String, AllocError> {
-    let mut out = String::from_str(alloc, BROADWAY)?;
+/// Writes the signals at the end.
+fn push_signals(out: &mut String, alloc: Global) -> Result<(), AllocError> {
     for (name, red, left_out, left_in) in SIGNALS {
         let signal = format!(in alloc;
             "[[signal]]\nname = \"{name}\"\nred = {red}\nleft_out = {left_out}\nleft_in = {left_in}\n"
         )?;
         out.push_str(signal.as_str())?;
     }
+    Ok(())
+}
+
+/// Writes the links at the end.
+fn push_links(out: &mut String, alloc: Global) -> Result<(), AllocError> {
     for distance in DISTANCES {
         let link = format!(in alloc;
             "[[link]]\ndistance_out = {distance}\ndistance_in = {distance}\nspeed_out = [40, 50]\nspeed_in = [40, 50]\n"
         )?;
         out.push_str(link.as_str())?;
     }
+    Ok(())
+}
+
+/// The description of the street of the examples.
+fn broadway_text(alloc: Global) -> Result<String, AllocError> {
+    let mut out = String::from_str(alloc, BROADWAY)?;
+    push_signals(&mut out, alloc)?;
+    push_links(&mut out, alloc)?;
     Ok(out)
+}
+
+/// The street of the examples.
+fn broadway(alloc: Global) -> Result<Artery, Fail> {
+    let text = broadway_text(alloc)?;
+    Ok(read(alloc, text.as_bytes())?)
 }
 
 fn text_of(alloc: Global, timing: &Timing) -> Result<String, Fail> {
@@ -150,14 +168,22 @@ impl Reader for Plans<'_> {
     }
 }
 
+/// Fails where these changes of the plan give another timing.
+fn same_is_told(alloc: Global, plans: &Plans<'_>, changes: &str) -> Result<(), Fail> {
+    let case = format!(in alloc; "{changes} -> {TIMING}")?;
+    all_told(alloc, plans, PLAN, &[case.as_str()])
+}
+
+fn all_plans_told(alloc: Global, plans: &Plans<'_>) -> Result<(), Fail> {
+    for changes in SAME {
+        same_is_told(alloc, plans, changes)?;
+    }
+    all_told(alloc, plans, PLAN, &REFUSALS)
+}
+
 #[test]
 fn typed_plans(rt: HostRuntime) -> Result<(), Fail> {
-    let alloc = rt.alloc();
-    let artery = read(alloc, broadway(alloc)?.as_bytes())?;
+    let artery = broadway(rt.alloc())?;
     let plans = Plans { artery: &artery };
-    for changes in SAME {
-        let case = format!(in alloc; "{changes} -> {TIMING}")?;
-        all_told(alloc, &plans, PLAN, &[case.as_str()])?;
-    }
-    all_told(alloc, &plans, PLAN, &REFUSALS)
+    all_plans_told(rt.alloc(), &plans)
 }

@@ -7,66 +7,84 @@ use super::order_tests::{
     UNKNOWN_KEYS, WRONG_TYPES,
 };
 use super::rule_tests::{RULES, TURN_RULES};
-use super::samples::{Descriptions, EVERY_KEY};
+use super::samples::{Descriptions, EVERY_KEY, is_answered};
 use super::table_tests::{COUNTS, TABLES};
 use super::type_tests::{TURN_TYPES, TYPES};
 use super::version_tests::VERSIONS;
+use std::alloc::Global;
 use std::rt::HostRuntime;
 use std::test::Fail;
-use test_bed::{PLAIN_STREET, Reader, all_texts_told, all_told, each_with_next};
+use test_bed::{PLAIN_STREET, all_texts_told, all_told, each_with_next};
 
-/// The tables of changes, and the description that they change.
-fn changed(table: u32) -> (&'static str, &'static [&'static str]) {
-    match table {
-        0 => (PLAIN_STREET, &KEYS),
-        1 => (PLAIN_STREET, &TWO_UNKNOWN),
-        2 => (EVERY_KEY, &PLACES),
-        3 => (PLAIN_STREET, &TYPES),
-        4 => (EVERY_KEY, &TURN_TYPES),
-        5 => (PLAIN_STREET, &NUMBERS),
-        6 => (EVERY_KEY, &CHANGE_NUMBERS),
-        7 => (PLAIN_STREET, &LIMITS),
-        8 => (PLAIN_STREET, &ENDS),
-        9 => (EVERY_KEY, &TURN_LIMITS),
-        10 => (PLAIN_STREET, &RULES),
-        11 => (EVERY_KEY, &TURN_RULES),
-        12 => (PLAIN_STREET, &TABLES),
-        13 => (PLAIN_STREET, &COUNTS),
-        14 => (PLAIN_STREET, &FEW_PARTS),
-        15 => (PLAIN_STREET, &FAULTS),
-        16 => (EVERY_KEY, &TURN_FAULTS),
-        _ => (PLAIN_STREET, &VERSIONS),
-    }
+/// A table of cases.
+type Cases = &'static [&'static str];
+
+/// The tables of changes of `PLAIN_STREET`.
+fn of_plain_street() -> [Cases; 12] {
+    [
+        &KEYS,
+        &TWO_UNKNOWN,
+        &TYPES,
+        &NUMBERS,
+        &LIMITS,
+        &ENDS,
+        &RULES,
+        &TABLES,
+        &COUNTS,
+        &FEW_PARTS,
+        &FAULTS,
+        &VERSIONS,
+    ]
+}
+
+/// The tables of changes of `EVERY_KEY`.
+fn of_every_key() -> [Cases; 6] {
+    [
+        &PLACES,
+        &TURN_TYPES,
+        &CHANGE_NUMBERS,
+        &TURN_LIMITS,
+        &TURN_RULES,
+        &TURN_FAULTS,
+    ]
 }
 
 /// Faults of `EVERY_KEY` in the order in which they are looked for: of two neighbours the first is named.
-fn in_order(table: u32) -> &'static [&'static str] {
-    match table {
-        0 => &KINDS,
-        1 => &UNKNOWN_KEYS,
-        2 => &MISSING_KEYS,
-        3 => &WRONG_TYPES,
-        4 => &BAD_NUMBERS,
-        5 => &OUT_OF_RANGE,
-        _ => &BROKEN_RULES,
+fn in_order() -> [Cases; 7] {
+    [
+        &KINDS,
+        &UNKNOWN_KEYS,
+        &MISSING_KEYS,
+        &WRONG_TYPES,
+        &BAD_NUMBERS,
+        &OUT_OF_RANGE,
+        &BROKEN_RULES,
+    ]
+}
+
+/// Fails where, of a fault and the next one, another than the first is named.
+fn first_is_named(alloc: Global, faults: Cases) -> Result<(), Fail> {
+    for case in each_with_next(alloc, faults)? {
+        all_told(alloc, &Descriptions, EVERY_KEY, &[case.as_str()])?;
     }
+    Ok(())
 }
 
 #[test]
 fn first_fault_is_named(rt: HostRuntime) -> Result<(), Fail> {
-    for table in 0..18 {
-        let (base, cases) = changed(table);
-        all_told(rt.alloc(), &Descriptions, base, cases)?;
+    for cases in of_plain_street() {
+        all_told(rt.alloc(), &Descriptions, PLAIN_STREET, cases)?;
+    }
+    for cases in of_every_key() {
+        all_told(rt.alloc(), &Descriptions, EVERY_KEY, cases)?;
     }
     Ok(())
 }
 
 #[test]
 fn first_of_two_faults_is_named(rt: HostRuntime) -> Result<(), Fail> {
-    for table in 0..7 {
-        for case in each_with_next(rt.alloc(), in_order(table))? {
-            all_told(rt.alloc(), &Descriptions, EVERY_KEY, &[case.as_str()])?;
-        }
+    for faults in in_order() {
+        first_is_named(rt.alloc(), faults)?;
     }
     Ok(())
 }
@@ -75,7 +93,6 @@ fn first_of_two_faults_is_named(rt: HostRuntime) -> Result<(), Fail> {
 fn bytes_without_tables(rt: HostRuntime) -> Result<(), Fail> {
     all_texts_told(rt.alloc(), &Descriptions, &[" -> Missing artery"])?;
     // Neither UTF-8 nor a document.
-    let other = Descriptions.answer(rt.alloc(), &[91, 255])?;
-    assert_eq!(rt; other.as_str(), "NotUtf8 file");
+    assert!(rt; is_answered(rt.alloc(), &[91, 255], "NotUtf8 file")?);
     Ok(())
 }

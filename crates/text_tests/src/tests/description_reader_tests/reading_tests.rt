@@ -197,15 +197,20 @@ fn has_base_speeds(links: &[Link]) -> bool {
     link.speed_out.most == Frac::whole(36) && link.speed_in.least == Frac::whole(36)
 }
 
+/// Whether an artery is that of `PLAIN_STREET`.
+fn is_plain_street(artery: &Artery) -> bool {
+    has_base_head(artery)
+        && first_other(artery, &BASE_SIGNALS) == 0
+        && lengths_at(artery, 1) == Some([500, 500])
+        && has_no_change(artery, 1)
+        && has_base_speeds(artery.links())
+}
+
 #[test]
 fn base_is_read(rt: HostRuntime) -> Result<(), Fail> {
     for changes in SAME {
         let artery = read_changed(rt.alloc(), PLAIN_STREET, changes)?;
-        assert!(rt; has_base_head(&artery));
-        assert_eq!(rt; first_other(&artery, &BASE_SIGNALS), 0);
-        assert_eq!(rt; lengths_at(&artery, 1), Some([500, 500]));
-        assert!(rt; has_no_change(&artery, 1));
-        assert!(rt; has_base_speeds(artery.links()));
+        assert!(rt; is_plain_street(&artery), "{changes}");
     }
     Ok(())
 }
@@ -234,15 +239,20 @@ fn has_greatest_speed(links: &[Link], want: Number) -> bool {
     fraction(want) == link.speed_out.most
 }
 
+/// Whether an artery has miles, the names that were given, and a speed of 27/2.
+fn is_english_street(artery: &Artery) -> bool {
+    artery.head().units == Units::English
+        && is_named(artery, "Main Street")
+        && has_base_names(artery)
+        && has_greatest_speed(artery.links(), (27, 2))
+}
+
 #[test]
 fn english_street_is_read(rt: HostRuntime) -> Result<(), Fail> {
     let changes =
         "1 version = 1\n[artery]\nname = 'Main Street'|2 units = 'english'|18 speed_out = ['13.50', '27/2']";
     let artery = read_changed(rt.alloc(), PLAIN_STREET, changes)?;
-    assert!(rt; artery.head().units == Units::English);
-    assert!(rt; is_named(&artery, "Main Street"));
-    assert!(rt; has_base_names(&artery));
-    assert!(rt; has_greatest_speed(artery.links(), (27, 2)));
+    assert!(rt; is_english_street(&artery));
     Ok(())
 }
 
@@ -278,17 +288,27 @@ fn has_every_change(artery: &Artery) -> bool {
         && are_given(change_at(artery, Dir::Inbound, 1), (-25, 132), (1, 15840))
 }
 
+/// Whether the artery's own values and its signals are those of `EVERY_KEY`.
+fn has_every_signal(artery: &Artery) -> bool {
+    is_named(artery, "Main Street")
+        && has_every_value(artery)
+        && artery.count() == 3
+        && first_other(artery, &SIGNALS) == 0
+}
+
+/// Whether the links are those of `EVERY_KEY`.
+fn has_every_link(artery: &Artery) -> bool {
+    has_every_speed(artery.links())
+        && has_every_run(artery)
+        && lengths_at(artery, 2) == Some([900, 800])
+        && has_every_change(artery)
+        && has_no_change(artery, 2)
+}
+
 #[test]
 fn every_key_is_read(rt: HostRuntime) -> Result<(), Fail> {
     let artery = read(rt.alloc(), EVERY_KEY.as_bytes())?;
-    assert!(rt; is_named(&artery, "Main Street"));
-    assert!(rt; has_every_value(&artery));
-    assert_eq!(rt; artery.count(), 3);
-    assert_eq!(rt; first_other(&artery, &SIGNALS), 0);
-    assert!(rt; has_every_speed(artery.links()));
-    assert!(rt; has_every_run(&artery));
-    assert_eq!(rt; lengths_at(&artery, 2), Some([900, 800]));
-    assert!(rt; has_every_change(&artery));
-    assert!(rt; has_no_change(&artery, 2));
+    assert!(rt; has_every_signal(&artery));
+    assert!(rt; has_every_link(&artery));
     Ok(())
 }

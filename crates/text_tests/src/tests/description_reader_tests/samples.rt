@@ -70,9 +70,15 @@ pub struct Descriptions;
 
 impl Reader for Descriptions {
     fn answer(&self, alloc: Global, text: &[u8]) -> Result<String, Fail> {
-        match read_artery(alloc, text) {
+        match read(alloc, text) {
             Ok(_) => Ok(String::from_str(alloc, "described")?),
             Err(flaw) => Ok(flaw_text(alloc, flaw)?),
         }
     }
+}
+
+/// Whether this is what the reader answers for a text.
+pub fn is_answered(alloc: Global, text: &[u8], want: &str) -> Result<bool, Fail> {
+    let got = Descriptions.answer(alloc, text)?;
+    Ok(got.as_str() == want)
 }

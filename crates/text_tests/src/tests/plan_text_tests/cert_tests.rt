@@ -1,15 +1,16 @@
 //! Texts of certificates, written and read again, and each kind of bad line.
 
-use super::tests::{Texts, certificate_of};
+use super::super::quantity_text_tests::is_text;
+use super::tests::{Texts, certificate_of, certificate_text};
 use named_row::{Leaf, RowId};
 use narrow_fraction::Frac;
 use plan_text::*;
 use search_box::At;
-use std::alloc::Global;
+use std::alloc::{AllocError, Global};
 use std::test::*;
 use test_bed::{
-    WORKED_LISTED, all_ends_told, all_texts_told, all_told, fraction, stopped_text, with_changes,
-    worked_text, written_without_timing,
+    WORKED_LISTED, all_ends_told, all_texts_told, all_told, fraction_or_zero, stopped_text,
+    with_changes, worked_text,
 };
 use time_space::Timing;
 
@@ -135,7 +136,8 @@ static CHANGED: [&str; 109] = [
 ];
 
 /// The same for the text with a bound.
-static REFUSED_OPEN: [&str; 13] = [
+static CHANGED_OPEN: [&str; 14] = [
+    " -> read",
     "2 verdict closed -> 2 Shape",
     "3 value 3/4 -> 3 Shape",
     "3 bound 6/8 -> 3 Number",
@@ -212,24 +214,31 @@ static REFUSED_LISTED: [&str; 57] = [
     "45 end\nend -> 46 Shape",
 ];
 
-#[test]
-fn texts_are_read_and_judged(rt: HostRuntime) -> Result<(), Fail> {
-    let alloc = rt.alloc();
-    let (best, open) = (worked_text(alloc)?, stopped_text(alloc)?);
-    all_texts_told(alloc, &Texts::Certificates, &TEXTS)?;
+/// Fails where a change or a beginning of the best timing's text is judged otherwise than its case says.
+fn judge_best(alloc: Global) -> Result<(), Fail> {
+    let best = worked_text(alloc)?;
     all_told(alloc, &Texts::Certificates, best.as_str(), &CHANGED)?;
-    all_told(alloc, &Texts::Certificates, open.as_str(), &[" -> read"])?;
-    all_told(alloc, &Texts::Certificates, open.as_str(), &REFUSED_OPEN)?;
-    all_told(alloc, &Texts::Certificates, WORKED_LISTED, &REFUSED_LISTED)?;
-    all_ends_told(alloc, &Texts::Certificates, best.as_str())?;
-    all_ends_told(alloc, &Texts::Certificates, WORKED_LISTED)
+    all_ends_told(alloc, &Texts::Certificates, best.as_str())
 }
 
-fn read(alloc: Global, text: &str) -> Result<Certificate, Fail> {
-    match certificate_of(alloc, text.as_bytes()) {
-        Ok(certificate) => Ok(certificate),
-        Err(_) => Err("no certificate".into()),
-    }
+/// The same of the text with a bound.
+fn judge_open(alloc: Global) -> Result<(), Fail> {
+    let open = stopped_text(alloc)?;
+    all_told(alloc, &Texts::Certificates, open.as_str(), &CHANGED_OPEN)
+}
+
+#[test]
+fn texts_are_read_and_judged(rt: HostRuntime) -> Result<(), Fail> {
+    all_texts_told(rt.alloc(), &Texts::Certificates, &TEXTS)?;
+    judge_best(rt.alloc())?;
+    judge_open(rt.alloc())?;
+    all_told(
+        rt.alloc(),
+        &Texts::Certificates,
+        WORKED_LISTED,
+        &REFUSED_LISTED,
+    )?;
+    all_ends_told(rt.alloc(), &Texts::Certificates, WORKED_LISTED)
 }
 
 /// Whether the first row of a leaf is this one, with this multiplier.
@@ -293,34 +302,78 @@ fn has_reds(timing: Option<&Timing>) -> bool {
     }
 }
 
+/// Whether a certificate has this value, the reds of the best timing, and its nodes with this multiplier.
+fn has_parts(certificate: &Certificate, value: Frac, by: Frac) -> bool {
+    certificate.claim == Claim::Best { value }
+        && has_reds(certificate.timing.as_ref())
+        && has_nodes(certificate.nodes.as_slice(), by)
+}
+
+/// Whether a text is that of a certificate with these parts.
+fn gives_parts(alloc: Global, text: &str, value: Frac, by: Frac) -> bool {
+    match certificate_of(alloc, text.as_bytes()) {
+        Ok(certificate) => has_parts(&certificate, value, by),
+        Err(_) => false,
+    }
+}
+
+/// The text of the best timing with another multiplier.
+fn with_multiplier(alloc: Global) -> Result<String, AllocError> {
+    let best = worked_text(alloc)?;
+    with_changes(alloc, best.as_str(), "15 wout 2 -7/3")
+}
+
 #[test]
 fn each_part_goes_to_its_place(rt: HostRuntime) -> Result<(), Fail> {
-    let best = worked_text(rt.alloc())?;
-    let text = with_changes(rt.alloc(), best.as_str(), "15 wout 2 -7/3")?;
-    let certificate = read(rt.alloc(), text.as_str())?;
-    let value = fraction(1, 2)?;
-    assert_eq!(rt; certificate.claim, Claim::Best { value });
-    assert!(rt; has_reds(certificate.timing.as_ref()));
-    assert!(rt; has_nodes(certificate.nodes.as_slice(), fraction(-7, 3)?));
+    let text = with_multiplier(rt.alloc())?;
+    let (value, by) = (fraction_or_zero(1, 2), fraction_or_zero(-7, 3));
+    assert!(rt; gives_parts(rt.alloc(), text.as_str(), value, by));
     Ok(())
+}
+
+/// Whether a text is that of a certificate with this claim.
+fn gives_claim(alloc: Global, text: &str, claim: Claim) -> bool {
+    match certificate_of(alloc, text.as_bytes()) {
+        Ok(certificate) => certificate.claim == claim,
+        Err(_) => false,
+    }
 }
 
 #[test]
 fn bound_and_value_go_to_their_places(rt: HostRuntime) -> Result<(), Fail> {
     let text = stopped_text(rt.alloc())?;
-    let certificate = read(rt.alloc(), text.as_str())?;
-    let bound = fraction(3, 4)?;
-    let value = Some(fraction(1, 2)?);
-    assert_eq!(rt; certificate.claim, Claim::Stopped { bound, value });
+    let bound = fraction_or_zero(3, 4);
+    let value = Some(fraction_or_zero(1, 2));
+    assert!(rt; gives_claim(rt.alloc(), text.as_str(), Claim::Stopped { bound, value }));
     Ok(())
 }
 
+/// No timing, by a leaf without rows.
+fn without_timing(alloc: Global) -> Result<Certificate, AllocError> {
+    let multipliers = Vec::new(alloc);
+    let mut nodes = Vec::new(alloc);
+    nodes.push(CertNode::Leaf(Leaf { multipliers }))?;
+    Ok(Certificate {
+        claim: Claim::NoTiming,
+        timing: None,
+        nodes,
+    })
+}
+
+fn text_without_timing(alloc: Global) -> Option<Vec<u8>> {
+    match without_timing(alloc) {
+        Ok(certificate) => certificate_text(alloc, &certificate),
+        Err(_) => None,
+    }
+}
+
 #[test]
-fn a_certificate_is_made_of_its_parts(rt: HostRuntime) -> Result<(), Fail> {
-    written_without_timing!(
-        Certificate,
-        write_certificate,
-        rt.alloc(),
-        "maxband-certificate 1"
-    )
+fn a_certificate_is_made_of_its_parts(rt: HostRuntime) {
+    let text = text_without_timing(rt.alloc());
+    assert!(rt;
+        is_text(
+            text,
+            "maxband-certificate 1\nverdict none\ntree\nleaf 0\nend\n"
+        )
+    );
 }
