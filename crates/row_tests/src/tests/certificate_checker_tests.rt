@@ -5,6 +5,7 @@ ghost use Rattle.std.specs.Prelude.{IfOk, length, ◌≡◌};
 ghost use Rattle.progression.specs.Street.{count};
 ghost use Rattle.linear_theory.specs.Places.{width};
 
+use crate::tests::row_texts::root_box;
 use artery_model::Artery;
 use certificate_checker::{Aim, ArteryRows, TreeReject, check, check_tree};
 use loop_rows::column_count;
@@ -12,13 +13,11 @@ use named_row::{Leaf, Place, Row};
 use narrow_fraction::Frac;
 use plan_text::{CertNode, Certificate, read_certificate};
 use sample_streets::{SampleHead, plain_head};
-use search_box::SearchBox;
 use std::alloc::{AllocError, Global};
 use std::rt::HostRuntime;
 use std::test::Fail;
 use test_bed::{
-    HALF_BAND, HIGH_LEAF, LOW_LEAF, Reader, Record, SPLIT, all_told, fraction, two_signals,
-    with_least,
+    HALF_BAND, HIGH_LEAF, LOW_LEAF, Reader, Record, SPLIT, all_told, two_signals, with_least,
 };
 
 /// The reds of two signals in parts, how far they are apart, how many tenths of the cycle each band has to be wide, the lines of a
@@ -123,6 +122,15 @@ static NODES: [(&str, &str); 18] = [
     ("equal_bands", "leaf 1\nequal_lo 1\n"),
 ];
 
+fn listed(nodes: &[(&'static str, &'static str)], name: &str) -> Option<&'static str> {
+    for (known, lines) in nodes {
+        if *known == name {
+            return Some(lines);
+        }
+    }
+    None
+}
+
 /// The lines that other tests have too: a timing with half of the cycle outbound and nothing inbound, and nodes.
 fn shared(name: &str) -> Option<&'static str> {
     match name {
@@ -132,15 +140,6 @@ fn shared(name: &str) -> Option<&'static str> {
         "high" => Some(HIGH_LEAF),
         _ => None,
     }
-}
-
-fn listed(nodes: &[(&'static str, &'static str)], name: &str) -> Option<&'static str> {
-    for (known, lines) in nodes {
-        if *known == name {
-            return Some(lines);
-        }
-    }
-    None
 }
 
 /// The lines of this name, or none.
@@ -164,33 +163,46 @@ fn push_line(text: &mut String, line: &str) -> Result<(), AllocError> {
     text.push_str("\n")
 }
 
+fn push_all(text: &mut String, lines: &str, between: char) -> Result<(), AllocError> {
+    for line in lines.split(between) {
+        push_lines(text, line)?;
+    }
+    Ok(())
+}
+
+fn push_certificate(text: &mut String, claim: &str, tree: &str) -> Result<(), AllocError> {
+    push_line(text, "maxband-certificate 1")?;
+    push_all(text, claim, ';')?;
+    push_line(text, "tree")?;
+    push_all(text, tree, ' ')?;
+    push_line(text, "end")
+}
+
 /// The certificate with this claim and these nodes.
 fn certificate_text(alloc: Global, claim: &str, tree: &str) -> Result<String, AllocError> {
-    let mut text = String::from_str(alloc, "maxband-certificate 1\n")?;
-    for line in claim.split(';') {
-        push_lines(&mut text, line)?;
-    }
-    push_line(&mut text, "tree")?;
-    for name in tree.split(' ') {
-        push_lines(&mut text, name)?;
-    }
-    push_line(&mut text, "end")?;
+    let mut text = String::new(alloc);
+    push_certificate(&mut text, claim, tree)?;
     Ok(text)
 }
 
-fn certificate(alloc: Global, record: Record<'_>) -> Result<Certificate, Fail> {
-    let text = certificate_text(alloc, record.behind("claim")?, record.behind("tree")?)?;
+fn read(alloc: Global, text: &str) -> Result<Certificate, Fail> {
     match read_certificate(alloc, text.as_bytes()) {
         Ok(certificate) => Ok(certificate),
         Err(_) => Err("no certificate".into()),
     }
 }
 
+fn certificate(alloc: Global, record: Record<'_>) -> Result<Certificate, Fail> {
+    let (claim, tree) = (record.behind("claim")?, record.behind("tree")?);
+    let text = certificate_text(alloc, claim, tree)?;
+    read(alloc, text.as_str())
+}
+
 fn head(record: Record<'_>) -> Result<SampleHead, Fail> {
     if record.behind("least")? == "none" {
         return Ok(plain_head());
     }
-    Ok(with_least(fraction(record.number("least", 0)?, 10)?))
+    Ok(with_least(record.quotient("least", 0, 10)?))
 }
 
 /// Two signals, with nothing said of them.
@@ -215,6 +227,11 @@ fn checked(
     }
 }
 
+fn answered(alloc: Global, artery: &Artery, record: Record<'_>) -> Result<String, Fail> {
+    let certificate = certificate(alloc, record)?;
+    Ok(checked(alloc, artery, &certificate)?)
+}
+
 /// Checks a certificate, and tells why it is refused.
 #[derive(Clone, Copy, Drop)]
 struct Checks;
@@ -223,8 +240,7 @@ impl Reader for Checks {
     fn answer(&self, alloc: Global, text: &[u8]) -> Result<String, Fail> {
         let record = Record::new(text)?;
         let artery = artery(alloc, record)?;
-        let certificate = certificate(alloc, record)?;
-        Ok(checked(alloc, &artery, &certificate)?)
+        answered(alloc, &artery, record)
     }
 }
 
@@ -244,26 +260,46 @@ fn no_goal(alloc: Global, artery: &Artery) -> Result<Row, Fail>
 }
 
 /// What the check of one leaf without rows says, where that goal is to be at most this limit, or to have no point.
-fn without_goal(alloc: Global, limit: Option<Frac>) -> Result<Result<(), TreeReject>, Fail> {
-    let artery = two_signals(alloc, plain_head(), 50, 250)?;
-    let goal = no_goal(alloc, &artery)?;
-    let root = SearchBox::root(alloc, &artery)?;
+fn without_goal(
+    alloc: Global,
+    artery: &Artery,
+    limit: Option<Frac>,
+) -> Result<Result<(), TreeReject>, Fail> {
+    let aim = Aim {
+        goal: no_goal(alloc, artery)?,
+        limit,
+    };
     let multipliers = Vec::new(alloc);
     let nodes = [CertNode::Leaf(Leaf { multipliers })];
-    let rows = ArteryRows { artery: &artery };
-    Ok(check_tree(alloc, &rows, root, &Aim { goal, limit }, &nodes))
+    let root = root_box(alloc, artery)?;
+    Ok(check_tree(alloc, &ArteryRows { artery }, root, &aim, &nodes))
+}
+
+/// Fails where that check says something else.
+fn goal_told(
+    alloc: Global,
+    artery: &Artery,
+    limit: Option<Frac>,
+    want: Result<(), TreeReject>,
+) -> Result<(), Fail> {
+    if without_goal(alloc, artery, limit)? == want {
+        return Ok(());
+    }
+    Err("another answer".into())
+}
+
+fn weak() -> TreeReject {
+    TreeReject::LeafTooWeak {
+        leaf: 1,
+        place: Place::Bound,
+    }
 }
 
 /// A sum of no rows keeps it down to 0, to nothing less, and rules no box out.
 #[test]
 fn trees_with_another_goal(rt: HostRuntime) -> Result<(), Fail> {
-    let alloc = rt.alloc();
-    let weak = TreeReject::LeafTooWeak {
-        leaf: 1,
-        place: Place::Bound,
-    };
-    assert_eq!(rt; without_goal(alloc, Some(Frac::whole(0)))?, Ok(()));
-    assert_eq!(rt; without_goal(alloc, Some(Frac::whole(-1)))?, Err(weak));
-    assert_eq!(rt; without_goal(alloc, None)?, Err(weak));
-    Ok(())
+    let artery = street(rt.alloc(), plain_head(), 50, 250)?;
+    goal_told(rt.alloc(), &artery, Some(Frac::whole(0)), Ok(()))?;
+    goal_told(rt.alloc(), &artery, Some(Frac::whole(-1)), Err(weak()))?;
+    goal_told(rt.alloc(), &artery, None, Err(weak()))
 }

@@ -1,9 +1,12 @@
 //! Rows as lines of text.
 
 ghost use Rattle.std.specs.Prelude.{◌≡◌, IfOk, length};
+ghost use Rattle.linear_theory.specs.Boxes.{IsBoxOf};
 
+use artery_model::Artery;
 use named_row::{Leaf, Place, Row, RowId, Weight};
 use narrow_fraction::Frac;
+use search_box::SearchBox;
 use std::alloc::{AllocError, Global};
 use std::test::Fail;
 
@@ -16,6 +19,16 @@ pub fn empty(alloc: Global, width: u32) -> Result<Row, Fail>
 {
     match Row::zero(alloc, width) {
         Ok(row) => Ok(row),
+        Err(_) => Err("no memory".into()),
+    }
+}
+
+/// The root box, of which a sum or a row asks that alone.
+pub fn root_box(alloc: Global, artery: &Artery) -> Result<SearchBox, Fail>
+    ensures { IfOk result (λ area. IsBoxOf artery.now area) }
+{
+    match SearchBox::root(alloc, artery) {
+        Ok(area) => Ok(area),
         Err(_) => Err("no memory".into()),
     }
 }

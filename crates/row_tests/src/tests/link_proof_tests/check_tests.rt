@@ -7,7 +7,7 @@ use link_space::LinkFailing;
 use named_row::{Place, RowId, WideAt};
 use narrow_fraction::{Frac, Op, Wide};
 use sample_streets::plain_head;
-use std::alloc::Global;
+use std::alloc::{AllocError, Global};
 use std::rt::HostRuntime;
 use std::test::Fail;
 use test_bed::{fraction, two_signals};
@@ -36,6 +36,11 @@ fn artery(alloc: Global) -> Result<Artery, Fail> {
     two_signals(alloc, plain_head(), 50, 500)
 }
 
+/// The text of a claim with its link timing and its nodes.
+fn links_text(alloc: Global, claim: &str, timing: &str, nodes: &str) -> Result<String, AllocError> {
+    format!(in alloc; "maxband-links 1\n{claim}{timing}tree\n{nodes}end\n")
+}
+
 fn links(alloc: Global, text: &str) -> Result<LinkCertificate, Fail> {
     match read_links(alloc, text.as_bytes()) {
         Ok(links) => Ok(links),
@@ -48,30 +53,104 @@ fn checked(alloc: Global, artery: &Artery, links: &LinkCertificate) -> Result<()
     link_check(alloc, artery, links)
 }
 
-/// What the check answers for a claim with its link timing and its nodes.
-fn answer(
+/// What the check answers for a link certificate.
+fn answer(alloc: Global, artery: &Artery, text: &str) -> Result<Result<(), LinkReject>, Fail> {
+    let links = links(alloc, text)?;
+    Ok(checked(alloc, artery, &links))
+}
+
+/// Fails where the check answers otherwise for a claim with its link timing and its nodes.
+fn told(
     alloc: Global,
-    claim: &str,
-    timing: &str,
-    nodes: &str,
-) -> Result<Result<(), LinkReject>, Fail> {
-    let text = format!(in alloc; "maxband-links 1\n{claim}{timing}tree\n{nodes}end\n")?;
-    let links = links(alloc, text.as_str())?;
-    Ok(checked(alloc, &artery(alloc)?, &links))
+    artery: &Artery,
+    (claim, timing, nodes): (&str, &str, &str),
+    want: Result<(), LinkReject>,
+) -> Result<(), Fail> {
+    let text = links_text(alloc, claim, timing, nodes)?;
+    if answer(alloc, artery, text.as_str())? == want {
+        return Ok(());
+    }
+    Err(Fail::new(format_args!("{}", text.as_str())))
 }
 
-fn no_row(family: u8, index: u32) -> Result<(), LinkReject> {
-    Err(LinkReject::NoSuchRow {
-        leaf: 1,
-        row: RowId { family, index },
+/// Answers that name no fraction.
+#[derive(Clone, Copy)]
+enum Said {
+    Accepted,
+    Missed(LinkFailing),
+    SplitOutside,
+    NoSuchRow(u8),
+    Negative(u8),
+    TooWeak,
+}
+
+/// Of the first node, which is a leaf or a split, or of its row with the index 1.
+fn answer_of(said: Said) -> Result<(), LinkReject> {
+    let (leaf, index) = (1, 1);
+    Err(match said {
+        Said::Accepted => return Ok(()),
+        Said::Missed(failing) => LinkReject::TimingFails(failing),
+        Said::SplitOutside => LinkReject::SplitOutside { node: 1 },
+        Said::NoSuchRow(family) => LinkReject::NoSuchRow {
+            leaf,
+            row: RowId { family, index },
+        },
+        Said::Negative(family) => LinkReject::Negative {
+            leaf,
+            row: RowId { family, index },
+        },
+        Said::TooWeak => LinkReject::LeafTooWeak {
+            leaf,
+            place: Place::Bound,
+        },
     })
 }
 
-fn weak() -> Result<(), LinkReject> {
-    Err(LinkReject::LeafTooWeak {
-        leaf: 1,
-        place: Place::Bound,
-    })
+/// The outbound band isn't green at its first tick there.
+const EARLY: LinkFailing = LinkFailing::Outbound {
+    link: 1,
+    signal: 1,
+    tick: 99,
+};
+
+/// Claims with their link timings and their nodes, and what the check answers.
+static ANSWERS: [(&str, &str, &str, Said); 10] = [
+    (BEST, FULL, EXACT, Said::Accepted),
+    (
+        "verdict open\nbound 2\nvalue 1\n",
+        FULL,
+        ROUGH,
+        Said::Accepted,
+    ),
+    (
+        "verdict open\nbound 2\nno timing\n",
+        "",
+        ROUGH,
+        Said::Accepted,
+    ),
+    (BEST, WIDER, EXACT, Said::Missed(EARLY)),
+    (
+        BEST,
+        FULL,
+        "split loop 1 9\nleaf 0\nleaf 0\n",
+        Said::SplitOutside,
+    ),
+    // The artery's rows of waits are no rows of links, and the ratio is 1.
+    (BEST, FULL, "leaf 1\nwout 1 1\n", Said::NoSuchRow(1)),
+    (BEST, FULL, "leaf 1\nlink_ratio 1 1\n", Said::NoSuchRow(30)),
+    (BEST, FULL, "leaf 1\nfar_out_a 1 -1\n", Said::Negative(24)),
+    (BEST, FULL, ROUGH, Said::TooWeak),
+    ("verdict none\n", "", EXACT, Said::TooWeak),
+];
+
+#[test]
+fn what_the_check_answers(rt: HostRuntime) -> Result<(), Fail> {
+    let artery = artery(rt.alloc())?;
+    for (claim, timing, nodes, said) in &ANSWERS {
+        let parts = (*claim, *timing, *nodes);
+        told(rt.alloc(), &artery, parts, answer_of(*said))?;
+    }
+    Ok(())
 }
 
 /// The sum of these two in the column of h_out is too wide.
@@ -90,68 +169,24 @@ fn too_wide(left: Frac, right: Frac) -> Result<(), LinkReject> {
     })
 }
 
-fn wide() -> Result<Result<(), LinkReject>, Fail> {
+#[test]
+fn what_the_check_answers_with_numbers(rt: HostRuntime) -> Result<(), Fail> {
+    let artery = artery(rt.alloc())?;
+    let (one, two, half) = (Frac::whole(1), Frac::whole(2), fraction(1, 2)?);
+    let differs = LinkReject::ValueDiffers {
+        kept: one,
+        claimed: two,
+    };
+    let twice = ("verdict best\nvalue 2\n", FULL, EXACT);
+    told(rt.alloc(), &artery, twice, Err(differs))?;
+    let below = LinkReject::BoundBelow {
+        bound: half,
+        value: one,
+    };
+    let bounded = ("verdict open\nbound 1/2\nvalue 1\n", FULL, EXACT);
+    told(rt.alloc(), &artery, bounded, Err(below))?;
     let left = fraction(1, 1_267_650_600_228_229_401_496_703_205_376)?;
     let right = fraction(1, 2_503_155_504_993_241_601_315_571_986_085_849)?;
-    Ok(too_wide(left, right))
-}
-
-#[test]
-fn what_the_check_answers(rt: HostRuntime) -> Result<(), Fail> {
-    let alloc = rt.alloc();
-    let (one, two) = (Frac::whole(1), Frac::whole(2));
-    let half = fraction(1, 2)?;
-    let fails = LinkFailing::Outbound {
-        link: 1,
-        signal: 1,
-        tick: 99,
-    };
-    let negative = LinkReject::Negative {
-        leaf: 1,
-        row: RowId {
-            family: 24,
-            index: 1,
-        },
-    };
-    let rows = [
-        (BEST, FULL, EXACT, Ok(())),
-        ("verdict open\nbound 2\nvalue 1\n", FULL, ROUGH, Ok(())),
-        ("verdict open\nbound 2\nno timing\n", "", ROUGH, Ok(())),
-        (BEST, WIDER, EXACT, Err(LinkReject::TimingFails(fails))),
-        (
-            "verdict best\nvalue 2\n",
-            FULL,
-            EXACT,
-            Err(LinkReject::ValueDiffers {
-                kept: one,
-                claimed: two,
-            }),
-        ),
-        (
-            "verdict open\nbound 1/2\nvalue 1\n",
-            FULL,
-            EXACT,
-            Err(LinkReject::BoundBelow {
-                bound: half,
-                value: one,
-            }),
-        ),
-        (
-            BEST,
-            FULL,
-            "split loop 1 9\nleaf 0\nleaf 0\n",
-            Err(LinkReject::SplitOutside { node: 1 }),
-        ),
-        // The artery's rows of waits are no rows of links, and the ratio is 1.
-        (BEST, FULL, "leaf 1\nwout 1 1\n", no_row(1, 1)),
-        (BEST, FULL, "leaf 1\nlink_ratio 1 1\n", no_row(30, 1)),
-        (BEST, FULL, "leaf 1\nfar_out_a 1 -1\n", Err(negative)),
-        (BEST, FULL, TOO_WIDE, wide()?),
-        (BEST, FULL, ROUGH, weak()),
-        ("verdict none\n", "", EXACT, weak()),
-    ];
-    for (claim, timing, nodes, expected) in rows {
-        assert!(rt; answer(alloc, claim, timing, nodes)? == expected);
-    }
-    Ok(())
+    let wide = too_wide(left, right);
+    told(rt.alloc(), &artery, (BEST, FULL, TOO_WIDE), wide)
 }

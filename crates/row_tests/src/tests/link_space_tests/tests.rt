@@ -3,10 +3,11 @@
 
 use artery_model::Artery;
 use link_space::{LinkFailing, LinkTiming, link_holds, link_value};
+use narrow_fraction::Frac;
 use sample_streets::{SampleLink, SampleSignal, plain_link, plain_signal, sample_street};
 use std::alloc::{AllocError, Global};
 use std::test::Fail;
-use test_bed::{Reader, Record, all_told, fraction, timing_by, with_ratio};
+use test_bed::{Reader, Record, all_told, fraction, with_ratio};
 use time_space::LIMIT;
 
 /// Two signals: the inbound bands count so many halves; the red in parts, the left turns and the clearance are those of signal 2.
@@ -139,10 +140,48 @@ fn long_artery(alloc: Global, record: Record<'_>) -> Result<Artery, Fail> {
     street(alloc, record, &signals, &[plain_link(500), plain_link(500)])
 }
 
+/// The grid, the unit and where the first lines cross.
+fn places(record: Record<'_>) -> Result<[u128; 4], Fail> {
+    let (grid, unit) = (record.natural("grid", 0)?, record.natural("unit", 0)?);
+    let (first_out, first_in) = (record.natural("first", 0)?, record.natural("first", 1)?);
+    Ok([grid, unit, first_out, first_in])
+}
+
+/// The patterns and the reds.
+fn reds(alloc: Global, record: Record<'_>) -> Result<(Vec<u32>, Vec<u128>), Fail> {
+    let patterns = record.smalls(alloc, "pattern")?;
+    Ok((patterns, record.naturals(alloc, "red")?))
+}
+
+/// The numbers behind two names.
+fn both(
+    alloc: Global,
+    record: Record<'_>,
+    out: &str,
+    back: &str,
+) -> Result<(Vec<u128>, Vec<u128>), Fail> {
+    let out = record.naturals(alloc, out)?;
+    Ok((out, record.naturals(alloc, back)?))
+}
+
+fn timing_of(
+    places: [u128; 4],
+    reds: (Vec<u32>, Vec<u128>),
+    runs: (Vec<u128>, Vec<u128>),
+    halves: (Vec<u128>, Vec<u128>),
+) -> Option<LinkTiming> {
+    let [grid, unit, first_out, first_in] = places;
+    LinkTiming::new(
+        grid, unit, reds.0, reds.1, runs.0, runs.1, first_out, first_in, halves.0, halves.1,
+    )
+}
+
 fn timing(alloc: Global, record: Record<'_>) -> Result<Option<LinkTiming>, Fail> {
-    let out = record.naturals(alloc, "half_out")?;
-    let back = record.naturals(alloc, "half_in")?;
-    Ok(timing_by!(LinkTiming::new, alloc, record, out, back))
+    let places = places(record)?;
+    let reds = reds(alloc, record)?;
+    let runs = both(alloc, record, "run_out", "run_in")?;
+    let halves = both(alloc, record, "half_out", "half_in")?;
+    Ok(timing_of(places, reds, runs, halves))
 }
 
 fn failing_text(alloc: Global, failing: LinkFailing) -> Result<String, AllocError> {
@@ -158,16 +197,35 @@ fn failing_text(alloc: Global, failing: LinkFailing) -> Result<String, AllocErro
     }
 }
 
-/// The value of the record's timing where it is good, and else the first rule that it breaks.
+fn value_text(alloc: Global, value: Frac) -> Result<String, AllocError> {
+    let (num, den) = (value.num(), value.den());
+    format!(in alloc; "{num}/{den}")
+}
+
+/// The value of a timing where it is good, and else the first rule that it breaks.
+fn judged_timing(
+    alloc: Global,
+    artery: &Artery,
+    timing: &LinkTiming,
+) -> Result<String, AllocError> {
+    match link_holds(artery, timing) {
+        Ok(()) => value_text(alloc, link_value(artery, timing)),
+        Err(failing) => failing_text(alloc, failing),
+    }
+}
+
+/// The same of the record's timing.
 fn judged(alloc: Global, artery: &Artery, record: Record<'_>) -> Result<String, Fail> {
-    let timing = timing(alloc, record)?.ok_or("no timing")?;
-    match link_holds(artery, &timing) {
-        Ok(()) => {
-            let value = link_value(artery, &timing);
-            let (num, den) = (value.num(), value.den());
-            Ok(format!(in alloc; "{num}/{den}")?)
-        }
-        Err(failing) => Ok(failing_text(alloc, failing)?),
+    match timing(alloc, record)? {
+        Some(timing) => Ok(judged_timing(alloc, artery, &timing)?),
+        None => Err("no timing".into()),
+    }
+}
+
+fn artery(alloc: Global, record: Record<'_>) -> Result<Artery, Fail> {
+    match record.small("links", 0)? {
+        1 => short_artery(alloc, record),
+        _ => long_artery(alloc, record),
     }
 }
 
@@ -178,23 +236,27 @@ struct Judge;
 impl Reader for Judge {
     fn answer(&self, alloc: Global, text: &[u8]) -> Result<String, Fail> {
         let record = Record::new(text)?;
-        let artery = match record.small("links", 0)? {
-            1 => short_artery(alloc, record)?,
-            _ => long_artery(alloc, record)?,
-        };
+        let artery = artery(alloc, record)?;
         judged(alloc, &artery, record)
+    }
+}
+
+/// Judges a timing of two signals on a street of three.
+#[derive(Clone, Copy, Drop)]
+struct Longer;
+
+impl Reader for Longer {
+    fn answer(&self, alloc: Global, text: &[u8]) -> Result<String, Fail> {
+        let artery = long_artery(alloc, Record::new(LONG.as_bytes())?)?;
+        judged(alloc, &artery, Record::new(text)?)
     }
 }
 
 #[test]
 fn the_first_broken_rule_is_named(rt: HostRuntime) -> Result<(), Fail> {
-    let alloc = rt.alloc();
-    all_told(alloc, &Judge, SHORT, &ONE_LINK)?;
-    // A timing of two signals on a street of three.
-    let longer = long_artery(alloc, Record::new(LONG.as_bytes())?)?;
-    let judged = judged(alloc, &longer, Record::new(SHORT.as_bytes())?)?;
-    assert_eq!(rt; judged.as_str(), "Shape");
-    all_told(alloc, &Judge, LONG, &TWO_LINKS)
+    all_told(rt.alloc(), &Judge, SHORT, &ONE_LINK)?;
+    all_told(rt.alloc(), &Longer, SHORT, &[" -> Shape"])?;
+    all_told(rt.alloc(), &Judge, LONG, &TWO_LINKS)
 }
 
 #[test]
