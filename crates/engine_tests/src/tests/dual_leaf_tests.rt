@@ -20,13 +20,23 @@ fn name(number: u32) -> RowId {
     }
 }
 
+/// Loads two rows and a goal.
+fn load_all(
+    alloc: Global,
+    tableau: &mut Tableau,
+    rows: [[i64; 3]; 2],
+    goal: [i64; 3],
+) -> Option<()> {
+    let [first, second] = rows;
+    load(alloc, tableau, 0, name(0), wholes(first))?;
+    load(alloc, tableau, 1, name(1), wholes(second))?;
+    load_goal(alloc, tableau, wholes(goal))
+}
+
 /// Two rows and a goal.
-fn program(rt: &impl Abort, alloc: Global, rows: &[[i64; 3]; 2], goal: [i64; 3]) -> Tableau {
+fn program(rt: &impl Abort, alloc: Global, rows: [[i64; 3]; 2], goal: [i64; 3]) -> Tableau {
     let mut tableau = blank(alloc, 2).expect(rt, "memory");
-    for (number, numbers) in (0..u32::MAX).zip(rows.iter()) {
-        load(alloc, &mut tableau, number, name(number), wholes(*numbers)).expect(rt, "a row");
-    }
-    load_goal(alloc, &mut tableau, wholes(goal)).expect(rt, "a goal");
+    load_all(alloc, &mut tableau, rows, goal).expect(rt, "rows and a goal");
     tableau
 }
 
@@ -122,22 +132,32 @@ fn is_point(alloc: Global, tableau: &Tableau, values: &[Frac]) -> bool {
     }
 }
 
+/// Whether the pivots on the diagonal are made and lead to this leaf and this vertex.
+fn ends_with(alloc: Global, tableau: &mut Tableau, weights: &[Weight], values: &[Frac]) -> bool {
+    is_pivoted(tableau, 0, 0)
+        && is_pivoted(tableau, 1, 1)
+        && is_leaf(alloc, tableau, weights)
+        && is_point(alloc, tableau, values)
+}
+
 #[test]
 fn leaf_and_point_of_an_optimal_end(rt: HostRuntime) {
     let alloc = rt.alloc();
     // the greatest of -x - y where x is at least 1 and x + y at least 5
-    let mut tableau = program(&rt, alloc, &[[-1, 0, -1], [-1, -1, -5]], [-1, -1, 0]);
-    assert!(rt; is_pivoted(&mut tableau, 0, 0));
-    assert!(rt; is_pivoted(&mut tableau, 1, 1));
-    assert!(rt; is_leaf(alloc, &tableau, &[once(1)]));
-    assert!(rt; is_point(alloc, &tableau, &[Frac::whole(1), Frac::whole(4)]));
+    let mut tableau = program(&rt, alloc, [[-1, 0, -1], [-1, -1, -5]], [-1, -1, 0]);
+    let values = [Frac::whole(1), Frac::whole(4)];
+    assert!(rt; ends_with(alloc, &mut tableau, &[once(1)], &values));
+}
+
+/// Whether the pivot at the first cell of the second row is made and leads to this refuter of the first row.
+fn is_refuted_by(alloc: Global, tableau: &mut Tableau, weights: &[Weight]) -> bool {
+    is_pivoted(tableau, 1, 0) && is_refuter(alloc, tableau, 0, weights)
 }
 
 #[test]
 fn refuter_of_an_infeasible_end(rt: HostRuntime) {
     let alloc = rt.alloc();
     // x is at most 1 and at least 2
-    let mut tableau = program(&rt, alloc, &[[1, 0, 1], [-1, 0, -2]], [-1, 0, 0]);
-    assert!(rt; is_pivoted(&mut tableau, 1, 0));
-    assert!(rt; is_refuter(alloc, &tableau, 0, &[once(0), once(1)]));
+    let mut tableau = program(&rt, alloc, [[1, 0, 1], [-1, 0, -2]], [-1, 0, 0]);
+    assert!(rt; is_refuted_by(alloc, &mut tableau, &[once(0), once(1)]));
 }

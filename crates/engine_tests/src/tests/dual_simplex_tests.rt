@@ -6,9 +6,9 @@ ghost use Rattle.simplex_theory.specs.Tableau.{goal_cell, width};
 ghost use Rattle.simplex_theory.specs.DualSteps.{IsDual};
 ghost use Rattle.fraction_tableau.specs.Loading.{IsUnpivoted};
 
-use crate::tests::solving::solved;
+use crate::tests::solving::{solved, take_step};
 use crate::tests::two_columns::{TWO_126, blank, load, load_goal, wholes};
-use dual_simplex::{Meter, NodeEnd, Step, step};
+use dual_simplex::{Meter, NodeEnd, Step};
 use fraction_tableau::{Tableau, WideCell};
 use named_row::RowId;
 use narrow_fraction::{Frac, Op, Wide};
@@ -44,16 +44,38 @@ fn name(number: u32) -> RowId {
     }
 }
 
+/// Loads two rows and a goal.
+fn load_all(
+    alloc: Global,
+    tableau: &mut Tableau,
+    rows: [[Frac; 3]; 2],
+    goal: [Frac; 3],
+) -> Option<()>
+    ensures { IsUnpivoted tableau.old.table → IsUnpivoted tableau.new.table }
+{
+    let [first, second] = rows;
+    load(alloc, tableau, 0, name(0), first)?;
+    load(alloc, tableau, 1, name(1), second)?;
+    load_goal(alloc, tableau, goal)
+}
+
 /// Two rows and a goal, loaded.
 fn loaded(alloc: Global, rows: [[Frac; 3]; 2], goal: [Frac; 3]) -> Option<Tableau>
     ensures { IfSome result (λ tableau. IsUnpivoted tableau.table) }
 {
-    let [first, second] = rows;
     let mut tableau = blank(alloc, 2)?;
-    load(alloc, &mut tableau, 0, name(0), first)?;
-    load(alloc, &mut tableau, 1, name(1), second)?;
-    load_goal(alloc, &mut tableau, goal)?;
-    Some(tableau)
+    match load_all(alloc, &mut tableau, rows, goal) {
+        Some(()) => Some(tableau),
+        None => None,
+    }
+}
+
+/// Whether a tableau of two rows and two columns isn't spent and has no negative cell in its goal row.
+fn is_program(tableau: &Tableau) -> bool
+    ensures dual { result ≡ true → IsUnpivoted tableau.now.table → IsDual tableau.now.table }
+    ensures unspent { result ≡ true → tableau.now.spent ≡ false }
+{
+    tableau.rows() == 2 && has_low_goal(tableau) && !tableau.is_spent()
 }
 
 /// Two rows and a goal, where the tableau is dual feasible.
@@ -62,10 +84,11 @@ fn program(alloc: Global, rows: [[Frac; 3]; 2], goal: [Frac; 3]) -> Option<Table
     ensures unspent { IfSome result (λ tableau. tableau.spent ≡ false) }
 {
     let tableau = loaded(alloc, rows, goal)?;
-    if tableau.rows() != 2 || !has_low_goal(&tableau) || tableau.is_spent() {
-        return None;
+    if is_program(&tableau) {
+        Some(tableau)
+    } else {
+        None
     }
-    Some(tableau)
 }
 
 /// The greatest of x + y is asked for, with the signs turned: the least of x + y where x is at least 1 and x + y at least 5.
@@ -77,39 +100,63 @@ fn tied(rt: &impl Abort, alloc: Global) -> Tableau
     program(alloc, rows, wholes([-1, -1, 0])).expect(rt, "program")
 }
 
-#[test]
-fn least_variables_break_ties(rt: HostRuntime) {
-    let mut tableau = tied(&rt, rt.alloc());
+fn take_tied_steps(rt: &impl Abort, tableau: &mut Tableau)
+    requires dual { IsDual tableau.old.table }
+    requires unspent { tableau.old.spent ≡ false }
+{
     // the bounds are -1 and -5, and the basic variables 2 and 3
-    assert_eq!(rt; step(&mut tableau), Step::Pivoted { row: 0, col: 0 });
-    assert!(rt; !tableau.is_spent());
+    take_step(rt, tableau, Step::Pivoted { row: 0, col: 0 });
     // both ratios are 1, and the variables at the places 2 and 1
-    assert_eq!(rt; step(&mut tableau), Step::Pivoted { row: 1, col: 1 });
-    assert!(rt; !tableau.is_spent());
-    assert_eq!(rt; step(&mut tableau), Step::Optimal);
+    take_step(rt, tableau, Step::Pivoted { row: 1, col: 1 });
+    take_step(rt, tableau, Step::Optimal);
 }
 
 #[test]
-fn limit_is_looked_at_where_a_pivot_is_due(rt: HostRuntime) {
+fn least_variables_break_ties(rt: HostRuntime) {
     let mut tableau = tied(&rt, rt.alloc());
+    take_tied_steps(&rt, &mut tableau);
+}
+
+fn solve_to_limits(rt: &impl Abort, tableau: &mut Tableau)
+    requires dual { IsDual tableau.old.table }
+    requires unspent { tableau.old.spent ≡ false }
+{
     let first = Meter {
         spent: 0,
         limit: Some(1),
     };
-    assert_eq!(rt; solved(&mut tableau, first, 7), (NodeEnd::WorkOut, 1, 8));
+    assert_eq!(rt; solved(tableau, first, 7), (NodeEnd::WorkOut, 1, 8));
     assert!(rt; !tableau.is_spent());
     let more = Meter {
         spent: 1,
         limit: Some(2),
     };
-    assert_eq!(rt; solved(&mut tableau, more, 8), (NodeEnd::Optimal, 2, 9));
+    assert_eq!(rt; solved(tableau, more, 8), (NodeEnd::Optimal, 2, 9));
+}
+
+#[test]
+fn limit_is_looked_at_where_a_pivot_is_due(rt: HostRuntime) {
+    let mut tableau = tied(&rt, rt.alloc());
+    solve_to_limits(&rt, &mut tableau);
+}
+
+/// The first step of a program comes out like this.
+fn take_first_step(
+    rt: &impl Abort,
+    alloc: Global,
+    rows: [[Frac; 3]; 2],
+    goal: [Frac; 3],
+    expected: Step,
+) {
+    let mut tableau = program(alloc, rows, goal).expect(rt, "program");
+    take_step(rt, &mut tableau, expected);
 }
 
 #[test]
 fn row_without_negative_cell_is_infeasible(rt: HostRuntime) {
     let rows = [wholes([1, 1, 1]), wholes([0, 1, -1])];
-    let mut tableau = program(rt.alloc(), rows, wholes([-1, -1, 0])).expect(&rt, "program");
-    assert_eq!(rt; step(&mut tableau), Step::Infeasible { row: 1 });
+    let goal = wholes([-1, -1, 0]);
+    take_first_step(&rt, rt.alloc(), rows, goal, Step::Infeasible { row: 1 });
 }
 
 #[test]
@@ -117,7 +164,6 @@ fn refused_ratio_changes_nothing(rt: HostRuntime) {
     let (less, zero) = (Frac::whole(-1), Frac::whole(0));
     let first = [fraction_or_zero(-1, 3), less, less];
     let goal = [fraction_or_zero(-TWO_126, 1), less, zero];
-    let mut tableau = program(rt.alloc(), [first, first], goal).expect(&rt, "program");
     let cell = WideCell {
         row: 0,
         col: 0,
@@ -127,6 +173,11 @@ fn refused_ratio_changes_nothing(rt: HostRuntime) {
             right: fraction_or_zero(1, 3),
         },
     };
-    assert_eq!(rt; step(&mut tableau), Step::Wide { ratio: true, cell });
-    assert!(rt; !tableau.is_spent());
+    take_first_step(
+        &rt,
+        rt.alloc(),
+        [first, first],
+        goal,
+        Step::Wide { ratio: true, cell },
+    );
 }

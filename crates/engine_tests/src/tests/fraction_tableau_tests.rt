@@ -6,6 +6,7 @@ use fraction_tableau::{Tableau, WideCell};
 use named_row::RowId;
 use narrow_fraction::{Frac, Op, Quotient, Wide};
 use std::alloc::Global;
+use std::process::Abort;
 use std::rt::HostRuntime;
 use test_bed::fraction_or_zero;
 
@@ -50,14 +51,19 @@ fn load_goal(alloc: Global, tableau: &mut Tableau, numbers: Numbers) -> Option<(
     two_columns::load_goal(alloc, tableau, fractions(numbers))
 }
 
-/// A tableau with these rows and this goal.
-fn loaded(alloc: Global, rows: &[Numbers], goal: Numbers) -> Option<Tableau> {
-    let mut tableau = blank(alloc, rows.len())?;
+/// Loads these rows and this goal.
+fn load_all(alloc: Global, tableau: &mut Tableau, rows: &[Numbers], goal: Numbers) -> Option<()> {
     for (number, numbers) in (0..u32::MAX).zip(rows.iter()) {
-        load(alloc, &mut tableau, number, *numbers)?;
+        load(alloc, tableau, number, *numbers)?;
     }
-    load_goal(alloc, &mut tableau, goal)?;
-    Some(tableau)
+    load_goal(alloc, tableau, goal)
+}
+
+/// A tableau with these rows and this goal.
+fn loaded(rt: &impl Abort, alloc: Global, rows: &[Numbers], goal: Numbers) -> Tableau {
+    let mut tableau = blank(alloc, rows.len()).expect(rt, "a tableau");
+    load_all(alloc, &mut tableau, rows, goal).expect(rt, "rows and a goal");
+    tableau
 }
 
 /// The answer of a pivot that is refused at a cell, by this operation.
@@ -131,18 +137,28 @@ fn variables(tableau: &Tableau) -> [u32; 4] {
     ]
 }
 
+/// A pivot that spends an unspent tableau is answered like this.
+fn take_refused_pivot(rt: &impl Abort, tableau: &mut Tableau, want: Option<Result<(), WideCell>>) {
+    assert!(rt; !tableau.is_spent());
+    assert_eq!(rt; pivot(tableau, 0, 0), want);
+    assert!(rt; tableau.is_spent());
+}
+
+/// A spent tableau of a row has this goal and its first variables still, and isn't spent once the goal is loaded again.
+fn load_again(rt: &impl Abort, alloc: Global, tableau: &mut Tableau, goal: Numbers) {
+    assert_eq!(rt; cells(tableau, 1), fractions(goal));
+    assert_eq!(rt; variables(tableau), [2, u32::MAX, 0, 1]);
+    load_goal(alloc, tableau, goal).expect(rt, "a goal");
+    assert!(rt; !tableau.is_spent());
+}
+
 #[test]
 fn refused_pivot_names_its_operation(rt: HostRuntime) {
     let zeros = [ZERO, ZERO, ZERO];
-    let mut tableau = loaded(rt.alloc(), &[[TWO_126, THIRD, ZERO]], zeros).expect(&rt, "a tableau");
-    assert!(rt; !tableau.is_spent());
+    let mut tableau = loaded(&rt, rt.alloc(), &[[TWO_126, THIRD, ZERO]], zeros);
     let want = refused(0, 1, Op::Div, THIRD, TWO_126);
-    assert_eq!(rt; pivot(&mut tableau, 0, 0), want);
-    assert!(rt; tableau.is_spent());
-    assert_eq!(rt; cells(&tableau, 1), fractions(zeros));
-    assert_eq!(rt; variables(&tableau), [2, u32::MAX, 0, 1]);
-    load_goal(rt.alloc(), &mut tableau, zeros).expect(&rt, "a goal");
-    assert!(rt; !tableau.is_spent());
+    take_refused_pivot(&rt, &mut tableau, want);
+    load_again(&rt, rt.alloc(), &mut tableau, zeros);
 }
 
 /// Four times 2^126 leaves 128 bits in the goal row, which has the number after the last row, and in the second row.
@@ -150,39 +166,49 @@ fn refused_pivot_names_its_operation(rt: HostRuntime) {
 fn the_goal_row_comes_before_the_other_rows(rt: HostRuntime) {
     let rows = [[ONE, TWO_126, ZERO], [FOUR, ZERO, ZERO]];
     for (of_goal, number, left) in [(FOUR, 2, (-4, 1)), (ZERO, 1, FOUR)] {
-        let goal = [of_goal, ZERO, ZERO];
-        let mut tableau = loaded(rt.alloc(), &rows, goal).expect(&rt, "a tableau");
+        let mut tableau = loaded(&rt, rt.alloc(), &rows, [of_goal, ZERO, ZERO]);
         let want = refused(number, 1, Op::Mul, left, TWO_126);
-        assert_eq!(rt; pivot(&mut tableau, 0, 0), want);
+        take_refused_pivot(&rt, &mut tableau, want);
     }
+}
+
+fn take_pivot(rt: &impl Abort, tableau: &mut Tableau) {
+    assert_eq!(rt; cells(tableau, 2), fractions([(-1, 1), (-1, 1), ZERO]));
+    assert_eq!(rt; pivot(tableau, 0, 1), Some(Ok(())));
+    let pivoted = [[HALF, HALF, TWO], [ONE, (-2, 1), TWO], [(-1, 2), HALF, TWO]];
+    assert_eq!(rt; first_other(tableau, &pivoted), None);
+    assert_eq!(rt; variables(tableau), [1, 3, 0, 2]);
 }
 
 #[test]
 fn cells_of_a_pivot(rt: HostRuntime) {
     let rows = [[ONE, TWO, FOUR], [(3, 1), FOUR, (10, 1)]];
-    let mut tableau = loaded(rt.alloc(), &rows, [ONE, ONE, ONE]).expect(&rt, "a tableau");
-    assert_eq!(rt; cells(&tableau, 2), fractions([(-1, 1), (-1, 1), ZERO]));
-    assert_eq!(rt; pivot(&mut tableau, 0, 1), Some(Ok(())));
-    let pivoted = [[HALF, HALF, TWO], [ONE, (-2, 1), TWO], [(-1, 2), HALF, TWO]];
-    assert_eq!(rt; first_other(&tableau, &pivoted), None);
-    assert_eq!(rt; variables(&tableau), [1, 3, 0, 2]);
+    let mut tableau = loaded(&rt, rt.alloc(), &rows, [ONE, ONE, ONE]);
+    take_pivot(&rt, &mut tableau);
 }
 
-#[test]
-fn a_pivot_notes_its_column(rt: HostRuntime) {
-    let rows = [[ONE, TWO, FOUR], [(3, 1), ZERO, (10, 1)]];
-    let mut tableau = loaded(rt.alloc(), &rows, [ONE, ONE, ONE]).expect(&rt, "a tableau");
+fn quotients(numbers: [Number; 4]) -> [Quotient; 4] {
+    numbers.map(|number| Quotient::of_fraction(fraction(number)))
+}
+
+fn take_noted_pivot(rt: &impl Abort, tableau: &mut Tableau) {
     let unnoted = (7, 1);
-    let mut column = [unnoted; 4].map(|number| Quotient::of_fraction(fraction(number)));
-    assert_eq!(rt; pivot_noting(&mut tableau, 0, 1, &mut column), Some(Ok(())));
-    let noted = [TWO, ZERO, (-1, 1), unnoted];
-    assert!(rt; column == noted.map(|number| Quotient::of_fraction(fraction(number))));
+    let mut column = quotients([unnoted; 4]);
+    assert_eq!(rt; pivot_noting(tableau, 0, 1, &mut column), Some(Ok(())));
+    assert!(rt; column == quotients([TWO, ZERO, (-1, 1), unnoted]));
     let pivoted = [
         [HALF, HALF, TWO],
         [(3, 1), ZERO, (10, 1)],
         [(-1, 2), HALF, TWO],
     ];
-    assert_eq!(rt; first_other(&tableau, &pivoted), None);
+    assert_eq!(rt; first_other(tableau, &pivoted), None);
+}
+
+#[test]
+fn a_pivot_notes_its_column(rt: HostRuntime) {
+    let rows = [[ONE, TWO, FOUR], [(3, 1), ZERO, (10, 1)]];
+    let mut tableau = loaded(&rt, rt.alloc(), &rows, [ONE, ONE, ONE]);
+    take_noted_pivot(&rt, &mut tableau);
 }
 
 const FIRST: Numbers = [(3, 1), (4_194_304, 1), (5, 1)];
@@ -220,17 +246,22 @@ fn leads_to(tableau: &mut Tableau, at: u32, rows: &[Numbers]) -> bool {
     pivot(tableau, at, at) == Some(Ok(())) && first_other(tableau, rows).is_none()
 }
 
+static BEFORE: [Numbers; 3] = [FIRST, SECOND, [(-1, 1), (-2_097_152, 1), ZERO]];
+
+fn becomes_wide_and_narrow_again(tableau: &mut Tableau) -> bool {
+    leads_to(tableau, 0, &ONCE)
+        && leads_to(tableau, 1, &TWICE)
+        && leads_to(tableau, 1, &ONCE)
+        && leads_to(tableau, 0, &BEFORE)
+}
+
 /// Of rows with numbers of 23 bits, the second one has numbers of 44 bits after the first pivot and of 46 after the second, and
 /// the last two pivots lead back (exact fractions by Python).
 #[test]
 fn rows_become_wide_and_narrow_again(rt: HostRuntime) {
     let goal = [ONE, (2_097_152, 1), ZERO];
-    let before = [FIRST, SECOND, [(-1, 1), (-2_097_152, 1), ZERO]];
-    let mut tableau = loaded(rt.alloc(), &[FIRST, SECOND], goal).expect(&rt, "a tableau");
-    assert!(rt; leads_to(&mut tableau, 0, &ONCE));
-    assert!(rt; leads_to(&mut tableau, 1, &TWICE));
-    assert!(rt; leads_to(&mut tableau, 1, &ONCE));
-    assert!(rt; leads_to(&mut tableau, 0, &before));
+    let mut tableau = loaded(&rt, rt.alloc(), &[FIRST, SECOND], goal);
+    assert!(rt; becomes_wide_and_narrow_again(&mut tableau));
 }
 
 /// How many cells of a row aren't 0, and the first of them; none where there is no such row.
@@ -252,12 +283,9 @@ fn only_kept(place: u32, cell: Number) -> (usize, Option<(u32, Frac)>) {
 
 #[test]
 fn kept_cells_of_a_row_and_the_goal_row(rt: HostRuntime) {
-    let tableau = loaded(rt.alloc(), &[[ZERO, ONE, ONE]], [ONE, ZERO, ONE]).expect(
-        &rt,
-        "a tableau",
-    );
-    assert_eq!(rt; first_kept(&tableau, 0), only_kept(1, ONE));
-    assert_eq!(rt; first_kept(&tableau, 1), only_kept(0, (-1, 1)));
+    let tableau = loaded(&rt, rt.alloc(), &[[ZERO, ONE, ONE]], [ONE, ZERO, ONE]);
+    let kept = (first_kept(&tableau, 0), first_kept(&tableau, 1));
+    assert_eq!(rt; kept, (only_kept(1, ONE), only_kept(0, (-1, 1))));
 }
 
 /// The name of a row, where there is that row.
@@ -269,14 +297,20 @@ fn name(tableau: &Tableau, row: u32) -> Option<RowId> {
     }
 }
 
+/// How many rows a tableau of two rows has once the second one is loaded, and the name of that one.
+fn second_loaded(alloc: Global) -> Option<(u32, Option<RowId>)> {
+    let mut tableau = blank(alloc, 2)?;
+    match load(alloc, &mut tableau, 1, [ONE, ONE, ONE]) {
+        Some(()) => Some((tableau.rows(), name(&tableau, 1))),
+        None => None,
+    }
+}
+
 #[test]
 fn names_of_rows(rt: HostRuntime) {
-    let mut tableau = blank(rt.alloc(), 2).expect(&rt, "a tableau");
-    load(rt.alloc(), &mut tableau, 1, [ONE, ONE, ONE]).expect(&rt, "a row");
     let want = RowId {
         family: 1,
         index: 2,
     };
-    assert!(rt; tableau.rows() == 2);
-    assert!(rt; name(&tableau, 1) == Some(want));
+    assert!(rt; second_loaded(rt.alloc()) == Some((2, Some(want))));
 }

@@ -6,6 +6,7 @@ use crate::tests::two_columns::{TWO_126, row};
 use named_row::{Place, Row, RowId, WideAt};
 use narrow_fraction::{Frac, Op, Wide};
 use std::alloc::Global;
+use std::process::Abort;
 use std::rt::HostRuntime;
 use test_bed::fraction_or_zero as fraction;
 
@@ -77,6 +78,24 @@ fn a_column_of_zero_stays(rt: HostRuntime) {
     assert_eq!(rt; sum(rt.alloc(), own, wide, other), Some(want));
 }
 
+/// What is answered where a row is added twice, and where it is added once to the other one that was cleared and has this bound;
+/// and whether the first answer spent that one.
+fn refusals(
+    own: &mut Row,
+    other: &Row,
+    bound: Frac,
+) -> (Result<(), WideAt>, bool, Result<(), WideAt>)
+    requires width { length own.old.coefs ≡ 2 }
+    requires unspent { own.old.spent ≡ false }
+    requires other_width { length other.now.coefs ≡ 2 }
+    requires other_unspent { other.now.spent ≡ false }
+{
+    let twice = add(own, fraction(2, 1), other);
+    let is_cleared = is_cleared(own);
+    own.set(Place::Bound, bound);
+    (twice, is_cleared, add(own, fraction(1, 1), other))
+}
+
 #[test]
 fn first_refused_operation(rt: HostRuntime) {
     let alloc = rt.alloc();
@@ -85,11 +104,8 @@ fn first_refused_operation(rt: HostRuntime) {
     let mut own = row(alloc, [two, two, wide]).expect(&rt, "memory");
     let other = row(alloc, [two, wide, wide]).expect(&rt, "memory");
     let product = refusal(Place::Cell(1), Op::Mul, two, wide);
-    assert_eq!(rt; add(&mut own, two, &other), product);
-    assert!(rt; is_cleared(&mut own));
-    own.set(Place::Bound, wide);
     let sum = refusal(Place::Bound, Op::Add, wide, wide);
-    assert_eq!(rt; add(&mut own, fraction(1, 1), &other), sum);
+    assert_eq!(rt; refusals(&mut own, &other, wide), (product, true, sum));
 }
 
 /// Whether a sum shows that a goal is this value at most.
@@ -110,27 +126,32 @@ fn refuted(alloc: Global, sum: [Frac; 3]) -> Option<Result<(), Place>> {
     Some(sum.refutes())
 }
 
+/// Fails where a sum shows otherwise, or fails at another place.
+fn assert_shown(rt: &impl Abort, shown: Option<Result<(), Place>>, want: Result<(), Place>) {
+    assert_eq!(rt; shown, Some(want));
+}
+
 #[test]
 fn covering(rt: HostRuntime) {
     let alloc = rt.alloc();
     let (zero, third, half) = (fraction(0, 1), fraction(1, 3), fraction(1, 2));
     let sum = [half, third, half];
     let goal = [half, fraction(1, 4), zero];
-    assert_eq!(rt; covered(alloc, sum, goal, half), Some(Ok(())));
-    let steep = covered(alloc, sum, [zero, half, zero], half);
-    assert_eq!(rt; steep, Some(Err(Place::Cell(1))));
-    assert_eq!(rt; covered(alloc, sum, goal, third), Some(Err(Place::Bound)));
+    assert_shown(&rt, covered(alloc, sum, goal, half), Ok(()));
+    let steep = [zero, half, zero];
+    assert_shown(&rt, covered(alloc, sum, steep, half), Err(Place::Cell(1)));
+    assert_shown(&rt, covered(alloc, sum, goal, third), Err(Place::Bound));
 }
 
 #[test]
 fn refuting(rt: HostRuntime) {
     let alloc = rt.alloc();
     let (zero, half, below) = (fraction(0, 1), fraction(1, 2), fraction(-1, 9));
-    let above = refuted(alloc, [half, fraction(1, 3), half]);
-    assert_eq!(rt; above, Some(Err(Place::Bound)));
-    let negative = refuted(alloc, [zero, below, below]);
-    assert_eq!(rt; negative, Some(Err(Place::Cell(1))));
-    assert_eq!(rt; refuted(alloc, [zero, half, below]), Some(Ok(())));
+    let above = [half, fraction(1, 3), half];
+    assert_shown(&rt, refuted(alloc, above), Err(Place::Bound));
+    let negative = [zero, below, below];
+    assert_shown(&rt, refuted(alloc, negative), Err(Place::Cell(1)));
+    assert_shown(&rt, refuted(alloc, [zero, half, below]), Ok(()));
 }
 
 #[test]

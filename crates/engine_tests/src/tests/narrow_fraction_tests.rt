@@ -2,7 +2,7 @@
 
 use crate::tests::two_columns::TWO_126;
 use narrow_fraction::{Frac, Op, Quotient, Unfit, Wide, common_multiple};
-use std::alloc::AllocError;
+use std::alloc::{AllocError, Global};
 use std::cmp::Ordering;
 use std::rt::HostRuntime;
 use test_bed::fraction_or_zero as fraction;
@@ -105,62 +105,85 @@ fn made(num: i128, den: i128) -> Result<Number, Unfit> {
     }
 }
 
+/// Any two numbers, and the fraction that they make.
+static MADE: [(Number, Result<Number, Unfit>); 11] = [
+    ((6, -4), Ok((-3, 2))),
+    ((-6, -4), Ok((3, 2))),
+    ((0, -7), Ok((0, 1))),
+    ((1, 0), Err(Unfit::ZeroDen)),
+    ((0, 0), Err(Unfit::ZeroDen)),
+    ((i128::MIN, 1), Err(Unfit::Width)),
+    ((1, i128::MIN), Err(Unfit::Width)),
+    ((i128::MIN, 2), Ok((-TWO_126, 1))),
+    ((2, i128::MIN), Ok((-1, TWO_126))),
+    ((i128::MIN, i128::MIN), Ok((1, 1))),
+    ((i128::MAX, -1), Ok((-i128::MAX, 1))),
+];
+
 #[test]
 fn any_two_numbers(rt: HostRuntime) {
-    let table = [
-        (6, -4, Ok((-3, 2))),
-        (-6, -4, Ok((3, 2))),
-        (0, -7, Ok((0, 1))),
-        (1, 0, Err(Unfit::ZeroDen)),
-        (0, 0, Err(Unfit::ZeroDen)),
-        (i128::MIN, 1, Err(Unfit::Width)),
-        (1, i128::MIN, Err(Unfit::Width)),
-        (i128::MIN, 2, Ok((-TWO_126, 1))),
-        (2, i128::MIN, Ok((-1, TWO_126))),
-        (i128::MIN, i128::MIN, Ok((1, 1))),
-        (i128::MAX, -1, Ok((-i128::MAX, 1))),
-    ];
-    for (num, den, want) in table {
-        assert_eq!(rt; made(num, den), want);
+    for (numbers, want) in MADE.iter() {
+        assert!(rt; made(numbers.0, numbers.1) == *want);
     }
 }
 
 #[test]
 fn operations_within_128_bits(rt: HostRuntime) {
-    for (op, left, right, want) in WITHIN {
+    for (op, left, right, want) in WITHIN.iter() {
         let (left, right) = (fraction(left.0, left.1), fraction(right.0, right.1));
-        assert!(rt; is_exact(op, left, right, want));
+        assert!(rt; is_exact(*op, left, right, *want));
     }
 }
 
+fn is_refused(op: Op, left: Frac, right: Frac) -> bool {
+    answer(op, left, right) == Err(Wide { op, left, right })
+}
+
+/// Operations that are refused.
+static PAST: [(Op, Number, Number); 6] = [
+    (Op::Add, (1, TWO_100), (1, THREE_70)),
+    (Op::Add, (-TWO_126, 1), (1, 2)),
+    (Op::Add, (-TWO_126, 1), (-TWO_126, 1)),
+    (Op::Sub, (TWO_126, 1), (-TWO_126, 1)),
+    (Op::Mul, (TWO_126, 1), (2, 1)),
+    (Op::Div, (TWO_126, 1), (1, 2)),
+];
+
 #[test]
 fn operations_past_128_bits(rt: HostRuntime) {
-    let table = [
-        (Op::Add, (1, TWO_100), (1, THREE_70)),
-        (Op::Add, (-TWO_126, 1), (1, 2)),
-        (Op::Add, (-TWO_126, 1), (-TWO_126, 1)),
-        (Op::Sub, (TWO_126, 1), (-TWO_126, 1)),
-        (Op::Mul, (TWO_126, 1), (2, 1)),
-        (Op::Div, (TWO_126, 1), (1, 2)),
-    ];
-    for (op, first, second) in table {
-        let left = fraction(first.0, first.1);
-        let right = fraction(second.0, second.1);
-        assert_eq!(rt; answer(op, left, right), Err(Wide { op, left, right }));
+    for (op, left, right) in PAST.iter() {
+        let (left, right) = (fraction(left.0, left.1), fraction(right.0, right.1));
+        assert!(rt; is_refused(*op, left, right));
     }
+}
+
+fn is_ascending(below: Frac, above: Frac) -> bool {
+    below < above && above > below && below != above
+}
+
+fn is_half_below_third(half: Frac, third: Frac) -> bool {
+    half <= third && third < Frac::whole(0)
+}
+
+fn has_parts(held: Frac, floor: i128, is_whole: bool) -> bool {
+    held.fitting() == held && held.floor() == floor && held.is_whole() == is_whole
 }
 
 #[test]
 fn order_and_whole_parts(rt: HostRuntime) {
     let below = fraction(i128::MAX - 2, i128::MAX - 1);
-    let above = fraction(i128::MAX - 1, i128::MAX);
-    assert!(rt; below < above && above > below && below != above);
-    assert!(rt; fraction(-1, 2) <= fraction(-1, 3) && fraction(-1, 3) < Frac::whole(0));
-    assert_eq!(rt; fraction(-7, 2).abs().neg(), fraction(7, -2));
-    assert_eq!(rt; fraction(-7, 2).fitting(), fraction(-7, 2));
-    assert_eq!(rt; fraction(-7, 2).floor(), -4);
-    assert_eq!(rt; fraction(7, 2).floor(), 3);
-    assert!(rt; Frac::whole(-3).is_whole() && !fraction(1, 3).is_whole());
+    assert!(rt; is_ascending(below, fraction(i128::MAX - 1, i128::MAX)));
+    assert!(rt; is_half_below_third(fraction(-1, 2), fraction(-1, 3)));
+    assert!(rt; fraction(-7, 2).abs().neg() == fraction(7, -2));
+    let rows = [
+        (fraction(-7, 2), -4, false),
+        (fraction(7, 2), 3, false),
+        (Frac::whole(-3), -3, true),
+        (fraction(1, 3), 0, false),
+    ];
+    for (held, floor, is_whole) in rows {
+        assert!(rt; has_parts(held, floor, is_whole));
+    }
 }
 
 #[test]
@@ -196,99 +219,136 @@ fn numerator_over(held: &Quotient, denominator: u64) -> Option<i64> {
     held.numerator_over(denominator)
 }
 
+/// The number in lowest terms.
+fn lowered(held: &Quotient) -> Frac {
+    held.fraction()
+}
+
 #[test]
 fn operations_on_quotients_with_common_divisors(rt: HostRuntime) {
-    for (op, left, right, want) in UNREDUCED {
+    for (op, left, right, want) in UNREDUCED.iter() {
         let (left, right) = (quotient(left.0, left.1), quotient(right.0, right.1));
-        assert!(rt; is_exact(op, left.fraction(), right.fraction(), want));
+        assert!(rt; is_exact(*op, lowered(&left), lowered(&right), *want));
+    }
+}
+
+/// Operations on a fraction and a quotient of words, and whether the answer fits.
+static AT_128_BITS: [(Op, Number, Words, bool); 8] = [
+    (Op::Mul, (TWO_126, 1), (6, 6), true),
+    (Op::Mul, (TWO_126, 1), (4, 2), false),
+    (Op::Mul, (1, TWO_126), (3, 6), false),
+    (Op::Add, (1, TWO_126), (3, 12), true),
+    (Op::Add, (-TWO_126, 1), (2, 4), false),
+    (Op::Sub, (-TWO_126, 1), (-9, 9), true),
+    (Op::Div, (TWO_126, 1), (5, 5), true),
+    (Op::Div, (TWO_126, 1), (2, 4), false),
+];
+
+fn does_fit(op: Op, left: Frac, right: Frac, fits: bool) -> bool {
+    if fits {
+        answer(op, left, right).is_ok()
+    } else {
+        is_refused(op, left, right)
     }
 }
 
 #[test]
 fn quotients_at_128_bits(rt: HostRuntime) {
-    let table = [
-        (Op::Mul, (TWO_126, 1), (6, 6), true),
-        (Op::Mul, (TWO_126, 1), (4, 2), false),
-        (Op::Mul, (1, TWO_126), (3, 6), false),
-        (Op::Add, (1, TWO_126), (3, 12), true),
-        (Op::Add, (-TWO_126, 1), (2, 4), false),
-        (Op::Sub, (-TWO_126, 1), (-9, 9), true),
-        (Op::Div, (TWO_126, 1), (5, 5), true),
-        (Op::Div, (TWO_126, 1), (2, 4), false),
-    ];
-    for (op, first, second, fits) in table {
-        let left = Quotient::of_fraction(fraction(first.0, first.1)).fraction();
-        let right = quotient(second.0, second.1).fraction();
-        match answer(op, left, right) {
-            Ok(_) => assert!(rt; fits),
-            Err(wide) => assert!(rt; !fits && wide == Wide { op, left, right }),
-        }
+    for (op, left, right, fits) in AT_128_BITS.iter() {
+        let left = lowered(&Quotient::of_fraction(fraction(left.0, left.1)));
+        let right = lowered(&quotient(right.0, right.1));
+        assert!(rt; does_fit(*op, left, right, *fits));
     }
+}
+
+/// Quotients, denominators, and the numerators over these.
+static NUMERATORS: [(Words, u64, Option<i64>); 11] = [
+    ((6, 4), 4, Some(6)),
+    ((6, 4), 2, Some(3)),
+    ((6, 4), 8, Some(12)),
+    ((-6, 4), 10, Some(-15)),
+    ((6, 4), 3, None),
+    ((0, 7), 3, Some(0)),
+    ((i64::MIN, 1), 1, Some(i64::MIN)),
+    ((i64::MIN, 1), 2, None),
+    ((i64::MAX, 3), 6, None),
+    ((-3, u64::MAX), u64::MAX, Some(-3)),
+    ((1, 3), u64::MAX, Some(6_148_914_691_236_517_205)),
+];
+
+/// Whether a quotient has this numerator, as it stands and in lowest terms.
+fn has_numerator(words: Words, denominator: u64, want: Option<i64>) -> bool {
+    let held = quotient(words.0, words.1);
+    let lowest = Quotient::of_fraction(lowered(&held));
+    numerator_over(&held, denominator) == want && numerator_over(&lowest, denominator) == want
 }
 
 #[test]
 fn numerators_over_denominators(rt: HostRuntime) {
-    let table = [
-        ((6, 4), 4, Some(6)),
-        ((6, 4), 2, Some(3)),
-        ((6, 4), 8, Some(12)),
-        ((-6, 4), 10, Some(-15)),
-        ((6, 4), 3, None),
-        ((0, 7), 3, Some(0)),
-        ((i64::MIN, 1), 1, Some(i64::MIN)),
-        ((i64::MIN, 1), 2, None),
-        ((i64::MAX, 3), 6, None),
-        ((-3, u64::MAX), u64::MAX, Some(-3)),
-        ((1, 3), u64::MAX, Some(6_148_914_691_236_517_205)),
-    ];
-    for (parts, denominator, want) in table {
-        let held = quotient(parts.0, parts.1);
-        assert_eq!(rt; numerator_over(&held, denominator), want);
-        let lowest = Quotient::of_fraction(held.fraction());
-        assert_eq!(rt; numerator_over(&lowest, denominator), want);
+    for (words, denominator, want) in NUMERATORS.iter() {
+        assert!(rt; has_numerator(*words, *denominator, *want));
     }
     let great = Quotient::of_fraction(fraction(TWO_126, 1));
-    assert_eq!(rt; numerator_over(&great, u64::MAX), None);
+    assert!(rt; numerator_over(&great, u64::MAX).is_none());
+}
+
+fn is_one_half(held: &Quotient) -> bool {
+    *held == quotient(3, 6)
+        && *held == Quotient::of_fraction(fraction(1, 2))
+        && held.copied() == *held
+}
+
+fn is_above_minus_one_and_a_half(held: &Quotient) -> bool {
+    *held > quotient(-9, 6)
+}
+
+fn has_sign(held: &Quotient, is_zero: bool, is_negative: bool) -> bool {
+    held.is_zero() == is_zero && held.is_negative() == is_negative
+}
+
+/// Whether a quotient is written as a fraction is.
+fn is_written_as(alloc: Global, held: &Quotient, fraction: Frac) -> Result<bool, AllocError> {
+    let own = format!(in alloc; "{held:?}")?;
+    let other = format!(in alloc; "{fraction:?}")?;
+    Ok(own.as_str() == other.as_str())
 }
 
 #[test]
 fn order_of_quotients(rt: HostRuntime) -> Result<(), AllocError> {
     let half = quotient(2, 4);
-    assert!(rt; half == quotient(3, 6) && half == Quotient::of_fraction(fraction(1, 2)));
-    assert!(rt; quotient(-4, 6) < quotient(-6, 10) && half > quotient(-9, 6));
-    assert!(rt; half.copied() == half && half.clone()? == half);
-    assert!(rt; quotient(0, 9).is_zero() && !half.is_zero());
-    assert!(rt; quotient(-3, 9).is_negative() && !half.is_negative());
-    let alloc = rt.alloc();
-    assert_eq!(rt;
-        format!(in alloc; "{half:?}")?,
-        format!(in alloc; "{:?}", fraction(1, 2))?
-    );
+    assert!(rt; is_one_half(&half) && half.clone()? == half);
+    assert!(rt; is_above_minus_one_and_a_half(&half) && quotient(-4, 6) < quotient(-6, 10));
+    assert!(rt; has_sign(&half, false, false));
+    assert!(rt; has_sign(&quotient(0, 9), true, false) && has_sign(&quotient(-3, 9), false, true));
+    assert!(rt; is_written_as(rt.alloc(), &half, fraction(1, 2))?);
     Ok(())
+}
+
+/// A factor, another one, a number, and what is left of this less the product, where they are small.
+static LESS: [(Words, Number, Number, Option<Number>); 9] = [
+    ((6, 4), (2, 3), (5, 2), Some((3, 2))),
+    ((-6, 4), (1, 3), (1, 2), Some((1, 1))),
+    ((3, 9), (3, 1), (1, 1), Some((0, 1))),
+    ((0, 1), (7, 5), (-2, 3), Some((-2, 3))),
+    ((1_048_575, 1), (1, 1), (0, 1), Some((-1_048_575, 1))),
+    ((1_048_576, 1), (1, 1), (0, 1), None),
+    ((1, 1_048_576), (1, 1), (0, 1), None),
+    ((1, 2), (1, 1_048_576), (0, 1), None),
+    ((1, 2), (1, 2), (-1_048_576, 1), None),
+];
+
+fn less_times(factor: Words, other: Frac, from: Frac) -> Option<Number> {
+    match quotient(factor.0, factor.1).less_times(other, from) {
+        Some(less) => Some(parts(less)),
+        None => None,
+    }
 }
 
 #[test]
 fn a_number_less_a_product_of_small_ones(rt: HostRuntime) {
-    let table = [
-        ((6, 4), (2, 3), (5, 2), Some((3, 2))),
-        ((-6, 4), (1, 3), (1, 2), Some((1, 1))),
-        ((3, 9), (3, 1), (1, 1), Some((0, 1))),
-        ((0, 1), (7, 5), (-2, 3), Some((-2, 3))),
-        ((1_048_575, 1), (1, 1), (0, 1), Some((-1_048_575, 1))),
-        ((1_048_576, 1), (1, 1), (0, 1), None),
-        ((1, 1_048_576), (1, 1), (0, 1), None),
-        ((1, 2), (1, 1_048_576), (0, 1), None),
-        ((1, 2), (1, 2), (-1_048_576, 1), None),
-    ];
-    for (factor, other, from, want) in table {
-        let less = quotient(factor.0, factor.1).less_times(
-            fraction(other.0, other.1),
-            fraction(from.0, from.1),
-        );
-        match (less, want) {
-            (Some(less), Some(want)) => assert!(rt; less == fraction(want.0, want.1)),
-            (less, want) => assert!(rt; less.is_none() && want.is_none()),
-        }
+    for (factor, other, from, want) in LESS.iter() {
+        let (other, from) = (fraction(other.0, other.1), fraction(from.0, from.1));
+        assert!(rt; less_times(*factor, other, from) == *want);
     }
 }
 

@@ -41,11 +41,6 @@ fn found(alloc: Global, cap: i64, limit: u64) -> Result<Found<i64, u8>, Fail>
     }
 }
 
-/// The best number, and -1 where there is none.
-fn number(timing: &Option<i64>) -> i64 {
-    timing.unwrap_or(-1)
-}
-
 /// A letter for each node: split, closed or waiting.
 fn letter(node: &TreeNode) -> u8 {
     match node {
@@ -55,81 +50,115 @@ fn letter(node: &TreeNode) -> u8 {
     }
 }
 
-fn has_shape(found: &Found<i64, u8>, letters: &[u8]) -> bool {
-    found.nodes.iter().map(letter).eq(letters.iter().copied())
+fn has_shape(nodes: &[TreeNode], letters: &[u8]) -> bool {
+    for (node, wanted) in nodes.iter().zip(letters.iter()) {
+        if letter(node) != *wanted {
+            return false;
+        }
+    }
+    nodes.len() == letters.len()
 }
 
-/// How many units a stop by work names.
-fn units(found: &Found<i64, u8>) -> Option<u64> {
-    match &found.verdict {
-        Verdict::Stopped(Stop::Work { spent }) => Some(*spent),
-        _ => None,
+/// The verdict, with the units at which the work ran out or the pivots before a refused operation.
+fn verdict_of(verdict: &Verdict<u8>) -> (&'static str, u64) {
+    match verdict {
+        Verdict::Best => ("best", 0),
+        Verdict::NoTiming => ("no timing", 0),
+        Verdict::Stopped(Stop::Work { spent }) => ("work", *spent),
+        Verdict::Stopped(Stop::Wide(site)) => ("wide", site.pivots),
     }
 }
 
+/// What a search is to tell.
+#[derive(Clone, Copy)]
+struct Told {
+    verdict: (&'static str, u64),
+    letters: &'static str,
+    spent: u64,
+    /// The bound and the best number, which is -1 where there is none. Without a timing the bound means nothing.
+    best: Option<(i64, i64)>,
+}
+
+fn has_best(found: &Found<i64, u8>, best: Option<(i64, i64)>) -> bool {
+    match best {
+        Some((bound, number)) => {
+            found.bound == Frac::whole(bound) && found.timing.unwrap_or(-1) == number
+        }
+        None => true,
+    }
+}
+
+fn is_told(found: &Found<i64, u8>, told: &Told) -> bool {
+    verdict_of(&found.verdict) == told.verdict
+        && has_shape(found.nodes.as_slice(), told.letters.as_bytes())
+        && found.spent == told.spent
+        && has_best(found, told.best)
+}
+
+/// Whether a search with this cap and this limit of work tells this.
+fn tells(alloc: Global, cap: i64, limit: u64, told: &Told) -> Result<bool, Fail>
+    requires { 0 < limit }
+{
+    let found = found(alloc, cap, limit)?;
+    Ok(is_told(&found, told))
+}
+
+static BEST: Told = Told {
+    verdict: ("best", 0),
+    letters: "ssccc",
+    spent: 10,
+    best: Some((1, 1)),
+};
+
 #[test]
 fn the_best_is_found(rt: HostRuntime) -> Result<(), Fail> {
-    let found = found(rt.alloc(), 1, 100)?;
-    assert!(rt; matches!(found.verdict, Verdict::Best));
-    assert!(rt; has_shape(&found, b"ssccc"));
-    assert!(rt; found.spent == 10);
-    assert!(rt; number(&found.timing) == 1);
-    assert!(rt; found.bound == Frac::whole(1));
+    assert!(rt; tells(rt.alloc(), 1, 100, &BEST)?);
     Ok(())
 }
 
 #[test]
 fn an_infeasible_root_leaves_no_timing(rt: HostRuntime) -> Result<(), Fail> {
-    let found = found(rt.alloc(), -1, 100)?;
-    assert!(rt; matches!(found.verdict, Verdict::NoTiming));
-    assert!(rt; has_shape(&found, b"c"));
-    assert!(rt; found.spent == 2);
+    let told = Told {
+        verdict: ("no timing", 0),
+        letters: "c",
+        spent: 2,
+        best: None,
+    };
+    assert!(rt; tells(rt.alloc(), -1, 100, &told)?);
     Ok(())
-}
-
-/// Whether the work ran out after so many units with these letters, this bound and this best number.
-fn stopped_so(found: &Found<i64, u8>, limit: u64, letters: &str, bound: i64, best: i64) -> bool {
-    units(found) == Some(limit)
-        && found.spent == limit
-        && has_shape(found, letters.as_bytes())
-        && found.bound == Frac::whole(bound)
-        && number(&found.timing) == best
 }
 
 #[test]
 fn work_runs_out(rt: HostRuntime) -> Result<(), Fail> {
     // in the root, before and in the first low part, before and in the second high part
     let rows = [
-        (1, "w", 3, -1),
-        (2, "w", 3, -1),
-        (3, "w", 3, -1),
-        (8, "swc", 2, 1),
-        (9, "swc", 2, 1),
+        (1, "w", (3, -1)),
+        (2, "w", (3, -1)),
+        (3, "w", (3, -1)),
+        (8, "swc", (2, 1)),
+        (9, "swc", (2, 1)),
     ];
-    for (limit, letters, bound, best) in rows {
-        let found = found(rt.alloc(), 1, limit)?;
-        assert!(rt; stopped_so(&found, limit, letters, bound, best), "{limit}");
+    for (limit, letters, best) in rows {
+        let told = Told {
+            verdict: ("work", limit),
+            letters,
+            spent: limit,
+            best: Some(best),
+        };
+        assert!(rt; tells(rt.alloc(), 1, limit, &told)?, "{limit}");
     }
-    let just = found(rt.alloc(), 1, 10)?;
-    assert!(rt; matches!(just.verdict, Verdict::Best));
+    assert!(rt; tells(rt.alloc(), 1, 10, &BEST)?);
     Ok(())
-}
-
-/// How many pivots stand before a refused operation.
-fn pivots(found: &Found<i64, u8>) -> Option<u64> {
-    match &found.verdict {
-        Verdict::Stopped(Stop::Wide(site)) => Some(site.pivots),
-        _ => None,
-    }
 }
 
 #[test]
 fn a_refusal_stops_at_the_root(rt: HostRuntime) -> Result<(), Fail> {
-    let found = found(rt.alloc(), 2000, 100)?;
-    assert!(rt; pivots(&found) == Some(0));
-    assert!(rt; found.spent == 1);
-    assert!(rt; has_shape(&found, b"w"));
-    assert!(rt; found.bound == Frac::whole(3));
-    assert!(rt; number(&found.timing) == -1);
+    let told = Told {
+        verdict: ("wide", 0),
+        letters: "w",
+        spent: 1,
+        best: Some((3, -1)),
+    };
+    assert!(rt; tells(rt.alloc(), 2000, 100, &told)?);
     Ok(())
 }

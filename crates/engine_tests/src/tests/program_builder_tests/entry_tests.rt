@@ -1,12 +1,13 @@
 //! Worked entries.
 
-ghost use Rattle.std.specs.Prelude.{IfOk};
+ghost use Rattle.std.specs.Prelude.{◌≡◌, IfOk, false};
 ghost use Rattle.linear_theory.specs.Boxes.{IsBoxOf};
 ghost use Rattle.simplex_theory.specs.DualSteps.{IsDual};
 ghost use Rattle.program_builder.specs.Building.{IsMadeFor};
 ghost use Rattle.program_builder.specs.Entry.{IsBasisOf};
+ghost use Rattle.program_builder.specs.First.{IsFirstFor};
 
-use super::tests::{artery, is_same, root};
+use super::tests::{artery, is_same, opening, root};
 use crate::tests::solving::solved;
 use artery_model::{Artery, Pair};
 use dual_simplex::{Meter, NodeEnd, solve_node};
@@ -14,10 +15,11 @@ use fraction_tableau::Tableau;
 use loop_rows::column_count;
 use named_row::Row;
 use narrow_fraction::Frac;
-use program_builder::{enter, start};
+use program_builder::enter;
 use sample_streets::{SampleHead, SampleLink, plain_head, plain_signal, sample_street};
 use search_box::{At, SearchBox};
 use std::alloc::Global;
+use std::process::Abort;
 use std::rt::HostRuntime;
 use std::test::Fail;
 use test_bed::fraction_or_zero;
@@ -29,23 +31,24 @@ const NO_LIMIT: Meter = Meter {
     limit: None,
 };
 
-/// The tableau at a box's best end, its basic variables, and how many pivots it took.
+/// Steps from the opening of a box to its best end: the basic variables there, and how many pivots it took.
 fn best_end(
     alloc: Global,
     artery: &Artery,
     area: &SearchBox,
-) -> Result<(Tableau, Vec<u32>, u64), Fail>
-    requires boxed { IsBoxOf artery.now area.now }
-    ensures made { IfOk result (λ end. IsMadeFor artery.now end.0) }
-    ensures basis { IfOk result (λ end. IsBasisOf artery.now end.1.items) }
+    tableau: &mut Tableau,
+) -> Result<(Vec<u32>, u64), Fail>
+    requires first { IsFirstFor artery.now area.now tableau.old.table }
+    requires unspent { tableau.old.spent ≡ false }
+    ensures made { IfOk result (λ _. IsMadeFor artery.now tableau.new) }
+    ensures basis { IfOk result (λ end. IsBasisOf artery.now end.0.items) }
 {
-    let mut tableau = start(alloc, artery, area)?;
     let mut meter = NO_LIMIT;
     let mut pivots = 0;
-    match solve_node(&mut tableau, &mut meter, &mut pivots) {
+    match solve_node(tableau, &mut meter, &mut pivots) {
         NodeEnd::Optimal => {
             let basis = tableau.basis(alloc)?;
-            Ok((tableau, basis, pivots))
+            Ok((basis, pivots))
         }
         _ => Err("no best end".into()),
     }
@@ -81,22 +84,52 @@ fn entered(
     Ok((is_entry, basis))
 }
 
+/// Fails where the low part of a box isn't entered with this basis, which stays, or doesn't end after 4 pivots from there.
+fn enter_low_part(
+    rt: &impl Abort,
+    alloc: Global,
+    artery: &Artery,
+    area: &SearchBox,
+    tableau: &mut Tableau,
+    basis: &[u32],
+) -> Result<(), Fail>
+    requires boxed { IsBoxOf artery.now area.now }
+    requires made { IsMadeFor artery.now tableau.old }
+    requires basis { IsBasisOf artery.now basis.now }
+{
+    let low = low_part(alloc, artery, area)?;
+    let (is_entry, left) = entered(alloc, tableau, artery, &low, basis)?;
+    assert!(rt; is_entry && left.as_slice() == BASIS.as_slice());
+    assert!(rt; !tableau.is_spent());
+    assert_eq!(rt; solved(tableau, NO_LIMIT, 0), (NodeEnd::Optimal, 4, 4));
+    Ok(())
+}
+
+/// From the opening of a box to its best end, and from there to that of its low part.
+fn end_and_enter(
+    rt: &impl Abort,
+    alloc: Global,
+    artery: &Artery,
+    area: &SearchBox,
+    tableau: &mut Tableau,
+) -> Result<(), Fail>
+    requires boxed { IsBoxOf artery.now area.now }
+    requires first { IsFirstFor artery.now area.now tableau.old.table }
+    requires unspent { tableau.old.spent ≡ false }
+{
+    let (basis, pivots) = best_end(alloc, artery, area, tableau)?;
+    assert!(rt; pivots == 3 && basis.as_slice() == BASIS.as_slice());
+    enter_low_part(rt, alloc, artery, area, tableau, basis.as_slice())
+}
+
 /// The whole box ends after 3 pivots, and from the entry of its basis the low part ends after 4.
 #[test]
 fn low_part_begins_at_the_end_of_the_whole(rt: HostRuntime) -> Result<(), Fail> {
     let alloc = rt.alloc();
     let artery = artery(alloc, 50, Frac::whole(1))?;
     let area = root(alloc, &artery)?;
-    let (mut tableau, basis, pivots) = best_end(alloc, &artery, &area)?;
-    assert_eq!(rt; pivots, 3);
-    assert!(rt; basis.as_slice() == BASIS.as_slice());
-    let low = low_part(alloc, &artery, &area)?;
-    let (is_entry, basis) = entered(alloc, &mut tableau, &artery, &low, &basis)?;
-    assert!(rt; is_entry);
-    assert!(rt; basis.as_slice() == BASIS.as_slice());
-    assert!(rt; !tableau.is_spent());
-    assert_eq!(rt; solved(&mut tableau, NO_LIMIT, 0), (NodeEnd::Optimal, 4, 4));
-    Ok(())
+    let mut tableau = opening(alloc, &artery, &area)?;
+    end_and_enter(&rt, alloc, &artery, &area, &mut tableau)
 }
 
 /// The numerator and the denominator of the least and of the most.
@@ -186,24 +219,17 @@ fn rough_artery(alloc: Global) -> Result<Artery, Fail> {
     }
 }
 
-/// Makes the entry of a box from its own end: whether it is one, what it leaves, and how many pivots the end took.
-fn entered_again(
-    alloc: Global,
-    artery: &Artery,
-    area: &SearchBox,
-) -> Result<(bool, Tableau, u64), Fail>
-    requires { IsBoxOf artery.now area.now }
-{
-    let (mut tableau, basis, pivots) = best_end(alloc, artery, area)?;
-    let (is_entry, _) = entered(alloc, &mut tableau, artery, area, &basis)?;
-    Ok((is_entry, tableau, pivots))
-}
-
 /// Whether two tableaus have the same basic variables.
 fn has_same_basis(alloc: Global, one: &Tableau, other: &Tableau) -> Result<bool, Fail> {
     let basis = one.basis(alloc)?;
     let other_basis = other.basis(alloc)?;
     Ok(basis.as_slice() == other_basis.as_slice())
+}
+
+/// Whether a tableau isn't spent and has the same basic variables and numbers as another.
+fn is_unspent_same(alloc: Global, one: &Tableau, other: &Tableau) -> Result<bool, Fail> {
+    let is_basis = has_same_basis(alloc, one, other)?;
+    Ok(!one.is_spent() && is_basis && is_same(one, other))
 }
 
 /// Whether a tableau is the opening of a box, which isn't spent.
@@ -215,19 +241,34 @@ fn is_opening(
 ) -> Result<bool, Fail>
     requires { IsBoxOf artery.now area.now }
 {
-    let fresh = start(alloc, artery, area)?;
-    let is_basis = has_same_basis(alloc, tableau, &fresh)?;
-    Ok(!tableau.is_spent() && is_basis && is_same(tableau, &fresh))
+    let fresh = opening(alloc, artery, area)?;
+    is_unspent_same(alloc, tableau, &fresh)
 }
 
-/// For the root of the rough street: how many pivots its end takes, whether the entry from there is one, and whether it leaves the
-/// opening.
+/// Makes the entry of a box from its own end: how many pivots the end takes from the opening, whether the entry from there is one, and
+/// whether it leaves the opening.
+fn entered_again(
+    alloc: Global,
+    artery: &Artery,
+    area: &SearchBox,
+    tableau: &mut Tableau,
+) -> Result<(u64, bool, bool), Fail>
+    requires boxed { IsBoxOf artery.now area.now }
+    requires first { IsFirstFor artery.now area.now tableau.old.table }
+    requires unspent { tableau.old.spent ≡ false }
+{
+    let (basis, pivots) = best_end(alloc, artery, area, tableau)?;
+    let (is_entry, _) = entered(alloc, tableau, artery, area, basis.as_slice())?;
+    let is_opening = is_opening(alloc, tableau, artery, area)?;
+    Ok((pivots, is_entry, is_opening))
+}
+
+/// The same of the root of the rough street.
 fn rough_entry(alloc: Global) -> Result<(u64, bool, bool), Fail> {
     let artery = rough_artery(alloc)?;
     let area = root(alloc, &artery)?;
-    let (is_entry, tableau, pivots) = entered_again(alloc, &artery, &area)?;
-    let is_opening = is_opening(alloc, &tableau, &artery, &area)?;
-    Ok((pivots, is_entry, is_opening))
+    let mut tableau = opening(alloc, &artery, &area)?;
+    entered_again(alloc, &artery, &area, &mut tableau)
 }
 
 /// The pivots of an entry come in the order of the columns, so that one of them can leave 128 bits though no step to the end did.

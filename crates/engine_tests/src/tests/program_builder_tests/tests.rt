@@ -6,10 +6,11 @@ ghost use Rattle.linear_theory.specs.Boxes.{IsBoxOf};
 ghost use Rattle.linear_theory.specs.Places.{width};
 ghost use Rattle.simplex_theory.specs.DualSteps.{IsDual};
 ghost use Rattle.program_builder.specs.Building.{IsMadeFor};
+ghost use Rattle.program_builder.specs.First.{IsFirstFor};
 
-use crate::tests::solving::solved;
+use crate::tests::solving::{solved, take_step};
 use artery_model::Artery;
-use dual_simplex::{Meter, NodeEnd, Step, step};
+use dual_simplex::{Meter, NodeEnd, Step};
 use fraction_tableau::Tableau;
 use loop_rows::column_count;
 use named_row::{Place, Row, RowId};
@@ -36,8 +37,9 @@ pub fn root(alloc: Global, artery: &Artery) -> Result<SearchBox, Fail>
 }
 
 /// The opening of a box.
-fn opening(alloc: Global, artery: &Artery, area: &SearchBox) -> Result<Tableau, Fail>
+pub fn opening(alloc: Global, artery: &Artery, area: &SearchBox) -> Result<Tableau, Fail>
     requires { IsBoxOf artery.now area.now }
+    ensures first { IfOk result (λ tableau. IsFirstFor artery.now area.now tableau.table) }
     ensures made { IfOk result (λ tableau. IsMadeFor artery.now tableau) }
     ensures dual { IfOk result (λ tableau. IsDual tableau.table) }
     ensures unspent { IfOk result (λ tableau. tableau.spent ≡ false) }
@@ -86,17 +88,6 @@ fn standing(tableau: &Tableau, col: u32) -> Option<u32> {
         return None;
     }
     Some(tableau.standing(col))
-}
-
-/// A step that comes out like this and leaves the tableau unspent.
-fn take_step(rt: &impl Abort, tableau: &mut Tableau, expected: Step)
-    requires dual { IsDual tableau.old.table }
-    requires unspent { tableau.old.spent ≡ false }
-    ensures dual { IsDual tableau.new.table }
-    ensures unspent { tableau.new.spent ≡ false }
-{
-    assert_eq!(rt; step(tableau), expected);
-    assert!(rt; !tableau.is_spent());
 }
 
 /// A cell, where there is one.
@@ -173,82 +164,124 @@ fn is_refused(tableau: &mut Tableau, artery: &Artery, from: &Row) -> bool
     refused
 }
 
+/// Whether a tableau of 11 columns has the rows of `NAMES`.
+fn has_every_row(tableau: &Tableau) -> bool {
+    for row in 0..16 {
+        let (family, index) = NAMES[row as usize];
+        if name(tableau, row) != Some(RowId { family, index }) {
+            return false;
+        }
+    }
+    tableau.rows() == 16 && tableau.width() == 11
+}
+
 #[test]
 fn every_row_in_order(rt: HostRuntime) -> Result<(), Fail> {
     let tableau = root_opening(rt.alloc(), 50, Frac::whole(1))?;
-    for row in 0..16 {
-        let (family, index) = NAMES[row as usize];
-        assert_eq!(rt; name(&tableau, row), Some(RowId { family, index }));
-    }
-    assert_eq!(rt; tableau.rows(), 16);
-    assert_eq!(rt; tableau.width(), 11);
+    assert!(rt; has_every_row(&tableau));
     Ok(())
+}
+
+/// Whether the goal row has these cells, and the variables of the root's opening stand at the first three places.
+fn is_opened(tableau: &Tableau, cells: [i64; 11]) -> bool {
+    for col in 0..11 {
+        if goal_cell(tableau, col) != Some(Frac::whole(cells[col as usize])) {
+            return false;
+        }
+    }
+    standing(tableau, 0) == Some(11)
+        && standing(tableau, 1) == Some(13)
+        && standing(tableau, 2) == Some(2)
 }
 
 /// The outbound band's place has the slack of row 0, variable 11, and the inbound band's that of row 2, variable 13.
 #[test]
 fn goal_row_of_the_opening(rt: HostRuntime) -> Result<(), Fail> {
     let rows = [
-        (Frac::whole(1), [1, 1, 0, 1, 0, 1, 0, 0, 0, 0, 0, 1]),
-        (Frac::whole(0), [1, 0, 0, 1, 0, 0, 0, 0, 0, 0, 0, 0]),
+        (Frac::whole(1), [1, 1, 0, 1, 0, 1, 0, 0, 0, 0, 0]),
+        (Frac::whole(0), [1, 0, 0, 1, 0, 0, 0, 0, 0, 0, 0]),
     ];
     for (ratio, cells) in rows {
         let tableau = root_opening(rt.alloc(), 50, ratio)?;
-        for col in 0..11 {
-            assert_eq!(rt;
-                goal_cell(&tableau, col),
-                Some(Frac::whole(cells[col as usize]))
-            );
-        }
-        assert_eq!(rt; standing(&tableau, 0), Some(11));
-        assert_eq!(rt; standing(&tableau, 1), Some(13));
-        assert_eq!(rt; standing(&tableau, 2), Some(2));
+        assert!(rt; is_opened(&tableau, cells));
     }
     Ok(())
+}
+
+/// Whether the goal row's cells that aren't 0 are 1 and stand at these places.
+fn goal_keeps_ones_at(tableau: &Tableau, places: &[u32]) -> bool {
+    for (index, place) in places.iter().enumerate() {
+        if goal_kept(tableau, index) != Some((*place, Frac::whole(1))) {
+            return false;
+        }
+    }
+    goal_kept(tableau, places.len()).is_none()
 }
 
 #[test]
 fn goal_row_of_the_opening_lends_its_cells(rt: HostRuntime) -> Result<(), Fail> {
     let tableau = root_opening(rt.alloc(), 50, Frac::whole(1))?;
-    let one = Frac::whole(1);
-    assert_eq!(rt; goal_kept(&tableau, 0), Some((0, one)));
-    assert_eq!(rt; goal_kept(&tableau, 1), Some((1, one)));
-    assert_eq!(rt; goal_kept(&tableau, 2), Some((3, one)));
-    assert_eq!(rt; goal_kept(&tableau, 3), Some((5, one)));
-    assert_eq!(rt; goal_kept(&tableau, 4), None);
+    assert!(rt; goal_keeps_ones_at(&tableau, &[0, 1, 3, 5]));
     Ok(())
+}
+
+/// The first three steps, which are the same with both reds.
+fn take_first_steps(rt: &impl Abort, tableau: &mut Tableau)
+    requires dual { IsDual tableau.old.table }
+    requires unspent { tableau.old.spent ≡ false }
+    ensures dual { IsDual tableau.new.table }
+    ensures unspent { tableau.new.spent ≡ false }
+{
+    take_step(rt, tableau, Step::Pivoted { row: 8, col: 2 });
+    take_step(rt, tableau, Step::Pivoted { row: 4, col: 7 });
+    take_step(rt, tableau, Step::Pivoted { row: 5, col: 8 });
+}
+
+fn take_steps_to_the_best_band(rt: &impl Abort, tableau: &mut Tableau)
+    requires dual { IsDual tableau.old.table }
+    requires unspent { tableau.old.spent ≡ false }
+{
+    assert_eq!(rt; goal_cell(tableau, 11), Some(Frac::whole(1)));
+    take_first_steps(rt, tableau);
+    take_step(rt, tableau, Step::Optimal);
 }
 
 #[test]
 fn steps_to_the_best_band(rt: HostRuntime) -> Result<(), Fail> {
     let mut tableau = root_opening(rt.alloc(), 50, Frac::whole(1))?;
-    assert_eq!(rt; goal_cell(&tableau, 11), Some(Frac::whole(1)));
-    take_step(&rt, &mut tableau, Step::Pivoted { row: 8, col: 2 });
-    take_step(&rt, &mut tableau, Step::Pivoted { row: 4, col: 7 });
-    take_step(&rt, &mut tableau, Step::Pivoted { row: 5, col: 8 });
-    take_step(&rt, &mut tableau, Step::Optimal);
+    take_steps_to_the_best_band(&rt, &mut tableau);
     Ok(())
+}
+
+fn take_steps_to_no_timing(rt: &impl Abort, tableau: &mut Tableau)
+    requires dual { IsDual tableau.old.table }
+    requires unspent { tableau.old.spent ≡ false }
+{
+    take_first_steps(rt, tableau);
+    take_step(rt, tableau, Step::Pivoted { row: 10, col: 9 });
+    take_step(rt, tableau, Step::Infeasible { row: 11 });
 }
 
 #[test]
 fn steps_to_no_timing(rt: HostRuntime) -> Result<(), Fail> {
     let mut tableau = root_opening(rt.alloc(), 80, Frac::whole(1))?;
-    take_step(&rt, &mut tableau, Step::Pivoted { row: 8, col: 2 });
-    take_step(&rt, &mut tableau, Step::Pivoted { row: 4, col: 7 });
-    take_step(&rt, &mut tableau, Step::Pivoted { row: 5, col: 8 });
-    take_step(&rt, &mut tableau, Step::Pivoted { row: 10, col: 9 });
-    take_step(&rt, &mut tableau, Step::Infeasible { row: 11 });
+    take_steps_to_no_timing(&rt, &mut tableau);
     Ok(())
 }
 
-#[test]
-fn work_runs_out(rt: HostRuntime) -> Result<(), Fail> {
-    let mut tableau = root_opening(rt.alloc(), 50, Frac::whole(1))?;
+/// The end of the root's steps within two units, the units and the pivots.
+fn end_within_two_units(alloc: Global) -> Result<(NodeEnd, u64, u64), Fail> {
+    let mut tableau = root_opening(alloc, 50, Frac::whole(1))?;
     let meter = Meter {
         spent: 0,
         limit: Some(2),
     };
-    assert_eq!(rt; solved(&mut tableau, meter, 0), (NodeEnd::WorkOut, 2, 2));
+    Ok(solved(&mut tableau, meter, 0))
+}
+
+#[test]
+fn work_runs_out(rt: HostRuntime) -> Result<(), Fail> {
+    assert_eq!(rt; end_within_two_units(rt.alloc())?, (NodeEnd::WorkOut, 2, 2));
     Ok(())
 }
 
@@ -267,28 +300,61 @@ fn far_row(alloc: Global, artery: &Artery) -> Result<Row, Fail>
     Ok(row)
 }
 
-/// The opening of the root that was reset once a pivot had spent it: whether the pivot was refused, whether that spent the tableau, and
-/// the tableau as the reset leaves it. 1/3 over 2^126 leaves 128 bits.
-fn reset_root(alloc: Global) -> Result<(bool, bool, Tableau), Fail> {
+/// Spends an opening by a pivot and resets it: whether the pivot was refused, and whether that spent the tableau. 1/3 over 2^126 leaves
+/// 128 bits.
+fn spend_and_reset(
+    alloc: Global,
+    artery: &Artery,
+    area: &SearchBox,
+    tableau: &mut Tableau,
+) -> Result<(bool, bool), Fail>
+    requires boxed { IsBoxOf artery.now area.now }
+    requires made { IsMadeFor artery.now tableau.old }
+{
+    let mut room = far_row(alloc, artery)?;
+    let is_refused = is_refused(tableau, artery, &room);
+    let is_spent = tableau.is_spent();
+    reset(tableau, artery, area, &mut room);
+    Ok((is_refused, is_spent))
+}
+
+/// Whether a tableau isn't spent, and has the root's numbers and the variables of its bands' places.
+fn is_root_opening(alloc: Global, tableau: &Tableau) -> Result<bool, Fail> {
+    let fresh = root_opening(alloc, 50, Frac::whole(1))?;
+    Ok(
+        !tableau.is_spent()
+            && is_same(tableau, &fresh)
+            && standing(tableau, 0) == Some(11)
+            && standing(tableau, 1) == Some(13),
+    )
+}
+
+/// The same of the opening of a box, and whether the reset leaves the root's opening.
+fn reset_opening(
+    alloc: Global,
+    artery: &Artery,
+    area: &SearchBox,
+) -> Result<(bool, bool, bool), Fail>
+    requires { IsBoxOf artery.now area.now }
+{
+    let mut tableau = opening(alloc, artery, area)?;
+    let (is_refused, is_spent) = spend_and_reset(alloc, artery, area, &mut tableau)?;
+    let is_opening = is_root_opening(alloc, &tableau)?;
+    Ok((is_refused, is_spent, is_opening))
+}
+
+/// The same of the root.
+fn reset_root(alloc: Global) -> Result<(bool, bool, bool), Fail> {
     let artery = artery(alloc, 50, Frac::whole(1))?;
     let area = root(alloc, &artery)?;
-    let mut tableau = opening(alloc, &artery, &area)?;
-    let mut room = far_row(alloc, &artery)?;
-    let is_refused = is_refused(&mut tableau, &artery, &room);
-    let is_spent = tableau.is_spent();
-    reset(&mut tableau, &artery, &area, &mut room);
-    Ok((is_refused, is_spent, tableau))
+    reset_opening(alloc, &artery, &area)
 }
 
 #[test]
 fn reset_of_a_spent_tableau(rt: HostRuntime) -> Result<(), Fail> {
-    let (is_refused, is_spent, tableau) = reset_root(rt.alloc())?;
+    let (is_refused, is_spent, is_opening) = reset_root(rt.alloc())?;
     assert!(rt; is_refused);
     assert!(rt; is_spent);
-    let fresh = root_opening(rt.alloc(), 50, Frac::whole(1))?;
-    assert!(rt; !tableau.is_spent());
-    assert!(rt; is_same(&tableau, &fresh));
-    assert_eq!(rt; standing(&tableau, 0), Some(11));
-    assert_eq!(rt; standing(&tableau, 1), Some(13));
+    assert!(rt; is_opening);
     Ok(())
 }

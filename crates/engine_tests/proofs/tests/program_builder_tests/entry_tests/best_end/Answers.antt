@@ -18,16 +18,12 @@ basis_here a box t vs f e = subst (IsBasisOf a) (sym (e f.dual.placed)) (basis_o
 
 pub returns-in_ok-basis-in-Optimal-clause-made : goal.returns-in_ok-basis-in-Optimal-clause-made
 returns-in_ok-basis-in-Optimal-clause-made c =
-    let e = c.in_ok-tableau.ensures in
-    let first : IsFirstFor c.args.artery.now c.args.area.now c.in_ok-tableau.tableau.table = record { columns = e.made.columns; dual = e.dual; stands = e.stands } in
     let s = c.in-Optimal.ensures.solved in
     made_first c.args.artery.now c.args.area.now c.solve_node.new.tableau
-    (first_here c.args.artery.now c.args.area.now c.in_ok-tableau.tableau c.solve_node.new.tableau s.0 first s.1.table)
+    (first_here c.args.artery.now c.args.area.now c.args.tableau.now c.solve_node.new.tableau s.0 c.requires.first s.1.table)
 
 pub returns-in_ok-basis-in-Optimal-clause-basis : goal.returns-in_ok-basis-in-Optimal-clause-basis
 returns-in_ok-basis-in-Optimal-clause-basis c =
-    let e = c.in_ok-tableau.ensures in
-    let first : IsFirstFor c.args.artery.now c.args.area.now c.in_ok-tableau.tableau.table = record { columns = e.made.columns; dual = e.dual; stands = e.stands } in
     let s = c.in-Optimal.ensures.solved in
     basis_here c.args.artery.now c.args.area.now c.solve_node.new.tableau c.in_ok-basis-in-Optimal.basis.items
-    (first_here c.args.artery.now c.args.area.now c.in_ok-tableau.tableau c.solve_node.new.tableau s.0 first s.1.table) c.in_ok-basis-in-Optimal.ensures.listed
+    (first_here c.args.artery.now c.args.area.now c.args.tableau.now c.solve_node.new.tableau s.0 c.requires.first s.1.table) c.in_ok-basis-in-Optimal.ensures.listed
