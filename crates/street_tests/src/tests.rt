@@ -3,6 +3,7 @@
 mod artery_model_tests;
 mod band_measure_tests;
 mod diagram_draw_tests;
+mod given;
 mod half_integer_tests;
 mod outer_edge_tests;
 mod search_box_tests;

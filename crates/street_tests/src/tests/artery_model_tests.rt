@@ -1,8 +1,9 @@
 //! Arteries that break one rule each, and runs that were worked by hand.
 
+use super::given::{four, pair, two};
 use artery_model::{Artery, Dir, Flaw, Head, Link, Pair, Signal, Text, Units};
 use narrow_fraction::Frac;
-use std::alloc::Global;
+use std::alloc::{AllocError, Global};
 use std::test::Fail;
 use test_bed::{Reader, Record, all_told, flaw_text, with_changes};
 
@@ -56,20 +57,6 @@ static FAULTS: [&str; 25] = [
     "speed 50 36 -> LimitsCrossed link[1].speed_out",
 ];
 
-fn whole(record: Record<'_>, name: &str, place: usize) -> Result<Frac, Fail> {
-    match i64::try_from(record.number(name, place)?) {
-        Ok(number) => Ok(Frac::whole(number)),
-        Err(_) => Err("a great number".into()),
-    }
-}
-
-fn pair(record: Record<'_>, name: &str) -> Result<Pair, Fail> {
-    Ok(Pair {
-        least: whole(record, name, 0)?,
-        most: whole(record, name, 1)?,
-    })
-}
-
 /// The name of the signal at this place, counted from 0. A control name has two lines.
 fn name(names: &str, index: usize) -> &'static str {
     match names {
@@ -85,16 +72,15 @@ fn name(names: &str, index: usize) -> &'static str {
 }
 
 fn signal(alloc: Global, record: Record<'_>, index: usize) -> Result<Signal, Fail> {
-    let allowed = record.is_set("allowed")?;
-    let red = record.small("red", 0)?;
-    let (left_out, left_in) = (record.small("left", 0)?, record.small("left", 1)?);
-    let name = Text::new(alloc, name(record.behind("names")?, index))?;
+    let places = [("red", 0), ("left", 0), ("left", 1), ("allowed", 0)];
+    let [red, left_out, left_in, allowed] = four(record, places)?;
+    let names = record.behind("names")?;
     Ok(Signal {
-        name,
+        name: Text::new(alloc, name(names, index))?,
         red,
         left_out,
         left_in,
-        patterns: [allowed, false, false, allowed],
+        patterns: [allowed == 1, false, false, allowed == 1],
         clear_out: 3,
         clear_in: 4,
     })
@@ -102,14 +88,14 @@ fn signal(alloc: Global, record: Record<'_>, index: usize) -> Result<Signal, Fai
 
 fn change(record: Record<'_>, index: u32) -> Result<Option<Pair>, Fail> {
     if index == 0 && record.behind("change")? != "none" {
-        return Ok(Some(pair(record, "change")?));
+        return Ok(Some(pair(record, "change", 1)?));
     }
     Ok(None)
 }
 
 fn link(record: Record<'_>, index: u32) -> Result<Link, Fail> {
     let distance = record.small("distance", 0)?;
-    let speed = pair(record, "speed")?;
+    let speed = pair(record, "speed", 1)?;
     Ok(Link {
         distance_out: distance,
         distance_in: distance,
@@ -127,28 +113,40 @@ fn units(name: &str) -> Units {
     Units::English
 }
 
-fn head(record: Record<'_>) -> Result<Head, Fail> {
-    let least = pair(record, "least")?;
-    Ok(Head {
+fn head_of(units: Units, sizes: [u32; 2], cycle: Pair, least: Pair, equal: bool) -> Head {
+    Head {
         name: None,
-        units: units(record.behind("units")?),
-        version: record.small("version", 0)?,
-        parts: record.small("parts", 0)?,
-        cycle: pair(record, "cycle")?,
+        units,
+        version: sizes[0],
+        parts: sizes[1],
+        cycle,
         ratio: Frac::whole(1),
         least_out: least.least,
         least_in: least.most,
-        equal: record.is_set("equal")?,
-    })
+        equal,
+    }
+}
+
+fn head(record: Record<'_>) -> Result<Head, Fail> {
+    let sizes = two(record, [("version", 0), ("parts", 0)])?;
+    let (cycle, least) = (pair(record, "cycle", 1)?, pair(record, "least", 1)?);
+    let (name, equal) = (record.behind("units")?, record.is_set("equal")?);
+    Ok(head_of(units(name), sizes, cycle, least, equal))
+}
+
+fn signals(alloc: Global, record: Record<'_>, count: u32) -> Result<Vec<Signal>, Fail> {
+    let mut signals = Vec::new(alloc);
+    for index in 0..count {
+        signals.push(signal(alloc, record, index as usize)?)?;
+    }
+    Ok(signals)
 }
 
 fn made(alloc: Global, record: Record<'_>) -> Result<Result<Artery, Flaw>, Fail> {
-    let mut signals = Vec::new(alloc);
-    for index in 0..record.small("signals", 0)? {
-        signals.push(signal(alloc, record, index as usize)?)?;
-    }
+    let counts = two(record, [("signals", 0), ("links", 0)])?;
+    let signals = signals(alloc, record, counts[0])?;
     let mut links = Vec::new(alloc);
-    for index in 0..record.small("links", 0)? {
+    for index in 0..counts[1] {
         links.push(link(record, index)?)?;
     }
     Ok(Artery::new(alloc, head(record)?, signals, links))
@@ -163,16 +161,20 @@ fn changed(alloc: Global, changes: &str) -> Result<Artery, Fail> {
     }
 }
 
+fn told(alloc: Global, made: Result<Artery, Flaw>) -> Result<String, AllocError> {
+    match made {
+        Ok(_) => String::from_str(alloc, "made"),
+        Err(flaw) => flaw_text(alloc, flaw),
+    }
+}
+
 /// Makes an artery, and tells why there is none.
 #[derive(Clone, Copy, Drop)]
 struct Arteries;
 
 impl Reader for Arteries {
     fn answer(&self, alloc: Global, text: &[u8]) -> Result<String, Fail> {
-        match made(alloc, Record::new(text)?)? {
-            Ok(_) => Ok(String::from_str(alloc, "made")?),
-            Err(flaw) => Ok(flaw_text(alloc, flaw)?),
-        }
+        Ok(told(alloc, made(alloc, Record::new(text)?)?)?)
     }
 }
 
@@ -225,18 +227,37 @@ fn has_signals(artery: &Artery) -> bool {
         && artery.clearance(Dir::Inbound, 1) == 4
 }
 
+fn allows(artery: &Artery, pattern: u32) -> bool {
+    let _ = artery.count();
+    artery.allows(1, pattern)
+}
+
+/// Whether signal 1 allows the patterns 0 to 5.
+fn allowed(artery: &Artery) -> [bool; 6] {
+    [
+        allows(artery, 0),
+        allows(artery, 1),
+        allows(artery, 2),
+        allows(artery, 3),
+        allows(artery, 4),
+        allows(artery, 5),
+    ]
+}
+
+/// By how much each of the four patterns shifts signal 1.
+fn shifts(artery: &Artery) -> [u32; 4] {
+    let _ = artery.count();
+    [
+        artery.shift(1, 1),
+        artery.shift(1, 2),
+        artery.shift(1, 3),
+        artery.shift(1, 4),
+    ]
+}
+
 /// Whether signal 1 allows the patterns 1 and 4 alone, and each of the four shifts it by its left turns.
 fn has_patterns(artery: &Artery) -> bool {
-    if artery.count() != 3 {
-        return false;
-    }
-    for (pattern, shift) in [(1, 0), (2, 15), (3, 10), (4, 5)] {
-        let allowed = pattern == 1 || pattern == 4;
-        if artery.shift(1, pattern) != shift || artery.allows(1, pattern) != allowed {
-            return false;
-        }
-    }
-    !artery.allows(1, 0) && !artery.allows(1, 5)
+    allowed(artery) == [false, true, false, false, true, false] && shifts(artery) == [0, 15, 10, 5]
 }
 
 /// Whether 264 feet take 3 to 6 seconds, inbound on link 2.

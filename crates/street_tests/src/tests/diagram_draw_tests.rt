@@ -4,13 +4,14 @@
 ghost use Rattle.std.specs.Prelude.{IfOk};
 ghost use Rattle.progression.specs.Good.{IsBase};
 
+use super::given;
 use artery_model::Artery;
 use diagram_draw::draw;
 use narrow_fraction::Memory;
-use sample_streets::{SampleHead, SampleSignal, plain_head, plain_signal, range, sample_street};
+use sample_streets::{SampleHead, SampleSignal, plain_head, plain_signal, range};
 use std::alloc::Global;
 use std::test::Fail;
-use test_bed::paced_link;
+use test_bed::{Record, paced_link};
 use time_space::{Timing, base_holds};
 
 /// Its lines. One that stands there several times is written once, with how often and with how much greater each time the numbers
@@ -133,33 +134,24 @@ fn far_signal() -> SampleSignal {
 
 fn artery(alloc: Global) -> Result<Artery, Fail> {
     let signals = [plain_signal("Oak & Elm", 30), far_signal()];
-    match sample_street(alloc, head(), &signals, &[paced_link(400, 410, 20, 60)]) {
-        Ok(artery) => Ok(artery),
-        Err(_) => Err("no artery".into()),
-    }
+    given::street(alloc, head(), &signals, &[paced_link(400, 410, 20, 60)])
 }
 
-fn timing(alloc: Global) -> Result<Timing, Fail> {
-    let made = Timing::new(
-        3,
-        3,
-        vec![in alloc; 1, 1]?,
-        vec![in alloc; 170, 10]?,
-        vec![in alloc; 100]?,
-        vec![in alloc; 95]?,
-        80,
-        165,
-        10,
-        20,
-    );
-    Ok(made.ok_or("no timing")?)
-}
+static TIMING: &str = "grid 3
+unit 3
+pattern 1 1
+red 170 10
+run_out 100
+run_in 95
+first 80 165
+band 10 20
+";
 
 /// The timing, which keeps the rules that don't speak of bands.
 fn base_timing(alloc: Global, artery: &Artery) -> Result<Timing, Fail>
     ensures { IfOk result (λ timing. IsBase artery.now timing) }
 {
-    let timing = timing(alloc)?;
+    let timing = given::timing(alloc, Record::new(TIMING.as_bytes())?)?;
     match base_holds(artery, &timing) {
         Ok(()) => Ok(timing),
         Err(_) => Err("breaks a rule".into()),
@@ -187,18 +179,36 @@ fn number(word: &str) -> Result<i64, Fail> {
     }
 }
 
-/// A text whose numbers between `@` are greater by so much.
-fn moved(alloc: Global, text: &str, by: i64) -> Result<String, Fail> {
-    let mut out = String::new(alloc);
-    for (index, piece) in text.split('@').enumerate() {
-        if index % 2 == 0 {
-            out.push_str(piece)?;
-        } else {
-            let number = number(piece)?.wrapping_add(by);
-            out.push_str(format!(in alloc; "{number}")?.as_str())?;
-        }
+/// A number that is greater by so much.
+fn greater(alloc: Global, piece: &str, by: i64) -> Result<String, Fail> {
+    let number = number(piece)?.wrapping_add(by);
+    Ok(format!(in alloc; "{number}")?)
+}
+
+fn push_number(alloc: Global, out: &mut String, piece: &str, by: i64) -> Result<(), Fail> {
+    let greater = greater(alloc, piece, by)?;
+    Ok(out.push_str(greater.as_str())?)
+}
+
+fn push_piece(
+    alloc: Global,
+    out: &mut String,
+    is_number: bool,
+    piece: &str,
+    by: i64,
+) -> Result<(), Fail> {
+    if is_number {
+        return push_number(alloc, out, piece, by);
     }
-    Ok(out)
+    Ok(out.push_str(piece)?)
+}
+
+/// Adds a line whose numbers between `@` are greater by so much.
+fn push_line(alloc: Global, out: &mut String, text: &str, by: i64) -> Result<(), Fail> {
+    for (index, piece) in text.split('@').enumerate() {
+        push_piece(alloc, out, index % 2 == 1, piece, by)?;
+    }
+    Ok(out.push_str("\n")?)
 }
 
 /// Adds a row as often as it stands in the picture.
@@ -206,9 +216,14 @@ fn push_row(alloc: Global, out: &mut String, row: &str) -> Result<(), Fail> {
     let (times, step, text) = parts(row);
     let (times, step) = (number(times)?, number(step)?);
     for time in 0..times {
-        let moved = moved(alloc, text, time.wrapping_mul(step))?;
-        out.push_str(moved.as_str())?;
-        out.push_str("\n")?;
+        push_line(alloc, out, text, time.wrapping_mul(step))?;
+    }
+    Ok(())
+}
+
+fn push_rows(alloc: Global, out: &mut String) -> Result<(), Fail> {
+    for row in PICTURE.lines() {
+        push_row(alloc, out, row)?;
     }
     Ok(())
 }
@@ -216,9 +231,7 @@ fn push_row(alloc: Global, out: &mut String, row: &str) -> Result<(), Fail> {
 /// The picture as one text.
 fn expected(alloc: Global) -> Result<String, Fail> {
     let mut out = String::new(alloc);
-    for row in PICTURE.lines() {
-        push_row(alloc, &mut out, row)?;
-    }
+    push_rows(alloc, &mut out)?;
     Ok(out)
 }
 

@@ -1,11 +1,10 @@
 //! Rows that were worked by hand: two signals, 100 parts, one link.
 
+use super::given::{four, street, timing, two};
 use artery_model::Artery;
 use half_integer::{HalfFault, half, half_of};
 use progression::Dir;
-use sample_streets::{
-    SampleLink, SampleSignal, plain_head, plain_link, plain_signal, sample_street,
-};
+use sample_streets::{SampleLink, SampleSignal, plain_head, plain_link, plain_signal};
 use std::alloc::{AllocError, Global};
 use std::test::Fail;
 use test_bed::{Reader, Record, all_told};
@@ -63,32 +62,23 @@ fn signal(left: u32, last: u32, clear_out: u32, red: u32) -> SampleSignal {
 }
 
 fn other(record: Record<'_>) -> Result<SampleSignal, Fail> {
-    let left = record.small("left", 0)?;
-    let last = record.small("patterns", 0)?;
-    let clear_out = record.small("clear", 0)?;
-    Ok(signal(left, last, clear_out, record.small("parts", 1)?))
+    let places = [("left", 0), ("patterns", 0), ("clear", 0), ("parts", 1)];
+    let [left, last, clear_out, red] = four(record, places)?;
+    Ok(signal(left, last, clear_out, red))
 }
 
 fn link(record: Record<'_>) -> Result<SampleLink, Fail> {
+    let [distance_out, distance_in] = two(record, [("apart", 0), ("apart", 1)])?;
     Ok(SampleLink {
-        distance_in: record.small("apart", 1)?,
-        ..plain_link(record.small("apart", 0)?)
+        distance_in,
+        ..plain_link(distance_out)
     })
 }
 
 fn artery(alloc: Global, record: Record<'_>) -> Result<Artery, Fail> {
-    let signals = [plain_signal("A", record.small("parts", 0)?), other(record)?];
-    match sample_street(alloc, plain_head(), &signals, &[link(record)?]) {
-        Ok(artery) => Ok(artery),
-        Err(_) => Err("no artery".into()),
-    }
-}
-
-fn timing(alloc: Global, record: Record<'_>) -> Result<Timing, Fail> {
-    match record.timing(alloc)? {
-        Some(timing) => Ok(timing),
-        None => Err("no timing".into()),
-    }
+    let first = plain_signal("A", record.small("parts", 0)?);
+    let (other, link) = (other(record)?, link(record)?);
+    street(alloc, plain_head(), &[first, other], &[link])
 }
 
 fn told(alloc: Global, halved: Result<Option<Timing>, HalfFault>) -> Result<String, AllocError> {
@@ -104,6 +94,10 @@ fn halved(alloc: Global, artery: &Artery, timing: &Timing) -> Result<Option<Timi
     half(alloc, artery, timing)
 }
 
+fn halved_told(alloc: Global, artery: &Artery, timing: &Timing) -> Result<String, Fail> {
+    Ok(told(alloc, halved(alloc, artery, timing))?)
+}
+
 /// Tells the half-cycle plan of a street's timing.
 #[derive(Clone, Copy, Drop)]
 struct Halves;
@@ -111,8 +105,9 @@ struct Halves;
 impl Reader for Halves {
     fn answer(&self, alloc: Global, text: &[u8]) -> Result<String, Fail> {
         let record = Record::new(text)?;
-        let (artery, timing) = (artery(alloc, record)?, timing(alloc, record)?);
-        Ok(told(alloc, halved(alloc, &artery, &timing))?)
+        let artery = artery(alloc, record)?;
+        let timing = timing(alloc, record)?;
+        halved_told(alloc, &artery, &timing)
     }
 }
 
@@ -133,10 +128,15 @@ fn phases(alloc: Global, artery: &Artery, timing: &Timing) -> Option<[bool; 2]> 
     }
 }
 
+fn phases_of(alloc: Global, text: &str) -> Result<Option<[bool; 2]>, Fail> {
+    let record = Record::new(text.as_bytes())?;
+    let artery = artery(alloc, record)?;
+    let timing = timing(alloc, record)?;
+    Ok(phases(alloc, &artery, &timing))
+}
+
 #[test]
 fn phases_of_two_signals(rt: HostRuntime) -> Result<(), Fail> {
-    let record = Record::new(FAR.as_bytes())?;
-    let (artery, timing) = (artery(rt.alloc(), record)?, timing(rt.alloc(), record)?);
-    assert!(rt; phases(rt.alloc(), &artery, &timing) == Some([false, true]));
+    assert!(rt; phases_of(rt.alloc(), FAR)? == Some([false, true]));
     Ok(())
 }

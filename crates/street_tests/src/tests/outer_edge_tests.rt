@@ -67,7 +67,7 @@ enum Fault {
 /// The system's files on a disk of which something is wrong. It counts how often a file is opened.
 #[derive(Clone, Drop)]
 struct FaultyDisk<'a> {
-    rt: HostRuntime,
+    rt: &'a HostRuntime,
     fault: Fault,
     opened: &'a Cell<u64>,
 }
@@ -331,12 +331,20 @@ static SURE_STEPS: [Step; 4] = [
     Step::Read("absent", 0, Ok((0, [0; 4]))),
 ];
 
+fn sure_files(alloc: Global, name: &str, bytes: &[u8]) -> Result<SureFiles, Fail> {
+    let mut files = SureFiles::new(alloc);
+    files.add(name, bytes)?;
+    Ok(files)
+}
+
+fn hold_what_is_put(alloc: Global, files: &mut SureFiles) -> bool {
+    answered(alloc, files, &SURE_STEPS) == 4 && files.bytes("absent").is_none()
+}
+
 #[test]
 fn sure_files_hold_what_was_put(rt: HostRuntime) -> Result<(), Fail> {
-    let mut files = SureFiles::new(rt.alloc());
-    files.add("notes", b"first")?;
-    assert_eq!(rt; answered(rt.alloc(), &mut files, &SURE_STEPS), 4);
-    assert!(rt; files.bytes("absent").is_none());
+    let mut files = sure_files(rt.alloc(), "notes", b"first")?;
+    assert!(rt; hold_what_is_put(rt.alloc(), &mut files));
     Ok(())
 }
 
@@ -351,13 +359,18 @@ static AFTER_THE_THIRD: [Step; 2] = [
     Step::Put("notes", b"new", Ok(())),
 ];
 
+/// Whether the third call leaves the old file, and the fifth puts the new one.
+fn fail_third(alloc: Global, files: &mut MemFiles) -> bool {
+    mem_answered(alloc, files, &TO_THE_THIRD) == 3
+        && mem_file_is(files, "notes", b"old")
+        && mem_answered(alloc, files, &AFTER_THE_THIRD) == 2
+        && mem_file_is(files, "notes", b"new")
+}
+
 #[test]
 fn the_third_call_is_a_put_that_fails(rt: HostRuntime) -> Result<(), Fail> {
     let mut files = mem_files(rt.alloc(), 3, "notes", b"old")?;
-    assert_eq!(rt; mem_answered(rt.alloc(), &mut files, &TO_THE_THIRD), 3);
-    assert!(rt; mem_file_is(&files, "notes", b"old"));
-    assert_eq!(rt; mem_answered(rt.alloc(), &mut files, &AFTER_THE_THIRD), 2);
-    assert!(rt; mem_file_is(&files, "notes", b"new"));
+    assert!(rt; fail_third(rt.alloc(), &mut files));
     Ok(())
 }
 
@@ -395,7 +408,7 @@ static TEN_BYTES: [Step; 4] = [
 #[test]
 fn ten_bytes_are_too_long_for_a_limit_of_nine(rt: HostRuntime) -> Result<(), Fail> {
     let mut files = mem_files(rt.alloc(), 6, "ten", b"0123456789")?;
-    assert_eq!(rt; mem_answered(rt.alloc(), &mut files, &TEN_BYTES), 4);
+    assert!(rt; mem_answered(rt.alloc(), &mut files, &TEN_BYTES) == 4);
     Ok(())
 }
 
@@ -409,12 +422,16 @@ static ABSENT: [Step; 2] = [
     Step::Put("no/such/folder", b"x", Err(FileEnd::Failed)),
 ];
 
+fn is_read_back(rt: &HostRuntime, files: &mut RealFiles<HostRuntime>) -> bool {
+    system_answered(rt.alloc(), files, &PUT_AND_READ) == 2
+        && is_removed(rt, "outer_edge.trial")
+        && system_answered(rt.alloc(), files, &ABSENT) == 2
+}
+
 #[test]
 fn a_file_of_the_system_is_read_back(rt: HostRuntime) -> Result<(), Fail> {
     let mut files = system_files(&rt)?;
-    assert_eq!(rt; system_answered(rt.alloc(), &mut files, &PUT_AND_READ), 2);
-    assert!(rt; is_removed(&rt, "outer_edge.trial"));
-    assert_eq!(rt; system_answered(rt.alloc(), &mut files, &ABSENT), 2);
+    assert!(rt; is_read_back(&rt, &mut files));
     Ok(())
 }
 
@@ -431,25 +448,29 @@ fn is_old_alone(rt: &HostRuntime) -> bool {
         && is_removed(rt, "outer_edge.full")
 }
 
+/// Whether an old file is left, and no new one where there is none.
+fn leave_old(rt: &HostRuntime, files: &mut RealFiles<FaultyDisk<'_>>) -> bool {
+    faulty_answered(rt.alloc(), files, &OLD_AND_NEWER) == 2
+        && is_old_alone(rt)
+        && faulty_answered(rt.alloc(), files, &AGAIN) == 1
+        && is_absent(rt, "outer_edge.full")
+}
+
 #[test]
 fn a_full_disk_leaves_the_old_file(rt: HostRuntime) -> Result<(), Fail> {
     let opened = Cell::new(0);
     let mut files = faulty_files(&rt, Fault::Full, &opened)?;
-    assert_eq!(rt; faulty_answered(rt.alloc(), &mut files, &OLD_AND_NEWER), 2);
-    assert!(rt; is_old_alone(&rt));
-    assert_eq!(rt; faulty_answered(rt.alloc(), &mut files, &AGAIN), 1);
-    assert!(rt; is_absent(&rt, "outer_edge.full"));
+    assert!(rt; leave_old(&rt, &mut files));
     Ok(())
 }
 
 fn faulty_files<'a>(
-    rt: &HostRuntime,
+    rt: &'a HostRuntime,
     fault: Fault,
     opened: &'a Cell<u64>,
 ) -> Result<RealFiles<FaultyDisk<'a>>, Fail> {
-    let rt = rt.clone()?;
-    let alloc = rt.alloc();
-    Ok(RealFiles::new(&FaultyDisk { rt, fault, opened }, alloc)?)
+    let disk = FaultyDisk { rt, fault, opened };
+    Ok(RealFiles::new(&disk, rt.alloc())?)
 }
 
 /// The number by which the system knows a file.
@@ -485,22 +506,29 @@ fn make_old(rt: &HostRuntime, fault: Fault) -> bool {
     is_made
 }
 
+fn are_put_so(rt: &HostRuntime, files: &mut RealFiles<FaultyDisk<'_>>, put: &FaultyPut) -> bool {
+    let before = number_of(rt, FAULTY);
+    let steps = [Step::Put(FAULTY, b"newer", put.1)];
+    faulty_answered(rt.alloc(), files, &steps) == 1
+        && (number_of(rt, FAULTY) != before) == put.3
+        && system_file_is(rt, FAULTY, put.2)
+}
+
 fn is_put_so(rt: &HostRuntime, put: &FaultyPut) -> Result<bool, Fail> {
     let opened = Cell::new(0);
     let mut files = faulty_files(rt, put.0, &opened)?;
-    let before = number_of(rt, FAULTY);
-    let is_answered = files.put(FAULTY, b"newer") == put.1;
-    let is_replaced = number_of(rt, FAULTY) != before;
-    Ok(is_answered && is_replaced == put.3 && system_file_is(rt, FAULTY, put.2))
+    Ok(make_old(rt, put.0) && are_put_so(rt, &mut files, put))
+}
+
+/// Whether no new file stands beside the named one, which is removed then.
+fn is_alone(rt: &HostRuntime) -> bool {
+    is_absent(rt, "outer_edge.faulty.new1") && is_removed(rt, FAULTY)
 }
 
 #[test]
 fn a_put_replaces_only_what_may_be_replaced(rt: HostRuntime) -> Result<(), Fail> {
     for put in &FAULTY_PUTS {
-        assert!(rt; make_old(&rt, put.0));
-        assert!(rt; is_put_so(&rt, put)?);
-        assert!(rt; is_absent(&rt, "outer_edge.faulty.new1"));
-        assert!(rt; is_removed(&rt, FAULTY));
+        assert!(rt; is_put_so(&rt, put)? && is_alone(&rt));
     }
     Ok(())
 }
@@ -522,13 +550,17 @@ fn are_removed(rt: &HostRuntime, names: &[&str]) -> bool {
 
 static NEWER_FIRST: [Step; 1] = [Step::Put("outer_edge.first", b"newer", Ok(()))];
 
+fn keep_two_names(rt: &HostRuntime, files: &mut RealFiles<HostRuntime>) -> bool {
+    make_two_names(rt)
+        && system_answered(rt.alloc(), files, &NEWER_FIRST) == 1
+        && system_file_is(rt, "outer_edge.second", b"newer")
+        && are_removed(rt, &["outer_edge.first", "outer_edge.second"])
+}
+
 #[test]
 fn a_file_of_two_names_keeps_them(rt: HostRuntime) -> Result<(), Fail> {
     let mut files = system_files(&rt)?;
-    assert!(rt; make_two_names(&rt));
-    assert_eq!(rt; system_answered(rt.alloc(), &mut files, &NEWER_FIRST), 1);
-    assert!(rt; system_file_is(&rt, "outer_edge.second", b"newer"));
-    assert!(rt; are_removed(&rt, &["outer_edge.first", "outer_edge.second"]));
+    assert!(rt; keep_two_names(&rt, &mut files));
     Ok(())
 }
 
@@ -556,27 +588,39 @@ static LONG_STEPS: [Step; 8] = [
     Step::Read(LONG, 4, Ok((4, *b"shor"))),
 ];
 
+fn are_read_on(
+    rt: &HostRuntime,
+    files: &mut RealFiles<FaultyDisk<'_>>,
+    opened: &Cell<u64>,
+) -> bool {
+    make_long(rt, LONG).is_ok()
+        && faulty_answered(rt.alloc(), files, &TOO_LONG) == 1
+        && opened.get() == 1
+        && faulty_answered(rt.alloc(), files, &LONG_STEPS) == 8
+        && is_removed(rt, LONG)
+}
+
 #[test]
 fn a_long_file_is_opened_once_and_read_on(rt: HostRuntime) -> Result<(), Fail> {
-    assert!(rt; make_long(&rt, LONG).is_ok());
     let opened = Cell::new(0);
     let mut files = faulty_files(&rt, Fault::Nothing, &opened)?;
-    assert_eq!(rt; faulty_answered(rt.alloc(), &mut files, &TOO_LONG), 1);
-    assert_eq!(rt; opened.get(), 1);
-    assert_eq!(rt; faulty_answered(rt.alloc(), &mut files, &LONG_STEPS), 8);
-    assert!(rt; is_removed(&rt, LONG));
+    assert!(rt; are_read_on(&rt, &mut files, &opened));
     Ok(())
 }
 
 static CUT: [Step; 1] = [Step::Whole("outer_edge.cut", 2_000_000, Err(ReadEnd::ReadFault))];
 
+fn are_cut(rt: &HostRuntime, files: &mut RealFiles<FaultyDisk<'_>>) -> bool {
+    make_long(rt, "outer_edge.cut").is_ok()
+        && faulty_answered(rt.alloc(), files, &CUT) == 1
+        && is_removed(rt, "outer_edge.cut")
+}
+
 #[test]
 fn a_read_that_fails_in_the_midst_is_no_end(rt: HostRuntime) -> Result<(), Fail> {
-    assert!(rt; make_long(&rt, "outer_edge.cut").is_ok());
     let opened = Cell::new(0);
     let mut files = faulty_files(&rt, Fault::Unreadable, &opened)?;
-    assert_eq!(rt; faulty_answered(rt.alloc(), &mut files, &CUT), 1);
-    assert!(rt; is_removed(&rt, "outer_edge.cut"));
+    assert!(rt; are_cut(&rt, &mut files));
     Ok(())
 }
 
@@ -623,22 +667,20 @@ fn is_untouched(rt: &HostRuntime) -> bool {
         && is_absent(rt, "outer_edge.kept.new2")
 }
 
+static LINKED: [&str; 3] = ["outer_edge.link", "outer_edge.kept", "outer_edge.kept.new1"];
+
+fn keep_links(rt: &HostRuntime, files: &mut RealFiles<HostRuntime>) -> bool {
+    make_link(rt)
+        && system_answered(rt.alloc(), files, &THROUGH_THE_LINK) == 1
+        && is_kept(rt)
+        && is_untouched(rt)
+        && are_removed(rt, &LINKED)
+}
+
 #[test]
 fn a_put_keeps_links_permissions_and_other_files(rt: HostRuntime) -> Result<(), Fail> {
-    assert!(rt; make_link(&rt));
     let mut files = system_files(&rt)?;
-    assert_eq!(rt;
-        system_answered(rt.alloc(), &mut files, &THROUGH_THE_LINK),
-        1
-    );
-    assert!(rt; is_kept(&rt));
-    assert!(rt; is_untouched(&rt));
-    assert!(rt;
-        are_removed(
-            &rt,
-            &["outer_edge.link", "outer_edge.kept", "outer_edge.kept.new1"]
-        )
-    );
+    assert!(rt; keep_links(&rt, &mut files));
     Ok(())
 }
 
@@ -653,18 +695,19 @@ fn narrow_out<'a>(alloc: Global, taken: &'a Cell<usize>) -> Result<RealOut<Narro
     Ok(RealOut::new(&Narrow { taken }, alloc)?)
 }
 
-/// Whether a call takes four bytes of a text, and one of nine goes in pieces.
-fn takes_pieces(out: &mut RealOut<Narrow<'_>>) -> bool {
-    writes_once(out, 100, b"three\n", Ok(4)) && writes_whole(out, 100, b"nine more", Ok(()))
+/// Whether a call takes four bytes of a text, one of nine goes in pieces, and the last has room for three of its four.
+fn takes_pieces(out: &mut RealOut<Narrow<'_>>, taken: &Cell<usize>) -> bool {
+    writes_once(out, 100, b"three\n", Ok(4))
+        && writes_whole(out, 100, b"nine more", Ok(()))
+        && taken.get() == 13
+        && writes_whole(out, 100, b"full", Err(Failed))
+        && taken.get() == 16
 }
 
 #[test]
 fn a_narrow_pipe_takes_a_text_in_pieces(rt: HostRuntime) -> Result<(), Fail> {
     let taken = Cell::new(0);
     let mut out = narrow_out(rt.alloc(), &taken)?;
-    assert!(rt; takes_pieces(&mut out));
-    assert_eq!(rt; taken.get(), 13);
-    assert!(rt; writes_whole(&mut out, 100, b"full", Err(Failed)));
-    assert_eq!(rt; taken.get(), 16);
+    assert!(rt; takes_pieces(&mut out, &taken));
     Ok(())
 }

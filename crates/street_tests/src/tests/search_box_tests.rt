@@ -5,10 +5,9 @@ ghost use Rattle.linear_theory.specs.Boxes.{IsBoxOf};
 ghost use Rattle.search_box.specs.Seen.{span_of};
 ghost use Rattle.search_box.specs.Places.{AreRanks};
 
+use super::given;
 use artery_model::Artery;
-use sample_streets::{
-    SampleHead, SampleSignal, plain_head, plain_link, plain_signal, range, sample_street,
-};
+use sample_streets::{SampleHead, SampleSignal, plain_head, plain_link, plain_signal, range};
 use search_box::{
     At, SearchBox, Span, law_shifts_are_ranked, law_valid_street, root_span, shift_at, shift_count,
 };
@@ -29,31 +28,25 @@ struct Street {
 
 const ALL: [bool; 4] = [true, true, true, true];
 
-fn base() -> Street {
-    Street {
-        distance: 500,
-        reds: [50, 50],
-        left: 0,
-        patterns: ALL,
-        clear_out: 0,
-        cycle: [100, 100],
-    }
-}
+const BASE: Street = Street {
+    distance: 500,
+    reds: [50, 50],
+    left: 0,
+    patterns: ALL,
+    clear_out: 0,
+    cycle: [100, 100],
+};
 
-fn near() -> Street {
-    Street {
-        distance: 250,
-        ..base()
-    }
-}
+const NEAR: Street = Street {
+    distance: 250,
+    ..BASE
+};
 
-fn with_lefts() -> Street {
-    Street {
-        reds: [50, 40],
-        left: 10,
-        ..near()
-    }
-}
+const WITH_LEFTS: Street = Street {
+    reds: [50, 40],
+    left: 10,
+    ..NEAR
+};
 
 fn head(street: Street) -> SampleHead {
     SampleHead {
@@ -82,14 +75,14 @@ fn second(street: Street) -> SampleSignal {
 fn artery(alloc: Global, street: Street) -> Result<Artery, Fail> {
     let signals = [first(street), second(street)];
     let links = [plain_link(street.distance)];
-    match sample_street(alloc, head(street), &signals, &links) {
-        Ok(artery) => Ok(artery),
-        Err(_) => Err("no artery".into()),
-    }
+    given::street(alloc, head(street), &signals, &links)
 }
 
-fn span(least: i64, most: i64) -> Span {
-    Span { least, most }
+/// The ends of a span.
+type Ends = [i64; 2];
+
+fn ends(span: Span) -> Ends {
+    [span.least, span.most]
 }
 
 fn root(alloc: Global, artery: &Artery) -> Result<SearchBox, Fail>
@@ -102,66 +95,68 @@ fn root(alloc: Global, artery: &Artery) -> Result<SearchBox, Fail>
 }
 
 /// The spans of link 1 and of the two signals.
-fn spans(artery: &Artery, area: &SearchBox) -> [Span; 3]
+fn spans(artery: &Artery, area: &SearchBox) -> [Ends; 3]
     requires { IsBoxOf artery.now area.now }
 {
     prove!(artery.count() >= 2);
-    [area.loop_span(1), area.turn_span(1), area.turn_span(2)]
+    [
+        ends(area.loop_span(1)),
+        ends(area.turn_span(1)),
+        ends(area.turn_span(2)),
+    ]
 }
 
-/// Those of the root box, the first also without the box.
-fn root_spans(alloc: Global, street: Street) -> Result<(Span, [Span; 3]), Fail> {
-    let artery = artery(alloc, street)?;
+/// The span of link 1 in the root box, as it is without the box.
+fn link_span(artery: &Artery) -> Ends {
     prove!(artery.count() >= 2);
-    let area = root(alloc, &artery)?;
-    Ok((root_span(&artery, 1), spans(&artery, &area)))
+    ends(root_span(artery, 1))
 }
 
-fn with_one_rank(least: i64, most: i64) -> (Span, [Span; 3]) {
-    let sums = span(least, most);
-    (sums, [sums, span(0, 0), span(0, 0)])
+/// Whether these are the spans of the root box, the first also without the box.
+fn has_root_spans(alloc: Global, street: Street, expected: [Ends; 3]) -> Result<bool, Fail> {
+    let artery = artery(alloc, street)?;
+    let area = root(alloc, &artery)?;
+    Ok(link_span(&artery) == expected[0] && spans(&artery, &area) == expected)
 }
+
+static ROOT_BOXES: [(Street, [Ends; 3]); 7] = [
+    (BASE, [[0, 2], [0, 0], [0, 0]]),
+    (NEAR, [[0, 1], [0, 0], [0, 0]]),
+    (
+        Street {
+            reds: [80, 80],
+            ..NEAR
+        },
+        [[1, 0], [0, 0], [0, 0]],
+    ),
+    (WITH_LEFTS, [[0, 1], [0, 0], [0, 2]]),
+    (
+        Street {
+            distance: 2500,
+            ..BASE
+        },
+        [[4, 6], [0, 0], [0, 0]],
+    ),
+    (
+        Street {
+            clear_out: 60,
+            ..BASE
+        },
+        [[0, 1], [0, 0], [0, 0]],
+    ),
+    (
+        Street {
+            cycle: [50, 100],
+            ..BASE
+        },
+        [[0, 3], [0, 0], [0, 0]],
+    ),
+];
 
 #[test]
 fn root_boxes(rt: HostRuntime) -> Result<(), Fail> {
-    let rows = [
-        (base(), with_one_rank(0, 2)),
-        (near(), with_one_rank(0, 1)),
-        (
-            Street {
-                reds: [80, 80],
-                ..near()
-            },
-            with_one_rank(1, 0),
-        ),
-        (
-            with_lefts(),
-            (span(0, 1), [span(0, 1), span(0, 0), span(0, 2)]),
-        ),
-        (
-            Street {
-                distance: 2500,
-                ..base()
-            },
-            with_one_rank(4, 6),
-        ),
-        (
-            Street {
-                clear_out: 60,
-                ..base()
-            },
-            with_one_rank(0, 1),
-        ),
-        (
-            Street {
-                cycle: [50, 100],
-                ..base()
-            },
-            with_one_rank(0, 3),
-        ),
-    ];
-    for (street, expected) in rows {
-        assert!(rt; root_spans(rt.alloc(), street)? == expected);
+    for (street, expected) in ROOT_BOXES {
+        assert!(rt; has_root_spans(rt.alloc(), street, expected)?);
     }
     Ok(())
 }
@@ -188,7 +183,7 @@ fn shifts_told(
 ) -> Result<bool, Fail> {
     let street = Street {
         patterns,
-        ..with_lefts()
+        ..WITH_LEFTS
     };
     Ok(has_shifts(&artery(alloc, street)?, signal, shifts))
 }
@@ -224,72 +219,113 @@ fn split(
     }
 }
 
-/// The spans of both parts of the root box, and which of them have one number each.
-fn parts(
+/// The spans of two boxes, and which of them have one number each.
+type Parts = ([Ends; 3], [Ends; 3], [bool; 2]);
+
+fn seen(artery: &Artery, low: &SearchBox, high: &SearchBox) -> Parts
+    requires low { IsBoxOf artery.now low.now }
+    requires high { IsBoxOf artery.now high.now }
+{
+    let single = [low.is_single(), high.is_single()];
+    (spans(artery, low), spans(artery, high), single)
+}
+
+fn parts_of(
     alloc: Global,
-    street: Street,
+    artery: &Artery,
+    area: &SearchBox,
     place: At,
-) -> Result<Option<([Span; 3], [Span; 3], [bool; 2])>, Fail> {
-    let artery = artery(alloc, street)?;
-    let area = root(alloc, &artery)?;
-    match split(alloc, &artery, &area, place)? {
+) -> Result<Option<Parts>, Fail>
+    requires { IsBoxOf artery.now area.now }
+{
+    match split(alloc, artery, area, place)? {
         None => Ok(None),
-        Some((low, high)) => {
-            let single = [low.is_single(), high.is_single()];
-            Ok(Some((spans(&artery, &low), spans(&artery, &high), single)))
-        }
+        Some((low, high)) => Ok(Some(seen(artery, &low, &high))),
     }
 }
 
+/// Both parts of the root box.
+fn parts(alloc: Global, street: Street, place: At) -> Result<Option<Parts>, Fail> {
+    let artery = artery(alloc, street)?;
+    let area = root(alloc, &artery)?;
+    parts_of(alloc, &artery, &area, place)
+}
+
+const HALVES: Parts = (
+    [[0, 0], [0, 0], [0, 0]],
+    [[1, 1], [0, 0], [0, 0]],
+    [true, true],
+);
+
+const RANKS: Parts = (
+    [[0, 1], [0, 0], [0, 0]],
+    [[0, 1], [0, 0], [1, 2]],
+    [false, false],
+);
+
+/// Places at which a root box is split into two parts.
+static SPLITS: [(Street, At, Parts); 2] = [
+    (NEAR, At::Loop { link: 1, at: 0 }, HALVES),
+    (WITH_LEFTS, At::Turn { signal: 2, rank: 0 }, RANKS),
+];
+
+/// Places at which it isn't.
+static NO_SPLITS: [(Street, At); 8] = [
+    (NEAR, At::Loop { link: 1, at: 1 }),
+    (NEAR, At::Loop { link: 1, at: -1 }),
+    (NEAR, At::Loop { link: 0, at: 0 }),
+    (NEAR, At::Loop { link: 2, at: 0 }),
+    (NEAR, At::Turn { signal: 2, rank: 0 }),
+    (NEAR, At::Turn { signal: 0, rank: 0 }),
+    (WITH_LEFTS, At::Turn { signal: 2, rank: 2 }),
+    (WITH_LEFTS, At::Turn { signal: 3, rank: 0 }),
+];
+
 #[test]
 fn splits(rt: HostRuntime) -> Result<(), Fail> {
-    let one_rank = span(0, 0);
-    let halves = Some((
-        [span(0, 0), one_rank, one_rank],
-        [span(1, 1), one_rank, one_rank],
-        [true, true],
-    ));
-    let ranks = Some((
-        [span(0, 1), one_rank, span(0, 0)],
-        [span(0, 1), one_rank, span(1, 2)],
-        [false, false],
-    ));
-    let rows = [
-        (near(), At::Loop { link: 1, at: 0 }, halves),
-        (near(), At::Loop { link: 1, at: 1 }, None),
-        (near(), At::Loop { link: 1, at: -1 }, None),
-        (near(), At::Loop { link: 0, at: 0 }, None),
-        (near(), At::Loop { link: 2, at: 0 }, None),
-        (near(), At::Turn { signal: 2, rank: 0 }, None),
-        (near(), At::Turn { signal: 0, rank: 0 }, None),
-        (with_lefts(), At::Turn { signal: 2, rank: 0 }, ranks),
-        (with_lefts(), At::Turn { signal: 2, rank: 2 }, None),
-        (with_lefts(), At::Turn { signal: 3, rank: 0 }, None),
-    ];
-    for (street, place, expected) in rows {
-        assert!(rt; parts(rt.alloc(), street, place)? == expected);
+    for (street, place, expected) in SPLITS {
+        assert!(rt; parts(rt.alloc(), street, place)? == Some(expected));
+    }
+    for (street, place) in NO_SPLITS {
+        assert!(rt; parts(rt.alloc(), street, place)?.is_none());
     }
     Ok(())
 }
 
-/// The span that stood at a place of the root box, and the one that stands there after another was put; None where
-/// either box can't be split there.
+/// The span at a place where the box can be split.
+fn span_at(area: &SearchBox, place: At) -> Option<Span> {
+    if area.is_place(place) {
+        return Some(area.span_at(place));
+    }
+    None
+}
+
+/// Puts a span at a place where the box can be split, and answers the one that stood there.
+fn put(area: &mut SearchBox, place: At, new: Span) -> Option<Span> {
+    if area.is_place(place) && are_ranks(new) {
+        return Some(area.replace(place, new));
+    }
+    None
+}
+
+/// The span that stood at a place, and the one that stands there after another was put; None where either box can't be
+/// split there.
+fn replaced_in(area: &mut SearchBox, place: At, new: Ends) -> Option<(Ends, Ends)> {
+    let [least, most] = new;
+    let former = put(area, place, Span { least, most })?;
+    Some((ends(former), ends(span_at(area, place)?)))
+}
+
+/// The same of the root box.
 fn replaced(
     alloc: Global,
     street: Street,
     place: At,
-    new: Span,
-) -> Result<Option<(Span, Span)>, Fail> {
+    new: Ends,
+) -> Result<Option<(Ends, Ends)>, Fail> {
     let artery = artery(alloc, street)?;
     let mut area = root(alloc, &artery)?;
-    if !area.is_place(place) || !are_ranks(new) {
-        return Ok(None);
-    }
-    let former = area.replace(place, new);
-    if !area.is_place(place) {
-        return Ok(None);
-    }
-    Ok(Some((former, area.span_at(place))))
+    Ok(replaced_in(&mut area, place, new))
 }
 
 fn are_ranks(span: Span) -> bool
@@ -298,29 +334,22 @@ fn are_ranks(span: Span) -> bool
     0 <= span.least && span.least <= 9 && 0 <= span.most && span.most <= 9
 }
 
+const SUMS: At = At::Loop { link: 1, at: 0 };
+
+const SECOND_RANKS: At = At::Turn { signal: 2, rank: 1 };
+
+static REPLACEMENTS: [(Street, At, Ends, Option<(Ends, Ends)>); 6] = [
+    (NEAR, SUMS, [0, 3], Some(([0, 1], [0, 3]))),
+    (NEAR, SUMS, [1, 1], None),
+    (NEAR, At::Loop { link: 2, at: 0 }, [0, 3], None),
+    (WITH_LEFTS, SUMS, [0, 2], Some(([0, 1], [0, 2]))),
+    (WITH_LEFTS, SECOND_RANKS, [1, 2], Some(([0, 2], [1, 2]))),
+    (WITH_LEFTS, SECOND_RANKS, [0, 1], None),
+];
+
 #[test]
 fn replacements(rt: HostRuntime) -> Result<(), Fail> {
-    let sums = At::Loop { link: 1, at: 0 };
-    let ranks = At::Turn { signal: 2, rank: 1 };
-    let rows = [
-        (near(), sums, span(0, 3), Some((span(0, 1), span(0, 3)))),
-        (near(), sums, span(1, 1), None),
-        (near(), At::Loop { link: 2, at: 0 }, span(0, 3), None),
-        (
-            with_lefts(),
-            sums,
-            span(0, 2),
-            Some((span(0, 1), span(0, 2))),
-        ),
-        (
-            with_lefts(),
-            ranks,
-            span(1, 2),
-            Some((span(0, 2), span(1, 2))),
-        ),
-        (with_lefts(), ranks, span(0, 1), None),
-    ];
-    for (street, place, new, expected) in rows {
+    for (street, place, new, expected) in REPLACEMENTS {
         assert!(rt; replaced(rt.alloc(), street, place, new)? == expected);
     }
     Ok(())

@@ -1,11 +1,12 @@
 //! Worked rows: two signals and a cycle of 100 parts, where a metre takes a tenth of a second.
 
+use super::given::{four, pair, street, timing};
 use artery_model::{Artery, Pair};
 use narrow_fraction::{Frac, Op, Wide};
 use progression::Dir;
-use sample_streets::{SampleHead, SampleLink, plain_head, plain_link, plain_signal, sample_street};
+use sample_streets::{SampleHead, SampleLink, plain_head, plain_link, plain_signal};
 use second_plan::{Plan, PlanEnd, PlanFault, plan};
-use std::alloc::Global;
+use std::alloc::{AllocError, Global};
 use std::test::Fail;
 use test_bed::{Reader, Record, all_told, fraction, with_changes};
 use time_space::{Timing, holds};
@@ -57,13 +58,6 @@ static PLANS: [&str; 16] = [
     "apart 505 505|least 0 50|red 0 99|first 100 199|band 98 100 -> Least { dir: Inbound }",
 ];
 
-/// The two numbers behind a name over that denominator.
-fn pair(record: Record<'_>, name: &str, den: i128) -> Result<Pair, Fail> {
-    let least = record.quotient(name, 0, den)?;
-    let most = record.quotient(name, 1, den)?;
-    Ok(Pair { least, most })
-}
-
 fn head_of(cycle: Pair, ratio: Frac, least: Pair, equal: bool) -> SampleHead {
     SampleHead {
         version: 2,
@@ -76,23 +70,25 @@ fn head_of(cycle: Pair, ratio: Frac, least: Pair, equal: bool) -> SampleHead {
     }
 }
 
-fn head(record: Record<'_>) -> Result<SampleHead, Fail> {
+fn ratio(record: Record<'_>) -> Result<Frac, Fail> {
+    let den = record.number("ratio", 1)?;
+    record.quotient("ratio", 0, den)
+}
+
+fn head(record: Record<'_>, equal: bool) -> Result<SampleHead, Fail> {
     let (cycle, least) = (pair(record, "cycle", 10)?, pair(record, "least", 100)?);
-    let ratio = record.quotient("ratio", 0, record.number("ratio", 1)?)?;
-    Ok(head_of(cycle, ratio, least, record.is_set("equal")?))
+    Ok(head_of(cycle, ratio(record)?, least, equal))
 }
 
 fn artery(alloc: Global, record: Record<'_>) -> Result<Artery, Fail> {
+    let places = [("apart", 0), ("apart", 1), ("parts", 0), ("equal", 0)];
+    let [distance_out, distance_in, red, equal] = four(record, places)?;
     let link = SampleLink {
-        distance_in: record.small("apart", 1)?,
-        ..plain_link(record.small("apart", 0)?)
+        distance_in,
+        ..plain_link(distance_out)
     };
-    let red = record.small("parts", 0)?;
     let signals = [plain_signal("A", red), plain_signal("B", red)];
-    match sample_street(alloc, head(record)?, &signals, &[link]) {
-        Ok(artery) => Ok(artery),
-        Err(_) => Err("no artery".into()),
-    }
+    street(alloc, head(record, equal == 1)?, &signals, &[link])
 }
 
 fn number<T: Copy>(numbers: &[T], place: usize) -> Result<T, Fail> {
@@ -141,29 +137,44 @@ fn plan_text(alloc: Global, plan: &Plan) -> Result<String, Fail> {
 }
 
 /// Why there is no plan.
-fn end_text(alloc: Global, end: PlanEnd) -> Result<String, Fail> {
-    Ok(match end {
-        PlanEnd::NoTimingGiven => String::from_str(alloc, "no timing given")?,
-        PlanEnd::NoWholeCycle => String::from_str(alloc, "no whole cycle")?,
-        PlanEnd::TooFine { ticks } => format!(in alloc; "ticks {ticks}")?,
-        PlanEnd::NoLine { dir: Dir::Outbound } => String::from_str(alloc, "no line outbound")?,
-        PlanEnd::NoLine { dir: Dir::Inbound } => String::from_str(alloc, "no line inbound")?,
-        PlanEnd::Fails(failing) => format!(in alloc; "{failing:?}")?,
-        PlanEnd::Wide(wide) => format!(in alloc; "{wide:?}")?,
-    })
+fn end_text(alloc: Global, end: PlanEnd) -> Result<String, AllocError> {
+    match end {
+        PlanEnd::NoTimingGiven => String::from_str(alloc, "no timing given"),
+        PlanEnd::NoWholeCycle => String::from_str(alloc, "no whole cycle"),
+        PlanEnd::TooFine { ticks } => format!(in alloc; "ticks {ticks}"),
+        PlanEnd::NoLine { dir: Dir::Outbound } => String::from_str(alloc, "no line outbound"),
+        PlanEnd::NoLine { dir: Dir::Inbound } => String::from_str(alloc, "no line inbound"),
+        PlanEnd::Fails(failing) => format!(in alloc; "{failing:?}"),
+        PlanEnd::Wide(wide) => format!(in alloc; "{wide:?}"),
+    }
+}
+
+/// The answer, but for want of memory.
+fn ended(answer: Result<Plan, PlanFault>) -> Result<Result<Plan, PlanEnd>, Fail> {
+    match answer {
+        Ok(plan) => Ok(Ok(plan)),
+        Err(PlanFault::End(end)) => Ok(Err(end)),
+        Err(PlanFault::Memory) => Err("no memory".into()),
+    }
+}
+
+/// The plan of a timing that is good.
+fn plan_of(
+    alloc: Global,
+    artery: &Artery,
+    claim: Frac,
+    timing: &Timing,
+) -> Result<Result<Plan, PlanEnd>, Fail> {
+    match holds(artery, timing) {
+        Ok(()) => ended(plan(alloc, artery, claim, timing)),
+        Err(_) => Err("not good".into()),
+    }
 }
 
 fn planned(alloc: Global, record: Record<'_>, claim: Frac) -> Result<Result<Plan, PlanEnd>, Fail> {
     let artery = artery(alloc, record)?;
-    let timing = record.timing(alloc)?.ok_or("no timing")?;
-    match holds(&artery, &timing) {
-        Err(_) => Err("not good".into()),
-        Ok(()) => match plan(alloc, &artery, claim, &timing) {
-            Ok(plan) => Ok(Ok(plan)),
-            Err(PlanFault::End(end)) => Ok(Err(end)),
-            Err(PlanFault::Memory) => Err("no memory".into()),
-        },
-    }
+    let timing = timing(alloc, record)?;
+    plan_of(alloc, &artery, claim, &timing)
 }
 
 /// Plans the timing of a street, whose value is claimed to be 1.
@@ -174,7 +185,7 @@ impl Reader for Planner {
     fn answer(&self, alloc: Global, text: &[u8]) -> Result<String, Fail> {
         match planned(alloc, Record::new(text)?, Frac::whole(1))? {
             Ok(plan) => plan_text(alloc, &plan),
-            Err(end) => end_text(alloc, end),
+            Err(end) => Ok(end_text(alloc, end)?),
         }
     }
 }

@@ -1,11 +1,11 @@
 //! Which rule a timing breaks first.
 
-use super::streets::{artery, parts_of, signal, street_of, street_text, timing};
+use super::streets::{artery, parts_of, signal, street_of, street_text, street_with, timing};
 use artery_model::Artery;
 use sample_streets::{SampleLink, plain_link, range};
 use std::alloc::{AllocError, Global};
 use std::test::Fail;
-use test_bed::{Reader, Record, all_told, with_changes};
+use test_bed::{Reader, Record, all_told};
 use time_space::{Failing, Timing, base_holds, holds};
 
 /// Changes of `street_text`, and the first rule that is broken.
@@ -116,11 +116,21 @@ fn judged(artery: &Artery, timing: &Timing, speak_of_bands: bool) -> Result<(), 
     }
 }
 
+fn judged_told(
+    alloc: Global,
+    artery: &Artery,
+    timing: &Timing,
+    speak_of_bands: bool,
+) -> Result<String, Fail> {
+    Ok(told(alloc, judged(artery, timing, speak_of_bands))?)
+}
+
 impl Reader for Rules {
     fn answer(&self, alloc: Global, text: &[u8]) -> Result<String, Fail> {
         let record = Record::new(text)?;
-        let (artery, timing) = (artery(alloc, record)?, timing(alloc, record)?);
-        Ok(told(alloc, judged(&artery, &timing, self.speak_of_bands))?)
+        let artery = artery(alloc, record)?;
+        let timing = timing(alloc, record)?;
+        judged_told(alloc, &artery, &timing, self.speak_of_bands)
     }
 }
 
@@ -133,7 +143,7 @@ struct RulesOf<'a> {
 impl Reader for RulesOf<'_> {
     fn answer(&self, alloc: Global, text: &[u8]) -> Result<String, Fail> {
         let timing = timing(alloc, Record::new(text)?)?;
-        Ok(told(alloc, judged(self.artery, &timing, true))?)
+        judged_told(alloc, self.artery, &timing, true)
     }
 }
 
@@ -152,7 +162,7 @@ fn long_artery(alloc: Global) -> Result<Artery, Fail> {
     };
     let plain = parts_of(50);
     let signals = [signal("A", plain), signal("B", plain), signal("C", plain)];
-    let halved = with_changes(alloc, street_text(alloc)?.as_str(), "halves 1")?;
+    let halved = street_with(alloc, "halves 1")?;
     street_of(
         alloc,
         Record::new(halved.as_bytes())?,
@@ -161,28 +171,41 @@ fn long_artery(alloc: Global) -> Result<Artery, Fail> {
     )
 }
 
+/// Judges the timing of two signals with each of the cases, by all rules or by those that speak of no band.
+fn two_are_judged(
+    alloc: Global,
+    changes: &str,
+    speak_of_bands: bool,
+    cases: &[&str],
+) -> Result<(), Fail> {
+    let street = street_with(alloc, changes)?;
+    all_told(alloc, &Rules { speak_of_bands }, street.as_str(), cases)
+}
+
+/// The limits of three signals alone, and then two rules broken at once, or one at two places: the first is named.
+fn three_are_judged(alloc: Global, artery: &Artery) -> Result<(), Fail> {
+    all_told(alloc, &RulesOf { artery }, LINES, &THREE_SIGNALS)
+}
+
+/// A pattern that isn't allowed, and too few signals.
+fn two_of_three_are_judged(alloc: Global, artery: &Artery) -> Result<(), Fail> {
+    let street = street_text(alloc)?;
+    let cases = ["pattern 1 2 -> Shape"];
+    all_told(alloc, &RulesOf { artery }, street.as_str(), &cases)
+}
+
+fn long_are_judged(alloc: Global) -> Result<(), Fail> {
+    let artery = long_artery(alloc)?;
+    three_are_judged(alloc, &artery)?;
+    two_of_three_are_judged(alloc, &artery)
+}
+
 #[test]
 fn the_first_broken_rule_is_named(rt: HostRuntime) -> Result<(), Fail> {
     let alloc = rt.alloc();
-    let street = street_text(alloc)?;
-    let (all, no_band) = (
-        Rules {
-            speak_of_bands: true,
-        },
-        Rules {
-            speak_of_bands: false,
-        },
-    );
-    all_told(alloc, &all, street.as_str(), &TWO_SIGNALS)?;
-    // The limits of three signals alone, and then two rules broken at once, or one at two places: the first is named.
-    let artery = long_artery(alloc)?;
-    let rules = RulesOf { artery: &artery };
-    all_told(alloc, &rules, LINES, &THREE_SIGNALS)?;
-    // A pattern that isn't allowed, and too few signals.
-    all_told(alloc, &rules, street.as_str(), &["pattern 1 2 -> Shape"])?;
-    let free = with_changes(alloc, street.as_str(), "version 2|band 100 99")?;
-    all_told(alloc, &all, free.as_str(), &LEAST_AND_EQUAL)?;
+    two_are_judged(alloc, "", true, &TWO_SIGNALS)?;
+    long_are_judged(alloc)?;
+    two_are_judged(alloc, "version 2|band 100 99", true, &LEAST_AND_EQUAL)?;
     // Firsts and bands play no part in the rules that speak of no band.
-    let wide = with_changes(alloc, street.as_str(), "first 50 200|band 101 101")?;
-    all_told(alloc, &no_band, wide.as_str(), &NO_BAND)
+    two_are_judged(alloc, "first 50 200|band 101 101", false, &NO_BAND)
 }

@@ -1,14 +1,13 @@
 //! The streets and timings of the worked rows: two signals, parts 100, unless a row says otherwise.
 
-use artery_model::Artery;
+pub use crate::tests::given::timing;
+use crate::tests::given::{four, pair, street, two};
+use artery_model::{Artery, Pair};
 use narrow_fraction::Frac;
-use sample_streets::{
-    SampleHead, SampleLink, SampleSignal, plain_head, plain_link, plain_signal, sample_street,
-};
+use sample_streets::{SampleHead, SampleLink, SampleSignal, plain_head, plain_link, plain_signal};
 use std::alloc::{AllocError, Global};
 use std::test::Fail;
-use test_bed::{Record, WHOLE_GREEN};
-use time_space::Timing;
+use test_bed::{Record, WHOLE_GREEN, with_changes};
 
 /// Two signals 500 metres apart, and bands as wide as their greens. The inbound band counts so many halves, least bands are so many
 /// tenths of the cycle; the red in parts, the lefts and the clearance are those of signal 2. A part has two ticks.
@@ -19,29 +18,31 @@ pub fn street_text(alloc: Global) -> Result<String, AllocError> {
     )
 }
 
-/// Changes of it: 250 metres, where one band alone takes a green.
+/// The text of these streets with these changes.
+pub fn street_with(alloc: Global, changes: &str) -> Result<String, Fail> {
+    let street = street_text(alloc)?;
+    Ok(with_changes(alloc, street.as_str(), changes)?)
+}
+
+/// Changes of that text: 250 metres, where one band alone takes a green.
 pub static HALF_BAND: &str = "apart 250|red 0 50|run_out 50|run_in 50|first 100 150|band 100 0";
 
-fn head_of(version: u32, ratio: Frac, least: [Frac; 2], equal: bool) -> SampleHead {
+fn head_of(version: u32, ratio: Frac, least: Pair, equal: bool) -> SampleHead {
     SampleHead {
         version,
         ratio,
-        least_out: least[0],
-        least_in: least[1],
+        least_out: least.least,
+        least_in: least.most,
         equal,
         ..plain_head()
     }
 }
 
 fn head(record: Record<'_>) -> Result<SampleHead, Fail> {
-    let (version, ratio) = (
-        record.small("version", 0)?,
-        record.quotient("halves", 0, 2)?,
-    );
-    let least_out = record.quotient("least", 0, 10)?;
-    let least_in = record.quotient("least", 1, 10)?;
-    let equal = record.is_set("equal")?;
-    Ok(head_of(version, ratio, [least_out, least_in], equal))
+    let [version, equal] = two(record, [("version", 0), ("equal", 0)])?;
+    let ratio = record.quotient("halves", 0, 2)?;
+    let least = pair(record, "least", 10)?;
+    Ok(head_of(version, ratio, least, equal == 1))
 }
 
 /// What differs between signals: the red, both left turns and the outbound clearance.
@@ -78,26 +79,18 @@ pub fn street_of(
     signals: &[SampleSignal],
     links: &[SampleLink],
 ) -> Result<Artery, Fail> {
-    match sample_street(alloc, head(record)?, signals, links) {
-        Ok(artery) => Ok(artery),
-        Err(_) => Err("no artery".into()),
-    }
+    street(alloc, head(record)?, signals, links)
 }
 
 pub fn artery(alloc: Global, record: Record<'_>) -> Result<Artery, Fail> {
+    let places = [("parts", 0), ("left", 0), ("clear", 0), ("apart", 0)];
+    let [red, left, clear_out, apart] = four(record, places)?;
     let second = Parts {
-        red: record.small("parts", 0)?,
-        left: record.small("left", 0)?,
-        clear_out: record.small("clear", 0)?,
+        red,
+        left,
+        clear_out,
     };
     let signals = [signal("A", parts_of(50)), signal("B", second)];
-    let links = [plain_link(record.small("apart", 0)?)];
+    let links = [plain_link(apart)];
     street_of(alloc, record, &signals, &links)
-}
-
-pub fn timing(alloc: Global, record: Record<'_>) -> Result<Timing, Fail> {
-    match record.timing(alloc)? {
-        Some(timing) => Ok(timing),
-        None => Err("no timing".into()),
-    }
 }

@@ -1,6 +1,6 @@
 //! What a timing is worth, what is seen at a signal, and its numbers.
 
-use super::streets::{HALF_BAND, artery, street_text, timing};
+use super::streets::{HALF_BAND, artery, street_text, street_with, timing};
 use artery_model::Artery;
 use progression::Dir;
 use std::alloc::Global;
@@ -18,11 +18,17 @@ fn worth(artery: &Artery, timing: &Timing) -> (i128, i128) {
     (found.num(), found.den())
 }
 
+fn worth_told(alloc: Global, artery: &Artery, timing: &Timing) -> Result<String, Fail> {
+    let (num, den) = worth(artery, timing);
+    Ok(format!(in alloc; "{num}/{den}")?)
+}
+
 impl Reader for Weighted {
     fn answer(&self, alloc: Global, text: &[u8]) -> Result<String, Fail> {
         let record = Record::new(text)?;
-        let (num, den) = worth(&artery(alloc, record)?, &timing(alloc, record)?);
-        Ok(format!(in alloc; "{num}/{den}")?)
+        let artery = artery(alloc, record)?;
+        let timing = timing(alloc, record)?;
+        worth_told(alloc, &artery, &timing)
     }
 }
 
@@ -73,13 +79,16 @@ fn is_all_seen(artery: &Artery, timing: &Timing) -> bool {
     true
 }
 
+fn is_seen_of(alloc: Global, street: Record<'_>) -> Result<bool, Fail> {
+    let artery = artery(alloc, street)?;
+    let timing = timing(alloc, street)?;
+    Ok(is_all_seen(&artery, &timing))
+}
+
 #[test]
 fn what_is_seen_at_a_signal(rt: HostRuntime) -> Result<(), Fail> {
     let text = street_text(rt.alloc())?;
-    let street = Record::new(text.as_bytes())?;
-    let artery = artery(rt.alloc(), street)?;
-    let timing = timing(rt.alloc(), street)?;
-    assert!(rt; is_all_seen(&artery, &timing));
+    assert!(rt; is_seen_of(rt.alloc(), Record::new(text.as_bytes())?)?);
     Ok(())
 }
 
@@ -123,14 +132,20 @@ fn is_outside(alloc: Global, base: &str, change: &str) -> Result<bool, Fail> {
     Ok(record.timing(alloc)?.is_none())
 }
 
+fn are_outside(alloc: Global, base: &str) -> Result<bool, Fail> {
+    Ok(is_outside(alloc, base, "grid 0")? && is_outside(alloc, base, "pattern 1 5")?)
+}
+
+fn is_read_back(alloc: Global, half_band: &str) -> Result<bool, Fail> {
+    let read = timing(alloc, Record::new(half_band.as_bytes())?)?;
+    Ok(has_numbers(&read) && has_lists(&read, &[1, 1], &[0, 50], [&[50], &[50]]))
+}
+
 #[test]
 fn a_timing_is_read_back(rt: HostRuntime) -> Result<(), Fail> {
     let alloc = rt.alloc();
-    let half_band = with_changes(alloc, street_text(alloc)?.as_str(), HALF_BAND)?;
-    let read = timing(alloc, Record::new(half_band.as_bytes())?)?;
-    assert!(rt; has_numbers(&read));
-    assert!(rt; has_lists(&read, &[1, 1], &[0, 50], [&[50], &[50]]));
-    assert!(rt; is_outside(alloc, half_band.as_str(), "grid 0")?);
-    assert!(rt; is_outside(alloc, half_band.as_str(), "pattern 1 5")?);
+    let half_band = street_with(alloc, HALF_BAND)?;
+    assert!(rt; is_read_back(alloc, half_band.as_str())?);
+    assert!(rt; are_outside(alloc, half_band.as_str())?);
     Ok(())
 }
