@@ -2,7 +2,7 @@
 
 use crate::draws::Draws;
 use crate::make_artery;
-use artery_model::{Artery, Units};
+use artery_model::{Artery, Head, Link, Pair, Signal, Units};
 use narrow_fraction::Frac;
 use std::alloc::Global;
 use std::process::Abort;
@@ -37,36 +37,50 @@ const LAST_LENGTHS: [u32; 15] = [
     320, 240, 230, 360, 280, 270, 390, 290, 580, 200, 220, 420, 360, 520, 600,
 ];
 
-fn expect_signals(rt: &impl Abort, artery: &Artery, rows: &[Row]) {
-    assert_eq!(rt; artery.signals().len(), rows.len());
-    for (signal, (name, red, left_out, left_in)) in artery.signals().iter().zip(rows) {
-        assert_eq!(rt; signal.name.as_str(), *name);
-        assert_eq!(rt; signal.red, *red, "{name}");
-        assert_eq!(rt; signal.left_out, *left_out, "{name}");
-        assert_eq!(rt; signal.left_in, *left_in, "{name}");
-        assert_eq!(rt; signal.patterns, [true; 4], "{name}");
-        assert_eq!(rt; (signal.clear_out, signal.clear_in), (0, 0), "{name}");
-    }
+fn is_row(signal: &Signal, row: &Row) -> bool {
+    let (name, red, left_out, left_in) = *row;
+    signal.name.as_str() == name
+        && [signal.red, signal.left_out, signal.left_in] == [red, left_out, left_in]
+        && signal.patterns == [true; 4]
+        && [signal.clear_out, signal.clear_in] == [0, 0]
 }
 
-fn expect_links(rt: &impl Abort, artery: &Artery, lengths: &[u32]) {
-    assert_eq!(rt; artery.links().len(), lengths.len());
-    for (link, length) in artery.links().iter().zip(lengths) {
-        assert_eq!(rt; (link.distance_out, link.distance_in), (*length, *length));
-        for speed in [link.speed_out, link.speed_in] {
-            assert!(rt; speed.least == Frac::whole(40) && speed.most == Frac::whole(60));
+fn has_signals(artery: &Artery, rows: &[Row]) -> bool {
+    for (signal, row) in artery.signals().iter().zip(rows) {
+        if !is_row(signal, row) {
+            return false;
         }
-        assert!(rt; link.change_out.is_none() && link.change_in.is_none());
     }
+    artery.signals().len() == rows.len()
 }
 
-fn expect_head(rt: &impl Abort, artery: &Artery) {
-    let head = artery.head();
-    assert!(rt; head.name.is_none());
-    assert_eq!(rt; head.units, Units::Metric);
-    assert_eq!(rt; head.parts, 100);
-    assert!(rt; head.cycle.least == Frac::whole(60) && head.cycle.most == Frac::whole(100));
-    assert!(rt; head.ratio == Frac::whole(1));
+fn is_range(pair: Pair, least: i64, most: i64) -> bool {
+    pair.least == Frac::whole(least) && pair.most == Frac::whole(most)
+}
+
+fn is_link(link: &Link, length: u32) -> bool {
+    [link.distance_out, link.distance_in] == [length, length]
+        && is_range(link.speed_out, 40, 60)
+        && is_range(link.speed_in, 40, 60)
+        && link.change_out.is_none()
+        && link.change_in.is_none()
+}
+
+fn has_links(artery: &Artery, lengths: &[u32]) -> bool {
+    for (link, length) in artery.links().iter().zip(lengths) {
+        if !is_link(link, *length) {
+            return false;
+        }
+    }
+    artery.links().len() == lengths.len()
+}
+
+fn is_head(head: &Head) -> bool {
+    head.name.is_none()
+        && head.units == Units::Metric
+        && head.parts == 100
+        && is_range(head.cycle, 60, 100)
+        && head.ratio == Frac::whole(1)
 }
 
 fn made(rt: &impl Abort, alloc: Global, signals: u32, seed: u64) -> Artery {
@@ -88,15 +102,15 @@ fn the_first_draws_of_seed_0(rt: HostRuntime) {
 #[test]
 fn two_signals_of_seed_0(rt: HostRuntime) {
     let artery = made(&rt, rt.alloc(), 2, 0);
-    expect_head(&rt, &artery);
-    expect_signals(&rt, &artery, &SEED_0);
-    expect_links(&rt, &artery, &LENGTHS_0);
+    assert!(rt; is_head(artery.head()));
+    assert!(rt; has_signals(&artery, &SEED_0));
+    assert!(rt; has_links(&artery, &LENGTHS_0));
 }
 
 #[test]
 fn sixteen_signals_of_the_last_seed(rt: HostRuntime) {
     let artery = made(&rt, rt.alloc(), 16, u64::MAX);
-    expect_head(&rt, &artery);
-    expect_signals(&rt, &artery, &LAST_SEED);
-    expect_links(&rt, &artery, &LAST_LENGTHS);
+    assert!(rt; is_head(artery.head()));
+    assert!(rt; has_signals(&artery, &LAST_SEED));
+    assert!(rt; has_links(&artery, &LAST_LENGTHS));
 }
