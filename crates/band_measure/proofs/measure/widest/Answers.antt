@@ -2,6 +2,7 @@ use Rattle.std.proofs.Common.{◌≡◌, ◌≤◌, arith, subst}
 use Rattle.progression.specs.Street.{count}
 use Rattle.band_measure.specs.Tried.{FoundOfEdges}
 use Rattle.band_measure.proofs.Tries.{widest_of_edges, some_run, first_below_cycle, band_below_cycle}
+use Rattle.std.proofs.lemmas.Grind.{common_steps}
 use Rattle.band_measure.proofs.measure.widest.Goals as goal
 
 pub returns : goal.returns
@@ -15,3 +16,6 @@ returns c =
       first = first_below_cycle c.args.artery.now c.args.timing.now c.args.dir c.loop-place.best found;
       band = band_below_cycle c.args.artery.now c.args.timing.now c.args.dir c.loop-place.best c.known_valid.ensures two found;
     }
+
+pub with_edge-best-requires : goal.with_edge-best-requires
+with_edge-best-requires c = grind (arith, common_steps)

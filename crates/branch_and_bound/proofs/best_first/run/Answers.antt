@@ -1,8 +1,9 @@
-use Rattle.std.proofs.Common.{◌∙◌, subst, Some, IfOk}
+use Rattle.std.proofs.Common.{◌∙◌, subst, Some, IfOk, arith}
 use Rattle.branch_and_bound.specs.Matchings.{Matches}
 use Rattle.branch_and_bound.specs.State.{IsShown}
 use Rattle.branch_and_bound.specs.Answer.{IsFound}
 use Rattle.branch_and_bound.proofs.Halting.{undone_answer}
+use Rattle.std.proofs.lemmas.Grind.{common_steps}
 use Rattle.branch_and_bound.proofs.best_first.run.Goals as goal
 
 pub splits-preserved : goal.splits-preserved
@@ -37,3 +38,6 @@ finish-requires-clause-settled g c = rw c.as_slice.ensures.value at c.in_default
 
 pub returns : goal.returns
 returns g c = subst (λ limit. IfOk c.finish.result (IsFound (g.P.Relaxation.rules c.args.relaxation.now) limit)) c.splits.invariant.limit c.finish.ensures
+
+pub splits-smaller : goal.splits-smaller
+splits-smaller g c = grind (arith, common_steps)

@@ -1,9 +1,10 @@
-use Rattle.std.proofs.Common.{refl, sym, subst, ◌∷◌, []}
+use Rattle.std.proofs.Common.{refl, sym, subst, ◌∷◌, [], arith}
 use Rattle.branch_and_bound.specs.Lines.{top_line}
 use Rattle.branch_and_bound.specs.OpenedNodes.{Opens}
 use Rattle.branch_and_bound.specs.State.{IsSearchState}
 use Rattle.work_meter.specs.declared.meter.Meter.{Meter}
 use Rattle.branch_and_bound.proofs.Rooting.{root_holds, root_stuck, root_left}
+use Rattle.std.proofs.lemmas.Grind.{common_steps}
 use Rattle.branch_and_bound.proofs.best_first.search.Goals as goal
 
 pub run-requires-clause-holds : goal.run-requires-clause-holds
@@ -44,3 +45,6 @@ returns-in_ok-tree-in-Left g c =
       timing = c.halt-in-Left.ensures.timing;
       answer = rw (c.halt-in-Left.ensures.nodes, c.halt-in-Left.ensures.bound, c.halt-in-Left.ensures.spent, c.halt-in-Left.ensures.verdict, c.settle.ensures.meter, c.in_ok-tree-in-Left.ensures) h;
     }
+
+pub run-requires-clause-within : goal.run-requires-clause-within
+run-requires-clause-within g c = grind (arith, common_steps)

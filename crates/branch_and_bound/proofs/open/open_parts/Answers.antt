@@ -1,8 +1,9 @@
-use Rattle.std.proofs.Common.{◌∙◌}
+use Rattle.std.proofs.Common.{◌∙◌, arith}
 use Rattle.std.proofs.lemmas.Result.{err_from_is_err_and}
 use Rattle.branch_and_bound.specs.Lines.{low_line, high_line}
 use Rattle.branch_and_bound.specs.Lineages.{at_low}
 use Rattle.branch_and_bound.proofs.Settling.{low_is, high_is, low_halted, high_halted}
+use Rattle.std.proofs.lemmas.Grind.{common_steps}
 use Rattle.branch_and_bound.proofs.open.open_parts.Goals as goal
 
 pub open_side-requires-clause-part : goal.open_side-requires-clause-part
@@ -48,3 +49,6 @@ returns-in_err-high-clause-limit g c = c.in_err-high.ensures.limit ∙ c.in_ok-l
 
 pub returns-clause-limit : goal.returns-clause-limit
 returns-clause-limit g c = c.in_ok-high.ensures.limit ∙ c.in_ok-low.ensures.limit
+
+pub returns-in_err-low_box : goal.returns-in_err-low_box
+returns-in_err-low_box g c = grind (arith, common_steps)

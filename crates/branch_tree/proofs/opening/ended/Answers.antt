@@ -1,8 +1,9 @@
-use Rattle.std.proofs.Common.{◌∙◌, ap, subst}
+use Rattle.std.proofs.Common.{◌∙◌, ap, subst, arith}
 use Rattle.work_meter.specs.Work.{capped}
 use Rattle.branch_tree.specs.Runs.{IsRunTo}
 use Rattle.branch_tree.specs.Meaning.{rules_from}
 use Rattle.branch_tree.proofs.Opens.{ok_map, read_opens, empty_opens}
+use Rattle.std.proofs.lemmas.Grind.{common_steps}
 use Rattle.branch_tree.proofs.opening.ended.Goals as goal
 
 pub returns-in-Optimal : goal.returns-in-Optimal
@@ -16,3 +17,9 @@ returns-in-Infeasible g c = ok_map c.infeasible_end.result _ _ (λ o h line befo
     let p = g.P.Sought.program c.args.program.now in
     let s = subst (IsRunTo p line c.args.tableau.now after run.k) c.in-Infeasible.is run.stops in
     empty_opens (rules_from p (g.P.Sought.meaning c.args.program.now)) line before after run.k s.0 run.leaves c.args.run.now.pivots run.pivots_are o (h line e s.1)) c.infeasible_end.ensures
+
+pub optimal_end-requires : goal.optimal_end-requires
+optimal_end-requires g c = grind (arith, common_steps)
+
+pub infeasible_end-requires : goal.infeasible_end-requires
+infeasible_end-requires g c = grind (arith, common_steps)

@@ -4,6 +4,7 @@ use Rattle.std.proofs.lemmas.List.{drop_all}
 use Rattle.certificate_model.specs.Warrants.{Node, node_of, AreTrees}
 use Rattle.certificate_checker.specs.TreeRefusals.{tree_refusal}
 use Rattle.certificate_checker.proofs.NodeRefusals.{first_moved, node_left, tree_in}
+use Rattle.std.proofs.lemmas.Grind.{common_steps}
 use Rattle.certificate_checker.proofs.walk.check_tree.Goals as goal
 
 pub returns-in_err-read-clause-first : goal.returns-in_err-read-clause-first
@@ -36,3 +37,9 @@ returns-clause-proof g c =
     let end = drop_all c.loop-index.index c.args.nodes.now (omega (arith, c.loop-index-test.false)) in
     tree_in rows c.args.aim.now 0 0 (c.args.root ∷ []) (map node_of c.args.nodes.now) c.requires.tree
     (c.loop-index.invariant.whole ∙ ap (λ ns. tree_refusal rows c.args.aim.now c.loop-index.index c.loop-index.walk.leaves c.loop-index.walk.owed (map node_of ns)) end)
+
+pub read-requires : goal.read-requires
+read-requires g c = grind (arith, common_steps)
+
+pub returns-clause-none : goal.returns-clause-none
+returns-clause-none g c = grind (arith, common_steps)

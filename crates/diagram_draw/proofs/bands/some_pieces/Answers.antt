@@ -1,4 +1,4 @@
-use Rattle.std.proofs.Common.{rules, ◌≡◌, FitsSigned}
+use Rattle.std.proofs.Common.{rules, ◌≡◌, FitsSigned, arith}
 use Rattle.std.specs.Int.{w128}
 use Rattle.std.proofs.lemmas.Int.{to_z-of_z}
 use Rattle.diagram_draw.specs.Bands.{piece, band_in_cycle}
@@ -21,3 +21,6 @@ loop-cycle-preserved c =
     let one : c.piece.result ≡ piece c.args.frame (band_in_cycle c.args.frame c.args.part k) = cc in
     let next = map_on (λ m. piece c.args.frame (band_in_cycle c.args.frame c.args.part m)) k in
     extended_one _ _ _ _ _ _ c.in_ok-push.ensures.items one c.loop-cycle.invariant next
+
+pub returns-in_err-push : goal.returns-in_err-push
+returns-in_err-push c = grind (arith, map_on)

@@ -1,5 +1,6 @@
-use Rattle.std.proofs.Common.{◌∙◌, append_assoc}
+use Rattle.std.proofs.Common.{◌∙◌, append_assoc, arith}
 use Rattle.diagram_draw.proofs.Chains.{with_one, with_more}
+use Rattle.std.proofs.lemmas.Grind.{common_steps}
 use Rattle.diagram_draw.proofs.bars.bar.Goals as goal
 
 pub returns : goal.returns
@@ -9,3 +10,6 @@ returns c =
     let three = with_more _ _ _ _ _ _ c.in_ok-extend_from_slice-2.ensures.items c.as_slice-2.ensures.value c.in_ok-common.ensures two in
     let four = with_more _ _ _ _ _ _ c.in_ok-extend_from_slice-3.ensures.items c.as_slice-3.ensures.value c.in_ok-turns.ensures three in
     four ∙ simp append_assoc
+
+pub returns-in_err-extend_from_slice-3 : goal.returns-in_err-extend_from_slice-3
+returns-in_err-extend_from_slice-3 c = grind (arith, common_steps)

@@ -9,6 +9,7 @@ use Rattle.named_row.specs.declared.leaves.Weight.{Weight}
 use Rattle.dual_leaf.specs.Leaves.{row_multipliers, multipliers_below}
 use Rattle.dual_leaf.proofs.LeafLaws.{multipliers_same}
 use Rattle.dual_leaf.proofs.Written.{row_read, ok_with}
+use Rattle.std.proofs.lemmas.Grind.{common_steps}
 use Rattle.dual_leaf.proofs.leaves.row_weights.Goals as goal
 
 pub returns-clause-list : goal.returns-clause-list
@@ -33,3 +34,9 @@ returns-clause-list c =
     ∙ ap₂ (λ x y. cond (eqb (x + r) (basic_at t i)) (whole (pos 1)) y) c.width.ensures.count (ap (λ (x : List ℚ). get_or x r (whole (pos 0))) b ∙ slack)) in
     ok_with c.named.result (λ (list : Vec Weight Global). list.items ≡ multipliers_below names (λ r. get_or c.deref.result.now r (whole (pos 0))) (length names)) (λ (list : Vec Weight Global). list.items ≡ row_multipliers c.args.tableau.now i)
     (λ list h. h ∙ same) c.named.ensures
+
+pub put_slacks-requires : goal.put_slacks-requires
+put_slacks-requires c = grind (arith, common_steps)
+
+pub named-requires : goal.named-requires
+named-requires c = grind (arith, common_steps)

@@ -1,9 +1,10 @@
-use Rattle.std.proofs.Common.{Some, Ok, sym, ◌∙◌, ap, ap₂, ltb}
+use Rattle.std.proofs.Common.{Some, Ok, sym, ◌∙◌, ap, ap₂, ltb, arith}
 use Rattle.rational_theory.specs.Rational.{neg_ℚ, ◌/ℚ◌}
 use Rattle.rational_theory.specs.Compare.{cmp_ℚ}
 use Rattle.simplex_theory.specs.BlandRule.{is_negative, less_by}
 use Rattle.narrow_fraction.proofs.Attempt.{attempt_ok}
 use Rattle.dual_simplex.proofs.Choices.{next_place}
+use Rattle.rational_theory.proofs.Compare.{lt_true, lt_false}
 use Rattle.dual_simplex.proofs.choose.better_place.Goals as goal
 
 pub returns-in-Ok-compare_ratios : goal.returns-in-Ok-compare_ratios
@@ -16,3 +17,9 @@ returns-in-Ok-compare_ratios c =
     c.in-Some.is c.requires.best
     (c.is_before-before.ensures ∙ ap (λ k. less_by k (ltb c.standing.result c.standing-in-Some.result)) o.1
     ∙ ap₂ (λ a d. less_by (cmp_ℚ (c.goal_row_cell.result /ℚ neg_ℚ c.copied.result) (b.goal /ℚ neg_ℚ b.cell)) (ltb a d)) c.standing.ensures c.standing-in-Some.ensures)
+
+pub first_place-requires : goal.first_place-requires
+first_place-requires c = grind (arith, lt_true, lt_false)
+
+pub compare_ratios-requires : goal.compare_ratios-requires
+compare_ratios-requires c = grind (arith, lt_true, lt_false)

@@ -5,6 +5,7 @@ use Rattle.rational_theory.specs.Rational.{ℚ, whole}
 use Rattle.narrow_fraction.specs.Attempt.{attempt}
 use Rattle.fraction_tableau.specs.KeptCells.{number_in}
 use Rattle.fraction_tableau.proofs.Zeros.{zero_row, zero_row_kept}
+use Rattle.std.proofs.lemmas.Grind.{common_steps}
 use Rattle.fraction_tableau.proofs.exchanging.clear_one.Goals as goal
 
 pub returns-then-is_zero-clause-outcome : goal.returns-then-is_zero-clause-outcome
@@ -21,3 +22,15 @@ returns-then-is_zero-clause-cleared c =
     (cond-false (eqb c.args.index c.args.pivot.now.row) c.args.sparse_rows.now _ (ne_eqb c.args.index c.args.pivot.now.row c.if-index-pivot.false)
     ∙ ap (set c.args.sparse_rows.now c.args.index) (sym (zero_row_kept c.args.pivot.now.place c.args.turned.now (get_or c.args.sparse_rows.now c.args.index []) c.requires.width (omega (arith, c.requires.width, c.requires.pivot.place)) z))
     ∙ set-get_or c.args.sparse_rows.now c.args.index [])
+
+pub held-factor-requires : goal.held-factor-requires
+held-factor-requires c = grind (arith, common_steps)
+
+pub clear-requires : goal.clear-requires
+clear-requires c = grind (arith, common_steps)
+
+pub returns-in-Err : goal.returns-in-Err
+returns-in-Err c = grind (arith, common_steps)
+
+pub returns : goal.returns
+returns c = grind (arith, common_steps)

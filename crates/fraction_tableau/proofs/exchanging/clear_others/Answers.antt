@@ -7,6 +7,7 @@ use Rattle.fraction_tableau.specs.KeptCells.{number_in}
 use Rattle.fraction_tableau.specs.Columns.{AreNoted}
 use Rattle.fraction_tableau.proofs.Noted.{noted_none, noted_next}
 use Rattle.fraction_tableau.proofs.Others.{others_none, others_idle, others_next, others_stay, others_stop}
+use Rattle.std.proofs.lemmas.Grind.{common_steps}
 use Rattle.fraction_tableau.proofs.exchanging.clear_others.Goals as goal
 use Rattle.fraction_tableau.proofs.exchanging.clear_others.Goals.{After-is_zero}
 
@@ -64,3 +65,6 @@ loop-index-preserved-then-is_zero c =
       noted = noted w;
       later = later w;
     }
+
+pub clear_whole-requires : goal.clear_whole-requires
+clear_whole-requires c = grind (arith, common_steps)

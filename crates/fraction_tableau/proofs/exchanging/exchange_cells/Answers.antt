@@ -10,6 +10,7 @@ use Rattle.fraction_tableau.specs.Refusals.{turn_refusal}
 use Rattle.fraction_tableau.specs.RowChanges.{IsPivoted}
 use Rattle.fraction_tableau.specs.KeptCells.{number_in}
 use Rattle.fraction_tableau.proofs.Pivots.{pivot_first, pivot_second, pivot_third, rows_done}
+use Rattle.std.proofs.lemmas.Grind.{common_steps}
 use Rattle.fraction_tableau.proofs.exchanging.exchange_cells.Goals as goal
 use Rattle.fraction_tableau.proofs.exchanging.exchange_cells.Goals.{In_default}
 
@@ -82,3 +83,27 @@ returns-clause-rows c =
     ∙ rows_done c.args.at.row c.args.at.col c.args.sparse_rows.now (set now c.args.at.row c.turn.new.self) c.turn.new.self t.held c.requires.inside (length-set now c.args.at.row c.turn.new.self ∙ many)
     (get_or-set_same now c.args.at.row c.turn.new.self [] (omega (arith, c.requires.inside, many)))
     (λ k l n. get_or-set_other now c.args.at.row k c.turn.new.self [] n ∙ c.in_default-clear_others.ensures.cleared k l n)
+
+pub cell-requires : goal.cell-requires
+cell-requires c = grind (arith, common_steps)
+
+pub turn-requires : goal.turn-requires
+turn-requires c = grind (arith, common_steps)
+
+pub clear_others-requires-clause-room : goal.clear_others-requires-clause-room
+clear_others-requires-clause-room c = grind (arith, common_steps)
+
+pub returns-in-Err-clear_others-clause-kept : goal.returns-in-Err-clear_others-clause-kept
+returns-in-Err-clear_others-clause-kept c = grind (arith, common_steps)
+
+pub returns-clause-kept : goal.returns-clause-kept
+returns-clause-kept c = grind (arith, common_steps)
+
+pub returns-clause-held : goal.returns-clause-held
+returns-clause-held c = grind (arith, common_steps)
+
+pub returns-clause-goal_row : goal.returns-clause-goal_row
+returns-clause-goal_row c = grind (arith, common_steps)
+
+pub clear_others-requires-clause-widths : goal.clear_others-requires-clause-widths
+clear_others-requires-clause-widths c = grind (arith, common_steps)

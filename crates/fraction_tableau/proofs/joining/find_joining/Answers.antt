@@ -2,6 +2,7 @@ use Rattle.std.proofs.Common.{◌≡◌, ◌+◌, ◌*◌, refl, sym, ap, arith,
 use Rattle.std.proofs.lemmas.Int.{to_z-of_z}
 use Rattle.fraction_tableau.proofs.Scales.{first_above}
 use Rattle.fraction_tableau.proofs.Shares.{left_share, right_share, share_size}
+use Rattle.std.proofs.lemmas.Grind.{common_steps}
 use Rattle.fraction_tableau.proofs.joining.find_joining.Goals as goal
 
 pub part_of-part-requires-clause-small : goal.part_of-part-requires-clause-small
@@ -34,3 +35,9 @@ returns-clause-joining c =
       most = ap (λ n. c.args.row.most * c.word_quotient-times.result + n * c.args.turned.most) (sym m);
       short = omega (arith, c.if-most-gt-MOST_JOINED.false);
     }
+
+pub overflow_add-most : goal.overflow_add-most
+overflow_add-most c = grind (arith, common_steps)
+
+pub overflow_mul-result : goal.overflow_mul-result
+overflow_mul-result c = grind (arith, common_steps)

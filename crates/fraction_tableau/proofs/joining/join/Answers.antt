@@ -4,6 +4,7 @@ use Rattle.fraction_tableau.specs.KeptCells.{number_in, kept_below}
 use Rattle.fraction_tableau.proofs.KeptCells.{same_count, same_width}
 use Rattle.fraction_tableau.proofs.Marking.{none_marked}
 use Rattle.fraction_tableau.proofs.Scales.{quiet_is}
+use Rattle.std.proofs.lemmas.Grind.{common_steps}
 use Rattle.fraction_tableau.proofs.joining.join.Goals as goal
 
 pub returns-clause-cells : goal.returns-clause-cells
@@ -26,3 +27,9 @@ loop-index-init c = record {
 
 pub returns-clause-marked : goal.returns-clause-marked
 returns-clause-marked c = c.keep_before.ensures.marked c.loop-index.invariant.joined.marked
+
+pub join_next-done-requires : goal.join_next-done-requires
+join_next-done-requires c = grind (arith, common_steps)
+
+pub keep_before-requires : goal.keep_before-requires
+keep_before-requires c = grind (arith, common_steps)

@@ -9,6 +9,7 @@ use Rattle.fraction_tableau.proofs.KeptCells.{IsNext, next_in, step_count, same_
 use Rattle.fraction_tableau.specs.Marks.{AreMarked}
 use Rattle.fraction_tableau.proofs.Marking.{marked_where}
 use Rattle.fraction_tableau.proofs.Scales.{quiet_is, cleared_number, joined_next}
+use Rattle.std.proofs.lemmas.Grind.{common_steps}
 use Rattle.fraction_tableau.proofs.joining.join_next.Goals as goal
 use Rattle.fraction_tableau.proofs.joining.join_next.Goals.{After-index-others-index}
 
@@ -99,3 +100,6 @@ returns-clause-index c =
     let x = next (goal.at.returns-clause-index c).After-index-others-index in
     let y = x.inside in
     ap (λ n. n + 1) c.requires.index ∙ sym (step_count (number_in e) c.args.done.below (length c.args.cells.now) k x)
+
+pub keep_before-done-requires-clause-rescaling : goal.keep_before-done-requires-clause-rescaling
+keep_before-done-requires-clause-rescaling c = grind (arith, common_steps)

@@ -4,6 +4,7 @@ use Rattle.narrow_fraction.proofs.Attempt.{attempt_err}
 use Rattle.named_row.specs.Sheets.{blank}
 use Rattle.loop_rows.specs.Weights.{with_weights, first_fault_with, total_of, fault_of}
 use Rattle.loop_rows.proofs.LeafSums.{at_left, left_refused, first_of_all}
+use Rattle.std.proofs.lemmas.Grind.{common_steps}
 use Rattle.loop_rows.proofs.leaves.sum_of.Goals as goal
 
 pub loop-weight-init : goal.loop-weight-init
@@ -31,3 +32,15 @@ returns-in_err-add_weight-clause-fault g c =
     let first = left_refused rows c.loop-weight.sum (drop i items) (drop (i + 1) items) c.weight-item.result c.in_err-add_weight.field-0.0 left refused in
     let p = err_from_is_err_and c.from_residual-in_err-add_weight.result c.from_residual-in_err-add_weight.ensures.1 in
     rw (p.1, p.2) (first_of_all (fault_of rows items) c.in_err-add_weight.field-0.0 (c.loop-weight.invariant.fault ∙ first))
+
+pub returns-in_err-add_weight-clause-unspent : goal.returns-in_err-add_weight-clause-unspent
+returns-in_err-add_weight-clause-unspent g c = grind (arith, common_steps)
+
+pub loop-weight-preserved : goal.loop-weight-preserved
+loop-weight-preserved g c = grind (arith, common_steps)
+
+pub returns : goal.returns
+returns g c = grind (arith, common_steps)
+
+pub returns-in_err-room : goal.returns-in_err-room
+returns-in_err-room g c = grind (arith, common_steps)

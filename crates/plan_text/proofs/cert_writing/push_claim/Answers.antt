@@ -1,12 +1,13 @@
-use Rattle.std.proofs.Common.{sym, subst, ◌∙◌, ap}
+use Rattle.std.proofs.Common.{sym, subst, ◌∙◌, ap, arith}
 use Rattle.std.specs.Prelude.{Option}
 use Rattle.std.proofs.lemmas.Result.{on_ok_weaker}
 use Rattle.rational_theory.specs.Rational.{ℚ}
 use Rattle.certificate_model.specs.declared.certificate.Claim.{Claim}
 use Rattle.certificate_model.specs.declared.certificate.Claim.TheVariants.{Stopped}
 use Rattle.certificate_model.specs.Warrants.{HasTiming}
-use Rattle.plan_text.specs.CertificateText.{IsHeldClaim}
+use Rattle.plan_text.specs.CertificateText.{IsHeldClaim, claim_lines}
 use Rattle.plan_text.proofs.WrittenTexts.{best_written, missing_written, stopped_written, none_held, missing_held}
+use Rattle.std.proofs.lemmas.Grind.{elements}
 use Rattle.plan_text.proofs.cert_writing.push_claim.Goals as goal
 
 pub returns-in_ok-push_value-in-Best : goal.returns-in_ok-push_value-in-Best
@@ -42,3 +43,7 @@ returns-in-None g c =
       claim = on_ok_weaker c.push_line-in-None.result (λ _. subst IsHeldClaim (sym is) c.in_ok-push_value-in-Stopped.ensures.held) c.push_line-in-None.ensures;
       timing = on_ok_weaker c.push_line-in-None.result (λ _. missing_held g.K.TimingKind.text c.in-Stopped.bound timing (subst (λ (k : Claim). HasTiming k timing) is c.requires)) c.push_line-in-None.ensures;
     }
+
+pub returns-in-NoTiming-clause-text : goal.returns-in-NoTiming-clause-text
+unfolding claim_lines
+returns-in-NoTiming-clause-text g c = grind (arith, elements)

@@ -1,4 +1,4 @@
-use Rattle.std.proofs.Common.{◌≡◌, ◌∙◌, ◌++◌, ◌∷◌, [], ℕ, sym, ap, subst, map, List, All}
+use Rattle.std.proofs.Common.{◌≡◌, ◌∙◌, ◌++◌, ◌∷◌, [], ℕ, sym, ap, subst, map, List, All, arith}
 use Rattle.plan_text.specs.Namings.{Listed, tree_lines}
 use Rattle.named_row.specs.declared.names.RowId.{RowId}
 use Rattle.certificate_model.specs.declared.certificate.CertNode.{CertNode}
@@ -12,6 +12,7 @@ use Rattle.plan_text.specs.CertificateReading.{certificate_of}
 use Rattle.plan_text.proofs.Certificates.{second_text_again}
 use Rattle.plan_text.proofs.ListedRows.{rows_named}
 use Rattle.plan_text.proofs.WrittenTexts.{second_written}
+use Rattle.std.proofs.lemmas.Grind.{common_steps}
 use Rattle.plan_text.proofs.second_writing.write_second.Goals as goal
 
 pub push_rows-requires : goal.push_rows-requires
@@ -40,3 +41,9 @@ returns c =
     } in
     let whole = text ∙ ap second_text c.certificate.view_is in
     record { text = whole; read_back = ap certificate_of whole ∙ second_text_again _ (subst IsHeldWarrant c.certificate.view_is held) }
+
+pub returns-in_err-rows : goal.returns-in_err-rows
+returns-in_err-rows c = grind (arith, common_steps)
+
+pub returns-in_err-push_rows : goal.returns-in_err-push_rows
+returns-in_err-push_rows c = grind (arith, common_steps)

@@ -2,6 +2,8 @@ use borrow.Author.Tests.{ltb-true, ltb-false}
 use Rattle.std.proofs.Common.{arith}
 use Rattle.plan_text.specs.Namings.{naming_of}
 use Rattle.plan_text.proofs.Shapes.{fails_so, no_head, no_fractions, no_split}
+use Rattle.std.proofs.lemmas.Grind.{common_steps}
+use Rattle.plan_text.specs.CertificateReading.{head_of}
 use Rattle.plan_text.proofs.tree.head_of.Goals as goal
 use Rattle.plan_text.proofs.tree.head_of.Goals.{in_default-via-then-words-lt2, in_default-via-in-len2+else-eq, in_default-via-in-len4+else-eq-2, in_default-via-else-words-lt2+else-words-lt3+else-words-lt4+else-words-lt5}
 
@@ -19,3 +21,19 @@ returns-in_default c =
           ]);
       formed = tt;
     }
+
+pub returns-in_err-count-in-len2 : goal.returns-in_err-count-in-len2
+unfolding head_of
+returns-in_err-count-in-len2 c = grind (arith, common_steps)
+
+pub returns-in_err-at-in-len4 : goal.returns-in_err-at-in-len4
+unfolding head_of
+returns-in_err-at-in-len4 c = grind (arith, common_steps)
+
+pub returns-in_ok-count-in-len2 : goal.returns-in_ok-count-in-len2
+unfolding head_of
+returns-in_ok-count-in-len2 c = grind (arith, common_steps)
+
+pub returns-in_ok-at-in-len4 : goal.returns-in_ok-at-in-len4
+unfolding head_of
+returns-in_ok-at-in-len4 c = grind (arith, common_steps)

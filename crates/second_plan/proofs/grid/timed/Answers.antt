@@ -1,6 +1,8 @@
-use Rattle.std.proofs.Common.{◌∙◌, ◌*◌, map, ap₂, subst}
+use Rattle.std.proofs.Common.{◌∙◌, ◌*◌, map, ap₂, subst, arith}
 use Rattle.std.specs.Prelude.{All, ◌≤◌}
 use Rattle.second_plan.proofs.Fine.{parts_of, plan_is, is_timing}
+use Rattle.std.proofs.lemmas.Grind.{common_steps}
+use Rattle.rational_theory.proofs.Compare.{ne_false, eq_true, lt_true, lt_false, le_true, le_false}
 use Rattle.second_plan.proofs.grid.timed.Goals as goal
 
 pub unreachable-requires : goal.unreachable-requires
@@ -26,3 +28,9 @@ returns c =
     (c.in_ok-reds.ensures ∙ ap₂ (λ g xs. map (λ offset. offset * g) xs) c.grid-grid.ensures.value c.as_slice.ensures.value)
     (c.in_ok-run_out.ensures ∙ ap₂ (λ m xs. map (λ n. n * m) xs) c.fineness-fineness.ensures.value c.run_out.ensures.value)
     (c.in_ok-run_in.ensures ∙ ap₂ (λ m xs. map (λ n. n * m) xs) c.fineness-fineness.ensures.value c.run_in.ensures.value))
+
+pub reds-requires : goal.reds-requires
+reds-requires c = grind (arith, common_steps)
+
+pub returns-in_err-run_in : goal.returns-in_err-run_in
+returns-in_err-run_in c = grind (arith, ne_false, eq_true, lt_true, lt_false, le_true, le_false)

@@ -1,6 +1,7 @@
-use Rattle.std.proofs.Common.{subst}
+use Rattle.std.proofs.Common.{subst, arith}
 use Rattle.progression.specs.declared.parts.Dir.TheVariants.{Outbound, Inbound}
 use Rattle.band_measure.specs.Widest.{NoneRuns}
+use Rattle.std.proofs.lemmas.Grind.{common_steps}
 use Rattle.second_plan.proofs.planning.planned.Goals as goal
 
 pub returns-in_default-clause-faults : goal.returns-in_default-clause-faults
@@ -20,3 +21,6 @@ returns-in_default-widest-clause-faults c = λ claim. record {
   none = subst (λ p. NoneRuns c.args.artery.now p Inbound) c.in_ok-frame.ensures c.in_default-widest.ensures.widest;
   before = λ e. subst (λ p. ¬ NoneRuns c.args.artery.now p Outbound) c.in_ok-frame.ensures c.in-Some.ensures.some;
 }
+
+pub with_cut_bands-requires : goal.with_cut_bands-requires
+with_cut_bands-requires c = grind (arith, common_steps)

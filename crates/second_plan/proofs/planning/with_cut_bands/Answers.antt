@@ -4,6 +4,7 @@ use Rattle.second_plan.specs.Grid.{in_seconds}
 use Rattle.second_plan.proofs.Fine.{is_fine}
 use Rattle.second_plan.proofs.Rules.{natural, unit_least, least_alone}
 use Rattle.second_plan.proofs.Best.{best}
+use Rattle.std.proofs.lemmas.Grind.{common_steps}
 use Rattle.second_plan.proofs.planning.with_cut_bands.Goals as goal
 
 pub cut-bands-requires-clause-outbound : goal.cut-bands-requires-clause-outbound
@@ -59,3 +60,6 @@ returns-in-Err-clause-faults c = λ claim.
       dir = least.0;
       least = least.1;
     }
+
+pub returns-in-Ok-clause-good : goal.returns-in-Ok-clause-good
+returns-in-Ok-clause-good c = grind (arith, common_steps)

@@ -1,9 +1,10 @@
-use Rattle.std.proofs.Common.{◌<◌, ◌^◌, ◌++◌, [], ◌∷◌, sym, ◌∙◌, ap, subst}
+use Rattle.std.proofs.Common.{◌<◌, ◌^◌, ◌++◌, [], ◌∷◌, sym, ◌∙◌, ap, subst, arith}
 use Rattle.progression.specs.Columns.{numbered}
 use Rattle.typed_plan.specs.Grid.{size}
 use Rattle.typed_plan.specs.declared.times.Times.TheVariants.{Run}
 use Rattle.typed_plan.proofs.First.{numbered_next}
 use Rattle.typed_plan.proofs.Fine.{is_fine}
+use Rattle.std.proofs.lemmas.Grind.{common_steps}
 use Rattle.typed_plan.proofs.frame.runs.Goals as goal
 
 pub size-requires-clause-small : goal.size-requires-clause-small
@@ -14,3 +15,9 @@ loop-place-preserved c =
     let k = c.loop-place.place in
     let f = size c.args.artery.now c.args.plan.now (Run c.args.dir) in
     c.in_ok-push.ensures.items ∙ ap (λ xs. xs ++ c.size.result ∷ []) c.loop-place.invariant ∙ ap (λ n. numbered k 1 f ++ n ∷ []) c.size.ensures.value ∙ sym (numbered_next k f)
+
+pub returns-in_err-push : goal.returns-in_err-push
+returns-in_err-push c = grind (arith, common_steps)
+
+pub returns : goal.returns
+returns c = grind (arith, common_steps)

@@ -1,9 +1,10 @@
-use Rattle.std.proofs.Common.{◌≡◌, ◌*◌, ◌<◌, ◌≤◌, ◌^◌, [], ◌∷◌, ◌++◌, sym, ◌∙◌, ap, ap₂, subst}
+use Rattle.std.proofs.Common.{◌≡◌, ◌*◌, ◌<◌, ◌≤◌, ◌^◌, [], ◌∷◌, ◌++◌, sym, ◌∙◌, ap, ap₂, subst, arith}
 use Rattle.std.specs.Prelude.{Some}
 use Rattle.std.proofs.lemmas.Result.{err_from_is_err_and}
 use Rattle.progression.specs.declared.parts.Dir.TheVariants.{Outbound, Inbound}
 use Rattle.typed_plan.specs.Grid.{least_grid, least_unit, runs}
 use Rattle.typed_plan.proofs.First.{skip, stop, skip_one, stop_one}
+use Rattle.std.proofs.lemmas.Grind.{common_steps}
 use Rattle.typed_plan.proofs.grid.check_sizes.Goals as goal
 
 pub returns-in_err-check_runs-clause-first : goal.returns-in_err-check_runs-clause-first
@@ -44,3 +45,6 @@ returns-clause-none c =
     let is = c.in_ok-held.ensures.held.0 ∙ ap₂ (λ m n. m * n) (c.from.ensures ∙ c.parts.ensures.value) c.size-unit.ensures.value in
     skip_one (least_grid a p) (runs a p Outbound ++ (runs a p Inbound ++ cycle ∷ [])) grid ∙ skip (runs a p Outbound) (runs a p Inbound ++ cycle ∷ []) c.in_ok-check_runs.ensures.none
     ∙ skip (runs a p Inbound) (cycle ∷ []) c.in_ok-check_runs-2.ensures.none ∙ skip_one cycle [] (subst (λ n. n < 2 ^ 80) is c.in_ok-held.ensures.held.1)
+
+pub overflow_mul-from : goal.overflow_mul-from
+overflow_mul-from c = grind (arith, common_steps)

@@ -1,8 +1,9 @@
-use Rattle.std.proofs.Common.{◌≡◌, ◌<◌, ◌^◌, sym, subst}
+use Rattle.std.proofs.Common.{◌≡◌, ◌<◌, ◌^◌, sym, subst, arith}
 use Rattle.progression.specs.TimingRecord.{cycle}
 use Rattle.typed_plan.specs.Grid.{frame}
 use Rattle.typed_plan.proofs.Fine.{is_fine}
 use Rattle.typed_plan.proofs.Timed.{timed_by}
+use Rattle.std.proofs.lemmas.Grind.{common_steps}
 use Rattle.typed_plan.proofs.timing.timed.Goals as goal
 
 pub widest_or_none-outbound-requires-clause-cycle : goal.widest_or_none-outbound-requires-clause-cycle
@@ -24,3 +25,6 @@ returns c =
     timed_by a p c.known_valid.ensures c.known_within.ensures c.requires.counts c.requires.fault c.requires.fine
     c.widest_or_none-outbound.result c.widest_or_none-inbound.result c.in_ok-frame.frame is
     c.widest_or_none-outbound.ensures.widest c.widest_or_none-inbound.ensures.widest c.framed-2.result c.framed-2.ensures
+
+pub widest_or_none-inbound-requires-clause-shape : goal.widest_or_none-inbound-requires-clause-shape
+widest_or_none-inbound-requires-clause-shape c = grind (arith, common_steps)

@@ -1,4 +1,4 @@
-use Rattle.std.proofs.Common.{ℕ, List, length, take, ◌<◌, ◌∙◌, sym, ap, subst}
+use Rattle.std.proofs.Common.{ℕ, List, length, take, ◌<◌, ◌∙◌, sym, ap, subst, arith}
 use Rattle.std.proofs.lemmas.List.{with_items_is}
 use Rattle.rational_theory.specs.Rational.{ℚ}
 use Rattle.fraction_tableau.specs.KeptCells.{dense_row, IsSparse}
@@ -6,6 +6,7 @@ use Rattle.fraction_tableau.specs.Scales.{cell_at, IsOver, IsScaled}
 use Rattle.fraction_tableau.specs.Marks.{AreMarked}
 use Rattle.fraction_tableau.specs.declared.kept.Kept.{Kept}
 use Rattle.fraction_tableau.proofs.Making.{scale_made}
+use Rattle.std.proofs.lemmas.Grind.{common_steps}
 use Rattle.fraction_tableau.proofs.sparse_row.SparseRow.find_scale.Goals as goal
 
 pub invariant_of-self : goal.invariant_of-self
@@ -24,3 +25,12 @@ invariant_of-self c =
         subst (λ (t : List Kept). AreMarked i.marks (take i.count t)) (sym same) c.self.invariant.1.1,
       ),
     )
+
+pub invariant_of-self-in_default : goal.invariant_of-self-in_default
+invariant_of-self-in_default c = grind (arith, common_steps)
+
+pub returns-in-Some : goal.returns-in-Some
+returns-in-Some c = grind (arith, common_steps)
+
+pub returns-in_default : goal.returns-in_default
+returns-in_default c = grind (arith, common_steps)

@@ -3,6 +3,7 @@ use Rattle.std.proofs.Math.ListN.{set}
 use Rattle.simplex_theory.specs.Tableau.{width}
 use Rattle.fraction_tableau.specs.NamedTableaus.{NamedTableau, with_row}
 use Rattle.fraction_tableau.proofs.Tableaus.{row_is}
+use Rattle.std.proofs.lemmas.Grind.{common_steps}
 use Rattle.fraction_tableau.proofs.tableau.Tableau.load.Goals as goal
 
 pub returns : goal.returns
@@ -13,3 +14,6 @@ returns c =
     let w : c.len.result + c.args.row ≡ width t.table + c.args.row = omega (arith, c.len.ensures, i.standing.ok.0) in
     let b = ap (set i.basic.items c.args.row) w in
     row_is t c.args.row c.args.name c.args.from.now _ _ _ a b refl ∙ ap (with_row c.args.row c.args.name c.args.from.now) c.self.view_is
+
+pub invariant_of-self : goal.invariant_of-self
+invariant_of-self c = grind (arith, common_steps)

@@ -9,6 +9,7 @@ use Rattle.narrow_fraction.specs.Attempt.{attempt}
 use Rattle.fraction_tableau.specs.Refusals.{exchanged_rows, pivot_refusal}
 use Rattle.fraction_tableau.specs.NamedTableaus.{NamedTableau}
 use Rattle.fraction_tableau.proofs.Tableaus.{new_table}
+use Rattle.std.proofs.lemmas.Grind.{common_steps}
 use Rattle.fraction_tableau.proofs.tableau.Tableau.pivot_noting.Goals as goal
 
 pub returns-clause-pivots : goal.returns-clause-pivots
@@ -40,3 +41,12 @@ returns-clause-pivots c =
       };
       spent = tt;
     }
+
+pub invariant_of-self : goal.invariant_of-self
+invariant_of-self c = grind (arith, common_steps)
+
+pub invariant_of-self-2 : goal.invariant_of-self-2
+invariant_of-self-2 c = grind (arith, common_steps)
+
+pub index_mut-requires-2 : goal.index_mut-requires-2
+index_mut-requires-2 c = grind (arith, common_steps)

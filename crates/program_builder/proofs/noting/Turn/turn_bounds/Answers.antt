@@ -5,6 +5,7 @@ use Rattle.program_builder.proofs.BoundTurns.{less_is}
 use Rattle.program_builder.proofs.WrittenBounds.{IsTurningBounds, turning_next, turning_own, turned_alone}
 use Rattle.fraction_tableau.specs.KeptCells.{number_in}
 use Rattle.narrow_fraction.specs.Fraction.{FitsFrac}
+use Rattle.std.proofs.lemmas.Grind.{common_steps}
 use Rattle.program_builder.proofs.noting.Turn.turn_bounds.Goals as goal
 use Rattle.program_builder.proofs.noting.Turn.turn_bounds.Goals.{then-line-row+in-Some, else-line-row}
 
@@ -43,3 +44,6 @@ returns-then-is_zero-clause-turned c =
     (c.fitting-own.ensures.same ∙ c.in-Ok.ensures.value.1 ∙ same)
     (subst FitsFrac same c.in-Ok.ensures.value.0)
     (c.is_zero.ensures.0 c.if-is_zero.true)
+
+pub loop-line-init : goal.loop-line-init
+loop-line-init c = grind (arith, common_steps)

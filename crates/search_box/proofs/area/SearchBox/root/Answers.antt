@@ -20,3 +20,12 @@ returns-clause-holds c =
     let a = c.args.artery.now in
     let v = c.known_valid.ensures in
     λ t g. root_law a t (street_of a v) g _ (root_of a c.in_ok-loops.loops.items c.in_ok-turns.turns.items c.in_ok-loops.ensures c.in_ok-turns.ensures.value (some a v))
+
+pub returns-in_err-loops : goal.returns-in_err-loops
+returns-in_err-loops c = grind (arith, street_of)
+
+pub returns-in_err-turns : goal.returns-in_err-turns
+returns-in_err-turns c = grind (arith, street_of)
+
+pub returns-clause-street : goal.returns-clause-street
+returns-clause-street c = grind (arith, street_of)
