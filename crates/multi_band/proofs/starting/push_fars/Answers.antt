@@ -4,6 +4,7 @@ use Rattle.rational_theory.specs.Rational.{ℚ}
 use Rattle.progression.specs.declared.parts.Dir.{Dir}
 use Rattle.named_row.specs.declared.leaves.Weight.{Weight}
 use Rattle.multi_band.specs.LinkStarts.{far_weight, far_weights}
+use Rattle.std.proofs.lemmas.Grind.{elements}
 use Rattle.multi_band.proofs.starting.push_fars.Goals as goal
 
 -- one more
@@ -30,3 +31,6 @@ loop-link-preserved c =
     let i = c.loop-link.link in
     pushed c.args.dir c.args.by i c.args.list.now.items c.loop-link.list.items c.push.new.self.items (record { row = record { family = c.far_family-family.result; index = i }; by = c.args.by })
     c.loop-link.auto.link c.loop-link.invariant c.in_ok-push.ensures.items (ap (λ f. record { row = record { family = f; index = i }; by = c.args.by }) c.far_family-family.ensures)
+
+pub returns : goal.returns
+returns c = grind (arith, elements)

@@ -1,10 +1,11 @@
-use Rattle.std.proofs.Common.{◌≡◌, ℕ, List, Some, true, sym, subst}
+use Rattle.std.proofs.Common.{◌≡◌, ℕ, List, Some, true, sym, subst, arith}
 use Rattle.std.specs.Prelude.{string_bytes}
 use Rattle.std.proofs.lemmas.List.Elements.{All-push}
 use Rattle.artery_model.specs.Bounds.{least_cycle, most_cycle}
 use Rattle.artery_model.specs.Valid.{IsQuantity}
 use Rattle.run_inputs.specs.Cycles.{cycle_of, spells_cycle}
 use Rattle.run_inputs.proofs.Cycling.{word_spelled, cycles_more}
+use Rattle.std.proofs.lemmas.Grind.{elements}
 use Rattle.run_inputs.proofs.cycles.cycles_in.Goals as goal
 
 pub known_cycle-requires : goal.known_cycle-requires
@@ -21,3 +22,6 @@ loop-word-preserved c =
           c.loop-word.invariant.cycles (subst (λ (word : List ℕ). cycle_of word ≡ Some cycle) c.as_str.ensures.value c.known_cycle.ensures.value);
       quantities = rw c.in_ok-push.ensures (All-push (IsQuantity least_cycle most_cycle) before cycle c.loop-word.invariant.quantities c.known_cycle.ensures.quantity);
     }
+
+pub returns : goal.returns
+returns c = grind (arith, elements)
