@@ -1,4 +1,4 @@
-use Rattle.std.proofs.Common.{◌≡◌, ◌≤◌, arith, subst}
+use Rattle.std.proofs.Common.{◌≡◌, ◌≤◌, arith, subst, rules}
 use Rattle.progression.specs.Street.{count}
 use Rattle.band_measure.specs.Tried.{FoundOfEdges}
 use Rattle.band_measure.proofs.Tries.{widest_of_edges, some_run, first_below_cycle, band_below_cycle}
@@ -19,3 +19,6 @@ returns c =
 
 pub with_edge-best-requires : goal.with_edge-best-requires
 with_edge-best-requires c = grind (arith, common_steps)
+
+pub loop-place-preserved : goal.loop-place-preserved
+loop-place-preserved c = search rules

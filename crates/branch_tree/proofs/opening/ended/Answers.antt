@@ -3,7 +3,7 @@ use Rattle.work_meter.specs.Work.{capped}
 use Rattle.branch_tree.specs.Runs.{IsRunTo}
 use Rattle.branch_tree.specs.Meaning.{rules_from}
 use Rattle.branch_tree.proofs.Opens.{ok_map, read_opens, empty_opens}
-use Rattle.std.proofs.lemmas.Grind.{common_steps}
+use Rattle.std.proofs.lemmas.Grind.{common_steps, elements}
 use Rattle.branch_tree.proofs.opening.ended.Goals as goal
 
 pub returns-in-Optimal : goal.returns-in-Optimal
@@ -23,3 +23,6 @@ optimal_end-requires g c = grind (arith, common_steps)
 
 pub infeasible_end-requires : goal.infeasible_end-requires
 infeasible_end-requires g c = grind (arith, common_steps)
+
+pub returns-in-WorkOut : goal.returns-in-WorkOut
+returns-in-WorkOut g c = grind (arith, elements)

@@ -1,4 +1,6 @@
+use Rattle.std.proofs.Common.{arith}
 use Rattle.cycle_sweep.proofs.Matched.{rows_more, timed_more}
+use Rattle.std.proofs.lemmas.Grind.{elements}
 use Rattle.cycle_sweep.proofs.sweep.sweep_rows.Goals as goal
 
 pub loop-cycle-preserved : goal.loop-cycle-preserved
@@ -9,3 +11,6 @@ loop-cycle-preserved c =
           c.cycle-item.is c.in_ok-push.ensures c.loop-cycle.invariant.rows c.in_ok-row.ensures.row;
       timed = timed_more before c.push.new.rows.items c.in_ok-row.row c.in_ok-push.ensures c.loop-cycle.invariant.timed c.in_ok-row.ensures.timed;
     }
+
+pub returns : goal.returns
+returns c = grind (arith, elements)

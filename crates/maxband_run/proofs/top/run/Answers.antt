@@ -1,4 +1,4 @@
-use Rattle.std.proofs.Common.{Option, Err, ap, map, subst, sym}
+use Rattle.std.proofs.Common.{Option, Err, ap, map, subst, sym, arith}
 use Rattle.std.specs.Prelude.{option_map, string_bytes}
 use Rattle.run_inputs.specs.Command as commands
 use Rattle.run_inputs.specs.Command.{Request, shape, InLimits}
@@ -7,6 +7,7 @@ use Rattle.maxband_run.specs.Run.{Ends}
 use Rattle.run_inputs.proofs.Ranges.{command_limits}
 use Rattle.maxband_run.proofs.Delivered.{IsRead, others_since, puts_since_entry}
 use Rattle.maxband_run.proofs.Running.{run_done, run_broken, run_wanted}
+use Rattle.std.proofs.lemmas.Grind.{common_steps, elements}
 use Rattle.maxband_run.proofs.top.run.Goals as goal
 
 pub answer_to-requires : goal.answer_to-requires
@@ -80,3 +81,33 @@ returns-clause-puts g c =
     subst (λ (o : Option Request). PutsCounted (shape o).output (g.F.Files.put_faults c.args.files.now) (g.F.Files.put_faults c.deliver.new.files)) c.command_in-command.ensures
     (puts_since_entry (g.F.Files.holds c.args.files.now) (g.F.Files.read_faults c.args.files.now) (g.F.Files.read_faults c.answer_to.new.files) asked c.in-Ok.answer.cause c.in-Ok.answer.lines.items c.in-Ok.answer.put
     (g.F.Files.put_faults c.args.files.now) (g.F.Files.put_faults c.answer_to.new.files) (g.F.Files.put_faults c.deliver.new.files) c.answer_to.ensures.kept.puts c.in-Ok.ensures.answered.told c.deliver.ensures.puts)
+
+pub returns-then-is_err : goal.returns-then-is_err
+returns-then-is_err g c = grind (arith, common_steps)
+
+pub returns-in-Err : goal.returns-in-Err
+returns-in-Err g c = grind (arith, elements)
+
+pub deliver-requires : goal.deliver-requires
+deliver-requires g c = grind (arith, common_steps)
+
+pub returns-in-Ok-deliver-clause-number : goal.returns-in-Ok-deliver-clause-number
+returns-in-Ok-deliver-clause-number g c = grind (arith, elements)
+
+pub returns-in-Ok-deliver-clause-reads : goal.returns-in-Ok-deliver-clause-reads
+returns-in-Ok-deliver-clause-reads g c = grind (arith, elements)
+
+pub returns-in-Ok-deliver-clause-puts : goal.returns-in-Ok-deliver-clause-puts
+returns-in-Ok-deliver-clause-puts g c = grind (arith, elements)
+
+pub returns-in-Err-Broken-clause-number : goal.returns-in-Err-Broken-clause-number
+returns-in-Err-Broken-clause-number g c = grind (arith, elements)
+
+pub returns-in-Err-Broken-clause-reads : goal.returns-in-Err-Broken-clause-reads
+returns-in-Err-Broken-clause-reads g c = grind (arith, elements)
+
+pub returns-clause-number : goal.returns-clause-number
+returns-clause-number g c = grind (arith, elements)
+
+pub returns-clause-reads : goal.returns-clause-reads
+returns-clause-reads g c = grind (arith, common_steps)
