@@ -7,6 +7,8 @@ TOP = os.path.dirname(os.path.dirname(os.path.abspath(__file__)))
 CRATES = os.path.join(TOP, "crates")
 
 USE = re.compile(r"^\s*((?:pub )?)(?:ghost )?use (Rattle\.[^\s{;]+?)(?:\.\{(.*)\})?(?: as ([^\s;]+))?;?\s*$")
+# An import of several files of a crate: `ghost use Rattle.CRATE.specs.{One.{..}, Other.{..}};`.
+SEVERAL = re.compile(r"^(\s*ghost use Rattle\.\w+\.(?:specs|proofs)\.)\{(.*)\};$")
 WORD = re.compile(r"[^\s(){}\[\];,.]+")
 MARKS = r"(?:abbrev |unfoldable |opaque |pub )*"
 KIND = re.compile(rf"^{MARKS}(data|record|ruleset) {MARKS}([^\s:(){{}}]+)")
@@ -14,6 +16,12 @@ SIGNED = re.compile(rf"^{MARKS}([^\s:(){{}}]+)(?: \{{[^}}]*\}})* ?:(?:\s|$)")
 OUTSIDE = ("use ", "pub use ", "infix", "open ", "syntax", "pub mod ", "mod ")
 # Files in which the goals of one function are answered, by names that the kit makes.
 ANSWERS = {"Answers", "Invariants", "Proof"}
+
+
+def imports(line):
+    """An import of several files as lines of one each; any other line is itself."""
+    found = SEVERAL.match(line)
+    return [f"{found[1]}{it};" for it in re.split(r"(?<=\}), ", found[2])] if found else [line]
 
 
 def without_comments(text):
@@ -191,7 +199,8 @@ class Book:
         source = f"Rattle.{crate}.src." + os.path.splitext(rest)[0].replace("/", ".")
         file = self.files[source] = File(source, path)
         for line in text.split("\n"):
-            file.note_import(line.strip())
+            for one in imports(line.strip()):
+                file.note_import(one)
         for line in re.findall(r"(?ms)^(?:pub )?use ([^;]+);", text):
             root = line.split("::")[0].strip()
             for used in re.findall(r"\b[A-Z]\w*", line):

@@ -3,11 +3,9 @@
 ghost use Rattle.std.specs.Prelude.{◌≡◌, ◌+◌, ◌<◌, ◌≤◌, pos, ◌≤ℤ◌, unsigned_abs, IfSome, IfOk};
 ghost use Rattle.rational_theory.specs.Rational.{◌≤ℚ◌};
 ghost use Rattle.progression.specs.Street.{Street, count, signal_of, link_of, left_against, red_parts, clearance, allows, distance, speed, change_given, least_band};
-ghost use Rattle.progression.specs.Speeds.{run_low, run_high, change};
-ghost use Rattle.progression.specs.Columns.{pattern_shift};
+ghost use Rattle.progression.specs.{Speeds.{run_low, run_high, change}, Columns.{pattern_shift}};
 ghost use Rattle.artery_model.specs.Bounds.{least_signals, most_signals, least_parts, most_parts, least_distance, most_distance, least_cycle, most_cycle, least_ratio, most_ratio, first_version, second_version, least_share, most_share};
-ghost use Rattle.artery_model.specs.Faults.{Judges};
-ghost use Rattle.artery_model.specs.Limits.{artery_fault};
+ghost use Rattle.artery_model.specs.{Faults.{Judges}, Limits.{artery_fault}};
 ghost use Rattle.artery_model.specs.Valid.{IsValid, IsSignal, IsLink, IsSpeeds, IsChange, IsPair, IsPaces, IsQuantity};
 
 use crate::kind::Flaw;
@@ -32,8 +30,7 @@ impl Model for Artery {
 
     ghost Value = { Street };
 
-    ghost use Rattle.artery_model.specs.Inside.{street_of};
-    ghost use Rattle.artery_model.specs.Valid.{IsValid};
+    ghost use Rattle.artery_model.specs.{Inside.{street_of}, Valid.{IsValid}};
 
     ghost view = { street_of };
 

@@ -1,9 +1,7 @@
 //! Names that stand twice.
 
-ghost use Rattle.std.specs.Prelude.{◌≡◌, [], ◌∷◌, ◌++◌, IfOk, IfErr, true, not, map};
-ghost use Rattle.std.specs.List.{list_any};
-ghost use Rattle.artery_model.specs.Faults.{Judges};
-ghost use Rattle.artery_model.specs.Limits.{is_text, first_repeated};
+ghost use Rattle.std.specs.{Prelude.{◌≡◌, [], ◌∷◌, ◌++◌, IfOk, IfErr, true, not, map}, List.{list_any}};
+ghost use Rattle.artery_model.specs.{Faults.{Judges}, Limits.{is_text, first_repeated}};
 
 use crate::kind::Flaw;
 use crate::refusals::repeated;

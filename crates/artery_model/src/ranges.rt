@@ -1,7 +1,6 @@
 //! Values outside their limits.
 
-ghost use Rattle.std.specs.Prelude.{◌≡◌, ◌==◌, nat_le, not, ◌&&◌, length, unsigned_abs};
-ghost use Rattle.std.specs.List.{list_all};
+ghost use Rattle.std.specs.{Prelude.{◌≡◌, ◌==◌, nat_le, not, ◌&&◌, length, unsigned_abs}, List.{list_all}};
 ghost use Rattle.rational_theory.specs.Rational.{whole};
 ghost use Rattle.artery_model.specs.Bounds.{least_distance, most_distance, least_speed, most_speed, least_signals, most_signals_in, least_share, most_share_in, most_numerator, most_denominator};
 ghost use Rattle.artery_model.specs.Faults.{first_fault, unless, each_numbered, link_place, Judges};

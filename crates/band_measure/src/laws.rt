@@ -1,7 +1,6 @@
 //! Laws of the definitions.
 
-ghost use Rattle.band_measure.specs.Pairs.{OwnPair, FinerPairs, PairsMakeGood};
-ghost use Rattle.band_measure.specs.Widest.{OneWidest};
+ghost use Rattle.band_measure.specs.{Pairs.{OwnPair, FinerPairs, PairsMakeGood}, Widest.{OneWidest}};
 
 /// The own band of a timing is green at every signal exactly where its own first and band run.
 pub fn law_own_pair()

@@ -1,11 +1,8 @@
 //! The widest band of all: the firsts to try are those at which a line leaves a red.
 
 ghost use Rattle.std.specs.Prelude.{◌≡◌, ◌+◌, ◌*◌, ◌<◌, ◌≤◌, ◌^◌, length, true, false, unsigned_abs, MatchOption, IfSome};
-ghost use Rattle.progression.specs.Street.{count};
-ghost use Rattle.progression.specs.TimingRecord.{cycle};
-ghost use Rattle.band_measure.specs.Edges.{way};
-ghost use Rattle.band_measure.specs.Widest.{NoneRuns, IsWidest};
-ghost use Rattle.band_measure.specs.Tried.{FoundOfEdges};
+ghost use Rattle.progression.specs.{Street.{count}, TimingRecord.{cycle}};
+ghost use Rattle.band_measure.specs.{Edges.{way}, Widest.{NoneRuns, IsWidest}, Tried.{FoundOfEdges}};
 
 use crate::pair::Widest;
 use crate::room::band_from;

@@ -1,12 +1,9 @@
 //! How wide a band is that begins at a line: at one signal, and at all.
 
 ghost use Rattle.std.specs.Prelude.{◌≡◌, ◌+◌, ◌-◌, ◌*◌, ◌<◌, ◌≤◌, ◌^◌, ℕ, ℤ, length, pos, ◌+ℤ◌, unsigned_abs, MatchOption};
-ghost use Rattle.progression.specs.Street.{count};
-ghost use Rattle.progression.specs.Green.{BandIsGreen};
+ghost use Rattle.progression.specs.{Street.{count}, Green.{BandIsGreen}};
 ghost use Rattle.time_space.specs.Sizes.{IsWithin};
-ghost use Rattle.band_measure.specs.Pairs.{RunsOn};
-ghost use Rattle.band_measure.specs.Edges.{way, IsGreenFrom};
-ghost use Rattle.band_measure.specs.Rooms.{IsRoom, IsRoomAt, IsWidestFrom};
+ghost use Rattle.band_measure.specs.{Pairs.{RunsOn}, Edges.{way, IsGreenFrom}, Rooms.{IsRoom, IsRoomAt, IsWidestFrom}};
 
 use crate::ways::way_beyond;
 use artery_model::Artery;

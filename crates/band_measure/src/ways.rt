@@ -1,8 +1,7 @@
 //! Where a line crosses the signals, counted from its first crossing, and the firsts at which it leaves a red.
 
 ghost use Rattle.std.specs.Prelude.{◌≡◌, ◌+◌, ◌*◌, ◌<◌, ◌≤◌, ◌^◌, length, unsigned_abs};
-ghost use Rattle.progression.specs.Street.{count};
-ghost use Rattle.progression.specs.TimingRecord.{cycle};
+ghost use Rattle.progression.specs.{Street.{count}, TimingRecord.{cycle}};
 ghost use Rattle.time_space.specs.Sizes.{IsWithin};
 ghost use Rattle.band_measure.specs.Edges.{way, red_end, edge};
 

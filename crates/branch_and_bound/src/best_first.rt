@@ -3,9 +3,7 @@
 ghost use Rattle.std.specs.Prelude.{◌≡◌, ℕ, List, [], ◌∷◌, All, IfOk};
 ghost use Rattle.rational_theory.specs.Rational.{ℚ};
 ghost use Rattle.work_meter.specs.Work.{IsBelow, IsWithin};
-ghost use Rattle.branch_and_bound.specs.Greatest.{IsSettled, bound_of};
-ghost use Rattle.branch_and_bound.specs.State.{IsSearchState};
-ghost use Rattle.branch_and_bound.specs.Answer.{IsFound, timing_of};
+ghost use Rattle.branch_and_bound.specs.{Greatest.{IsSettled, bound_of}, State.{IsSearchState}, Answer.{IsFound, timing_of}};
 
 use crate::found::{Found, Stop, Verdict};
 use crate::greatest::next_waiting;

@@ -3,9 +3,7 @@
 ghost use Rattle.std.specs.Prelude.{◌≡◌, ◌<◌, Some, length, OnOk};
 ghost use Rattle.rational_theory.specs.Rational.{ℚ};
 ghost use Rattle.work_meter.specs.Work.{IsWithin};
-ghost use Rattle.branch_and_bound.specs.Greatest.{IsGreatest};
-ghost use Rattle.branch_and_bound.specs.Incumbents.{IsUnder};
-ghost use Rattle.branch_and_bound.specs.State.{IsSearchState, Grows, IsSpliced, split_from};
+ghost use Rattle.branch_and_bound.specs.{Greatest.{IsGreatest}, Incumbents.{IsUnder}, State.{IsSearchState, Grows, IsSpliced, split_from}};
 
 use crate::greatest::Greatest;
 use crate::node::Node;

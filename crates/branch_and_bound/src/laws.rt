@@ -1,7 +1,6 @@
 //! Laws over the definitions alone.
 
-ghost use Rattle.branch_and_bound.specs.Enough.{IsEnough};
-ghost use Rattle.branch_and_bound.specs.Promises.{ChoicesAreShared};
+ghost use Rattle.branch_and_bound.specs.{Enough.{IsEnough}, Promises.{ChoicesAreShared}};
 
 use crate::relaxation::Relaxation;
 

@@ -1,12 +1,9 @@
 //! Opens the two parts of a box that is split.
 
 ghost use Rattle.std.specs.Prelude.{◌≡◌, true, false, IfOk};
-ghost use Rattle.search_box.specs.Places.{IsPlace, low_part, high_part};
-ghost use Rattle.search_box.specs.declared.span.At.{At};
-ghost use Rattle.branch_and_bound.specs.Lines.{BoxLine};
+ghost use Rattle.search_box.specs.{Places.{IsPlace, low_part, high_part}, declared.span.At.{At}};
+ghost use Rattle.branch_and_bound.specs.{Lines.{BoxLine}, OpenedNodes.{IsPart}, State.{IsCut, EndsAt, EndsBothAt, ended}};
 ghost use Rattle.work_meter.specs.Work.{IsWithin};
-ghost use Rattle.branch_and_bound.specs.OpenedNodes.{IsPart};
-ghost use Rattle.branch_and_bound.specs.State.{IsCut, EndsAt, EndsBothAt, ended};
 
 use crate::found::Stop;
 use crate::node::Node;

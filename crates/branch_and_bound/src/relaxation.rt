@@ -2,10 +2,8 @@
 
 ghost use Rattle.std.specs.Prelude.{◌≡◌, IfOk};
 ghost use Rattle.search_box.specs.declared.span.At.{At};
-ghost use Rattle.branch_and_bound.specs.Lines.{BoxLine, top_line};
-ghost use Rattle.branch_and_bound.specs.Rules.{Rules};
+ghost use Rattle.branch_and_bound.specs.{Lines.{BoxLine, top_line}, Rules.{Rules}, OpenedNodes.{Opens, IsPart}};
 ghost use Rattle.work_meter.specs.Work.{HasWork};
-ghost use Rattle.branch_and_bound.specs.OpenedNodes.{Opens, IsPart};
 
 use crate::opened::Opened;
 use named_row::Leaf;

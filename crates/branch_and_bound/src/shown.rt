@@ -1,8 +1,7 @@
 //! The nodes as they are answered.
 
 ghost use Rattle.std.specs.Prelude.{◌≡◌, ◌++◌, Some, true, false, [], ◌∷◌, IfOk, OnOk};
-ghost use Rattle.branch_and_bound.specs.Matchings.{Matches};
-ghost use Rattle.branch_and_bound.specs.State.{IsShown};
+ghost use Rattle.branch_and_bound.specs.{Matchings.{Matches}, State.{IsShown}};
 
 use crate::incumbent::{Incumbent, is_reached};
 use crate::node::{Node, TreeNode};

@@ -44,9 +44,7 @@ pub struct WholeBands<'a> {
 }
 
 impl<'a> Sought for WholeBands<'a> {
-    ghost use Rattle.branch_tree.specs.ArteryProgram.{program_of};
-    ghost use Rattle.branch_tree.specs.ArteryRules.{meaning_of};
-    ghost use Rattle.branch_tree.specs.Rooms.{AreLoadedRows};
+    ghost use Rattle.branch_tree.specs.{ArteryProgram.{program_of}, ArteryRules.{meaning_of}, Rooms.{AreLoadedRows}};
     ghost use Rattle.branch_tree.specs.WholeBands.{whole_bands};
 
     type Timing = Timing;

@@ -3,9 +3,7 @@
 ghost use Rattle.std.specs.Prelude.{◌≡◌, ◌++◌, [], ◌∷◌, ℕ, Option, map, option_map, IfOk, OnOk};
 ghost use Rattle.certificate_model.specs.Warrants as warrants;
 ghost use Rattle.certificate_checker.specs.Accepted.{IsAccepted};
-ghost use Rattle.branch_tree.specs.Searches.{IsSearch};
-ghost use Rattle.branch_tree.specs.Meaning.{rules_from};
-ghost use Rattle.branch_tree.specs.Told.{IsAnswered, IsCertifiableIn, IsCertifiable};
+ghost use Rattle.branch_tree.specs.{Searches.{IsSearch}, Meaning.{rules_from}, Told.{IsAnswered, IsCertifiableIn, IsCertifiable}};
 ghost use Rattle.branch_tree.specs.Trees as trees;
 ghost use Rattle.branch_tree.specs.Certified as certified;
 ghost use Rattle.branch_tree.specs.Certified.{warrant_by, warrant_of};

@@ -4,10 +4,7 @@
 ghost use Rattle.std.specs.Prelude.{◌≡◌, IfOk, IfSome};
 ghost use Rattle.progression.specs.Good.{Good};
 ghost use Rattle.work_meter.specs.Work.{IsBelow};
-ghost use Rattle.branch_tree.specs.Certified.{warrant_by, warrant_of};
-ghost use Rattle.branch_tree.specs.Kinds.{IsSearchedOf};
-ghost use Rattle.branch_tree.specs.Told.{IsTimed};
-ghost use Rattle.branch_tree.specs.Searched.{IsSearched};
+ghost use Rattle.branch_tree.specs.{Certified.{warrant_by, warrant_of}, Kinds.{IsSearchedOf}, Told.{IsTimed}, Searched.{IsSearched}};
 
 use crate::artery::WholeBands;
 use crate::certifying::certificate_for;

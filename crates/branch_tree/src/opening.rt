@@ -4,8 +4,7 @@ ghost use Rattle.std.specs.Prelude.{◌≡◌, IfOk};
 ghost use Rattle.branch_and_bound.specs.Lines.{BoxLine};
 ghost use Rattle.program_builder.specs.Loading.{HasRoomFor};
 ghost use Rattle.work_meter.specs.Work.{HasWork};
-ghost use Rattle.branch_tree.specs.Ends.{named_first};
-ghost use Rattle.branch_tree.specs.Runs.{IsRun, HasFirst, HasRun, HasOptimalRun, HasInfeasibleRun};
+ghost use Rattle.branch_tree.specs.{Ends.{named_first}, Runs.{IsRun, HasFirst, HasRun, HasOptimalRun, HasInfeasibleRun}};
 ghost use Rattle.branch_tree.specs.BoxRuns.{table_of, IsCutBy, IsCovering};
 ghost use Rattle.branch_tree.specs.OpenedBoxes.{IsReadOff, IsEmptyOff, IsWideOff, IsOpenedBy, IsOpened};
 

@@ -17,8 +17,7 @@ pub struct Relaxed<'a, S> {
 }
 
 impl<'a, S: Sought> Relaxation for Relaxed<'a, S> {
-    ghost use Rattle.branch_tree.specs.Meaning.{rules_from};
-    ghost use Rattle.branch_tree.specs.Rooms.{IsRoomFor};
+    ghost use Rattle.branch_tree.specs.{Meaning.{rules_from}, Rooms.{IsRoomFor}};
 
     type Room = Room<S::Spare>;
 

@@ -3,10 +3,8 @@
 ghost use Rattle.std.specs.Prelude.{IfOk, IfSome};
 ghost use Rattle.progression.specs.Good.{Good};
 ghost use Rattle.work_meter.specs.Work.{IsBelow};
-ghost use Rattle.branch_tree.specs.Meaning.{rules_from};
-ghost use Rattle.branch_tree.specs.Searches.{IsSearch};
+ghost use Rattle.branch_tree.specs.{Meaning.{rules_from}, Searches.{IsSearch}, SiteNames.{EndsAt, HasSite}};
 ghost use Rattle.branch_tree.specs.Told.{IsAnswered, TellsOf, Tells, IsCertifiableIn, IsCertifiable};
-ghost use Rattle.branch_tree.specs.SiteNames.{EndsAt, HasSite};
 ghost use Rattle.branch_tree.specs.Enough.{enough_for, IsWithin, IsWithinEnough};
 
 use crate::artery::WholeBands;

@@ -2,22 +2,15 @@
 
 ghost use Rattle.std.specs.Prelude.{◌≡◌, IfOk, OnOk};
 ghost use Rattle.linear_theory.specs.Boxes.{Area};
-ghost use Rattle.simplex_theory.specs.BlandRule.{optimal};
-ghost use Rattle.simplex_theory.specs.DualSteps.{IsPlaced};
+ghost use Rattle.simplex_theory.specs.{BlandRule.{optimal}, DualSteps.{IsPlaced}};
 ghost use Rattle.search_box.specs.declared.span.At.{At};
 ghost use Rattle.fraction_tableau.specs.NamedTableaus.{NamedTableau};
 ghost use Rattle.program_builder.specs.Loading.{HasRoomFor};
 ghost use Rattle.certificate_model.specs.Warrants.{WarrantWith, IsCertificateIn};
-ghost use Rattle.branch_and_bound.specs.Lines.{BoxLine, top_line};
-ghost use Rattle.branch_and_bound.specs.OpenedNodes.{IsPart};
-ghost use Rattle.branch_tree.specs.declared.site.SitePart.{SitePart};
-ghost use Rattle.branch_tree.specs.Program.{Program};
-ghost use Rattle.branch_tree.specs.Ends.{end_leaf, end_move, end_point, named_first};
-ghost use Rattle.branch_tree.specs.Meaning.{Meaning, EndsProve, rules_from};
-ghost use Rattle.branch_tree.specs.BoxRuns.{IsSummed, outcome_by, table_of};
-ghost use Rattle.branch_tree.specs.Certified.{warrant_from};
-ghost use Rattle.branch_tree.specs.Kinds.{Kind, CanBeSought, ClaimHoldsOf};
-ghost use Rattle.branch_tree.specs.Rooms.{IsRoomFor};
+ghost use Rattle.branch_and_bound.specs.{Lines.{BoxLine, top_line}, OpenedNodes.{IsPart}};
+ghost use Rattle.branch_tree.specs.{declared.site.SitePart.{SitePart}, Program.{Program}, Meaning.{Meaning, EndsProve, rules_from}};
+ghost use Rattle.branch_tree.specs.{Ends.{end_leaf, end_move, end_point, named_first}, BoxRuns.{IsSummed, outcome_by, table_of}};
+ghost use Rattle.branch_tree.specs.{Certified.{warrant_from}, Kinds.{Kind, CanBeSought, ClaimHoldsOf}, Rooms.{IsRoomFor}};
 
 use crate::program::{Read, Summed};
 use crate::room::Room;

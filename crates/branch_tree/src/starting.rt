@@ -3,8 +3,7 @@
 ghost use Rattle.std.specs.Prelude.{◌≡◌, ◌++◌, [], ◌∷◌, IfOk, OnOk};
 ghost use Rattle.linear_theory.specs.Boxes.{root_box};
 ghost use Rattle.dual_leaf.specs.Leaves.{multiplier};
-ghost use Rattle.branch_tree.specs.Starts.{start_bound};
-ghost use Rattle.branch_tree.specs.Relaxed.{IsStartLeaf, CoversBox};
+ghost use Rattle.branch_tree.specs.{Starts.{start_bound}, Relaxed.{IsStartLeaf, CoversBox}};
 
 use artery_model::Artery;
 use loop_rows::{SumFault, leaf_sum};

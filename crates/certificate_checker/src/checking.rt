@@ -2,11 +2,8 @@
 
 ghost use Rattle.std.specs.Prelude.{◌≡◌, map, None, IfErr, OnOk};
 ghost use Rattle.narrow_fraction.specs.Attempt.{attempt};
-ghost use Rattle.certificate_checker.specs.Accepted.{IsAccepted};
+ghost use Rattle.certificate_checker.specs.{Accepted.{IsAccepted}, ClaimRefusals.{IfThere}, Claims.{ClaimHolds}, Refusals.{IsFirstRefusal}};
 ghost use Rattle.certificate_checker.specs.Checked.{numbers_refusal_of, nodes_refusal_of, TimingFailsFirst, IsAcceptedOf, IsFirstRefusalOf};
-ghost use Rattle.certificate_checker.specs.ClaimRefusals.{IfThere};
-ghost use Rattle.certificate_checker.specs.Claims.{ClaimHolds};
-ghost use Rattle.certificate_checker.specs.Refusals.{IsFirstRefusal};
 ghost use Rattle.certificate_checker.specs.TreeRefusals.{IsFirst};
 ghost use Rattle.certificate_model.specs.Warrants.{node_of, warrant_of, HasTiming, AreTrees};
 

@@ -2,8 +2,7 @@
 
 ghost use Rattle.std.specs.Prelude.{◌≡◌};
 ghost use Rattle.narrow_fraction.specs.Attempt.{attempt};
-ghost use Rattle.certificate_checker.specs.Accepted.{value_of, limit_of};
-ghost use Rattle.certificate_checker.specs.ClaimRefusals.{kept_refusal, bound_refusal, claim_refusal};
+ghost use Rattle.certificate_checker.specs.{Accepted.{value_of, limit_of}, ClaimRefusals.{kept_refusal, bound_refusal, claim_refusal}};
 
 use crate::reject::Reject;
 use certificate_model::Claim;

@@ -3,11 +3,9 @@
 ghost use Rattle.std.specs.Prelude.{◌≡◌, length, false, None, IfOk, IfErr, OnOk};
 ghost use Rattle.linear_theory.specs.Boxes.{Area, IsBoxOf};
 ghost use Rattle.loop_rows.specs.Weights.{total_of, fault_of, IsFirstFault};
-ghost use Rattle.search_box.specs.Places.{IsPlace, low_part, high_part};
-ghost use Rattle.search_box.specs.declared.span.At.{At};
+ghost use Rattle.search_box.specs.{Places.{IsPlace, low_part, high_part}, declared.span.At.{At}};
 ghost use Rattle.search_box.proofs.Parts.{parts_boxed};
-ghost use Rattle.certificate_checker.specs.Checked.{Checked};
-ghost use Rattle.certificate_checker.specs.Refusals.{one_band};
+ghost use Rattle.certificate_checker.specs.{Checked.{Checked}, Refusals.{one_band}};
 
 use artery_model::Artery;
 use loop_rows::{BoxRows, SumFault, column_count, fill_goal, sum_of};

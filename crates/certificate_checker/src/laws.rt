@@ -1,7 +1,6 @@
 //! How acceptance and refusals fit together, and what tree an accepted list of nodes is.
 
-ghost use Rattle.certificate_checker.specs.Laws.{AcceptedExactly, RefusedIsNotAccepted, OneFirstRefusal};
-ghost use Rattle.certificate_checker.specs.ProofTrees.{ProofsAreTrees};
+ghost use Rattle.certificate_checker.specs.{Laws.{AcceptedExactly, RefusedIsNotAccepted, OneFirstRefusal}, ProofTrees.{ProofsAreTrees}};
 
 use time_space::{law_fails_rules_out, law_one_first};
 

@@ -4,9 +4,7 @@ ghost use Rattle.std.specs.Prelude.{◌≡◌, ◌+◌, ◌<◌, ◌≤◌, ◌^
 ghost use Rattle.linear_theory.specs.Boxes.{Area};
 ghost use Rattle.search_box.specs.Places.{low_part, high_part};
 ghost use Rattle.certificate_model.specs.Warrants.{Node, node_of, AreTrees};
-ghost use Rattle.certificate_checker.specs.Owed.{first_of};
-ghost use Rattle.certificate_checker.specs.TreeProofs.{IsTreeProof};
-ghost use Rattle.certificate_checker.specs.TreeRefusals.{split_refusal, tree_refusal, IsFirst};
+ghost use Rattle.certificate_checker.specs.{Owed.{first_of}, TreeProofs.{IsTreeProof}, TreeRefusals.{split_refusal, tree_refusal, IsFirst}};
 
 use crate::kind::CheckedKind;
 use crate::leaves::{Aim, check_leaf};

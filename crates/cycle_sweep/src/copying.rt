@@ -1,8 +1,7 @@
 //! Copies of a street's parts, and the street at one cycle.
 
 ghost use Rattle.std.specs.Prelude.{◌≡◌, ◌++◌, [], ◌∷◌, IfOk, OnOk};
-ghost use Rattle.artery_model.specs.Bounds.{least_cycle, most_cycle};
-ghost use Rattle.artery_model.specs.Valid.{IsQuantity};
+ghost use Rattle.artery_model.specs.{Bounds.{least_cycle, most_cycle}, Valid.{IsQuantity}};
 ghost use Rattle.cycle_sweep.specs.Rows.{head_at, at_cycle};
 
 use artery_model::{Artery, Flaw, Head, Link, Pair, Signal, Text};

@@ -2,9 +2,7 @@
 
 ghost use Rattle.std.specs.Prelude.{◌≡◌, ◌↔◌, IsTrue};
 ghost use Rattle.rational_theory.specs.Rational.{whole};
-ghost use Rattle.artery_model.specs.Bounds.{least_cycle, most_cycle};
-ghost use Rattle.artery_model.specs.Limits.{within};
-ghost use Rattle.artery_model.specs.Valid.{IsQuantity};
+ghost use Rattle.artery_model.specs.{Bounds.{least_cycle, most_cycle}, Limits.{within}, Valid.{IsQuantity}};
 ghost use Rattle.cycle_sweep.specs.Rows.{IsAllowed};
 
 use artery_model::bounds::{LEAST_CYCLE, MOST_CYCLE};

@@ -2,8 +2,7 @@
 
 ghost use Rattle.std.specs.Prelude.{◌≡◌, ◌++◌, [], ◌∷◌, All, IfOk, OnOk};
 ghost use Rattle.work_meter.specs.Work.{IsBelow};
-ghost use Rattle.artery_model.specs.Bounds.{least_cycle, most_cycle};
-ghost use Rattle.artery_model.specs.Valid.{IsQuantity};
+ghost use Rattle.artery_model.specs.{Bounds.{least_cycle, most_cycle}, Valid.{IsQuantity}};
 ghost use Rattle.cycle_sweep.specs.Rows.{IsAllowed, IsRow, AreRows, IsTimedRow};
 
 use crate::copying::artery_at;

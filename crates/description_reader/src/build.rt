@@ -1,12 +1,10 @@
 //! The artery that the values of a description make.
 
 ghost use Rattle.std.specs.Prelude.{◌≡◌, map, option_map, codes, IfOk};
-ghost use Rattle.toml.specs.Data.{get, array, no_items};
-ghost use Rattle.toml.specs.View.{view};
+ghost use Rattle.toml.specs.{Data.{get, array, no_items}, View.{view}};
 ghost use Rattle.progression.specs.Street.{no_pair};
-ghost use Rattle.description_reader.specs.Quantity.{number_in};
+ghost use Rattle.description_reader.specs.{Quantity.{number_in}, Values.{at_key, text_in}};
 ghost use Rattle.description_reader.specs.Streets.{u32_or_zero, u32_at, pair_of, pair_at, has_number, patterns_of, change_at, version_of, head_in, signal_in, link_in};
-ghost use Rattle.description_reader.specs.Values.{at_key, text_in};
 
 use crate::quantity::{integer_in, number_in};
 use crate::values::{flag_at, items_at, items_in, number_at, text_at, text_in, value_at};

@@ -1,8 +1,7 @@
 //! One check of a value of a description.
 
 ghost use Rattle.std.specs.Prelude.{◌≡◌, Some, true, unwrap_or, option_map, string_bytes, codes};
-ghost use Rattle.toml.specs.Data.{get};
-ghost use Rattle.toml.specs.View.{view};
+ghost use Rattle.toml.specs.{Data.{get}, View.{view}};
 ghost use Rattle.artery_model.specs.Faults.{Judges, Names, unless};
 ghost use Rattle.description_reader.specs.Places.{key_place, item_place};
 ghost use Rattle.description_reader.specs.Checks.{meets, missing, value_fault, items_fault, demands_fault};

@@ -3,10 +3,8 @@
 ghost use Rattle.std.specs.Prelude.{◌≡◌, map, codes};
 ghost use Rattle.toml.specs.View.{view};
 ghost use Rattle.artery_model.specs.Faults.{Judges, first_fault, each_numbered};
-ghost use Rattle.description_reader.specs.Checks.{number_of, numbers_of};
+ghost use Rattle.description_reader.specs.{Checks.{number_of, numbers_of}, KeyTable.{key_of, keys_of}, Quantity.{integer_in}};
 ghost use Rattle.description_reader.specs.Judgement.{kind_fault, key_fault, table_fault, in_table, stage_tests, is_timed, facts_of, value_tests};
-ghost use Rattle.description_reader.specs.KeyTable.{key_of, keys_of};
-ghost use Rattle.description_reader.specs.Quantity.{integer_in};
 ghost use Rattle.description_reader.specs.Values.{at_key};
 
 use crate::check::{TableCheck, check_needed};

@@ -1,7 +1,6 @@
 //! Keys that no description has.
 
-ghost use Rattle.std.specs.Prelude.{◌≡◌, map};
-ghost use Rattle.std.specs.List.{list_all};
+ghost use Rattle.std.specs.{Prelude.{◌≡◌, map}, List.{list_all}};
 ghost use Rattle.toml.specs.View.{view, table_view};
 ghost use Rattle.artery_model.specs.Faults.{Judges, first_fault};
 ghost use Rattle.description_reader.specs.Keys.{may_stand, is_known, is_key_character, printed, unknown_fault, unknown_key};

@@ -16,9 +16,7 @@
 //! It also reads a plan as people type it, by the same tests (`specs/Typed.antt`): see `read_plan`.
 #![tactic(auto)]
 
-ghost use Rattle.description_reader.specs.Described.{OneAnswer};
-ghost use Rattle.description_reader.specs.LeastKey.{KeysAreJudged};
-ghost use Rattle.description_reader.specs.Promises.{SomeAnswer, DescribedIsValid};
+ghost use Rattle.description_reader.specs.{Described.{OneAnswer}, LeastKey.{KeysAreJudged}, Promises.{SomeAnswer, DescribedIsValid}};
 ghost use Rattle.description_reader.specs.Typed.{OneTyped, SomeTyped};
 
 mod build;

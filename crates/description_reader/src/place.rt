@@ -1,7 +1,6 @@
 //! The tables of a description and of a plan, and the paths of places in them.
 
-ghost use Rattle.std.specs.Prelude.{◌≡◌, ◌++◌, IfOk, string_bytes, codes};
-ghost use Rattle.std.specs.Fmt.{decimal};
+ghost use Rattle.std.specs.{Prelude.{◌≡◌, ◌++◌, IfOk, string_bytes, codes}, Fmt.{decimal}};
 ghost use Rattle.description_reader.specs.Places.{key_place, item_place};
 
 use std::alloc::{AllocError, Global};

@@ -1,11 +1,9 @@
 //! The canonical description of an artery: what is printed for it.
 
 ghost use Rattle.std.specs.Prelude.{◌≡◌, None, map, option_map, codes, IfOk, All, length};
-ghost use Rattle.toml.specs.Data.{array, boolean, string, table};
-ghost use Rattle.toml.specs.View.{view, table_view, items_of};
+ghost use Rattle.toml.specs.{Data.{array, boolean, string, table}, View.{view, table_view, items_of}};
 ghost use Rattle.artery_model.specs.Limits.{artery_fault};
-ghost use Rattle.description_reader.specs.Described.{ReadsAs, Described};
-ghost use Rattle.description_reader.specs.Members.{with_member, with_member_if_there};
+ghost use Rattle.description_reader.specs.{Described.{ReadsAs, Described}, Members.{with_member, with_member_if_there}};
 ghost use Rattle.description_reader.specs.Printed.{IsPrinted, OneText};
 ghost use Rattle.description_reader.specs.Canonical.{number_data, quantity_data, pair_data, units_text, patterns_from, head_members, signal_members, link_members, signal_data, link_data, canonical, HasFour};
 

@@ -1,8 +1,7 @@
 //! Numbers in a description: TOML integers, and texts of the grammar of quantities.
 
 ghost use Rattle.std.specs.Prelude.{◌≡◌, ◌||◌, is_some};
-ghost use Rattle.toml.specs.Data.{as_integer, as_str};
-ghost use Rattle.toml.specs.View.{view};
+ghost use Rattle.toml.specs.{Data.{as_integer, as_str}, View.{view}};
 ghost use Rattle.description_reader.specs.Quantity.{quantity_in, number_in, integer_in};
 
 use narrow_fraction::Frac;

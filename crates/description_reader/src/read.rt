@@ -2,10 +2,8 @@
 
 ghost use Rattle.std.specs.Prelude.{◌≡◌, IfOk, IfErr};
 ghost use Rattle.toml.specs.View.{view};
-ghost use Rattle.artery_model.specs.Faults.{Judges};
-ghost use Rattle.artery_model.specs.Limits.{artery_fault};
-ghost use Rattle.description_reader.specs.Streets.{street_in, description_fault};
-ghost use Rattle.description_reader.specs.Described.{ReadsAs, IsNoDocument, Described, Refuses};
+ghost use Rattle.artery_model.specs.{Faults.{Judges}, Limits.{artery_fault}};
+ghost use Rattle.description_reader.specs.{Streets.{street_in, description_fault}, Described.{ReadsAs, IsNoDocument, Described, Refuses}};
 
 use crate::build::{head_in, links_in, signals_in};
 use crate::check::refused_file;

@@ -1,10 +1,8 @@
 //! Looking into a TOML value.
 
 ghost use Rattle.std.specs.Prelude.{◌≡◌, option_map, map};
-ghost use Rattle.toml.specs.Data.{get};
-ghost use Rattle.toml.specs.View.{view};
-ghost use Rattle.description_reader.specs.Quantity.{integer_in};
-ghost use Rattle.description_reader.specs.Values.{has, at_key, items_in, text_in, flag_in};
+ghost use Rattle.toml.specs.{Data.{get}, View.{view}};
+ghost use Rattle.description_reader.specs.{Quantity.{integer_in}, Values.{has, at_key, items_in, text_in, flag_in}};
 
 use crate::quantity::integer_in;
 use toml::Value;

@@ -1,12 +1,9 @@
 //! The words of a drawing.
 
-ghost use Rattle.std.specs.Prelude.{◌≡◌, ◌<◌, ◌≤◌, ◌^◌, ◌++◌, OnOk, pos, ◌≤ℤ◌, length};
-ghost use Rattle.std.specs.Fmt.{decimal};
-ghost use Rattle.progression.specs.Street.{count};
-ghost use Rattle.progression.specs.Good.{IsBase};
-ghost use Rattle.diagram_draw.specs.declared.paint.Letter.TheVariants.{Title, Facts, HeadEnd, Number};
+ghost use Rattle.std.specs.{Prelude.{◌≡◌, ◌<◌, ◌≤◌, ◌^◌, ◌++◌, OnOk, pos, ◌≤ℤ◌, length}, Fmt.{decimal}};
+ghost use Rattle.progression.specs.{Street.{count}, Good.{IsBase}};
+ghost use Rattle.diagram_draw.specs.{declared.paint.Letter.TheVariants.{Title, Facts, HeadEnd, Number}, Frames.{IsFrame}};
 ghost use Rattle.diagram_draw.specs.Shapes.{words_opening, words_text, caption_text, captions_text};
-ghost use Rattle.diagram_draw.specs.Frames.{IsFrame};
 ghost use Rattle.diagram_draw.specs.Captions.{tenths, seconds_text, percent_text, offset_text, title_of, title_text, band_facts, cycle_facts, inbound_facts};
 ghost use Rattle.diagram_draw.specs.Captions.{facts_text, unit_of_length, unit_of_speed, head_level, title_heads, signal_heads, link_heads, cycles_text};
 ghost use Rattle.diagram_draw.specs.Captions.{cycle_number, cycle_numbers, second_number, second_numbers, row_level, name_letter, name_caption, names};

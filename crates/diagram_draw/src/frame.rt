@@ -2,8 +2,7 @@
 
 ghost use Rattle.std.specs.Prelude.{◌≡◌, ◌+◌, ◌-◌, ◌*◌, ◌<◌, ◌≤◌, ◌^◌, ℤ, pos, ◌*ℤ◌, ◌+ℤ◌, ◌-ℤ◌, length, unsigned_abs};
 ghost use Rattle.std.specs.Int.{int_div_euclid};
-ghost use Rattle.progression.specs.Street.{count, signal_of};
-ghost use Rattle.progression.specs.TimingRecord.{cycle};
+ghost use Rattle.progression.specs.{Street.{count, signal_of}, TimingRecord.{cycle}};
 ghost use Rattle.diagram_draw.specs.Frames.{trip, reach, longest_reach, cycles_for, far, street_length, shortest, rise_for, span_for, longest_name, name_room, frame_of, x_at, level, plot_bottom, earlier, later, IsFrame};
 
 use artery_model::{Artery, Dir};

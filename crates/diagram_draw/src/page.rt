@@ -1,17 +1,11 @@
 //! The whole drawing, and its text.
 
-ghost use Rattle.std.specs.Prelude.{◌≡◌, ◌+◌, ◌≤◌, ◌++◌, codes, IfOk, OnOk, pos, length};
-ghost use Rattle.std.specs.Fmt.{decimal};
-ghost use Rattle.progression.specs.Street.{count};
-ghost use Rattle.progression.specs.Good.{IsBase};
-ghost use Rattle.diagram_draw.specs.declared.shape.Shape.TheVariants.{Rect};
-ghost use Rattle.diagram_draw.specs.Shapes.{shapes_text};
-ghost use Rattle.diagram_draw.specs.Frames.{IsFrame};
-ghost use Rattle.diagram_draw.specs.Axes.{back};
-ghost use Rattle.diagram_draw.specs.Captions.{title_text, names};
+ghost use Rattle.std.specs.{Prelude.{◌≡◌, ◌+◌, ◌≤◌, ◌++◌, codes, IfOk, OnOk, pos, length}, Fmt.{decimal}};
+ghost use Rattle.progression.specs.{Street.{count}, Good.{IsBase}};
+ghost use Rattle.diagram_draw.specs.{declared.shape.Shape.TheVariants.{Rect}, Shapes.{shapes_text}, Frames.{IsFrame}, Axes.{back}};
+ghost use Rattle.diagram_draw.specs.{Captions.{title_text, names}, Pages.{names_part, head_text, body_text, tail_text, svg_text}};
 ghost use Rattle.diagram_draw.specs.Pages.{key_bar, key_piece, key_shapes, signal_about, signals_about, about_text, field_shapes, drawn, drawing};
 ghost use Rattle.diagram_draw.specs.Pages.{plot_clip, names_clip, clips_text, svg_opening, title_part, about_part, opening_text, definitions_text, field_part};
-ghost use Rattle.diagram_draw.specs.Pages.{names_part, head_text, body_text, tail_text, svg_text};
 
 use crate::axes::back;
 use crate::bands::all_pieces;

@@ -1,8 +1,7 @@
 //! The lines of what a search found.
 
 ghost use Rattle.std.specs.Prelude.{◌≡◌, ◌++◌, IfOk, OnOk, IfSome, option_map};
-ghost use Rattle.progression.specs.Street.{count};
-ghost use Rattle.progression.specs.Good.{Good};
+ghost use Rattle.progression.specs.{Street.{count}, Good.{Good}};
 ghost use Rattle.linear_theory.specs.Boxes.{IsBoxOf};
 ghost use Rattle.certificate_model.specs.Families.{table_of};
 ghost use Rattle.branch_tree.specs.SiteNames.{StopsAt, EndsAt, HasSite};

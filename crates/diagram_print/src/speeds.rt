@@ -1,8 +1,7 @@
 //! The lines of a timing's links.
 
 ghost use Rattle.std.specs.Prelude.{◌≡◌, ◌++◌, ◌<◌, ◌≤◌, OnOk};
-ghost use Rattle.progression.specs.Street.{count};
-ghost use Rattle.progression.specs.Good.{IsBase};
+ghost use Rattle.progression.specs.{Street.{count}, Good.{IsBase}};
 ghost use Rattle.diagram_print.specs.Speeds.{link_name, speed_line, speed_lines, link_lines};
 
 use crate::measures::{dir_name, push_measure_line};

@@ -2,9 +2,7 @@
 
 ghost use Rattle.std.specs.Prelude.{◌≡◌, ℕ, ◌<◌, ◌≤◌, ◌+◌, pos, eqb, cond, length, get_or, replicate, IfOk};
 ghost use Rattle.rational_theory.specs.Rational.{whole};
-ghost use Rattle.simplex_theory.specs.Tableau.{height, width};
-ghost use Rattle.simplex_theory.specs.Totals.{cell_of};
-ghost use Rattle.simplex_theory.specs.Vertices.{vertex};
+ghost use Rattle.simplex_theory.specs.{Tableau.{height, width}, Totals.{cell_of}, Vertices.{vertex}};
 ghost use Rattle.dual_leaf.specs.Leaves.{row_or_goal};
 
 use fraction_tableau::Tableau;

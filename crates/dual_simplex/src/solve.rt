@@ -1,9 +1,7 @@
 //! The steps of a node.
 
 ghost use Rattle.std.specs.Prelude.{◌≡◌, ℕ, ◌&&◌, None, false};
-ghost use Rattle.simplex_theory.specs.DualSteps.{IsDual};
-ghost use Rattle.simplex_theory.specs.BlandRule.{move};
-ghost use Rattle.simplex_theory.specs.StepCounts.{is_pivot};
+ghost use Rattle.simplex_theory.specs.{DualSteps.{IsDual}, BlandRule.{move}, StepCounts.{is_pivot}};
 ghost use Rattle.work_meter.specs.Work.{is_out, IsWithin};
 ghost use Rattle.dual_simplex.specs.Ends.{Solved};
 

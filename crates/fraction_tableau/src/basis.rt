@@ -1,8 +1,6 @@
 //! The basis of a tableau.
 
-ghost use Rattle.std.specs.Prelude.{◌≡◌, IfOk};
-ghost use Rattle.std.specs.List.Sorted.{IsPermutation, IsSorted};
-ghost use Rattle.std.specs.Ordering.{nat_cmp};
+ghost use Rattle.std.specs.{Prelude.{◌≡◌, IfOk}, List.Sorted.{IsPermutation, IsSorted}, Ordering.{nat_cmp}};
 ghost use Rattle.simplex_theory.specs.DualSteps.{IsPlaced};
 ghost use Rattle.entry_theory.specs.Basics.{basics_of};
 

@@ -4,11 +4,8 @@ ghost use Rattle.std.specs.Prelude.{◌≡◌, ℕ, ◌+◌, ◌<◌, ◌≤◌,
 ghost use Rattle.rational_theory.specs.Rational.{whole, inverse_ℚ};
 ghost use Rattle.simplex_theory.specs.Lines.{turned, cleared};
 ghost use Rattle.narrow_fraction.specs.Attempt.{attempt, first_below};
-ghost use Rattle.fraction_tableau.specs.Narrow.{IsNarrow, AreNarrow};
-ghost use Rattle.fraction_tableau.specs.Refusals.{clear_refusal, row_refusal, pivot_refusal, exchanged_rows};
-ghost use Rattle.fraction_tableau.specs.RowChanges.{IsPivoted, Clears};
-ghost use Rattle.fraction_tableau.specs.KeptCells.{number_in};
-ghost use Rattle.fraction_tableau.specs.Columns.{AreNoted};
+ghost use Rattle.fraction_tableau.specs.{Narrow.{IsNarrow, AreNarrow}, RowChanges.{IsPivoted, Clears}, KeptCells.{number_in}};
+ghost use Rattle.fraction_tableau.specs.{Refusals.{clear_refusal, row_refusal, pivot_refusal, exchanged_rows}, Columns.{AreNoted}};
 
 use crate::fractions::Elimination;
 use crate::sparse_row::SparseRow;

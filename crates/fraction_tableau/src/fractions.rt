@@ -4,9 +4,7 @@ ghost use Rattle.std.specs.Prelude.{◌≡◌, ◌+◌, ◌<◌, ◌^◌, pos, l
 ghost use Rattle.rational_theory.specs.Rational.{whole, inverse_ℚ, neg_ℚ};
 ghost use Rattle.simplex_theory.specs.Lines.{turned, cleared};
 ghost use Rattle.narrow_fraction.specs.Attempt.{attempt};
-ghost use Rattle.fraction_tableau.specs.Narrow.{IsNarrow};
-ghost use Rattle.fraction_tableau.specs.Refusals.{turn_refusal, clear_refusal};
-ghost use Rattle.fraction_tableau.specs.RowChanges.{CanTurn, CanClear};
+ghost use Rattle.fraction_tableau.specs.{Narrow.{IsNarrow}, Refusals.{turn_refusal, clear_refusal}, RowChanges.{CanTurn, CanClear}};
 ghost use Rattle.fraction_tableau.specs.KeptCells.{number_in, dense_row, IsSparse};
 
 use crate::kept::Kept;

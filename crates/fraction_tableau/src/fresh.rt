@@ -1,7 +1,6 @@
 //! The lists of a new tableau.
 
-ghost use Rattle.std.specs.Prelude.{◌≡◌, ◌+◌, ◌<◌, ◌^◌, pos, replicate, IfOk};
-ghost use Rattle.std.specs.List.{range_with_len};
+ghost use Rattle.std.specs.{Prelude.{◌≡◌, ◌+◌, ◌<◌, ◌^◌, pos, replicate, IfOk}, List.{range_with_len}};
 ghost use Rattle.rational_theory.specs.Rational.{whole};
 ghost use Rattle.fraction_tableau.specs.NamedTableaus.{unnamed};
 

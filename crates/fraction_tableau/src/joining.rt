@@ -3,8 +3,7 @@
 ghost use Rattle.std.specs.Prelude.{◌≡◌, ℕ, ◌+◌, ◌*◌, ◌/◌, ◌<◌, ◌≤◌, ◌^◌, ◌*ℤ◌, ◌+ℤ◌, neg_ℤ, pos, cond, length, take, unsigned_abs, IfSome, SomeIff};
 ghost use Rattle.rational_theory.specs.Rational.{whole, over, neg_ℚ, ◌+ℚ◌, ◌*ℚ◌};
 ghost use Rattle.simplex_theory.specs.Lines.{cleared};
-ghost use Rattle.fraction_tableau.specs.KeptCells.{number_in, kept_below};
-ghost use Rattle.fraction_tableau.specs.Marks.{AreMarked};
+ghost use Rattle.fraction_tableau.specs.{KeptCells.{number_in, kept_below}, Marks.{AreMarked}};
 ghost use Rattle.fraction_tableau.specs.Scales.{numerator, factor_of, IsOver, IsScaled, IsJoining, IsJoined};
 
 use crate::kept::{Kept, put};

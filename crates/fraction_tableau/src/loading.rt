@@ -1,7 +1,6 @@
 //! The numbers of a row or a goal that is loaded.
 
-ghost use Rattle.std.specs.Prelude.{◌≡◌, ℕ, ◌<◌, ◌≤◌, ◌^◌, take, length};
-ghost use Rattle.std.specs.List.{range_with_len};
+ghost use Rattle.std.specs.{Prelude.{◌≡◌, ℕ, ◌<◌, ◌≤◌, ◌^◌, take, length}, List.{range_with_len}};
 ghost use Rattle.rational_theory.specs.Rational.{neg_ℚ};
 ghost use Rattle.narrow_fraction.specs.Fraction.{FitsFrac};
 ghost use Rattle.fraction_tableau.specs.KeptCells.{number_in, kept_below};

@@ -1,7 +1,6 @@
 //! Marks of the places of a row's cells, in one word: of most places without a cell, one test says so.
 
-ghost use Rattle.std.specs.Prelude.{◌≡◌, ℕ, ◌≤◌, ◌%◌, true, false, length, take};
-ghost use Rattle.std.specs.Int.{bit_at};
+ghost use Rattle.std.specs.{Prelude.{◌≡◌, ℕ, ◌≤◌, ◌%◌, true, false, length, take}, Int.{bit_at}};
 ghost use Rattle.fraction_tableau.specs.Marks.{AreMarked};
 
 use crate::kept::Kept;

@@ -2,12 +2,9 @@
 
 ghost use Rattle.std.specs.Prelude.{◌≡◌, ℕ, ◌+◌, ◌<◌, ◌≤◌, ◌^◌, None, Some, pos, cond, eqb, length, take, unsigned_abs, IfOk, IfErr};
 ghost use Rattle.rational_theory.specs.Rational.{ℚ, whole, over, neg_ℚ, ◌+ℚ◌, ◌*ℚ◌};
-ghost use Rattle.narrow_fraction.specs.Fraction.{FitsFrac};
-ghost use Rattle.narrow_fraction.specs.Attempt.{attempt, first_below};
-ghost use Rattle.fraction_tableau.specs.Narrow.{IsNarrow};
-ghost use Rattle.fraction_tableau.specs.Refusals.{less_refusal, clear_at};
+ghost use Rattle.narrow_fraction.specs.{Fraction.{FitsFrac}, Attempt.{attempt, first_below}};
+ghost use Rattle.fraction_tableau.specs.{Narrow.{IsNarrow}, Refusals.{less_refusal, clear_at}, Marks.{AreMarked}};
 ghost use Rattle.fraction_tableau.specs.KeptCells.{number_in, kept_below, merged_at, IsMerged, IsCarriedOn};
-ghost use Rattle.fraction_tableau.specs.Marks.{AreMarked};
 ghost use Rattle.fraction_tableau.specs.Scales.{numerator, CanRescale};
 
 use crate::kept::{Kept, put};

@@ -4,11 +4,8 @@ ghost use Rattle.std.specs.Prelude.{◌≡◌, ◌+◌, ◌-◌, ◌<◌, ◌≤
 ghost use Rattle.rational_theory.specs.Rational.{ℚ, whole, inverse_ℚ};
 ghost use Rattle.simplex_theory.specs.Lines.{turned, cleared};
 ghost use Rattle.narrow_fraction.specs.Attempt.{attempt};
-ghost use Rattle.fraction_tableau.specs.Narrow.{IsNarrow};
-ghost use Rattle.fraction_tableau.specs.Refusals.{turn_refusal, clear_refusal};
-ghost use Rattle.fraction_tableau.specs.RowChanges.{CanTurn, Turns, CanClear, Clears};
-ghost use Rattle.fraction_tableau.specs.NamedTableaus.{row_cells, goal_cells, rebound};
-ghost use Rattle.fraction_tableau.specs.KeptCells.{number_in, kept_below};
+ghost use Rattle.fraction_tableau.specs.{Narrow.{IsNarrow}, Refusals.{turn_refusal, clear_refusal}, KeptCells.{number_in, kept_below}};
+ghost use Rattle.fraction_tableau.specs.{RowChanges.{CanTurn, Turns, CanClear, Clears}, NamedTableaus.{row_cells, goal_cells, rebound}};
 ghost use Rattle.fraction_tableau.specs.Scales.{IsOver, IsScaled, IsJoining, IsTurning, factor_of, pivot_of};
 
 use crate::fractions::{Elimination, clear_row, turn_row};
@@ -46,9 +43,7 @@ pub struct SparseRow {
 impl Model for SparseRow {
     ghost use Rattle.std.specs.Prelude.{List, length, take};
     ghost use Rattle.rational_theory.specs.Rational.{ℚ};
-    ghost use Rattle.fraction_tableau.specs.KeptCells.{dense_row, IsSparse};
-    ghost use Rattle.fraction_tableau.specs.Scales.{HasScale};
-    ghost use Rattle.fraction_tableau.specs.Marks.{AreMarked};
+    ghost use Rattle.fraction_tableau.specs.{KeptCells.{dense_row, IsSparse}, Scales.{HasScale}, Marks.{AreMarked}};
 
     ghost Value = { List ℚ };
 

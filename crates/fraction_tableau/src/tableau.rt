@@ -4,9 +4,7 @@ ghost use Rattle.std.specs.Prelude.{◌≡◌, ◌<◌, ◌≤◌, ◌+◌, ◌^
 ghost use Rattle.rational_theory.specs.Rational.{whole};
 ghost use Rattle.simplex_theory.specs.Tableau.{cell, basic_at, standing_at, height, width, exchange};
 ghost use Rattle.narrow_fraction.specs.Attempt.{attempt};
-ghost use Rattle.fraction_tableau.specs.Refusals.{pivot_refusal};
-ghost use Rattle.fraction_tableau.specs.KeptCells.{kept_below};
-ghost use Rattle.fraction_tableau.specs.Columns.{IsColumnOf};
+ghost use Rattle.fraction_tableau.specs.{Refusals.{pivot_refusal}, KeptCells.{kept_below}, Columns.{IsColumnOf}};
 ghost use Rattle.fraction_tableau.specs.PivotCalls.{CanPivot, Pivots};
 ghost use Rattle.fraction_tableau.specs.NamedTableaus.{IsNamed, IsSpentFrom, blank_tableau, number_at, name_at, with_row, with_bound, with_goal_bound, with_goal};
 

@@ -2,11 +2,8 @@
 
 ghost use Rattle.std.specs.Prelude.{◌≡◌, ℕ, ◌+◌, ◌<◌, ◌≤◌, ◌^◌, None, Some, pos, cond, eqb, length, take, IfOk, IfErr};
 ghost use Rattle.rational_theory.specs.Rational.{whole, inverse_ℚ, ◌*ℚ◌};
-ghost use Rattle.narrow_fraction.specs.Fraction.{FitsFrac};
-ghost use Rattle.narrow_fraction.specs.Attempt.{attempt, first_below};
-ghost use Rattle.narrow_fraction.specs.declared.wide.Op.TheVariants.{Div};
-ghost use Rattle.fraction_tableau.specs.Refusals.{refused, turn_at};
-ghost use Rattle.fraction_tableau.specs.KeptCells.{number_in, kept_below, turned_cell};
+ghost use Rattle.narrow_fraction.specs.{Fraction.{FitsFrac}, Attempt.{attempt, first_below}, declared.wide.Op.TheVariants.{Div}};
+ghost use Rattle.fraction_tableau.specs.{Refusals.{refused, turn_at}, KeptCells.{number_in, kept_below, turned_cell}};
 
 use crate::kept::{Kept, put};
 use crate::sparse_row::SparseRow;

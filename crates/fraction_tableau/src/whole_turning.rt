@@ -3,8 +3,7 @@
 ghost use Rattle.std.specs.Prelude.{◌≡◌, ◌+◌, ◌<◌, ◌≤◌, ◌^◌, neg_ℤ, pos, cond, length, take, unsigned_abs};
 ghost use Rattle.rational_theory.specs.Rational.{inverse_ℚ, ◌*ℚ◌};
 ghost use Rattle.simplex_theory.specs.Lines.{turned};
-ghost use Rattle.fraction_tableau.specs.KeptCells.{number_in, kept_below};
-ghost use Rattle.fraction_tableau.specs.Scales.{IsOver, IsScaled, IsTurning, pivot_of};
+ghost use Rattle.fraction_tableau.specs.{KeptCells.{number_in, kept_below}, Scales.{IsOver, IsScaled, IsTurning, pivot_of}};
 
 use crate::kept::{Kept, put};
 use crate::scale::{Scale, numerator_of};

@@ -2,9 +2,7 @@
 
 ghost use Rattle.std.specs.Prelude.{◌≡◌, pos, IfOk};
 ghost use Rattle.rational_theory.specs.Rational.{whole, ◌-ℚ◌, ◌*ℚ◌, ◌/ℚ◌};
-ghost use Rattle.narrow_fraction.specs.Fraction.{FitsFrac};
-ghost use Rattle.narrow_fraction.specs.Attempt.{attempt};
-ghost use Rattle.narrow_fraction.specs.declared.wide.Op.TheVariants.{Mul, Div, Sub};
+ghost use Rattle.narrow_fraction.specs.{Fraction.{FitsFrac}, Attempt.{attempt}, declared.wide.Op.TheVariants.{Mul, Div, Sub}};
 
 use narrow_fraction::{Frac, Wide};
 

@@ -1,15 +1,11 @@
 //! The timing of the best band.
 
 ghost use Rattle.std.specs.Prelude.{◌≡◌, ◌+◌, ◌*◌, ◌<◌, ◌≤◌, ◌^◌, ◌++◌, [], ◌∷◌, ℕ, ℤ, pos, All, length, map, IfOk, OnOk, MatchOption, unsigned_abs, ◌+ℤ◌};
-ghost use Rattle.progression.specs.Street.{count};
-ghost use Rattle.progression.specs.TimingRecord.{cycle};
-ghost use Rattle.progression.specs.Green.{ahead, red_ticks};
+ghost use Rattle.progression.specs.{Street.{count}, TimingRecord.{cycle}, Green.{ahead, red_ticks}};
 ghost use Rattle.progression.specs.declared.parts.Dir.TheVariants.{Outbound};
 ghost use Rattle.artery_model.specs.Bounds.{most_signals};
 ghost use Rattle.time_space.specs.Sizes.{IsWithin};
-ghost use Rattle.mirror_theory.specs.EqualBands.{IsEven, HasNone, IsHalfCycleBest};
-ghost use Rattle.mirror_theory.specs.Runs.{far};
-ghost use Rattle.mirror_theory.specs.Built.{phase_at};
+ghost use Rattle.mirror_theory.specs.{EqualBands.{IsEven, HasNone, IsHalfCycleBest}, Runs.{far}, Built.{phase_at}};
 ghost use Rattle.half_integer.specs.HalfPlan.{red_tick, first_out_tick, first_in_tick, half_plan};
 ghost use Rattle.half_integer.specs.Fitting.{FitsTwice, IsListTo, twice_at};
 

@@ -1,8 +1,6 @@
 //! What the definitions promise.
 
-ghost use Rattle.half_integer.specs.Answers.{OneEnd};
-ghost use Rattle.half_integer.specs.Phases.{PhasesSay};
-ghost use Rattle.half_integer.specs.Uneven.{UnevenIsTwoReds};
+ghost use Rattle.half_integer.specs.{Answers.{OneEnd}, Phases.{PhasesSay}, Uneven.{UnevenIsTwoReds}};
 
 /// A signal is uneven exactly where its two reds aren't one interval.
 #[tactic(auto, using(crate::proofs::Lefts::uneven_is_two_reds))]

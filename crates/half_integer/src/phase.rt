@@ -1,8 +1,7 @@
 //! The phases of the reds of a half-cycle plan.
 
 ghost use Rattle.std.specs.Prelude.{◌≡◌, ◌↔◌, ◌<◌, ◌≤◌, ◌^◌, ◌/◌, IsTrue, pos, ◌-ℤ◌, length};
-ghost use Rattle.progression.specs.Street.{count};
-ghost use Rattle.progression.specs.declared.parts.Dir.TheVariants.{Outbound};
+ghost use Rattle.progression.specs.{Street.{count}, declared.parts.Dir.TheVariants.{Outbound}};
 ghost use Rattle.time_space.specs.Sizes.{IsWithin};
 ghost use Rattle.mirror_theory.specs.EqualBands.{IsCentred};
 ghost use Rattle.half_integer.specs.Phases.{is_later};

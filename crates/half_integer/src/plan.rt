@@ -1,8 +1,7 @@
 //! Half-cycle plans, with their refusals.
 
 ghost use Rattle.std.specs.Prelude.{◌≡◌, IfOk, IfErr, IfSome, MatchOption, length};
-ghost use Rattle.progression.specs.Street.{count};
-ghost use Rattle.progression.specs.Good.{IsBase};
+ghost use Rattle.progression.specs.{Street.{count}, Good.{IsBase}};
 ghost use Rattle.mirror_theory.specs.EqualBands.{HasNone, IsHalfCycleBest};
 ghost use Rattle.half_integer.specs.Answers.{IsReady, Refuses};
 

@@ -1,7 +1,6 @@
 //! What the definitions promise, and what they decide.
 
-ghost use Rattle.linear_theory.specs.Promises.{NothingIsLost};
-ghost use Rattle.linear_theory.specs.Worked.{WorkedBoxes};
+ghost use Rattle.linear_theory.specs.{Promises.{NothingIsLost}, Worked.{WorkedBoxes}};
 
 /// No good timing is lost: each lies in the root box and in one part of each split, its point meets
 /// every row, and what an accepted tree of boxes says holds of it.

@@ -1,9 +1,7 @@
 //! The check of a whole link certificate.
 
 ghost use Rattle.std.specs.Prelude.{IfErr, OnOk};
-ghost use Rattle.link_proof.specs.LinkAccepted.{IsLinkAccepted};
-ghost use Rattle.link_proof.specs.LinkRefusals.{IsFirstLinkRefusal};
-ghost use Rattle.link_proof.specs.LinkClaims.{LinkClaimHolds};
+ghost use Rattle.link_proof.specs.{LinkAccepted.{IsLinkAccepted}, LinkRefusals.{IsFirstLinkRefusal}, LinkClaims.{LinkClaimHolds}};
 ghost use Rattle.link_proof.specs.LinkLaws.{LinkAcceptedExactly, LinkRefusedIsNotAccepted, OneFirstLinkRefusal};
 
 use crate::certificate::LinkCertificate;

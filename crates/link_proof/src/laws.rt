@@ -1,7 +1,6 @@
 //! The laws of the text of a link certificate.
 
-ghost use Rattle.link_proof.specs.Promises.{OneLinksText, LinksReadBack};
-ghost use Rattle.link_proof.specs.FirstBad.{FirstBadOfLinks};
+ghost use Rattle.link_proof.specs.{Promises.{OneLinksText, LinksReadBack}, FirstBad.{FirstBadOfLinks}};
 
 /// A text is read as a link certificate exactly where it is that one's text, what is written is read again, and of any
 /// other text the first bad line is named.

@@ -1,10 +1,8 @@
 //! Link timings in the texts of certificates.
 
 ghost use Rattle.std.specs.Prelude.{◌≡◌, ◌+◌, ◌<◌, ◌++◌, ◌^◌, OnOk};
-ghost use Rattle.plan_text.specs.Lines.{Gives};
-ghost use Rattle.plan_text.specs.Spelling.{ended};
-ghost use Rattle.link_proof.specs.LinkFamilies.{links};
-ghost use Rattle.link_proof.specs.LinkTimingTexts.{link_lines, link_plan_at, IsHeldLinks, link_bands};
+ghost use Rattle.plan_text.specs.{Lines.{Gives}, Spelling.{ended}};
+ghost use Rattle.link_proof.specs.{LinkFamilies.{links}, LinkTimingTexts.{link_lines, link_plan_at, IsHeldLinks, link_bands}};
 
 use crate::families::link_families;
 use link_space::LinkTiming;

@@ -2,8 +2,7 @@
 
 ghost use Rattle.std.specs.Prelude.{◌≡◌, ◌<◌, ◌≤◌};
 ghost use Rattle.progression.specs.Street.{count};
-ghost use Rattle.link_theory.specs.LinkColumns.{link_width, half_place};
-ghost use Rattle.link_theory.specs.LinkRows.{signal_at};
+ghost use Rattle.link_theory.specs.{LinkColumns.{link_width, half_place}, LinkRows.{signal_at}};
 
 use artery_model::{Artery, Dir};
 use link_theory::End;

@@ -2,8 +2,7 @@
 
 ghost use Rattle.std.specs.Prelude.{◌≡◌, ◌≢◌, ◌<◌, ◌≤◌, length};
 ghost use Rattle.link_theory.specs.LinkNames.{HasLinkRow};
-ghost use Rattle.link_space.specs.LinkFamilies.{number_of, row_in};
-ghost use Rattle.link_space.specs.LinkSheets.{by_end, link_sheet};
+ghost use Rattle.link_space.specs.{LinkFamilies.{number_of, row_in}, LinkSheets.{by_end, link_sheet}};
 ghost use Rattle.link_space.specs.laws.LinkSheets.{link_sheet_unspent, link_sheet_met};
 
 use crate::columns::{half_column, signal_at};

@@ -2,8 +2,7 @@
 
 ghost use Rattle.std.specs.Prelude.{◌≡◌, ◌<◌, ◌≤◌, ◌-◌, ◌^◌, ◌*ℤ◌, length, false, pos, unsigned_abs};
 ghost use Rattle.rational_theory.specs.Rational.{◌*ℚ◌};
-ghost use Rattle.progression.specs.Street.{count};
-ghost use Rattle.progression.specs.Speeds.{number};
+ghost use Rattle.progression.specs.{Street.{count}, Speeds.{number}};
 ghost use Rattle.artery_model.specs.Bounds.{most_numerator, most_denominator};
 ghost use Rattle.link_theory.specs.LinkColumns.{link_width, half_place};
 ghost use Rattle.link_space.specs.LinkSheets.{with_run, link_goal_sheet};

@@ -3,8 +3,7 @@
 ghost use Rattle.std.specs.Prelude.{◌≡◌, ◌+◌, ◌*◌, ◌<◌, ◌≤◌, ◌^◌, ℕ, length, MatchOption, IfSome, unsigned_abs};
 ghost use Rattle.progression.specs.Street.{count, HasLink};
 ghost use Rattle.artery_model.specs.Bounds.{most_signals};
-ghost use Rattle.link_theory.specs.LinkRecord.{half};
-ghost use Rattle.link_theory.specs.GoodLinks.{IsGreenAround};
+ghost use Rattle.link_theory.specs.{LinkRecord.{half}, GoodLinks.{IsGreenAround}};
 ghost use Rattle.link_space.specs.LinkGreens.{IsEnd, ends, edge, IsBlockedAfter, IsBlockedEnd, IsFirstBlockedEnd, IsGreenLink, IsFirstBlockedLink};
 
 use crate::timing::LinkTiming;

@@ -1,8 +1,7 @@
 //! The problem of the link timings of one artery.
 
 ghost use Rattle.progression.specs.Street.{count};
-ghost use Rattle.link_theory.specs.LinkColumns.{link_width};
-ghost use Rattle.link_theory.specs.LinkCounts.{IsGoodLinkPoint};
+ghost use Rattle.link_theory.specs.{LinkColumns.{link_width}, LinkCounts.{IsGoodLinkPoint}};
 
 use loop_rows::Problem;
 

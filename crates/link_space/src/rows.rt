@@ -2,15 +2,11 @@
 
 ghost use Rattle.std.specs.Prelude.{◌≡◌, ◌↔◌, ◌-◌, ◌≤◌, ◌<◌, ℕ, IsTrue, MatchOption, length, true, false};
 ghost use Rattle.progression.specs.Street.{count};
-ghost use Rattle.linear_theory.specs.Places.{width};
-ghost use Rattle.linear_theory.specs.Boxes.{IsBoxOf};
-ghost use Rattle.linear_theory.specs.Names.{name_of};
+ghost use Rattle.linear_theory.specs.{Places.{width}, Boxes.{IsBoxOf}, Names.{name_of}};
 ghost use Rattle.loop_rows.specs.Following.{IsNextIn};
-ghost use Rattle.link_theory.specs.LinkColumns.{link_width};
-ghost use Rattle.link_theory.specs.LinkNames.{OfLines, NamesNoBand, HasLinkRow, link_name_of, last_link_family};
+ghost use Rattle.link_theory.specs.{LinkColumns.{link_width}, LinkNames.{OfLines, NamesNoBand, HasLinkRow, link_name_of, last_link_family}};
 ghost use Rattle.link_theory.proofs.LinkFamilies.{link_family_most, link_index_most};
-ghost use Rattle.link_space.specs.LinkFamilies.{number_of, row_in};
-ghost use Rattle.link_space.specs.LinkSheets.{wide_sheet, link_sheet, IsFilledLinks};
+ghost use Rattle.link_space.specs.{LinkFamilies.{number_of, row_in}, LinkSheets.{wide_sheet, link_sheet, IsFilledLinks}};
 ghost use Rattle.link_space.specs.LinkWeights.{rows_of_links};
 
 use crate::families::LinkFamily;

@@ -1,14 +1,9 @@
 //! The test of a link timing against the rules of an artery, rule after rule.
 
 ghost use Rattle.std.specs.Prelude.{◌≡◌, ◌+◌, ℕ, length, OnOk, IfErr};
-ghost use Rattle.progression.specs.Street.{count, HasLink};
-ghost use Rattle.progression.specs.Good.{IsBase, RatioHolds};
-ghost use Rattle.progression.specs.declared.parts.Dir.{Dir};
-ghost use Rattle.link_theory.specs.LinkRecord.{IsLinkRecord, lines, half};
-ghost use Rattle.link_theory.specs.GoodLinks.{GoodLinks};
-ghost use Rattle.link_space.specs.LinkGreens.{IsGreenLink};
-ghost use Rattle.link_space.specs.LinkFailing.{LinkFailsRulesOut};
-ghost use Rattle.link_space.specs.FinerLinks.{FinerLinkGrids};
+ghost use Rattle.progression.specs.{Street.{count, HasLink}, Good.{IsBase, RatioHolds}, declared.parts.Dir.{Dir}};
+ghost use Rattle.link_theory.specs.{LinkRecord.{IsLinkRecord, lines, half}, GoodLinks.{GoodLinks}};
+ghost use Rattle.link_space.specs.{LinkGreens.{IsGreenLink}, LinkFailing.{LinkFailsRulesOut}, FinerLinks.{FinerLinkGrids}};
 ghost use Rattle.link_space.specs.LinksAsWide.{LinksAsWide};
 ghost use Rattle.link_space.specs.FirstLinkFailing.{band_order, band_failing, IsFirstLinkFailing, NoLinkBefore, OneFirstLink};
 

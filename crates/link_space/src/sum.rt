@@ -3,12 +3,10 @@
 ghost use Rattle.std.specs.Prelude.{◌≡◌, length, map, false, None, IfOk, IfErr, OnOk};
 ghost use Rattle.rational_theory.specs.Rows.{added};
 ghost use Rattle.progression.specs.Street.{count};
-ghost use Rattle.linear_theory.specs.Places.{width};
-ghost use Rattle.linear_theory.specs.Boxes.{IsBoxOf};
+ghost use Rattle.linear_theory.specs.{Places.{width}, Boxes.{IsBoxOf}};
 ghost use Rattle.named_row.specs.Sheets.{blank, row_of};
 ghost use Rattle.loop_rows.specs.Weights.{total_of, fault_of, IsFirstFault};
-ghost use Rattle.link_theory.specs.LinkColumns.{link_width};
-ghost use Rattle.link_theory.specs.LinkTrees.{link_sum, AreLinkWeights};
+ghost use Rattle.link_theory.specs.{LinkColumns.{link_width}, LinkTrees.{link_sum, AreLinkWeights}};
 ghost use Rattle.link_space.specs.LinkWeights.{link_named, link_rows};
 
 use crate::columns::link_column_count;

@@ -1,7 +1,6 @@
 //! The value of a link timing.
 
-ghost use Rattle.std.specs.Prelude.{◌≡◌, ◌*◌, ◌<◌, ◌≤◌, ◌^◌, All, length, pos, ◌≤ℤ◌};
-ghost use Rattle.std.specs.List.{sum};
+ghost use Rattle.std.specs.{Prelude.{◌≡◌, ◌*◌, ◌<◌, ◌≤◌, ◌^◌, All, length, pos, ◌≤ℤ◌}, List.{sum}};
 ghost use Rattle.artery_model.specs.Bounds.{most_signals};
 ghost use Rattle.link_theory.specs.BestLinks.{link_value};
 

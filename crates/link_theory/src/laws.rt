@@ -1,7 +1,6 @@
 //! What the definitions promise, and what they decide.
 
-ghost use Rattle.link_theory.specs.Promises.{NoLinkTimingIsLost, LinkVerticesRecover};
-ghost use Rattle.link_theory.specs.Worked.{WorkedLinks};
+ghost use Rattle.link_theory.specs.{Promises.{NoLinkTimingIsLost, LinkVerticesRecover}, Worked.{WorkedLinks}};
 
 /// No good link timing is lost: its lines lie in the root box and in one part of each split, its point meets every row, and
 /// what an accepted tree of boxes says holds of it.

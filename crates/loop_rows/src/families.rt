@@ -2,16 +2,10 @@
 
 ghost use Rattle.std.specs.Prelude.{◌≡◌, ◌≢◌, ◌↔◌, IsTrue, ◌+◌, ◌<◌, ◌≤◌, length};
 ghost use Rattle.progression.specs.Street.{count};
-ghost use Rattle.linear_theory.specs.Boxes.{IsBoxOf};
-ghost use Rattle.linear_theory.specs.Places.{width};
-ghost use Rattle.linear_theory.specs.Rows.{places_of, block_entries};
-ghost use Rattle.linear_theory.specs.Names.{HasRow, HasChange, form_of};
+ghost use Rattle.linear_theory.specs.{Boxes.{IsBoxOf}, Places.{width}, Rows.{places_of, block_entries}, Names.{HasRow, HasChange, form_of}};
 ghost use Rattle.linear_theory.proofs.NamedRows.{row_law};
-ghost use Rattle.loop_rows.specs.Directions.{by_dir};
-ghost use Rattle.loop_rows.specs.Families.{number_of, row_in};
-ghost use Rattle.loop_rows.specs.laws.Meeting.{at_written};
-ghost use Rattle.loop_rows.specs.laws.Writing.{written_unspent};
-ghost use Rattle.loop_rows.specs.Writing.{written, written_cells};
+ghost use Rattle.loop_rows.specs.{Directions.{by_dir}, Families.{number_of, row_in}, laws.Meeting.{at_written}};
+ghost use Rattle.loop_rows.specs.{laws.Writing.{written_unspent}, Writing.{written, written_cells}};
 
 use crate::cells::fill_cells;
 use crate::columns::{

@@ -1,12 +1,9 @@
 //! Families of rows, each with its law.
 
 ghost use Rattle.std.specs.Prelude.{◌≡◌, ◌↔◌, IsTrue, ℕ, List, length, false};
-ghost use Rattle.rational_theory.specs.Rational.{ℚ};
-ghost use Rattle.rational_theory.specs.Rows.{IsMet};
+ghost use Rattle.rational_theory.specs.{Rational.{ℚ}, Rows.{IsMet}};
 ghost use Rattle.progression.specs.Street.{Street, count};
-ghost use Rattle.linear_theory.specs.Places.{width};
-ghost use Rattle.linear_theory.specs.Boxes.{Area, IsBoxOf};
-ghost use Rattle.linear_theory.specs.Counts.{IsGoodPoint};
+ghost use Rattle.linear_theory.specs.{Places.{width}, Boxes.{Area, IsBoxOf}, Counts.{IsGoodPoint}};
 ghost use Rattle.named_row.specs.Sheets.{Sheet, row_of};
 
 use artery_model::Artery;

@@ -2,15 +2,10 @@
 
 ghost use Rattle.std.specs.Prelude.{◌≡◌, ◌↔◌, ◌+◌, ℕ, IsTrue, IfSome, MatchOption, None, length, true, false};
 ghost use Rattle.progression.specs.Street.{count};
-ghost use Rattle.linear_theory.specs.Places.{width};
-ghost use Rattle.linear_theory.specs.Boxes.{Area, IsBoxOf};
-ghost use Rattle.linear_theory.specs.Rows.{goal_form};
-ghost use Rattle.linear_theory.specs.Names.{HasRow, NoRow, form_of, name_of};
-ghost use Rattle.loop_rows.specs.Families.{number_of, row_in};
-ghost use Rattle.loop_rows.specs.Writing.{written};
+ghost use Rattle.linear_theory.specs.{Places.{width}, Boxes.{Area, IsBoxOf}, Rows.{goal_form}, Names.{HasRow, NoRow, form_of, name_of}};
+ghost use Rattle.loop_rows.specs.{Families.{number_of, row_in}, Writing.{written}, Meeting.{IsFilled, IsFilledBy}};
 ghost use Rattle.linear_theory.specs.Names.{last_family};
 ghost use Rattle.linear_theory.proofs.Families.{family_most, index_most};
-ghost use Rattle.loop_rows.specs.Meeting.{IsFilled, IsFilledBy};
 ghost use Rattle.loop_rows.specs.Following.{rows_of_artery, IsNextRow};
 
 use crate::cells::fill_cells;

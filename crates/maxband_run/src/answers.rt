@@ -1,8 +1,7 @@
 //! The answers of the commands: their files are read one after the other, and what is found of these is told.
 
 ghost use Rattle.std.specs.Prelude.{◌≡◌, Some, None, IfOk, map, option_map, string_bytes};
-ghost use Rattle.run_inputs.specs.Lines.{words_line};
-ghost use Rattle.run_inputs.specs.Reading.{LeavesFiles};
+ghost use Rattle.run_inputs.specs.{Lines.{words_line}, Reading.{LeavesFiles}};
 ghost use Rattle.run_inputs.specs.Command.{Hold, Show, Check, CheckLinks, Solve, Links, Renew, Bands, Round, RoundFrom, Half, TimingOf, Draw, Sweep, view, shape, InLimits};
 ghost use Rattle.maxband_run.specs.Run.{ended, IsAnswered, LeavesAlone};
 

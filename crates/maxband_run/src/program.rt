@@ -1,7 +1,6 @@
 //! The program's last frame: from the system's words to an exit status.
 
-ghost use Rattle.std.specs.Prelude.{◌≡◌, ◌⊎◌, IfErr, IfOk, IsErr, MatchResult, OnErr, drop, map, string_bytes};
-ghost use Rattle.std.specs.Process.{exit_status};
+ghost use Rattle.std.specs.{Prelude.{◌≡◌, ◌⊎◌, IfErr, IfOk, IsErr, MatchResult, OnErr, drop, map, string_bytes}, Process.{exit_status}};
 ghost use Rattle.std.specs.Vec.Iter.{into_iter_items};
 ghost use Rattle.run_inputs.specs.Status.{number_of, no_words};
 ghost use Rattle.maxband_run.specs.Program.{ExitsBy, Exits, HasNoWords};

@@ -2,10 +2,8 @@
 
 ghost use Rattle.std.specs.Prelude.{◌≡◌, ◌≤◌, map, string_bytes};
 ghost use Rattle.outer_edge.specs.Counts.{NoneFell};
-ghost use Rattle.run_inputs.specs.Status.{number_of};
-ghost use Rattle.run_inputs.specs.Command.{request_of, shape};
-ghost use Rattle.maxband_run.specs.Outside.{seen, OthersKept, PutsCounted};
-ghost use Rattle.maxband_run.specs.Run.{Ends, LeavesAlone};
+ghost use Rattle.run_inputs.specs.{Status.{number_of}, Command.{request_of, shape}};
+ghost use Rattle.maxband_run.specs.{Outside.{seen, OthersKept, PutsCounted}, Run.{Ends, LeavesAlone}};
 
 use crate::answers::answer_to;
 use crate::finish::{Undelivered, deliver};

@@ -1,8 +1,7 @@
 //! The tableau that each box of links begins from.
 
 ghost use Rattle.std.specs.Prelude.{◌≡◌, ◌≢◌, ◌-◌, ◌<◌, ◌≤◌, length, false, IfOk};
-ghost use Rattle.progression.specs.Street.{count};
-ghost use Rattle.progression.specs.Speeds.{number};
+ghost use Rattle.progression.specs.{Street.{count}, Speeds.{number}};
 ghost use Rattle.linear_theory.specs.Boxes.{IsBoxOf};
 ghost use Rattle.simplex_theory.specs.Tableau.{height};
 ghost use Rattle.multi_band.specs.LinkTables.{names_of_links};

@@ -2,9 +2,7 @@
 
 ghost use Rattle.std.specs.Prelude.{◌≡◌, ℕ, Option, IfOk};
 ghost use Rattle.link_proof.specs.LinkAccepted.{IsLinkAccepted};
-ghost use Rattle.multi_band.specs.LinkSearches.{IsLinkSearch};
-ghost use Rattle.multi_band.specs.LinkTold.{AreLinksCertifiable};
-ghost use Rattle.multi_band.specs.LinkCertified.{link_warrant_of};
+ghost use Rattle.multi_band.specs.{LinkSearches.{IsLinkSearch}, LinkTold.{AreLinksCertifiable}, LinkCertified.{link_warrant_of}};
 
 use crate::found::LinkFound;
 use crate::program::ArteryLinks;

@@ -5,8 +5,7 @@ ghost use Rattle.std.specs.Prelude.{◌≡◌, IfOk, IfSome};
 ghost use Rattle.work_meter.specs.Work.{IsBelow};
 ghost use Rattle.link_theory.specs.GoodLinks.{GoodLinks};
 ghost use Rattle.branch_tree.specs.Told.{IsTimed};
-ghost use Rattle.multi_band.specs.LinkCertified.{link_warrant_of};
-ghost use Rattle.multi_band.specs.LinksSearched.{IsLinksSearched};
+ghost use Rattle.multi_band.specs.{LinkCertified.{link_warrant_of}, LinksSearched.{IsLinksSearched}};
 
 use crate::program::ArteryLinks;
 use artery_model::Artery;

@@ -1,7 +1,6 @@
 //! What the definition of an outcome decides.
 
-ghost use Rattle.multi_band.specs.LinkMeaning.{LinkOutcomesMean};
-ghost use Rattle.multi_band.specs.LinkSoundness.{LinkOutcomesAreSound};
+ghost use Rattle.multi_band.specs.{LinkMeaning.{LinkOutcomesMean}, LinkSoundness.{LinkOutcomesAreSound}};
 ghost use Rattle.multi_band.specs.Worked.{WorkedLinkVertices, WorkedLinkOutcomes};
 
 /// A link timing that a vertex of links gives is good and has the vertex's goal as its value, and a place where it splits the

@@ -32,9 +32,7 @@ pub struct ArteryLinks<'a> {
 }
 
 impl<'a> Sought for ArteryLinks<'a> {
-    ghost use Rattle.multi_band.specs.LinkKind.{link_bands};
-    ghost use Rattle.multi_band.specs.LinkOpening.{AreSpareRows};
-    ghost use Rattle.multi_band.specs.LinkProgram.{link_program};
+    ghost use Rattle.multi_band.specs.{LinkKind.{link_bands}, LinkOpening.{AreSpareRows}, LinkProgram.{link_program}};
     ghost use Rattle.multi_band.specs.LinkRules.{link_meaning};
 
     type Timing = LinkTiming;

@@ -6,8 +6,7 @@ ghost use Rattle.linear_theory.specs.Boxes.{IsBoxOf};
 ghost use Rattle.recovery_theory.specs.Ticks.{unit_of};
 ghost use Rattle.link_theory.specs.LinkVertices.{IsLinkVertex};
 ghost use Rattle.offset_recovery.specs.Answers.{IsOutcome};
-ghost use Rattle.multi_band.specs.LinkReady.{IsLinkReady};
-ghost use Rattle.multi_band.specs.LinkRecovered.{link_column_tests, link_recovered, IsLinkSound};
+ghost use Rattle.multi_band.specs.{LinkReady.{IsLinkReady}, LinkRecovered.{link_column_tests, link_recovered, IsLinkSound}};
 
 use artery_model::bounds::{LEAST_SIGNALS, MOST_SIGNALS};
 use artery_model::{Artery, Dir};

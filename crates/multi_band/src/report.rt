@@ -2,8 +2,7 @@
 
 ghost use Rattle.std.specs.Prelude.{◌≡◌, ◌++◌, IfOk, OnOk, IfSome, option_map};
 ghost use Rattle.link_theory.specs.GoodLinks.{GoodLinks};
-ghost use Rattle.multi_band.specs.LinkSites.{HasLinkSite};
-ghost use Rattle.multi_band.specs.LinkReport.{link_timing_lines, link_report_lines};
+ghost use Rattle.multi_band.specs.{LinkSites.{HasLinkSite}, LinkReport.{link_timing_lines, link_report_lines}};
 
 use crate::band_lines::push_link_bands;
 use crate::found::LinkFound;

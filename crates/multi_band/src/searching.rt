@@ -3,9 +3,7 @@
 ghost use Rattle.std.specs.Prelude.{IfOk, IfSome};
 ghost use Rattle.link_theory.specs.GoodLinks.{GoodLinks};
 ghost use Rattle.work_meter.specs.Work.{IsBelow};
-ghost use Rattle.multi_band.specs.LinkSearches.{IsLinkSearch};
-ghost use Rattle.multi_band.specs.LinkTold.{LinksTell, AreLinksCertifiable};
-ghost use Rattle.multi_band.specs.LinkSites.{HasLinkSite};
+ghost use Rattle.multi_band.specs.{LinkSearches.{IsLinkSearch}, LinkTold.{LinksTell, AreLinksCertifiable}, LinkSites.{HasLinkSite}};
 ghost use Rattle.multi_band.specs.LinkEnough.{IsWithinLinkEnough};
 
 use crate::found::LinkFound;

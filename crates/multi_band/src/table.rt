@@ -2,8 +2,7 @@
 
 ghost use Rattle.std.specs.Prelude.{◌≡◌, length};
 ghost use Rattle.progression.specs.Street.{count};
-ghost use Rattle.linear_theory.specs.Boxes.{IsBoxOf};
-ghost use Rattle.linear_theory.specs.Places.{width};
+ghost use Rattle.linear_theory.specs.{Boxes.{IsBoxOf}, Places.{width}};
 ghost use Rattle.multi_band.specs.LinkTables.{link_table};
 
 use artery_model::Artery;

@@ -1,12 +1,9 @@
 //! The columns of a row, one after another: sums, and the first that is too small.
 
 ghost use Rattle.std.specs.Prelude.{◌≡◌, ◌<◌, ◌^◌, length, IfOk, pos, IfErr};
-ghost use Rattle.rational_theory.specs.Rational.{whole, ◌+ℚ◌, ◌*ℚ◌};
-ghost use Rattle.rational_theory.specs.Rows.{add, scale};
+ghost use Rattle.rational_theory.specs.{Rational.{whole, ◌+ℚ◌, ◌*ℚ◌}, Rows.{add, scale}};
 ghost use Rattle.narrow_fraction.specs.Attempt.{attempt, first_below};
-ghost use Rattle.named_row.specs.Refusals.{place_refusal, cell_refusal};
-ghost use Rattle.named_row.specs.Covering.{below, number_at};
-ghost use Rattle.named_row.specs.Sheets.{coefs_left};
+ghost use Rattle.named_row.specs.{Refusals.{place_refusal, cell_refusal}, Covering.{below, number_at}, Sheets.{coefs_left}};
 
 use crate::names::Place;
 use crate::wide_at::WideAt;

@@ -2,8 +2,7 @@
 
 ghost use Rattle.std.specs.Prelude.{◌≡◌, ◌<◌, ◌^◌, length, IfOk, IfErr, true, false};
 ghost use Rattle.narrow_fraction.specs.Attempt.{attempt};
-ghost use Rattle.named_row.specs.Sheets.{blank, IsWithin, at_place, with_place, with_times, left_at};
-ghost use Rattle.named_row.specs.Refusals.{sum_refusal};
+ghost use Rattle.named_row.specs.{Sheets.{blank, IsWithin, at_place, with_place, with_times, left_at}, Refusals.{sum_refusal}};
 ghost use Rattle.named_row.specs.Covering.{Covers, Refutes, uncovered, unrefuted};
 
 use crate::cells::{add_cells, add_number, none_below, none_negative};

@@ -1,12 +1,8 @@
 //! The type of a fraction: how one is made, and what is read off its two numbers.
 
 ghost use Rattle.std.specs.Prelude.{◌≡◌, ◌^◌, ◌↔◌, ◌<◌, ◌≤◌, ◌≤ℤ◌, ◌*ℤ◌, IsTrue, int_lt, pos, unsigned_abs, SomeIff};
-ghost use Rattle.rational_theory.specs.Rational.{◌<ℚ◌, whole, abs_ℚ, inverse_ℚ, over, neg_ℚ};
-ghost use Rattle.rational_theory.specs.Floor.{floor_ℚ};
-ghost use Rattle.rational_theory.specs.Gcd.{gcd};
-ghost use Rattle.narrow_fraction.specs.Fraction.{FitsFrac, signed};
-ghost use Rattle.narrow_fraction.specs.Made.{IsMade};
-ghost use Rattle.narrow_fraction.specs.Short.{IsShort};
+ghost use Rattle.rational_theory.specs.{Rational.{◌<ℚ◌, whole, abs_ℚ, inverse_ℚ, over, neg_ℚ}, Floor.{floor_ℚ}, Gcd.{gcd}};
+ghost use Rattle.narrow_fraction.specs.{Fraction.{FitsFrac, signed}, Made.{IsMade}, Short.{IsShort}};
 
 use crate::divisor::{common_divisor, divided};
 use crate::unfit::Unfit;
@@ -22,9 +18,7 @@ pub struct Frac {
 impl Model for Frac {
     ghost use Rattle.std.specs.Prelude.{pos, unsigned_abs};
     ghost use Rattle.rational_theory.specs.Rational.{ℚ, over};
-    ghost use Rattle.narrow_fraction.specs.laws.Fraction.{ℚ_code};
-    ghost use Rattle.narrow_fraction.specs.Fraction.{IsLowest};
-    ghost use Rattle.narrow_fraction.specs.laws.Views.{fields_back};
+    ghost use Rattle.narrow_fraction.specs.{laws.Fraction.{ℚ_code}, Fraction.{IsLowest}, laws.Views.{fields_back}};
 
     ghost Value = { ℚ };
 

@@ -1,9 +1,7 @@
 //! The order of fractions and of quotients, and the traits that give it to `==`, `<` and `cmp`.
 
-ghost use Rattle.std.specs.Prelude.{◌≡◌};
-ghost use Rattle.rational_theory.specs.Rational.{◌<ℚ◌};
-ghost use Rattle.rational_theory.specs.Compare.{cmp_ℚ};
-ghost use Rattle.std.specs.Ordering.{MatchOrdering};
+ghost use Rattle.std.specs.{Prelude.{◌≡◌}, Ordering.{MatchOrdering}};
+ghost use Rattle.rational_theory.specs.{Rational.{◌<ℚ◌}, Compare.{cmp_ℚ}};
 
 use crate::compare::compare_quotients;
 use crate::frac::Frac;

@@ -1,8 +1,7 @@
 //! Products, reduced before they are multiplied.
 
 ghost use Rattle.std.specs.Prelude.{◌≡◌, ◌<◌, ◌*◌, ◌^◌, SomeIff};
-ghost use Rattle.rational_theory.specs.Rational.{over, ◌*ℚ◌};
-ghost use Rattle.rational_theory.specs.Gcd.{gcd};
+ghost use Rattle.rational_theory.specs.{Rational.{over, ◌*ℚ◌}, Gcd.{gcd}};
 ghost use Rattle.narrow_fraction.specs.Fraction.{FitsFrac, signed};
 
 use crate::divisor::{common_divisor, divided, word_divisor, word_quotient};

@@ -1,13 +1,8 @@
 //! A number held as a quotient that may not be in lowest terms.
 
-ghost use Rattle.std.specs.Prelude.{◌≡◌, ◌<◌, ◌^◌, ◌↔◌, IfSome, IsTrue, pos};
-ghost use Rattle.rational_theory.specs.Rational.{◌<ℚ◌, over, whole, neg_ℚ, ◌+ℚ◌, ◌*ℚ◌, ◌/ℚ◌};
-ghost use Rattle.rational_theory.specs.Compare.{cmp_ℚ};
-ghost use Rattle.std.specs.Ordering.{MatchOrdering};
-ghost use Rattle.narrow_fraction.specs.Fraction.{FitsFrac};
-ghost use Rattle.narrow_fraction.specs.Numerators.{IsNumerator};
-ghost use Rattle.narrow_fraction.specs.Past128.{Fits128};
-ghost use Rattle.narrow_fraction.specs.SmallParts.{AreSmallParts};
+ghost use Rattle.std.specs.{Prelude.{◌≡◌, ◌<◌, ◌^◌, ◌↔◌, IfSome, IsTrue, pos}, Ordering.{MatchOrdering}};
+ghost use Rattle.rational_theory.specs.{Rational.{◌<ℚ◌, over, whole, neg_ℚ, ◌+ℚ◌, ◌*ℚ◌, ◌/ℚ◌}, Compare.{cmp_ℚ}};
+ghost use Rattle.narrow_fraction.specs.{Fraction.{FitsFrac}, Numerators.{IsNumerator}, Past128.{Fits128}, SmallParts.{AreSmallParts}};
 ghost use Rattle.narrow_fraction.specs.declared.wide.Op.TheVariants.{Mul, Div, Sub};
 
 use crate::compare::{compare_products, compare_quotients};
@@ -33,9 +28,7 @@ pub struct Quotient {
 impl Model for Quotient {
     ghost use Rattle.std.specs.Prelude.{unsigned_abs};
     ghost use Rattle.rational_theory.specs.Rational.{ℚ, over};
-    ghost use Rattle.narrow_fraction.specs.laws.Fraction.{ℚ_code};
-    ghost use Rattle.narrow_fraction.specs.TwoWords.{number_of};
-    ghost use Rattle.narrow_fraction.specs.Held.{IsHeld};
+    ghost use Rattle.narrow_fraction.specs.{laws.Fraction.{ℚ_code}, TwoWords.{number_of}, Held.{IsHeld}};
 
     ghost Value = { ℚ };
 

@@ -2,8 +2,7 @@
 
 ghost use Rattle.std.specs.Prelude.{◌≡◌, ◌^◌, ◌<◌, ◌*◌, ◌+ℤ◌, ◌*ℤ◌, pos, unsigned_abs, SomeIff};
 ghost use Rattle.rational_theory.specs.Rational.{◌+ℚ◌};
-ghost use Rattle.narrow_fraction.specs.Past128.{SumFits};
-ghost use Rattle.narrow_fraction.specs.Short.{IsShort};
+ghost use Rattle.narrow_fraction.specs.{Past128.{SumFits}, Short.{IsShort}};
 
 use crate::divisor::{common_divisor, divided, word_divisor, word_quotient};
 use crate::frac::{Frac, MOST, already_reduced, reduced_by, with_sign};

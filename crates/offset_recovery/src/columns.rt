@@ -3,8 +3,7 @@
 ghost use Rattle.std.specs.Prelude.{◌≡◌};
 ghost use Rattle.narrow_fraction.specs.Attempt.{attempt};
 ghost use Rattle.recovery_theory.specs.Ticks.{unit_of};
-ghost use Rattle.offset_recovery.specs.Recovered.{line_tests, column_tests};
-ghost use Rattle.offset_recovery.specs.Numbers.{IsReady};
+ghost use Rattle.offset_recovery.specs.{Recovered.{line_tests, column_tests}, Numbers.{IsReady}};
 
 use crate::links::{Runs, check_by_link};
 use crate::outcome::WideTiming;

@@ -5,12 +5,9 @@ ghost use Rattle.rational_theory.specs.Rational.{ℚ};
 ghost use Rattle.narrow_fraction.specs.Attempt.{attempt};
 ghost use Rattle.progression.specs.Street.{Street};
 ghost use Rattle.linear_theory.specs.Boxes.{Area};
-ghost use Rattle.recovery_theory.specs.Ticks.{unit_of};
-ghost use Rattle.recovery_theory.specs.Vertices.{IsWhole};
-ghost use Rattle.offset_recovery.specs.declared.outcome.WideTiming.{WideTiming};
-ghost use Rattle.offset_recovery.specs.Recovered.{placed_tests};
+ghost use Rattle.recovery_theory.specs.{Ticks.{unit_of}, Vertices.{IsWhole}};
+ghost use Rattle.offset_recovery.specs.{declared.outcome.WideTiming.{WideTiming}, Recovered.{placed_tests}, Placed.{ArePlaced}};
 ghost use Rattle.offset_recovery.specs.Numbers.{IsReady, ProductsFit, RunsFit};
-ghost use Rattle.offset_recovery.specs.Placed.{ArePlaced};
 
 use crate::columns::check_columns;
 use crate::outcome::WideTiming;
@@ -77,8 +74,7 @@ pub trait BandKind {
 pub struct WholeBands;
 
 impl BandKind for WholeBands {
-    ghost use Rattle.recovery_theory.specs.Placing.{timing_of};
-    ghost use Rattle.recovery_theory.specs.Vertices.{IsLongVertex};
+    ghost use Rattle.recovery_theory.specs.{Placing.{timing_of}, Vertices.{IsLongVertex}};
     ghost use Rattle.offset_recovery.specs.Recovered.{column_tests};
 
     type Timing = Timing;

@@ -3,8 +3,7 @@
 ghost use Rattle.std.specs.Prelude.{◌≡◌, ◌<◌, ◌≤◌, ℕ, List, IfOk};
 ghost use Rattle.rational_theory.specs.Rational.{ℚ};
 ghost use Rattle.narrow_fraction.specs.Attempt.{attempt};
-ghost use Rattle.progression.specs.Street.{Street, count};
-ghost use Rattle.progression.specs.declared.parts.Dir.{Dir};
+ghost use Rattle.progression.specs.{Street.{Street, count}, declared.parts.Dir.{Dir}};
 ghost use Rattle.recovery_theory.specs.Ticks.{unit_of, ticks_in};
 ghost use Rattle.offset_recovery.specs.ByLink.{tests_by_link, ticks_by_link};
 

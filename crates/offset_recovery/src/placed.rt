@@ -1,13 +1,10 @@
 //! The two lines of a vertex's timing, with all that they cross.
 
 ghost use Rattle.std.specs.Prelude.{◌≡◌, ◌<◌, ◌≤◌, ◌^◌, None, pos};
-ghost use Rattle.progression.specs.TimingRecord.{common_red};
-ghost use Rattle.progression.specs.Street.{count};
+ghost use Rattle.progression.specs.{TimingRecord.{common_red}, Street.{count}};
 ghost use Rattle.recovery_theory.specs.Ticks.{unit_of};
-ghost use Rattle.offset_recovery.specs.Recovered.{red_tests, placed_tests};
-ghost use Rattle.offset_recovery.specs.Numbers.{IsReady, RunsFit, reds_at, reds_plan};
-ghost use Rattle.offset_recovery.specs.Placed.{ArePlaced};
-ghost use Rattle.offset_recovery.specs.Answers.{Answers};
+ghost use Rattle.offset_recovery.specs.{Recovered.{red_tests, placed_tests}, Numbers.{IsReady, RunsFit, reds_at, reds_plan}};
+ghost use Rattle.offset_recovery.specs.{Placed.{ArePlaced}, Answers.{Answers}};
 
 use crate::links::{Runs, ticks_by_link};
 use crate::lists::patterns;

@@ -1,13 +1,11 @@
 //! Into how many ticks a part of the cycle is divided.
 
 ghost use Rattle.std.specs.Prelude.{◌≡◌, ℕ, List, ◌==◌, if◌then◌else◌, ◌+◌, ◌<◌, ◌^◌, length, SomeIff, OnOk};
-ghost use Rattle.rational_theory.specs.Gcd.{lcm};
+ghost use Rattle.rational_theory.specs.{Gcd.{lcm}, Rational.{ℚ}};
 ghost use Rattle.narrow_fraction.specs.Attempt.{attempt};
 ghost use Rattle.progression.specs.Street.{Street};
-ghost use Rattle.rational_theory.specs.Rational.{ℚ};
 ghost use Rattle.recovery_theory.specs.Ticks.{in_parts, unit_of};
-ghost use Rattle.offset_recovery.specs.Recovered.{unit_tests};
-ghost use Rattle.offset_recovery.specs.Numbers.{ProductsFit, IsCommon};
+ghost use Rattle.offset_recovery.specs.{Recovered.{unit_tests}, Numbers.{ProductsFit, IsCommon}};
 
 use crate::outcome::WideTiming;
 use crate::products::product;

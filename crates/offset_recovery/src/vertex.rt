@@ -2,12 +2,9 @@
 
 ghost use Rattle.std.specs.Prelude.{◌≡◌, ◌<◌, ◌^◌, length, None, IfOk};
 ghost use Rattle.linear_theory.specs.Boxes.{IsBoxOf};
-ghost use Rattle.recovery_theory.specs.Ticks.{unit_of};
-ghost use Rattle.recovery_theory.specs.Vertices.{IsVertex, IsWhole};
-ghost use Rattle.offset_recovery.specs.Inside.{SplitsInside};
-ghost use Rattle.offset_recovery.specs.Recovered.{recovered, placed_tests, number_tests_by};
-ghost use Rattle.offset_recovery.specs.Numbers.{IsReady, RunsFit};
-ghost use Rattle.offset_recovery.specs.Answers.{Answers, IsRead, IsOutcome, IsSound};
+ghost use Rattle.recovery_theory.specs.{Ticks.{unit_of}, Vertices.{IsVertex, IsWhole}};
+ghost use Rattle.offset_recovery.specs.{Inside.{SplitsInside}, Recovered.{recovered, placed_tests, number_tests_by}};
+ghost use Rattle.offset_recovery.specs.{Numbers.{IsReady, RunsFit}, Answers.{Answers, IsRead, IsOutcome, IsSound}};
 
 use crate::kinds::{BandKind, WholeBands};
 use crate::outcome::{RecoverFault, Recovered};

@@ -1,9 +1,7 @@
 //! Files in memory of which chosen calls fail.
 
 ghost use Rattle.std.specs.Prelude.{false, ◌≡◌, ◌<◌, ◌≤◌, ◌↔◌, [], Some, None, MatchOption, IfOk, IfSome, IsErrOf, IsTrue, OnOk, OnErr, length, is_err};
-ghost use Rattle.outer_edge.specs.Counts.{next_count};
-ghost use Rattle.outer_edge.specs.Device.{after_read, after_put, next_fails, read_fails};
-ghost use Rattle.outer_edge.specs.Held.{ReadsFrom};
+ghost use Rattle.outer_edge.specs.{Counts.{next_count}, Device.{after_read, after_put, next_fails, read_fails}, Held.{ReadsFrom}};
 ghost use Rattle.outer_edge.specs.Store.{found, held, OthersKept};
 
 use crate::files::{FileEnd, Files};

@@ -1,8 +1,7 @@
 //! An output in memory of which chosen calls fail.
 
 ghost use Rattle.std.specs.Prelude.{◌≡◌, ◌+◌, ◌<◌, ◌≤◌, ◌++◌, [], Some, length, take, min, IfOk, OnOk, OnErr, is_err};
-ghost use Rattle.outer_edge.specs.Counts.{next_count};
-ghost use Rattle.outer_edge.specs.Device.{next_fails, count_if};
+ghost use Rattle.outer_edge.specs.{Counts.{next_count}, Device.{next_fails, count_if}};
 
 use crate::numbered::Calls;
 use crate::sink::{Failed, Sink};

@@ -1,9 +1,7 @@
 //! Calls that are to fail, by their numbers.
 
-ghost use Rattle.std.specs.Prelude.{◌≡◌, ◌==◌};
-ghost use Rattle.std.specs.List.{list_any};
-ghost use Rattle.outer_edge.specs.Counts.{next_count};
-ghost use Rattle.outer_edge.specs.Device.{next_fails};
+ghost use Rattle.std.specs.{Prelude.{◌≡◌, ◌==◌}, List.{list_any}};
+ghost use Rattle.outer_edge.specs.{Counts.{next_count}, Device.{next_fails}};
 
 /// Calls with the numbers from 1 on, up to `2^64 - 1`, of which those in a list are to fail.
 #[derive(Drop)]

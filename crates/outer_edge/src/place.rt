@@ -1,7 +1,6 @@
 //! A name that is put to, and the new file that may take it: what each call of the system tells, and what it wants.
 
-ghost use Rattle.std.specs.Prelude.{◌≡◌, ◌++◌, true, false, ℕ, List, [], IfOk, IfErr, OnOk, OnErr};
-ghost use Rattle.std.specs.IoError.{error_kind};
+ghost use Rattle.std.specs.{Prelude.{◌≡◌, ◌++◌, true, false, ℕ, List, [], IfOk, IfErr, OnOk, OnErr}, IoError.{error_kind}};
 ghost use Rattle.outer_edge.specs.declared.facts.Facts.{Facts};
 ghost use Rattle.outer_edge.specs.Replaced.{is_of_system, is_regular, is_alike, is_of_one_owner, is_absence, is_want_of_room};
 

@@ -1,8 +1,7 @@
 //! Whole files, read piece by piece up to a limit.
 
 ghost use Rattle.std.specs.Prelude.{◌≡◌, ◌+◌, ◌<◌, ◌≤◌, ◌^◌, length, vec_len, IfOk, IfSome, IsErrOf, OnOk};
-ghost use Rattle.outer_edge.specs.Counts.{Rose, NoneFell, SameCounts, CountedAt};
-ghost use Rattle.outer_edge.specs.Held.{SameFiles, TakesMore, BeginsWith};
+ghost use Rattle.outer_edge.specs.{Counts.{Rose, NoneFell, SameCounts, CountedAt}, Held.{SameFiles, TakesMore, BeginsWith}};
 
 use crate::files::{FileEnd, Files};
 use std::alloc::Global;

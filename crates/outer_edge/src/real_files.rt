@@ -1,8 +1,7 @@
 //! The system's files.
 
 ghost use Rattle.std.specs.Prelude.{◌≡◌, ◌<◌, ◌≤◌, length, None, IfOk, IsErrOf, OnOk, is_err};
-ghost use Rattle.outer_edge.specs.Counts.{next_count};
-ghost use Rattle.outer_edge.specs.Device.{count_if};
+ghost use Rattle.outer_edge.specs.{Counts.{next_count}, Device.{count_if}};
 
 use crate::files::{FileEnd, Files};
 use crate::replacing::put_counted;

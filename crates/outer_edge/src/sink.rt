@@ -1,8 +1,7 @@
 //! An output: what a write means, and when a fault is counted.
 
 ghost use Rattle.std.specs.Prelude.{◌≡◌, ◌+◌, ◌<◌, ◌≤◌, ℕ, List, Option, length, take, IfOk, OnOk, OnErr};
-ghost use Rattle.outer_edge.specs.Counts.{Rose, next_count};
-ghost use Rattle.outer_edge.specs.Taken.{Appends};
+ghost use Rattle.outer_edge.specs.{Counts.{Rose, next_count}, Taken.{Appends}};
 
 use narrow_fraction::Memory;
 

@@ -1,9 +1,7 @@
 //! Files that are read piece by piece: opened once, and read on while the pieces follow each other.
 
 ghost use Rattle.std.specs.Prelude.{◌≡◌, ◌+◌, ◌<◌, ◌≤◌, ℕ, List, Some, None, length, IfOk, IfSome, IsErrOf, OnOk, is_err, string_bytes};
-ghost use Rattle.outer_edge.specs.Device.{count_if};
-ghost use Rattle.outer_edge.specs.Held.{ReadsFrom};
-ghost use Rattle.outer_edge.specs.Kept.{IsKept};
+ghost use Rattle.outer_edge.specs.{Device.{count_if}, Held.{ReadsFrom}, Kept.{IsKept}};
 
 use crate::files::FileEnd;
 use std::alloc::{AllocError, Global};

@@ -1,9 +1,7 @@
 //! Files kept in memory, found by their names.
 
 ghost use Rattle.std.specs.Prelude.{◌≡◌, ◌<◌, ◌≤◌, ℕ, List, Some, None, MatchOption, OnOk, OnErr, length};
-ghost use Rattle.outer_edge.specs.Held.{ReadsFrom};
-ghost use Rattle.outer_edge.specs.Named.{stored};
-ghost use Rattle.outer_edge.specs.Store.{found, OthersKept};
+ghost use Rattle.outer_edge.specs.{Held.{ReadsFrom}, Named.{stored}, Store.{found, OthersKept}};
 
 use narrow_fraction::Memory;
 use std::alloc::Global;

@@ -1,8 +1,7 @@
 //! Files in memory of which no call fails.
 
 ghost use Rattle.std.specs.Prelude.{◌≡◌, ◌<◌, ◌≤◌, [], false, Some, None, MatchOption, IfOk, IfSome, IsErrOf, OnOk, OnErr, is_err, length};
-ghost use Rattle.outer_edge.specs.Held.{ReadsFrom};
-ghost use Rattle.outer_edge.specs.Store.{found, held, OthersKept};
+ghost use Rattle.outer_edge.specs.{Held.{ReadsFrom}, Store.{found, held, OthersKept}};
 
 use crate::files::{FileEnd, Files};
 use crate::stored::{Named, copy_from, find, put_copy};

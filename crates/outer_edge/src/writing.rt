@@ -1,8 +1,7 @@
 //! Whole texts, written piece by piece.
 
 ghost use Rattle.std.specs.Prelude.{◌≡◌, ◌+◌, ◌≤◌, length, OnOk, OnErr};
-ghost use Rattle.outer_edge.specs.Counts.{Rose, next_count};
-ghost use Rattle.outer_edge.specs.Taken.{Appends, AppendsFront};
+ghost use Rattle.outer_edge.specs.{Counts.{Rose, next_count}, Taken.{Appends, AppendsFront}};
 
 use crate::sink::{Failed, Sink};
 

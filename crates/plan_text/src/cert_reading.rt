@@ -1,12 +1,8 @@
 //! The text of a certificate, read.
 
 ghost use Rattle.std.specs.Prelude.{◌≡◌, ◌+◌, ◌≤◌, ◌⊎◌, length, IfOk, Ok};
-ghost use Rattle.plan_text.specs.Lines.{Gives};
-ghost use Rattle.certificate_model.specs.Families.{ordinary};
-ghost use Rattle.certificate_model.specs.Warrants.{Warrant, warrant_of};
-ghost use Rattle.plan_text.specs.FirstText.{certificate_text};
-ghost use Rattle.plan_text.specs.SecondText.{second_text};
-ghost use Rattle.plan_text.specs.CertificateText.{IsHeldWarrant};
+ghost use Rattle.plan_text.specs.{Lines.{Gives}, FirstText.{certificate_text}, SecondText.{second_text}, CertificateText.{IsHeldWarrant}};
+ghost use Rattle.certificate_model.specs.{Families.{ordinary}, Warrants.{Warrant, warrant_of}};
 ghost use Rattle.plan_text.specs.CertificateReading.{rows_at, first_of, second_of, certificate_of, headed_of};
 
 use crate::claim::{Parts, claim_at};

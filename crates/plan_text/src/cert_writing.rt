@@ -3,13 +3,10 @@
 ghost use Rattle.std.specs.Prelude.{◌≡◌, ◌++◌, ◌∷◌, [], ◌<◌, ◌^◌, Ok, IfOk, OnOk};
 ghost use Rattle.narrow_fraction.specs.Fraction.{FitsFrac};
 ghost use Rattle.search_box.specs.declared.span.At.TheVariants.{Loop, Turn};
-ghost use Rattle.certificate_model.specs.Words.{line_of};
-ghost use Rattle.certificate_model.specs.Families.{table_of, row_words_in, IsNamedIn};
+ghost use Rattle.certificate_model.specs.{Words.{line_of}, Families.{table_of, row_words_in, IsNamedIn}};
 ghost use Rattle.certificate_model.specs.Warrants.{SplitAt, warrant_of, HasTiming, IsCertificateIn};
-ghost use Rattle.plan_text.specs.Spelling.{ended};
+ghost use Rattle.plan_text.specs.{Spelling.{ended}, FirstText.{first_text, certificate_text}, CertificateReading.{certificate_of}};
 ghost use Rattle.plan_text.specs.CertificateText.{fraction_words, split_words, timing_part, claim_lines, IsHeldClaim, IsHeldTiming, IsHeldNode, IsHeldWith};
-ghost use Rattle.plan_text.specs.FirstText.{first_text, certificate_text};
-ghost use Rattle.plan_text.specs.CertificateReading.{certificate_of};
 
 use crate::timing_text::{OneBand, TimingKind};
 use crate::writing::push_spaced;

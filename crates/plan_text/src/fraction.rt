@@ -1,10 +1,8 @@
 //! Signed whole numbers and fractions as words.
 
 ghost use Rattle.std.specs.Prelude.{◌≡◌, ◌≤◌, ◌^◌, map, Some, IfOk};
-ghost use Rattle.plan_text.specs.Fractions.{from_zero, below_zero, integer, exact};
-ghost use Rattle.plan_text.specs.declared.form.LeafForm.TheVariants.{Over};
-ghost use Rattle.plan_text.specs.Namings.{IsFormed};
-ghost use Rattle.plan_text.specs.Lines.{Gives};
+ghost use Rattle.plan_text.specs.{Fractions.{from_zero, below_zero, integer, exact}, declared.form.LeafForm.TheVariants.{Over}};
+ghost use Rattle.plan_text.specs.{Namings.{IsFormed}, Lines.{Gives}};
 ghost use Rattle.plan_text.specs.CertificateReading.{or_number, fraction_of, over_whole, multiplier_of, above_zero};
 
 use crate::fault::{TextEnd, TextFault};

@@ -1,7 +1,6 @@
 //! Laws over the definitions alone.
 
-ghost use Rattle.plan_text.specs.Promises.{OneText, ReadsBack};
-ghost use Rattle.plan_text.specs.FirstBad.{FirstBad};
+ghost use Rattle.plan_text.specs.{Promises.{OneText, ReadsBack}, FirstBad.{FirstBad}};
 
 /// Bytes are read as a timing exactly where the program can hold it and they are its one text, and as a certificate
 /// exactly where the program can hold it and they are one of its two texts.

@@ -1,7 +1,6 @@
 //! Whole numbers as text.
 
-ghost use Rattle.std.specs.Prelude.{◌≡◌};
-ghost use Rattle.std.specs.Str.{all_ascii_digits};
+ghost use Rattle.std.specs.{Prelude.{◌≡◌}, Str.{all_ascii_digits}};
 ghost use Rattle.plan_text.specs.Numbers.{number, is_numeral, is_plain};
 
 use time_space::LIMIT;

@@ -2,8 +2,7 @@
 
 ghost use Rattle.std.specs.Prelude.{◌≡◌, ◌+◌, ◌-◌, ◌<◌, ◌≤◌, ◌^◌, All, length, IfOk, Ok};
 ghost use Rattle.progression.specs.TimingRecord.{TimingRecord};
-ghost use Rattle.plan_text.specs.Lines.{Gives, numbers_at};
-ghost use Rattle.plan_text.specs.Spelling.{timing_text, IsHeld};
+ghost use Rattle.plan_text.specs.{Lines.{Gives, numbers_at}, Spelling.{timing_text, IsHeld}};
 ghost use Rattle.plan_text.specs.Reading.{place_of, pattern_place, scale_at, signals_at, both_ways_at, pair_at, base_of, base_at, plan_at, timing_of};
 
 use crate::fault::TextEnd;

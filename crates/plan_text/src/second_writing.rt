@@ -1,10 +1,8 @@
 //! The text of a certificate in format 2, written.
 
 ghost use Rattle.std.specs.Prelude.{◌≡◌, ◌++◌, ◌∷◌, [], All, Ok, map, IfOk, OnOk};
-ghost use Rattle.plan_text.specs.Spelling.{ended};
+ghost use Rattle.plan_text.specs.{Spelling.{ended}, SecondText.{row_line, row_lines, second_text}, CertificateReading.{certificate_of}};
 ghost use Rattle.certificate_model.specs.Families.{IsNamed};
-ghost use Rattle.plan_text.specs.SecondText.{row_line, row_lines, second_text};
-ghost use Rattle.plan_text.specs.CertificateReading.{certificate_of};
 
 use crate::cert_writing::{push_claim, push_line, push_name};
 use crate::listed::rows_of;

@@ -1,14 +1,9 @@
 //! The timings of certificates.
 
 ghost use Rattle.std.specs.Prelude.{◌≡◌, ◌≤◌, ◌<◌, ◌+◌, ◌++◌, ◌^◌, All, map, OnOk};
-ghost use Rattle.plan_text.specs.Lines.{Gives};
-ghost use Rattle.plan_text.specs.Spelling.{ended};
-ghost use Rattle.plan_text.specs.TimingTexts.{TimingText, one_band};
-ghost use Rattle.certificate_model.specs.Families.{Table, ordinary};
-ghost use Rattle.certificate_model.specs.Warrants.{node_of, IsNodeIn};
-ghost use Rattle.plan_text.specs.CertificateText.{IsHeldNode};
-ghost use Rattle.plan_text.specs.Namings.{Named, tree_lines};
-ghost use Rattle.plan_text.specs.CertificateReading.{tree_at};
+ghost use Rattle.plan_text.specs.{Lines.{Gives}, Spelling.{ended}, TimingTexts.{TimingText, one_band}, CertificateText.{IsHeldNode}};
+ghost use Rattle.certificate_model.specs.{Families.{Table, ordinary}, Warrants.{node_of, IsNodeIn}};
+ghost use Rattle.plan_text.specs.{Namings.{Named, tree_lines}, CertificateReading.{tree_at}};
 
 use crate::fault::TextEnd;
 use crate::naming::Naming;

@@ -1,12 +1,8 @@
 //! The tree of a certificate, written: its leaves name their rows by their names or by their places in a list.
 
-ghost use Rattle.std.specs.Prelude.{◌≡◌, ◌++◌, ◌∷◌, [], All, map, flat_map, OnOk};
-ghost use Rattle.std.specs.Fmt.{decimal};
-ghost use Rattle.certificate_model.specs.Words.{line_of};
-ghost use Rattle.plan_text.specs.Spelling.{ended};
-ghost use Rattle.certificate_model.specs.Warrants.{node_of, LeafOf};
-ghost use Rattle.plan_text.specs.CertificateText.{IsHeldWeight, IsHeldNode};
-ghost use Rattle.plan_text.specs.Leaves.{multiplier_word, IsWritable};
+ghost use Rattle.std.specs.{Prelude.{◌≡◌, ◌++◌, ◌∷◌, [], All, map, flat_map, OnOk}, Fmt.{decimal}};
+ghost use Rattle.certificate_model.specs.{Words.{line_of}, Warrants.{node_of, LeafOf}};
+ghost use Rattle.plan_text.specs.{Spelling.{ended}, CertificateText.{IsHeldWeight, IsHeldNode}, Leaves.{multiplier_word, IsWritable}};
 ghost use Rattle.plan_text.specs.Namings.{naming_of, name_words, weight_line, first_words, leaf_lines, form_by, node_lines, tree_lines, HasWords, IsWritableNode, AreWritable};
 
 use crate::cert_writing::{push_line, push_name, push_split};

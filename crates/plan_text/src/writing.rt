@@ -1,10 +1,8 @@
 //! The text of a timing, written.
 
-ghost use Rattle.std.specs.Prelude.{◌≡◌, ◌++◌, ◌∷◌, [], ◌<◌, ◌^◌, pos, Ok, IfOk, OnOk};
-ghost use Rattle.std.specs.Fmt.{decimal};
+ghost use Rattle.std.specs.{Prelude.{◌≡◌, ◌++◌, ◌∷◌, [], ◌<◌, ◌^◌, pos, Ok, IfOk, OnOk}, Fmt.{decimal}};
 ghost use Rattle.progression.specs.TimingRecord.{first};
-ghost use Rattle.plan_text.specs.Spelling.{spelled, ended, base_lines, plan_lines, timing_text, IsHeld};
-ghost use Rattle.plan_text.specs.Reading.{timing_of};
+ghost use Rattle.plan_text.specs.{Spelling.{spelled, ended, base_lines, plan_lines, timing_text, IsHeld}, Reading.{timing_of}};
 
 use narrow_fraction::Memory;
 use progression::Dir;

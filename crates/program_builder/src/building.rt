@@ -4,10 +4,8 @@ ghost use Rattle.std.specs.Prelude.{◌≡◌, length, IfOk, false};
 ghost use Rattle.progression.specs.Street.{count};
 ghost use Rattle.linear_theory.specs.Places as places;
 ghost use Rattle.linear_theory.specs.Boxes.{IsBoxOf};
-ghost use Rattle.simplex_theory.specs.DualSteps.{IsDual};
-ghost use Rattle.simplex_theory.specs.RowLists.{StandsForRows};
-ghost use Rattle.program_builder.specs.Opening.{box_rows, goal_of};
-ghost use Rattle.program_builder.specs.Building.{IsMadeFor, loaded_box, opened_box};
+ghost use Rattle.simplex_theory.specs.{DualSteps.{IsDual}, RowLists.{StandsForRows}};
+ghost use Rattle.program_builder.specs.{Opening.{box_rows, goal_of}, Building.{IsMadeFor, loaded_box, opened_box}};
 
 use crate::loading::{load, make_tableau};
 use crate::pivots::pivot;

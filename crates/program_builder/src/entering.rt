@@ -4,12 +4,9 @@ ghost use Rattle.std.specs.Prelude.{◌≡◌, length, is_none, false, if◌then
 ghost use Rattle.progression.specs.Street.{count};
 ghost use Rattle.linear_theory.specs.Places as places;
 ghost use Rattle.linear_theory.specs.Boxes.{IsBoxOf};
-ghost use Rattle.simplex_theory.specs.DualSteps.{IsDual};
-ghost use Rattle.simplex_theory.specs.RowLists.{StandsForRows};
-ghost use Rattle.program_builder.specs.EntryRefusals.{entry_refusal};
-ghost use Rattle.program_builder.specs.Opening.{box_rows, goal_of, loaded};
+ghost use Rattle.simplex_theory.specs.{DualSteps.{IsDual}, RowLists.{StandsForRows}};
+ghost use Rattle.program_builder.specs.{EntryRefusals.{entry_refusal}, Opening.{box_rows, goal_of, loaded}, Entry.{IsBasisOf, entered_box}};
 ghost use Rattle.program_builder.specs.Building.{IsMadeFor, opened_box};
-ghost use Rattle.program_builder.specs.Entry.{IsBasisOf, entered_box};
 
 use crate::building::reset;
 use crate::loading::load;

@@ -2,21 +2,14 @@
 
 ghost use Rattle.std.specs.Prelude.{◌≡◌, ◌↔◌, ◌≤◌, ℕ, List, length, slice_index_or, Some, None};
 ghost use Rattle.rational_theory.specs.Rational.{◌+ℚ◌, ◌*ℚ◌};
-ghost use Rattle.progression.specs.Street.{Street, count};
-ghost use Rattle.progression.specs.Speeds.{number};
-ghost use Rattle.progression.specs.declared.parts.Dir.TheVariants.{Outbound, Inbound};
+ghost use Rattle.progression.specs.{Street.{Street, count}, Speeds.{number}, declared.parts.Dir.TheVariants.{Outbound, Inbound}};
 ghost use Rattle.artery_model.specs.Valid.{IsValid};
-ghost use Rattle.linear_theory.specs.Places.{width};
-ghost use Rattle.linear_theory.specs.Boxes.{Area};
-ghost use Rattle.linear_theory.specs.Names.{HasRow, name_of};
+ghost use Rattle.linear_theory.specs.{Places.{width}, Boxes.{Area}, Names.{HasRow, name_of}};
 ghost use Rattle.named_row.specs.declared.names.RowId.{RowId};
 ghost use Rattle.loop_rows.specs.Following.{IsNextRow};
 ghost use Rattle.simplex_theory.specs.Tableau.{goal_cell};
-ghost use Rattle.program_builder.specs.BoxRows.{rows_of, name_before, IsAmong};
-ghost use Rattle.program_builder.specs.RowOrder.{IsAscending, IsRowAt};
-ghost use Rattle.program_builder.specs.First.{IsFirstFor, first_of};
-ghost use Rattle.program_builder.specs.Opening.{opening};
-ghost use Rattle.program_builder.specs.OpeningLaws.{wait_row};
+ghost use Rattle.program_builder.specs.{BoxRows.{rows_of, name_before, IsAmong}, RowOrder.{IsAscending, IsRowAt}, Opening.{opening}};
+ghost use Rattle.program_builder.specs.{First.{IsFirstFor, first_of}, OpeningLaws.{wait_row}};
 
 /// The list of an artery's rows is strictly ascending and holds exactly the rows that the artery has, and going from each
 /// row to the next walks it.

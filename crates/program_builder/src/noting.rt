@@ -4,9 +4,7 @@ ghost use Rattle.std.specs.Prelude.{◌≡◌, ◌+◌, ◌<◌, pos, true, leng
 ghost use Rattle.rational_theory.specs.Rational.{whole};
 ghost use Rattle.simplex_theory.specs.Tableau.{height};
 ghost use Rattle.narrow_fraction.specs.Fraction.{FitsFrac};
-ghost use Rattle.fraction_tableau.specs.Narrow.{IsNarrow};
-ghost use Rattle.fraction_tableau.specs.KeptCells.{number_in};
-ghost use Rattle.fraction_tableau.specs.PivotCalls.{CanPivot, Pivots};
+ghost use Rattle.fraction_tableau.specs.{Narrow.{IsNarrow}, KeptCells.{number_in}, PivotCalls.{CanPivot, Pivots}};
 ghost use Rattle.program_builder.specs.Remembering.{IsLess, AreTurned, IsNoteOf};
 
 use fraction_tableau::{Tableau, WideCell};

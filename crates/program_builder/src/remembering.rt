@@ -2,16 +2,11 @@
 
 ghost use Rattle.std.specs.Prelude.{◌≡◌, ◌+◌, ◌<◌, ◌≤◌, ℕ, true, false, length, is_none, None, IfOk, if◌then◌else◌};
 ghost use Rattle.linear_theory.specs.Boxes.{IsBoxOf};
-ghost use Rattle.simplex_theory.specs.Tableau.{height, width};
-ghost use Rattle.simplex_theory.specs.DualSteps.{IsDual};
-ghost use Rattle.simplex_theory.specs.RowLists.{StandsForRows};
-ghost use Rattle.entry_theory.specs.Entry.{entry};
-ghost use Rattle.entry_theory.specs.Ready.{IsReady};
+ghost use Rattle.simplex_theory.specs.{Tableau.{height, width}, DualSteps.{IsDual}, RowLists.{StandsForRows}};
+ghost use Rattle.entry_theory.specs.{Entry.{entry}, Ready.{IsReady}};
 ghost use Rattle.fraction_tableau.specs.Narrow.{IsNarrow};
-ghost use Rattle.program_builder.specs.EntryRefusals.{entry_refusal};
-ghost use Rattle.program_builder.specs.Opening.{box_rows, goal_of, loaded};
+ghost use Rattle.program_builder.specs.{EntryRefusals.{entry_refusal}, Opening.{box_rows, goal_of, loaded}, Entry.{IsBasisOf, entered_box}};
 ghost use Rattle.program_builder.specs.Building.{IsMadeFor, IsLoadedFor, loaded_box, opened_box};
-ghost use Rattle.program_builder.specs.Entry.{IsBasisOf, entered_box};
 ghost use Rattle.program_builder.specs.Remembering.{AreBoundsOf, HasBounds, HaveRoom, IsRemembered, IsEntryOf, IsMemoryOf};
 
 use crate::loaded::{load_from, reset_from};

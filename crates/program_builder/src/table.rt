@@ -3,9 +3,7 @@
 ghost use Rattle.std.specs.Prelude.{◌≡◌, ◌+◌, ◌^◌, ◌<◌, length, false};
 ghost use Rattle.linear_theory.specs.Boxes.{Area, IsBoxOf};
 ghost use Rattle.named_row.specs.Sheets.{row_of};
-ghost use Rattle.program_builder.specs.BoxRows.{IsAmong};
-ghost use Rattle.program_builder.specs.RowOrder.{IsNextIn};
-ghost use Rattle.program_builder.specs.RowTable.{RowTable, IsTable};
+ghost use Rattle.program_builder.specs.{BoxRows.{IsAmong}, RowOrder.{IsNextIn}, RowTable.{RowTable, IsTable}};
 
 use artery_model::Artery;
 use loop_rows::{column_count, fill_goal, fill_row, next_row};

@@ -6,9 +6,8 @@ ghost use Rattle.narrow_fraction.specs.Attempt.{attempt};
 ghost use Rattle.fraction_tableau.specs.NamedTableaus.{IsSpentFrom};
 ghost use Rattle.entry_theory.specs.Entry as rule;
 ghost use Rattle.entry_theory.specs.Ready.{IsReady};
-ghost use Rattle.program_builder.specs.EntryRefusals.{turn_refusal, entry_refusal, IsSpentOnTheWay};
+ghost use Rattle.program_builder.specs.{EntryRefusals.{turn_refusal, entry_refusal, IsSpentOnTheWay}, declared.noting.Turn.{Turn}};
 ghost use Rattle.program_builder.specs.Remembering.{IsNoteOf, AreNotesOf, HaveRoom};
-ghost use Rattle.program_builder.specs.declared.noting.Turn.{Turn};
 
 use crate::choosing::entry_row;
 use crate::noting::Turn;

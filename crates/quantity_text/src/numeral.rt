@@ -1,7 +1,6 @@
 //! Numerals without a leading zero, as exact spellings have them.
 
-ghost use Rattle.std.specs.Prelude.{◌≡◌, ◌↔◌, ◌<◌, ◌^◌, ℕ, IsTrue, IfSome, IfNone, length, slice_index};
-ghost use Rattle.std.specs.Fmt.{decimal};
+ghost use Rattle.std.specs.{Prelude.{◌≡◌, ◌↔◌, ◌<◌, ◌^◌, ℕ, IsTrue, IfSome, IfNone, length, slice_index}, Fmt.{decimal}};
 
 use crate::digits::number;
 

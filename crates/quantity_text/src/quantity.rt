@@ -1,7 +1,6 @@
 //! Quantities as users write them.
 
-ghost use Rattle.std.specs.Prelude.{◌≡◌, ◌<◌, ◌≤◌, ◌^◌};
-ghost use Rattle.std.specs.Result.{result_ok};
+ghost use Rattle.std.specs.{Prelude.{◌≡◌, ◌<◌, ◌≤◌, ◌^◌}, Result.{result_ok}};
 ghost use Rattle.quantity_text.specs.Quantity.{marked, with_tail, size_of, quantity_of};
 
 use crate::digits::{mark_place, run};

@@ -1,7 +1,6 @@
 //! Texts, written at the end of what is there. The error is want of memory, and then anything may have been written.
 
-ghost use Rattle.std.specs.Prelude.{◌≡◌, ◌++◌, ◌∷◌, [], OnOk};
-ghost use Rattle.std.specs.Fmt.{decimal, signed_decimal};
+ghost use Rattle.std.specs.{Prelude.{◌≡◌, ◌++◌, ◌∷◌, [], OnOk}, Fmt.{decimal, signed_decimal}};
 ghost use Rattle.quantity_text.specs.Exact.{exact_spelling};
 
 use crate::exact::exact_string;

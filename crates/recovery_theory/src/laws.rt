@@ -1,7 +1,6 @@
 //! What the definitions promise, and what they decide.
 
-ghost use Rattle.recovery_theory.specs.Promises.{VerticesRecover, LongVerticesRecover};
-ghost use Rattle.recovery_theory.specs.Worked.{WorkedVertices};
+ghost use Rattle.recovery_theory.specs.{Promises.{VerticesRecover, LongVerticesRecover}, Worked.{WorkedVertices}};
 
 /// A vertex with whole block sums and ranked shifts becomes a good timing of its weighted band, and each other one names a
 /// place inside the box; the same with further columns, of which no row speaks.

@@ -1,9 +1,8 @@
 //! The command `bands`.
 
 ghost use Rattle.std.specs.Prelude.{◌≡◌, ◌++◌, ◌<◌, None, Some, IfOk, IfSome, OnOk, codes};
-ghost use Rattle.progression.specs.TimingRecord.{cycle};
+ghost use Rattle.progression.specs.{TimingRecord.{cycle}, Good.{IsBase}};
 ghost use Rattle.diagram_print.specs.Measures.{dir_name};
-ghost use Rattle.progression.specs.Good.{IsBase};
 ghost use Rattle.run_commands.specs.Bands.{widest_line, IsMeasured, BandsFinds};
 
 use crate::hold::fails;

@@ -2,8 +2,7 @@
 
 ghost use Rattle.std.specs.Prelude.{◌≡◌, ◌≢◌, None, IfOk};
 ghost use Rattle.progression.specs.Street.{count};
-ghost use Rattle.run_commands.specs.Check.{CheckFinds};
-ghost use Rattle.run_commands.specs.CheckLines.{accepted_line, rejected_line};
+ghost use Rattle.run_commands.specs.{Check.{CheckFinds}, CheckLines.{accepted_line, rejected_line}};
 
 use crate::check_lines::{push_accepted, push_rejected};
 use artery_model::Artery;

@@ -1,7 +1,6 @@
 //! The lines of what `check` and `check-links` find.
 
-ghost use Rattle.std.specs.Prelude.{◌≡◌, ◌≢◌, ◌++◌, OnOk, codes};
-ghost use Rattle.std.specs.Fmt.{decimal};
+ghost use Rattle.std.specs.{Prelude.{◌≡◌, ◌≢◌, ◌++◌, OnOk, codes}, Fmt.{decimal}};
 ghost use Rattle.certificate_model.specs.Families.{table_of};
 ghost use Rattle.diagram_print.specs.Names.{row_text_in, place_text};
 ghost use Rattle.run_commands.specs.Lines.{failing_text};

@@ -3,8 +3,7 @@
 ghost use Rattle.std.specs.Prelude.{◌≡◌, ◌≢◌, None, IfOk};
 ghost use Rattle.progression.specs.Street.{count};
 ghost use Rattle.certificate_checker.specs.declared.reject.Reject.TheVariants as refusal;
-ghost use Rattle.run_commands.specs.Check.{CheckLinksFinds};
-ghost use Rattle.run_commands.specs.CheckLines.{link_rejected_line};
+ghost use Rattle.run_commands.specs.{Check.{CheckLinksFinds}, CheckLines.{link_rejected_line}};
 
 use crate::check::accepted;
 use crate::check_lines::push_link_rejected;

@@ -1,8 +1,7 @@
 //! The command `hold`.
 
 ghost use Rattle.std.specs.Prelude.{◌≡◌, None, IfOk};
-ghost use Rattle.run_commands.specs.Hold.{HoldFinds};
-ghost use Rattle.run_commands.specs.Lines.{fails_line, holds_lines};
+ghost use Rattle.run_commands.specs.{Hold.{HoldFinds}, Lines.{fails_line, holds_lines}};
 
 use crate::lines::{push_exact_line, push_failing_line};
 use artery_model::Artery;

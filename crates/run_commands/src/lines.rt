@@ -1,7 +1,6 @@
 //! The lines of rules that are broken, and of a name and a number.
 
-ghost use Rattle.std.specs.Prelude.{◌≡◌, ◌++◌, IfOk, OnOk, codes};
-ghost use Rattle.std.specs.Fmt.{decimal, signed_decimal};
+ghost use Rattle.std.specs.{Prelude.{◌≡◌, ◌++◌, IfOk, OnOk, codes}, Fmt.{decimal, signed_decimal}};
 ghost use Rattle.quantity_text.specs.Exact.{exact_spelling};
 ghost use Rattle.run_commands.specs.Lines.{least_text, link_text, failing_text};
 

@@ -1,10 +1,8 @@
 //! The commands `round` and `round-from`.
 
 ghost use Rattle.std.specs.Prelude.{◌≡◌, ◌≤◌, ◌++◌, None, Some, IfOk, OnOk, length, option_map};
-ghost use Rattle.progression.specs.Street.{count};
-ghost use Rattle.progression.specs.Good.{Good};
-ghost use Rattle.certificate_checker.specs.Accepted.{IsAccepted};
-ghost use Rattle.certificate_checker.specs.Claims.{ClaimHolds};
+ghost use Rattle.progression.specs.{Street.{count}, Good.{Good}};
+ghost use Rattle.certificate_checker.specs.{Accepted.{IsAccepted}, Claims.{ClaimHolds}};
 ghost use Rattle.diagram_print.specs.Measures.{band_line, weighted_line};
 ghost use Rattle.run_inputs.specs.Puts.{MayPut, view};
 ghost use Rattle.run_commands.specs.Round.{offset_line, offset_lines, plan_lines, unplanned_line, TellsRounded, RoundFinds, RoundFromFinds};

@@ -3,8 +3,7 @@
 ghost use Rattle.std.specs.Prelude.{◌≡◌, IfOk, IfSome};
 ghost use Rattle.progression.specs.Good.{Good};
 ghost use Rattle.work_meter.specs.Work.{IsBelow};
-ghost use Rattle.branch_tree.specs.Certified.{warrant_of};
-ghost use Rattle.branch_tree.specs.Searched.{IsSearched};
+ghost use Rattle.branch_tree.specs.{Certified.{warrant_of}, Searched.{IsSearched}};
 ghost use Rattle.run_commands.specs.Searched.{IsTextOf, cause_of};
 
 use artery_model::Artery;

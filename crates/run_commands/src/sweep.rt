@@ -2,8 +2,7 @@
 
 ghost use Rattle.std.specs.Prelude.{◌≡◌, IfOk, map, string_bytes};
 ghost use Rattle.work_meter.specs.Work.{IsBelow};
-ghost use Rattle.run_inputs.specs.Puts.{Puts};
-ghost use Rattle.run_inputs.specs.Cycles.{SpellCycles};
+ghost use Rattle.run_inputs.specs.{Puts.{Puts}, Cycles.{SpellCycles}};
 ghost use Rattle.run_commands.specs.Sweep.{rows_line, IsSweep};
 
 use crate::lines::push_number_line;

@@ -1,9 +1,8 @@
 //! The words of a command.
 
 ghost use Rattle.std.specs.Prelude.{◌≡◌, map, option_map, string_bytes};
-ghost use Rattle.run_inputs.specs.Numbers.{limit_of};
+ghost use Rattle.run_inputs.specs.{Numbers.{limit_of}, Reading.{IsRoomForFaults}};
 ghost use Rattle.run_inputs.specs.Command.{Solve, Links, request_of, make_of, trial_of, sweep_of, round_from_of, asked, no_more, one_more, two_more, three_more, any_more, view, shape};
-ghost use Rattle.run_inputs.specs.Reading.{IsRoomForFaults};
 
 use crate::cycles::are_cycles;
 use crate::lines::cannot_read_bytes;

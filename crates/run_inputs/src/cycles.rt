@@ -1,9 +1,7 @@
 //! The cycles among the words.
 
-ghost use Rattle.std.specs.Prelude.{◌≡◌, ◌++◌, [], ◌∷◌, true, All, IfOk, IfSome, OnOk, map, string_bytes};
-ghost use Rattle.std.specs.List.{list_all};
-ghost use Rattle.artery_model.specs.Bounds.{least_cycle, most_cycle};
-ghost use Rattle.artery_model.specs.Valid.{IsQuantity};
+ghost use Rattle.std.specs.{Prelude.{◌≡◌, ◌++◌, [], ◌∷◌, true, All, IfOk, IfSome, OnOk, map, string_bytes}, List.{list_all}};
+ghost use Rattle.artery_model.specs.{Bounds.{least_cycle, most_cycle}, Valid.{IsQuantity}};
 ghost use Rattle.run_inputs.specs.Cycles.{cycle_of, spells_cycle, are_cycles, SpellCycles, AreCycles};
 
 use cycle_sweep::is_cycle;

@@ -1,7 +1,6 @@
 //! The lines of words that aren't understood and of files that aren't read.
 
-ghost use Rattle.std.specs.Prelude.{◌≡◌, ◌++◌, IfOk, OnOk, length, string_bytes};
-ghost use Rattle.std.specs.Fmt.{decimal};
+ghost use Rattle.std.specs.{Prelude.{◌≡◌, ◌++◌, IfOk, OnOk, length, string_bytes}, Fmt.{decimal}};
 ghost use Rattle.run_inputs.specs.Lines.{kind_name, fault_name};
 ghost use Rattle.run_inputs.specs.Lines.{refused_line, bad_text_line, words_line, cannot_read_line, too_long_line};
 

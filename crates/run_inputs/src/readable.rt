@@ -1,8 +1,7 @@
 //! What a file can be read as.
 
 ghost use Rattle.std.specs.Prelude.{◌≡◌, ◌<◌, ◌^◌, None, IfOk, IfErr};
-ghost use Rattle.run_inputs.specs.Lines.{refused_line, bad_text_line};
-ghost use Rattle.run_inputs.specs.Timed.{is_timing};
+ghost use Rattle.run_inputs.specs.{Lines.{refused_line, bad_text_line}, Timed.{is_timing}};
 ghost use Rattle.run_inputs.specs.Reading.{Reader, Value, most_bytes, end_of, IsReadAs, IsRefusedFor};
 
 use crate::answer::{Unread, told};

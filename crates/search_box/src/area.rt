@@ -1,11 +1,9 @@
 //! Boxes of block sums and shift ranks.
 
 ghost use Rattle.std.specs.Prelude.{◌≡◌, ◌↔◌, ◌≤◌, length, All, IsTrue, IfOk};
-ghost use Rattle.progression.specs.TimingRecord.{TimingRecord};
-ghost use Rattle.progression.specs.Good.{Good};
-ghost use Rattle.linear_theory.specs.Counts.{IsStreet};
+ghost use Rattle.progression.specs.{TimingRecord.{TimingRecord}, Good.{Good}};
+ghost use Rattle.linear_theory.specs.{Counts.{IsStreet}, Boxes.{root_box, IsRoot, IsBoxOf, InBox, loop_span, turn_span}};
 ghost use Rattle.search_box.specs.Places.{AreRanks};
-ghost use Rattle.linear_theory.specs.Boxes.{root_box, IsRoot, IsBoxOf, InBox, loop_span, turn_span};
 
 use crate::root::{root_loops, root_turns};
 use crate::span::Span;
@@ -65,8 +63,7 @@ fn are_single_ranks(spans: &[RankSpan]) -> bool
 }
 
 impl SearchBox {
-    ghost use Rattle.search_box.specs.Seen.{span_of, ranks_of, span_of_ranks};
-    ghost use Rattle.search_box.specs.Places.{IsSingle};
+    ghost use Rattle.search_box.specs.{Seen.{span_of, ranks_of, span_of_ranks}, Places.{IsSingle}};
 
     /// The box with the root's span of each link and all ranks of each signal: every good timing of the artery lies in
     /// it. The error is want of memory.

@@ -3,8 +3,7 @@
 ghost use Rattle.std.specs.Prelude.{ℕ, ◌<◌, ◌≤◌, ◌↔◌};
 ghost use Rattle.progression.specs.Street.{Street};
 ghost use Rattle.artery_model.specs.Valid.{IsValid};
-ghost use Rattle.linear_theory.specs.Shifts.{shift_at, shift_count};
-ghost use Rattle.linear_theory.specs.Counts.{IsStreet};
+ghost use Rattle.linear_theory.specs.{Shifts.{shift_at, shift_count}, Counts.{IsStreet}};
 ghost use Rattle.search_box.specs.Ranked.{IsShift, HasRank};
 
 /// What the type of an artery keeps is all that the linear model asks of a street.

@@ -3,8 +3,7 @@
 ghost use Rattle.std.specs.Prelude.{◌≡◌, ◌<◌, ◌≤◌, ◌^◌, pos, ◌≤ℤ◌, ◌<ℤ◌, length, unsigned_abs};
 ghost use Rattle.progression.specs.Street.{Street};
 ghost use Rattle.linear_theory.specs.Boxes.{IsBoxOf, loop_span, turn_span, with_loop, with_turn};
-ghost use Rattle.search_box.specs.Seen.{span_of, ranks_of};
-ghost use Rattle.search_box.specs.Places.{HasSpan, FitsAt, IsSpanAt, span_at, with_span};
+ghost use Rattle.search_box.specs.{Seen.{span_of, ranks_of}, Places.{HasSpan, FitsAt, IsSpanAt, span_at, with_span}};
 
 use crate::area::{RankSpan, SearchBox};
 use crate::span::{At, Span};

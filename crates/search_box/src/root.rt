@@ -3,12 +3,9 @@
 ghost use Rattle.std.specs.Prelude.{◌≡◌, ◌+◌, ◌-◌, ◌*◌, ◌<◌, ◌≤◌, ◌^◌, ℕ, map, pos, neg_ℤ, ◌*ℤ◌, ◌≤ℤ◌, unsigned_abs, IfOk};
 ghost use Rattle.std.specs.Int.{int_div_euclid};
 ghost use Rattle.rational_theory.specs.Floor.{floor_ℚ, ceil_ℚ};
-ghost use Rattle.progression.specs.Street.{count, HasSignal};
-ghost use Rattle.progression.specs.Columns.{numbered};
-ghost use Rattle.linear_theory.specs.Shifts.{shift_count};
-ghost use Rattle.linear_theory.specs.Boxes.{root_span, root_ranks};
-ghost use Rattle.search_box.specs.Seen.{span_of, ranks_of};
-ghost use Rattle.search_box.specs.Sums.{share_of, top_of, bottom_of, run_at, sum_at};
+ghost use Rattle.progression.specs.{Street.{count, HasSignal}, Columns.{numbered}};
+ghost use Rattle.linear_theory.specs.{Shifts.{shift_count}, Boxes.{root_span, root_ranks}};
+ghost use Rattle.search_box.specs.{Seen.{span_of, ranks_of}, Sums.{share_of, top_of, bottom_of, run_at, sum_at}};
 
 use crate::area::{RankSpan, SearchBox};
 use crate::lists::push;

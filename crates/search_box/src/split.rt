@@ -3,8 +3,7 @@
 ghost use Rattle.std.specs.Prelude.{◌≡◌, ◌↔◌, IsTrue, IfOk, IfNone, IfSome};
 ghost use Rattle.progression.specs.Street.{Street};
 ghost use Rattle.linear_theory.specs.Boxes.{IsBoxOf};
-ghost use Rattle.search_box.specs.Seen.{span_of};
-ghost use Rattle.search_box.specs.Places.{HasSpan, FitsAt, number_at, IsPlace, low_part, high_part, with_span, AreParts};
+ghost use Rattle.search_box.specs.{Seen.{span_of}, Places.{HasSpan, FitsAt, number_at, IsPlace, low_part, high_part, with_span, AreParts}};
 
 use crate::area::SearchBox;
 use crate::lists::copied;

@@ -3,8 +3,7 @@
 //! whole number. At 100 seconds the root takes 4 units, its low part 5 and its high part 6, and the low part has the timing.
 
 ghost use Rattle.std.specs.Prelude.{All, IfOk};
-ghost use Rattle.artery_model.specs.Bounds.{least_cycle, most_cycle};
-ghost use Rattle.artery_model.specs.Valid.{IsQuantity};
+ghost use Rattle.artery_model.specs.{Bounds.{least_cycle, most_cycle}, Valid.{IsQuantity}};
 ghost use Rattle.work_meter.specs.Work.{IsBelow};
 
 use artery_model::Artery;

@@ -46,12 +46,12 @@ const HALF_RED: Street = Street {
 
 const METRES: Street = Street {
     names: ["Oak", "Elm"],
-    units: Units::Metric,
     parts: 60,
     cycle: 60,
     red: 30,
     distances: [400, 410],
     speeds: [20, 60],
+    ..HALF_RED
 };
 
 const FEET: Street = Street {
@@ -284,6 +284,8 @@ fn product() -> Wide {
     wide(Op::Mul, fraction_or_zero(-2, 3), Frac::whole(5))
 }
 
+static LEAF_SITE: &str = "site leaf wout 2 y_out 1\noperands add 5 1/2\n";
+
 /// Whether the sites of a ratio, of a pivot and of a leaf's sum are told.
 fn are_ends_told(alloc: Global, artery: &Artery) -> Result<bool, Fail> {
     prove!(artery.count() >= 2);
@@ -311,12 +313,7 @@ fn are_ends_told(alloc: Global, artery: &Artery) -> Result<bool, Fail> {
     };
     let is_ratio = is_told(alloc, artery, ratio, "site ratio 3 4\noperands div 1/2 5\n")?;
     let is_cell = is_told(alloc, artery, cell, "site cell 0 11\noperands mul -2/3 5\n")?;
-    let is_leaf = is_told(
-        alloc,
-        artery,
-        leaf,
-        "site leaf wout 2 y_out 1\noperands add 5 1/2\n",
-    )?;
+    let is_leaf = is_told(alloc, artery, leaf, LEAF_SITE)?;
     Ok(is_ratio && is_cell && is_leaf)
 }
 

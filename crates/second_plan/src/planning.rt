@@ -2,15 +2,10 @@
 
 ghost use Rattle.std.specs.Prelude.{◌<◌, IfOk, IfErr};
 ghost use Rattle.rational_theory.specs.Rational.{ℚ, ◌≤ℚ◌};
-ghost use Rattle.progression.specs.Speeds.{number};
-ghost use Rattle.progression.specs.TimingRecord.{cycle};
-ghost use Rattle.progression.specs.Good.{Good, IsBase};
-ghost use Rattle.progression.specs.Best.{Bounded};
+ghost use Rattle.progression.specs.{Speeds.{number}, TimingRecord.{cycle}, Good.{Good, IsBase}, Best.{Bounded}};
 ghost use Rattle.progression.specs.declared.parts.Dir.TheVariants.{Outbound, Inbound};
 ghost use Rattle.band_measure.specs.Widest.{IsWidest};
-ghost use Rattle.second_plan.specs.Grid.{in_seconds};
-ghost use Rattle.second_plan.specs.Planned.{AreWhole, IsPlanned, IsAnswer, IsBestOfOffsets};
-ghost use Rattle.second_plan.specs.Ends.{Faults};
+ghost use Rattle.second_plan.specs.{Grid.{in_seconds}, Planned.{AreWhole, IsPlanned, IsAnswer, IsBestOfOffsets}, Ends.{Faults}};
 ghost use Rattle.second_plan.specs.Seconds.{IsRounded};
 
 use crate::answer::{Plan, PlanEnd, PlanFault};

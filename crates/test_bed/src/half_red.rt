@@ -2,8 +2,7 @@
 
 ghost use Rattle.std.specs.Prelude.{◌≡◌, ◌<◌, IfOk};
 ghost use Rattle.rational_theory.specs.Rational.{◌/ℚ◌};
-ghost use Rattle.progression.specs.Speeds.{number};
-ghost use Rattle.progression.specs.Worked.{half_red};
+ghost use Rattle.progression.specs.{Speeds.{number}, Worked.{half_red}};
 ghost use Rattle.sample_streets.specs.Samples.{signal_of};
 ghost use Rattle.linear_theory.specs.Worked.{apart};
 

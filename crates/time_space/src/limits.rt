@@ -3,8 +3,7 @@
 
 ghost use Rattle.std.specs.Prelude.{◌≡◌, ◌↔◌, IsTrue, ◌+◌, ◌*◌, ◌<◌, ◌≤◌, ◌^◌, pos, ◌*ℤ◌, ◌-ℤ◌, unsigned_abs};
 ghost use Rattle.rational_theory.specs.Rational.{◌*ℚ◌, ◌≤ℚ◌};
-ghost use Rattle.progression.specs.Speeds.{number};
-ghost use Rattle.progression.specs.Good.{RatioHolds};
+ghost use Rattle.progression.specs.{Speeds.{number}, Good.{RatioHolds}};
 ghost use Rattle.time_space.specs.Limits.{paces_apart};
 ghost use Rattle.artery_model.specs.Bounds.{most_denominator, most_distance, most_numerator};
 

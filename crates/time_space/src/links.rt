@@ -2,9 +2,7 @@
 
 ghost use Rattle.std.specs.Prelude.{◌≡◌, ◌↔◌, ◌+◌, ◌<◌, ◌≤◌, ◌^◌, ℕ, length, false, IsTrue, MatchOption};
 ghost use Rattle.rational_theory.specs.Rational.{◌*ℚ◌, ◌≤ℚ◌};
-ghost use Rattle.progression.specs.Street.{count, distance, HasLink};
-ghost use Rattle.progression.specs.Speeds.{number, run_low, run_high};
-ghost use Rattle.progression.specs.TimingRecord.{run};
+ghost use Rattle.progression.specs.{Street.{count, distance, HasLink}, Speeds.{number, run_low, run_high}, TimingRecord.{run}};
 ghost use Rattle.time_space.specs.LinkRules.{ChangeKept, LinkHolds, LinkBreaks, AllLinks, IsFirstBroken};
 ghost use Rattle.artery_model.specs.Bounds.{most_distance, most_signals};
 

@@ -2,15 +2,10 @@
 
 ghost use Rattle.std.specs.Prelude.{◌≡◌, ◌↔◌, ◌+◌, ◌<◌, ◌≤◌, ℕ, length, false, IsTrue, MatchOption, OnOk, IfErr};
 ghost use Rattle.rational_theory.specs.Rational.{◌*ℚ◌, ◌≤ℚ◌};
-ghost use Rattle.progression.specs.Street.{count, allows, HasSignal};
-ghost use Rattle.progression.specs.Speeds.{number};
-ghost use Rattle.progression.specs.TimingRecord.{IsTimingRecord, cycle, pattern_of};
-ghost use Rattle.progression.specs.Lines.{IsGreenWay};
-ghost use Rattle.progression.specs.Good.{Good, IsBase, RatioHolds, HasLeastBand, HasEqualBands};
+ghost use Rattle.progression.specs.{Street.{count, allows, HasSignal}, Speeds.{number}, TimingRecord.{IsTimingRecord, cycle, pattern_of}};
+ghost use Rattle.progression.specs.{Lines.{IsGreenWay}, Good.{Good, IsBase, RatioHolds, HasLeastBand, HasEqualBands}};
 ghost use Rattle.progression.specs.declared.parts.Dir.{Dir};
-ghost use Rattle.time_space.specs.LinkRules.{AllLinks};
-ghost use Rattle.time_space.specs.Failing.{FailsRulesOut};
-ghost use Rattle.time_space.specs.Finer.{FinerGrids};
+ghost use Rattle.time_space.specs.{LinkRules.{AllLinks}, Failing.{FailsRulesOut}, Finer.{FinerGrids}};
 ghost use Rattle.time_space.specs.Reds.{RedsAreIntervals, SinceLastStart};
 ghost use Rattle.time_space.specs.FirstFailing.{OneFirst, IsFirstFailing, NoneBefore, rule_order, last_base_rule, link_order, link_failing};
 

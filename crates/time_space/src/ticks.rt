@@ -2,8 +2,7 @@
 
 ghost use Rattle.std.specs.Prelude.{◌≡◌, ◌+◌, ◌%◌, ◌<◌, ◌≤◌, ℕ, ◌^◌, IsTrue, MatchOption};
 ghost use Rattle.progression.specs.Green.{since, is_open, is_green, BandIsGreen};
-ghost use Rattle.time_space.specs.FirstRed.{IsFirstShut, IsFirstRed};
-ghost use Rattle.time_space.specs.Sizes.{IsWithin};
+ghost use Rattle.time_space.specs.{FirstRed.{IsFirstShut, IsFirstRed}, Sizes.{IsWithin}};
 
 /// How many ticks before `tick` the last of the moments lies that come every `cycle` ticks, of which one is `start`: from 0
 /// to `cycle - 1`.

@@ -2,8 +2,7 @@
 
 ghost use Rattle.std.specs.Prelude.{◌≡◌, ◌<◌, ◌≤◌, ◌^◌, pos, ◌≤ℤ◌, unsigned_abs};
 ghost use Rattle.rational_theory.specs.Rational.{◌+ℚ◌, ◌*ℚ◌, ◌/ℚ◌};
-ghost use Rattle.progression.specs.Speeds.{number};
-ghost use Rattle.progression.specs.Best.{weighted_band};
+ghost use Rattle.progression.specs.{Speeds.{number}, Best.{weighted_band}};
 ghost use Rattle.artery_model.specs.Bounds.{most_denominator, most_numerator};
 
 use crate::diagram::cycle;

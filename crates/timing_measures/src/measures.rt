@@ -2,9 +2,7 @@
 
 ghost use Rattle.std.specs.Prelude.{◌≡◌, ◌<◌, ◌≤◌, ◌^◌, pos, ◌≤ℤ◌, length, unsigned_abs};
 ghost use Rattle.rational_theory.specs.Rational.{over};
-ghost use Rattle.progression.specs.Street.{count, signal_of};
-ghost use Rattle.progression.specs.TimingRecord.{cycle, run};
-ghost use Rattle.progression.specs.Good.{IsBase};
+ghost use Rattle.progression.specs.{Street.{count, signal_of}, TimingRecord.{cycle, run}, Good.{IsBase}};
 ghost use Rattle.timing_measures.specs.Measures.{band_share, seconds, cycle_seconds, after_start, offset, speed_of, link_speed};
 
 use artery_model::{Artery, Dir, Units};

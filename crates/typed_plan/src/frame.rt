@@ -1,12 +1,9 @@
 //! The least timing of a plan, with given firsts and bands.
 
 ghost use Rattle.std.specs.Prelude.{◌≡◌, ◌+◌, ◌*◌, ◌<◌, ◌≤◌, ◌^◌, None, All, IfOk, pos, ◌+ℤ◌, ◌-ℤ◌, unsigned_abs};
-ghost use Rattle.progression.specs.Columns.{numbered};
-ghost use Rattle.progression.specs.Green.{mod_ℤ};
-ghost use Rattle.progression.specs.Street.{count};
+ghost use Rattle.progression.specs.{Columns.{numbered}, Green.{mod_ℤ}, Street.{count}};
 ghost use Rattle.band_measure.specs.Pairs.{with_pairs};
-ghost use Rattle.typed_plan.specs.Counts.{HasCounts};
-ghost use Rattle.typed_plan.specs.Grid.{AreLeast, lead, least_grid, least_unit, red_tick, runs, too_fine, frame};
+ghost use Rattle.typed_plan.specs.{Counts.{HasCounts}, Grid.{AreLeast, lead, least_grid, least_unit, red_tick, runs, too_fine, frame}};
 
 use crate::grid::{size, ticks};
 use crate::times::{Times, time};

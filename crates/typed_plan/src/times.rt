@@ -2,9 +2,7 @@
 
 ghost use Rattle.std.specs.Prelude.{◌≡◌, ◌+◌, ◌-◌, ◌<◌, ◌≤◌, unsigned_abs};
 ghost use Rattle.progression.specs.Street.{count};
-ghost use Rattle.typed_plan.specs.Asked.{after, travel};
-ghost use Rattle.typed_plan.specs.Counts.{HasCounts};
-ghost use Rattle.typed_plan.specs.Grid.{time, how_many};
+ghost use Rattle.typed_plan.specs.{Asked.{after, travel}, Counts.{HasCounts}, Grid.{time, how_many}};
 
 use crate::seconds::{later_by, over_whole};
 use artery_model::{Artery, Dir, seconds};

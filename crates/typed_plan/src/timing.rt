@@ -1,12 +1,9 @@
 //! From a plan to its timing.
 
 ghost use Rattle.std.specs.Prelude.{◌≡◌, ◌⊎◌, ◌<◌, ◌^◌, length, IfOk, IfErr};
-ghost use Rattle.progression.specs.Street.{count};
-ghost use Rattle.progression.specs.TimingRecord.{cycle};
+ghost use Rattle.progression.specs.{Street.{count}, TimingRecord.{cycle}};
 ghost use Rattle.band_measure.specs.Widest.{IsWidest, NoneRuns};
-ghost use Rattle.typed_plan.specs.Counts.{HasCounts, count_fault};
-ghost use Rattle.typed_plan.specs.Grid.{least_grid, too_fine};
-ghost use Rattle.typed_plan.specs.Ends.{IsTimingOf, Refuses};
+ghost use Rattle.typed_plan.specs.{Counts.{HasCounts, count_fault}, Grid.{least_grid, too_fine}, Ends.{IsTimingOf, Refuses}};
 
 use crate::counts::check_counts;
 use crate::frame::framed;

@@ -1,8 +1,6 @@
 //! The artery of a seed.
 
-ghost use Rattle.std.specs.Prelude.{◌≡◌, ◌+◌, ◌-◌, ◌*◌, ◌≤◌, ◌++◌, map, codes, IfOk, OnOk};
-ghost use Rattle.std.specs.Fmt.{decimal};
-ghost use Rattle.std.specs.List.{range_with_len};
+ghost use Rattle.std.specs.{Prelude.{◌≡◌, ◌+◌, ◌-◌, ◌*◌, ◌≤◌, ◌++◌, map, codes, IfOk, OnOk}, Fmt.{decimal}, List.{range_with_len}};
 ghost use Rattle.workload_maker.specs.Draws.{state};
 ghost use Rattle.workload_maker.specs.Made.{limits, made_head, signal_with, link_with, red_drawn, left_drawn, distance_drawn, made_signal, made_street};
 ghost use Rattle.artery_model.specs.Bounds.{least_signals, most_first_signals};

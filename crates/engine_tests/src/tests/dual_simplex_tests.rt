@@ -2,8 +2,7 @@
 
 ghost use Rattle.std.specs.Prelude.{◌≡◌, ℕ, ◌<◌, pos, IfSome, true, false};
 ghost use Rattle.rational_theory.specs.Rational.{whole, ◌≤ℚ◌};
-ghost use Rattle.simplex_theory.specs.Tableau.{goal_cell, width};
-ghost use Rattle.simplex_theory.specs.DualSteps.{IsDual};
+ghost use Rattle.simplex_theory.specs.{Tableau.{goal_cell, width}, DualSteps.{IsDual}};
 ghost use Rattle.fraction_tableau.specs.Loading.{IsUnpivoted};
 
 use crate::tests::solving::{solved, take_step};

@@ -4,8 +4,7 @@
 ghost use Rattle.std.specs.Prelude.{◌≡◌, [], ◌∷◌, IfOk, length};
 ghost use Rattle.rational_theory.specs.Rational.{◌/ℚ◌};
 ghost use Rattle.progression.specs.Speeds.{number};
-ghost use Rattle.linear_theory.specs.Boxes.{IsBoxOf};
-ghost use Rattle.linear_theory.specs.Worked.{apart};
+ghost use Rattle.linear_theory.specs.{Boxes.{IsBoxOf}, Worked.{apart}};
 ghost use Rattle.recovery_theory.specs.Worked.{quarter_point, quarter_box};
 
 use artery_model::Artery;

@@ -4,6 +4,7 @@ use super::tests::{artery, searched};
 use branch_tree::{Found, TreeNode, search};
 use named_row::{Leaf, RowId, Weight};
 use narrow_fraction::Frac;
+use std::alloc::Global;
 use std::rt::HostRuntime;
 use std::test::Fail;
 use test_bed::fraction_or_zero;
@@ -36,15 +37,18 @@ fn is_leaf_of(found: &Found, rows: [(u8, u32); 2]) -> bool {
     }
 }
 
+/// Whether a search of the shorter artery with this red within these units leaves the root a leaf of these rows.
+fn leaves_leaf(alloc: Global, red: u32, limit: u64, rows: [(u8, u32); 2]) -> Result<bool, Fail> {
+    let artery = artery(alloc, red, 250)?;
+    let found = search(alloc, &artery, Some(limit)).ok().ok_or("no memory")?;
+    Ok(is_leaf_of(&found, rows))
+}
+
 /// The block sum of the root's vertex is 1/2, so that a search of 4 units leaves it waiting with its own leaf. Long reds are refuted.
 #[test]
 fn leaves_of_the_root(rt: HostRuntime) -> Result<(), Fail> {
-    let alloc = rt.alloc();
-    for (red, limit, rows) in [(50, 4, WAITS), (80, 5, LOOP)] {
-        let artery = artery(alloc, red, 250)?;
-        let found = search(alloc, &artery, Some(limit)).ok().ok_or("no memory")?;
-        assert!(rt; is_leaf_of(&found, rows), "reds of {red}");
-    }
+    assert!(rt; leaves_leaf(rt.alloc(), 50, 4, WAITS)?);
+    assert!(rt; leaves_leaf(rt.alloc(), 80, 5, LOOP)?);
     Ok(())
 }
 

@@ -86,6 +86,12 @@ fn finds_best(alloc: Global, artery: &Artery, best: Frac) -> Result<bool, Fail> 
     Ok(is_best(&found) && ends_with(alloc, artery, &found, best, best))
 }
 
+/// Whether a search finds that there is no timing, with a certificate that is accepted.
+fn finds_none(alloc: Global, artery: &Artery) -> Result<bool, Fail> {
+    let found = searched(alloc, artery, 1000)?;
+    Ok(has_no_timing(&found) && is_accepted(alloc, artery, &found))
+}
+
 /// Whether a search within this limit spends all of it and stops with this bound and a timing of this value, or with none and -1; its
 /// certificate is accepted.
 fn stops_with(
@@ -109,18 +115,22 @@ fn the_whole_green_is_best(rt: HostRuntime) -> Result<(), Fail> {
     Ok(())
 }
 
+/// Whether a search of 15 units finds a best timing of this value in three nodes, with a certificate that is accepted.
+fn shares_the_green(alloc: Global, artery: &Artery, best: Frac) -> Result<bool, Fail> {
+    let found = searched(alloc, artery, 15)?;
+    Ok(
+        is_best(&found)
+            && ends_with(alloc, artery, &found, best, best)
+            && found.spent == 15
+            && found.nodes.len() == 3,
+    )
+}
+
 #[test]
 fn a_shared_green_is_best(rt: HostRuntime) -> Result<(), Fail> {
     let alloc = rt.alloc();
     let artery = artery(alloc, 50, 250)?;
-    let half = fraction_or_zero(1, 2);
-    let found = searched(alloc, &artery, 15)?;
-    assert!(rt; is_best(&found));
-    assert!(rt; found.bound == half);
-    assert!(rt; band(&artery, &found) == half);
-    assert!(rt; found.spent == 15);
-    assert!(rt; found.nodes.len() == 3);
-    assert!(rt; is_accepted(alloc, &artery, &found));
+    assert!(rt; shares_the_green(alloc, &artery, fraction_or_zero(1, 2))?);
     Ok(())
 }
 
@@ -151,9 +161,7 @@ fn least_bands_leave_no_timing(rt: HostRuntime) -> Result<(), Fail> {
     let alloc = rt.alloc();
     let least = with_least(fraction_or_zero(3, 10));
     let artery = two_signals(alloc, least, 50, 250)?;
-    let found = searched(alloc, &artery, 1000)?;
-    assert!(rt; has_no_timing(&found));
-    assert!(rt; is_accepted(alloc, &artery, &found));
+    assert!(rt; finds_none(alloc, &artery)?);
     Ok(())
 }
 

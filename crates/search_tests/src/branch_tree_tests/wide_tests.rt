@@ -107,23 +107,51 @@ fn is_factor(prime: i128, number: u128) -> bool {
     prime != 0 && number != 0 && number % prime.unsigned_abs() == 0
 }
 
+/// Whether each of the primes is a factor of one of two numbers.
+fn have_all_primes(left: u128, right: u128) -> bool {
+    for prime in PRIMES {
+        if !is_factor(prime, left) && !is_factor(prime, right) {
+            return false;
+        }
+    }
+    true
+}
+
+/// Whether a search was stopped by two numbers that have all primes, a unit after the pivots of the root.
+fn is_stopped_by_primes(found: &Found) -> bool {
+    match site(found) {
+        Some(site) => {
+            let (left, right) = operands(site.part);
+            found.spent == site.pivots.saturating_add(1) && have_all_primes(left, right)
+        }
+        None => false,
+    }
+}
+
+/// Whether a search has the root alone, with a leaf of its own.
+fn has_own_leaf(found: &Found) -> bool {
+    match found.nodes.as_slice() {
+        [node] => !is_first_waits(node),
+        _ => false,
+    }
+}
+
+/// Whether a search of the street keeps the root's own leaf and bound, with a certificate that is accepted.
+fn keeps_own_leaf(alloc: Global, artery: &Artery, bound: Frac) -> Result<bool, Fail> {
+    let found = searched(alloc, artery, 1000)?;
+    Ok(
+        is_stopped_by_primes(&found)
+            && found.bound == bound
+            && found.timing.is_none()
+            && has_own_leaf(&found)
+            && is_accepted(alloc, artery, &found),
+    )
+}
+
 #[test]
 fn an_unread_root_keeps_its_own_leaf(rt: HostRuntime) -> Result<(), Fail> {
-    let alloc = rt.alloc();
-    let artery = street(alloc)?;
-    let found = searched(alloc, &artery, 1000)?;
-    let site = site(&found).ok_or("no stop by width")?;
-    assert!(rt; found.spent == site.pivots.saturating_add(1));
-    let (left, right) = operands(site.part);
-    for prime in PRIMES {
-        assert!(rt; is_factor(prime, left) || is_factor(prime, right));
-    }
-    assert!(rt; found.bound == root_bound()?);
-    assert!(rt; found.timing.is_none());
-    match found.nodes.as_slice() {
-        [node] => assert!(rt; !is_first_waits(node)),
-        _ => return Err("not one node".into()),
-    }
-    assert!(rt; is_accepted(alloc, &artery, &found));
+    let bound = root_bound()?;
+    let artery = street(rt.alloc())?;
+    assert!(rt; keeps_own_leaf(rt.alloc(), &artery, bound)?);
     Ok(())
 }

@@ -3,8 +3,7 @@
 
 ghost use Rattle.std.specs.Prelude.{◌≡◌, ◌<◌, IfOk};
 ghost use Rattle.rational_theory.specs.Rational.{ℚ, ◌/ℚ◌};
-ghost use Rattle.progression.specs.Speeds.{number};
-ghost use Rattle.progression.specs.Worked.{half_red, two_signals};
+ghost use Rattle.progression.specs.{Speeds.{number}, Worked.{half_red, two_signals}};
 ghost use Rattle.sample_streets.specs.Samples.{signal_of};
 ghost use Rattle.multi_band.specs.Worked.{worked_vertex, amid, late};
 

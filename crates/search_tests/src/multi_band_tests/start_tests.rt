@@ -5,7 +5,7 @@
 use artery_model::Artery;
 use fraction_tableau::Tableau;
 use multi_band::{start_link_leaf, start_links};
-use named_row::{RowId, Weight};
+use named_row::{Leaf, RowId, Weight};
 use narrow_fraction::Frac;
 use search_box::SearchBox;
 use std::alloc::Global;
@@ -72,57 +72,100 @@ const GOAL: [i64; 14] = [0, 0, 0, 2, 0, 2, 0, 0, 0, 0, 0, 2, 2, 2];
 /// The row of near_out_a: the outbound half is 1/2 less the wait and the slack, and at most the wait.
 const NEAR_OUT: [i64; 13] = [0, 0, 0, -2, 0, 0, 0, 0, 0, 0, 0, -1, 0];
 
+/// Whether the halves are basic in rows 14 and 18.
+fn has_halves(tableau: &Tableau) -> bool {
+    basic(tableau, 14) == Some(11) && basic(tableau, 18) == Some(12)
+}
+
+/// Whether a row has this name.
+fn is_named(tableau: &Tableau, place: u32, wanted: RowId) -> bool {
+    match name(tableau, place) {
+        Some(name) => name == wanted,
+        None => false,
+    }
+}
+
+/// Whether this number stands in a cell, or a bound.
+fn has_number(tableau: &Tableau, row: u32, col: u32, wanted: Frac) -> bool {
+    match cell(tableau, row, col) {
+        Some(number) => number == wanted,
+        None => false,
+    }
+}
+
+/// Whether the tableau has 13 columns and 20 rows, in 12, 14 and 18 of them the halves and what stands for them.
+fn is_opened(tableau: &Tableau) -> bool {
+    tableau.width() == 13
+        && tableau.rows() == 20
+        && !tableau.is_spent()
+        && is_named(tableau, 14, row(24))
+        && is_named(tableau, 18, row(28))
+        && has_halves(tableau)
+        && basic(tableau, 12) == Some(25)
+}
+
+/// Whether the goal row and that of near_out_a, and the bounds of near_out_a and far_out_a, are these.
+fn has_goal_and_ends(tableau: &Tableau) -> bool {
+    has_cells(tableau, 20, &GOAL)
+        && has_cells(tableau, 12, &NEAR_OUT)
+        && has_number(tableau, 12, 13, fraction_or_zero(-1, 2))
+        && has_number(tableau, 14, 13, fraction_or_zero(1, 2))
+}
+
 #[test]
 fn halves_are_in_the_basis(rt: HostRuntime) -> Result<(), Fail> {
     let tableau = opened(rt.alloc(), Frac::whole(1))?;
-    assert_eq!(rt; tableau.width(), 13);
-    assert_eq!(rt; tableau.rows(), 20);
-    assert!(rt; !tableau.is_spent());
-    assert!(rt; name(&tableau, 14) == Some(row(24)));
-    assert!(rt; name(&tableau, 18) == Some(row(28)));
-    assert_eq!(rt; basic(&tableau, 14), Some(11));
-    assert_eq!(rt; basic(&tableau, 18), Some(12));
-    assert_eq!(rt; basic(&tableau, 12), Some(25));
-    assert!(rt; has_cells(&tableau, 20, &GOAL));
-    assert!(rt; has_cells(&tableau, 12, &NEAR_OUT));
-    assert_eq!(rt; cell(&tableau, 12, 13), Some(fraction_or_zero(-1, 2)));
-    assert_eq!(rt; cell(&tableau, 14, 13), Some(fraction_or_zero(1, 2)));
+    assert!(rt; is_opened(&tableau) && has_goal_and_ends(&tableau));
     Ok(())
+}
+
+/// Whether the tableau has 21 rows, the halves where they were, and this goal row.
+fn is_opened_with_ratio(tableau: &Tableau) -> bool {
+    tableau.rows() == 21
+        && has_halves(tableau)
+        && has_number(tableau, 21, 5, Frac::whole(1))
+        && has_number(tableau, 21, 13, fraction_or_zero(3, 2))
 }
 
 /// Where there is a row of the ratio, the rows of the halves stand as far from the front as without it.
 #[test]
 fn ratio_rows_stand_behind(rt: HostRuntime) -> Result<(), Fail> {
     let tableau = opened(rt.alloc(), fraction_or_zero(1, 2))?;
-    assert_eq!(rt; tableau.rows(), 21);
-    assert_eq!(rt; basic(&tableau, 14), Some(11));
-    assert_eq!(rt; basic(&tableau, 18), Some(12));
-    assert_eq!(rt; cell(&tableau, 21, 5), Some(Frac::whole(1)));
-    assert_eq!(rt; cell(&tableau, 21, 13), Some(fraction_or_zero(3, 2)));
+    assert!(rt; is_opened_with_ratio(&tableau));
     Ok(())
 }
 
-/// Twice each half of the green, as often as the ratio says.
+/// The start leaf of the street with this ratio, and its bound.
+fn start(alloc: Global, ratio: Frac) -> Result<(Leaf, Frac), Fail> {
+    let artery = artery(alloc, ratio)?;
+    Ok(start_link_leaf(alloc, &artery)?)
+}
+
+/// Whether a weight is 2 for the row of this family.
+fn is_twice(weight: &Weight, family: u8) -> bool {
+    weight.row == row(family) && weight.by == Frac::whole(2)
+}
+
+/// Whether a leaf has twice each half of the green.
+fn has_both_twice(leaf: &Leaf) -> bool {
+    match leaf.multipliers.as_slice() {
+        [first, second] => is_twice(first, 24) && is_twice(second, 28),
+        _ => false,
+    }
+}
+
+/// Twice each half of the green.
 #[test]
 fn halves_are_bounded_by_the_greens(rt: HostRuntime) -> Result<(), Fail> {
-    let equal = artery(rt.alloc(), Frac::whole(1))?;
-    let (leaf, bound) = start_link_leaf(rt.alloc(), &equal)?;
-    let two = Frac::whole(2);
-    assert_eq!(rt; bound, two);
-    let both = [
-        Weight {
-            row: row(24),
-            by: two,
-        },
-        Weight {
-            row: row(28),
-            by: two,
-        },
-    ];
-    assert!(rt; leaf.multipliers.as_slice() == both.as_slice());
-    let one_way = artery(rt.alloc(), Frac::whole(0))?;
-    let (leaf, bound) = start_link_leaf(rt.alloc(), &one_way)?;
-    assert_eq!(rt; bound, Frac::whole(1));
-    assert_eq!(rt; leaf.multipliers.len(), 1);
+    let (leaf, bound) = start(rt.alloc(), Frac::whole(1))?;
+    assert!(rt; bound == Frac::whole(2) && has_both_twice(&leaf));
+    Ok(())
+}
+
+/// As often as the ratio says.
+#[test]
+fn one_half_is_bounded_where_one_counts(rt: HostRuntime) -> Result<(), Fail> {
+    let (leaf, bound) = start(rt.alloc(), Frac::whole(0))?;
+    assert!(rt; bound == Frac::whole(1) && leaf.multipliers.len() == 1);
     Ok(())
 }

@@ -2,8 +2,7 @@
 
 ghost use Rattle.std.specs.Prelude.{IfOk, IfSome, IsTrue};
 ghost use Rattle.linear_theory.specs.Boxes.{IsBoxOf};
-ghost use Rattle.search_box.specs.Seen.{span_of};
-ghost use Rattle.search_box.specs.Places.{AreRanks};
+ghost use Rattle.search_box.specs.{Seen.{span_of}, Places.{AreRanks}};
 
 use super::given;
 use artery_model::Artery;

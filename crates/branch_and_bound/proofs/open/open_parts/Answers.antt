@@ -11,6 +11,9 @@ open_side-requires-clause-part g c =
     let line = c.requires.cut.0 in let place = c.args.cut.now.place in
     (line, low_line place line, place, low_is _ line _ _ _ _ c.requires.cut.1 c.in_ok-low_box.ensures.low)
 
+pub returns-in_err-low_box : goal.returns-in_err-low_box
+returns-in_err-low_box g c = grind (arith, common_steps)
+
 pub returns-in_err-low-clause-ends : goal.returns-in_err-low-clause-ends
 returns-in_err-low-clause-ends g c = λ line cut.
     let r = g.P.Relaxation.rules c.args.relaxation.now in let place = c.args.cut.now.place in
@@ -49,6 +52,3 @@ returns-in_err-high-clause-limit g c = c.in_err-high.ensures.limit ∙ c.in_ok-l
 
 pub returns-clause-limit : goal.returns-clause-limit
 returns-clause-limit g c = c.in_ok-high.ensures.limit ∙ c.in_ok-low.ensures.limit
-
-pub returns-in_err-low_box : goal.returns-in_err-low_box
-returns-in_err-low_box g c = grind (arith, common_steps)

@@ -2,9 +2,8 @@
 //! none. Each box costs one pivot. A cap above 1000 is refused.
 
 ghost use Rattle.std.specs.Prelude.{◌≡◌, ◌≤◌, ◌<ℤ◌, ◌-ℤ◌, ℤ, pos, length, IfOk};
-ghost use Rattle.branch_and_bound.specs.Lines.{BoxLine};
+ghost use Rattle.branch_and_bound.specs.{Lines.{BoxLine}, OpenedNodes.{Opens}};
 ghost use Rattle.work_meter.specs.Work.{HasWork};
-ghost use Rattle.branch_and_bound.specs.OpenedNodes.{Opens};
 ghost use Rattle.engine_tests.specs.CappedRules.{capped_rules, EndsHere};
 
 use artery_model::Artery;

@@ -3,9 +3,7 @@
 ghost use Rattle.std.specs.Prelude.{◌≡◌, IfOk, false};
 ghost use Rattle.linear_theory.specs.Boxes.{IsBoxOf};
 ghost use Rattle.simplex_theory.specs.DualSteps.{IsDual};
-ghost use Rattle.program_builder.specs.Building.{IsMadeFor};
-ghost use Rattle.program_builder.specs.Entry.{IsBasisOf};
-ghost use Rattle.program_builder.specs.First.{IsFirstFor};
+ghost use Rattle.program_builder.specs.{Building.{IsMadeFor}, Entry.{IsBasisOf}, First.{IsFirstFor}};
 
 use super::tests::{artery, is_same, opening, root};
 use crate::tests::solving::solved;

@@ -2,11 +2,9 @@
 
 ghost use Rattle.std.specs.Prelude.{◌≡◌, IfOk, false, length};
 ghost use Rattle.progression.specs.Street.{count};
-ghost use Rattle.linear_theory.specs.Boxes.{IsBoxOf};
-ghost use Rattle.linear_theory.specs.Places.{width};
+ghost use Rattle.linear_theory.specs.{Boxes.{IsBoxOf}, Places.{width}};
 ghost use Rattle.simplex_theory.specs.DualSteps.{IsDual};
-ghost use Rattle.program_builder.specs.Building.{IsMadeFor};
-ghost use Rattle.program_builder.specs.First.{IsFirstFor};
+ghost use Rattle.program_builder.specs.{Building.{IsMadeFor}, First.{IsFirstFor}};
 
 use crate::tests::solving::{solved, take_step};
 use artery_model::Artery;

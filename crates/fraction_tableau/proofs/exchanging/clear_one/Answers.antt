@@ -14,6 +14,9 @@ returns-then-is_zero-clause-outcome c =
     let z : number_in (get_or c.args.sparse_rows.now c.args.index []) c.args.pivot.now.place ≡ whole (pos 0) = ap (λ (t : List ℚ). number_in t c.args.pivot.now.place) (sym e) ∙ sym c.held-factor.ensures ∙ c.is_zero.ensures.0 c.if-is_zero.true in
     sym (ap (λ o. attempt o tt) (cond-false (eqb c.args.index c.args.pivot.now.row) None _ (ne_eqb c.args.index c.args.pivot.now.row c.if-index-pivot.false) ∙ zero_row _ _ _ _ _ (c.requires.narrow.narrow c.args.index) z))
 
+pub clear-requires : goal.clear-requires
+clear-requires c = grind (arith, common_steps)
+
 pub returns-then-is_zero-clause-cleared : goal.returns-then-is_zero-clause-cleared
 returns-then-is_zero-clause-cleared c =
     let e = get_or_default c.args.sparse_rows.now c.args.index c.index-sparse_rows-index.result [] c.requires.inside in
@@ -25,9 +28,6 @@ returns-then-is_zero-clause-cleared c =
 
 pub held-factor-requires : goal.held-factor-requires
 held-factor-requires c = grind (arith, common_steps)
-
-pub clear-requires : goal.clear-requires
-clear-requires c = grind (arith, common_steps)
 
 pub returns-in-Err : goal.returns-in-Err
 returns-in-Err c = grind (arith, common_steps)

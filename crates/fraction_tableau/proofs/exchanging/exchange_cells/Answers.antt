@@ -68,6 +68,9 @@ returns-in-Err-clear_others-clause-outcome c =
     let q = (attempt_ok _ _ _ c.in_default-clear_goal.ensures.cleared.outcome).0 in
     sym (ap (λ o. attempt o tt) (pivot_third c.args.at.row c.args.at.col c.args.sparse_rows.now c.args.goal.now c.turn.new.self c.cell.result t.held t.cell t.passed q ∙ attempt_err _ _ _ c.in-Err-clear_others.ensures.outcome))
 
+pub returns-in-Err-clear_others-clause-kept : goal.returns-in-Err-clear_others-clause-kept
+returns-in-Err-clear_others-clause-kept c = grind (arith, common_steps)
+
 pub returns-clause-outcome : goal.returns-clause-outcome
 returns-clause-outcome c =
     let t = turning (goal.at.returns-clause-outcome c).In_default in
@@ -90,14 +93,11 @@ cell-requires c = grind (arith, common_steps)
 pub turn-requires : goal.turn-requires
 turn-requires c = grind (arith, common_steps)
 
-pub clear_others-requires-clause-room : goal.clear_others-requires-clause-room
-clear_others-requires-clause-room c = grind (arith, common_steps)
-
-pub returns-in-Err-clear_others-clause-kept : goal.returns-in-Err-clear_others-clause-kept
-returns-in-Err-clear_others-clause-kept c = grind (arith, common_steps)
-
 pub returns-clause-kept : goal.returns-clause-kept
 returns-clause-kept c = grind (arith, common_steps)
+
+pub clear_others-requires-clause-room : goal.clear_others-requires-clause-room
+clear_others-requires-clause-room c = grind (arith, common_steps)
 
 pub returns-clause-held : goal.returns-clause-held
 returns-clause-held c = grind (arith, common_steps)

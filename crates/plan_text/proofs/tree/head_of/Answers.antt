@@ -7,6 +7,10 @@ use Rattle.plan_text.specs.CertificateReading.{head_of}
 use Rattle.plan_text.proofs.tree.head_of.Goals as goal
 use Rattle.plan_text.proofs.tree.head_of.Goals.{in_default-via-then-words-lt2, in_default-via-in-len2+else-eq, in_default-via-in-len4+else-eq-2, in_default-via-else-words-lt2+else-words-lt3+else-words-lt4+else-words-lt5}
 
+pub returns-in_err-at-in-len4 : goal.returns-in_err-at-in-len4
+unfolding head_of
+returns-in_err-at-in-len4 c = grind (arith, common_steps)
+
 pub returns-in_default : goal.returns-in_default
 returns-in_default c =
     let names = naming_of c.args.names in
@@ -25,10 +29,6 @@ returns-in_default c =
 pub returns-in_err-count-in-len2 : goal.returns-in_err-count-in-len2
 unfolding head_of
 returns-in_err-count-in-len2 c = grind (arith, common_steps)
-
-pub returns-in_err-at-in-len4 : goal.returns-in_err-at-in-len4
-unfolding head_of
-returns-in_err-at-in-len4 c = grind (arith, common_steps)
 
 pub returns-in_ok-count-in-len2 : goal.returns-in_ok-count-in-len2
 unfolding head_of

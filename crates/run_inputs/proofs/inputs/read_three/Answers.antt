@@ -12,3 +12,9 @@ returns-in_err-last-clause-unread g c = let all = third_unread {k = input g.V.Re
 
 pub returns-in_err-last-clause-kept : goal.returns-in_err-last-clause-kept
 returns-in_err-last-clause-kept g c = grind (arith, elements)
+
+pub returns-clause-kept : goal.returns-clause-kept
+returns-clause-kept g c = grind (arith, elements)
+
+pub returns-clause-read : goal.returns-clause-read
+returns-clause-read g c = grind (arith, elements)

@@ -9,6 +9,9 @@ use Rattle.fraction_tableau.proofs.Making.{scale_made}
 use Rattle.std.proofs.lemmas.Grind.{common_steps}
 use Rattle.fraction_tableau.proofs.sparse_row.SparseRow.find_scale.Goals as goal
 
+pub returns-in_default : goal.returns-in_default
+returns-in_default c = grind (arith, common_steps)
+
 pub invariant_of-self : goal.invariant_of-self
 invariant_of-self c =
     let i = c.self.inside in
@@ -26,11 +29,8 @@ invariant_of-self c =
       ),
     )
 
-pub invariant_of-self-in_default : goal.invariant_of-self-in_default
-invariant_of-self-in_default c = grind (arith, common_steps)
-
 pub returns-in-Some : goal.returns-in-Some
 returns-in-Some c = grind (arith, common_steps)
 
-pub returns-in_default : goal.returns-in_default
-returns-in_default c = grind (arith, common_steps)
+pub invariant_of-self-in_default : goal.invariant_of-self-in_default
+invariant_of-self-in_default c = grind (arith, common_steps)

@@ -12,6 +12,9 @@ some a v = let n = v.few in omega arith
 pub returns-clause-root : goal.returns-clause-root
 returns-clause-root c = root_of c.args.artery.now c.in_ok-loops.loops.items c.in_ok-turns.turns.items c.in_ok-loops.ensures c.in_ok-turns.ensures.value (some c.args.artery.now c.known_valid.ensures)
 
+pub returns-clause-street : goal.returns-clause-street
+returns-clause-street c = grind (arith, street_of)
+
 pub returns-clause-boxed : goal.returns-clause-boxed
 returns-clause-boxed c = root_boxed_of c.args.artery.now c.in_ok-loops.loops.items c.in_ok-turns.turns.items c.in_ok-loops.ensures c.in_ok-turns.ensures.value (some c.args.artery.now c.known_valid.ensures) c.in_ok-turns.ensures.some
 
@@ -26,6 +29,3 @@ returns-in_err-loops c = grind (arith, street_of)
 
 pub returns-in_err-turns : goal.returns-in_err-turns
 returns-in_err-turns c = grind (arith, street_of)
-
-pub returns-clause-street : goal.returns-clause-street
-returns-clause-street c = grind (arith, street_of)

@@ -1,0 +1,6 @@
+use Rattle.std.proofs.Common.{arith}
+use Rattle.std.proofs.lemmas.Grind.{common_steps}
+use Rattle.maxband_run.proofs.program.after_the_name.Goals as goal
+
+pub loop-word-init : goal.loop-word-init
+loop-word-init c = grind (arith, common_steps)
