@@ -1,7 +1,6 @@
 //! The type of a valid artery: how one is made, and its numbers in the model's words.
 
 ghost use Rattle.std.specs.Prelude.{◌≡◌, ◌+◌, ◌<◌, ◌≤◌, pos, ◌≤ℤ◌, unsigned_abs, IfSome, IfOk};
-ghost use Rattle.rational_theory.specs.Rational.{◌≤ℚ◌};
 ghost use Rattle.progression.specs.Street.{Street, count, signal_of, link_of, left_against, red_parts, clearance, allows, distance, speed, change_given, least_band};
 ghost use Rattle.progression.specs.{Speeds.{run_low, run_high, change}, Columns.{pattern_shift}};
 ghost use Rattle.artery_model.specs.Bounds.{least_signals, most_signals, least_parts, most_parts, least_distance, most_distance, least_cycle, most_cycle, least_ratio, most_ratio, first_version, second_version, least_share, most_share};

@@ -1,6 +1,6 @@
 //! The widest band of all: the firsts to try are those at which a line leaves a red.
 
-ghost use Rattle.std.specs.Prelude.{◌≡◌, ◌+◌, ◌*◌, ◌<◌, ◌≤◌, ◌^◌, length, true, false, unsigned_abs, MatchOption, IfSome};
+ghost use Rattle.std.specs.Prelude.{◌≡◌, ◌+◌, ◌<◌, ◌≤◌, ◌^◌, length, true, false, unsigned_abs, MatchOption, IfSome};
 ghost use Rattle.progression.specs.{Street.{count}, TimingRecord.{cycle}};
 ghost use Rattle.band_measure.specs.{Edges.{way}, Widest.{NoneRuns, IsWidest}, Tried.{FoundOfEdges}};
 

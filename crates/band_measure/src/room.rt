@@ -1,6 +1,6 @@
 //! How wide a band is that begins at a line: at one signal, and at all.
 
-ghost use Rattle.std.specs.Prelude.{◌≡◌, ◌+◌, ◌-◌, ◌*◌, ◌<◌, ◌≤◌, ◌^◌, ℕ, ℤ, length, pos, ◌+ℤ◌, unsigned_abs, MatchOption};
+ghost use Rattle.std.specs.Prelude.{◌≡◌, ◌+◌, ◌-◌, ◌<◌, ◌≤◌, ◌^◌, ℕ, length, pos, ◌+ℤ◌, unsigned_abs, MatchOption};
 ghost use Rattle.progression.specs.{Street.{count}, Green.{BandIsGreen}};
 ghost use Rattle.time_space.specs.Sizes.{IsWithin};
 ghost use Rattle.band_measure.specs.{Pairs.{RunsOn}, Edges.{way, IsGreenFrom}, Rooms.{IsRoom, IsRoomAt, IsWidestFrom}};

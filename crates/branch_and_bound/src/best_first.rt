@@ -1,6 +1,6 @@
 //! The search.
 
-ghost use Rattle.std.specs.Prelude.{◌≡◌, ℕ, List, [], ◌∷◌, All, IfOk};
+ghost use Rattle.std.specs.Prelude.{◌≡◌, [], ◌∷◌, All, IfOk};
 ghost use Rattle.rational_theory.specs.Rational.{ℚ};
 ghost use Rattle.work_meter.specs.Work.{IsBelow, IsWithin};
 ghost use Rattle.branch_and_bound.specs.{Greatest.{IsSettled, bound_of}, State.{IsSearchState}, Answer.{IsFound, timing_of}};

@@ -1,6 +1,6 @@
 //! Opens the two parts of a box that is split.
 
-ghost use Rattle.std.specs.Prelude.{◌≡◌, true, false, IfOk};
+ghost use Rattle.std.specs.Prelude.{◌≡◌, IfOk};
 ghost use Rattle.search_box.specs.{Places.{IsPlace, low_part, high_part}, declared.span.At.{At}};
 ghost use Rattle.branch_and_bound.specs.{Lines.{BoxLine}, OpenedNodes.{IsPart}, State.{IsCut, EndsAt, EndsBothAt, ended}};
 ghost use Rattle.work_meter.specs.Work.{IsWithin};

@@ -1,9 +1,8 @@
 //! The timings of an artery, with one band a direction, as what is sought: the root begins from its opening tableau, and each part from
 //! the basic variables that its parent ended with.
 
-ghost use Rattle.std.specs.Prelude.{◌≡◌, IfOk, OnOk};
+ghost use Rattle.std.specs.Prelude.{◌≡◌};
 ghost use Rattle.linear_theory.specs.Boxes.{IsBoxOf};
-ghost use Rattle.offset_recovery.specs.Outcomes.{Outcome};
 ghost use Rattle.certificate_model.specs.Warrants.{IsCertificate};
 ghost use Rattle.branch_tree.specs.Certified.{warrant_from};
 

@@ -4,7 +4,6 @@ ghost use Rattle.std.specs.Prelude.{◌≡◌, IfOk, OnOk};
 ghost use Rattle.linear_theory.specs.Boxes.{Area};
 ghost use Rattle.simplex_theory.specs.{BlandRule.{optimal}, DualSteps.{IsPlaced}};
 ghost use Rattle.search_box.specs.declared.span.At.{At};
-ghost use Rattle.fraction_tableau.specs.NamedTableaus.{NamedTableau};
 ghost use Rattle.program_builder.specs.Loading.{HasRoomFor};
 ghost use Rattle.certificate_model.specs.Warrants.{WarrantWith, IsCertificateIn};
 ghost use Rattle.branch_and_bound.specs.{Lines.{BoxLine, top_line}, OpenedNodes.{IsPart}};

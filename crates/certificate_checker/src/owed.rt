@@ -1,6 +1,6 @@
 //! The boxes that still want a tree.
 
-ghost use Rattle.std.specs.Prelude.{◌≡◌, ◌<◌, [], ◌∷◌, length, drop, IfOk, OnOk};
+ghost use Rattle.std.specs.Prelude.{◌≡◌, ◌<◌, [], ◌∷◌, length, drop, OnOk};
 ghost use Rattle.search_box.specs.{Seen.{span_of}, Places.{IsPlace, FitsAt, low_part, high_part, span_at, with_span}};
 ghost use Rattle.certificate_checker.specs.Owed.{AreSplits, number_at, first_of, owed_of, waiting};
 

@@ -1,6 +1,6 @@
 //! The table of comma-separated values.
 
-ghost use Rattle.std.specs.{Prelude.{◌≡◌, ◌++◌, [], ◌∷◌, IfOk, OnOk, codes}, List.{flat_map}, Io.KnownBytes.{Appends}};
+ghost use Rattle.std.specs.{Prelude.{◌≡◌, IfOk, OnOk}, List.{flat_map}, Io.KnownBytes.{Appends}};
 ghost use Rattle.csv.specs.Writing.{default_writer, row_text, text_written};
 ghost use Rattle.cycle_sweep.specs.Table.{fields, header_fields, outside_fields, found_fields, row_fields, line, sweep_text};
 ghost use Rattle.cycle_sweep.specs.Writers.{IsReady};

@@ -1,6 +1,6 @@
 //! What a value of a description must be.
 
-ghost use Rattle.std.specs.Prelude.{◌≡◌, codes};
+ghost use Rattle.std.specs.Prelude.{◌≡◌};
 ghost use Rattle.toml.specs.View.{view};
 ghost use Rattle.description_reader.specs.Checks.{meets};
 

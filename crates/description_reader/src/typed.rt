@@ -1,9 +1,9 @@
 //! A plan as people type it, and its reading.
 
-ghost use Rattle.std.specs.Prelude.{◌≡◌, ◌≤◌, map, codes, All, true, is_some, None, pos, IfOk, IfErr, if◌then◌else◌};
+ghost use Rattle.std.specs.Prelude.{◌≡◌, ◌≤◌, All, true, is_some, None, pos, IfOk, IfErr, if◌then◌else◌};
 ghost use Rattle.toml.specs.{Data.{as_table}, View.{view}};
 ghost use Rattle.artery_model.specs.{Bounds.{least_cycle, most_cycle}, Faults.{Judges}, Valid.{IsQuantity}};
-ghost use Rattle.description_reader.specs.{Quantity.{number_in, integer_in}, Streets.{u32_or_zero}, Values.{at_key}, Described.{RefusesBy}};
+ghost use Rattle.description_reader.specs.{Quantity.{number_in, integer_in}, Streets.{u32_or_zero}, Described.{RefusesBy}};
 ghost use Rattle.description_reader.specs.Typed.{measure, measured, IsMeasured, IsTyped, reference_of, measure_of, numbers_at, patterns_at, plan_in, typed_in, plan_fault, GivesPlan};
 
 use crate::build::{number_of, u32_or_zero};

@@ -1,6 +1,6 @@
 //! What stands behind the bands: the page, the field, and the lines of seconds, of cycles and of the signals.
 
-ghost use Rattle.std.specs.Prelude.{◌≡◌, ◌+◌, ◌-◌, ◌*◌, ◌<◌, ◌≤◌, ◌^◌, IfOk, pos, length, unsigned_abs};
+ghost use Rattle.std.specs.Prelude.{◌≡◌, ◌+◌, ◌-◌, ◌*◌, ◌<◌, ◌≤◌, ◌^◌, IfOk, pos};
 ghost use Rattle.progression.specs.Street.{count};
 ghost use Rattle.diagram_draw.specs.Frames.{IsFrame};
 ghost use Rattle.diagram_draw.specs.Axes.{seconds_shown, step_for, steps_shown, second_at, second_line, second_lines, cycle_line, cycle_lines, level_line, level_lines, paper, plot, back};

@@ -1,6 +1,6 @@
 //! The bands between the signals.
 
-ghost use Rattle.std.specs.Prelude.{◌≡◌, ◌+◌, ◌*◌, ◌<◌, ◌≤◌, ◌^◌, IfOk, pos, ◌+ℤ◌, length, unsigned_abs};
+ghost use Rattle.std.specs.Prelude.{◌≡◌, ◌+◌, ◌<◌, ◌≤◌, ◌^◌, IfOk, length, unsigned_abs};
 ghost use Rattle.progression.specs.{Street.{count}, TimingRecord.{cycle, run, band}};
 ghost use Rattle.diagram_draw.specs.Frames.{IsFrame};
 ghost use Rattle.diagram_draw.specs.Bands.{tail, leaving_level, entering_level, band_paint, cycles_back, piece, some_pieces, first_leaving, pieces, link_pieces, all_pieces};

@@ -1,9 +1,8 @@
 //! The measures of a drawing: where a moment and a signal stand.
 
-ghost use Rattle.std.specs.Prelude.{◌≡◌, ◌+◌, ◌-◌, ◌*◌, ◌<◌, ◌≤◌, ◌^◌, ℤ, pos, ◌*ℤ◌, ◌+ℤ◌, ◌-ℤ◌, length, unsigned_abs};
-ghost use Rattle.std.specs.Int.{int_div_euclid};
-ghost use Rattle.progression.specs.{Street.{count, signal_of}, TimingRecord.{cycle}};
-ghost use Rattle.diagram_draw.specs.Frames.{trip, reach, longest_reach, cycles_for, far, street_length, shortest, rise_for, span_for, longest_name, name_room, frame_of, x_at, level, plot_bottom, earlier, later, IsFrame};
+ghost use Rattle.std.specs.{Prelude.{◌≡◌, ◌+◌, ◌-◌, ◌*◌, ◌<◌, ◌≤◌, ◌^◌, pos, ◌*ℤ◌, ◌+ℤ◌, ◌-ℤ◌, length, unsigned_abs}, Int.{int_div_euclid}};
+ghost use Rattle.progression.specs.{Street.{count}, TimingRecord.{cycle}};
+ghost use Rattle.diagram_draw.specs.Frames.{trip, reach, longest_reach, cycles_for, far, shortest, rise_for, span_for, longest_name, name_room, frame_of, x_at, level, plot_bottom, earlier, later, IsFrame};
 
 use artery_model::{Artery, Dir};
 use time_space::{Timing, cycle};

@@ -1,9 +1,8 @@
 //! Leaves and the vertex of a tableau.
 
-ghost use Rattle.std.specs.Prelude.{◌≡◌, ℕ, ◌<◌, ◌≤◌, ◌++◌, pos, false, length, get_or, IfOk};
+ghost use Rattle.std.specs.Prelude.{◌≡◌, ℕ, ◌<◌, ◌++◌, pos, false, length, get_or, IfOk};
 ghost use Rattle.rational_theory.specs.Rational.{whole, ◌≤ℚ◌, ◌<ℚ◌};
-ghost use Rattle.simplex_theory.specs.{Tableau.{height, width, bound, cell}, DualSteps.{IsDual}};
-ghost use Rattle.simplex_theory.specs.RowLists.{vertex_point, StandsForRows, IsOptimalPoint};
+ghost use Rattle.simplex_theory.specs.{Tableau.{height, width, bound, cell}, RowLists.{vertex_point}};
 ghost use Rattle.fraction_tableau.specs.NamedTableaus.{IsNamed};
 ghost use Rattle.dual_leaf.specs.Leaves.{multiplier, multipliers_below, goal_multipliers, row_multipliers, LeafCovers, LeafRefutes, ReachesOptimum};
 

@@ -1,7 +1,7 @@
 //! Which row and which place a step takes, by Bland's rule.
 
 ghost use Rattle.std.specs.Prelude.{◌≡◌, ◌<◌, ◌≤◌, IfSome, Some, None, pos, ltb, cond, is_some};
-ghost use Rattle.rational_theory.specs.{Rational.{whole, neg_ℚ, ◌/ℚ◌, ◌<ℚ◌}, Compare.{cmp_ℚ}};
+ghost use Rattle.rational_theory.specs.Rational.{whole, neg_ℚ, ◌/ℚ◌, ◌<ℚ◌};
 ghost use Rattle.simplex_theory.specs.{Tableau.{height, width, bound, cell, goal_cell}, Best.{best_step}};
 ghost use Rattle.simplex_theory.specs.BlandRule.{chosen_row, chosen_place, is_negative, row_before, place_before, less_by};
 ghost use Rattle.narrow_fraction.specs.{Attempt.{attempt}, declared.wide.Op.TheVariants.{Div}};

@@ -1,11 +1,11 @@
 //! The cells of a whole exchange, and of all rows at once.
 
 ghost use Rattle.std.specs.Prelude.{◌≡◌, ℕ, ◌+◌, ◌<◌, ◌≤◌, ◌^◌, pos, length, get_or, set, eqb, cond, true, false, None, IfOk, []};
-ghost use Rattle.rational_theory.specs.Rational.{whole, inverse_ℚ};
+ghost use Rattle.rational_theory.specs.Rational.{whole};
 ghost use Rattle.simplex_theory.specs.Lines.{turned, cleared};
 ghost use Rattle.narrow_fraction.specs.Attempt.{attempt, first_below};
 ghost use Rattle.fraction_tableau.specs.{Narrow.{IsNarrow, AreNarrow}, RowChanges.{IsPivoted, Clears}, KeptCells.{number_in}};
-ghost use Rattle.fraction_tableau.specs.{Refusals.{clear_refusal, row_refusal, pivot_refusal, exchanged_rows}, Columns.{AreNoted}};
+ghost use Rattle.fraction_tableau.specs.{Refusals.{row_refusal, pivot_refusal, exchanged_rows}, Columns.{AreNoted}};
 
 use crate::fractions::Elimination;
 use crate::sparse_row::SparseRow;

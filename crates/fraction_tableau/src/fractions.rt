@@ -1,11 +1,11 @@
 //! Rows that are made by operations on fractions, in their order, up to the first that is refused.
 
-ghost use Rattle.std.specs.Prelude.{◌≡◌, ◌+◌, ◌<◌, ◌^◌, pos, length, take, IfOk, IfErr};
-ghost use Rattle.rational_theory.specs.Rational.{whole, inverse_ℚ, neg_ℚ};
+ghost use Rattle.std.specs.Prelude.{◌≡◌, ◌+◌, length, take, IfOk, IfErr};
+ghost use Rattle.rational_theory.specs.Rational.{neg_ℚ};
 ghost use Rattle.simplex_theory.specs.Lines.{turned, cleared};
 ghost use Rattle.narrow_fraction.specs.Attempt.{attempt};
 ghost use Rattle.fraction_tableau.specs.{Narrow.{IsNarrow}, Refusals.{turn_refusal, clear_refusal}, RowChanges.{CanTurn, CanClear}};
-ghost use Rattle.fraction_tableau.specs.KeptCells.{number_in, dense_row, IsSparse};
+ghost use Rattle.fraction_tableau.specs.KeptCells.{dense_row, IsSparse};
 
 use crate::kept::Kept;
 use crate::merging::{Clearing, cleared_number, merge};

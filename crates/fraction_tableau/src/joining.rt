@@ -1,6 +1,6 @@
 //! A narrow row cleared by a narrow turned row: by whole numbers, with no common divisor of a cell.
 
-ghost use Rattle.std.specs.Prelude.{◌≡◌, ℕ, ◌+◌, ◌*◌, ◌/◌, ◌<◌, ◌≤◌, ◌^◌, ◌*ℤ◌, ◌+ℤ◌, neg_ℤ, pos, cond, length, take, unsigned_abs, IfSome, SomeIff};
+ghost use Rattle.std.specs.Prelude.{◌≡◌, ◌+◌, ◌*◌, ◌/◌, ◌<◌, ◌≤◌, ◌^◌, ◌*ℤ◌, ◌+ℤ◌, neg_ℤ, pos, cond, length, take, unsigned_abs, IfSome, SomeIff};
 ghost use Rattle.rational_theory.specs.Rational.{whole, over, neg_ℚ, ◌+ℚ◌, ◌*ℚ◌};
 ghost use Rattle.simplex_theory.specs.Lines.{cleared};
 ghost use Rattle.fraction_tableau.specs.{KeptCells.{number_in, kept_below}, Marks.{AreMarked}};

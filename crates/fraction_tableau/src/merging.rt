@@ -1,7 +1,7 @@
 //! A row and the turned row merged, place by place in order, and only at places where one of them isn't 0.
 
 ghost use Rattle.std.specs.Prelude.{◌≡◌, ℕ, ◌+◌, ◌<◌, ◌≤◌, ◌^◌, None, Some, pos, cond, eqb, length, take, unsigned_abs, IfOk, IfErr};
-ghost use Rattle.rational_theory.specs.Rational.{ℚ, whole, over, neg_ℚ, ◌+ℚ◌, ◌*ℚ◌};
+ghost use Rattle.rational_theory.specs.Rational.{whole, over, neg_ℚ, ◌+ℚ◌, ◌*ℚ◌};
 ghost use Rattle.narrow_fraction.specs.{Fraction.{FitsFrac}, Attempt.{attempt, first_below}};
 ghost use Rattle.fraction_tableau.specs.{Narrow.{IsNarrow}, Refusals.{less_refusal, clear_at}, Marks.{AreMarked}};
 ghost use Rattle.fraction_tableau.specs.KeptCells.{number_in, kept_below, merged_at, IsMerged, IsCarriedOn};

@@ -1,6 +1,6 @@
 //! What the numbers of a narrow row stand over.
 
-ghost use Rattle.std.specs.Prelude.{◌≡◌, ◌<◌, ◌≤◌, ◌^◌, unsigned_abs};
+ghost use Rattle.std.specs.Prelude.{◌≡◌, ◌<◌, ◌^◌, unsigned_abs};
 ghost use Rattle.rational_theory.specs.Rational.{over};
 ghost use Rattle.fraction_tableau.specs.Scales.{numerator, CanRescale};
 

@@ -3,7 +3,6 @@
 ghost use Rattle.std.specs.Prelude.{◌≡◌, ◌+◌, ◌-◌, ◌<◌, ◌≤◌, ◌^◌, ℕ, None, true, false, pos, length, replicate, IfOk, IfSome};
 ghost use Rattle.rational_theory.specs.Rational.{ℚ, whole, inverse_ℚ};
 ghost use Rattle.simplex_theory.specs.Lines.{turned, cleared};
-ghost use Rattle.narrow_fraction.specs.Attempt.{attempt};
 ghost use Rattle.fraction_tableau.specs.{Narrow.{IsNarrow}, Refusals.{turn_refusal, clear_refusal}, KeptCells.{number_in, kept_below}};
 ghost use Rattle.fraction_tableau.specs.{RowChanges.{CanTurn, Turns, CanClear, Clears}, NamedTableaus.{row_cells, goal_cells, rebound}};
 ghost use Rattle.fraction_tableau.specs.Scales.{IsOver, IsScaled, IsJoining, IsTurning, factor_of, pivot_of};

@@ -1,6 +1,6 @@
 //! The timing of the best band.
 
-ghost use Rattle.std.specs.Prelude.{◌≡◌, ◌+◌, ◌*◌, ◌<◌, ◌≤◌, ◌^◌, ◌++◌, [], ◌∷◌, ℕ, ℤ, pos, All, length, map, IfOk, OnOk, MatchOption, unsigned_abs, ◌+ℤ◌};
+ghost use Rattle.std.specs.Prelude.{◌≡◌, ◌+◌, ◌*◌, ◌<◌, ◌≤◌, ◌^◌, ◌++◌, [], ◌∷◌, pos, All, length, IfOk, OnOk, MatchOption, unsigned_abs, ◌+ℤ◌};
 ghost use Rattle.progression.specs.{Street.{count}, TimingRecord.{cycle}, Green.{ahead, red_ticks}};
 ghost use Rattle.progression.specs.declared.parts.Dir.TheVariants.{Outbound};
 ghost use Rattle.artery_model.specs.Bounds.{most_signals};

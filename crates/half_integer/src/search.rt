@@ -1,11 +1,11 @@
 //! The widest band over all lines on the doubled grid, each signal in its better phase.
 
-ghost use Rattle.std.specs.Prelude.{◌≡◌, ◌≢◌, ◌+◌, ◌-◌, ◌*◌, ◌<◌, ◌≤◌, ◌^◌, ℕ, ℤ, pos, min, max, length, MatchOption, IfSome, unsigned_abs, ◌+ℤ◌, ◌-ℤ◌};
-ghost use Rattle.progression.specs.{Street.{count, HasSignal}, TimingRecord.{cycle}, Green.{red_ticks}};
-ghost use Rattle.progression.specs.declared.parts.Dir.TheVariants.{Outbound, Inbound};
+ghost use Rattle.std.specs.Prelude.{◌≡◌, ◌+◌, ◌-◌, ◌*◌, ◌<◌, ◌≤◌, ◌^◌, ℕ, ℤ, pos, min, max, length, MatchOption, unsigned_abs, ◌+ℤ◌};
+ghost use Rattle.progression.specs.{Street.{count}, TimingRecord.{cycle}, Green.{red_ticks}};
+ghost use Rattle.progression.specs.declared.parts.Dir.TheVariants.{Outbound};
 ghost use Rattle.artery_model.specs.Bounds.{most_signals};
 ghost use Rattle.time_space.specs.Sizes.{IsWithin};
-ghost use Rattle.mirror_theory.specs.{EqualBands.{travel}, Runs.{phase_wait, far, wait_in_phase, taken, Runs, IsWidest, candidate}};
+ghost use Rattle.mirror_theory.specs.{EqualBands.{travel}, Runs.{phase_wait, far, wait_in_phase, taken, Runs, candidate}};
 ghost use Rattle.half_integer.specs.Bands.{fullest, IsRoom, reach, IsTried, IsTriedTo, IsRun, IsBandWithin, IsBestBand};
 
 use artery_model::Artery;

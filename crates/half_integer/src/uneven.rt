@@ -1,6 +1,6 @@
 //! Signals whose reds aren't one interval, and links whose directions take unequal times.
 
-ghost use Rattle.std.specs.Prelude.{◌≡◌, ◌↔◌, ◌<◌, ◌≤◌, ◌^◌, ℕ, IsTrue, MatchOption, length, unsigned_abs};
+ghost use Rattle.std.specs.Prelude.{◌≡◌, ◌↔◌, ◌<◌, ◌≤◌, ℕ, IsTrue, MatchOption, length};
 ghost use Rattle.progression.specs.Street.{count, HasSignal, HasLink};
 ghost use Rattle.half_integer.specs.Uneven.{IsSplit, IsUneven, IsFirstUneven, IsEqualLink, IsFirstUnequal};
 

@@ -1,8 +1,7 @@
 //! Link timings in the texts of certificates.
 
-ghost use Rattle.std.specs.Prelude.{◌≡◌, ◌+◌, ◌<◌, ◌++◌, ◌^◌, OnOk};
-ghost use Rattle.plan_text.specs.{Lines.{Gives}, Spelling.{ended}};
-ghost use Rattle.link_proof.specs.{LinkFamilies.{links}, LinkTimingTexts.{link_lines, link_plan_at, IsHeldLinks, link_bands}};
+ghost use Rattle.std.specs.Prelude.{◌+◌};
+ghost use Rattle.link_proof.specs.{LinkFamilies.{links}, LinkTimingTexts.{link_bands}};
 
 use crate::families::link_families;
 use link_space::LinkTiming;

@@ -1,6 +1,6 @@
 //! The families of rows that links have beside those of the lines: which number each has, where its rows stand, and what they are.
 
-ghost use Rattle.std.specs.Prelude.{◌≡◌, ◌≢◌, ◌<◌, ◌≤◌, length};
+ghost use Rattle.std.specs.Prelude.{◌≡◌, ◌<◌};
 ghost use Rattle.link_theory.specs.LinkNames.{HasLinkRow};
 ghost use Rattle.link_space.specs.{LinkFamilies.{number_of, row_in}, LinkSheets.{by_end, link_sheet}};
 ghost use Rattle.link_space.specs.laws.LinkSheets.{link_sheet_unspent, link_sheet_met};

@@ -1,6 +1,6 @@
 //! The rows of links by their names.
 
-ghost use Rattle.std.specs.Prelude.{◌≡◌, ◌↔◌, ◌-◌, ◌≤◌, ◌<◌, ℕ, IsTrue, MatchOption, length, true, false};
+ghost use Rattle.std.specs.Prelude.{◌≡◌, ◌↔◌, ◌-◌, ◌≤◌, ℕ, IsTrue, MatchOption, length, true, false};
 ghost use Rattle.progression.specs.Street.{count};
 ghost use Rattle.linear_theory.specs.{Places.{width}, Boxes.{IsBoxOf}, Names.{name_of}};
 ghost use Rattle.loop_rows.specs.Following.{IsNextIn};

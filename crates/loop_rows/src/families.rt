@@ -1,6 +1,6 @@
 //! The families of an artery's rows: which number each has, where its rows stand, and what they are.
 
-ghost use Rattle.std.specs.Prelude.{◌≡◌, ◌≢◌, ◌↔◌, IsTrue, ◌+◌, ◌<◌, ◌≤◌, length};
+ghost use Rattle.std.specs.Prelude.{◌≡◌, ◌↔◌, IsTrue, ◌+◌, ◌<◌, ◌≤◌, length};
 ghost use Rattle.progression.specs.Street.{count};
 ghost use Rattle.linear_theory.specs.{Boxes.{IsBoxOf}, Places.{width}, Rows.{places_of, block_entries}, Names.{HasRow, HasChange, form_of}};
 ghost use Rattle.linear_theory.proofs.NamedRows.{row_law};

@@ -1,6 +1,6 @@
 //! The rows of an artery by their names.
 
-ghost use Rattle.std.specs.Prelude.{◌≡◌, ◌↔◌, ◌+◌, ℕ, IsTrue, IfSome, MatchOption, None, length, true, false};
+ghost use Rattle.std.specs.Prelude.{◌≡◌, ◌↔◌, ℕ, IsTrue, IfSome, MatchOption, None, length, true, false};
 ghost use Rattle.progression.specs.Street.{count};
 ghost use Rattle.linear_theory.specs.{Places.{width}, Boxes.{Area, IsBoxOf}, Rows.{goal_form}, Names.{HasRow, NoRow, form_of, name_of}};
 ghost use Rattle.loop_rows.specs.{Families.{number_of, row_in}, Writing.{written}, Meeting.{IsFilled, IsFilledBy}};

@@ -3,7 +3,7 @@
 ghost use Rattle.std.specs.Prelude.{◌≡◌, ◌<◌, ◌≤◌, length};
 ghost use Rattle.narrow_fraction.specs.Attempt.{attempt};
 ghost use Rattle.progression.specs.{Street.{count}, Columns.{WaitOf, RunOf, ShiftOf}};
-ghost use Rattle.linear_theory.specs.{Places.{width, value_at}, Blocks.{block_sum, red_here, clear_next, clear_here}};
+ghost use Rattle.linear_theory.specs.{Places.{width, value_at}, Blocks.{block_sum}};
 ghost use Rattle.loop_rows.specs.Totals.{after_step, step_wide, after_steps, first_wide, block_wide};
 
 use crate::columns::{next_of, run_column, shift_column, wait_column};

@@ -1,8 +1,7 @@
 //! The link timings of an artery as what is sought: each box begins from its own opening, and keeps nothing for its parts.
 
-ghost use Rattle.std.specs.Prelude.{◌≡◌, IfOk, OnOk};
+ghost use Rattle.std.specs.Prelude.{◌≡◌};
 ghost use Rattle.linear_theory.specs.Boxes.{IsBoxOf};
-ghost use Rattle.link_theory.specs.LinkRecord.{LinkRecord};
 ghost use Rattle.link_proof.specs.LinkWarrants.{IsLinkCertificate};
 ghost use Rattle.branch_tree.specs.Certified.{warrant_from};
 

@@ -1,7 +1,7 @@
 //! The leaf that bounds the root of links before any pivot.
 
 ghost use Rattle.std.specs.Prelude.{◌≡◌, ◌-◌, ◌++◌, None, IfOk, OnOk, map};
-ghost use Rattle.progression.specs.{Street.{count}, Speeds.{number}};
+ghost use Rattle.progression.specs.Street.{count};
 ghost use Rattle.linear_theory.specs.Boxes.{IsBoxOf, root_box};
 ghost use Rattle.loop_rows.specs.Weights.{fault_of};
 ghost use Rattle.link_theory.specs.LinkTrees.{link_sum, AreLinkWeights, CoversLinks};

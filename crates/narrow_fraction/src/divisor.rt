@@ -1,6 +1,6 @@
 //! The greatest common divisor, and divisions of 128 bits that are short where they can be.
 
-ghost use Rattle.std.specs.{Prelude.{◌≡◌, ℕ, ◌<◌, ◌≤◌, ◌*◌, ◌/◌, ◌%◌, ◌^◌}, Int.{trailing_zeros, w64}};
+ghost use Rattle.std.specs.{Prelude.{◌≡◌, ◌<◌, ◌*◌, ◌/◌, ◌%◌, ◌^◌}, Int.{trailing_zeros, w64}};
 ghost use Rattle.rational_theory.specs.Gcd.{gcd};
 
 /// The greatest word, which is a number of 64 bits.

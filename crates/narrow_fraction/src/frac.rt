@@ -1,6 +1,6 @@
 //! The type of a fraction: how one is made, and what is read off its two numbers.
 
-ghost use Rattle.std.specs.Prelude.{◌≡◌, ◌^◌, ◌↔◌, ◌<◌, ◌≤◌, ◌≤ℤ◌, ◌*ℤ◌, IsTrue, int_lt, pos, unsigned_abs, SomeIff};
+ghost use Rattle.std.specs.Prelude.{◌≡◌, ◌^◌, ◌↔◌, ◌<◌, ◌≤◌, ◌≤ℤ◌, IsTrue, int_lt, pos, unsigned_abs, SomeIff};
 ghost use Rattle.rational_theory.specs.{Rational.{◌<ℚ◌, whole, abs_ℚ, inverse_ℚ, over, neg_ℚ}, Floor.{floor_ℚ}, Gcd.{gcd}};
 ghost use Rattle.narrow_fraction.specs.{Fraction.{FitsFrac, signed}, Made.{IsMade}, Short.{IsShort}};
 

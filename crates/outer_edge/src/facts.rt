@@ -1,7 +1,7 @@
 //! What is found of a file, and what follows from it.
 
 ghost use Rattle.std.specs.{Prelude.{◌≡◌, ◌↔◌, IsTrue}, Fs.{metadata_mode, file_type, IsFile}};
-ghost use Rattle.outer_edge.specs.Replaced.{is_of_system, is_regular, is_alike, is_of_one_owner, is_absence, is_taken, is_want_of_room};
+ghost use Rattle.outer_edge.specs.Replaced.{is_of_system, is_regular, is_of_one_owner, is_absence, is_taken, is_want_of_room};
 
 use std::fs::Metadata;
 use std::io::ErrorKind;

@@ -1,6 +1,6 @@
 //! Files by their names: what a read and a put mean, and when a fault is counted.
 
-ghost use Rattle.std.specs.Prelude.{◌≡◌, ◌<◌, ◌≤◌, ℕ, List, Option, length, IfOk, IfSome, IsErrOf, OnOk};
+ghost use Rattle.std.specs.Prelude.{◌<◌, ◌≤◌, ℕ, List, Option, length, IfOk, IfSome, IsErrOf, OnOk};
 ghost use Rattle.outer_edge.specs.{Counts.{Rose, NoneFell, SameCounts, CountedAt}, Held.{SameFiles, OthersSame, HoldsExactly, ReadsFrom}};
 
 use thiserror::Error;

@@ -1,6 +1,6 @@
 //! Files kept in memory, found by their names.
 
-ghost use Rattle.std.specs.Prelude.{◌≡◌, ◌<◌, ◌≤◌, ℕ, List, Some, None, MatchOption, OnOk, OnErr, length};
+ghost use Rattle.std.specs.Prelude.{◌≡◌, ◌<◌, ◌≤◌, Some, None, MatchOption, OnOk, OnErr, length};
 ghost use Rattle.outer_edge.specs.{Held.{ReadsFrom}, Named.{stored}, Store.{found, OthersKept}};
 
 use narrow_fraction::Memory;

@@ -1,6 +1,6 @@
 //! Bytes cut at a byte.
 
-ghost use Rattle.std.specs.Prelude.{◌≡◌, ◌++◌, ◌<◌, map, option_map, IfOk};
+ghost use Rattle.std.specs.Prelude.{◌≡◌, map, option_map, IfOk};
 ghost use Rattle.certificate_model.specs.Words.{cut, words};
 
 use std::alloc::{AllocError, Global};

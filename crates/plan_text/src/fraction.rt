@@ -1,6 +1,6 @@
 //! Signed whole numbers and fractions as words.
 
-ghost use Rattle.std.specs.Prelude.{◌≡◌, ◌≤◌, ◌^◌, map, Some, IfOk};
+ghost use Rattle.std.specs.Prelude.{◌≡◌, map, Some, IfOk};
 ghost use Rattle.plan_text.specs.{Fractions.{from_zero, below_zero, integer, exact}, declared.form.LeafForm.TheVariants.{Over}};
 ghost use Rattle.plan_text.specs.{Namings.{IsFormed}, Lines.{Gives}};
 ghost use Rattle.plan_text.specs.CertificateReading.{or_number, fraction_of, over_whole, multiplier_of, above_zero};

@@ -1,6 +1,6 @@
 //! The rows of a leaf, each with its multiplier.
 
-ghost use Rattle.std.specs.Prelude.{◌≡◌, ◌+◌, ◌≤◌, ◌<◌, ◌^◌, map, option_map, slice_get, length, IfOk, Ok, None};
+ghost use Rattle.std.specs.Prelude.{◌≡◌, ◌+◌, ◌<◌, ◌^◌, map, option_map, slice_get, length, Ok, None};
 ghost use Rattle.plan_text.specs.{Lines.{Gives, ranged}, Numbers.{number}, Namings.{naming_of, IsSmall, IsFormed}};
 ghost use Rattle.certificate_model.specs.Families.{table_of, is_after};
 ghost use Rattle.plan_text.specs.CertificateReading.{range_of, index_of, lone_row, indexed_row, row_of, listed_row, row_in, cut_last, weight_of, read_after, row_of_weight, weights_at};

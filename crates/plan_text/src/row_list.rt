@@ -1,6 +1,6 @@
 //! The list of rows of the second text.
 
-ghost use Rattle.std.specs.Prelude.{◌≡◌, ◌+◌, ◌≤◌, ◌<◌, ◌^◌, map, length, IfOk, None};
+ghost use Rattle.std.specs.Prelude.{◌+◌, ◌≤◌, ◌<◌, ◌^◌, map, length, IfOk, None};
 ghost use Rattle.plan_text.specs.{Lines.{Gives}, CertificateReading.{row_of, read_after, own_row, names_at, row_count, rows_at}};
 ghost use Rattle.certificate_model.specs.Families.{table_of};
 

@@ -1,7 +1,7 @@
 //! The tree of a certificate, node by node.
 
-ghost use Rattle.std.specs.Prelude.{◌≡◌, ◌+◌, ◌-◌, ◌≤◌, ◌<◌, ◌^◌, map, length, IfOk, IfErr, None, IsTrue};
-ghost use Rattle.plan_text.specs.{Lines.{Gives, ranged}, Numbers.{number}, Fractions.{integer}};
+ghost use Rattle.std.specs.Prelude.{◌≡◌, ◌+◌, ◌-◌, ◌≤◌, ◌<◌, ◌^◌, map, length, IfOk, IfErr, None};
+ghost use Rattle.plan_text.specs.{Lines.{Gives}, Numbers.{number}, Fractions.{integer}};
 ghost use Rattle.plan_text.specs.Namings.{naming_of, IsSmall, is_form, is_list};
 ghost use Rattle.certificate_model.specs.Warrants.{node_of};
 ghost use Rattle.plan_text.specs.CertificateReading.{or_number, split_of, over_head, head_of, IsHead, rest_of, node_at, owed_after, nodes_at, ends_after, tree_at};

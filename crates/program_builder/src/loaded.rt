@@ -1,6 +1,6 @@
 //! The rows of an artery as they are loaded, kept for all of its boxes: their cells are the same for each, and most bounds.
 
-ghost use Rattle.std.specs.Prelude.{◌≡◌, ◌<◌, length, false, IfOk};
+ghost use Rattle.std.specs.Prelude.{◌≡◌, length, IfOk};
 ghost use Rattle.progression.specs.Street.{count};
 ghost use Rattle.linear_theory.specs.Places as places;
 ghost use Rattle.linear_theory.specs.Boxes.{IsBoxOf};

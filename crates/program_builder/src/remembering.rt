@@ -1,6 +1,6 @@
 //! The entry of a box, remembered for another box with the same basis.
 
-ghost use Rattle.std.specs.Prelude.{◌≡◌, ◌+◌, ◌<◌, ◌≤◌, ℕ, true, false, length, is_none, None, IfOk, if◌then◌else◌};
+ghost use Rattle.std.specs.Prelude.{◌≡◌, ◌+◌, ◌<◌, true, false, length, is_none, None, IfOk, if◌then◌else◌};
 ghost use Rattle.linear_theory.specs.Boxes.{IsBoxOf};
 ghost use Rattle.simplex_theory.specs.{Tableau.{height, width}, DualSteps.{IsDual}, RowLists.{StandsForRows}};
 ghost use Rattle.entry_theory.specs.{Entry.{entry}, Ready.{IsReady}};

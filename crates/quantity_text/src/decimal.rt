@@ -1,6 +1,6 @@
 //! Decimals, cut at a place.
 
-ghost use Rattle.std.specs.{Prelude.{◌≡◌, ◌+◌, ◌*◌, ◌/◌, ◌<◌, ◌≤◌, ◌^◌, [], ◌∷◌, ◌++◌, pos, ◌≤ℤ◌, IfOk, OnOk}, Fmt.{decimal}};
+ghost use Rattle.std.specs.{Prelude.{◌≡◌, ◌+◌, ◌*◌, ◌/◌, ◌<◌, ◌≤◌, ◌^◌, ◌∷◌, ◌++◌, pos, ◌≤ℤ◌, IfOk, OnOk}, Fmt.{decimal}};
 ghost use Rattle.quantity_text.specs.Decimal.{decimal_spelling, last_digits};
 
 use crate::writing::{push_byte, push_bytes, push_number};

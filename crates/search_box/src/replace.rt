@@ -1,6 +1,6 @@
 //! Another span in place.
 
-ghost use Rattle.std.specs.Prelude.{◌≡◌, ◌<◌, ◌≤◌, ◌^◌, pos, ◌≤ℤ◌, ◌<ℤ◌, length, unsigned_abs};
+ghost use Rattle.std.specs.Prelude.{◌≡◌, ◌≤◌, length};
 ghost use Rattle.progression.specs.Street.{Street};
 ghost use Rattle.linear_theory.specs.Boxes.{IsBoxOf, loop_span, turn_span, with_loop, with_turn};
 ghost use Rattle.search_box.specs.{Seen.{span_of, ranks_of}, Places.{HasSpan, FitsAt, IsSpanAt, span_at, with_span}};

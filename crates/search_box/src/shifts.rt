@@ -1,7 +1,7 @@
 //! The distinct shifts of a signal's allowed patterns.
 
 ghost use Rattle.std.specs.{Prelude.{◌≡◌, ◌<◌, ◌≤◌, ◌+◌, IsTrue, length, slice_index}, List.{list_any}};
-ghost use Rattle.progression.specs.Street.{count, signal_of, allows};
+ghost use Rattle.progression.specs.Street.{count, allows};
 ghost use Rattle.linear_theory.specs.Shifts.{put_shift, with_pattern, shifts_of, shift_at, shift_count};
 ghost use Rattle.search_box.specs.Rising.{list_of};
 

@@ -1,7 +1,7 @@
 //! Bands that keep the ratio, or are equal.
 
 ghost use Rattle.std.specs.Prelude.{◌≡◌, ◌<◌, ◌≤◌, ◌*◌, ◌/◌, ◌^◌, pos, ◌≤ℤ◌, min, unsigned_abs};
-ghost use Rattle.rational_theory.specs.Rational.{whole, ◌<ℚ◌, ◌≤ℚ◌, ◌*ℚ◌, ◌/ℚ◌};
+ghost use Rattle.rational_theory.specs.Rational.{◌*ℚ◌, ◌/ℚ◌};
 ghost use Rattle.progression.specs.Speeds.{number};
 ghost use Rattle.second_plan.specs.Cut.{whole_part, IsCutByRatio, IsCut};
 

@@ -1,8 +1,7 @@
 //! The plan's grid: whether a timing can hold its numbers, and the timing of these numbers.
 
-ghost use Rattle.std.specs.Prelude.{◌≡◌, ◌+◌, ◌<◌, ◌≤◌, ◌*◌, ◌^◌, ℕ, pos, length, map, find, nat_le, [], ◌∷◌, All, None, IfOk};
+ghost use Rattle.std.specs.Prelude.{◌≡◌, ◌<◌, ◌≤◌, ◌*◌, ◌^◌, pos, length, map, find, nat_le, [], ◌∷◌, All, None, IfOk};
 ghost use Rattle.progression.specs.{Street.{count}, TimingRecord.{cycle}};
-ghost use Rattle.artery_model.specs.Bounds.{most_parts};
 ghost use Rattle.band_measure.specs.Pairs.{with_pairs};
 ghost use Rattle.second_plan.specs.{Grid.{fineness, in_seconds, too_fine}, Seconds.{IsRounded}};
 

@@ -1,6 +1,6 @@
 //! Rounding to the nearest whole number.
 
-ghost use Rattle.std.specs.Prelude.{◌≡◌, ◌<◌, ◌≤◌, ◌^◌};
+ghost use Rattle.std.specs.Prelude.{◌<◌, ◌≤◌, ◌^◌};
 ghost use Rattle.second_plan.specs.Nearest.{IsNearest, AnyNumber};
 
 /// The whole number nearest to `number / by`, of two the lesser.

@@ -1,10 +1,9 @@
 //! The cycle and the offsets in whole seconds.
 
-ghost use Rattle.std.specs.Prelude.{◌≡◌, ◌+◌, ◌<◌, ◌≤◌, ◌*◌, ◌-◌, ◌^◌, ◌↔◌, ℕ, ℤ, pos, ◌≤ℤ◌, ◌*ℤ◌, length, All, IfOk, IfSome, MatchOption};
+ghost use Rattle.std.specs.Prelude.{◌≡◌, ◌+◌, ◌<◌, ◌≤◌, ◌*◌, ◌-◌, ◌^◌, ◌↔◌, ℕ, pos, ◌≤ℤ◌, ◌*ℤ◌, length, All, IfOk, IfSome, MatchOption};
 ghost use Rattle.rational_theory.specs.Rational.{◌≤ℚ◌};
 ghost use Rattle.progression.specs.{Street.{count}, Speeds.{number}, TimingRecord.{cycle}};
-ghost use Rattle.artery_model.specs.Bounds.{most_signals};
-ghost use Rattle.second_plan.specs.{Nearest.{IsNearest}, Seconds.{IsWholeCycle, IsSeconds, IsOffset, AreOffsets, red_after}};
+ghost use Rattle.second_plan.specs.{Nearest.{IsNearest}, Seconds.{IsWholeCycle, IsSeconds, IsOffset, AreOffsets}};
 
 use crate::nearest::nearest;
 use artery_model::Artery;

@@ -1,6 +1,6 @@
 //! The lines of an artery's bands, signal by signal in travel order.
 
-ghost use Rattle.std.specs.Prelude.{◌≡◌, ◌+◌, ◌-◌, ◌*◌, ◌<◌, ◌≤◌, ◌^◌, ℕ, ℤ, length, pos, MatchOption, IfSome, ◌≤ℤ◌, ◌<ℤ◌, unsigned_abs};
+ghost use Rattle.std.specs.Prelude.{◌≡◌, ◌+◌, ◌-◌, ◌*◌, ◌<◌, ◌≤◌, ◌^◌, length, MatchOption, IfSome, unsigned_abs};
 ghost use Rattle.progression.specs.{Street.{count}, TimingRecord.{cycle, band}, Green.{is_early, ahead, red_start, red_ticks}};
 ghost use Rattle.progression.specs.Lines.{stop, leg, advance, crossing, IsGreenAt, IsGreenWay};
 ghost use Rattle.time_space.specs.{Sizes.{IsWithin}, Blocked.{IsBlockedAt, IsBlocked, IsFirstBlocked}};

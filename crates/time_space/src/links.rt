@@ -1,10 +1,10 @@
 //! The limits of the runs on an artery's links.
 
-ghost use Rattle.std.specs.Prelude.{◌≡◌, ◌↔◌, ◌+◌, ◌<◌, ◌≤◌, ◌^◌, ℕ, length, false, IsTrue, MatchOption};
+ghost use Rattle.std.specs.Prelude.{◌≡◌, ◌↔◌, ◌+◌, ◌<◌, ◌≤◌, length, false, IsTrue, MatchOption};
 ghost use Rattle.rational_theory.specs.Rational.{◌*ℚ◌, ◌≤ℚ◌};
-ghost use Rattle.progression.specs.{Street.{count, distance, HasLink}, Speeds.{number, run_low, run_high}, TimingRecord.{run}};
+ghost use Rattle.progression.specs.{Street.{count, distance}, Speeds.{number, run_low, run_high}, TimingRecord.{run}};
 ghost use Rattle.time_space.specs.LinkRules.{ChangeKept, LinkHolds, LinkBreaks, AllLinks, IsFirstBroken};
-ghost use Rattle.artery_model.specs.Bounds.{most_distance, most_signals};
+ghost use Rattle.artery_model.specs.Bounds.{most_signals};
 
 use crate::limits::{Paces, is_at_least, is_at_most, is_change_at_least, is_change_at_most};
 use crate::timing::Timing;

@@ -1,6 +1,6 @@
 //! The test of a timing against the rules of an artery, rule after rule.
 
-ghost use Rattle.std.specs.Prelude.{◌≡◌, ◌↔◌, ◌+◌, ◌<◌, ◌≤◌, ℕ, length, false, IsTrue, MatchOption, OnOk, IfErr};
+ghost use Rattle.std.specs.Prelude.{◌≡◌, ◌↔◌, ◌+◌, ◌≤◌, ℕ, length, IsTrue, OnOk, IfErr};
 ghost use Rattle.rational_theory.specs.Rational.{◌*ℚ◌, ◌≤ℚ◌};
 ghost use Rattle.progression.specs.{Street.{count, allows, HasSignal}, Speeds.{number}, TimingRecord.{IsTimingRecord, cycle, pattern_of}};
 ghost use Rattle.progression.specs.{Lines.{IsGreenWay}, Good.{Good, IsBase, RatioHolds, HasLeastBand, HasEqualBands}};

@@ -1,6 +1,6 @@
 //! What is seen of the diagram at one signal and tick.
 
-ghost use Rattle.std.specs.Prelude.{◌≡◌, ◌+◌, ◌-◌, ◌*◌, ◌<◌, ◌≤◌, ◌^◌, length, nat_le, unsigned_abs};
+ghost use Rattle.std.specs.Prelude.{◌≡◌, ◌-◌, ◌<◌, ◌≤◌, ◌^◌, length, nat_le, unsigned_abs};
 ghost use Rattle.progression.specs.{Street.{count}, TimingRecord.{cycle, band}, Green.{since, is_green, red_start, red_ticks}};
 ghost use Rattle.progression.specs.Lines.{crossing, line_at};
 ghost use Rattle.artery_model.specs.Bounds.{most_signals};

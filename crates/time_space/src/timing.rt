@@ -1,6 +1,6 @@
 //! A timing, seen as a plan.
 
-ghost use Rattle.std.specs.Prelude.{◌≡◌, ◌↔◌, All, IsTrue, IfNone, IfSome, ◌+◌, ◌-◌, ◌<◌, ◌≤◌, ◌^◌, ℕ, length, map, pos, ◌≤ℤ◌, ◌<ℤ◌};
+ghost use Rattle.std.specs.Prelude.{◌≡◌, ◌↔◌, All, IsTrue, IfNone, IfSome, ◌+◌, ◌-◌, ◌<◌, ◌≤◌, ◌^◌, length, map, pos, ◌≤ℤ◌, ◌<ℤ◌};
 ghost use Rattle.progression.specs.TimingRecord.{TimingRecord, IsTimingRecord, pattern_of, common_red, run, first, band};
 ghost use Rattle.time_space.specs.Timing.{IsTiming, plan_of};
 ghost use Rattle.artery_model.specs.Bounds.{least_signals, most_signals};

@@ -1,8 +1,8 @@
 //! As many numbers as the artery has signals and links.
 
-ghost use Rattle.std.specs.Prelude.{◌≡◌, IfOk};
+ghost use Rattle.std.specs.Prelude.{◌≡◌};
 ghost use Rattle.artery_model.specs.Faults.{Judges};
-ghost use Rattle.typed_plan.specs.Counts.{measured_key, counted, links_counted, count_fault, HasCounts};
+ghost use Rattle.typed_plan.specs.Counts.{measured_key, counted, links_counted, count_fault};
 
 use artery_model::{Artery, Dir, Flaw, Kind};
 use description_reader::{Measure, Section, TypedPlan, check_at};

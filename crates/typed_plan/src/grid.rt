@@ -1,6 +1,6 @@
 //! The least grid on which the times of a plan are whole ticks.
 
-ghost use Rattle.std.specs.Prelude.{◌≡◌, pos, ◌*ℤ◌, ◌+◌, ◌*◌, ◌<◌, ◌≤◌, ◌^◌, ℕ, find, nat_le, None, Some, IfOk, IfErr, unsigned_abs};
+ghost use Rattle.std.specs.Prelude.{◌≡◌, pos, ◌*ℤ◌, ◌+◌, ◌*◌, ◌<◌, ◌≤◌, ◌^◌, find, nat_le, None, Some, IfOk, IfErr, unsigned_abs};
 ghost use Rattle.rational_theory.specs.Gcd.{lcm};
 ghost use Rattle.progression.specs.Street.{count};
 ghost use Rattle.typed_plan.specs.Counts.{HasCounts};

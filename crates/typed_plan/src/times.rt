@@ -1,6 +1,6 @@
 //! The times of a plan that have to be whole ticks.
 
-ghost use Rattle.std.specs.Prelude.{◌≡◌, ◌+◌, ◌-◌, ◌<◌, ◌≤◌, unsigned_abs};
+ghost use Rattle.std.specs.Prelude.{◌≡◌, ◌-◌, ◌<◌, ◌≤◌, unsigned_abs};
 ghost use Rattle.progression.specs.Street.{count};
 ghost use Rattle.typed_plan.specs.{Asked.{after, travel}, Counts.{HasCounts}, Grid.{time, how_many}};
 

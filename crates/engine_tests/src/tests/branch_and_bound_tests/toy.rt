@@ -1,7 +1,7 @@
 //! A relaxation for the tests: the greatest block sum of the only link that is at most a cap. An artery with more links has
 //! none. Each box costs one pivot. A cap above 1000 is refused.
 
-ghost use Rattle.std.specs.Prelude.{◌≡◌, ◌≤◌, ◌<ℤ◌, ◌-ℤ◌, ℤ, pos, length, IfOk};
+ghost use Rattle.std.specs.Prelude.{◌≡◌, ◌<ℤ◌, ◌-ℤ◌, pos, length};
 ghost use Rattle.branch_and_bound.specs.{Lines.{BoxLine}, OpenedNodes.{Opens}};
 ghost use Rattle.work_meter.specs.Work.{HasWork};
 ghost use Rattle.engine_tests.specs.CappedRules.{capped_rules, EndsHere};
