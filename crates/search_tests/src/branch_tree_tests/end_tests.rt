@@ -1,7 +1,9 @@
 //! What the ends of the two streets of `tests` show: their leaves and vertices, worked by hand.
 
+ghost use Rattle.std.specs.Prelude.{◌<◌};
+
 use super::tests::{artery, searched};
-use branch_tree::{Found, TreeNode, search};
+use branch_tree::{Found, TreeNode};
 use named_row::{Leaf, RowId, Weight};
 use narrow_fraction::Frac;
 use std::alloc::Global;
@@ -38,9 +40,11 @@ fn is_leaf_of(found: &Found, rows: [(u8, u32); 2]) -> bool {
 }
 
 /// Whether a search of the shorter artery with this red within these units leaves the root a leaf of these rows.
-fn leaves_leaf(alloc: Global, red: u32, limit: u64, rows: [(u8, u32); 2]) -> Result<bool, Fail> {
+fn leaves_leaf(alloc: Global, red: u32, limit: u64, rows: [(u8, u32); 2]) -> Result<bool, Fail>
+    requires { 0 < limit }
+{
     let artery = artery(alloc, red, 250)?;
-    let found = search(alloc, &artery, Some(limit)).ok().ok_or("no memory")?;
+    let found = searched(alloc, &artery, limit)?;
     Ok(is_leaf_of(&found, rows))
 }
 
