@@ -8,8 +8,8 @@
 //! clearances, speed ranges, changes of pace, ratios, least and equal bands, and otherwise names the first failing rule, signal and
 //! tick: by rule, then outbound before inbound, then by number, the signals of an inbound band alone in its order of travel.
 //! `value` is the weighted band, at least 0 and with a denominator of at most 2^120. `base_holds` is the first half of `holds`, the
-//! rules that speak of no band; where the red of a direction starts, how long it is and where a line crosses the next signal are
-//! calls too.
+//! rules that speak of no band, and `is_green_way` one of its last two alone; where the red of a direction starts, how long it is and
+//! where a line crosses the next signal are calls too.
 //!
 //! Laws over the definitions: a failing rule rules a good timing out (`law_fails_rules_out`), at most one failing is the first
 //! (`law_one_first`), and a timing is good exactly where it is good with every tick number, `grid` and `unit` multiplied by any m
@@ -33,8 +33,8 @@ pub use diagram::{advance, cycle, is_early, next_line, red_start, red_ticks, sto
 pub use failing::Failing;
 pub use limits::is_in_ratio;
 pub use rules::{
-    base_holds, holds, law_fails_rules_out, law_finer_grids, law_one_first, law_reds_are_intervals,
-    law_since_last_start,
+    base_holds, holds, is_green_way, law_fails_rules_out, law_finer_grids, law_one_first,
+    law_reds_are_intervals, law_since_last_start,
 };
 pub use seen::{green, in_band, line_at};
 pub use ticks::{first_red, since_start};

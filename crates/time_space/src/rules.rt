@@ -220,6 +220,14 @@ pub fn base_holds(artery: &Artery, timing: &Timing) -> Result<(), Failing>
     Ok(())
 }
 
+/// Whether every line of a direction's band crosses every signal in green, whichever other rules the timing breaks.
+pub fn is_green_way(artery: &Artery, timing: &Timing, dir: Dir) -> bool
+    requires shape { length timing.now.patterns ≡ count artery.now }
+    ensures { IsTrue result ↔ IsGreenWay artery.now timing.now dir }
+{
+    first_blocked(artery, timing, dir).is_none()
+}
+
 /// Whether the timing is good for the artery: Ok where it is, and else the first rule that it breaks.
 ///
 /// The first is by the order in which `Failing` names the rules, then outbound before inbound, then the least number

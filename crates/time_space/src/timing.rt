@@ -127,6 +127,46 @@ impl Timing {
         })
     }
 
+    /// The same timing with these firsts and bands, in ticks.
+    pub fn with_bands(
+        self,
+        first_out: u128,
+        band_out: u128,
+        first_in: u128,
+        band_in: u128,
+    ) -> Timing
+        requires first_out { first_out < 2 ^ 80 }
+        requires band_out { band_out < 2 ^ 80 }
+        requires first_in { first_in < 2 ^ 80 }
+        requires band_in { band_in < 2 ^ 80 }
+        ensures { result ≡ record self { first_out = pos first_out; first_in = pos first_in; band_out = band_out; band_in = band_in } }
+    {
+        let Timing {
+            grid,
+            unit,
+            patterns,
+            reds,
+            run_out,
+            run_in,
+            first_out: _,
+            first_in: _,
+            band_out: _,
+            band_in: _,
+        } = self;
+        Timing {
+            grid,
+            unit,
+            patterns,
+            reds,
+            run_out,
+            run_in,
+            first_out,
+            first_in,
+            band_out,
+            band_in,
+        }
+    }
+
     /// How many signals it has, from 2 to 24.
     pub fn count(&self) -> u32
         ensures value { result ≡ length self.now.patterns }
