@@ -6,7 +6,7 @@
 //! - `runs` (`specs/Laws.antt`): `law_one_answer`: where the files tell their bytes, these and the words leave one answer alone, but
 //!   that two verdicts of `solve`, of `links` or of `trial`, and two plans of `half`, may differ. `law_solve_says` and its like say
 //!   what the numbers of the statuses mean over the model; those of `solve` and `links` are two instances of `SearchSays`, over the
-//!   kind of timing that is sought (`Sought` of `maxband_run`). The laws of completeness say when a run ends with a verdict,
+//!   kind of timing that is sought (`Sought` of `run_commands`). The laws of completeness say when a run ends with a verdict,
 //!   `law_faults_are_told` that each fault is told, and `law_put_is_accepted` that `check` accepts what `solve` put.
 //! - `plans` (`specs/PlanLaws.antt`): the same of `bands`, `half`, `round`, `round-from`, `timing`, `draw` and `sweep`, and
 //!   `law_plan_is_held`: `hold` accepts what `round` put.
