@@ -1,6 +1,7 @@
 pub mod Shapes
 pub mod Escapes
 pub mod Frames
+pub mod Ways
 pub mod Bars
 pub mod Bands
 pub mod Axes
