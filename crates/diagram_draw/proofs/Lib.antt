@@ -1,6 +1,7 @@
 pub mod Apart
 pub mod Beside
 pub mod Chains
+pub mod GreenWays
 pub mod Joins
 pub mod Measures
 pub mod Members
