@@ -7,4 +7,5 @@ pub mod Measures
 pub mod Members
 pub mod Plain
 pub mod RedParts
+pub mod Rounds
 pub mod Shown

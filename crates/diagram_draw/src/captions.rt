@@ -314,6 +314,19 @@ fn push_words(out: &mut Vec<u8>, letter: Letter, x: u32, y: u32, words: &str) ->
 
 const HEAD_LEVEL: u32 = PLOT_TOP - 90;
 
+/// Writes the beginning of words at a point, in letters of a size.
+fn push_size_opening(
+    out: &mut Vec<u8>,
+    letter: Letter,
+    size: u32,
+    x: u32,
+    y: u32,
+) -> Result<(), Memory>
+    ensures { OnOk result (out.new.items ≡ out.old.items ++ sized_opening letter size (pos x) (pos y)) }
+{
+    push_sized_opening(out, letter, size, i128::from(x), i128::from(y))
+}
+
 /// Writes a text at a point, in letters of a size.
 #[tactic(auto, unfolding(crate::specs::Shapes::sized_words_text))]
 fn push_sized(
@@ -326,7 +339,7 @@ fn push_sized(
 ) -> Result<(), Memory>
     ensures { OnOk result (out.new.items ≡ out.old.items ++ sized_words_text letter size (pos x) (pos y) (escaped text.now)) }
 {
-    push_sized_opening(out, letter, size, i128::from(x), i128::from(y))?;
+    push_size_opening(out, letter, size, x, y)?;
     push_escaped(out, text.as_bytes())?;
     push_words_end(out)
 }
