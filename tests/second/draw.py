@@ -1,5 +1,5 @@
 #!/usr/bin/env python3
-"""Does what `maxband draw STREET.toml FILE SVG` does of a good timing, written a second time from the definitions of
+"""Does what `maxband draw STREET.toml FILE SVG` does, written a second time from the definitions of
 `crates/diagram_draw/specs`: the picture is to be that of the program, to the byte. FILE is a certificate or a timing.
 
 usage: tests/second/draw.py STREET.toml FILE SVG
@@ -114,20 +114,45 @@ class Picture:
             shapes.append(line("cycle", x, TOP - 60, x, self.bottom))
         return shapes + [line("level", self.left, self.level(i), self.right, self.level(i)) for i in range(self.n)]
 
+    def has_band(self, way):
+        """Whether each line of the band crosses each signal in green."""
+        lines, band = self.lines(way), self.timing.band[way]
+        for i in range(self.n):
+            start, red = self.red(way, i)
+            since = (lines[i] - start) % self.cycle
+            if not (since == 0 and band == 0 or red <= since and since + band <= self.cycle):
+                return False
+        return True
+
     def pieces(self):
-        shapes = []
+        """On each link the pieces that leave within the time that is shown, and those that enter within it and left outside of it."""
+        shapes, shown = [], self.cycles * self.cycle
         for l in range(self.n - 1):
             low, high = self.level(l), self.level(l + 1)
             for way in (OUT, IN):
+                if not self.has_band(way):
+                    continue
                 run, band = self.timing.run[way][l], self.timing.band[way]
-                tail = l if way == OUT else l + 1
+                line_out = self.lines(way)[l if way == OUT else l + 1]
                 ends = (low - BAR, high + BAR) if way == OUT else (high + BAR, low - BAR)
-                back = min(60, -(-(run + band) // self.cycle))
-                begin = self.after(self.lines(way)[tail]) - back * self.cycle
-                for m in range(self.cycles + back):
-                    z = begin + m * self.cycle
-                    shapes.append(slant(way, self.x(z), self.x(z + band), ends[0], self.x(z + run), self.x(z + run + band), ends[1]))
+                cycles = [m * self.cycle for m in range(-1, self.cycles)]
+                leaving = [z for m in cycles if self.seen(z := self.after(line_out) + m, band, shown)]
+                entering = [z - run for m in cycles if self.seen(z := self.after(line_out + run) + m, band, shown)]
+                for z in leaving + [z for z in entering if not self.seen(z, band, shown)]:
+                    if self.x(band) < self.left + 3:
+                        shapes.append(line(f"{way}-line", self.x(z), ends[0], self.x(z + run), ends[1]))
+                    else:
+                        shapes.append(slant(way, self.x(z), self.x(z + band), ends[0], self.x(z + run), self.x(z + run + band), ends[1]))
         return shapes
+
+    def seen(self, begin, band, shown):
+        return 0 <= begin + band and begin < shown
+
+    def red(self, way, i):
+        """When the direction's red begins, and how long it is."""
+        common, turn = self.signals[i]["red"] * self.unit, self.against(way, i) * self.unit
+        is_early = self.timing.patterns[i] in ((1, 4) if way == OUT else (2, 4))
+        return self.timing.reds[i] - (turn if is_early else 0), common + turn
 
     def bars(self):
         shapes = []
@@ -139,7 +164,8 @@ class Picture:
                 red = self.timing.reds[i] - (turn if is_early else 0)
                 begin = self.after(red) - self.cycle
                 window = self.after(self.lines(way)[i]) - self.cycle
-                blocks = [(f"{way}-at", window, self.timing.band[way]), ("red", begin + (turn if is_early else 0), common)]
+                blocks = [(f"{way}-at", window, self.timing.band[way])] if self.has_band(way) else []
+                blocks.append(("red", begin + (turn if is_early else 0), common))
                 if turn:
                     blocks.append(("turn", begin + (0 if is_early else common), turn))
                 shapes.append(rect("ground", self.left, top, self.right, top + BAR))

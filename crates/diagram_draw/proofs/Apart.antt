@@ -9,7 +9,6 @@ use Rattle.progression.specs.Street.{Street, count, red_parts, HasSignal}
 use Rattle.progression.specs.TimingRecord.{TimingRecord, cycle, band, common_red}
 use Rattle.progression.specs.Green.{BandIsGreen, mod_ℤ, red_start, red_ticks}
 use Rattle.progression.specs.Lines.{line_at, IsGreenWay}
-use Rattle.progression.specs.Good.{Good}
 use Rattle.progression.specs.declared.parts.Dir.{Dir}
 use Rattle.progression.specs.declared.parts.Dir.TheVariants.{Outbound, Inbound}
 use Rattle.progression.proofs.Remainders.{quot_ℤ, split_ℤ}
@@ -80,21 +79,24 @@ green_there a t Inbound i h g =
     let l : count a - i < count a = let p = h.0 in let q = h.1 in omega (arith, p, q) in
     subst (λ k. BandIsGreen (cycle a t) (red_start a t Inbound k) (red_ticks a t Inbound k) (line_at a t Inbound i) (band t Inbound)) e (g (count a - i) l)
 
-good_way : (a : Street) (t : TimingRecord) (d : Dir) → Good a t → IsGreenWay a t d
-good_way a t Outbound g = g.outbound
-good_way a t Inbound g = g.inbound
-
 mul-lt : {a b c : ℕ} → a < b → 0 < c → a * c < b * c
 mul-lt {a} {b} {c} h k = grind arith
 
 -- the gap of a signal's band
-gap_there : (a : Street) (t : TimingRecord) (d : Dir) (i : ℕ) → IsValid a → 2 ≤ t.unit → HasSignal a i → Good a t
+pub gap_there : (a : Street) (t : TimingRecord) (d : Dir) (i : ℕ) → IsValid a → 2 ≤ t.unit → HasSignal a i → IsGreenWay a t d
     → Gap (cycle a t) (red_start a t d i) (red_ticks a t d i) (line_at a t d i) (band t d)
 gap_there a t d i v u h g =
     let r = red_bounds a v d i (let p = h.0 in let q = h.1 in omega (arith, p, q)) in
     let least : 2 ≤ red_ticks a t d i = let some : 1 * 2 ≤ red_parts a d i * t.unit = mul-le r.0 u in omega (arith, some) in
     let most : red_ticks a t d i < cycle a t = mul-lt r.1 (omega (arith, u)) in
-    gap_from_green (cycle a t) (red_ticks a t d i) (red_start a t d i) (line_at a t d i) (band t d) least most (green_there a t d i h (good_way a t d g))
+    gap_from_green (cycle a t) (red_ticks a t d i) (red_start a t d i) (line_at a t d i) (band t d) least most (green_there a t d i h g)
+
+-- a red has some tick
+pub red_some : (a : Street) (t : TimingRecord) (d : Dir) (i : ℕ) → IsValid a → 2 ≤ t.unit → HasSignal a i → 1 ≤ red_ticks a t d i
+red_some a t d i v u h =
+    let r = red_bounds a v d i (let p = h.0 in let q = h.1 in omega (arith, p, q)) in
+    let some : 1 * 2 ≤ red_parts a d i * t.unit = mul-le r.0 u in
+    omega (arith, some)
 
 -- moments that are apart stand apart
 apart_drawn : (f : Frame) (w r : ℤ) (red b : ℕ) → IsFrame f → ((w +ℤ pos b) ≤ℤ r) ⊎ ((r +ℤ pos red) ≤ℤ w)

@@ -9,12 +9,12 @@ use Rattle.progression.specs.declared.parts.Dir.{Dir}
 use Rattle.diagram_draw.specs.Ways.{is_green_stop, has_band, BandsAreGreenWays}
 
 -- ---- tests of numbers
-both_true : (a b : Bool) → IsTrue (a && b) → IsTrue a × IsTrue b
+pub both_true : (a b : Bool) → IsTrue (a && b) → IsTrue a × IsTrue b
 both_true true true h = (refl, refl)
 both_true true false h = absurd (true≢false (sym h))
 both_true false b h = absurd (true≢false (sym h))
 
-true_both : (a b : Bool) → IsTrue a → IsTrue b → IsTrue (a && b)
+pub true_both : (a b : Bool) → IsTrue a → IsTrue b → IsTrue (a && b)
 true_both true true h k = refl
 true_both true false h k = absurd (true≢false (sym k))
 true_both false b h k = absurd (true≢false (sym h))

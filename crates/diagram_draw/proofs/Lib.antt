@@ -5,6 +5,7 @@ pub mod GreenWays
 pub mod Joins
 pub mod Measures
 pub mod Members
+pub mod Passing
 pub mod Plain
 pub mod RedParts
 pub mod Rounds

@@ -23,6 +23,12 @@ returns-in-OutBand c = sym (ap paint_class c.in-OutBand.is)
 pub returns-in-InBand : goal.returns-in-InBand
 returns-in-InBand c = sym (ap paint_class c.in-InBand.is)
 
+pub returns-in-OutLine : goal.returns-in-OutLine
+returns-in-OutLine c = sym (ap paint_class c.in-OutLine.is)
+
+pub returns-in-InLine : goal.returns-in-InLine
+returns-in-InLine c = sym (ap paint_class c.in-InLine.is)
+
 pub returns-in-Ground : goal.returns-in-Ground
 returns-in-Ground c = sym (ap paint_class c.in-Ground.is)
 
