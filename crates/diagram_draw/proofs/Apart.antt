@@ -3,6 +3,7 @@ use Rattle.std.proofs.Common.{◌≡◌, ℕ, suc, ℤ, pos, negsuc, ◌+ℤ◌,
 use Rattle.std.specs.Prelude.{◌⊎◌}
 use Rattle.std.specs.Int.{int_div_euclid}
 use Rattle.std.proofs.lemmas.Int.{ints}
+use Rattle.std.proofs.Math.Nat.{mul-le-mul_right}
 use Rattle.std.proofs.lemmas.Nat.{div-add-mod'}
 use Rattle.progression.specs.Street.{Street, count, red_parts, HasSignal}
 use Rattle.progression.specs.TimingRecord.{TimingRecord, cycle, band, common_red}
@@ -16,7 +17,7 @@ use Rattle.time_space.proofs.Scale.{minus_scale}
 use Rattle.time_space.proofs.FinerGrids.{plus_scale, mul-le, red_bounds}
 use Rattle.band_measure.proofs.Gaps.{Gap, gap_from_green}
 use Rattle.diagram_draw.specs.declared.frame.Frame.{Frame}
-use Rattle.diagram_draw.specs.Frames.{x_at, later, IsFrame}
+use Rattle.diagram_draw.specs.Frames.{plot_width, x_at, later, IsFrame}
 use Rattle.diagram_draw.specs.Bars.{first_red, first_window}
 use Rattle.diagram_draw.specs.Laws.{PlacesAscend, BandsMissReds}
 
@@ -30,10 +31,16 @@ quotient_up (negsuc a) (pos b) c h l = omega (arith, ints)
 quotient_up (pos a) (negsuc b) c h l = absurd (omega (arith, ints))
 quotient_up (negsuc a) (negsuc b) c h l = let e = div_up b a c h (omega (arith, ints)) in omega (arith, ints, e)
 
+scaled_up : (y z : ℤ) (w : ℕ) → y ≤ℤ z → (y *ℤ pos w) ≤ℤ (z *ℤ pos w)
+scaled_up (pos a) (pos b) w l = let e : a * w ≤ b * w = mul-le-mul_right w (let m : a ≤ b = omega (arith, ints, l) in m) in omega (arith, ints, e)
+scaled_up (negsuc a) (pos b) w l = omega (arith, ints)
+scaled_up (pos a) (negsuc b) w l = absurd (omega (arith, ints, l))
+scaled_up (negsuc a) (negsuc b) w l = let e : suc b * w ≤ suc a * w = mul-le-mul_right w (let m : suc b ≤ suc a = omega (arith, ints, l) in m) in omega (arith, ints, e)
+
 pub places_ascend : PlacesAscend
 places_ascend f y z h l =
     let some : 0 < f.cycles * f.cycle = mul-pos (let e = h.cycles_least in omega (arith, e)) (let e = h.cycle_least in omega (arith, e)) in
-    let e = quotient_up (y *ℤ pos 9000) (z *ℤ pos 9000) (f.cycles * f.cycle) some (omega (arith, ints, l)) in
+    let e = quotient_up (y *ℤ pos (plot_width f)) (z *ℤ pos (plot_width f)) (f.cycles * f.cycle) some (scaled_up y z (plot_width f) l) in
     omega (arith, ints, e)
 
 -- ---- a red and a band

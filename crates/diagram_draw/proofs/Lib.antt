@@ -8,4 +8,5 @@ pub mod Members
 pub mod Passing
 pub mod Plain
 pub mod RedParts
+pub mod Rounds
 pub mod Shown

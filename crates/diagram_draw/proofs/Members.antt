@@ -21,7 +21,7 @@ use Rattle.diagram_draw.specs.Ways.{has_band}
 use Rattle.diagram_draw.specs.Bands.{band_paint, line_paint, is_narrow, is_chosen, piece, chosen_piece, band_in_cycle, band_part, edge_pieces, pieces, link_pieces, all_pieces}
 use Rattle.diagram_draw.specs.Bars.{block, blocks, bar_in_cycle, window_part, common_part, turn_part, ground, windows, common_reds, turn_reds, bar, signal_bars, all_bars}
 use Rattle.diagram_draw.specs.Members.{IsBlock, IsRed, IsDrawnPart, IsPiece, IsFieldShape, Piece, Ground, Window, Red, is_red}
-use Rattle.diagram_draw.specs.Pages.{field_shapes, drawn}
+use Rattle.diagram_draw.specs.Pages.{field_shapes}
 use Rattle.diagram_draw.specs.Laws.{FieldIsExact, RedsAreReds}
 
 -- ---- lists
@@ -229,19 +229,19 @@ module _ (f : Frame) (a : Street) (t : TimingRecord) (s : Shape) where
       inr (bar_in d i here (cons_in (ground f a d i) (windows f a t d i ++ (common_reds f a t d i ++ turn_reds f a t d i)) s
       (inr (Contains-append_right (windows f a t d i) (common_reds f a t d i ++ turn_reds f a t d i) s (red_in d i h)))))
 
-  field_one : Contains (drawn f a t).field s → IsFieldShape f a t s
+  field_one : Contains (field_shapes f a t) s → IsFieldShape f a t s
   unfolding field_shapes
   field_one h = elim (Contains-append_cases (all_pieces f a t) (all_bars f a t) s h) [
     | inl p ↦ in_links p
     | inr p ↦ in_bars p
   ]
 
-  one_field : IsFieldShape f a t s → Contains (drawn f a t).field s
+  one_field : IsFieldShape f a t s → Contains (field_shapes f a t) s
   unfolding field_shapes
   one_field h = in_both (all_pieces f a t) (all_bars f a t) s (shape_in h)
 
 pub field_is_exact : FieldIsExact
-field_is_exact f a t s = (field_one f a t s, one_field f a t s)
+field_is_exact f a t title s = (field_one f a t s, one_field f a t s)
 
 -- ---- reds
 not_both : (s : Shape) → is_red s ≡ false → is_red s ≡ true → ⊥
@@ -265,4 +265,4 @@ the_red f a t s (Window Inbound i here h) r = absurd (not_both s (ap is_red h.1.
 the_red f a t s (Red d i here h) r = (d, i, here, h)
 
 pub reds_are_reds : RedsAreReds
-reds_are_reds f a t s h r = the_red f a t s (field_one f a t s h) r
+reds_are_reds f a t title s h r = the_red f a t s (field_one f a t s h) r

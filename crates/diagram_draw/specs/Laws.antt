@@ -1,6 +1,6 @@
 -- What the drawing says of the model: reds are drawn where the model is red, no band is drawn over a red of its own direction, and none crosses a bar
 -- between two signals.
-use Rattle.std.specs.Prelude.{◌≡◌, ◌⊎◌, ◌↔◌, Contains, ℕ, ◌+◌, ◌-◌, ◌*◌, ◌<◌, ◌≤◌, nat_le, ℤ, pos, ◌+ℤ◌, ◌≤ℤ◌, Bool, true, false, IsTrue}
+use Rattle.std.specs.Prelude.{◌≡◌, ◌⊎◌, ◌↔◌, Contains, Option, List, ℕ, ◌+◌, ◌-◌, ◌*◌, ◌<◌, ◌≤◌, nat_le, ℤ, pos, ◌+ℤ◌, ◌≤ℤ◌, Bool, true, false, IsTrue}
 use Rattle.progression.specs.Street.{Street, count, HasSignal, HasLink, clearance}
 use Rattle.progression.specs.TimingRecord.{TimingRecord, cycle, run, band, common_red}
 use Rattle.progression.specs.Green.{since, is_green, red_start, red_ticks}
@@ -124,8 +124,8 @@ PiecesMissBars =
 -- What is seen through the field are just the pieces, the grounds, the bands at the signals and both parts of the reds, in the cycles that are shown; and pieces and bands
 -- of a direction that has one.
 abbrev pub FieldIsExact : Type 0
-FieldIsExact = (f : Frame) (a : Street) (t : TimingRecord) (s : Shape) → Contains (drawn f a t).field s ↔ IsFieldShape f a t s
+FieldIsExact = (f : Frame) (a : Street) (t : TimingRecord) (title : Option (List ℕ)) (s : Shape) → Contains (drawn f a t title).field s ↔ IsFieldShape f a t s
 
 -- and what is painted as a red there is one of the model
 abbrev pub RedsAreReds : Type 0
-RedsAreReds = (f : Frame) (a : Street) (t : TimingRecord) (s : Shape) → Contains (drawn f a t).field s → is_red s ≡ true → (d : Dir) × (i : ℕ) × HasSignal a i × IsRed f a t d i s
+RedsAreReds = (f : Frame) (a : Street) (t : TimingRecord) (title : Option (List ℕ)) (s : Shape) → Contains (drawn f a t title).field s → is_red s ≡ true → (d : Dir) × (i : ℕ) × HasSignal a i × IsRed f a t d i s

@@ -7,7 +7,7 @@ ghost use Rattle.diagram_draw.specs.Bars.{bar_top, block, some_blocks, blocks, f
 ghost use Rattle.diagram_draw.specs.Bars.{window_paint, ground, windows, common_reds, turn_reds, bar, signal_bars, all_bars, window_part, common_part, turn_part};
 
 use crate::frame::{
-    BAR_HEIGHT, Frame, PLOT_WIDTH, above, earlier, later, level, moment_after, x_at,
+    BAR_HEIGHT, Frame, above, earlier, later, level, moment_after, plot_right, x_at,
 };
 use crate::paint::Paint;
 use crate::shape::Shape;
@@ -195,7 +195,7 @@ fn ground(frame: Frame, artery: &Artery, dir: Dir, signal: u32) -> Shape
         paint: Paint::Ground,
         left: i128::from(frame.left),
         top,
-        right: i128::from(frame.left + PLOT_WIDTH),
+        right: i128::from(plot_right(frame)),
         bottom: top + i128::from(BAR_HEIGHT),
     }
 }

@@ -15,8 +15,10 @@ mod laws;
 mod page;
 mod paint;
 mod shape;
+mod steps;
 mod style;
 mod ways;
+mod width;
 
 pub use frame::Frame;
 pub use laws::{

@@ -43,3 +43,6 @@ returns-in-OutWindow c = sym (ap paint_class c.in-OutWindow.is)
 
 pub returns-in-InWindow : goal.returns-in-InWindow
 returns-in-InWindow c = sym (ap paint_class c.in-InWindow.is)
+
+pub returns-in-Step : goal.returns-in-Step
+returns-in-Step c = sym (ap paint_class c.in-Step.is)
