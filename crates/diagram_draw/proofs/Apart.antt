@@ -3,12 +3,12 @@ use Rattle.std.proofs.Common.{◌≡◌, ℕ, suc, ℤ, pos, negsuc, ◌+ℤ◌,
 use Rattle.std.specs.Prelude.{◌⊎◌}
 use Rattle.std.specs.Int.{int_div_euclid}
 use Rattle.std.proofs.lemmas.Int.{ints}
+use Rattle.std.proofs.Math.Nat.{mul-le-mul_right}
 use Rattle.std.proofs.lemmas.Nat.{div-add-mod'}
 use Rattle.progression.specs.Street.{Street, count, red_parts, HasSignal}
 use Rattle.progression.specs.TimingRecord.{TimingRecord, cycle, band, common_red}
 use Rattle.progression.specs.Green.{BandIsGreen, mod_ℤ, red_start, red_ticks}
 use Rattle.progression.specs.Lines.{line_at, IsGreenWay}
-use Rattle.progression.specs.Good.{Good}
 use Rattle.progression.specs.declared.parts.Dir.{Dir}
 use Rattle.progression.specs.declared.parts.Dir.TheVariants.{Outbound, Inbound}
 use Rattle.progression.proofs.Remainders.{quot_ℤ, split_ℤ}
@@ -17,7 +17,7 @@ use Rattle.time_space.proofs.Scale.{minus_scale}
 use Rattle.time_space.proofs.FinerGrids.{plus_scale, mul-le, red_bounds}
 use Rattle.band_measure.proofs.Gaps.{Gap, gap_from_green}
 use Rattle.diagram_draw.specs.declared.frame.Frame.{Frame}
-use Rattle.diagram_draw.specs.Frames.{x_at, later, IsFrame}
+use Rattle.diagram_draw.specs.Frames.{plot_width, x_at, later, IsFrame}
 use Rattle.diagram_draw.specs.Bars.{first_red, first_window}
 use Rattle.diagram_draw.specs.Laws.{PlacesAscend, BandsMissReds}
 
@@ -31,10 +31,16 @@ quotient_up (negsuc a) (pos b) c h l = omega (arith, ints)
 quotient_up (pos a) (negsuc b) c h l = absurd (omega (arith, ints))
 quotient_up (negsuc a) (negsuc b) c h l = let e = div_up b a c h (omega (arith, ints)) in omega (arith, ints, e)
 
+scaled_up : (y z : ℤ) (w : ℕ) → y ≤ℤ z → (y *ℤ pos w) ≤ℤ (z *ℤ pos w)
+scaled_up (pos a) (pos b) w l = let e : a * w ≤ b * w = mul-le-mul_right w (let m : a ≤ b = omega (arith, ints, l) in m) in omega (arith, ints, e)
+scaled_up (negsuc a) (pos b) w l = omega (arith, ints)
+scaled_up (pos a) (negsuc b) w l = absurd (omega (arith, ints, l))
+scaled_up (negsuc a) (negsuc b) w l = let e : suc b * w ≤ suc a * w = mul-le-mul_right w (let m : suc b ≤ suc a = omega (arith, ints, l) in m) in omega (arith, ints, e)
+
 pub places_ascend : PlacesAscend
 places_ascend f y z h l =
     let some : 0 < f.cycles * f.cycle = mul-pos (let e = h.cycles_least in omega (arith, e)) (let e = h.cycle_least in omega (arith, e)) in
-    let e = quotient_up (y *ℤ pos 9000) (z *ℤ pos 9000) (f.cycles * f.cycle) some (omega (arith, ints, l)) in
+    let e = quotient_up (y *ℤ pos (plot_width f)) (z *ℤ pos (plot_width f)) (f.cycles * f.cycle) some (scaled_up y z (plot_width f) l) in
     omega (arith, ints, e)
 
 -- ---- a red and a band
@@ -73,21 +79,24 @@ green_there a t Inbound i h g =
     let l : count a - i < count a = let p = h.0 in let q = h.1 in omega (arith, p, q) in
     subst (λ k. BandIsGreen (cycle a t) (red_start a t Inbound k) (red_ticks a t Inbound k) (line_at a t Inbound i) (band t Inbound)) e (g (count a - i) l)
 
-good_way : (a : Street) (t : TimingRecord) (d : Dir) → Good a t → IsGreenWay a t d
-good_way a t Outbound g = g.outbound
-good_way a t Inbound g = g.inbound
-
 mul-lt : {a b c : ℕ} → a < b → 0 < c → a * c < b * c
 mul-lt {a} {b} {c} h k = grind arith
 
 -- the gap of a signal's band
-gap_there : (a : Street) (t : TimingRecord) (d : Dir) (i : ℕ) → IsValid a → 2 ≤ t.unit → HasSignal a i → Good a t
+pub gap_there : (a : Street) (t : TimingRecord) (d : Dir) (i : ℕ) → IsValid a → 2 ≤ t.unit → HasSignal a i → IsGreenWay a t d
     → Gap (cycle a t) (red_start a t d i) (red_ticks a t d i) (line_at a t d i) (band t d)
 gap_there a t d i v u h g =
     let r = red_bounds a v d i (let p = h.0 in let q = h.1 in omega (arith, p, q)) in
     let least : 2 ≤ red_ticks a t d i = let some : 1 * 2 ≤ red_parts a d i * t.unit = mul-le r.0 u in omega (arith, some) in
     let most : red_ticks a t d i < cycle a t = mul-lt r.1 (omega (arith, u)) in
-    gap_from_green (cycle a t) (red_ticks a t d i) (red_start a t d i) (line_at a t d i) (band t d) least most (green_there a t d i h (good_way a t d g))
+    gap_from_green (cycle a t) (red_ticks a t d i) (red_start a t d i) (line_at a t d i) (band t d) least most (green_there a t d i h g)
+
+-- a red has some tick
+pub red_some : (a : Street) (t : TimingRecord) (d : Dir) (i : ℕ) → IsValid a → 2 ≤ t.unit → HasSignal a i → 1 ≤ red_ticks a t d i
+red_some a t d i v u h =
+    let r = red_bounds a v d i (let p = h.0 in let q = h.1 in omega (arith, p, q)) in
+    let some : 1 * 2 ≤ red_parts a d i * t.unit = mul-le r.0 u in
+    omega (arith, some)
 
 -- moments that are apart stand apart
 apart_drawn : (f : Frame) (w r : ℤ) (red b : ℕ) → IsFrame f → ((w +ℤ pos b) ≤ℤ r) ⊎ ((r +ℤ pos red) ≤ℤ w)

@@ -1,8 +1,9 @@
 -- What a list becomes that is made by extensions, each by what it means, and what a loop makes of it.
 use Rattle.std.proofs.Common.{◌≡◌, ℕ, ◌+◌, ◌-◌, ◌≤◌, List, [], ◌∷◌, ◌++◌, map, flat_map, append_assoc, append-nil, sym, ap, ◌∙◌, arith}
 use Rattle.std.specs.List.{range_with_len}
-use Rattle.timing_measures.proofs.Pieces.{extended, extended_one, piece_up, map_up, text_on, text_up, texts_up}
+use Rattle.timing_measures.proofs.Pieces.{extended, extended_one, range_on, piece_up, map_up, text_on, text_up, texts_up}
 use Rattle.quantity_text.proofs.Pushed.{one_more, three_pushed, two_pushed}
+use Rattle.std.proofs.lemmas.Grind.{flat_map-append}
 use Rattle.diagram_draw.specs.Shapes.{Caption, captions_text}
 use Rattle.diagram_draw.proofs.Joins.{captions_joined}
 
@@ -12,6 +13,13 @@ with_one new old whole x y p q r = cc
 
 pub with_more : {A : Type 0} (new old now row piece whole : List A) → new ≡ old ++ now → now ≡ row → row ≡ piece → old ≡ whole → new ≡ whole ++ piece
 with_more new old now row piece whole p q r s = cc
+
+-- one piece more of the numbers from 0 on
+pub piece_on : {A : Type 0} (f : ℕ → List A) (i : ℕ) → flat_map f (range_with_len 0 (i + 1)) ≡ flat_map f (range_with_len 0 i) ++ f i
+piece_on f i = ap (flat_map f) (range_on i) ∙ (flat_map-append f (range_with_len 0 i) (i ∷ []) ∙ ap (λ ys. flat_map f (range_with_len 0 i) ++ ys) (append-nil (f i)))
+
+pub with_piece : {A : Type 0} (new old piece whole next : List A) → new ≡ old ++ piece → old ≡ whole → next ≡ whole ++ piece → new ≡ next
+with_piece new old piece whole next p q r = cc
 
 -- ---- numbers of a loop
 back_one : (i : ℕ) → i + 1 - 1 ≡ i

@@ -1,5 +1,5 @@
 -- Which shapes are seen through the field of a drawing: the members of lists that are made piece by piece.
-use Rattle.std.proofs.Common.{◌≡◌, ℕ, zero, suc, ◌+◌, ◌-◌, ◌<◌, ◌≤◌, ◌==◌, if◌then◌else◌, true, false, List, [], ◌∷◌, ◌++◌, map, flat_map, sym, ap, subst, ◌∙◌, arith, inl, inr}
+use Rattle.std.proofs.Common.{◌≡◌, ℕ, zero, suc, ◌+◌, ◌-◌, ◌<◌, ◌≤◌, ◌==◌, if◌then◌else◌, Bool, true, false, true≢false, IsTrue, ℤ, refl, List, [], ◌∷◌, ◌++◌, map, flat_map, sym, ap, subst, ◌∙◌, arith, inl, inr}
 use Rattle.std.specs.Prelude.{◌⊎◌, Contains, slice_index_or}
 use Rattle.std.specs.List.{range_with_len}
 use Rattle.std.proofs.lemmas.Bool.{cases_lt}
@@ -10,12 +10,18 @@ use Rattle.progression.specs.TimingRecord.{TimingRecord}
 use Rattle.progression.specs.declared.parts.Dir.{Dir}
 use Rattle.progression.specs.declared.parts.Dir.TheVariants.{Outbound, Inbound}
 use Rattle.diagram_draw.specs.declared.shape.Shape.{Shape}
+use Rattle.diagram_draw.specs.declared.shape.Shape.TheVariants as shape
+use Rattle.diagram_draw.specs.declared.shape.Side.{Side}
 use Rattle.diagram_draw.specs.declared.frame.Frame.{Frame}
 use Rattle.diagram_draw.specs.declared.bars.BarPart.{BarPart}
-use Rattle.diagram_draw.specs.Bands.{piece, band_in_cycle, band_part, pieces, link_pieces, all_pieces}
+use Rattle.diagram_draw.specs.declared.bands.BandPart.{BandPart}
+use Rattle.diagram_draw.specs.declared.bands.Edge.{Edge}
+use Rattle.diagram_draw.specs.declared.bands.Edge.TheVariants.{Leaving, Entering}
+use Rattle.diagram_draw.specs.Ways.{has_band}
+use Rattle.diagram_draw.specs.Bands.{band_paint, line_paint, is_narrow, is_chosen, piece, chosen_piece, band_in_cycle, band_part, edge_pieces, pieces, link_pieces, all_pieces}
 use Rattle.diagram_draw.specs.Bars.{block, blocks, bar_in_cycle, window_part, common_part, turn_part, ground, windows, common_reds, turn_reds, bar, signal_bars, all_bars}
-use Rattle.diagram_draw.specs.Members.{IsBlock, IsRed, IsPiece, IsFieldShape, Piece, Ground, Window, Red, is_red}
-use Rattle.diagram_draw.specs.Pages.{field_shapes, drawn}
+use Rattle.diagram_draw.specs.Members.{IsBlock, IsRed, IsDrawnPart, IsPiece, IsFieldShape, Piece, Ground, Window, Red, is_red}
+use Rattle.diagram_draw.specs.Pages.{field_shapes}
 use Rattle.diagram_draw.specs.Laws.{FieldIsExact, RedsAreReds}
 
 -- ---- lists
@@ -92,6 +98,15 @@ module _ {A : Type 0} where
     | inr p ↦ subst (λ b. Contains (if b then [] else xs) y) (sym p.0) h
   ]
 
+  -- of a list that is empty unless this is so
+  in_if : (b : Bool) (xs : List A) (y : A) → Contains (if b then xs else []) y → IsTrue b × Contains xs y
+  in_if true xs y h = (refl, h)
+  in_if false xs y h = absurd (none y h)
+
+  if_in : (b : Bool) (xs : List A) (y : A) → IsTrue b → Contains xs y → Contains (if b then xs else []) y
+  if_in true xs y e h = h
+  if_in false xs y e h = absurd (true≢false (sym e))
+
 -- ---- blocks and pieces
 module _ (f : Frame) (part : BarPart) (s : Shape) where
   in_blocks : Contains (blocks f part) s → IsBlock f part s
@@ -106,24 +121,49 @@ module _ (f : Frame) (part : BarPart) (s : Shape) where
       each_in (λ m. block f (bar_in_cycle f part m)) 0 (f.cycles + 1) h.cycle s (omega arith) (omega (arith, l)) h.is
 
 module _ (f : Frame) (a : Street) (t : TimingRecord) (s : Shape) where
+  in_edge : (d : Dir) (e : Edge) (l : ℕ) → Contains (edge_pieces f a t d e l) s → (part : BandPart) × IsDrawnPart f a t d l part × (s ≡ piece f part)
+  in_edge d e l h =
+      let q = in_pieces (λ m. chosen_piece f e (band_in_cycle f (band_part f a t d e l) m)) 0 (f.cycles + 1) s h in
+      let m = q.1.1 in
+      let part = band_in_cycle f (band_part f a t d e l) q.0 in
+      let here = in_if (is_chosen f e part) (piece f part ∷ []) s q.2 in
+      (part, record { edge = e; cycle = q.0; shown = omega (arith, m); is = refl; chosen = here.0 }, is_first (piece f part) s here.1)
+
+  edge_in : (d : Dir) (l : ℕ) (part : BandPart) (e : Edge) (m : ℕ) → m < f.cycles + 1 → part ≡ band_in_cycle f (band_part f a t d e l) m → IsTrue (is_chosen f e part) → s ≡ piece f part
+      → Contains (edge_pieces f a t d e l) s
+  edge_in d l part e m lt is chosen q =
+      pieces_in (λ m. chosen_piece f e (band_in_cycle f (band_part f a t d e l) m)) 0 (f.cycles + 1) m s (omega arith) (omega (arith, lt))
+      (if_in (is_chosen f e (band_in_cycle f (band_part f a t d e l) m)) (piece f (band_in_cycle f (band_part f a t d e l) m) ∷ []) s
+      (subst (λ (p : BandPart). IsTrue (is_chosen f e p)) is chosen)
+      (the_first (piece f (band_in_cycle f (band_part f a t d e l) m)) s (q ∙ ap (piece f) is)))
+
+  one_edge : (d : Dir) (l : ℕ) (part : BandPart) (e : Edge) (m : ℕ) → m < f.cycles + 1 → part ≡ band_in_cycle f (band_part f a t d e l) m → IsTrue (is_chosen f e part) → s ≡ piece f part
+      → Contains (edge_pieces f a t d Leaving l ++ edge_pieces f a t d Entering l) s
+  one_edge d l part Leaving m lt is chosen q = Contains-append_left (edge_pieces f a t d Leaving l) (edge_pieces f a t d Entering l) s (edge_in d l part Leaving m lt is chosen q)
+  one_edge d l part Entering m lt is chosen q = Contains-append_right (edge_pieces f a t d Leaving l) (edge_pieces f a t d Entering l) s (edge_in d l part Entering m lt is chosen q)
+
   in_link : (d : Dir) (l : ℕ) → Contains (pieces f a t d l) s → IsPiece f a t d l s
   in_link d l h =
-      let q = in_each (λ m. piece f (band_in_cycle f (band_part f a t d l) m)) 0 _ s h in
-      let m = q.1.1 in
-      record { cycle = q.0; shown = omega (arith, m); is = q.2 }
+      let both = in_if (has_band a t d) (edge_pieces f a t d Leaving l ++ edge_pieces f a t d Entering l) s h in
+      let found : (part : BandPart) × IsDrawnPart f a t d l part × (s ≡ piece f part)
+      = elim (Contains-append_cases (edge_pieces f a t d Leaving l) (edge_pieces f a t d Entering l) s both.1) [
+        | inl p ↦ in_edge d Leaving l p
+        | inr p ↦ in_edge d Entering l p
+      ] in
+      record { there = both.0; part = found.0; drawn = found.1; is = found.2 }
 
   link_in : (d : Dir) (l : ℕ) → IsPiece f a t d l s → Contains (pieces f a t d l) s
   link_in d l h =
-      let m = h.shown in
-      each_in (λ m. piece f (band_in_cycle f (band_part f a t d l) m)) 0 _ h.cycle s
-      (omega arith) (omega (arith, m)) h.is
+      if_in (has_band a t d) (edge_pieces f a t d Leaving l ++ edge_pieces f a t d Entering l) s h.there
+      (one_edge d l h.part h.drawn.edge h.drawn.cycle h.drawn.shown h.drawn.is h.drawn.chosen h.is)
 
   -- ---- from the list to what it shows
   in_bar : (d : Dir) (i : ℕ) → HasSignal a i → Contains (bar f a t d i) s → IsFieldShape f a t s
   in_bar d i here h = elim (in_cons (ground f a d i) (windows f a t d i ++ (common_reds f a t d i ++ turn_reds f a t d i)) s h) [
     | inl p ↦ Ground d i here p
     | inr p ↦ elim (Contains-append_cases (windows f a t d i) (common_reds f a t d i ++ turn_reds f a t d i) s p) [
-      | inl q ↦ Window d i here (in_blocks f (window_part f a t d i) s q)
+      | inl q ↦ (let there = in_if (has_band a t d) (blocks f (window_part f a t d i)) s q in
+          Window d i here (there.0, in_blocks f (window_part f a t d i) s there.1))
       | inr q ↦ elim (Contains-append_cases (common_reds f a t d i) (turn_reds f a t d i) s q) [
         | inl r ↦ Red d i here (inl (in_blocks f (common_part f a t d i) s r))
         | inr r ↦ (let some = in_some (left_against a d i) (blocks f (turn_part f a t d i)) s r in
@@ -184,36 +224,45 @@ module _ (f : Frame) (a : Street) (t : TimingRecord) (s : Shape) where
   shape_in (Window d i here h) =
       inr (bar_in d i here (cons_in (ground f a d i) (windows f a t d i ++ (common_reds f a t d i ++ turn_reds f a t d i)) s
       (inr (Contains-append_left (windows f a t d i) (common_reds f a t d i ++ turn_reds f a t d i) s
-      (blocks_in f (window_part f a t d i) s h)))))
+      (if_in (has_band a t d) (blocks f (window_part f a t d i)) s h.0 (blocks_in f (window_part f a t d i) s h.1))))))
   shape_in (Red d i here h) =
       inr (bar_in d i here (cons_in (ground f a d i) (windows f a t d i ++ (common_reds f a t d i ++ turn_reds f a t d i)) s
       (inr (Contains-append_right (windows f a t d i) (common_reds f a t d i ++ turn_reds f a t d i) s (red_in d i h)))))
 
-  field_one : Contains (drawn f a t).field s → IsFieldShape f a t s
+  field_one : Contains (field_shapes f a t) s → IsFieldShape f a t s
   unfolding field_shapes
   field_one h = elim (Contains-append_cases (all_pieces f a t) (all_bars f a t) s h) [
     | inl p ↦ in_links p
     | inr p ↦ in_bars p
   ]
 
-  one_field : IsFieldShape f a t s → Contains (drawn f a t).field s
+  one_field : IsFieldShape f a t s → Contains (field_shapes f a t) s
   unfolding field_shapes
   one_field h = in_both (all_pieces f a t) (all_bars f a t) s (shape_in h)
 
 pub field_is_exact : FieldIsExact
-field_is_exact f a t s = (field_one f a t s, one_field f a t s)
+field_is_exact f a t title s = (field_one f a t s, one_field f a t s)
 
 -- ---- reds
 not_both : (s : Shape) → is_red s ≡ false → is_red s ≡ true → ⊥
 not_both s e h = let f : true ≡ false = sym h ∙ e in cc
 
+-- no piece is painted as one
+plain_red : (b : Bool) (d : Dir) (x y z w : ℤ) (from to : Side) → is_red (if b then shape.Line (line_paint d) x y z w else shape.Slant (band_paint d) from to) ≡ false
+plain_red true Outbound x y z w from to = refl
+plain_red true Inbound x y z w from to = refl
+plain_red false Outbound x y z w from to = refl
+plain_red false Inbound x y z w from to = refl
+
+piece_not_red : (f : Frame) (part : BandPart) → is_red (piece f part) ≡ false
+piece_not_red f part = plain_red (is_narrow f part.band) part.dir _ _ _ _ _ _
+
 the_red : (f : Frame) (a : Street) (t : TimingRecord) (s : Shape) → IsFieldShape f a t s → is_red s ≡ true → (d : Dir) × (i : ℕ) × HasSignal a i × IsRed f a t d i s
-the_red f a t s (Piece Outbound l there h) r = absurd (not_both s (ap is_red h.is) r)
-the_red f a t s (Piece Inbound l there h) r = absurd (not_both s (ap is_red h.is) r)
+the_red f a t s (Piece d l there h) r = absurd (not_both s (ap is_red h.is ∙ piece_not_red f h.part) r)
 the_red f a t s (Ground d i here h) r = absurd (not_both s (ap is_red h) r)
-the_red f a t s (Window Outbound i here h) r = absurd (not_both s (ap is_red h.is) r)
-the_red f a t s (Window Inbound i here h) r = absurd (not_both s (ap is_red h.is) r)
+the_red f a t s (Window Outbound i here h) r = absurd (not_both s (ap is_red h.1.is) r)
+the_red f a t s (Window Inbound i here h) r = absurd (not_both s (ap is_red h.1.is) r)
 the_red f a t s (Red d i here h) r = (d, i, here, h)
 
 pub reds_are_reds : RedsAreReds
-reds_are_reds f a t s h r = the_red f a t s (field_one f a t s h) r
+reds_are_reds f a t title s h r = the_red f a t s (field_one f a t s h) r

@@ -16,6 +16,7 @@ use Rattle.diagram_draw.specs.declared.frame.Frame.{Frame}
 use Rattle.diagram_draw.specs.declared.bars.BarPart.{BarPart}
 use Rattle.timing_measures.specs.Measures.{after_start}
 use Rattle.diagram_draw.specs.Frames.{bar_height, x_at, level, plot_right, earlier, later}
+use Rattle.diagram_draw.specs.Ways.{has_band}
 
 -- where a direction's bar begins, and where it ends
 abbrev pub bar_top : Frame → Street → Dir → ℕ → ℤ
@@ -89,8 +90,9 @@ turn_part f a t d i = record {
 abbrev pub ground : Frame → Street → Dir → ℕ → Shape
 ground f a d i = shape.Rect paint.Ground (pos f.left) (bar_top f a d i) (pos (plot_right f)) (bar_top f a d i +ℤ pos bar_height)
 
+-- none where the direction has no band
 abbrev pub windows : Frame → Street → TimingRecord → Dir → ℕ → List Shape
-windows f a t d i = blocks f (window_part f a t d i)
+windows f a t d i = if has_band a t d then blocks f (window_part f a t d i) else []
 
 abbrev pub common_reds : Frame → Street → TimingRecord → Dir → ℕ → List Shape
 common_reds f a t d i = blocks f (common_part f a t d i)

@@ -1,17 +1,15 @@
 -- The measures of a drawing, in tenths of a pixel: where a moment and a signal stand.
-use Rattle.std.specs.Prelude.{ℕ, zero, suc, ◌+◌, ◌-◌, ◌*◌, ◌/◌, ◌<◌, ◌≤◌, ◌^◌, min, max, length, ℤ, pos, ◌+ℤ◌, ◌-ℤ◌, ◌*ℤ◌}
+use Rattle.std.specs.Prelude.{ℕ, zero, suc, ◌+◌, ◌-◌, ◌*◌, ◌/◌, ◌<◌, ◌≤◌, ◌^◌, min, max, nat_le, if◌then◌else◌, ℤ, pos, ◌+ℤ◌, ◌-ℤ◌, ◌*ℤ◌}
 use Rattle.std.specs.Int.{int_div_euclid}
 use Rattle.progression.specs.Street.{Street, count, signal_of, distance}
 use Rattle.progression.specs.TimingRecord.{TimingRecord, cycle, run, band}
 use Rattle.progression.specs.declared.parts.Dir.{Dir}
 use Rattle.progression.specs.declared.parts.Dir.TheVariants.{Outbound, Inbound}
 use Rattle.diagram_draw.specs.declared.frame.Frame.{Frame}
+use Rattle.diagram_draw.specs.Widths.{text_width, name_size}
 
 -- ---- the fixed ones
--- how wide the field of the diagram is, and where it begins
-abbrev pub plot_width : ℕ
-plot_width = 9000
-
+-- where the field of the diagram begins
 abbrev pub plot_top : ℕ
 plot_top = 1500
 
@@ -64,31 +62,40 @@ rise_for whole least = min 16000 (max 4400 (whole * 180 / least))
 abbrev pub span_for : Street → ℕ
 span_for a = rise_for (street_length a) (shortest a (count a - 1)) + both_bars * (count a - 1)
 
--- room for the names: 78 for each byte of the longest of the first, for 14 bytes at least and 40 at most
-abbrev pub longest_name : Street → ℕ → ℕ
-longest_name a zero = 14
-longest_name a (suc j) = max (longest_name a j) (length (signal_of a (suc j)).name)
+-- the width of the widest of the first names, in thousandths of the size of its letters
+abbrev pub widest_name : Street → ℕ → ℕ
+widest_name a zero = 0
+widest_name a (suc j) = max (widest_name a j) (text_width (signal_of a (suc j)).name)
 
+-- Room for the names: so much as the widest of them takes in letters of the usual size, from 1092 to 4500.
 abbrev pub name_room : Street → ℕ
-name_room a = 78 * min 40 (longest_name a (count a))
+name_room a = min 4500 (max 1092 (widest_name a (count a) * name_size / 1000 + 1))
 
--- where the columns at the left of the field end, and the field begins
 abbrev pub name_left : ℕ
 name_left = 430
 
+-- what stands left of the field beside the names
+abbrev pub columns_left : ℕ
+columns_left = 1780
+
+-- where the columns at the left of the field end, and the field begins
 abbrev pub frame_of : Street → TimingRecord → Frame
 frame_of a t = record {
-  left = name_room a + 1570;
+  left = name_room a + columns_left;
   cycles = cycles_for (longest_reach a t) (cycle a t);
   cycle = cycle a t;
   span = span_for a;
 }
 
 -- ---- places
+-- how wide the field is: for four cycles or fewer 9000, and for each further one a fifth of that more
+abbrev pub plot_width : Frame → ℕ
+plot_width f = 9000 + 1800 * (f.cycles - 4)
+
 -- Where a moment stands that comes so many ticks after the start of the common red of signal 1: the field is as wide as the cycles
 -- that are shown, and what lies between two tenths of a pixel stands at the left one.
 abbrev pub x_at : Frame → ℤ → ℤ
-x_at f ticks = pos f.left +ℤ int_div_euclid (ticks *ℤ pos plot_width) (pos (f.cycles * f.cycle))
+x_at f ticks = pos f.left +ℤ int_div_euclid (ticks *ℤ pos (plot_width f)) (pos (f.cycles * f.cycle))
 
 -- The level of signal i: above signal 1 by the bars of as many signals as there are links up to it, and by its distance from signal 1, outbound,
 -- cut. So what is left of a link between the bars of its signals is to scale, however short the link is.
@@ -102,13 +109,27 @@ abbrev pub plot_bottom : Frame → ℕ
 plot_bottom f = plot_top + 2 * margin + f.span
 
 abbrev pub plot_right : Frame → ℕ
-plot_right f = f.left + plot_width
+plot_right f = f.left + plot_width f
 
 abbrev pub page_width : Frame → ℕ
 page_width f = plot_right f + 2200
 
 abbrev pub page_height : Frame → ℕ
-page_height f = plot_bottom f + 1200
+page_height f = plot_bottom f + 1400
+
+-- The page on paper, in tenths of a millimetre: as large as it fits 190 by 259, across where it is wider than high, and else upright. It takes
+-- the one or the other whole, and of the other one so much as is to scale, cut.
+abbrev pub paper_width : Frame → ℕ
+paper_width f = if nat_le (page_height f) (page_width f) then 2590 else 1900
+
+abbrev pub paper_height : Frame → ℕ
+paper_height f = if nat_le (page_height f) (page_width f) then 1900 else 2590
+
+abbrev pub shown_width : Frame → ℕ
+shown_width f = min (paper_width f) (paper_height f * page_width f / page_height f)
+
+abbrev pub shown_height : Frame → ℕ
+shown_height f = min (paper_height f) (paper_width f * page_height f / page_width f)
 
 -- ---- moments
 -- a moment so many cycles earlier
@@ -121,8 +142,8 @@ later f ticks m = ticks +ℤ pos (m * f.cycle)
 
 -- the numbers of a frame are in range
 pub record IsFrame (f : Frame) : Type 0 where
-  pub left_least : 1570 ≤ f.left
-  pub left : f.left ≤ 5000
+  pub left_least : columns_left ≤ f.left
+  pub left : f.left ≤ 6280
   pub cycles_least : 2 ≤ f.cycles
   pub cycles_most : f.cycles ≤ 12
   pub cycle_least : 4 ≤ f.cycle

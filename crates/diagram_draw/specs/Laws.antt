@@ -1,11 +1,10 @@
 -- What the drawing says of the model: reds are drawn where the model is red, no band is drawn over a red of its own direction, and none crosses a bar
 -- between two signals.
-use Rattle.std.specs.Prelude.{◌≡◌, ◌⊎◌, ◌↔◌, Contains, ℕ, ◌+◌, ◌-◌, ◌*◌, ◌<◌, ◌≤◌, ℤ, pos, ◌+ℤ◌, ◌≤ℤ◌, true, false}
+use Rattle.std.specs.Prelude.{◌≡◌, ◌⊎◌, ◌↔◌, Contains, Option, List, ℕ, ◌+◌, ◌-◌, ◌*◌, ◌<◌, ◌≤◌, nat_le, ℤ, pos, ◌+ℤ◌, ◌≤ℤ◌, Bool, true, false, IsTrue}
 use Rattle.progression.specs.Street.{Street, count, HasSignal, HasLink, clearance}
 use Rattle.progression.specs.TimingRecord.{TimingRecord, cycle, run, band, common_red}
-use Rattle.progression.specs.Green.{is_green, red_start, red_ticks}
-use Rattle.progression.specs.Lines.{line_at}
-use Rattle.progression.specs.Good.{Good}
+use Rattle.progression.specs.Green.{since, is_green, red_start, red_ticks}
+use Rattle.progression.specs.Lines.{line_at, IsGreenWay}
 use Rattle.progression.specs.declared.parts.Dir.{Dir}
 use Rattle.progression.specs.declared.parts.Dir.TheVariants.{Outbound, Inbound}
 use Rattle.artery_model.specs.Valid.{IsValid}
@@ -13,9 +12,11 @@ use Rattle.time_space.specs.Reds.{IsInside}
 use Rattle.diagram_draw.specs.declared.frame.Frame.{Frame}
 use Rattle.diagram_draw.specs.declared.shape.Shape.{Shape}
 use Rattle.diagram_draw.specs.Frames.{bar_height, both_bars, x_at, level, later, IsFrame}
-use Rattle.diagram_draw.specs.Bands.{tail, head, leaving_level, entering_level}
+use Rattle.diagram_draw.specs.declared.bands.BandPart.{BandPart}
+use Rattle.diagram_draw.specs.declared.bands.Edge.{Edge}
+use Rattle.diagram_draw.specs.Bands.{tail, head, leaving_level, entering_level, is_chosen, band_in_cycle, band_part}
 use Rattle.diagram_draw.specs.Bars.{bar_top, first_red, first_window, common_wait, turn_wait, common_ticks, turn_ticks}
-use Rattle.diagram_draw.specs.Members.{IsFieldShape, IsRed, is_red}
+use Rattle.diagram_draw.specs.Members.{IsDrawnPart, IsFieldShape, IsRed, is_red}
 use Rattle.diagram_draw.specs.Pages.{drawn}
 
 -- ---- places
@@ -41,7 +42,7 @@ pub record AreApart (f : Frame) (a : Street) (t : TimingRecord) (d : Dir) (i m n
 
 abbrev pub BandsMissReds : Type 0
 BandsMissReds =
-    (f : Frame) (a : Street) (t : TimingRecord) (d : Dir) (i m n : ℕ) → IsFrame f → f.cycle ≡ cycle a t → IsValid a → 2 ≤ t.unit → HasSignal a i → Good a t
+    (f : Frame) (a : Street) (t : TimingRecord) (d : Dir) (i m n : ℕ) → IsFrame f → f.cycle ≡ cycle a t → IsValid a → 2 ≤ t.unit → HasSignal a i → IsGreenWay a t d
     → AreApart f a t d i m n
 
 -- At a moment within the cycles that are shown a direction is red at a signal exactly where it is strictly inside one of the reds that are drawn.
@@ -52,11 +53,45 @@ RedsAreShown =
     ↔ ((m : ℕ) × (m < f.cycles + 1) × IsInside (later f (first_red f a t d i) m) (red_ticks a t d i) (pos n))
 
 -- The band reaches the signal at the end of a link a run after it left the one at its start, and began there earlier by the time that the queue has to
--- clear. (Both are drawn in every cycle.)
+-- clear: so the piece of a link enters that long after the band at the signal where it enters begins.
 abbrev pub PiecesMeetWindows : Type 0
 PiecesMeetWindows =
     (a : Street) (t : TimingRecord) (d : Dir) (l : ℕ) → HasLink a l
     → line_at a t d (head d l) +ℤ pos (clearance a d (head d l) * t.unit) ≡ line_at a t d (tail d l) +ℤ pos (run t d l)
+
+-- a moment from where a band begins that is so wide to where it ends
+pub record IsWithin (begin : ℤ) (band : ℕ) (moment : ℤ) : Type 0 where
+  pub begun : begin ≤ℤ moment
+  pub lasting : moment ≤ℤ (begin +ℤ pos band)
+
+-- whether a direction's band of some cycle passes so many ticks after the start of the common red of signal 1, where its first line passes at this tick
+abbrev pub is_passing : Street → TimingRecord → Dir → ℤ → ℕ → Bool
+is_passing a t d line n = nat_le (since (cycle a t) line (common_red t 1 +ℤ pos n)) (band t d)
+
+-- the band leaves the link's first signal at a moment exactly where one of the pieces that are drawn leaves it then, and enters the second, a run later, exactly where one enters
+pub record IsBandShown (f : Frame) (a : Street) (t : TimingRecord) (d : Dir) (l n : ℕ) : Type 0 where
+  pub leaving : IsTrue (is_passing a t d (line_at a t d (tail d l)) n) ↔ ((part : BandPart) × IsDrawnPart f a t d l part × IsWithin part.begin part.band (pos n))
+  pub entering : IsTrue (is_passing a t d (line_at a t d (tail d l) +ℤ pos (run t d l)) n)
+      ↔ ((part : BandPart) × IsDrawnPart f a t d l part × IsWithin (part.begin +ℤ pos part.run) part.band (pos n))
+
+-- So it is at each moment within the cycles that are shown, of a direction with a band and on each link, however long its run is.
+abbrev pub BandsAreShown : Type 0
+BandsAreShown =
+    (f : Frame) (a : Street) (t : TimingRecord) (d : Dir) (l n : ℕ) → IsFrame f → f.cycle ≡ cycle a t → IsValid a → 2 ≤ t.unit → HasLink a l → IsGreenWay a t d → n < f.cycles * f.cycle
+    → IsBandShown f a t d l n
+
+-- And of each piece that is drawn one end is somewhere within these cycles.
+abbrev pub PiecesAreSeen : Type 0
+PiecesAreSeen =
+    (f : Frame) (a : Street) (t : TimingRecord) (d : Dir) (l : ℕ) (part : BandPart) → IsFrame f → IsDrawnPart f a t d l part
+    → (n : ℕ) × (n < f.cycles * f.cycle) × (IsWithin part.begin part.band (pos n) ⊎ IsWithin (part.begin +ℤ pos part.run) part.band (pos n))
+
+-- None is drawn twice: those that begin at one moment are one.
+abbrev pub PiecesAreOnce : Type 0
+PiecesAreOnce =
+    (f : Frame) (a : Street) (t : TimingRecord) (d : Dir) (l : ℕ) (e g : Edge) (m n : ℕ) → IsFrame f
+    → IsTrue (is_chosen f e (band_in_cycle f (band_part f a t d e l) m)) → IsTrue (is_chosen f g (band_in_cycle f (band_part f a t d g l) n))
+    → (band_in_cycle f (band_part f a t d e l) m).begin ≡ (band_in_cycle f (band_part f a t d g l) n).begin → (e ≡ g) × (m ≡ n)
 
 -- ---- levels
 -- a later signal stands above an earlier one, by the bars of a signal at least for each link
@@ -86,10 +121,11 @@ PiecesMissBars =
     → MissesBar (leaving_level f a d l) (entering_level f a d l) (bar_top f a e i)
 
 -- ---- shapes
--- What is seen through the field are just the pieces, the grounds, the bands at the signals and both parts of the reds, in the cycles that are shown.
+-- What is seen through the field are just the pieces, the grounds, the bands at the signals and both parts of the reds, in the cycles that are shown; and pieces and bands
+-- of a direction that has one.
 abbrev pub FieldIsExact : Type 0
-FieldIsExact = (f : Frame) (a : Street) (t : TimingRecord) (s : Shape) → Contains (drawn f a t).field s ↔ IsFieldShape f a t s
+FieldIsExact = (f : Frame) (a : Street) (t : TimingRecord) (title : Option (List ℕ)) (s : Shape) → Contains (drawn f a t title).field s ↔ IsFieldShape f a t s
 
 -- and what is painted as a red there is one of the model
 abbrev pub RedsAreReds : Type 0
-RedsAreReds = (f : Frame) (a : Street) (t : TimingRecord) (s : Shape) → Contains (drawn f a t).field s → is_red s ≡ true → (d : Dir) × (i : ℕ) × HasSignal a i × IsRed f a t d i s
+RedsAreReds = (f : Frame) (a : Street) (t : TimingRecord) (title : Option (List ℕ)) (s : Shape) → Contains (drawn f a t title).field s → is_red s ≡ true → (d : Dir) × (i : ℕ) × HasSignal a i × IsRed f a t d i s

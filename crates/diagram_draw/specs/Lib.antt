@@ -1,9 +1,12 @@
 pub mod Shapes
 pub mod Escapes
+pub mod Widths
 pub mod Frames
+pub mod Ways
 pub mod Bars
 pub mod Bands
 pub mod Axes
+pub mod Steps
 pub mod Captions
 pub mod Pages
 pub mod Members

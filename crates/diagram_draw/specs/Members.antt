@@ -1,7 +1,7 @@
 -- Which shapes are seen through the field of a drawing.
-use Rattle.std.specs.Prelude.{◌≡◌, ◌⊎◌, ℕ, ◌+◌, ◌<◌, ◌≤◌, Bool, true, false}
+use Rattle.std.specs.Prelude.{◌≡◌, ◌⊎◌, ℕ, ◌+◌, ◌<◌, ◌≤◌, Bool, true, false, IsTrue}
 use Rattle.progression.specs.Street.{Street, HasSignal, HasLink, left_against}
-use Rattle.progression.specs.TimingRecord.{TimingRecord, run, band}
+use Rattle.progression.specs.TimingRecord.{TimingRecord}
 use Rattle.progression.specs.declared.parts.Dir.{Dir}
 use Rattle.diagram_draw.specs.declared.paint.Paint.{Paint}
 use Rattle.diagram_draw.specs.declared.paint.Paint.TheVariants as paint
@@ -9,7 +9,10 @@ use Rattle.diagram_draw.specs.declared.shape.Shape.{Shape}
 use Rattle.diagram_draw.specs.declared.shape.Shape.TheVariants as shape
 use Rattle.diagram_draw.specs.declared.frame.Frame.{Frame}
 use Rattle.diagram_draw.specs.declared.bars.BarPart.{BarPart}
-use Rattle.diagram_draw.specs.Bands.{cycles_back, piece, band_in_cycle, band_part}
+use Rattle.diagram_draw.specs.declared.bands.BandPart.{BandPart}
+use Rattle.diagram_draw.specs.declared.bands.Edge.{Edge}
+use Rattle.diagram_draw.specs.Ways.{has_band}
+use Rattle.diagram_draw.specs.Bands.{is_chosen, piece, band_in_cycle, band_part}
 use Rattle.diagram_draw.specs.Bars.{block, bar_in_cycle, window_part, common_part, turn_part, ground}
 
 -- a block of a bar in one of the cycles, from a moment on that comes again in each, and so many ticks long
@@ -19,8 +22,9 @@ pub record IsBlock (f : Frame) (part : BarPart) (s : Shape) : Type 0 where
   pub is : s ≡ block f (bar_in_cycle f part cycle)
 
 -- ---- what stands at a signal
+-- the band, where the direction has one
 abbrev pub IsWindow : Frame → Street → TimingRecord → Dir → ℕ → Shape → Type 0
-IsWindow f a t d i s = IsBlock f (window_part f a t d i) s
+IsWindow f a t d i s = IsTrue (has_band a t d) × IsBlock f (window_part f a t d i) s
 
 abbrev pub IsCommonRed : Frame → Street → TimingRecord → Dir → ℕ → Shape → Type 0
 IsCommonRed f a t d i s = IsBlock f (common_part f a t d i) s
@@ -33,10 +37,19 @@ abbrev pub IsRed : Frame → Street → TimingRecord → Dir → ℕ → Shape �
 IsRed f a t d i s = IsCommonRed f a t d i s ⊎ IsTurnRed f a t d i s
 
 -- ---- what stands on a link
-pub record IsPiece (f : Frame) (a : Street) (t : TimingRecord) (d : Dir) (l : ℕ) (s : Shape) : Type 0 where
+-- a part of the band that leaves or enters within the time that is shown, in one of the cycles
+pub record IsDrawnPart (f : Frame) (a : Street) (t : TimingRecord) (d : Dir) (l : ℕ) (part : BandPart) : Type 0 where
+  pub edge : Edge
   pub cycle : ℕ
-  pub shown : cycle < f.cycles + cycles_back f (run t d l + band t d)
-  pub is : s ≡ piece f (band_in_cycle f (band_part f a t d l) cycle)
+  pub shown : cycle < f.cycles + 1
+  pub is : part ≡ band_in_cycle f (band_part f a t d edge l) cycle
+  pub chosen : IsTrue (is_chosen f edge part)
+
+pub record IsPiece (f : Frame) (a : Street) (t : TimingRecord) (d : Dir) (l : ℕ) (s : Shape) : Type 0 where
+  pub there : IsTrue (has_band a t d)
+  pub part : BandPart
+  pub drawn : IsDrawnPart f a t d l part
+  pub is : s ≡ piece f part
 
 -- ---- all of them
 pub data IsFieldShape (f : Frame) (a : Street) (t : TimingRecord) (s : Shape) : Type 0 where

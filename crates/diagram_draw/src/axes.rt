@@ -5,13 +5,18 @@ ghost use Rattle.progression.specs.Street.{count};
 ghost use Rattle.diagram_draw.specs.Frames.{IsFrame};
 ghost use Rattle.diagram_draw.specs.Axes.{seconds_shown, step_for, steps_shown, second_at, second_line, second_lines, cycle_line, cycle_lines, level_line, level_lines, paper, plot, back};
 
-use crate::frame::{Frame, PLOT_TOP, PLOT_WIDTH, cycles_ticks, level, plot_bottom, x_at};
+use crate::frame::{
+    Frame, PLOT_TOP, cycles_ticks, level, page_height, page_width, plot_bottom, plot_right, x_at,
+};
 use crate::paint::Paint;
 use crate::shape::Shape;
 use artery_model::Artery;
 use narrow_fraction::Memory;
 use std::alloc::{AllocError, Global};
 use time_space::Timing;
+
+/// So many steps of seconds are shown at most.
+const MOST_STEPS: u128 = 18;
 
 /// The whole seconds that are shown.
 fn seconds_shown(frame: Frame, timing: &Timing) -> u128
@@ -38,10 +43,14 @@ fn step_for(seconds: u128) -> u32
         10
     } else if seconds <= 270 {
         15
+    } else if seconds <= 360 {
+        20
     } else if seconds <= 540 {
         30
     } else if seconds <= 1080 {
         60
+    } else if seconds <= 2160 {
+        120
     } else if seconds <= 5400 {
         300
     } else if seconds <= 10800 {
@@ -59,7 +68,11 @@ pub fn steps_shown(frame: Frame, timing: &Timing) -> u32
 {
     let seconds = seconds_shown(frame, timing);
     let steps = seconds / u128::from(step_for(seconds));
-    steps.min(18) as u32 + 1
+    if steps <= MOST_STEPS {
+        steps as u32 + 1
+    } else {
+        1
+    }
 }
 
 /// The second of a line.
@@ -165,7 +178,7 @@ fn level_line(frame: Frame, artery: &Artery, signal: u32) -> Shape
         paint: Paint::Level,
         x: i128::from(frame.left),
         y: level,
-        next_x: i128::from(frame.left + PLOT_WIDTH),
+        next_x: i128::from(plot_right(frame)),
         next_y: level,
     }
 }
@@ -189,8 +202,8 @@ fn paper(frame: Frame) -> Shape
         paint: Paint::Paper,
         left: 0,
         top: 0,
-        right: i128::from(frame.left + PLOT_WIDTH + 2200),
-        bottom: i128::from(plot_bottom(frame) + 1200),
+        right: i128::from(page_width(frame)),
+        bottom: i128::from(page_height(frame)),
     }
 }
 
@@ -202,7 +215,7 @@ fn plot(frame: Frame) -> Shape
         paint: Paint::Plot,
         left: i128::from(frame.left),
         top: i128::from(PLOT_TOP),
-        right: i128::from(frame.left + PLOT_WIDTH),
+        right: i128::from(plot_right(frame)),
         bottom: i128::from(plot_bottom(frame)),
     }
 }

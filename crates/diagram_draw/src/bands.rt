@@ -1,13 +1,16 @@
 //! The bands between the signals.
 
-ghost use Rattle.std.specs.Prelude.{◌≡◌, ◌+◌, ◌<◌, ◌≤◌, ◌^◌, IfOk, length, unsigned_abs};
-ghost use Rattle.progression.specs.{Street.{count}, TimingRecord.{cycle, run, band}};
-ghost use Rattle.diagram_draw.specs.Frames.{IsFrame};
-ghost use Rattle.diagram_draw.specs.Bands.{tail, leaving_level, entering_level, band_paint, cycles_back, piece, some_pieces, first_leaving, pieces, link_pieces, all_pieces};
+ghost use Rattle.std.specs.Prelude.{◌≡◌, ◌++◌, ◌<◌, ◌≤◌, ◌^◌, IfOk, OnOk, pos, ◌-ℤ◌, length, unsigned_abs};
+ghost use Rattle.progression.specs.{Street.{count}};
+ghost use Rattle.diagram_draw.specs.{Frames.{IsFrame}, Ways.{has_band}};
+ghost use Rattle.diagram_draw.specs.Bands.{tail, leaving_level, entering_level, band_paint, line_paint, slant, first_line, is_narrow, piece, is_seen, is_chosen};
+ghost use Rattle.diagram_draw.specs.Bands.{chosen_piece, some_pieces, first_begin, edge_pieces, pieces, link_pieces, all_pieces};
 
-use crate::frame::{Frame, above, below, earlier, later, level, moment_after, x_at};
+use crate::bars::after;
+use crate::frame::{Frame, above, below, cycles_ticks, earlier, later, level, moment_after, x_at};
 use crate::paint::Paint;
 use crate::shape::{Shape, Side};
+use crate::ways::has_band;
 use artery_model::{Artery, Dir};
 use narrow_fraction::Memory;
 use std::alloc::{AllocError, Global};
@@ -18,7 +21,7 @@ use timing_measures::after_start;
 #[derive(Clone, Copy)]
 struct BandPart {
     /// Whose band it is.
-    paint: Paint,
+    dir: Dir,
     /// The level at which it begins.
     from: i128,
     /// The level at which it ends.
@@ -29,6 +32,15 @@ struct BandPart {
     run: u128,
     /// How many ticks wide it is.
     band: u128,
+}
+
+/// The end of a link by which a piece is found.
+#[derive(Clone, Copy)]
+enum Edge {
+    /// Where it leaves the one signal.
+    Leaving,
+    /// Where it enters the other.
+    Entering,
 }
 
 /// The signal at which a direction's traffic enters a link.
@@ -83,30 +95,29 @@ fn band_paint(dir: Dir) -> Paint
     }
 }
 
-/// How many pieces begin before the first cycle that is shown.
-fn cycles_back(frame: Frame, ticks: u128) -> u32
-    requires frame { IsFrame frame }
-    requires ticks { ticks < 2 ^ 100 }
-    ensures value { result ≡ cycles_back frame ticks }
-    ensures most { result ≤ 60 }
+/// How the line is painted that stands for a band without room for two edges.
+fn line_paint(dir: Dir) -> Paint
+    ensures { result ≡ line_paint dir }
 {
-    let whole = (ticks + frame.cycle - 1) / frame.cycle;
-    whole.min(60) as u32
+    match dir {
+        Dir::Outbound => Paint::OutLine,
+        Dir::Inbound => Paint::InLine,
+    }
 }
 
 /// A piece of a band: from one signal to the next.
-fn piece(frame: Frame, part: BandPart) -> Shape
+fn slant(frame: Frame, part: BandPart) -> Shape
     requires frame { IsFrame frame }
     requires begin { unsigned_abs part.begin < 2 ^ 100 }
     requires run { part.run < 2 ^ 80 }
     requires band { part.band < 2 ^ 80 }
-    ensures { result ≡ piece frame part }
+    ensures { result ≡ slant frame part }
 {
     let end = moment_after(part.begin, part.band);
     let arrival = moment_after(part.begin, part.run);
     let last_arrival = moment_after(part.begin, part.run + part.band);
     Shape::Slant {
-        paint: part.paint,
+        paint: band_paint(part.dir),
         from: Side {
             left: x_at(frame, part.begin),
             right: x_at(frame, end),
@@ -120,11 +131,99 @@ fn piece(frame: Frame, part: BandPart) -> Shape
     }
 }
 
-/// Such a piece in each of so many cycles.
-#[tactic(auto, using(timing_measures::proofs::Pieces::map_on))]
+/// The first line of such a piece.
+fn first_line(frame: Frame, part: BandPart) -> Shape
+    requires frame { IsFrame frame }
+    requires begin { unsigned_abs part.begin < 2 ^ 100 }
+    requires run { part.run < 2 ^ 80 }
+    ensures { result ≡ first_line frame part }
+{
+    let arrival = moment_after(part.begin, part.run);
+    Shape::Line {
+        paint: line_paint(part.dir),
+        x: x_at(frame, part.begin),
+        y: part.from,
+        next_x: x_at(frame, arrival),
+        next_y: part.to,
+    }
+}
+
+/// Whether so many ticks have no room for two edges.
+fn is_narrow(frame: Frame, ticks: u128) -> bool
+    requires frame { IsFrame frame }
+    requires ticks { ticks < 2 ^ 80 }
+    ensures { result ≡ is_narrow frame ticks }
+{
+    x_at(frame, ticks as i128) < i128::from(frame.left + 3)
+}
+
+/// A piece of a band, or its first line where it is narrow.
+fn piece(frame: Frame, part: BandPart) -> Shape
+    requires frame { IsFrame frame }
+    requires begin { unsigned_abs part.begin < 2 ^ 100 }
+    requires run { part.run < 2 ^ 80 }
+    requires band { part.band < 2 ^ 80 }
+    ensures { result ≡ piece frame part }
+{
+    if is_narrow(frame, part.band) {
+        first_line(frame, part)
+    } else {
+        slant(frame, part)
+    }
+}
+
+/// Whether a band that begins then is somewhere within the time that is shown.
+fn is_seen(frame: Frame, begin: i128, band: u128) -> bool
+    requires frame { IsFrame frame }
+    requires begin { unsigned_abs begin < 2 ^ 102 }
+    requires band { band < 2 ^ 80 }
+    ensures { result ≡ is_seen frame begin band }
+{
+    0 <= begin + band as i128 && begin < cycles_ticks(frame, frame.cycles) as i128
+}
+
+/// Whether a piece leaves within the time that is shown, or only enters within it.
+fn is_chosen(frame: Frame, edge: Edge, part: BandPart) -> bool
+    requires frame { IsFrame frame }
+    requires begin { unsigned_abs part.begin < 2 ^ 100 }
+    requires run { part.run < 2 ^ 80 }
+    requires band { part.band < 2 ^ 80 }
+    ensures { result ≡ is_chosen frame edge part }
+{
+    let leaves = is_seen(frame, part.begin, part.band);
+    match edge {
+        Edge::Leaving => leaves,
+        Edge::Entering => {
+            is_seen(frame, moment_after(part.begin, part.run), part.band) && !leaves
+        }
+    }
+}
+
+/// Adds a piece if it is one of those.
+fn push_chosen(
+    shapes: &mut Vec<Shape>,
+    frame: Frame,
+    edge: Edge,
+    part: BandPart,
+) -> Result<(), AllocError>
+    requires frame { IsFrame frame }
+    requires begin { unsigned_abs part.begin < 2 ^ 100 }
+    requires run { part.run < 2 ^ 80 }
+    requires band { part.band < 2 ^ 80 }
+    ensures { OnOk result (shapes.new.items ≡ shapes.old.items ++ chosen_piece frame edge part) }
+{
+    if is_chosen(frame, edge, part) {
+        shapes.push(piece(frame, part))?;
+    }
+    Ok(())
+}
+
+/// Those of so many cycles.
+#[tactic(auto, using(crate::proofs::Chains::piece_on))]
 fn some_pieces(
     alloc: Global,
     frame: Frame,
+    edge: Edge,
     part: BandPart,
     cycles: u32,
 ) -> Result<Vec<Shape>, AllocError>
@@ -133,30 +232,80 @@ fn some_pieces(
     requires run { part.run < 2 ^ 80 }
     requires band { part.band < 2 ^ 80 }
     requires cycles { cycles ≤ 72 }
-    ensures { IfOk result (λ shapes. shapes.items ≡ some_pieces frame part cycles) }
+    ensures { IfOk result (λ shapes. shapes.items ≡ some_pieces frame edge part cycles) }
 {
     let mut shapes = Vec::new(alloc);
     for cycle in 0..cycles {
         let begin = later(frame, part.begin, cycle);
-        shapes.push(piece(frame, BandPart { begin, ..part }))?;
+        push_chosen(&mut shapes, frame, edge, BandPart { begin, ..part })?;
     }
     Ok(shapes)
 }
 
-/// When a direction's band leaves the first signal of a link in the first of the cycles.
-fn first_leaving(frame: Frame, artery: &Artery, timing: &Timing, dir: Dir, link: u32) -> i128
+/// A moment so many ticks before another.
+fn before(ticks: i128, wait: u128) -> i128
+    requires ticks { unsigned_abs ticks < 2 ^ 98 }
+    requires wait { wait < 2 ^ 92 }
+    ensures value { result ≡ ticks -ℤ pos wait }
+    ensures small { unsigned_abs result < 2 ^ 99 }
+{
+    ticks - wait as i128
+}
+
+/// When a direction's band leaves the first signal of a link in the first of the cycles; or so that it enters the second in that cycle.
+fn first_begin(
+    frame: Frame,
+    artery: &Artery,
+    timing: &Timing,
+    dir: Dir,
+    edge: Edge,
+    link: u32,
+) -> i128
     requires frame { IsFrame frame }
     requires shape { length timing.now.patterns ≡ count artery.now }
     requires first { 1 ≤ link }
     requires last { link < count artery.now }
-    ensures value { result ≡ first_leaving frame artery.now timing.now dir link }
-    ensures small { unsigned_abs result < 2 ^ 98 }
+    ensures value { result ≡ first_begin frame artery.now timing.now dir edge link }
+    ensures small { unsigned_abs result < 2 ^ 99 }
 {
     // there are few signals
     let _ = artery.count();
     let line = line_at(artery, timing, dir, tail(dir, link));
-    let back = cycles_back(frame, timing.run(dir, link) + timing.band(dir));
-    earlier(frame, back, after_start(artery, timing, line))
+    let run = timing.run(dir, link);
+    match edge {
+        Edge::Leaving => earlier(frame, 1, after_start(artery, timing, line)),
+        Edge::Entering => {
+            let entry = after_start(artery, timing, after(line, run));
+            before(earlier(frame, 1, entry), run)
+        }
+    }
+}
+
+/// The pieces of a direction's band on a link that are found by one of its ends.
+fn edge_pieces(
+    alloc: Global,
+    frame: Frame,
+    artery: &Artery,
+    timing: &Timing,
+    dir: Dir,
+    edge: Edge,
+    link: u32,
+) -> Result<Vec<Shape>, AllocError>
+    requires frame { IsFrame frame }
+    requires shape { length timing.now.patterns ≡ count artery.now }
+    requires first { 1 ≤ link }
+    requires last { link < count artery.now }
+    ensures { IfOk result (λ shapes. shapes.items ≡ edge_pieces frame artery.now timing.now dir edge link) }
+{
+    let part = BandPart {
+        dir,
+        from: leaving_level(frame, artery, dir, link),
+        to: entering_level(frame, artery, dir, link),
+        begin: first_begin(frame, artery, timing, dir, edge, link),
+        run: timing.run(dir, link),
+        band: timing.band(dir),
+    };
+    some_pieces(alloc, frame, edge, part, frame.cycles + 1)
 }
 
 /// The pieces of a direction's band on a link.
@@ -167,25 +316,20 @@ fn pieces(
     timing: &Timing,
     dir: Dir,
     link: u32,
-) -> Result<Vec<Shape>, AllocError>
+) -> Result<Vec<Shape>, Memory>
     requires frame { IsFrame frame }
     requires shape { length timing.now.patterns ≡ count artery.now }
     requires first { 1 ≤ link }
     requires last { link < count artery.now }
     ensures { IfOk result (λ shapes. shapes.items ≡ pieces frame artery.now timing.now dir link) }
 {
-    let run = timing.run(dir, link);
-    let band = timing.band(dir);
-    let part = BandPart {
-        paint: band_paint(dir),
-        from: leaving_level(frame, artery, dir, link),
-        to: entering_level(frame, artery, dir, link),
-        begin: first_leaving(frame, artery, timing, dir, link),
-        run,
-        band,
-    };
-    let cycles = frame.cycles + cycles_back(frame, run + band);
-    some_pieces(alloc, frame, part, cycles)
+    if !has_band(artery, timing, dir) {
+        return Ok(Vec::new(alloc));
+    }
+    let mut shapes = edge_pieces(alloc, frame, artery, timing, dir, Edge::Leaving, link)?;
+    let entering = edge_pieces(alloc, frame, artery, timing, dir, Edge::Entering, link)?;
+    shapes.extend_from_slice(entering.as_slice())?;
+    Ok(shapes)
 }
 
 /// The pieces of both bands on a link.

@@ -2,15 +2,16 @@
 
 ghost use Rattle.std.specs.Prelude.{◌≡◌, ◌+◌, ◌*◌, ◌<◌, ◌≤◌, ◌^◌, IfOk, pos, ◌+ℤ◌, length, unsigned_abs};
 ghost use Rattle.progression.specs.{Street.{count}, TimingRecord.{cycle, band}};
-ghost use Rattle.diagram_draw.specs.Frames.{IsFrame};
+ghost use Rattle.diagram_draw.specs.{Frames.{IsFrame}, Ways.{has_band}};
 ghost use Rattle.diagram_draw.specs.Bars.{bar_top, block, some_blocks, blocks, first_red, first_window, common_ticks, turn_ticks, common_wait, turn_wait};
-ghost use Rattle.diagram_draw.specs.Bars.{window_paint, ground, windows, common_reds, turn_reds, bar, signal_bars, all_bars, common_part, turn_part};
+ghost use Rattle.diagram_draw.specs.Bars.{window_paint, ground, windows, common_reds, turn_reds, bar, signal_bars, all_bars, window_part, common_part, turn_part};
 
 use crate::frame::{
-    BAR_HEIGHT, Frame, PLOT_WIDTH, above, earlier, later, level, moment_after, x_at,
+    BAR_HEIGHT, Frame, above, earlier, later, level, moment_after, plot_right, x_at,
 };
 use crate::paint::Paint;
 use crate::shape::Shape;
+use crate::ways::has_band;
 use artery_model::{Artery, Dir};
 use narrow_fraction::Memory;
 use std::alloc::{AllocError, Global};
@@ -194,13 +195,13 @@ fn ground(frame: Frame, artery: &Artery, dir: Dir, signal: u32) -> Shape
         paint: Paint::Ground,
         left: i128::from(frame.left),
         top,
-        right: i128::from(frame.left + PLOT_WIDTH),
+        right: i128::from(plot_right(frame)),
         bottom: top + i128::from(BAR_HEIGHT),
     }
 }
 
 /// A moment so many ticks after another.
-fn after(ticks: i128, wait: u128) -> i128
+pub fn after(ticks: i128, wait: u128) -> i128
     requires ticks { unsigned_abs ticks < 2 ^ 98 }
     requires wait { wait < 2 ^ 92 }
     ensures value { result ≡ ticks +ℤ pos wait }
@@ -236,6 +237,31 @@ fn first_turn(frame: Frame, artery: &Artery, timing: &Timing, dir: Dir, signal: 
 }
 
 /// A direction's band at a signal.
+fn some_windows(
+    alloc: Global,
+    frame: Frame,
+    artery: &Artery,
+    timing: &Timing,
+    dir: Dir,
+    signal: u32,
+) -> Result<Vec<Shape>, AllocError>
+    requires frame { IsFrame frame }
+    requires shape { length timing.now.patterns ≡ count artery.now }
+    requires first { 1 ≤ signal }
+    requires last { signal ≤ count artery.now }
+    ensures { IfOk result (λ shapes. shapes.items ≡ blocks frame (window_part frame artery.now timing.now dir signal)) }
+{
+    let top = bar_top(frame, artery, dir, signal);
+    let part = BarPart {
+        paint: window_paint(dir),
+        top,
+        begin: first_window(frame, artery, timing, dir, signal),
+        ticks: timing.band(dir),
+    };
+    blocks(alloc, frame, part)
+}
+
+/// A direction's band at a signal, where it has one.
 fn windows(
     alloc: Global,
     frame: Frame,
@@ -250,14 +276,10 @@ fn windows(
     requires last { signal ≤ count artery.now }
     ensures { IfOk result (λ shapes. shapes.items ≡ windows frame artery.now timing.now dir signal) }
 {
-    let top = bar_top(frame, artery, dir, signal);
-    let part = BarPart {
-        paint: window_paint(dir),
-        top,
-        begin: first_window(frame, artery, timing, dir, signal),
-        ticks: timing.band(dir),
-    };
-    blocks(alloc, frame, part)
+    if !has_band(artery, timing, dir) {
+        return Ok(Vec::new(alloc));
+    }
+    some_windows(alloc, frame, artery, timing, dir, signal)
 }
 
 /// The common reds of a direction at a signal.

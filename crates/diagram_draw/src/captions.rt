@@ -1,34 +1,88 @@
 //! The words of a drawing.
 
-ghost use Rattle.std.specs.{Prelude.{◌≡◌, ◌<◌, ◌≤◌, ◌^◌, ◌++◌, OnOk, pos, ◌≤ℤ◌, length}, Fmt.{decimal}};
-ghost use Rattle.progression.specs.{Street.{count}, Good.{IsBase}};
-ghost use Rattle.diagram_draw.specs.{declared.paint.Letter.TheVariants.{Title, Facts, HeadEnd, Number}, Frames.{IsFrame}};
-ghost use Rattle.diagram_draw.specs.Shapes.{words_opening, words_text, caption_text, captions_text};
-ghost use Rattle.diagram_draw.specs.Captions.{tenths, seconds_text, percent_text, offset_text, title_of, title_text, band_facts, cycle_facts, inbound_facts};
-ghost use Rattle.diagram_draw.specs.Captions.{facts_text, unit_of_length, unit_of_speed, head_level, title_heads, signal_heads, link_heads, cycles_text};
-ghost use Rattle.diagram_draw.specs.Captions.{cycle_number, cycle_numbers, second_number, second_numbers, row_level, name_letter, name_caption, names};
-ghost use Rattle.diagram_draw.specs.Captions.{signal_row, signal_rows, link_level, lengths_text, link_speed_text, link_row, link_rows, red_words, band_words};
-ghost use Rattle.diagram_draw.specs.Captions.{axis_words, note_words, notes, above, beside, below, captions};
+ghost use Rattle.std.specs.{Prelude.{◌≡◌, ◌+◌, ◌*◌, ◌/◌, ◌%◌, ◌<◌, ◌≤◌, ◌^◌, ◌++◌, OnOk, Option, None, Some, option_map, pos, ◌≤ℤ◌, length}, Fmt.{decimal}};
+ghost use Rattle.progression.specs.Street.{count};
+ghost use Rattle.rational_theory.specs.Rational.{over};
+ghost use Rattle.diagram_draw.specs.{declared.paint.Letter.TheVariants.{Facts, HeadEnd, Number}, Frames.{IsFrame}};
+ghost use Rattle.diagram_draw.specs.Shapes.{words_opening, words_text, sized_opening, sized_words_text, sized_text, caption_text, captions_text, sizeds_text};
+ghost use Rattle.diagram_draw.specs.Captions.{tenths_text, hundredths_text, thousandths_text, tenths, hundredths, seconds_text, width_text, percent_text, offset_tenths};
+ghost use Rattle.diagram_draw.specs.Captions.{offset_text, name_of, after_name, title_text, dir_word, width_facts, band_facts, cycle_facts, weighted_facts};
+ghost use Rattle.diagram_draw.specs.Captions.{facts_text, head_room, name_head, title_head, title_heads, heads, facts_head, unit_of_length, unit_of_speed};
+ghost use Rattle.diagram_draw.specs.Captions.{head_level, signal_heads, lengths_head, link_heads, cycles_text};
+ghost use Rattle.diagram_draw.specs.Captions.{cycle_number, cycle_numbers, second_number, second_numbers, row_level, turn_word, turn_text, pattern_text, name_caption, names};
+ghost use Rattle.diagram_draw.specs.Captions.{signal_row, signal_rows, link_level, unlike_lengths, lengths_differ, lengths_text, link_speed_text, link_row, link_rows};
+ghost use Rattle.diagram_draw.specs.Captions.{mark, marks_at, signal_marks, marks, red_words, band_words, axis_words, bar_words, clearances, note_words, queue_notes};
+ghost use Rattle.diagram_draw.specs.Captions.{notes, above, beside, below, captions};
 
 use crate::axes::{cycle_x, second_at, second_x, steps_shown};
 use crate::escape::push_escaped;
-use crate::frame::{Frame, NAME_LEFT, PLOT_TOP, PLOT_WIDTH, level, plot_bottom};
+use crate::frame::{
+    COLUMNS_LEFT, Frame, NAME_LEFT, PLOT_TOP, level, page_width, plot_bottom, plot_right,
+    plot_width,
+};
 use crate::paint::Letter;
-use crate::shape::{push_words_end, push_words_opening};
+use crate::shape::{push_sized_opening, push_words_end, push_words_opening};
+use crate::steps::{has_step, mark_level, step_begin, step_ticks};
+use crate::ways::has_band;
+use crate::width::{NAME_SIZE, SUBTITLE_SIZE, TITLE_SIZE, fitting, text_width};
 use artery_model::{Artery, Dir, Units};
 use narrow_fraction::{Frac, Memory};
 use progression::Text;
-use quantity_text::{push_decimal, push_number, push_text};
-use time_space::{Timing, cycle};
-use timing_measures::{link_speed, offset, quotient, seconds, signal_name};
+use quantity_text::{push_number, push_text};
+use time_space::{Timing, cycle, is_early, value};
+use timing_measures::{
+    Rounded, cycle_seconds, offset, quotient, round_to, seconds, signal_name, some_speed,
+};
 
-/// Writes a number, cut after one decimal place.
+/// Writes a whole number and a digit behind the point.
+fn push_digit(out: &mut Vec<u8>, number: Rounded) -> Result<(), Memory>
+    ensures { OnOk result (out.new.items ≡ out.old.items ++ (decimal number.whole ++ (codes "." ++ decimal number.rest))) }
+{
+    push_number(out, number.whole)?;
+    push_text(out, ".")?;
+    push_number(out, number.rest as u128)
+}
+
+/// Writes two digits.
+fn push_two_digits(out: &mut Vec<u8>, digits: u32) -> Result<(), Memory>
+    ensures { OnOk result (out.new.items ≡ out.old.items ++ (decimal (digits / 10) ++ decimal (digits % 10))) }
+{
+    push_number(out, (digits / 10) as u128)?;
+    push_number(out, (digits % 10) as u128)
+}
+
+/// Writes a number, to the nearest tenth.
 fn push_tenths(out: &mut Vec<u8>, value: Frac) -> Result<(), Memory>
     requires least { pos 0 ≤ℤ value.num }
     requires denominator { value.den ≤ 2 ^ 120 }
     ensures { OnOk result (out.new.items ≡ out.old.items ++ tenths value) }
 {
-    push_decimal(out, value, 1)
+    push_digit(out, round_to(value, 1))
+}
+
+/// Writes a number, to the nearest hundredth.
+fn push_hundredths(out: &mut Vec<u8>, value: Frac) -> Result<(), Memory>
+    requires least { pos 0 ≤ℤ value.num }
+    requires denominator { value.den ≤ 2 ^ 120 }
+    ensures { OnOk result (out.new.items ≡ out.old.items ++ hundredths value) }
+{
+    let number = round_to(value, 2);
+    push_number(out, number.whole)?;
+    push_text(out, ".")?;
+    push_two_digits(out, number.rest)
+}
+
+/// Writes a number, to the nearest thousandth.
+fn push_thousandths(out: &mut Vec<u8>, value: Frac) -> Result<(), Memory>
+    requires least { pos 0 ≤ℤ value.num }
+    requires denominator { value.den ≤ 2 ^ 120 }
+    ensures { OnOk result (out.new.items ≡ out.old.items ++ thousandths_text (nearest value 3)) }
+{
+    let number = round_to(value, 3);
+    push_number(out, number.whole)?;
+    push_text(out, ".")?;
+    push_number(out, (number.rest / 100) as u128)?;
+    push_two_digits(out, number.rest % 100)
 }
 
 /// Writes ticks as seconds.
@@ -39,12 +93,40 @@ fn push_seconds(out: &mut Vec<u8>, timing: &Timing, ticks: u128) -> Result<(), M
     push_tenths(out, seconds(timing, ticks))
 }
 
+/// Writes a width in seconds: what is less than a second, to hundredths.
+fn push_width(out: &mut Vec<u8>, timing: &Timing, ticks: u128) -> Result<(), Memory>
+    requires { ticks < 2 ^ 126 }
+    ensures { OnOk result (out.new.items ≡ out.old.items ++ width_text timing.now ticks) }
+{
+    if timing.grid() <= ticks {
+        push_seconds(out, timing, ticks)
+    } else {
+        push_hundredths(out, seconds(timing, ticks))
+    }
+}
+
 /// Writes a direction's band in hundredths of the cycle.
 fn push_percent(out: &mut Vec<u8>, artery: &Artery, timing: &Timing, dir: Dir) -> Result<(), Memory>
     ensures { OnOk result (out.new.items ≡ out.old.items ++ percent_text artery.now timing.now dir) }
 {
     let share = quotient(100 * timing.band(dir), cycle(artery, timing));
     push_tenths(out, share)
+}
+
+/// The offset of a signal in seconds, to the nearest tenth; one that is rounded to the cycle is 0.
+#[tactic(auto, using(crate::proofs::Rounds::same_tenths))]
+fn rounded_offset(artery: &Artery, timing: &Timing, signal: u32) -> Rounded
+    requires first { 1 ≤ signal }
+    requires last { signal ≤ length timing.now.patterns }
+    ensures whole { result.whole ≡ offset_tenths artery.now timing.now signal / 10 }
+    ensures rest { result.rest ≡ offset_tenths artery.now timing.now signal % 10 }
+{
+    let near = round_to(offset(artery, timing, signal), 1);
+    let whole = round_to(cycle_seconds(artery, timing), 1);
+    if near.whole == whole.whole && near.rest == whole.rest {
+        return Rounded { whole: 0, rest: 0 };
+    }
+    near
 }
 
 /// Writes the offset of a signal.
@@ -58,27 +140,91 @@ pub fn push_offset(
     requires last { signal ≤ length timing.now.patterns }
     ensures { OnOk result (out.new.items ≡ out.old.items ++ offset_text artery.now timing.now signal) }
 {
-    push_tenths(out, offset(artery, timing, signal))
+    push_digit(out, rounded_offset(artery, timing, signal))
 }
 
-/// Writes the name of the street, or what the drawing is.
-fn push_title_of(out: &mut Vec<u8>, name: &Option<Text>) -> Result<(), Memory>
-    ensures { OnOk result (out.new.items ≡ out.old.items ++ title_of name.now) }
+/// The name of the street, or what the drawing is.
+fn name_of(name: &Option<Text>) -> &str
+    ensures { result.now ≡ name_of name.now }
 {
     match name {
-        Some(name) => push_escaped(out, name.as_str().as_bytes()),
-        None => push_text(out, "Time-space diagram"),
+        Some(name) => name.as_str(),
+        None => "Time-space diagram",
     }
 }
 
-/// Writes the title.
-pub fn push_title(out: &mut Vec<u8>, artery: &Artery) -> Result<(), Memory>
-    ensures { OnOk result (out.new.items ≡ out.old.items ++ title_text artery.now) }
+/// The same of an artery.
+fn street_name(artery: &Artery) -> &str
+    ensures { result.now ≡ name_of artery.now.head.name }
 {
-    push_title_of(out, &artery.head().name)
+    name_of(&artery.head().name)
+}
+
+/// Writes the title of the plan after the name of the street, where it has one.
+fn push_after_name(out: &mut Vec<u8>, title: Option<&str>) -> Result<(), Memory>
+    ensures { OnOk result (out.new.items ≡ out.old.items ++ after_name (option_map (λ t. t.now) title)) }
+{
+    match title {
+        Some(title) => {
+            push_text(out, ": ")?;
+            push_escaped(out, title.as_bytes())
+        }
+        None => Ok(()),
+    }
+}
+
+/// Writes the name of the street and the title of the plan.
+pub fn push_title(out: &mut Vec<u8>, artery: &Artery, title: Option<&str>) -> Result<(), Memory>
+    ensures { OnOk result (out.new.items ≡ out.old.items ++ title_text artery.now (option_map (λ t. t.now) title)) }
+{
+    push_escaped(out, street_name(artery).as_bytes())?;
+    push_after_name(out, title)
+}
+
+fn dir_word(dir: Dir) -> &'static str
+    ensures { result.now ≡ dir_word dir }
+{
+    match dir {
+        Dir::Outbound => "outbound",
+        Dir::Inbound => "inbound",
+    }
 }
 
 /// Writes a band in seconds and as a part of the cycle.
+#[tactic(auto, unfolding(crate::specs::Captions::width_facts))]
+fn push_width_facts(
+    out: &mut Vec<u8>,
+    artery: &Artery,
+    timing: &Timing,
+    dir: Dir,
+) -> Result<(), Memory>
+    ensures { OnOk result (out.new.items ≡ out.old.items ++ width_facts artery.now timing.now dir) }
+{
+    push_text(out, " band ")?;
+    push_width(out, timing, timing.band(dir))?;
+    push_text(out, " s = ")?;
+    push_percent(out, artery, timing, dir)?;
+    push_text(out, " % of the cycle")
+}
+
+/// Writes the beginning of what is said of a band that there is.
+fn push_some_band(out: &mut Vec<u8>, dir: Dir) -> Result<(), Memory>
+    ensures { OnOk result (out.new.items ≡ out.old.items ++ (codes " &#183; " ++ dir_word dir)) }
+{
+    push_text(out, " &#183; ")?;
+    push_text(out, dir_word(dir))
+}
+
+/// Writes that there is no band.
+fn push_no_band(out: &mut Vec<u8>, dir: Dir) -> Result<(), Memory>
+    ensures { OnOk result (out.new.items ≡ out.old.items ++ (codes " &#183; no " ++ (dir_word dir ++ codes " band"))) }
+{
+    push_text(out, " &#183; no ")?;
+    push_text(out, dir_word(dir))?;
+    push_text(out, " band")
+}
+
+/// Writes a direction's band, or that it has none.
 #[tactic(auto, unfolding(crate::specs::Captions::band_facts))]
 fn push_band_facts(
     out: &mut Vec<u8>,
@@ -86,41 +232,49 @@ fn push_band_facts(
     timing: &Timing,
     dir: Dir,
 ) -> Result<(), Memory>
+    requires { length timing.now.patterns ≡ count artery.now }
     ensures { OnOk result (out.new.items ≡ out.old.items ++ band_facts artery.now timing.now dir) }
 {
-    push_seconds(out, timing, timing.band(dir))?;
-    push_text(out, " s = ")?;
-    push_percent(out, artery, timing, dir)
+    if !has_band(artery, timing, dir) {
+        return push_no_band(out, dir);
+    }
+    push_some_band(out, dir)?;
+    push_width_facts(out, artery, timing, dir)
 }
 
-/// Writes the cycle, and what stands before the outbound band.
+/// Writes the cycle.
 #[tactic(auto, unfolding(crate::specs::Captions::cycle_facts))]
 fn push_cycle_facts(out: &mut Vec<u8>, artery: &Artery, timing: &Timing) -> Result<(), Memory>
     ensures { OnOk result (out.new.items ≡ out.old.items ++ cycle_facts artery.now timing.now) }
 {
     push_text(out, "cycle ")?;
-    push_seconds(out, timing, cycle(artery, timing))?;
-    push_text(out, " s &#183; outbound band ")
+    push_tenths(out, cycle_seconds(artery, timing))?;
+    push_text(out, " s")
 }
 
-/// Writes the inbound band, and what stands before it.
-#[tactic(auto, unfolding(crate::specs::Captions::inbound_facts))]
-fn push_inbound_facts(out: &mut Vec<u8>, artery: &Artery, timing: &Timing) -> Result<(), Memory>
-    ensures { OnOk result (out.new.items ≡ out.old.items ++ inbound_facts artery.now timing.now) }
+/// Writes the weighted band, where both directions have a band.
+#[tactic(auto, unfolding(crate::specs::Captions::weighted_facts))]
+fn push_weighted_facts(out: &mut Vec<u8>, artery: &Artery, timing: &Timing) -> Result<(), Memory>
+    requires { length timing.now.patterns ≡ count artery.now }
+    ensures { OnOk result (out.new.items ≡ out.old.items ++ weighted_facts artery.now timing.now) }
 {
-    push_text(out, " % of the cycle &#183; inbound band ")?;
-    push_band_facts(out, artery, timing, Dir::Inbound)?;
-    push_text(out, " %")
+    if !has_band(artery, timing, Dir::Outbound) || !has_band(artery, timing, Dir::Inbound) {
+        return Ok(());
+    }
+    push_text(out, " &#183; weighted band ")?;
+    push_thousandths(out, value(artery, timing))
 }
 
-/// Writes the cycle and both bands.
+/// Writes the cycle and the bands.
 #[tactic(auto, unfolding(crate::specs::Captions::facts_text))]
 pub fn push_facts(out: &mut Vec<u8>, artery: &Artery, timing: &Timing) -> Result<(), Memory>
+    requires { length timing.now.patterns ≡ count artery.now }
     ensures { OnOk result (out.new.items ≡ out.old.items ++ facts_text artery.now timing.now) }
 {
     push_cycle_facts(out, artery, timing)?;
     push_band_facts(out, artery, timing, Dir::Outbound)?;
-    push_inbound_facts(out, artery, timing)
+    push_band_facts(out, artery, timing, Dir::Inbound)?;
+    push_weighted_facts(out, artery, timing)
 }
 
 fn unit_of_length(units: Units) -> &'static str
@@ -160,33 +314,102 @@ fn push_words(out: &mut Vec<u8>, letter: Letter, x: u32, y: u32, words: &str) ->
 
 const HEAD_LEVEL: u32 = PLOT_TOP - 90;
 
-/// Writes the title, where it stands.
-#[tactic(auto, unfolding(crate::specs::Shapes::words_text))]
-fn push_title_words(out: &mut Vec<u8>, artery: &Artery) -> Result<(), Memory>
-    ensures { OnOk result (out.new.items ≡ out.old.items ++ words_text Title (pos 220) (pos 480) (title_text artery.now)) }
+/// Writes the beginning of words at a point, in letters of a size.
+fn push_size_opening(
+    out: &mut Vec<u8>,
+    letter: Letter,
+    size: u32,
+    x: u32,
+    y: u32,
+) -> Result<(), Memory>
+    ensures { OnOk result (out.new.items ≡ out.old.items ++ sized_opening letter size (pos x) (pos y)) }
 {
-    push_opening(out, Letter::Title, 220, 480)?;
-    push_title(out, artery)?;
+    push_sized_opening(out, letter, size, i128::from(x), i128::from(y))
+}
+
+/// Writes a text at a point, in letters of a size.
+#[tactic(auto, unfolding(crate::specs::Shapes::sized_words_text))]
+fn push_sized(
+    out: &mut Vec<u8>,
+    letter: Letter,
+    size: u32,
+    x: u32,
+    y: u32,
+    text: &str,
+) -> Result<(), Memory>
+    ensures { OnOk result (out.new.items ≡ out.old.items ++ sized_words_text letter size (pos x) (pos y) (escaped text.now)) }
+{
+    push_size_opening(out, letter, size, x, y)?;
+    push_escaped(out, text.as_bytes())?;
     push_words_end(out)
+}
+
+/// How wide the head may be.
+fn head_room(frame: Frame) -> u32
+    requires { IsFrame frame }
+    ensures { result ≡ head_room frame }
+{
+    page_width(frame) - 440
+}
+
+/// Writes the name of the street, where it stands.
+fn push_name_head(out: &mut Vec<u8>, frame: Frame, artery: &Artery) -> Result<(), Memory>
+    requires { IsFrame frame }
+    ensures { OnOk result (out.new.items ≡ out.old.items ++ sized_text (name_head frame artery.now)) }
+{
+    let name = street_name(artery);
+    let size = fitting(TITLE_SIZE, head_room(frame), text_width(name.as_bytes()));
+    push_sized(out, Letter::Title, size, 220, 480, name)
+}
+
+/// Writes the title of the plan, where it stands.
+fn push_title_head(out: &mut Vec<u8>, frame: Frame, title: &str) -> Result<(), Memory>
+    requires { IsFrame frame }
+    ensures { OnOk result (out.new.items ≡ out.old.items ++ sized_text (title_head frame title.now)) }
+{
+    let size = fitting(
+        SUBTITLE_SIZE,
+        head_room(frame),
+        text_width(title.as_bytes()),
+    );
+    push_sized(out, Letter::Subtitle, size, 220, 800, title)
+}
+
+/// The same where there is one.
+fn push_title_heads(out: &mut Vec<u8>, frame: Frame, title: Option<&str>) -> Result<(), Memory>
+    requires { IsFrame frame }
+    ensures { OnOk result (out.new.items ≡ out.old.items ++ sizeds_text (title_heads frame (option_map (λ t. t.now) title))) }
+{
+    match title {
+        Some(title) => push_title_head(out, frame, title),
+        None => Ok(()),
+    }
+}
+
+/// Writes the name of the street and the title of the plan.
+#[tactic(auto, unfolding(crate::specs::Captions::heads))]
+pub fn push_heads(
+    out: &mut Vec<u8>,
+    frame: Frame,
+    artery: &Artery,
+    title: Option<&str>,
+) -> Result<(), Memory>
+    requires { IsFrame frame }
+    ensures { OnOk result (out.new.items ≡ out.old.items ++ sizeds_text (heads frame artery.now (option_map (λ t. t.now) title))) }
+{
+    push_name_head(out, frame, artery)?;
+    push_title_heads(out, frame, title)
 }
 
 /// Writes what is measured, where it stands.
 #[tactic(auto, unfolding(crate::specs::Shapes::words_text))]
 fn push_facts_words(out: &mut Vec<u8>, artery: &Artery, timing: &Timing) -> Result<(), Memory>
-    ensures { OnOk result (out.new.items ≡ out.old.items ++ words_text Facts (pos 220) (pos 830) (facts_text artery.now timing.now)) }
+    requires { length timing.now.patterns ≡ count artery.now }
+    ensures { OnOk result (out.new.items ≡ out.old.items ++ words_text Facts (pos 220) (pos 1120) (facts_text artery.now timing.now)) }
 {
-    push_opening(out, Letter::Facts, 220, 830)?;
+    push_opening(out, Letter::Facts, 220, 1120)?;
     push_facts(out, artery, timing)?;
     push_words_end(out)
-}
-
-/// Writes the title, and what is measured.
-#[tactic(auto, unfolding(crate::specs::Captions::title_heads))]
-fn push_title_heads(out: &mut Vec<u8>, artery: &Artery, timing: &Timing) -> Result<(), Memory>
-    ensures { OnOk result (out.new.items ≡ out.old.items ++ captions_text (title_heads artery.now timing.now)) }
-{
-    push_title_words(out, artery)?;
-    push_facts_words(out, artery, timing)
 }
 
 /// Writes what stands above the columns of the signals.
@@ -199,9 +422,9 @@ fn push_signal_heads(out: &mut Vec<u8>, frame: Frame) -> Result<(), Memory>
     push_words(
         out,
         Letter::HeadEnd,
-        frame.left - 810,
+        frame.left - 760,
         HEAD_LEVEL,
-        "pattern",
+        "lefts out/in",
     )?;
     push_words(
         out,
@@ -223,20 +446,61 @@ fn push_speed_head(out: &mut Vec<u8>, x: u32, name: &str, units: Units) -> Resul
     push_words_end(out)
 }
 
+/// How many of the first links have two lengths.
+#[tactic(auto, using(crate::proofs::Measures::unlike_up))]
+fn unlike_lengths(artery: &Artery, links: u32) -> u32
+    requires last { links < count artery.now }
+    requires many { links ≤ 24 }
+    ensures value { result ≡ unlike_lengths artery.now links }
+    ensures most { result ≤ links }
+{
+    let mut unlike = 0;
+    for link in 1..links + 1 {
+        unlike += u32::from(
+            artery.distance(Dir::Outbound, link) != artery.distance(Dir::Inbound, link),
+        );
+    }
+    unlike
+}
+
+/// Whether some link has two lengths.
+fn lengths_differ(artery: &Artery) -> bool
+    ensures { result ≡ lengths_differ artery.now }
+{
+    1 <= unlike_lengths(artery, artery.count() - 1)
+}
+
+/// Writes the unit of lengths, and which are shown.
+fn push_lengths_head(out: &mut Vec<u8>, artery: &Artery) -> Result<(), Memory>
+    ensures { OnOk result (out.new.items ≡ out.old.items ++ lengths_head artery.now) }
+{
+    push_text(out, unit_of_length(artery.head().units))?;
+    if lengths_differ(artery) {
+        push_text(out, " out/in")
+    } else {
+        Ok(())
+    }
+}
+
+/// Writes what stands above the column of lengths.
+#[tactic(auto, unfolding(crate::specs::Shapes::words_text))]
+fn push_length_head(out: &mut Vec<u8>, x: u32, artery: &Artery) -> Result<(), Memory>
+    ensures { OnOk result (out.new.items ≡ out.old.items ++ words_text HeadEnd (pos x) head_level (lengths_head artery.now)) }
+{
+    push_opening(out, Letter::HeadEnd, x, HEAD_LEVEL)?;
+    push_lengths_head(out, artery)?;
+    push_words_end(out)
+}
+
 /// Writes what stands above the columns of the links.
 #[tactic(auto, unfolding(crate::specs::Captions::link_heads))]
-fn push_link_heads(out: &mut Vec<u8>, frame: Frame, units: Units) -> Result<(), Memory>
+fn push_link_heads(out: &mut Vec<u8>, frame: Frame, artery: &Artery) -> Result<(), Memory>
     requires { IsFrame frame }
-    ensures { OnOk result (out.new.items ≡ out.old.items ++ captions_text (link_heads frame units)) }
+    ensures { OnOk result (out.new.items ≡ out.old.items ++ captions_text (link_heads frame artery.now)) }
 {
-    let right = frame.left + PLOT_WIDTH;
-    push_words(
-        out,
-        Letter::HeadEnd,
-        right + 880,
-        HEAD_LEVEL,
-        unit_of_length(units),
-    )?;
+    let right = plot_right(frame);
+    let units = artery.head().units;
+    push_length_head(out, right + 880, artery)?;
     push_speed_head(out, right + 1480, "out ", units)?;
     push_speed_head(out, right + 2060, "in ", units)
 }
@@ -317,38 +581,24 @@ fn row_level(frame: Frame, artery: &Artery, signal: u32) -> u32
     level(frame, artery, signal) + 50
 }
 
-fn name_letter(bytes: usize) -> Letter
-    ensures { result ≡ name_letter bytes }
-{
-    if bytes <= 40 {
-        Letter::Name
-    } else if bytes <= 48 {
-        Letter::LongName
-    } else {
-        Letter::LongestName
-    }
-}
-
 /// Writes the name of a signal.
-#[tactic(auto, unfolding(crate::specs::Shapes::words_text))]
 fn push_name(out: &mut Vec<u8>, frame: Frame, artery: &Artery, signal: u32) -> Result<(), Memory>
     requires frame { IsFrame frame }
     requires first { 1 ≤ signal }
     requires last { signal ≤ count artery.now }
-    ensures { OnOk result (out.new.items ≡ out.old.items ++ caption_text (name_caption frame artery.now signal)) }
+    ensures { OnOk result (out.new.items ≡ out.old.items ++ sized_text (name_caption frame artery.now signal)) }
 {
     let name = signal_name(artery, signal);
-    let letter = name_letter(name.len());
+    let room = frame.left - COLUMNS_LEFT;
+    let size = fitting(NAME_SIZE, room, text_width(name.as_bytes()));
     let y = row_level(frame, artery, signal);
-    push_opening(out, letter, NAME_LEFT, y)?;
-    push_escaped(out, name.as_bytes())?;
-    push_words_end(out)
+    push_sized(out, Letter::Name, size, NAME_LEFT, y, name)
 }
 
 /// Writes the names of the signals.
 pub fn push_names(out: &mut Vec<u8>, frame: Frame, artery: &Artery) -> Result<(), Memory>
     requires { IsFrame frame }
-    ensures { OnOk result (out.new.items ≡ out.old.items ++ captions_text (names frame artery.now)) }
+    ensures { OnOk result (out.new.items ≡ out.old.items ++ sizeds_text (names frame artery.now)) }
 {
     for signal in 1..artery.count() + 1 {
         push_name(out, frame, artery, signal)?;
@@ -363,6 +613,89 @@ fn push_number_words(out: &mut Vec<u8>, x: u32, y: u32, number: u32) -> Result<(
 {
     push_opening(out, Letter::Number, x, y)?;
     push_number(out, number as u128)?;
+    push_words_end(out)
+}
+
+/// How a left turn goes.
+fn turn_word(turn: u32, early: bool) -> &'static str
+    ensures { result.now ≡ turn_word turn early }
+{
+    if turn == 0 {
+        "-"
+    } else if early {
+        "lag"
+    } else {
+        "lead"
+    }
+}
+
+/// How the left turn goes that is against a direction.
+fn turn_text(artery: &Artery, timing: &Timing, dir: Dir, signal: u32) -> &'static str
+    requires shape { length timing.now.patterns ≡ count artery.now }
+    requires first { 1 ≤ signal }
+    requires last { signal ≤ count artery.now }
+    ensures { result.now ≡ turn_text artery.now timing.now dir signal }
+{
+    turn_word(
+        artery.left_against(dir, signal),
+        is_early(dir, timing.pattern(signal)),
+    )
+}
+
+/// Writes how both left turns of a signal go.
+fn push_turns(
+    out: &mut Vec<u8>,
+    artery: &Artery,
+    timing: &Timing,
+    signal: u32,
+) -> Result<(), Memory>
+    requires shape { length timing.now.patterns ≡ count artery.now }
+    requires first { 1 ≤ signal }
+    requires last { signal ≤ count artery.now }
+    ensures { OnOk result (out.new.items ≡ out.old.items ++ (turn_text artery.now timing.now Inbound signal ++ (codes "/" ++ turn_text artery.now timing.now Outbound signal))) }
+{
+    push_text(out, turn_text(artery, timing, Dir::Inbound, signal))?;
+    push_text(out, "/")?;
+    push_text(out, turn_text(artery, timing, Dir::Outbound, signal))
+}
+
+/// Writes the pattern of a signal in words.
+fn push_pattern(
+    out: &mut Vec<u8>,
+    artery: &Artery,
+    timing: &Timing,
+    signal: u32,
+) -> Result<(), Memory>
+    requires shape { length timing.now.patterns ≡ count artery.now }
+    requires first { 1 ≤ signal }
+    requires last { signal ≤ count artery.now }
+    ensures { OnOk result (out.new.items ≡ out.old.items ++ pattern_text artery.now timing.now signal) }
+{
+    let inbound = artery.left_against(Dir::Outbound, signal);
+    let outbound = artery.left_against(Dir::Inbound, signal);
+    if inbound == 0 && outbound == 0 {
+        return push_text(out, "-");
+    }
+    push_turns(out, artery, timing, signal)
+}
+
+/// Writes the pattern of a signal at a point.
+#[tactic(auto, unfolding(crate::specs::Shapes::words_text))]
+fn push_pattern_words(
+    out: &mut Vec<u8>,
+    x: u32,
+    y: u32,
+    artery: &Artery,
+    timing: &Timing,
+    signal: u32,
+) -> Result<(), Memory>
+    requires shape { length timing.now.patterns ≡ count artery.now }
+    requires first { 1 ≤ signal }
+    requires last { signal ≤ count artery.now }
+    ensures { OnOk result (out.new.items ≡ out.old.items ++ words_text Number (pos x) (pos y) (pattern_text artery.now timing.now signal)) }
+{
+    push_opening(out, Letter::Number, x, y)?;
+    push_pattern(out, artery, timing, signal)?;
     push_words_end(out)
 }
 
@@ -401,9 +734,8 @@ fn push_signal_row(
     ensures { OnOk result (out.new.items ≡ out.old.items ++ captions_text (signal_row frame artery.now timing.now signal)) }
 {
     let y = row_level(frame, artery, signal);
-    let pattern = timing.pattern(signal);
     push_number_words(out, 330, y, signal)?;
-    push_number_words(out, frame.left - 810, y, pattern)?;
+    push_pattern_words(out, frame.left - 760, y, artery, timing, signal)?;
     push_offset_words(out, frame.left - 170, y, artery, timing, signal)
 }
 
@@ -436,35 +768,36 @@ fn link_level(frame: Frame, artery: &Artery, link: u32) -> u32
     (level(frame, artery, link) + level(frame, artery, link + 1)) / 2 + 50
 }
 
-/// Writes the length of a link, or both where they differ.
-fn push_lengths(out: &mut Vec<u8>, outbound: u32, inbound: u32) -> Result<(), Memory>
-    ensures { OnOk result (out.new.items ≡ out.old.items ++ lengths_text outbound inbound) }
+/// Writes the length of a link, or both.
+fn push_lengths(out: &mut Vec<u8>, both: bool, outbound: u32, inbound: u32) -> Result<(), Memory>
+    ensures { OnOk result (out.new.items ≡ out.old.items ++ lengths_text both outbound inbound) }
 {
     push_number(out, outbound as u128)?;
-    if outbound == inbound {
+    if !both {
         return Ok(());
     }
     push_text(out, "/")?;
     push_number(out, inbound as u128)
 }
 
-/// Writes the length of a link at a point, or both where they differ.
+/// Writes the length of a link at a point, or both.
 #[tactic(auto, unfolding(crate::specs::Shapes::words_text))]
 fn push_lengths_words(
     out: &mut Vec<u8>,
     x: u32,
     y: u32,
+    both: bool,
     outbound: u32,
     inbound: u32,
 ) -> Result<(), Memory>
-    ensures { OnOk result (out.new.items ≡ out.old.items ++ words_text Number (pos x) (pos y) (lengths_text outbound inbound)) }
+    ensures { OnOk result (out.new.items ≡ out.old.items ++ words_text Number (pos x) (pos y) (lengths_text both outbound inbound)) }
 {
     push_opening(out, Letter::Number, x, y)?;
-    push_lengths(out, outbound, inbound)?;
+    push_lengths(out, both, outbound, inbound)?;
     push_words_end(out)
 }
 
-/// Writes the speed in a direction on a link.
+/// Writes the speed in a direction on a link, where its run takes some time.
 fn push_link_speed(
     out: &mut Vec<u8>,
     artery: &Artery,
@@ -472,12 +805,15 @@ fn push_link_speed(
     dir: Dir,
     link: u32,
 ) -> Result<(), Memory>
-    requires base { IsBase artery.now timing.now }
+    requires shape { length timing.now.patterns ≡ count artery.now }
     requires first { 1 ≤ link }
     requires last { link < count artery.now }
     ensures { OnOk result (out.new.items ≡ out.old.items ++ link_speed_text artery.now timing.now dir link) }
 {
-    push_tenths(out, link_speed(artery, timing, dir, link))
+    match some_speed(artery, timing, dir, link) {
+        Some(speed) => push_tenths(out, speed),
+        None => push_text(out, "-"),
+    }
 }
 
 /// Writes the speed in a direction on a link at a point.
@@ -491,7 +827,7 @@ fn push_speed_words(
     dir: Dir,
     link: u32,
 ) -> Result<(), Memory>
-    requires base { IsBase artery.now timing.now }
+    requires shape { length timing.now.patterns ≡ count artery.now }
     requires first { 1 ≤ link }
     requires last { link < count artery.now }
     ensures { OnOk result (out.new.items ≡ out.old.items ++ words_text Number (pos x) (pos y) (link_speed_text artery.now timing.now dir link)) }
@@ -511,16 +847,17 @@ fn push_link_row(
     link: u32,
 ) -> Result<(), Memory>
     requires frame { IsFrame frame }
-    requires base { IsBase artery.now timing.now }
+    requires shape { length timing.now.patterns ≡ count artery.now }
     requires first { 1 ≤ link }
     requires last { link < count artery.now }
     ensures { OnOk result (out.new.items ≡ out.old.items ++ captions_text (link_row frame artery.now timing.now link)) }
 {
     let y = link_level(frame, artery, link);
-    let right = frame.left + PLOT_WIDTH;
+    let right = plot_right(frame);
+    let both = lengths_differ(artery);
     let outbound = artery.distance(Dir::Outbound, link);
     let inbound = artery.distance(Dir::Inbound, link);
-    push_lengths_words(out, right + 880, y, outbound, inbound)?;
+    push_lengths_words(out, right + 880, y, both, outbound, inbound)?;
     push_speed_words(out, right + 1480, y, artery, timing, Dir::Outbound, link)?;
     push_speed_words(out, right + 2060, y, artery, timing, Dir::Inbound, link)
 }
@@ -533,7 +870,7 @@ fn push_link_rows(
     timing: &Timing,
 ) -> Result<(), Memory>
     requires frame { IsFrame frame }
-    requires base { IsBase artery.now timing.now }
+    requires shape { length timing.now.patterns ≡ count artery.now }
     ensures { OnOk result (out.new.items ≡ out.old.items ++ captions_text (link_rows frame artery.now timing.now)) }
 {
     for link in 1..artery.count() {
@@ -590,42 +927,159 @@ fn axis_words() -> &'static str
     "seconds after the start of the common red of signal 1"
 }
 
+fn bar_words() -> &'static str
+    ensures { result.now ≡ bar_words }
+{
+    "on a bar: full colour is the band, white is green beside it"
+}
+
 fn note_words() -> &'static str
     ensures { result.now ≡ note_words }
 {
-    "Where a queue is given time to clear, vehicles reach the signal that long after the band begins there."
+    "Where queues are given time to clear, vehicles trail the band by the sum of the clearances so far; a mark has the seconds at its signal."
 }
 
-/// Writes what explains the axis and the bands.
+/// The clearances at the ends of the first links, in both directions.
+#[tactic(auto, using(crate::proofs::Measures::clearances_up))]
+fn clearances(artery: &Artery, links: u32) -> u32
+    requires last { links < count artery.now }
+    requires many { links ≤ 24 }
+    ensures value { result ≡ clearances artery.now links }
+    ensures most { result ≤ links * 2000000 }
+{
+    let mut parts = 0;
+    for link in 1..links + 1 {
+        parts += artery.clearance(Dir::Outbound, link + 1) + artery.clearance(Dir::Inbound, link);
+    }
+    parts
+}
+
+/// Writes what is said of queues, where some clearance is given.
+fn push_queue_notes(out: &mut Vec<u8>, frame: Frame, artery: &Artery) -> Result<(), Memory>
+    requires { IsFrame frame }
+    ensures { OnOk result (out.new.items ≡ out.old.items ++ captions_text (queue_notes frame artery.now)) }
+{
+    if clearances(artery, artery.count() - 1) == 0 {
+        return Ok(());
+    }
+    let y = plot_bottom(frame) + 1260;
+    push_words(out, Letter::Note, frame.left, y, note_words())
+}
+
+/// Writes what explains the axis and the bars.
 #[tactic(auto, unfolding(crate::specs::Captions::notes))]
 fn push_notes(out: &mut Vec<u8>, frame: Frame) -> Result<(), Memory>
     requires { IsFrame frame }
     ensures { OnOk result (out.new.items ≡ out.old.items ++ captions_text (notes frame)) }
 {
     let bottom = plot_bottom(frame);
+    let middle = frame.left + plot_width(frame) / 2;
+    push_words(out, Letter::Axis, middle, bottom + 420, axis_words())?;
     push_words(
         out,
-        Letter::Axis,
-        frame.left + 4500,
-        bottom + 420,
-        axis_words(),
-    )?;
-    push_words(out, Letter::Note, frame.left, bottom + 1010, note_words())
+        Letter::Key,
+        frame.left + 480,
+        bottom + 1035,
+        bar_words(),
+    )
+}
+
+/// Writes the seconds beside a mark.
+#[tactic(auto, unfolding(crate::specs::Shapes::words_text))]
+fn push_mark(
+    out: &mut Vec<u8>,
+    frame: Frame,
+    artery: &Artery,
+    timing: &Timing,
+    dir: Dir,
+    signal: u32,
+) -> Result<(), Memory>
+    requires frame { IsFrame frame }
+    requires shape { length timing.now.patterns ≡ count artery.now }
+    requires first { 1 ≤ signal }
+    requires last { signal ≤ count artery.now }
+    ensures { OnOk result (out.new.items ≡ out.old.items ++ caption_text (mark frame artery.now timing.now dir signal)) }
+{
+    let x = step_begin(frame, artery, timing, dir, signal);
+    let y = mark_level(frame, artery, dir, signal);
+    push_words_opening(out, Letter::Mark, x, y)?;
+    push_seconds(out, timing, step_ticks(artery, timing, dir, signal))?;
+    push_text(out, " s")?;
+    push_words_end(out)
+}
+
+/// The same where there is a step.
+fn push_marks_at(
+    out: &mut Vec<u8>,
+    frame: Frame,
+    artery: &Artery,
+    timing: &Timing,
+    dir: Dir,
+    signal: u32,
+) -> Result<(), Memory>
+    requires frame { IsFrame frame }
+    requires shape { length timing.now.patterns ≡ count artery.now }
+    requires first { 1 ≤ signal }
+    requires last { signal ≤ count artery.now }
+    ensures { OnOk result (out.new.items ≡ out.old.items ++ captions_text (marks_at frame artery.now timing.now dir signal)) }
+{
+    if !has_step(artery, timing, dir, signal) {
+        return Ok(());
+    }
+    push_mark(out, frame, artery, timing, dir, signal)
+}
+
+/// Writes the seconds beside the marks of a signal.
+#[tactic(auto, unfolding(crate::specs::Captions::signal_marks))]
+fn push_signal_marks(
+    out: &mut Vec<u8>,
+    frame: Frame,
+    artery: &Artery,
+    timing: &Timing,
+    signal: u32,
+) -> Result<(), Memory>
+    requires frame { IsFrame frame }
+    requires shape { length timing.now.patterns ≡ count artery.now }
+    requires first { 1 ≤ signal }
+    requires last { signal ≤ count artery.now }
+    ensures { OnOk result (out.new.items ≡ out.old.items ++ captions_text (signal_marks frame artery.now timing.now signal)) }
+{
+    push_marks_at(out, frame, artery, timing, Dir::Outbound, signal)?;
+    push_marks_at(out, frame, artery, timing, Dir::Inbound, signal)
+}
+
+/// The same of all signals.
+fn push_marks(
+    out: &mut Vec<u8>,
+    frame: Frame,
+    artery: &Artery,
+    timing: &Timing,
+) -> Result<(), Memory>
+    requires frame { IsFrame frame }
+    requires shape { length timing.now.patterns ≡ count artery.now }
+    ensures { OnOk result (out.new.items ≡ out.old.items ++ captions_text (marks frame artery.now timing.now)) }
+{
+    for signal in 1..artery.count() + 1 {
+        push_signal_marks(out, frame, artery, timing, signal)?;
+    }
+    Ok(())
 }
 
 /// Writes the words above the field.
+#[tactic(auto, unfolding(crate::specs::Captions::above))]
 fn push_above(
     out: &mut Vec<u8>,
     frame: Frame,
     artery: &Artery,
     timing: &Timing,
 ) -> Result<(), Memory>
-    requires { IsFrame frame }
+    requires frame { IsFrame frame }
+    requires shape { length timing.now.patterns ≡ count artery.now }
     ensures { OnOk result (out.new.items ≡ out.old.items ++ captions_text (above frame artery.now timing.now)) }
 {
-    push_title_heads(out, artery, timing)?;
+    push_facts_words(out, artery, timing)?;
     push_signal_heads(out, frame)?;
-    push_link_heads(out, frame, artery.head().units)?;
+    push_link_heads(out, frame, artery)?;
     push_cycle_numbers(out, frame)
 }
 
@@ -637,7 +1091,7 @@ fn push_beside(
     timing: &Timing,
 ) -> Result<(), Memory>
     requires frame { IsFrame frame }
-    requires base { IsBase artery.now timing.now }
+    requires shape { length timing.now.patterns ≡ count artery.now }
     ensures { OnOk result (out.new.items ≡ out.old.items ++ captions_text (beside frame artery.now timing.now)) }
 {
     push_signal_rows(out, frame, artery, timing)?;
@@ -645,17 +1099,23 @@ fn push_beside(
 }
 
 /// Writes the words below the field.
-fn push_below(out: &mut Vec<u8>, frame: Frame, timing: &Timing) -> Result<(), Memory>
+fn push_below(
+    out: &mut Vec<u8>,
+    frame: Frame,
+    artery: &Artery,
+    timing: &Timing,
+) -> Result<(), Memory>
     requires { IsFrame frame }
-    ensures { OnOk result (out.new.items ≡ out.old.items ++ captions_text (below frame timing.now)) }
+    ensures { OnOk result (out.new.items ≡ out.old.items ++ captions_text (below frame artery.now timing.now)) }
 {
     push_second_numbers(out, frame, timing)?;
     push_red_words(out, frame)?;
     push_band_words(out, frame)?;
-    push_notes(out, frame)
+    push_notes(out, frame)?;
+    push_queue_notes(out, frame, artery)
 }
 
-/// Writes all words but the names.
+/// Writes all words but those in letters of a size of their own.
 pub fn push_captions(
     out: &mut Vec<u8>,
     frame: Frame,
@@ -663,10 +1123,11 @@ pub fn push_captions(
     timing: &Timing,
 ) -> Result<(), Memory>
     requires frame { IsFrame frame }
-    requires base { IsBase artery.now timing.now }
+    requires shape { length timing.now.patterns ≡ count artery.now }
     ensures { OnOk result (out.new.items ≡ out.old.items ++ captions_text (captions frame artery.now timing.now)) }
 {
     push_above(out, frame, artery, timing)?;
     push_beside(out, frame, artery, timing)?;
-    push_below(out, frame, timing)
+    push_marks(out, frame, artery, timing)?;
+    push_below(out, frame, artery, timing)
 }

@@ -2,15 +2,22 @@
 
 ghost use Rattle.std.specs.{Prelude.{◌≡◌, ◌+◌, ◌-◌, ◌*◌, ◌<◌, ◌≤◌, ◌^◌, pos, ◌*ℤ◌, ◌+ℤ◌, ◌-ℤ◌, length, unsigned_abs}, Int.{int_div_euclid}};
 ghost use Rattle.progression.specs.{Street.{count}, TimingRecord.{cycle}};
-ghost use Rattle.diagram_draw.specs.Frames.{trip, reach, longest_reach, cycles_for, far, shortest, rise_for, span_for, longest_name, name_room, frame_of, x_at, level, plot_bottom, earlier, later, IsFrame};
+ghost use Rattle.diagram_draw.specs.Frames.{trip, reach, longest_reach, cycles_for, far, shortest, rise_for, span_for, widest_name, name_room, frame_of, plot_width, plot_right, x_at, level, plot_bottom, earlier, later, IsFrame};
+ghost use Rattle.diagram_draw.specs.Frames.{page_width, page_height, shown_width, shown_height};
 
+use crate::width::{NAME_SIZE, text_width};
 use artery_model::{Artery, Dir};
 use time_space::{Timing, cycle};
 use timing_measures::signal_name;
 
-/// How wide the field of the diagram is, and where it begins.
-pub const PLOT_WIDTH: u32 = 9000;
+/// How wide the field of the diagram is for up to so many cycles, and how much wider it is for each further one.
+const PLOT_WIDTH: u32 = 9000;
 
+const PLAIN_CYCLES: u32 = 4;
+
+const CYCLE_WIDTH: u32 = 1800;
+
+/// Where the field begins.
 pub const PLOT_TOP: u32 = 1500;
 
 /// What is left free above the last signal and below the first.
@@ -24,6 +31,14 @@ const BOTH_BARS: u32 = 2 * BAR_HEIGHT;
 
 /// Where the names of the signals begin.
 pub const NAME_LEFT: u32 = 430;
+
+/// What stands left of the field beside the names.
+pub const COLUMNS_LEFT: u32 = 1780;
+
+/// The least room for the names, and the most.
+const LEAST_ROOM: u128 = 1092;
+
+const MOST_ROOM: u128 = 4500;
 
 /// The measures that depend on the artery and the timing.
 #[derive(Clone, Copy, Debug, PartialEq, Eq)]
@@ -138,27 +153,30 @@ fn span_for(artery: &Artery) -> u32
     rise_for(far(artery, links), shortest(artery, links)) + BOTH_BARS * links
 }
 
-/// The bytes of the longest of the first names, or 14.
-#[tactic(auto, using(crate::proofs::Measures::longest_up))]
-fn longest_name(artery: &Artery, signals: u32) -> usize
+/// The width of the widest of the first names, in thousandths of the size of its letters.
+#[tactic(auto, using(crate::proofs::Measures::widest_up))]
+fn widest_name(artery: &Artery, signals: u32) -> u128
     requires last { signals ≤ count artery.now }
     requires many { signals ≤ 24 }
-    ensures { result ≡ longest_name artery.now signals }
+    ensures value { result ≡ widest_name artery.now signals }
+    ensures small { result < 2 ^ 80 }
 {
-    let mut longest = 14;
+    let mut widest = 0;
     for signal in 1..signals + 1 {
-        longest = longest.max(signal_name(artery, signal).len());
+        widest = widest.max(text_width(signal_name(artery, signal).as_bytes()));
     }
-    longest
+    widest
 }
 
 /// Room for the names.
-pub fn name_room(artery: &Artery) -> u32
+fn name_room(artery: &Artery) -> u32
     ensures value { result ≡ name_room artery.now }
-    ensures most { result ≤ 3120 }
+    ensures least { 1092 ≤ result }
+    ensures most { result ≤ 4500 }
 {
-    let longest = longest_name(artery, artery.count());
-    78 * longest.min(40) as u32
+    let widest = widest_name(artery, artery.count());
+    let room = widest * u128::from(NAME_SIZE) / 1000 + 1;
+    room.max(LEAST_ROOM).min(MOST_ROOM) as u32
 }
 
 /// The frame of a drawing.
@@ -169,20 +187,40 @@ pub fn frame_of(artery: &Artery, timing: &Timing) -> Frame
 {
     let cycle = cycle(artery, timing);
     Frame {
-        left: name_room(artery) + 1570,
+        left: name_room(artery) + COLUMNS_LEFT,
         cycles: cycles_for(longest_reach(artery, timing), cycle),
         cycle,
         span: span_for(artery),
     }
 }
 
-/// So many ticks in widths of the field.
-fn widths(ticks: i128) -> i128
-    requires { unsigned_abs ticks < 2 ^ 102 }
-    ensures value { result ≡ ticks *ℤ pos 9000 }
-    ensures small { unsigned_abs result < 2 ^ 116 }
+/// How wide the field is.
+pub fn plot_width(frame: Frame) -> u32
+    requires { IsFrame frame }
+    ensures value { result ≡ plot_width frame }
+    ensures least { 9000 ≤ result }
+    ensures most { result ≤ 23400 }
 {
-    ticks * i128::from(PLOT_WIDTH)
+    PLOT_WIDTH + CYCLE_WIDTH * frame.cycles.saturating_sub(PLAIN_CYCLES)
+}
+
+/// Where the field ends at the right.
+pub fn plot_right(frame: Frame) -> u32
+    requires { IsFrame frame }
+    ensures value { result ≡ plot_right frame }
+    ensures most { result ≤ 29680 }
+{
+    frame.left + plot_width(frame)
+}
+
+/// So many ticks in widths of the field.
+fn widths(ticks: i128, width: u32) -> i128
+    requires ticks { unsigned_abs ticks < 2 ^ 102 }
+    requires width { width ≤ 23400 }
+    ensures value { result ≡ ticks *ℤ pos width }
+    ensures small { unsigned_abs result < 2 ^ 117 }
+{
+    ticks * i128::from(width)
 }
 
 /// The ticks of so many cycles.
@@ -198,11 +236,11 @@ pub fn cycles_ticks(frame: Frame, cycles: u32) -> u128
 
 /// How many whole parts so much has.
 fn whole_parts(much: i128, part: u128) -> i128
-    requires much { unsigned_abs much < 2 ^ 116 }
+    requires much { unsigned_abs much < 2 ^ 117 }
     requires some { 1 ≤ part }
     requires part { part < 2 ^ 100 }
     ensures value { result ≡ int_div_euclid much (pos part) }
-    ensures small { unsigned_abs result < 2 ^ 116 }
+    ensures small { unsigned_abs result < 2 ^ 117 }
 {
     much.div_euclid(part as i128)
 }
@@ -214,7 +252,8 @@ pub fn x_at(frame: Frame, ticks: i128) -> i128
     ensures { result ≡ x_at frame ticks }
 {
     let whole = cycles_ticks(frame, frame.cycles);
-    i128::from(frame.left) + whole_parts(widths(ticks), whole)
+    let width = plot_width(frame);
+    i128::from(frame.left) + whole_parts(widths(ticks, width), whole)
 }
 
 /// The level of a signal.
@@ -258,6 +297,56 @@ pub fn plot_bottom(frame: Frame) -> u32
     ensures most { result ≤ 22160 }
 {
     PLOT_TOP + 2 * MARGIN + frame.span
+}
+
+/// How wide and how high the page is.
+pub fn page_width(frame: Frame) -> u32
+    requires { IsFrame frame }
+    ensures value { result ≡ page_width frame }
+    ensures least { 2200 ≤ result }
+    ensures most { result ≤ 31880 }
+{
+    plot_right(frame) + 2200
+}
+
+pub fn page_height(frame: Frame) -> u32
+    requires { IsFrame frame }
+    ensures value { result ≡ page_height frame }
+    ensures least { 1400 ≤ result }
+    ensures most { result ≤ 23560 }
+{
+    plot_bottom(frame) + 1400
+}
+
+/// The sides of a sheet of paper beside its margins, in tenths of a millimetre.
+const SHORT_SIDE: u32 = 1900;
+
+const LONG_SIDE: u32 = 2590;
+
+/// How wide the page is on paper, in tenths of a millimetre.
+pub fn shown_width(frame: Frame) -> u32
+    requires { IsFrame frame }
+    ensures value { result ≡ shown_width frame }
+{
+    let (width, height) = (page_width(frame), page_height(frame));
+    if height <= width {
+        LONG_SIDE.min(SHORT_SIDE * width / height)
+    } else {
+        SHORT_SIDE.min(LONG_SIDE * width / height)
+    }
+}
+
+/// And how high it is.
+pub fn shown_height(frame: Frame) -> u32
+    requires { IsFrame frame }
+    ensures value { result ≡ shown_height frame }
+{
+    let (width, height) = (page_width(frame), page_height(frame));
+    if height <= width {
+        SHORT_SIDE.min(LONG_SIDE * height / width)
+    } else {
+        LONG_SIDE.min(SHORT_SIDE * height / width)
+    }
 }
 
 /// A moment so many cycles earlier.

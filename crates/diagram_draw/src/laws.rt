@@ -1,7 +1,8 @@
 //! What the drawing says of the model.
 
-ghost use Rattle.diagram_draw.specs.Escapes.{EscapedIsPlain};
-ghost use Rattle.diagram_draw.specs.Laws.{PlacesAscend, RedsHaveTwoParts, BandsMissReds, RedsAreShown, PiecesMeetWindows, SignalsRise, PiecesJoinBars, PiecesMissBars, FieldIsExact, RedsAreReds};
+ghost use Rattle.diagram_draw.specs.{Escapes.{EscapedIsPlain}, Ways.{BandsAreGreenWays}};
+ghost use Rattle.diagram_draw.specs.Laws.{PlacesAscend, RedsHaveTwoParts, BandsMissReds, RedsAreShown, PiecesMeetWindows, BandsAreShown, PiecesAreSeen, PiecesAreOnce};
+ghost use Rattle.diagram_draw.specs.Laws.{SignalsRise, PiecesJoinBars, PiecesMissBars, FieldIsExact, RedsAreReds};
 
 /// The law that a later moment never stands further to the left.
 pub fn law_places_ascend()
@@ -13,7 +14,12 @@ pub fn law_reds_have_two_parts()
     ensures { RedsHaveTwoParts }
 {}
 
-/// The law that the band of a good timing is drawn over no red of its own direction, in whatever cycles the two are.
+/// The law that a direction has a band exactly where every line of it crosses every signal in green.
+pub fn law_bands_are_green_ways()
+    ensures { BandsAreGreenWays }
+{}
+
+/// The law that a direction's band is drawn over no red of the direction, in whatever cycles the two are.
 pub fn law_bands_miss_reds()
     ensures { BandsMissReds }
 {}
@@ -26,6 +32,21 @@ pub fn law_reds_are_shown()
 /// The law that a band reaches the next signal a run later than it left, and begins there earlier by the clearance.
 pub fn law_pieces_meet_windows()
     ensures { PiecesMeetWindows }
+{}
+
+/// The law that a direction's band leaves or enters a link at a moment that is shown exactly where a piece that is drawn does.
+pub fn law_bands_are_shown()
+    ensures { BandsAreShown }
+{}
+
+/// The law that of each piece that is drawn one end is within the time that is shown.
+pub fn law_pieces_are_seen()
+    ensures { PiecesAreSeen }
+{}
+
+/// The law that no piece is drawn twice.
+pub fn law_pieces_are_once()
+    ensures { PiecesAreOnce }
 {}
 
 /// The law that a later signal stands above an earlier one, by its bars at least for each link.

@@ -15,11 +15,15 @@ mod laws;
 mod page;
 mod paint;
 mod shape;
+mod steps;
 mod style;
+mod ways;
+mod width;
 
 pub use frame::Frame;
 pub use laws::{
-    law_bands_miss_reds, law_escaped_is_plain, law_field_is_exact, law_pieces_join_bars,
+    law_bands_are_green_ways, law_bands_are_shown, law_bands_miss_reds, law_escaped_is_plain,
+    law_field_is_exact, law_pieces_are_once, law_pieces_are_seen, law_pieces_join_bars,
     law_pieces_meet_windows, law_pieces_miss_bars, law_places_ascend, law_reds_are_reds,
     law_reds_are_shown, law_reds_have_two_parts, law_signals_rise,
 };

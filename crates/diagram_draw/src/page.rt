@@ -1,20 +1,24 @@
 //! The whole drawing, and its text.
 
-ghost use Rattle.std.specs.{Prelude.{◌≡◌, ◌+◌, ◌≤◌, ◌++◌, codes, IfOk, OnOk, pos, length}, Fmt.{decimal}};
-ghost use Rattle.progression.specs.{Street.{count}, Good.{IsBase}};
-ghost use Rattle.diagram_draw.specs.{declared.shape.Shape.TheVariants.{Rect}, Shapes.{shapes_text}, Frames.{IsFrame}, Axes.{back}};
-ghost use Rattle.diagram_draw.specs.{Captions.{title_text, names}, Pages.{names_part, head_text, body_text, tail_text, svg_text}};
+ghost use Rattle.std.specs.{Prelude.{◌≡◌, ◌+◌, ◌/◌, ◌%◌, ◌≤◌, ◌++◌, codes, IfOk, OnOk, option_map, pos, length}, Fmt.{decimal}};
+ghost use Rattle.progression.specs.Street.{count};
+ghost use Rattle.diagram_draw.specs.{declared.shape.Shape.TheVariants.{Rect}, Shapes.{shapes_text}, Frames.{IsFrame}, Axes.{back}, Steps.{steps}};
+ghost use Rattle.diagram_draw.specs.{Captions.{title_text}, Pages.{head_text, body_text, tail_text, svg_text}};
 ghost use Rattle.diagram_draw.specs.Pages.{key_bar, key_piece, key_shapes, signal_about, signals_about, about_text, field_shapes, drawn, drawing};
-ghost use Rattle.diagram_draw.specs.Pages.{plot_clip, names_clip, clips_text, svg_opening, title_part, about_part, opening_text, definitions_text, field_part};
+ghost use Rattle.diagram_draw.specs.Pages.{plot_clip, paper_text, size_text, box_text, svg_opening, title_part, about_part, opening_text, definitions_text, field_part};
 
 use crate::axes::back;
 use crate::bands::all_pieces;
 use crate::bars::all_bars;
-use crate::captions::{push_captions, push_facts, push_names, push_offset, push_title};
+use crate::captions::{push_captions, push_facts, push_heads, push_names, push_offset, push_title};
 use crate::escape::push_escaped;
-use crate::frame::{BAR_HEIGHT, Frame, PLOT_WIDTH, frame_of, name_room, plot_bottom};
+use crate::frame::{
+    BAR_HEIGHT, Frame, frame_of, page_height, page_width, plot_bottom, plot_width, shown_height,
+    shown_width,
+};
 use crate::paint::Paint;
 use crate::shape::{Shape, Side, push_shapes};
+use crate::steps::steps;
 use crate::style::{push_style, tile_text};
 use artery_model::Artery;
 use narrow_fraction::Memory;
@@ -38,13 +42,19 @@ fn key_block(paint: Paint, left: u32, right: u32, top: u32) -> Shape
 }
 
 /// A sample of a bar.
-fn key_bar(alloc: Global, frame: Frame, x: u32, paint: Paint) -> Result<Vec<Shape>, Memory>
+fn key_bar(
+    alloc: Global,
+    frame: Frame,
+    x: u32,
+    top: u32,
+    paint: Paint,
+) -> Result<Vec<Shape>, Memory>
     requires frame { IsFrame frame }
     requires x { x ≤ 9000 }
-    ensures { IfOk result (λ shapes. shapes.items ≡ key_bar frame x paint) }
+    requires top { top ≤ 30000 }
+    ensures { IfOk result (λ shapes. shapes.items ≡ key_bar frame x top paint) }
 {
     let left = frame.left + x;
-    let top = plot_bottom(frame) + 700;
     let mut shapes = Vec::new(alloc);
     shapes.push(key_block(Paint::Ground, left, left + 400, top))?;
     shapes.push(key_block(paint, left + 60, left + 340, top))?;
@@ -79,10 +89,13 @@ fn key_shapes(alloc: Global, frame: Frame) -> Result<Vec<Shape>, Memory>
     requires { IsFrame frame }
     ensures { IfOk result (λ shapes. shapes.items ≡ key_shapes frame) }
 {
-    let top = plot_bottom(frame) + 700;
-    let mut shapes = key_bar(alloc, frame, 0, Paint::CommonRed)?;
-    let turn = key_bar(alloc, frame, 1500, Paint::TurnRed)?;
+    let bottom = plot_bottom(frame);
+    let top = bottom + 700;
+    let mut shapes = key_bar(alloc, frame, 0, top, Paint::CommonRed)?;
+    let turn = key_bar(alloc, frame, 1500, top, Paint::TurnRed)?;
+    let green = key_bar(alloc, frame, 0, bottom + 950, Paint::OutWindow)?;
     shapes.extend_from_slice(turn.as_slice())?;
+    shapes.extend_from_slice(green.as_slice())?;
     shapes.push(key_piece(frame, 4100, Paint::OutBand, top + 170, top - 80))?;
     shapes.push(key_piece(frame, 6500, Paint::InBand, top - 80, top + 170))?;
     Ok(shapes)
@@ -161,38 +174,50 @@ fn push_plot_clip(out: &mut Vec<u8>, frame: Frame) -> Result<(), Memory>
     requires { IsFrame frame }
     ensures { OnOk result (out.new.items ≡ out.old.items ++ plot_clip frame) }
 {
+    let width = plot_width(frame);
     let height = frame.span + 520;
     push_text(out, "<clipPath id=\"plot\"><rect x=\"")?;
     push_number(out, frame.left as u128)?;
-    push_text(out, "\" y=\"1500\" width=\"9000\" height=\"")?;
-    push_number(out, height as u128)?;
-    push_text(out, "\"/></clipPath>\n")
-}
-
-/// Writes through which the names are seen.
-#[tactic(auto, unfolding(crate::specs::Pages::names_clip))]
-fn push_names_clip(out: &mut Vec<u8>, frame: Frame, room: u32) -> Result<(), Memory>
-    requires { IsFrame frame }
-    ensures { OnOk result (out.new.items ≡ out.old.items ++ names_clip frame room) }
-{
-    let height = frame.span + 520;
-    push_text(
-        out,
-        "<clipPath id=\"names\"><rect x=\"430\" y=\"1500\" width=\"",
-    )?;
-    push_number(out, room as u128)?;
+    push_text(out, "\" y=\"1500\" width=\"")?;
+    push_number(out, width as u128)?;
     push_text(out, "\" height=\"")?;
     push_number(out, height as u128)?;
     push_text(out, "\"/></clipPath>\n")
 }
 
-/// Writes through which the field and the names are seen.
-fn push_clips(out: &mut Vec<u8>, frame: Frame, room: u32) -> Result<(), Memory>
-    requires { IsFrame frame }
-    ensures { OnOk result (out.new.items ≡ out.old.items ++ clips_text frame room) }
+/// Writes tenths of a millimetre.
+fn push_paper(out: &mut Vec<u8>, tenths: u32) -> Result<(), Memory>
+    ensures { OnOk result (out.new.items ≡ out.old.items ++ paper_text tenths) }
 {
-    push_plot_clip(out, frame)?;
-    push_names_clip(out, frame, room)
+    push_number(out, (tenths / 10) as u128)?;
+    push_text(out, ".")?;
+    push_number(out, (tenths % 10) as u128)?;
+    push_text(out, "mm\"")
+}
+
+/// Writes the size of the page on paper.
+#[tactic(auto, unfolding(crate::specs::Pages::size_text))]
+fn push_size(out: &mut Vec<u8>, frame: Frame) -> Result<(), Memory>
+    requires { IsFrame frame }
+    ensures { OnOk result (out.new.items ≡ out.old.items ++ size_text frame) }
+{
+    push_text(out, " width=\"")?;
+    push_paper(out, shown_width(frame))?;
+    push_text(out, " height=\"")?;
+    push_paper(out, shown_height(frame))
+}
+
+/// Writes the sides of the page in tenths of a pixel.
+#[tactic(auto, unfolding(crate::specs::Pages::box_text))]
+fn push_box(out: &mut Vec<u8>, frame: Frame) -> Result<(), Memory>
+    requires { IsFrame frame }
+    ensures { OnOk result (out.new.items ≡ out.old.items ++ box_text frame) }
+{
+    push_text(out, " viewBox=\"0 0 ")?;
+    push_number(out, page_width(frame) as u128)?;
+    push_text(out, " ")?;
+    push_number(out, page_height(frame) as u128)?;
+    push_text(out, "\"")
 }
 
 /// Writes the beginning of the document.
@@ -201,25 +226,19 @@ fn push_svg_opening(out: &mut Vec<u8>, frame: Frame) -> Result<(), Memory>
     requires { IsFrame frame }
     ensures { OnOk result (out.new.items ≡ out.old.items ++ svg_opening frame) }
 {
-    let width = frame.left + PLOT_WIDTH + 2200;
-    let height = plot_bottom(frame) + 1200;
-    push_text(
-        out,
-        "<svg xmlns=\"http://www.w3.org/2000/svg\" viewBox=\"0 0 ",
-    )?;
-    push_number(out, width as u128)?;
-    push_text(out, " ")?;
-    push_number(out, height as u128)?;
-    push_text(out, "\" role=\"img\" aria-labelledby=\"title desc\">\n")
+    push_text(out, "<svg xmlns=\"http://www.w3.org/2000/svg\"")?;
+    push_size(out, frame)?;
+    push_box(out, frame)?;
+    push_text(out, " role=\"img\" aria-labelledby=\"title desc\">\n")
 }
 
 /// Writes the title of the document.
 #[tactic(auto, unfolding(crate::specs::Pages::title_part))]
-fn push_title_part(out: &mut Vec<u8>, artery: &Artery) -> Result<(), Memory>
-    ensures { OnOk result (out.new.items ≡ out.old.items ++ title_part (title_text artery.now)) }
+fn push_title_part(out: &mut Vec<u8>, artery: &Artery, title: Option<&str>) -> Result<(), Memory>
+    ensures { OnOk result (out.new.items ≡ out.old.items ++ title_part (title_text artery.now (option_map (λ t. t.now) title))) }
 {
     push_text(out, "<title id=\"title\">")?;
-    push_title(out, artery)?;
+    push_title(out, artery, title)?;
     push_text(out, "</title>\n")
 }
 
@@ -240,25 +259,26 @@ fn push_opening(
     frame: Frame,
     artery: &Artery,
     timing: &Timing,
+    title: Option<&str>,
 ) -> Result<(), Memory>
     requires frame { IsFrame frame }
     requires shape { length timing.now.patterns ≡ count artery.now }
-    ensures { OnOk result (out.new.items ≡ out.old.items ++ opening_text (drawn frame artery.now timing.now)) }
+    ensures { OnOk result (out.new.items ≡ out.old.items ++ opening_text (drawn frame artery.now timing.now (option_map (λ t. t.now) title))) }
 {
     push_svg_opening(out, frame)?;
-    push_title_part(out, artery)?;
+    push_title_part(out, artery, title)?;
     push_about_part(out, artery, timing)
 }
 
 /// Writes what the shapes refer to.
 #[tactic(auto, unfolding(crate::specs::Pages::definitions_text))]
-fn push_definitions(out: &mut Vec<u8>, frame: Frame, room: u32) -> Result<(), Memory>
+fn push_definitions(out: &mut Vec<u8>, frame: Frame) -> Result<(), Memory>
     requires { IsFrame frame }
-    ensures { OnOk result (out.new.items ≡ out.old.items ++ definitions_text frame room) }
+    ensures { OnOk result (out.new.items ≡ out.old.items ++ definitions_text frame) }
 {
     push_text(out, "<defs>\n")?;
     push_text(out, tile_text())?;
-    push_clips(out, frame, room)?;
+    push_plot_clip(out, frame)?;
     push_text(out, "</defs>\n")
 }
 
@@ -269,14 +289,15 @@ fn push_head(
     frame: Frame,
     artery: &Artery,
     timing: &Timing,
+    title: Option<&str>,
 ) -> Result<(), Memory>
     requires frame { IsFrame frame }
     requires shape { length timing.now.patterns ≡ count artery.now }
-    ensures { OnOk result (out.new.items ≡ out.old.items ++ head_text (drawn frame artery.now timing.now)) }
+    ensures { OnOk result (out.new.items ≡ out.old.items ++ head_text (drawn frame artery.now timing.now (option_map (λ t. t.now) title))) }
 {
-    push_opening(out, frame, artery, timing)?;
+    push_opening(out, frame, artery, timing, title)?;
     push_style(out)?;
-    push_definitions(out, frame, name_room(artery))
+    push_definitions(out, frame)
 }
 
 /// Writes what stands behind.
@@ -320,15 +341,20 @@ fn push_field(
     push_field_part(out, shapes.as_slice())
 }
 
-/// Writes the part of the document with the names.
-#[tactic(auto, unfolding(crate::specs::Pages::names_part))]
-fn push_names_part(out: &mut Vec<u8>, frame: Frame, artery: &Artery) -> Result<(), Memory>
-    requires { IsFrame frame }
-    ensures { OnOk result (out.new.items ≡ out.old.items ++ names_part (names frame artery.now)) }
+/// Writes where lines step, seen through the field.
+fn push_steps(
+    out: &mut Vec<u8>,
+    frame: Frame,
+    artery: &Artery,
+    timing: &Timing,
+) -> Result<(), Memory>
+    requires frame { IsFrame frame }
+    requires shape { length timing.now.patterns ≡ count artery.now }
+    ensures { OnOk result (out.new.items ≡ out.old.items ++ field_part (steps frame artery.now timing.now)) }
 {
-    push_text(out, "<g clip-path=\"url(#names)\">\n")?;
-    push_names(out, frame, artery)?;
-    push_text(out, "</g>\n")
+    let alloc = *out.allocator();
+    let shapes = steps(alloc, frame, artery, timing)?;
+    push_field_part(out, shapes.as_slice())
 }
 
 /// Writes what is behind the words.
@@ -341,11 +367,11 @@ fn push_body(
 ) -> Result<(), Memory>
     requires frame { IsFrame frame }
     requires shape { length timing.now.patterns ≡ count artery.now }
-    ensures { OnOk result (out.new.items ≡ out.old.items ++ body_text (drawn frame artery.now timing.now)) }
+    ensures { OnOk result (out.new.items ≡ out.old.items ++ body_text (back frame artery.now timing.now) (field_shapes frame artery.now timing.now) (steps frame artery.now timing.now)) }
 {
     push_back(out, frame, artery, timing)?;
     push_field(out, frame, artery, timing)?;
-    push_names_part(out, frame, artery)
+    push_steps(out, frame, artery, timing)
 }
 
 /// Writes the shapes that explain the others.
@@ -365,12 +391,15 @@ fn push_tail(
     frame: Frame,
     artery: &Artery,
     timing: &Timing,
+    title: Option<&str>,
 ) -> Result<(), Memory>
     requires frame { IsFrame frame }
-    requires base { IsBase artery.now timing.now }
-    ensures { OnOk result (out.new.items ≡ out.old.items ++ tail_text (drawn frame artery.now timing.now)) }
+    requires shape { length timing.now.patterns ≡ count artery.now }
+    ensures { OnOk result (out.new.items ≡ out.old.items ++ tail_text (drawn frame artery.now timing.now (option_map (λ t. t.now) title))) }
 {
     push_keys(out, frame)?;
+    push_heads(out, frame, artery, title)?;
+    push_names(out, frame, artery)?;
     push_captions(out, frame, artery, timing)?;
     push_text(out, "</svg>\n")
 }
@@ -381,25 +410,31 @@ fn push_drawn(
     frame: Frame,
     artery: &Artery,
     timing: &Timing,
+    title: Option<&str>,
 ) -> Result<(), Memory>
     requires frame { IsFrame frame }
-    requires base { IsBase artery.now timing.now }
-    ensures { OnOk result (out.new.items ≡ out.old.items ++ svg_text (drawn frame artery.now timing.now)) }
+    requires shape { length timing.now.patterns ≡ count artery.now }
+    ensures { OnOk result (out.new.items ≡ out.old.items ++ svg_text (drawn frame artery.now timing.now (option_map (λ t. t.now) title))) }
 {
-    push_head(out, frame, artery, timing)?;
+    push_head(out, frame, artery, timing, title)?;
     push_body(out, frame, artery, timing)?;
-    push_tail(out, frame, artery, timing)
+    push_tail(out, frame, artery, timing, title)
 }
 
-/// The time-space diagram of a timing as an SVG document: time to the right, in two to twelve cycles, and distance upwards, to scale;
-/// at each signal the outbound bar and over it the inbound one, with their reds, and between the signals both bands. The timing keeps
-/// the rules that don't speak of bands. The error is want of memory.
-pub fn draw(alloc: Global, artery: &Artery, timing: &Timing) -> Result<Vec<u8>, Memory>
-    requires { IsBase artery.now timing.now }
-    ensures { IfOk result (λ text. text.items ≡ svg_text (drawing artery.now timing.now)) }
+/// The time-space diagram of a timing as an SVG document, with a title of the plan below the name of the street where one is given: time to
+/// the right, in two to twelve cycles, and distance upwards, to scale; at each signal the outbound bar and over it the inbound one, with
+/// their reds, and between the signals the band of each direction that has one. The error is want of memory.
+pub fn draw(
+    alloc: Global,
+    artery: &Artery,
+    timing: &Timing,
+    title: Option<&str>,
+) -> Result<Vec<u8>, Memory>
+    requires { length timing.now.patterns ≡ count artery.now }
+    ensures { IfOk result (λ text. text.items ≡ svg_text (drawing artery.now timing.now (option_map (λ t. t.now) title))) }
 {
     let frame = frame_of(artery, timing);
     let mut text = Vec::new(alloc);
-    push_drawn(&mut text, frame, artery, timing)?;
+    push_drawn(&mut text, frame, artery, timing, title)?;
     Ok(text)
 }

@@ -90,11 +90,11 @@ typed_reached a p c l bytes (inl h) = writes_reached a h.timing c l bytes h.find
 typed_reached a p c l bytes (inr (inl h)) = subst (λ (d : Cause). IsReached d) (sym h.cause_is) tt
 typed_reached a p c l bytes (inr (inr h)) = subst (λ (d : Cause). IsReached d) (sym h.cause_is) tt
 
-draw_reached : (a : Street) (o : Option TimingRecord) (c : Cause) (l : List ℕ) (bytes : Option (List ℕ)) → DrawFinds a o c l bytes → IsReached c
-draw_reached a None c l bytes h = subst (λ (d : Cause). IsReached d) (sym h.0) tt
-draw_reached a (Some t) cause.Done l bytes h = tt
-draw_reached a (Some t) (cause.Fails f) l bytes h = tt
-draw_reached a (Some t) c l bytes h = absurd h
+draw_reached : (a : Street) (o : Option TimingRecord) (title : Option (List ℕ)) (c : Cause) (l : List ℕ) (bytes : Option (List ℕ)) → DrawFinds a o title c l bytes → IsReached c
+draw_reached a None title c l bytes h = subst (λ (d : Cause). IsReached d) (sym h.0) tt
+draw_reached a (Some t) title cause.Done l bytes h = tt
+draw_reached a (Some t) title (cause.Fails f) l bytes h = tt
+draw_reached a (Some t) title c l bytes h = absurd h
 
 pub finds_reached : (asked : Option Request) (v : Values (shape asked).inputs) (c : Cause) (l : List ℕ) (bytes : Option (List ℕ)) → Finds asked v c l bytes → IsReached c
 finds_reached None v c l bytes h = subst (λ (d : Cause). IsReached d) (sym h.0) tt
@@ -110,7 +110,7 @@ finds_reached (Some (Round artery certificate plan)) v c l bytes h = round_reach
 finds_reached (Some (RoundFrom artery certificate other plan)) v c l bytes h = from_reached v.0 v.1.0 v.1.1.0 c l bytes h
 finds_reached (Some (Half artery timing new)) v c l bytes h = half_reached v.0 v.1.0 c l bytes h
 finds_reached (Some (TimingOf artery plan timing)) v c l bytes h = typed_reached v.0 v.1.0 c l bytes h
-finds_reached (Some (Draw artery timed drawing)) v c l bytes h = draw_reached v.0 v.1.0 c l bytes h
+finds_reached (Some (Draw artery timed drawing title)) v c l bytes h = draw_reached v.0 v.1.0 title c l bytes h
 finds_reached (Some Help) v c l bytes h = subst (λ (d : Cause). IsReached d) (sym h.0) tt
 finds_reached (Some Version) v c l bytes h = subst (λ (d : Cause). IsReached d) (sym h.0) tt
 finds_reached (Some (Make signals seed)) v c l bytes h = show_reached (made_street signals seed) c l h

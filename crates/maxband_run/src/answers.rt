@@ -221,12 +221,13 @@ fn draw_answer<'a, F: Files>(
     artery: &'a str,
     file: &'a str,
     drawing: &'a str,
+    title: Option<&'a str>,
 ) -> Result<Answer<'a>, Unread>
-    ensures answered { IsAnswered F.Files files.old files.new (Some (Draw artery.now file.now drawing.now)) (ended result) }
+    ensures answered { IsAnswered F.Files files.old files.new (Some (Draw artery.now file.now drawing.now (option_map (λ word. word.now) title))) (ended result) }
     ensures kept { LeavesFiles F.Files files.old files.new }
 {
     let (street, timed) = read_both(alloc, files, artery, file)?;
-    Ok(draw_timing(alloc, &street, &timed, drawing)?)
+    Ok(draw_timing(alloc, &street, &timed, title, drawing)?)
 }
 
 /// The answer of `sweep`, or why a file that it takes isn't read.
@@ -307,8 +308,8 @@ fn found<'a, F: Files>(
         Some(Command::TimingOf(artery, file, timing)) => timing_answer(
             alloc, files, artery, file, timing,
         ),
-        Some(Command::Draw(artery, file, drawing)) => draw_answer(
-            alloc, files, artery, file, drawing,
+        Some(Command::Draw(artery, file, drawing, title)) => draw_answer(
+            alloc, files, artery, file, drawing, title,
         ),
         Some(Command::Help) => Ok(help(alloc)?),
         Some(Command::Version) => Ok(version(alloc)?),

@@ -13,7 +13,7 @@ usage_line usage.Round = codes "maxband round ARTERY CERT PLAN                pu
 usage_line usage.RoundFrom = codes "maxband round-from ARTERY CERT OTHER PLAN     put such a plan of another timing, held against a certificate\n"
 usage_line usage.Half = codes "maxband half ARTERY TIMING NEW                put the half-cycle plan with the widest equal bands\n"
 usage_line usage.TimingOf = codes "maxband timing ARTERY PLAN TIMING             put the timing of a plan typed in seconds\n"
-usage_line usage.Draw = codes "maxband draw ARTERY FILE SVG                  put a picture of the timing of a timing or certificate\n"
+usage_line usage.Draw = codes "maxband draw ARTERY FILE SVG [TITLE]          put a picture of the timing of a timing or certificate\n"
 usage_line usage.Renew = codes "maxband renew CERT NEW                        put a certificate in the second format\n"
 usage_line usage.Links = codes "maxband links ARTERY CERT [WORK]              search for best bands of each link, and put their certificate\n"
 usage_line usage.CheckLinks = codes "maxband check-links ARTERY CERT               check what a certificate of links claims\n"
@@ -65,7 +65,7 @@ usage_of (request.Make signals seed) = usage.Make
 usage_of (request.Trial signals seed limit) = usage.Trial
 usage_of (request.Sweep artery table limit cycles) = usage.Sweep
 usage_of (request.TimingOf artery plan timing) = usage.TimingOf
-usage_of (request.Draw artery timed drawing) = usage.Draw
+usage_of (request.Draw artery timed drawing title) = usage.Draw
 usage_of request.Help = usage.Help
 usage_of request.Version = usage.Version
 

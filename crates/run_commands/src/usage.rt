@@ -74,7 +74,7 @@ fn usage_line(usage: Usage) -> &'static str
         Usage::TimingOf =>
             "maxband timing ARTERY PLAN TIMING             put the timing of a plan typed in seconds\n",
         Usage::Draw =>
-            "maxband draw ARTERY FILE SVG                  put a picture of the timing of a timing or certificate\n",
+            "maxband draw ARTERY FILE SVG [TITLE]          put a picture of the timing of a timing or certificate\n",
         Usage::Renew =>
             "maxband renew CERT NEW                        put a certificate in the second format\n",
         Usage::Links =>

@@ -3,8 +3,9 @@ use Rattle.std.proofs.Common.{◌≡◌, ℕ, ◌-◌, ◌^◌, ◌<◌, ◌≤�
 use Rattle.std.specs.Prelude.{option_map, option_and_then, if◌then◌else◌}
 use Rattle.std.specs.Str.{bytes_eq}
 use Rattle.work_meter.specs.Work.{IsBelow}
+use Rattle.artery_model.specs.Limits.{is_name}
 use Rattle.run_inputs.specs.Numbers.{usual_work, number_within, signals_of, seed_of, limit_of}
-use Rattle.run_inputs.specs.Command.{Request, Solve, Links, Make, Trial, Sweep, Usage, round_from_of, asked, no_more, one_more, two_more, three_more, any_more, request_of, InLimits}
+use Rattle.run_inputs.specs.Command.{Request, Solve, Links, Draw, Make, Trial, Sweep, Usage, round_from_of, draw_of, asked, no_more, one_more, two_more, three_more, any_more, request_of, InLimits}
 use Rattle.run_inputs.specs.Cycles.{are_cycles, SpellCycles}
 use Rattle.run_inputs.proofs.Spelled.{in_limits}
 use Rattle.run_inputs.proofs.Cycling.{cycles_spelled}
@@ -59,6 +60,15 @@ from_limits artery certificate other [] = tt
 from_limits artery certificate other (plan ∷ []) = tt
 from_limits artery certificate other (plan ∷ next ∷ more) = tt
 
+titled_limits : (artery timed drawing title : List ℕ) (b : Bool) → is_name title ≡ b → InLimits (if b then Some (Draw artery timed drawing (Some title)) else None)
+titled_limits artery timed drawing title true e = e
+titled_limits artery timed drawing title false e = tt
+
+draw_limits : (artery timed drawing : List ℕ) (words : List (List ℕ)) → InLimits (draw_of artery timed drawing words)
+draw_limits artery timed drawing [] = tt
+draw_limits artery timed drawing (title ∷ []) = titled_limits artery timed drawing title (is_name title) refl
+draw_limits artery timed drawing (title ∷ next ∷ more) = tt
+
 -- ---- the words
 -- each of the usages asks for what is in its limits
 abbrev AreInLimits : List Usage → Type 0
@@ -82,4 +92,4 @@ command_limits (word ∷ first ∷ second ∷ third ∷ []) =
     )
 command_limits (word ∷ first ∷ second ∷ third ∷ fourth ∷ more) =
     usage_limits word (any_more first second third (fourth ∷ more))
-    (sweep_limits first second (fourth ∷ more) (are_cycles (fourth ∷ more)) (limit_of third) (cycles_spelled (fourth ∷ more)) (some_limit third), (from_limits first second third (fourth ∷ more), tt))
+    (sweep_limits first second (fourth ∷ more) (are_cycles (fourth ∷ more)) (limit_of third) (cycles_spelled (fourth ∷ more)) (some_limit third), (from_limits first second third (fourth ∷ more), (draw_limits first second third (fourth ∷ more), tt)))

@@ -1,5 +1,5 @@
 -- What the words after the program's name ask for, and what that reads and puts.
-use Rattle.std.specs.Prelude.{ℕ, ◌≤◌, Bool, true, false, List, [], ◌∷◌, Option, Some, None, codes, map, string_bytes, option_map, option_and_then, if◌then◌else◌}
+use Rattle.std.specs.Prelude.{ℕ, ◌≤◌, Bool, true, false, List, [], ◌∷◌, Option, Some, None, codes, map, string_bytes, option_map, option_and_then, if◌then◌else◌, IfSome, IsTrue}
 use Rattle.std.specs.Str.{bytes_eq}
 use Rattle.work_meter.specs.Work.{IsBelow}
 use Rattle.run_inputs.specs.Numbers.{signals_of, seed_of, limit_of, usual_work}
@@ -8,6 +8,7 @@ use Rattle.run_inputs.specs.Reading.{Input, input, Description, Timing, Certific
 use Rattle.run_inputs.specs.declared.command.Command.{Command}
 use Rattle.run_inputs.specs.declared.command.Command.TheVariants as command
 use Rattle.artery_model.specs.Bounds.{least_signals, most_first_signals}
+use Rattle.artery_model.specs.Limits.{is_name}
 
 pub data Request : Type 0 where
   Hold : List ℕ → List ℕ → Request  -- the names of a description and of a timing
@@ -22,7 +23,7 @@ pub data Request : Type 0 where
   RoundFrom : List ℕ → List ℕ → List ℕ → List ℕ → Request  -- the names of a description, of a certificate and of another timing or certificate, and of the file for such a plan
   Half : List ℕ → List ℕ → List ℕ → Request  -- the names of a description and of a timing, and of the file for a half-cycle plan
   TimingOf : List ℕ → List ℕ → List ℕ → Request  -- the names of a description and of a plan typed in seconds, and of the file for its timing
-  Draw : List ℕ → List ℕ → List ℕ → Request  -- the names of a description and of a timing or certificate, and of the file for a picture
+  Draw : List ℕ → List ℕ → List ℕ → Option (List ℕ) → Request  -- the names of a description and of a timing or certificate, and of the file for a picture, and its title, where it has one
   Help : Request
   Version : Request
   Make : ℕ → ℕ → Request  -- how many signals, and the seed
@@ -42,7 +43,7 @@ view (command.Round artery certificate plan) = Round artery.now certificate.now 
 view (command.RoundFrom artery certificate other plan) = RoundFrom artery.now certificate.now other.now plan.now
 view (command.Half artery timing new) = Half artery.now timing.now new.now
 view (command.TimingOf artery plan timing) = TimingOf artery.now plan.now timing.now
-view (command.Draw artery timed drawing) = Draw artery.now timed.now drawing.now
+view (command.Draw artery timed drawing title) = Draw artery.now timed.now drawing.now (option_map (λ word. word.now) title)
 view command.Help = Help
 view command.Version = Version
 view (command.Make signals seed) = Make signals seed
@@ -71,20 +72,21 @@ shape (Some (Round artery certificate plan)) = record { inputs = input Descripti
 shape (Some (RoundFrom artery certificate other plan)) = record { inputs = input Description artery ∷ input Certificate certificate ∷ input Timed other ∷ []; output = Some plan; chooses = false }
 shape (Some (Half artery timing new)) = record { inputs = input Description artery ∷ input Timing timing ∷ []; output = Some new; chooses = true }
 shape (Some (TimingOf artery plan timing)) = record { inputs = input Description artery ∷ input TypedPlan plan ∷ []; output = Some timing; chooses = false }
-shape (Some (Draw artery timed drawing)) = record { inputs = input Description artery ∷ input Timed timed ∷ []; output = Some drawing; chooses = false }
+shape (Some (Draw artery timed drawing title)) = record { inputs = input Description artery ∷ input Timed timed ∷ []; output = Some drawing; chooses = false }
 shape (Some Help) = record { inputs = []; output = None; chooses = false }
 shape (Some Version) = record { inputs = []; output = None; chooses = false }
 shape (Some (Make signals seed)) = record { inputs = []; output = None; chooses = false }
 shape (Some (Trial signals seed limit)) = record { inputs = []; output = None; chooses = true }
 shape (Some (Sweep artery table limit cycles)) = record { inputs = input Description artery ∷ []; output = Some table; chooses = false }
 
--- a search has work to spend, 2 to 16 signals are made, and each cycle is one
+-- a search has work to spend, 2 to 16 signals are made, each cycle is one, and a title is such a name as signals have
 abbrev pub InLimits : Option Request → Type 0
 InLimits (Some (Solve artery certificate limit)) = IsBelow 0 limit
 InLimits (Some (Links artery certificate limit)) = IsBelow 0 limit
 InLimits (Some (Make signals seed)) = (least_signals ≤ signals) × (signals ≤ most_first_signals)
 InLimits (Some (Trial signals seed limit)) = ((least_signals ≤ signals) × (signals ≤ most_first_signals)) × IsBelow 0 limit
 InLimits (Some (Sweep artery table limit cycles)) = IsBelow 0 limit × SpellCycles cycles
+InLimits (Some (Draw artery timed drawing title)) = IfSome title (λ words. IsTrue (is_name words))
 InLimits _ = Unit {0}
 
 -- ---- the words
@@ -135,7 +137,7 @@ three_more first second third =
     ∷ usage (codes "round") (Some (Round first second third))
     ∷ usage (codes "half") (Some (Half first second third))
     ∷ usage (codes "timing") (Some (TimingOf first second third))
-    ∷ usage (codes "draw") (Some (Draw first second third))
+    ∷ usage (codes "draw") (Some (Draw first second third None))
     ∷ usage (codes "trial") (trial_of first second third)
     ∷ []
 
@@ -148,9 +150,22 @@ abbrev pub round_from_of : List ℕ → List ℕ → List ℕ → List (List ℕ
 round_from_of artery certificate other (plan ∷ []) = Some (RoundFrom artery certificate other plan)
 round_from_of artery certificate other words = None
 
+-- a title
+abbrev pub titled : List ℕ → List ℕ → List ℕ → List ℕ → Option Request
+titled artery timed drawing title = if is_name title then Some (Draw artery timed drawing (Some title)) else None
+
+-- the one word that is left, for the title
+abbrev pub draw_of : List ℕ → List ℕ → List ℕ → List (List ℕ) → Option Request
+draw_of artery timed drawing (title ∷ []) = titled artery timed drawing title
+draw_of artery timed drawing words = None
+
 -- the usages with three words more and any number besides
 abbrev pub any_more : List ℕ → List ℕ → List ℕ → List (List ℕ) → List Usage
-any_more first second third more = usage (codes "sweep") (sweep_of first second third more) ∷ usage (codes "round-from") (round_from_of first second third more) ∷ []
+any_more first second third more =
+    usage (codes "sweep") (sweep_of first second third more)
+    ∷ usage (codes "round-from") (round_from_of first second third more)
+    ∷ usage (codes "draw") (draw_of first second third more)
+    ∷ []
 
 abbrev pub request_of : List (List ℕ) → Option Request
 request_of (word ∷ []) = asked word no_more

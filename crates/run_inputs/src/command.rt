@@ -2,11 +2,12 @@
 
 ghost use Rattle.std.specs.Prelude.{◌≡◌, map, option_map, string_bytes};
 ghost use Rattle.run_inputs.specs.{Numbers.{limit_of}, Reading.{IsRoomForFaults}};
-ghost use Rattle.run_inputs.specs.Command.{Solve, Links, request_of, make_of, trial_of, sweep_of, round_from_of, asked, no_more, one_more, two_more, three_more, any_more, view, shape};
+ghost use Rattle.run_inputs.specs.Command.{Solve, Links, request_of, make_of, trial_of, sweep_of, round_from_of, titled, draw_of, asked, no_more, one_more, two_more, three_more, any_more, view, shape};
 
 use crate::cycles::are_cycles;
 use crate::lines::cannot_read_bytes;
 use crate::numbers::{USUAL_WORK, limit_in, seed_in, signals_in};
+use artery_model::is_name;
 
 /// What the words ask for, with the names of files in the order of the words.
 #[derive(Clone, Copy)]
@@ -37,8 +38,9 @@ pub enum Command<'a> {
     Half(&'a str, &'a str, &'a str),
     /// Make the timing of the second file, a plan that is typed in seconds, on the artery of the first, and put it in the third.
     TimingOf(&'a str, &'a str, &'a str),
-    /// Draw the timing of the second file, a timing or a certificate, on the artery of the first, and put the picture in the third.
-    Draw(&'a str, &'a str, &'a str),
+    /// Draw the timing of the second file, a timing or a certificate, on the artery of the first, and put the picture in the third, with a
+    /// title of its own where there is one.
+    Draw(&'a str, &'a str, &'a str, Option<&'a str>),
     /// Tell the usages.
     Help,
     /// Tell the versions of the program and of what it reads.
@@ -156,7 +158,7 @@ fn with_three<'a>(
         "round" => Some(Command::Round(first, second, third)),
         "half" => Some(Command::Half(first, second, third)),
         "timing" => Some(Command::TimingOf(first, second, third)),
-        "draw" => Some(Command::Draw(first, second, third)),
+        "draw" => Some(Command::Draw(first, second, third, None)),
         "trial" => trial_of(first, second, third),
         _ => None,
     }
@@ -198,6 +200,36 @@ fn round_from_of<'a>(
     }
 }
 
+/// The command `draw` with a title, which is to be a name as those of signals are.
+fn titled<'a>(
+    artery: &'a str,
+    file: &'a str,
+    drawing: &'a str,
+    title: &'a str,
+) -> Option<Command<'a>>
+    ensures { option_map view result ≡ titled artery.now file.now drawing.now title.now }
+{
+    if !is_name(title) {
+        return None;
+    }
+    Some(Command::Draw(artery, file, drawing, Some(title)))
+}
+
+/// The command `draw` with these words, of which one is left for the title.
+fn draw_of<'a>(
+    artery: &'a str,
+    file: &'a str,
+    drawing: &'a str,
+    words: &'a [String],
+) -> Option<Command<'a>>
+    ensures { option_map view result ≡ draw_of artery.now file.now drawing.now (map string_bytes words.now) }
+{
+    match words {
+        [title] => titled(artery, file, drawing, title.as_str()),
+        _ => None,
+    }
+}
+
 /// The command of a word with three more and any number besides.
 fn with_more<'a>(
     word: &str,
@@ -211,6 +243,7 @@ fn with_more<'a>(
     match word {
         "sweep" => sweep_of(first, second, third, more),
         "round-from" => round_from_of(first, second, third, more),
+        "draw" => draw_of(first, second, third, more),
         _ => None,
     }
 }
@@ -260,7 +293,7 @@ pub fn room_for_faults(command: Option<Command<'_>>) -> u64
             | Command::Round(first, second, _)
             | Command::Half(first, second, _)
             | Command::TimingOf(first, second, _)
-            | Command::Draw(first, second, _),
+            | Command::Draw(first, second, ..),
         ) => cannot_read_bytes(first).max(cannot_read_bytes(second)),
         Some(Command::RoundFrom(first, second, third, _)) => cannot_read_bytes(first)
             .max(cannot_read_bytes(second))

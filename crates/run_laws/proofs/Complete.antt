@@ -12,6 +12,7 @@ use Rattle.run_commands.specs.Round.{RoundFromFinds}
 use Rattle.description_reader.specs.Typed.{Typed}
 use Rattle.run_commands.specs.Typed.{WritesTiming, TypedFinds}
 use Rattle.run_commands.specs.Draw.{DrawFinds}
+use Rattle.time_space.specs.declared.failing.Failing.{Failing}
 use Rattle.run_laws.specs.PlanLaws.{IsDrawingEnd, DrawIsComplete, IsRoundingEnd, RoundFromIsComplete, IsTypedEnd, TimingIsComplete}
 use Rattle.run_inputs.specs.Reading.{Input, Values, AreRead, AreTold, IsUnread, StopsReading}
 use Rattle.maxband_run.specs.Run.{Answers, Answered, Ends}
@@ -162,16 +163,16 @@ timing_complete reader before now artery plan timing a p c told plan_told r q no
     ends_so reader before now (Some (TimingOf artery plan timing)) timing refl (a, (p, tt)) (told, (plan_told, tt)) (r, (q, tt)) (no_read, (no_plan, tt)) IsTypedEnd
     (λ c lines put k. typed_end k.values.0 k.values.1.0 c lines k.bytes k.finds) c no_put no_write h
 
-drawing_end : (a : Street) (o : Option TimingRecord) (c : Cause) (l : List ℕ) (bytes : Option (List ℕ)) → DrawFinds a o c l bytes → IsDrawingEnd c
-drawing_end a None c l bytes h = subst (λ (d : Cause). IsDrawingEnd d) (sym h.0) tt
-drawing_end a (Some t) cause.Done l bytes h = tt
-drawing_end a (Some t) (cause.Fails f) l bytes h = tt
-drawing_end a (Some t) c l bytes h = absurd h
+drawing_end : (a : Street) (o : Option TimingRecord) (title : Option (List ℕ)) (c : Cause) (l : List ℕ) (bytes : Option (List ℕ)) → DrawFinds a o title c l bytes → IsDrawingEnd c
+drawing_end a None title c l bytes h = subst (λ (d : Cause). IsDrawingEnd d) (sym h.0) tt
+drawing_end a (Some t) title cause.Done l bytes h = tt
+drawing_end a (Some t) title (cause.Fails f) l bytes h = subst (λ (g : Failing). IsDrawingEnd (cause.Fails g)) (sym h.0) tt
+drawing_end a (Some t) title c l bytes h = absurd h
 
 pub draw_complete : OneReading → DrawIsComplete
-draw_complete reader before now artery timed picture a o c told timed_told r q no_read no_timed no_put no_write h =
-    ends_so reader before now (Some (Draw artery timed picture)) picture refl (a, (o, tt)) (told, (timed_told, tt)) (r, (q, tt)) (no_read, (no_timed, tt)) IsDrawingEnd
-    (λ c lines put k. drawing_end k.values.0 k.values.1.0 c lines k.bytes k.finds) c no_put no_write h
+draw_complete reader before now artery timed picture title a o c told timed_told r q no_read no_timed no_put no_write h =
+    ends_so reader before now (Some (Draw artery timed picture title)) picture refl (a, (o, tt)) (told, (timed_told, tt)) (r, (q, tt)) (no_read, (no_timed, tt)) IsDrawingEnd
+    (λ c lines put k. drawing_end k.values.0 k.values.1.0 title c lines k.bytes k.finds) c no_put no_write h
 
 -- what puts nothing isn't broken but by a write
 quiet : (before now : Outside) (asked : Option Request) → (shape asked).output ≡ None → (Rose before.writes now.writes → ⊥) → Ends before now asked cause.WriteFault → ⊥

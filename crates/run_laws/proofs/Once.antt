@@ -50,7 +50,7 @@ use Rattle.rational_theory.specs.Rational.{ℚ}
 use Rattle.run_commands.specs.Round.{plan_lines, unplanned_line, IsCertified, IsRounded, IsUnfit, Unplans, RoundFinds, RoundFromFinds}
 use Rattle.run_commands.specs.Half.{end_line, HalfFinds}
 use Rattle.run_commands.specs.Typed.{WritesTiming, TypedFinds}
-use Rattle.run_commands.specs.Draw.{DrawFinds}
+use Rattle.run_commands.specs.Draw.{IsBroken, drawn_lines, DrawFinds}
 use Rattle.maxband_run.specs.Run.{Finds}
 use Rattle.run_laws.specs.Laws.{IsVerdict, Agree}
 use Rattle.run_inputs.specs.declared.cause.Cause.{Cause}
@@ -263,15 +263,22 @@ module _ (one : OneTiming) (one_first : OneFirst) (once : OneWidest) (finer : Fi
       let e = sym (same_value (too_fine a p) h.ticks k.ticks h.first.1 k.first.1) in
       (h.cause_is ∙ ap (λ n. cause.Unmatched (half_end.TooFine n)) e ∙ sym k.cause_is, h.lines_are ∙ ap (λ n. end_line (half_end.TooFine n)) e ∙ sym k.lines_are)
 
-draw_once : OneFirst → FailsRulesOut → (a : Street) (o : Option TimingRecord) (c d : Cause) (x y : List ℕ) (s u : Option (List ℕ)) → DrawFinds a o c x s → DrawFinds a o d y u → (c ≡ d) × (x ≡ y)
-draw_once one_first rules a None c d x y s u h k = (h.0 ∙ sym k.0, h.1 ∙ sym k.1)
-draw_once one_first rules a (Some t) cause.Done cause.Done x y s u h k = (refl, h.2.lines_are ∙ sym k.2.lines_are)
-draw_once one_first rules a (Some t) cause.Done (cause.Fails f) x y s u h k = absurd (rules a t f k.0.fails h.2.good)
-draw_once one_first rules a (Some t) cause.Done d x y s u h k = absurd k
-draw_once one_first rules a (Some t) (cause.Fails f) cause.Done x y s u h k = absurd (rules a t f h.0.fails k.2.good)
-draw_once one_first rules a (Some t) (cause.Fails f) (cause.Fails g) x y s u h k = let e = one_first a t f g h.0 k.0 in (ap cause.Fails e, h.1 ∙ ap fails_line e ∙ sym k.1)
-draw_once one_first rules a (Some t) (cause.Fails f) d x y s u h k = absurd k
-draw_once one_first rules a (Some t) c d x y s u h k = absurd h
+broken_once : OneFirst → FailsRulesOut → (a : Street) (t : TimingRecord) (x y : Option Failing) → IsBroken a t x → IsBroken a t y → x ≡ y
+broken_once one_first rules a t None None h k = refl
+broken_once one_first rules a t None (Some g) h k = absurd (rules a t g k.fails h)
+broken_once one_first rules a t (Some f) None h k = absurd (rules a t f h.fails k)
+broken_once one_first rules a t (Some f) (Some g) h k = ap Some (one_first a t f g h k)
+
+draw_once : OneFirst → FailsRulesOut → (a : Street) (o : Option TimingRecord) (title : Option (List ℕ)) (c d : Cause) (x y : List ℕ) (s u : Option (List ℕ)) → DrawFinds a o title c x s → DrawFinds a o title d y u → (c ≡ d) × (x ≡ y)
+draw_once one_first rules a None title c d x y s u h k = (h.0 ∙ sym k.0, h.1 ∙ sym k.1)
+draw_once one_first rules a (Some t) title cause.Done cause.Done x y s u h k =
+    (refl, h.2.lines_are ∙ (ap drawn_lines (broken_once one_first rules a t h.2.broken k.2.broken h.2.broken_is k.2.broken_is) ∙ sym k.2.lines_are))
+draw_once one_first rules a (Some t) title cause.Done (cause.Fails f) x y s u h k = absurd (k.1.fails h.2.shape)
+draw_once one_first rules a (Some t) title cause.Done d x y s u h k = absurd k
+draw_once one_first rules a (Some t) title (cause.Fails f) cause.Done x y s u h k = absurd (h.1.fails k.2.shape)
+draw_once one_first rules a (Some t) title (cause.Fails f) (cause.Fails g) x y s u h k = (ap cause.Fails (h.0 ∙ sym k.0), h.2 ∙ sym k.2)
+draw_once one_first rules a (Some t) title (cause.Fails f) d x y s u h k = absurd k
+draw_once one_first rules a (Some t) title c d x y s u h k = absurd h
 
 -- ---- every command
 module _ (one_text : OneText) (one_first : OneFirst) (rules : FailsRulesOut) (apart : RefusedIsNotAccepted) (once : OneFirstRefusal) (widest : OneWidest) (finer : FinerPairs)
@@ -294,7 +301,7 @@ module _ (one_text : OneText) (one_first : OneFirst) (rules : FailsRulesOut) (ap
   finds_once (Some (RoundFrom artery certificate other plan)) v c d x y s t h k = from_once plan_ends plan_or one_plan v.0 v.1.0 v.1.1.0 one_first rules apart once c d x y s t h k
   finds_once (Some (Half artery timing new)) v c d x y s t h k = half_once one_first ends v.0 v.1.0 c d x y s t h k
   finds_once (Some (TimingOf artery plan timing)) v c d x y s t h k = typed_once one_timing one_first widest finer v.0 v.1.0 c d x y s t h k
-  finds_once (Some (Draw artery timed drawing)) v c d x y s t h k = draw_once one_first rules v.0 v.1.0 c d x y s t h k
+  finds_once (Some (Draw artery timed drawing title)) v c d x y s t h k = draw_once one_first rules v.0 v.1.0 title c d x y s t h k
   finds_once (Some Help) v c d x y s t h k = (h.0 ∙ sym k.0, h.1 ∙ sym k.1)
   finds_once (Some Version) v c d x y s t h k = (h.0 ∙ sym k.0, h.1 ∙ sym k.1)
   finds_once (Some (Make signals seed)) v c d x y s t h k = show_once one_text (made_street signals seed) c d x y h k

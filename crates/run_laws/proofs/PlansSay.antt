@@ -29,7 +29,7 @@ use Rattle.maxband_run.specs.Run.{Ends}
 use Rattle.run_commands.specs.Sought.{whole_bands}
 use Rattle.run_commands.specs.Checked.{whole_checked}
 use Rattle.run_laws.specs.Laws.{SaysRejected}
-use Rattle.run_laws.specs.PlanLaws.{SaysWidest, SaysNoBase, BandsSay, PutsHalf, SaysNoHalf, SaysHalf, SaysUnmatched, HalfSays, SaysUnplanned, SaysUnplannedFrom, PutsTyped, StopsTyped, SaysMiscounted, SaysBroken, SaysTooFine, TimingSays, PutsPicture, SaysFailing, SaysUntimed, DrawSays, SaysCycle, PutsTable, SweepSays}
+use Rattle.run_laws.specs.PlanLaws.{SaysWidest, SaysNoBase, BandsSay, PutsHalf, SaysNoHalf, SaysHalf, SaysUnmatched, HalfSays, SaysUnplanned, SaysUnplannedFrom, PutsTyped, StopsTyped, SaysMiscounted, SaysBroken, SaysTooFine, TimingSays, PutsPicture, SaysUnshaped, SaysFailing, SaysUntimed, DrawSays, SaysCycle, PutsTable, SweepSays}
 use Rattle.run_inputs.specs.Status.{number_of, IsReached}
 use Rattle.run_inputs.specs.declared.cause.Cause.{Cause}
 use Rattle.run_inputs.specs.declared.cause.Cause.TheVariants as cause
@@ -345,55 +345,60 @@ timing_says before now artery plan timing c h = (
 ten_apart : ◌≡◌ {A = ℕ} 10 4 → ⊥
 ten_apart e = omega (arith, e)
 
-module _ (rules : FailsRulesOut) (before now : Outside) (artery timed picture : List ℕ) where
+module _ (before now : Outside) (artery timed picture : List ℕ) (title : Option (List ℕ)) where
+  drawn_none : (lines : List ℕ) (put : Option NamedBytes) (bytes : Option (List ℕ)) → put ≡ put_of (Some picture) bytes → bytes ≡ None → IsDone before now lines put → IsPut None before.holds now.holds
+  drawn_none lines put bytes e n h = subst (λ (p : Option NamedBytes). IsPut p before.holds now.holds) (e ∙ ap (put_of (Some picture)) n) h.files
+
   -- what is found of the timing, where the file has one
-  picture_of : (a : Street) (o : Option TimingRecord) (f : Found before now (Some (Draw artery timed picture)) cause.Done) → Reads Description (before.holds artery) a → Reads Timed (before.holds timed) o
-      → DrawFinds a o cause.Done f.lines f.answer.bytes → PutsPicture before now artery timed picture
+  picture_of : (a : Street) (o : Option TimingRecord) (f : Found before now (Some (Draw artery timed picture title)) cause.Done) → Reads Description (before.holds artery) a → Reads Timed (before.holds timed) o
+      → DrawFinds a o title cause.Done f.lines f.answer.bytes → PutsPicture before now artery timed picture title
   picture_of a None f d r h = let e = h.0 in absurd cc
   picture_of a (Some t) f d r h = record {
     street = a;
     timing = t;
+    broken = h.2.broken;
     description = d;
     text = r;
-    good = h.2.good;
+    shape = h.2.shape;
+    broken_is = h.2.broken_is;
     put = subst (λ (x : List ℕ). HoldsExactly (now.holds picture) x) h.2.text_is (is_put before now picture h.0 f.lines f.put f.answer.bytes f.answer.put_is h.1 f.done).0;
     told = subst (λ (l : List ℕ). Appends before.taken now.taken l) h.2.lines_are f.done.written;
   }
 
-  undrawn_of : (a : Street) (o : Option TimingRecord) (c : Cause) (l : List ℕ) (bytes : Option (List ℕ)) → Reads Description (before.holds artery) a → Reads Timed (before.holds timed) o → number_of c ≡ 4
-      → DrawFinds a o c l bytes → SaysFailing before artery timed c
-  undrawn_of a None c l bytes d r e h = absurd (ten_apart (sym (ap number_of h.0) ∙ e))
-  undrawn_of a (Some t) (cause.Fails f) l bytes d r e h = record {
-    street = a;
-    timing = t;
-    failing = f;
-    description = d;
-    text = r;
-    fails = h.0.fails;
-    not_good = rules a t f h.0.fails;
-    cause_is = refl;
-  }
-  undrawn_of a (Some t) cause.Done l bytes d r e h = absurd cc
-  undrawn_of a (Some t) c l bytes d r e h = absurd h
+  module _ (lines : List ℕ) (put : Option NamedBytes) (bytes : Option (List ℕ)) (put_is : put ≡ put_of (Some picture) bytes) (done : IsDone before now lines put) where
+    unshaped_of : (a : Street) (o : Option TimingRecord) (c : Cause) → Reads Description (before.holds artery) a → Reads Timed (before.holds timed) o → number_of c ≡ 4
+        → DrawFinds a o title c lines bytes → SaysUnshaped before now artery timed c
+    unshaped_of a None c d r e h = absurd (ten_apart (sym (ap number_of h.0) ∙ e))
+    unshaped_of a (Some t) (cause.Fails f) d r e h = record {
+      street = a;
+      timing = t;
+      description = d;
+      text = r;
+      unshaped = h.1.fails;
+      cause_is = ap cause.Fails h.0;
+      kept = drawn_none lines put bytes put_is h.3 done;
+    }
+    unshaped_of a (Some t) cause.Done d r e h = absurd cc
+    unshaped_of a (Some t) c d r e h = absurd h
 
-  untimed_of : (a : Street) (o : Option TimingRecord) (reason : PlanEnd) (l : List ℕ) (bytes : Option (List ℕ)) → Reads Description (before.holds artery) a → Reads Timed (before.holds timed) o
-      → DrawFinds a o (cause.Unplanned reason) l bytes → SaysUntimed before artery timed (cause.Unplanned reason)
-  untimed_of a None reason l bytes d r h = record { street = a; description = d; text = r; cause_is = h.0 }
-  untimed_of a (Some t) reason l bytes d r h = absurd h
+    untimed_of : (a : Street) (o : Option TimingRecord) (reason : PlanEnd) → Reads Description (before.holds artery) a → Reads Timed (before.holds timed) o
+        → DrawFinds a o title (cause.Unplanned reason) lines bytes → SaysUntimed before now artery timed (cause.Unplanned reason)
+    untimed_of a None reason d r h = record { street = a; description = d; text = r; cause_is = h.0; kept = drawn_none lines put bytes put_is h.2 done }
+    untimed_of a (Some t) reason d r h = absurd h
 
-  draw_ten : (c : Cause) (reason : PlanEnd) → c ≡ cause.Unplanned reason → Ends before now (Some (Draw artery timed picture)) c → SaysUntimed before artery timed c
+  draw_ten : (c : Cause) (reason : PlanEnd) → c ≡ cause.Unplanned reason → Ends before now (Some (Draw artery timed picture title)) c → SaysUntimed before now artery timed c
   draw_ten c reason e h =
-      let f = found before now (Some (Draw artery timed picture)) (cause.Unplanned reason) tt (λ s. s) (subst (λ (d : Cause). Ends before now (Some (Draw artery timed picture)) d) e h) in
-      subst (λ (d : Cause). SaysUntimed before artery timed d) (sym e)
-      (untimed_of f.answer.values.0 f.answer.values.1.0 reason f.lines f.answer.bytes f.answer.read.0 f.answer.read.1.0 f.answer.finds)
+      let f = found before now (Some (Draw artery timed picture title)) (cause.Unplanned reason) tt (λ s. s) (subst (λ (d : Cause). Ends before now (Some (Draw artery timed picture title)) d) e h) in
+      subst (λ (d : Cause). SaysUntimed before now artery timed d) (sym e)
+      (untimed_of f.lines f.put f.answer.bytes f.answer.put_is f.done f.answer.values.0 f.answer.values.1.0 reason f.answer.read.0 f.answer.read.1.0 f.answer.finds)
 
-pub draw_says : FailsRulesOut → DrawSays
-draw_says rules before now artery timed picture c h = (
-  (λ e. let f = found_done before now (Some (Draw artery timed picture)) c e h in
-      picture_of rules before now artery timed picture f.answer.values.0 f.answer.values.1.0 f f.answer.read.0 f.answer.read.1.0 f.answer.finds),
-  (λ e. let f = found_four before now (Some (Draw artery timed picture)) c e h in
-      undrawn_of rules before now artery timed picture f.answer.values.0 f.answer.values.1.0 c f.lines f.answer.bytes f.answer.read.0 f.answer.read.1.0 e f.answer.finds),
-  (λ e. let r = ten_is c e in draw_ten rules before now artery timed picture c r.0 r.1 h),
+pub draw_says : DrawSays
+draw_says before now artery timed picture title c h = (
+  (λ e. let f = found_done before now (Some (Draw artery timed picture title)) c e h in
+      picture_of before now artery timed picture title f.answer.values.0 f.answer.values.1.0 f f.answer.read.0 f.answer.read.1.0 f.answer.finds),
+  (λ e. let f = found_four before now (Some (Draw artery timed picture title)) c e h in
+      unshaped_of before now artery timed picture title f.lines f.put f.answer.bytes f.answer.put_is f.done f.answer.values.0 f.answer.values.1.0 c f.answer.read.0 f.answer.read.1.0 e f.answer.finds),
+  (λ e. let r = ten_is c e in draw_ten before now artery timed picture title c r.0 r.1 h),
 )
 
 -- ---- sweep

@@ -59,9 +59,9 @@ checks_told : (k : Sought) (s : Checked k) → AllFour k s → (a : Street) (w :
 checks_told k s four a w lines (inl h) = let e = h.cause_is in absurd cc
 checks_told k s four a w lines (inr h) = five_apart (ap number_of h.cause_is ∙ four h.reject)
 
-draw_told : (a : Street) (o : Option TimingRecord) (lines : List ℕ) (bytes : Option (List ℕ)) → DrawFinds a o cause.Words lines bytes → ⊥
-draw_told a None lines bytes h = let e = h.0 in absurd cc
-draw_told a (Some t) lines bytes h = h
+draw_told : (a : Street) (o : Option TimingRecord) (title : Option (List ℕ)) (lines : List ℕ) (bytes : Option (List ℕ)) → DrawFinds a o title cause.Words lines bytes → ⊥
+draw_told a None title lines bytes h = let e = h.0 in absurd cc
+draw_told a (Some t) title lines bytes h = h
 
 typed_told : (a : Street) (p : Typed) (lines : List ℕ) (bytes : Option (List ℕ)) → TypedFinds a p cause.Words lines bytes → ⊥
 typed_told a p lines bytes (inl h) = h.finds
@@ -81,7 +81,7 @@ no_words (Round artery certificate plan) v lines bytes h = h
 no_words (RoundFrom artery certificate other plan) v lines bytes h = h
 no_words (Half artery timing new) v lines bytes h = h
 no_words (TimingOf artery plan timing) v lines bytes h = typed_told v.0 v.1.0 lines bytes h
-no_words (Draw artery timed drawing) v lines bytes h = draw_told v.0 v.1.0 lines bytes h
+no_words (Draw artery timed drawing title) v lines bytes h = draw_told v.0 v.1.0 title lines bytes h
 no_words Help v lines bytes h = let e = h.0 in absurd cc
 no_words Version v lines bytes h = let e = h.0 in absurd cc
 no_words (Make signals seed) v lines bytes h = h

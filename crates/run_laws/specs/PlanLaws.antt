@@ -5,13 +5,14 @@ use Rattle.rational_theory.specs.Rational.{ℚ, ◌+ℚ◌, ◌≤ℚ◌}
 use Rattle.outer_edge.specs.Counts.{Rose}
 use Rattle.outer_edge.specs.Held.{SameFiles, HoldsExactly}
 use Rattle.outer_edge.specs.Taken.{Appends}
-use Rattle.progression.specs.Street.{Street}
+use Rattle.progression.specs.Street.{Street, count}
 use Rattle.progression.specs.TimingRecord.{TimingRecord}
 use Rattle.progression.specs.Good.{Good, IsBase}
 use Rattle.progression.specs.Best.{weighted_band}
 use Rattle.progression.specs.declared.parts.Dir.TheVariants.{Outbound, Inbound}
 use Rattle.time_space.specs.Failing.{Fails}
 use Rattle.time_space.specs.declared.failing.Failing.{Failing}
+use Rattle.time_space.specs.declared.failing.Failing.TheVariants as failing
 use Rattle.band_measure.specs.declared.pair.Widest.{Widest}
 use Rattle.mirror_theory.specs.EqualBands.{HasNone, IsHalfCycleBest}
 use Rattle.half_integer.specs.Answers as half
@@ -41,6 +42,7 @@ use Rattle.run_inputs.specs.Reading.{most_bytes, Reads, Description, Timing, Cer
 use Rattle.run_commands.specs.Bands.{IsWidestBand, widest_line, IsMeasured}
 use Rattle.run_commands.specs.Half.{half_lines}
 use Rattle.run_commands.specs.Round.{plan_lines, Unplans}
+use Rattle.run_commands.specs.Draw.{IsBroken, drawn_lines}
 use Rattle.run_commands.specs.Sweep.{rows_line}
 use Rattle.run_commands.specs.Sought.{whole_bands}
 use Rattle.run_commands.specs.Checked.{whole_checked}
@@ -152,7 +154,7 @@ abbrev pub RoundSays : Type 0
 RoundSays = (before now : Outside) (artery certificate plan : List ℕ) (c : Cause) → Ends before now (Some (Round artery certificate plan)) c
     → (number_of c ≡ 0 → PutsPlan before now artery plan) × (number_of c ≡ 4 → SaysRejected whole_bands whole_checked before artery certificate c) × (number_of c ≡ 10 → SaysUnplanned before artery certificate c)
 
--- `draw` and `round-from` with status 4: this rule fails, so that the timing isn't good
+-- `round-from` with status 4: this rule fails, so that the timing isn't good
 pub record SaysFailing (before : Outside) (artery timed : List ℕ) (c : Cause) : Type 0 where
   pub street : Street
   pub timing : TimingRecord
@@ -288,41 +290,57 @@ TimingIsComplete = (before now : Outside) (artery plan timing : List ℕ) (a : S
     → Ends before now (Some (TimingOf artery plan timing)) c → IsTypedEnd c ⊎ (c ≡ cause.Memory)
 
 -- ---- draw
--- `draw` with status 0: the timing of the second file is good on the artery of the first, and the file that is put holds, where it is told, the picture of it
-pub record PutsPicture (before now : Outside) (artery timed picture : List ℕ) : Type 0 where
+-- `draw` with status 0: the timing of the second file, good or not, has the number of signals of the artery of the first, and the file that is put holds, where it is told,
+-- the picture of it; and where the timing isn't good the first rule that it breaks was told
+pub record PutsPicture (before now : Outside) (artery timed picture : List ℕ) (title : Option (List ℕ)) : Type 0 where
+  pub street : Street
+  pub timing : TimingRecord
+  pub broken : Option Failing
+  pub description : Reads Description (before.holds artery) street
+  pub text : Reads Timed (before.holds timed) (Some timing)
+  pub shape : length timing.patterns ≡ count street
+  pub broken_is : IsBroken street timing broken
+  pub put : HoldsExactly (now.holds picture) (svg_text (drawing street timing title))
+  pub told : Appends before.taken now.taken (drawn_lines broken)
+
+-- with status 4: it has another number of signals
+pub record SaysUnshaped (before now : Outside) (artery timed : List ℕ) (c : Cause) : Type 0 where
   pub street : Street
   pub timing : TimingRecord
   pub description : Reads Description (before.holds artery) street
   pub text : Reads Timed (before.holds timed) (Some timing)
-  pub good : Good street timing
-  pub put : HoldsExactly (now.holds picture) (svg_text (drawing street timing))
-  pub told : Appends before.taken now.taken (codes "drawn\n")
+  pub unshaped : length timing.patterns ≢ count street
+  pub cause_is : c ≡ cause.Fails failing.Shape
+  pub kept : SameFiles before.holds now.holds
 
 -- with status 10: the second file is a certificate without a timing
-pub record SaysUntimed (before : Outside) (artery timed : List ℕ) (c : Cause) : Type 0 where
+pub record SaysUntimed (before now : Outside) (artery timed : List ℕ) (c : Cause) : Type 0 where
   pub street : Street
   pub description : Reads Description (before.holds artery) street
   pub text : Reads Timed (before.holds timed) None
   pub cause_is : c ≡ cause.Unplanned end.NoTimingGiven
+  pub kept : SameFiles before.holds now.holds
 
 abbrev pub DrawSays : Type 0
-DrawSays = (before now : Outside) (artery timed picture : List ℕ) (c : Cause) → Ends before now (Some (Draw artery timed picture)) c
-    → (number_of c ≡ 0 → PutsPicture before now artery timed picture) × (number_of c ≡ 4 → SaysFailing before artery timed c) × (number_of c ≡ 10 → SaysUntimed before artery timed c)
+DrawSays = (before now : Outside) (artery timed picture : List ℕ) (title : Option (List ℕ)) (c : Cause) → Ends before now (Some (Draw artery timed picture title)) c
+    → (number_of c ≡ 0 → PutsPicture before now artery timed picture title)
+    × (number_of c ≡ 4 → SaysUnshaped before now artery timed c)
+    × (number_of c ≡ 10 → SaysUntimed before now artery timed c)
 
--- the timing is drawn, it breaks a rule, or there is none
+-- the timing is drawn, it has another number of signals, or there is none
 abbrev pub IsDrawingEnd : Cause → Type 0
 IsDrawingEnd cause.Done = Unit {0}
-IsDrawingEnd (cause.Fails f) = Unit {0}
+IsDrawingEnd (cause.Fails failing.Shape) = Unit {0}
 IsDrawingEnd (cause.Unplanned end.NoTimingGiven) = Unit {0}
 IsDrawingEnd c = ⊥
 
 -- Where the files tell bytes that describe an artery and are a timing or a certificate, and no read of them, no put of the picture and no write failed, the run ends so,
 -- or by want of memory.
 abbrev pub DrawIsComplete : Type 0
-DrawIsComplete = (before now : Outside) (artery timed picture : List ℕ) (a : Street) (o : Option TimingRecord) (c : Cause)
+DrawIsComplete = (before now : Outside) (artery timed picture : List ℕ) (title : Option (List ℕ)) (a : Street) (o : Option TimingRecord) (c : Cause)
     → IsSome (before.holds artery) → IsSome (before.holds timed) → Reads Description (before.holds artery) a → Reads Timed (before.holds timed) o
     → ¬ Rose (before.reads artery) (now.reads artery) → ¬ Rose (before.reads timed) (now.reads timed) → ¬ Rose (before.puts picture) (now.puts picture) → ¬ Rose before.writes now.writes
-    → Ends before now (Some (Draw artery timed picture)) c → IsDrawingEnd c ⊎ (c ≡ cause.Memory)
+    → Ends before now (Some (Draw artery timed picture title)) c → IsDrawingEnd c ⊎ (c ≡ cause.Memory)
 
 -- ---- sweep
 -- what is found at a cycle, and what its record says of the street

@@ -63,16 +63,15 @@ pub fn law_timing_is_complete()
     description_reader::law_one_typed();
 }
 
-/// A law over the definitions: after status 0 of `draw` the file that it put holds the picture of the timing of its second file, which is
-/// good on the described artery; after 4 the rule that the cause names fails, and after 10 the file is a certificate without a timing.
+/// A law over the definitions: after status 0 of `draw` the file that it put holds the picture of the timing of its second file, which has
+/// as many signals as the described artery, and the first rule that the timing breaks was told, where it breaks one; after 4 it has another
+/// number of signals, and after 10 the file is a certificate without a timing, and no file has changed.
 pub fn law_draw_says()
     ensures { DrawSays }
-{
-    time_space::law_fails_rules_out();
-}
+{}
 
 /// A law over the definitions: where the description of `draw` is one of an artery, its second file is a timing or a certificate, and no
-/// fault is counted, the picture is put, the timing breaks a rule, the certificate has none, or memory is wanting.
+/// fault is counted, the picture is put, the timing has another number of signals, the certificate has none, or memory is wanting.
 pub fn law_draw_is_complete()
     ensures { DrawIsComplete }
 {

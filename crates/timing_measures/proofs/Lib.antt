@@ -1,3 +1,4 @@
+pub mod Nearest
 pub mod Pieces
 pub mod Sizes
 pub mod SomeTicks

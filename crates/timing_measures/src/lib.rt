@@ -6,7 +6,10 @@
 #![tactic(auto)]
 
 mod measures;
+mod rounding;
 
 pub use measures::{
     after_start, band_share, cycle_seconds, link_speed, offset, quotient, seconds, signal_name,
+    some_speed,
 };
+pub use rounding::{Rounded, round_to};

@@ -1,6 +1,6 @@
 //! The numbers.
 
-ghost use Rattle.std.specs.Prelude.{◌≡◌, ◌<◌, ◌≤◌, ◌^◌, pos, ◌≤ℤ◌, length, unsigned_abs};
+ghost use Rattle.std.specs.Prelude.{◌≡◌, ◌<◌, ◌≤◌, ◌^◌, pos, ◌≤ℤ◌, length, unsigned_abs, IfNone, IfSome};
 ghost use Rattle.rational_theory.specs.Rational.{over};
 ghost use Rattle.progression.specs.{Street.{count, signal_of}, TimingRecord.{cycle, run}, Good.{IsBase}};
 ghost use Rattle.timing_measures.specs.Measures.{band_share, seconds, cycle_seconds, after_start, offset, speed_of, link_speed};
@@ -104,6 +104,21 @@ fn speed_of(units: Units, distance: u128, grid: u128, ticks: u128) -> Frac
     }
 }
 
+/// The speed of a direction's band on a link where so many ticks are its run, which are some.
+fn speed_over(artery: &Artery, timing: &Timing, dir: Dir, link: u32, ticks: u128) -> Frac
+    requires first { 1 ≤ link }
+    requires last { link < count artery.now }
+    requires run { ticks ≡ run timing.now dir link }
+    requires some { 1 ≤ ticks }
+    requires small { ticks < 2 ^ 80 }
+    ensures value { result ≡ link_speed artery.now timing.now dir link }
+    ensures least { pos 0 ≤ℤ result.num }
+    ensures denominator { result.den ≤ 2 ^ 120 }
+{
+    let distance = u128::from(artery.distance(dir, link));
+    speed_of(artery.head().units, distance, timing.grid(), ticks)
+}
+
 /// The speed of a direction's band on a link, in km/h or mph, as the description's units are. The timing keeps the rules that don't
 /// speak of bands.
 pub fn link_speed(artery: &Artery, timing: &Timing, dir: Dir, link: u32) -> Frac
@@ -114,9 +129,26 @@ pub fn link_speed(artery: &Artery, timing: &Timing, dir: Dir, link: u32) -> Frac
     ensures least { pos 0 ≤ℤ result.num }
     ensures denominator { result.den ≤ 2 ^ 120 }
 {
-    let distance = u128::from(artery.distance(dir, link));
     let ticks = run_ticks(artery, timing, dir, link);
-    speed_of(artery.head().units, distance, timing.grid(), ticks)
+    speed_over(artery, timing, dir, link, ticks)
+}
+
+/// The same in any timing, or None where the run takes no tick.
+pub fn some_speed(artery: &Artery, timing: &Timing, dir: Dir, link: u32) -> Option<Frac>
+    requires shape { length timing.now.patterns ≡ count artery.now }
+    requires first { 1 ≤ link }
+    requires last { link < count artery.now }
+    ensures none { IfNone result (run timing.now dir link ≡ 0) }
+    ensures some { IfSome result (λ speed. 1 ≤ run timing.now dir link) }
+    ensures value { IfSome result (λ speed. speed ≡ link_speed artery.now timing.now dir link) }
+    ensures least { IfSome result (λ speed. pos 0 ≤ℤ speed.num) }
+    ensures denominator { IfSome result (λ speed. speed.den ≤ 2 ^ 120) }
+{
+    let ticks = timing.run(dir, link);
+    if ticks == 0 {
+        return None;
+    }
+    Some(speed_over(artery, timing, dir, link, ticks))
 }
 
 /// The name of a signal.

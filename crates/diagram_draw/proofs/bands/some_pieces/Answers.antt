@@ -1,8 +1,8 @@
-use Rattle.std.proofs.Common.{rules, ◌≡◌, FitsSigned, arith}
+use Rattle.std.proofs.Common.{rules, ◌≡◌, ◌++◌, FitsSigned, arith}
 use Rattle.std.specs.Int.{w128}
 use Rattle.std.proofs.lemmas.Int.{to_z-of_z}
-use Rattle.diagram_draw.specs.Bands.{piece, band_in_cycle}
-use Rattle.timing_measures.proofs.Pieces.{map_on, extended_one}
+use Rattle.diagram_draw.specs.Bands.{chosen_piece, band_in_cycle}
+use Rattle.diagram_draw.proofs.Chains.{piece_on, with_piece}
 use Rattle.diagram_draw.proofs.bands.some_pieces.Goals as goal
 
 pub loop-cycle-preserved : goal.loop-cycle-preserved
@@ -16,11 +16,7 @@ loop-cycle-preserved c =
     let to = to_z-of_z w128 c.args.part.to to_fits in
     let begin_fits : FitsSigned w128 c.args.part.begin = search rules in
     let begin = to_z-of_z w128 c.args.part.begin begin_fits in
-    let piece_is = c.piece.ensures in
+    let piece_is = c.in_ok-push_chosen.ensures in
     let moment_is = c.later-begin.ensures.value in
-    let one : c.piece.result ≡ piece c.args.frame (band_in_cycle c.args.frame c.args.part k) = cc in
-    let next = map_on (λ m. piece c.args.frame (band_in_cycle c.args.frame c.args.part m)) k in
-    extended_one _ _ _ _ _ _ c.in_ok-push.ensures.items one c.loop-cycle.invariant next
-
-pub returns-in_err-push : goal.returns-in_err-push
-returns-in_err-push c = grind (arith, map_on)
+    let one : c.push_chosen.new.shapes.items ≡ c.loop-cycle.shapes.items ++ chosen_piece c.args.frame c.args.edge (band_in_cycle c.args.frame c.args.part k) = cc in
+    with_piece _ _ _ _ _ one c.loop-cycle.invariant (piece_on (λ m. chosen_piece c.args.frame c.args.edge (band_in_cycle c.args.frame c.args.part m)) k)

@@ -5,4 +5,4 @@ use Rattle.diagram_draw.proofs.page.push_body.Goals as goal
 
 pub returns : goal.returns
 unfolding body_text
-returns c = on_ok_weaker c.push_names_part.result (three_pushed _ _ _ _ _ _ _ c.in_ok-push_back.ensures c.in_ok-push_field.ensures) c.push_names_part.ensures
+returns c = on_ok_weaker c.push_steps.result (three_pushed _ _ _ _ _ _ _ c.in_ok-push_back.ensures c.in_ok-push_field.ensures) c.push_steps.ensures

@@ -20,12 +20,6 @@ returns-in-HeadMiddle c = sym (ap letter_class c.in-HeadMiddle.is)
 pub returns-in-Name : goal.returns-in-Name
 returns-in-Name c = sym (ap letter_class c.in-Name.is)
 
-pub returns-in-LongName : goal.returns-in-LongName
-returns-in-LongName c = sym (ap letter_class c.in-LongName.is)
-
-pub returns-in-LongestName : goal.returns-in-LongestName
-returns-in-LongestName c = sym (ap letter_class c.in-LongestName.is)
-
 pub returns-in-Number : goal.returns-in-Number
 returns-in-Number c = sym (ap letter_class c.in-Number.is)
 
@@ -37,3 +31,9 @@ returns-in-Key c = sym (ap letter_class c.in-Key.is)
 
 pub returns-in-Note : goal.returns-in-Note
 returns-in-Note c = sym (ap letter_class c.in-Note.is)
+
+pub returns-in-Subtitle : goal.returns-in-Subtitle
+returns-in-Subtitle c = sym (ap letter_class c.in-Subtitle.is)
+
+pub returns-in-Mark : goal.returns-in-Mark
+returns-in-Mark c = sym (ap letter_class c.in-Mark.is)

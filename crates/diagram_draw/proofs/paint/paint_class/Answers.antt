@@ -23,6 +23,12 @@ returns-in-OutBand c = sym (ap paint_class c.in-OutBand.is)
 pub returns-in-InBand : goal.returns-in-InBand
 returns-in-InBand c = sym (ap paint_class c.in-InBand.is)
 
+pub returns-in-OutLine : goal.returns-in-OutLine
+returns-in-OutLine c = sym (ap paint_class c.in-OutLine.is)
+
+pub returns-in-InLine : goal.returns-in-InLine
+returns-in-InLine c = sym (ap paint_class c.in-InLine.is)
+
 pub returns-in-Ground : goal.returns-in-Ground
 returns-in-Ground c = sym (ap paint_class c.in-Ground.is)
 
@@ -37,3 +43,6 @@ returns-in-OutWindow c = sym (ap paint_class c.in-OutWindow.is)
 
 pub returns-in-InWindow : goal.returns-in-InWindow
 returns-in-InWindow c = sym (ap paint_class c.in-InWindow.is)
+
+pub returns-in-Step : goal.returns-in-Step
+returns-in-Step c = sym (ap paint_class c.in-Step.is)

@@ -1,0 +1,16 @@
+use Rattle.std.proofs.Common.{◌++◌, ◌∙◌, flat_map}
+use Rattle.std.specs.List.{range_with_len}
+use Rattle.diagram_draw.specs.Shapes.{caption_text, captions_text}
+use Rattle.diagram_draw.specs.Captions.{signal_marks}
+use Rattle.diagram_draw.proofs.Chains.{row_written_up, ends_up}
+use Rattle.diagram_draw.proofs.captions.push_marks.Goals as goal
+
+pub loop-signal-preserved : goal.loop-signal-preserved
+loop-signal-preserved c =
+    row_written_up caption_text c.args.out.now.items _ _ c.loop-signal.signal c.loop-signal.invariant.0 (signal_marks c.args.frame c.args.artery.now c.args.timing.now) c.in_ok-push_signal_marks.ensures c.loop-signal.invariant.1
+
+pub returns : goal.returns
+returns c =
+    let f = signal_marks c.args.frame c.args.artery.now c.args.timing.now in
+    c.loop-signal.invariant.1
+    ∙ ends_up (λ n. c.args.out.now.items ++ captions_text (flat_map f (range_with_len 1 n))) _ _ _ c.loop-signal.auto.signal-end c.loop-signal-test.false c.count-signal-end.ensures.value

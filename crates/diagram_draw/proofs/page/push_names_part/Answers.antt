@@ -1,8 +1,0 @@
-use Rattle.std.proofs.lemmas.Result.{on_ok_weaker}
-use Rattle.diagram_draw.specs.Pages.{names_part}
-use Rattle.quantity_text.proofs.Pushed.{three_pushed}
-use Rattle.diagram_draw.proofs.page.push_names_part.Goals as goal
-
-pub returns : goal.returns
-unfolding names_part
-returns c = on_ok_weaker c.push_text-2.result (three_pushed _ _ _ _ _ _ _ c.in_ok-push_text.ensures c.in_ok-push_names.ensures) c.push_text-2.ensures
