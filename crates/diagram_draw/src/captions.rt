@@ -456,9 +456,9 @@ fn unlike_lengths(artery: &Artery, links: u32) -> u32
 {
     let mut unlike = 0;
     for link in 1..links + 1 {
-        unlike += u32::from(
-            artery.distance(Dir::Outbound, link) != artery.distance(Dir::Inbound, link),
-        );
+        if artery.distance(Dir::Outbound, link) != artery.distance(Dir::Inbound, link) {
+            unlike += 1;
+        }
     }
     unlike
 }
