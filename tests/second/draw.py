@@ -285,7 +285,7 @@ class Picture:
 
     def heads(self):
         room = self.page[0] - 440
-        rows = [sized("title", fitting(330, room, self.name()), 220, 480, self.name())]
+        rows = [sized("title", fitting(330, room * 5 // 6, self.name()), 220, 480, self.name())]
         if self.subtitle is not None:
             rows.append(sized("subtitle", fitting(220, room, self.subtitle), 220, 800, self.subtitle))
         return rows

@@ -108,8 +108,12 @@ facts_text a t = cycle_facts a t ++ (band_facts a t Outbound ++ (band_facts a t 
 abbrev pub head_room : Frame → ℕ
 head_room f = page_width f - 440
 
+-- bold letters are wider by up to a fifth
+abbrev pub bold_room : Frame → ℕ
+bold_room f = head_room f * 5 / 6
+
 abbrev pub name_head : Frame → Street → Sized
-name_head f a = let name = name_of a.head.name in sized letter.Title (fitting title_size (head_room f) (text_width name)) (pos 220) (pos 480) (escaped name)
+name_head f a = let name = name_of a.head.name in sized letter.Title (fitting title_size (bold_room f) (text_width name)) (pos 220) (pos 480) (escaped name)
 
 -- the title of the plan, below the name
 abbrev pub title_head : Frame → List ℕ → Sized

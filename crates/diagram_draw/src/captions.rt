@@ -7,7 +7,7 @@ ghost use Rattle.diagram_draw.specs.{declared.paint.Letter.TheVariants.{Facts, H
 ghost use Rattle.diagram_draw.specs.Shapes.{words_opening, words_text, sized_opening, sized_words_text, sized_text, caption_text, captions_text, sizeds_text};
 ghost use Rattle.diagram_draw.specs.Captions.{tenths_text, hundredths_text, thousandths_text, tenths, hundredths, seconds_text, width_text, percent_text, offset_tenths};
 ghost use Rattle.diagram_draw.specs.Captions.{offset_text, name_of, after_name, title_text, dir_word, width_facts, band_facts, cycle_facts, weighted_facts};
-ghost use Rattle.diagram_draw.specs.Captions.{facts_text, head_room, name_head, title_head, title_heads, heads, facts_head, unit_of_length, unit_of_speed};
+ghost use Rattle.diagram_draw.specs.Captions.{facts_text, head_room, bold_room, name_head, title_head, title_heads, heads, facts_head, unit_of_length, unit_of_speed};
 ghost use Rattle.diagram_draw.specs.Captions.{head_level, signal_heads, lengths_head, link_heads, cycles_text};
 ghost use Rattle.diagram_draw.specs.Captions.{cycle_number, cycle_numbers, second_number, second_numbers, row_level, turn_word, turn_text, pattern_text, name_caption, names};
 ghost use Rattle.diagram_draw.specs.Captions.{signal_row, signal_rows, link_level, unlike_lengths, lengths_differ, lengths_text, link_speed_text, link_row, link_rows};
@@ -347,9 +347,18 @@ fn push_sized(
 /// How wide the head may be.
 fn head_room(frame: Frame) -> u32
     requires { IsFrame frame }
-    ensures { result ≡ head_room frame }
+    ensures value { result ≡ head_room frame }
+    ensures most { result ≤ 31440 }
 {
     page_width(frame) - 440
+}
+
+/// The same for bold letters, which are wider by up to a fifth.
+fn bold_room(frame: Frame) -> u32
+    requires { IsFrame frame }
+    ensures { result ≡ bold_room frame }
+{
+    head_room(frame) * 5 / 6
 }
 
 /// Writes the name of the street, where it stands.
@@ -358,7 +367,7 @@ fn push_name_head(out: &mut Vec<u8>, frame: Frame, artery: &Artery) -> Result<()
     ensures { OnOk result (out.new.items ≡ out.old.items ++ sized_text (name_head frame artery.now)) }
 {
     let name = street_name(artery);
-    let size = fitting(TITLE_SIZE, head_room(frame), text_width(name.as_bytes()));
+    let size = fitting(TITLE_SIZE, bold_room(frame), text_width(name.as_bytes()));
     push_sized(out, Letter::Title, size, 220, 480, name)
 }
 
@@ -984,6 +993,15 @@ fn push_notes(out: &mut Vec<u8>, frame: Frame) -> Result<(), Memory>
     )
 }
 
+/// Writes ticks as seconds, with their unit.
+fn push_some_seconds(out: &mut Vec<u8>, timing: &Timing, ticks: u128) -> Result<(), Memory>
+    requires { ticks < 2 ^ 126 }
+    ensures { OnOk result (out.new.items ≡ out.old.items ++ (seconds_text timing.now ticks ++ codes " s")) }
+{
+    push_seconds(out, timing, ticks)?;
+    push_text(out, " s")
+}
+
 /// Writes the seconds beside a mark.
 #[tactic(auto, unfolding(crate::specs::Shapes::words_text))]
 fn push_mark(
@@ -1003,8 +1021,7 @@ fn push_mark(
     let x = step_begin(frame, artery, timing, dir, signal);
     let y = mark_level(frame, artery, dir, signal);
     push_words_opening(out, Letter::Mark, x, y)?;
-    push_seconds(out, timing, step_ticks(artery, timing, dir, signal))?;
-    push_text(out, " s")?;
+    push_some_seconds(out, timing, step_ticks(artery, timing, dir, signal))?;
     push_words_end(out)
 }
 
