@@ -405,7 +405,7 @@ fn push_tail(
     ensures { OnOk result (out.new.items ≡ out.old.items ++ tail_text (drawn frame artery.now timing.now (option_map (λ t. t.now) title))) }
 {
     push_keys(out, frame)?;
-    push_heads(out, frame, artery, title)?;
+    push_heads(out, frame, artery, timing, title)?;
     push_names(out, frame, artery)?;
     push_captions(out, frame, artery, timing)?;
     push_text(out, "</svg>\n")
