@@ -64,7 +64,7 @@ def words(letter, x, y, text):
 
 
 def sized(letter, size, x, y, text):
-    return f'<text class="{letter}" font-size="{size}" x="{x}" y="{y}">{escaped(text)}</text>'
+    return f'<text class="{letter}" font-size="{size}" x="{x}" y="{y}">{text}</text>'
 
 
 class Timing:
@@ -285,18 +285,18 @@ class Picture:
 
     def heads(self):
         room = self.page[0] - 440
-        rows = [sized("title", fitting(330, room, self.name()), 220, 480, self.name())]
+        rows = [sized("title", fitting(330, room * 5 // 6, self.name()), 220, 480, escaped(self.name()))]
+        rows.append(sized("facts", 165, 220, 830 if self.subtitle is None else 1120, self.facts()))
         if self.subtitle is not None:
-            rows.append(sized("subtitle", fitting(220, room, self.subtitle), 220, 800, self.subtitle))
+            rows.append(sized("subtitle", fitting(220, room, self.subtitle), 220, 800, escaped(self.subtitle)))
         return rows
 
     def names(self):
-        return [sized("name", fitting(150, self.room, it["name"]), NAME_LEFT, self.level(i) + 50, it["name"]) for i, it in enumerate(self.signals)]
+        return [sized("name", fitting(150, self.room, it["name"]), NAME_LEFT, self.level(i) + 50, escaped(it["name"])) for i, it in enumerate(self.signals)]
 
     def above(self):
         length, speed = ("m", "km/h") if self.artery["units"] == "metric" else ("ft", "mph")
-        rows = [words("facts", 220, 1120, self.facts())]
-        rows += [words("head", NAME_LEFT, HEADS, "signal"), words("head-end", self.left - 760, HEADS, "lefts out/in")]
+        rows = [words("head", NAME_LEFT, HEADS, "signal"), words("head-end", self.left - 760, HEADS, "lefts out/in")]
         rows.append(words("head-end", self.left - 170, HEADS, "offset, s"))
         for x, text in ((880, f"{length} out/in" if self.lengths_differ() else length), (1480, f"out {speed}"), (2060, f"in {speed}")):
             rows.append(words("head-end", self.right + x, HEADS, text))
@@ -373,7 +373,7 @@ class Picture:
 STYLE = (
     "<style>",
     "text{font-family:Helvetica,Arial,'Liberation Sans',sans-serif;fill:#222}",
-    ".title{font-weight:bold}.facts{font-size:165px}.head,.head-end,.head-middle,.note{font-size:118px;fill:#555}.mark{font-size:100px}",
+    ".title{font-weight:bold}.head,.head-end,.head-middle,.note{font-size:118px;fill:#555}.mark{font-size:100px}",
     ".number{font-size:140px}.axis,.key{font-size:125px;fill:#444}.number,.head-end{text-anchor:end}.axis,.head-middle{text-anchor:middle}",
     ".paper{fill:#fff}.plot{fill:#fbfbf9;stroke:#444;stroke-width:12}.second{stroke:#dcdcd8;stroke-width:8}"
     ".cycle{stroke:#777;stroke-width:12;stroke-dasharray:60 50}.level{stroke:#bbb;stroke-width:8}",

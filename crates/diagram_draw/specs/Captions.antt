@@ -19,7 +19,7 @@ use Rattle.diagram_draw.specs.declared.paint.Letter.TheVariants as letter
 use Rattle.diagram_draw.specs.declared.frame.Frame.{Frame}
 use Rattle.diagram_draw.specs.Shapes.{Caption, Sized}
 use Rattle.diagram_draw.specs.Escapes.{escaped}
-use Rattle.diagram_draw.specs.Widths.{text_width, title_size, subtitle_size, name_size, fitting}
+use Rattle.diagram_draw.specs.Widths.{text_width, title_size, subtitle_size, facts_size, name_size, fitting}
 use Rattle.diagram_draw.specs.Frames.{plot_top, plot_width, x_at, level, plot_right, plot_bottom, page_width, name_left, columns_left}
 use Rattle.diagram_draw.specs.Ways.{has_band}
 use Rattle.diagram_draw.specs.Axes.{steps_shown, second_at}
@@ -108,8 +108,12 @@ facts_text a t = cycle_facts a t ++ (band_facts a t Outbound ++ (band_facts a t 
 abbrev pub head_room : Frame → ℕ
 head_room f = page_width f - 440
 
+-- bold letters are wider by up to a fifth
+abbrev pub bold_room : Frame → ℕ
+bold_room f = head_room f * 5 / 6
+
 abbrev pub name_head : Frame → Street → Sized
-name_head f a = let name = name_of a.head.name in sized letter.Title (fitting title_size (head_room f) (text_width name)) (pos 220) (pos 480) (escaped name)
+name_head f a = let name = name_of a.head.name in sized letter.Title (fitting title_size (bold_room f) (text_width name)) (pos 220) (pos 480) (escaped name)
 
 -- the title of the plan, below the name
 abbrev pub title_head : Frame → List ℕ → Sized
@@ -119,8 +123,16 @@ abbrev pub title_heads : Frame → Option (List ℕ) → List Sized
 title_heads f None = []
 title_heads f (Some title) = title_head f title ∷ []
 
-unfoldable pub heads : Frame → Street → Option (List ℕ) → List Sized
-heads f a title = name_head f a ∷ title_heads f title
+-- what is measured, below them
+abbrev pub facts_level : Option (List ℕ) → ℕ
+facts_level None = 830
+facts_level (Some title) = 1120
+
+abbrev pub facts_head : Street → TimingRecord → Option (List ℕ) → Sized
+facts_head a t title = sized letter.Facts facts_size (pos 220) (pos (facts_level title)) (facts_text a t)
+
+unfoldable pub heads : Frame → Street → TimingRecord → Option (List ℕ) → List Sized
+heads f a t title = name_head f a ∷ (facts_head a t title ∷ title_heads f title)
 
 abbrev pub unit_of_length : Units → List ℕ
 unit_of_length Metric = codes "m"
@@ -132,9 +144,6 @@ unit_of_speed English = codes "mph"
 
 abbrev pub head_level : ℤ
 head_level = pos (plot_top - 90)
-
-abbrev pub facts_head : Street → TimingRecord → Caption
-facts_head a t = caption letter.Facts (pos 220) (pos 1120) (facts_text a t)
 
 unfoldable pub signal_heads : Frame → List Caption
 signal_heads f =
@@ -289,8 +298,8 @@ notes f =
     ∷ []
 
 -- ---- all of them but the names
-unfoldable pub above : Frame → Street → TimingRecord → List Caption
-above f a t = facts_head a t ∷ (signal_heads f ++ (link_heads f a ++ cycle_numbers f))
+unfoldable pub above : Frame → Street → List Caption
+above f a = signal_heads f ++ (link_heads f a ++ cycle_numbers f)
 
 unfoldable pub beside : Frame → Street → TimingRecord → List Caption
 beside f a t = signal_rows f a t ++ link_rows f a t
@@ -299,4 +308,4 @@ unfoldable pub below : Frame → Street → TimingRecord → List Caption
 below f a t = second_numbers f t ++ (red_words f ++ (band_words f ++ (notes f ++ queue_notes f a)))
 
 unfoldable pub captions : Frame → Street → TimingRecord → List Caption
-captions f a t = above f a t ++ (beside f a t ++ (marks f a t ++ below f a t))
+captions f a t = above f a ++ (beside f a t ++ (marks f a t ++ below f a t))

@@ -26,7 +26,7 @@ pub record Drawing : Type 0 where
   pub field : List Shape  -- what is seen through the field of the diagram: the bands, and over them the bars
   pub steps : List Shape  -- where lines step
   pub keys : List Shape  -- what explains it
-  pub heads : List Sized  -- the name of the street and the title of the plan
+  pub heads : List Sized  -- the name of the street, what is measured and the title of the plan
   pub names : List Sized  -- the names of the signals
   pub words : List Caption
 
@@ -79,7 +79,7 @@ drawn f a t title = record {
   field = field_shapes f a t;
   steps = steps f a t;
   keys = key_shapes f;
-  heads = heads f a title;
+  heads = heads f a t title;
   names = names f a;
   words = captions f a t;
 }
@@ -100,7 +100,7 @@ abbrev pub bars_style : List ℕ
 bars_style = codes ".ground{fill:#fff;stroke:#444;stroke-width:8}.red{fill:#3a0d12}.turn{fill:url(#turn)}.out-at{fill:#0072b2}.in-at{fill:#e69f00}.step{stroke:#222;stroke-width:30}\n"
 
 abbrev pub sizes_style : List ℕ
-sizes_style = codes ".title{font-weight:bold}.facts{font-size:165px}.head,.head-end,.head-middle,.note{font-size:118px;fill:#555}.mark{font-size:100px}\n"
+sizes_style = codes ".title{font-weight:bold}.head,.head-end,.head-middle,.note{font-size:118px;fill:#555}.mark{font-size:100px}\n"
 
 abbrev pub words_style : List ℕ
 words_style = codes ".number{font-size:140px}.axis,.key{font-size:125px;fill:#444}.number,.head-end{text-anchor:end}.axis,.head-middle{text-anchor:middle}\n"

@@ -30,6 +30,9 @@ title_size = 330
 abbrev pub subtitle_size : ℕ
 subtitle_size = 220
 
+abbrev pub facts_size : ℕ
+facts_size = 165
+
 abbrev pub name_size : ℕ
 name_size = 150
 

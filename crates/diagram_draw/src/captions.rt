@@ -7,7 +7,7 @@ ghost use Rattle.diagram_draw.specs.{declared.paint.Letter.TheVariants.{Facts, H
 ghost use Rattle.diagram_draw.specs.Shapes.{words_opening, words_text, sized_opening, sized_words_text, sized_text, caption_text, captions_text, sizeds_text};
 ghost use Rattle.diagram_draw.specs.Captions.{tenths_text, hundredths_text, thousandths_text, tenths, hundredths, seconds_text, width_text, percent_text, offset_tenths};
 ghost use Rattle.diagram_draw.specs.Captions.{offset_text, name_of, after_name, title_text, dir_word, width_facts, band_facts, cycle_facts, weighted_facts};
-ghost use Rattle.diagram_draw.specs.Captions.{facts_text, head_room, name_head, title_head, title_heads, heads, facts_head, unit_of_length, unit_of_speed};
+ghost use Rattle.diagram_draw.specs.Captions.{facts_text, head_room, bold_room, name_head, title_head, title_heads, heads, facts_level, facts_head, unit_of_length, unit_of_speed};
 ghost use Rattle.diagram_draw.specs.Captions.{head_level, signal_heads, lengths_head, link_heads, cycles_text};
 ghost use Rattle.diagram_draw.specs.Captions.{cycle_number, cycle_numbers, second_number, second_numbers, row_level, turn_word, turn_text, pattern_text, name_caption, names};
 ghost use Rattle.diagram_draw.specs.Captions.{signal_row, signal_rows, link_level, unlike_lengths, lengths_differ, lengths_text, link_speed_text, link_row, link_rows};
@@ -24,7 +24,7 @@ use crate::paint::Letter;
 use crate::shape::{push_sized_opening, push_words_end, push_words_opening};
 use crate::steps::{has_step, mark_level, step_begin, step_ticks};
 use crate::ways::has_band;
-use crate::width::{NAME_SIZE, SUBTITLE_SIZE, TITLE_SIZE, fitting, text_width};
+use crate::width::{FACTS_SIZE, NAME_SIZE, SUBTITLE_SIZE, TITLE_SIZE, fitting, text_width};
 use artery_model::{Artery, Dir, Units};
 use narrow_fraction::{Frac, Memory};
 use progression::Text;
@@ -347,9 +347,18 @@ fn push_sized(
 /// How wide the head may be.
 fn head_room(frame: Frame) -> u32
     requires { IsFrame frame }
-    ensures { result ≡ head_room frame }
+    ensures value { result ≡ head_room frame }
+    ensures most { result ≤ 31440 }
 {
     page_width(frame) - 440
+}
+
+/// The same for bold letters, which are wider by up to a fifth.
+fn bold_room(frame: Frame) -> u32
+    requires { IsFrame frame }
+    ensures { result ≡ bold_room frame }
+{
+    head_room(frame) * 5 / 6
 }
 
 /// Writes the name of the street, where it stands.
@@ -358,7 +367,7 @@ fn push_name_head(out: &mut Vec<u8>, frame: Frame, artery: &Artery) -> Result<()
     ensures { OnOk result (out.new.items ≡ out.old.items ++ sized_text (name_head frame artery.now)) }
 {
     let name = street_name(artery);
-    let size = fitting(TITLE_SIZE, head_room(frame), text_width(name.as_bytes()));
+    let size = fitting(TITLE_SIZE, bold_room(frame), text_width(name.as_bytes()));
     push_sized(out, Letter::Title, size, 220, 480, name)
 }
 
@@ -386,30 +395,48 @@ fn push_title_heads(out: &mut Vec<u8>, frame: Frame, title: Option<&str>) -> Res
     }
 }
 
-/// Writes the name of the street and the title of the plan.
+/// Where the line stands that has what is measured.
+fn facts_level(title: Option<&str>) -> u32
+    ensures { result ≡ facts_level (option_map (λ t. t.now) title) }
+{
+    match title {
+        Some(_) => 1120,
+        None => 830,
+    }
+}
+
+/// Writes what is measured, where it stands.
+#[tactic(auto, unfolding(crate::specs::Shapes::sized_words_text))]
+fn push_facts_head(
+    out: &mut Vec<u8>,
+    artery: &Artery,
+    timing: &Timing,
+    level: u32,
+) -> Result<(), Memory>
+    requires { length timing.now.patterns ≡ count artery.now }
+    ensures { OnOk result (out.new.items ≡ out.old.items ++ sized_words_text Facts 165 (pos 220) (pos level) (facts_text artery.now timing.now)) }
+{
+    push_size_opening(out, Letter::Facts, FACTS_SIZE, 220, level)?;
+    push_facts(out, artery, timing)?;
+    push_words_end(out)
+}
+
+/// Writes the name of the street, what is measured and the title of the plan.
 #[tactic(auto, unfolding(crate::specs::Captions::heads))]
 pub fn push_heads(
     out: &mut Vec<u8>,
     frame: Frame,
     artery: &Artery,
+    timing: &Timing,
     title: Option<&str>,
 ) -> Result<(), Memory>
-    requires { IsFrame frame }
-    ensures { OnOk result (out.new.items ≡ out.old.items ++ sizeds_text (heads frame artery.now (option_map (λ t. t.now) title))) }
+    requires frame { IsFrame frame }
+    requires shape { length timing.now.patterns ≡ count artery.now }
+    ensures { OnOk result (out.new.items ≡ out.old.items ++ sizeds_text (heads frame artery.now timing.now (option_map (λ t. t.now) title))) }
 {
     push_name_head(out, frame, artery)?;
+    push_facts_head(out, artery, timing, facts_level(title))?;
     push_title_heads(out, frame, title)
-}
-
-/// Writes what is measured, where it stands.
-#[tactic(auto, unfolding(crate::specs::Shapes::words_text))]
-fn push_facts_words(out: &mut Vec<u8>, artery: &Artery, timing: &Timing) -> Result<(), Memory>
-    requires { length timing.now.patterns ≡ count artery.now }
-    ensures { OnOk result (out.new.items ≡ out.old.items ++ words_text Facts (pos 220) (pos 1120) (facts_text artery.now timing.now)) }
-{
-    push_opening(out, Letter::Facts, 220, 1120)?;
-    push_facts(out, artery, timing)?;
-    push_words_end(out)
 }
 
 /// Writes what stands above the columns of the signals.
@@ -984,6 +1011,15 @@ fn push_notes(out: &mut Vec<u8>, frame: Frame) -> Result<(), Memory>
     )
 }
 
+/// Writes ticks as seconds, with their unit.
+fn push_some_seconds(out: &mut Vec<u8>, timing: &Timing, ticks: u128) -> Result<(), Memory>
+    requires { ticks < 2 ^ 126 }
+    ensures { OnOk result (out.new.items ≡ out.old.items ++ (seconds_text timing.now ticks ++ codes " s")) }
+{
+    push_seconds(out, timing, ticks)?;
+    push_text(out, " s")
+}
+
 /// Writes the seconds beside a mark.
 #[tactic(auto, unfolding(crate::specs::Shapes::words_text))]
 fn push_mark(
@@ -1003,8 +1039,7 @@ fn push_mark(
     let x = step_begin(frame, artery, timing, dir, signal);
     let y = mark_level(frame, artery, dir, signal);
     push_words_opening(out, Letter::Mark, x, y)?;
-    push_seconds(out, timing, step_ticks(artery, timing, dir, signal))?;
-    push_text(out, " s")?;
+    push_some_seconds(out, timing, step_ticks(artery, timing, dir, signal))?;
     push_words_end(out)
 }
 
@@ -1067,17 +1102,10 @@ fn push_marks(
 
 /// Writes the words above the field.
 #[tactic(auto, unfolding(crate::specs::Captions::above))]
-fn push_above(
-    out: &mut Vec<u8>,
-    frame: Frame,
-    artery: &Artery,
-    timing: &Timing,
-) -> Result<(), Memory>
+fn push_above(out: &mut Vec<u8>, frame: Frame, artery: &Artery) -> Result<(), Memory>
     requires frame { IsFrame frame }
-    requires shape { length timing.now.patterns ≡ count artery.now }
-    ensures { OnOk result (out.new.items ≡ out.old.items ++ captions_text (above frame artery.now timing.now)) }
+    ensures { OnOk result (out.new.items ≡ out.old.items ++ captions_text (above frame artery.now)) }
 {
-    push_facts_words(out, artery, timing)?;
     push_signal_heads(out, frame)?;
     push_link_heads(out, frame, artery)?;
     push_cycle_numbers(out, frame)
@@ -1126,7 +1154,7 @@ pub fn push_captions(
     requires shape { length timing.now.patterns ≡ count artery.now }
     ensures { OnOk result (out.new.items ≡ out.old.items ++ captions_text (captions frame artery.now timing.now)) }
 {
-    push_above(out, frame, artery, timing)?;
+    push_above(out, frame, artery)?;
     push_beside(out, frame, artery, timing)?;
     push_marks(out, frame, artery, timing)?;
     push_below(out, frame, artery, timing)

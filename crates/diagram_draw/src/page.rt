@@ -3,7 +3,7 @@
 ghost use Rattle.std.specs.{Prelude.{◌≡◌, ◌+◌, ◌/◌, ◌%◌, ◌≤◌, ◌++◌, codes, IfOk, OnOk, option_map, pos, length}, Fmt.{decimal}};
 ghost use Rattle.progression.specs.Street.{count};
 ghost use Rattle.diagram_draw.specs.{declared.shape.Shape.TheVariants.{Rect}, Shapes.{shapes_text}, Frames.{IsFrame}, Axes.{back}, Steps.{steps}};
-ghost use Rattle.diagram_draw.specs.{Captions.{title_text}, Pages.{head_text, body_text, tail_text, svg_text}};
+ghost use Rattle.diagram_draw.specs.{Captions.{tenths_text, title_text}, Pages.{head_text, body_text, tail_text, svg_text}};
 ghost use Rattle.diagram_draw.specs.Pages.{key_bar, key_piece, key_shapes, signal_about, signals_about, about_text, field_shapes, drawn, drawing};
 ghost use Rattle.diagram_draw.specs.Pages.{plot_clip, paper_text, size_text, box_text, svg_opening, title_part, about_part, opening_text, definitions_text, field_part};
 
@@ -185,13 +185,20 @@ fn push_plot_clip(out: &mut Vec<u8>, frame: Frame) -> Result<(), Memory>
     push_text(out, "\"/></clipPath>\n")
 }
 
+/// Writes so many tenths.
+fn push_tenths(out: &mut Vec<u8>, tenths: u32) -> Result<(), Memory>
+    ensures { OnOk result (out.new.items ≡ out.old.items ++ tenths_text tenths) }
+{
+    push_number(out, (tenths / 10) as u128)?;
+    push_text(out, ".")?;
+    push_number(out, (tenths % 10) as u128)
+}
+
 /// Writes tenths of a millimetre.
 fn push_paper(out: &mut Vec<u8>, tenths: u32) -> Result<(), Memory>
     ensures { OnOk result (out.new.items ≡ out.old.items ++ paper_text tenths) }
 {
-    push_number(out, (tenths / 10) as u128)?;
-    push_text(out, ".")?;
-    push_number(out, (tenths % 10) as u128)?;
+    push_tenths(out, tenths)?;
     push_text(out, "mm\"")
 }
 
@@ -398,7 +405,7 @@ fn push_tail(
     ensures { OnOk result (out.new.items ≡ out.old.items ++ tail_text (drawn frame artery.now timing.now (option_map (λ t. t.now) title))) }
 {
     push_keys(out, frame)?;
-    push_heads(out, frame, artery, title)?;
+    push_heads(out, frame, artery, timing, title)?;
     push_names(out, frame, artery)?;
     push_captions(out, frame, artery, timing)?;
     push_text(out, "</svg>\n")

@@ -3,10 +3,12 @@
 ghost use Rattle.std.specs.Prelude.{◌≡◌, ◌+◌, ◌*◌, ◌<◌, ◌≤◌, ◌^◌, length};
 ghost use Rattle.diagram_draw.specs.Widths.{is_among, byte_width, text_width, fitting};
 
-/// The usual sizes of letters: of the street's name, of a plan's title and of the signals' names.
+/// The usual sizes of letters: of the street's name, of a plan's title, of what is measured and of the signals' names.
 pub const TITLE_SIZE: u32 = 330;
 
 pub const SUBTITLE_SIZE: u32 = 220;
+
+pub const FACTS_SIZE: u32 = 165;
 
 pub const NAME_SIZE: u32 = 150;
 

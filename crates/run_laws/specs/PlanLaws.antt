@@ -12,7 +12,7 @@ use Rattle.progression.specs.Best.{weighted_band}
 use Rattle.progression.specs.declared.parts.Dir.TheVariants.{Outbound, Inbound}
 use Rattle.time_space.specs.Failing.{Fails}
 use Rattle.time_space.specs.declared.failing.Failing.{Failing}
-use Rattle.time_space.specs.declared.failing.Failing.TheVariants as failing
+use Rattle.time_space.specs.declared.failing.Failing.TheVariants as rule
 use Rattle.band_measure.specs.declared.pair.Widest.{Widest}
 use Rattle.mirror_theory.specs.EqualBands.{HasNone, IsHalfCycleBest}
 use Rattle.half_integer.specs.Answers as half
@@ -310,7 +310,7 @@ pub record SaysUnshaped (before now : Outside) (artery timed : List ℕ) (c : Ca
   pub description : Reads Description (before.holds artery) street
   pub text : Reads Timed (before.holds timed) (Some timing)
   pub unshaped : length timing.patterns ≢ count street
-  pub cause_is : c ≡ cause.Fails failing.Shape
+  pub cause_is : c ≡ cause.Fails rule.Shape
   pub kept : SameFiles before.holds now.holds
 
 -- with status 10: the second file is a certificate without a timing
@@ -330,7 +330,7 @@ DrawSays = (before now : Outside) (artery timed picture : List ℕ) (title : Opt
 -- the timing is drawn, it has another number of signals, or there is none
 abbrev pub IsDrawingEnd : Cause → Type 0
 IsDrawingEnd cause.Done = Unit {0}
-IsDrawingEnd (cause.Fails failing.Shape) = Unit {0}
+IsDrawingEnd (cause.Fails rule.Shape) = Unit {0}
 IsDrawingEnd (cause.Unplanned end.NoTimingGiven) = Unit {0}
 IsDrawingEnd c = ⊥
 

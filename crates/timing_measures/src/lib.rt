@@ -2,7 +2,8 @@
 //! description.
 //!
 //! Contracts see an `Artery` as a `Street` and a `Timing` as a `TimingRecord`. `specs/Measures` has each number exact, as a fraction that is
-//! never below 0. Start with `band_share`, `offset` or `link_speed`. What writes them, in text or in a picture, stands above.
+//! never below 0, and `specs/Rounding` those with some decimal places. Start with `band_share`, `offset` or `link_speed`, and with
+//! `round_to`. What writes them, in text or in a picture, stands above.
 #![tactic(auto)]
 
 mod measures;

@@ -1,6 +1,6 @@
 //! Numbers with some decimal places, rounded to the nearest.
 
-ghost use Rattle.std.specs.Prelude.{◌≡◌, ◌+◌, ◌-◌, ◌*◌, ◌/◌, ◌%◌, ◌<◌, ◌≤◌, ◌^◌, pos, ◌≤ℤ◌};
+ghost use Rattle.std.specs.Prelude.{◌≡◌, ◌+◌, ◌*◌, ◌/◌, ◌%◌, ◌<◌, ◌≤◌, ◌^◌, pos, ◌≤ℤ◌};
 ghost use Rattle.timing_measures.specs.Rounding.{nearest, nearest_parts};
 
 use narrow_fraction::Frac;
@@ -14,7 +14,7 @@ pub struct Rounded {
     pub rest: u32,
 }
 
-/// The tenths of a fraction below 1, rounded.
+/// A fraction below 1 in tenths, rounded.
 fn near_tenths(rest: u128, bottom: u128) -> u32
     requires rest { rest < bottom }
     requires bottom { bottom ≤ 2 ^ 120 }
@@ -24,32 +24,58 @@ fn near_tenths(rest: u128, bottom: u128) -> u32
     ((20 * rest + bottom) / (2 * bottom)) as u32
 }
 
-/// So many tens of parts of a fraction below 1, rounded.
-#[tactic(auto, using(crate::proofs::Nearest::nearest_on))]
-fn near_parts(rest: u128, bottom: u128, tens: u32) -> u32
+/// The same in hundredths.
+fn near_hundredths(rest: u128, bottom: u128) -> u32
     requires rest { rest < bottom }
     requires bottom { bottom ≤ 2 ^ 120 }
-    requires tens { tens ≤ 100 }
-    ensures value { result ≡ nearest_parts rest bottom (10 * tens) }
-    ensures most { result ≤ 10 * tens }
-{
-    let scaled = rest * u128::from(tens);
-    let before = (scaled / bottom) as u32;
-    10 * before + near_tenths(scaled % bottom, bottom)
-}
-
-/// A tenth of the number of parts that so many decimal places make of a whole.
-fn tens_of(places: u32) -> u32
-    requires some { 1 ≤ places }
-    requires most { places ≤ 3 }
-    ensures value { 10 * result ≡ 10 ^ places }
-    ensures least { 1 ≤ result }
+    ensures value { result ≡ nearest_parts rest bottom 100 }
     ensures most { result ≤ 100 }
 {
+    ((200 * rest + bottom) / (2 * bottom)) as u32
+}
+
+/// The same in thousandths.
+#[tactic(auto, using(crate::proofs::Nearest::nearest_thousandths))]
+fn near_thousandths(rest: u128, bottom: u128) -> u32
+    requires rest { rest < bottom }
+    requires bottom { bottom ≤ 2 ^ 120 }
+    ensures value { result ≡ nearest_parts rest bottom 1000 }
+    ensures most { result ≤ 1000 }
+{
+    let before = (10 * rest / bottom) as u32;
+    100 * before + near_hundredths(10 * rest % bottom, bottom)
+}
+
+/// A whole number and so many parts of one, of which some may be wholes.
+#[tactic(auto, using(crate::proofs::Nearest::wholes_in, crate::proofs::Nearest::rest_in))]
+fn with_parts(whole: u128, near: u32, parts: u32) -> Rounded
+    requires whole { whole < 2 ^ 127 }
+    requires parts { 1 ≤ parts }
+    ensures whole { result.whole ≡ (parts * whole + near) / parts }
+    ensures rest { result.rest ≡ (parts * whole + near) % parts }
+{
+    Rounded {
+        whole: whole + u128::from(near / parts),
+        rest: near % parts,
+    }
+}
+
+/// The quotient of two numbers in tenths, hundredths or thousandths.
+#[tactic(auto, using(crate::proofs::Nearest::nearest_rest))]
+fn near_quotient(top: u128, bottom: u128, places: u32) -> Rounded
+    requires top { top < 2 ^ 127 }
+    requires some { 1 ≤ bottom }
+    requires bottom { bottom ≤ 2 ^ 120 }
+    requires some_places { 1 ≤ places }
+    requires most_places { places ≤ 3 }
+    ensures whole { result.whole ≡ nearest_parts top bottom (10 ^ places) / 10 ^ places }
+    ensures rest { result.rest ≡ nearest_parts top bottom (10 ^ places) % 10 ^ places }
+{
+    let (whole, rest) = (top / bottom, top % bottom);
     match places {
-        1 => 1,
-        2 => 10,
-        _ => 100,
+        1 => with_parts(whole, near_tenths(rest, bottom), 10),
+        2 => with_parts(whole, near_hundredths(rest, bottom), 100),
+        _ => with_parts(whole, near_thousandths(rest, bottom), 1000),
     }
 }
 
@@ -61,15 +87,8 @@ pub fn round_to(value: Frac, places: u32) -> Rounded
     requires most_places { places ≤ 3 }
     ensures whole { result.whole ≡ nearest value places / 10 ^ places }
     ensures rest { result.rest ≡ nearest value places % 10 ^ places }
-    ensures below { result.rest < 10 ^ places }
 {
     let top = value.num().unsigned_abs();
     let bottom = value.den().unsigned_abs();
-    let tens = tens_of(places);
-    let parts = 10 * tens;
-    let near = near_parts(top % bottom, bottom, tens);
-    Rounded {
-        whole: top / bottom + u128::from(near / parts),
-        rest: near % parts,
-    }
+    near_quotient(top, bottom, places)
 }

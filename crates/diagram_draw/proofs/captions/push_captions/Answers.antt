@@ -10,5 +10,5 @@ returns c =
     let a = c.args.artery.now in
     let t = c.args.timing.now in
     on_ok_weaker c.push_below.result
-    (four_rows _ _ _ _ _ (above f a t) (beside f a t) (marks f a t) (below f a t) c.in_ok-push_above.ensures c.in_ok-push_beside.ensures c.in_ok-push_marks.ensures)
+    (four_rows _ _ _ _ _ (above f a) (beside f a t) (marks f a t) (below f a t) c.in_ok-push_above.ensures c.in_ok-push_beside.ensures c.in_ok-push_marks.ensures)
     c.push_below.ensures

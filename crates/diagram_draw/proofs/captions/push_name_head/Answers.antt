@@ -11,7 +11,7 @@ returns c =
     let name = c.street_name-name.ensures in
     let bytes = c.as_bytes.ensures.value ∙ name in
     let width = c.text_width.ensures.value ∙ (λ i. text_width (bytes i)) in
-    let size = c.fitting-size.ensures ∙ (λ i. fitting title_size (c.head_room.ensures i) (width i)) in
+    let size = c.fitting-size.ensures ∙ (λ i. fitting title_size (c.bold_room.ensures i) (width i)) in
     on_ok_weaker c.push_sized.result
     (λ e. e ∙ (λ i. c.args.out.now.items ++ sized_words_text Title (size i) (pos 220) (pos 480) (escaped (name i))))
     c.push_sized.ensures

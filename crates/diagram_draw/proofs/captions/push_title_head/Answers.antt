@@ -9,7 +9,7 @@ use Rattle.diagram_draw.proofs.captions.push_title_head.Goals as goal
 pub returns : goal.returns
 returns c =
     let width = c.text_width.ensures.value ∙ (λ i. text_width (c.as_bytes.ensures.value i)) in
-    let size = c.fitting-size.ensures ∙ (λ i. fitting subtitle_size (c.head_room.ensures i) (width i)) in
+    let size = c.fitting-size.ensures ∙ (λ i. fitting subtitle_size (c.head_room.ensures.value i) (width i)) in
     on_ok_weaker c.push_sized.result
     (λ e. e ∙ (λ i. c.args.out.now.items ++ sized_words_text Subtitle (size i) (pos 220) (pos 800) (escaped c.args.title.now)))
     c.push_sized.ensures
