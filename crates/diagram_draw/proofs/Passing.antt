@@ -1,10 +1,9 @@
 -- A band leaves and enters a link exactly where the pieces that are drawn do.
-use Rattle.std.proofs.Common.{◌≡◌, ℕ, suc, ℤ, pos, negsuc, ◌+ℤ◌, ◌-ℤ◌, ◌*ℤ◌, ◌≤ℤ◌, ◌+◌, ◌-◌, ◌*◌, ◌<◌, ◌≤◌, Bool, true, false, not, ◌&&◌, nat_le, IsTrue, true≢false, refl, sym, ap, subst, ◌∙◌, arith, inl, inr, mul-pos}
+use Rattle.std.proofs.Common.{◌≡◌, ℕ, suc, ℤ, pos, negsuc, ◌+ℤ◌, ◌-ℤ◌, ◌*ℤ◌, ◌≤ℤ◌, ◌+◌, ◌-◌, ◌*◌, ◌/◌, ◌<◌, ◌≤◌, Bool, true, false, not, ◌&&◌, nat_le, IsTrue, true≢false, refl, sym, ap, subst, ◌∙◌, arith, inl, inr, mul-pos}
 use Rattle.std.specs.Prelude.{◌<ℤ◌, ◌⊎◌, ◌↔◌, int_le, int_lt}
 use Rattle.std.proofs.lemmas.Int.{ints}
-use Rattle.std.proofs.lemmas.Bool.{cases_lt}
-use Rattle.std.proofs.lemmas.Bool.Decides.{nat_tests}
-use Rattle.std.proofs.lemmas.Nat.{mul-right_cancel}
+use Rattle.std.proofs.lemmas.Bool.{cases_lt, leb-true, le-leb}
+use Rattle.std.proofs.Math.Nat.{mul-div_cancel}
 use Rattle.progression.specs.Street.{Street, count, HasLink}
 use Rattle.progression.specs.TimingRecord.{TimingRecord, cycle, run, band, common_red}
 use Rattle.progression.specs.Green.{mod_ℤ, red_start, red_ticks}
@@ -97,7 +96,7 @@ module _ (c b : ℕ) (line o : ℤ) (some : 0 < c) (below : b < c) (cycles n : �
       let q = quot_ℤ (line -ℤ o) c in
       let k = quot_ℤ (o +ℤ pos n -ℤ line) c in
       let r = mod_ℤ (line -ℤ o) c in
-      let near : ago ≤ b = grind (arith, nat_tests) in
+      let near : ago ≤ b = leb-true ago b g in
       let e = split_ℤ (line -ℤ o) c some in
       let w = split_ℤ (o +ℤ pos n -ℤ line) c some in
       let one = plus_scale q k c in
@@ -124,7 +123,7 @@ module _ (c b : ℕ) (line o : ℤ) (some : 0 < c) (below : b < c) (cycles n : �
       let near : gap.0 ≤ b = omega (arith, ints, back, lasting) in
       let there : o +ℤ pos n -ℤ line ≡ (k -ℤ pos 1 -ℤ q) *ℤ pos c +ℤ pos gap.0 = omega (arith, ints, e, is, one, two, back) in
       let since_is = mod_unique (o +ℤ pos n -ℤ line) (k -ℤ pos 1 -ℤ q) c gap.0 there (omega (arith, near, below)) in
-      rw since_is (grind (arith, nat_tests))
+      subst (λ r. IsTrue (nat_le r b)) (sym since_is) (le-leb gap.0 b near)
 
 -- ---- the two ends of a link
 -- where a part leaves and where it enters, in whole cycles after either of the remainders
@@ -159,10 +158,10 @@ back_again y r c m = omega (arith, ints)
 
 -- ---- the parts that are drawn
 module _ (f : Frame) (a : Street) (t : TimingRecord) (d : Dir) (l : ℕ) (e : f.cycle ≡ cycle a t) where
-  line_out : ℤ
+  abbrev line_out : ℤ
   line_out = line_at a t d (tail d l)
 
-  part_of : Edge → ℕ → BandPart
+  abbrev part_of : Edge → ℕ → BandPart
   part_of g m = band_in_cycle f (band_part f a t d g l) m
 
   leaving_begin : (m : ℕ) → (part_of Leaving m).begin ≡ pos (mod_ℤ (line_out -ℤ common_red t 1) f.cycle) -ℤ pos (1 * f.cycle) +ℤ pos (m * f.cycle)
@@ -268,7 +267,9 @@ pieces_are_seen f a t d l part h drawn =
 
 -- ---- none is there twice
 same_number : (x : ℤ) (c m n : ℕ) → 0 < c → x +ℤ pos (m * c) ≡ x +ℤ pos (n * c) → m ≡ n
-same_number x c m n some e = let products : m * c ≡ n * c = omega (arith, ints, e) in grind (arith, mul-right_cancel)
+same_number x c m n some e =
+    let products : m * c ≡ n * c = omega (arith, ints, e) in
+    sym (mul-div_cancel m some) ∙ (ap (λ p. p / c) products ∙ mul-div_cancel n some)
 
 not_seen : (f : Frame) (x y : ℤ) (b : ℕ) → IsTrue (is_seen f x b) → IsTrue (not (is_seen f y b)) → x ≡ y → ⊥
 not_seen f x y b h k e = true≢false (sym h ∙ (ap (λ z. is_seen f z b) e ∙ not_true (is_seen f y b) k))

@@ -7,9 +7,7 @@ ghost use Rattle.diagram_draw.specs.Bands.{tail, leaving_level, entering_level, 
 ghost use Rattle.diagram_draw.specs.Bands.{chosen_piece, some_pieces, first_begin, edge_pieces, pieces, link_pieces, all_pieces};
 
 use crate::bars::after;
-use crate::frame::{
-    Frame, above, below, cycles_ticks, earlier, later, level, moment_after, x_at,
-};
+use crate::frame::{Frame, above, below, cycles_ticks, earlier, later, level, moment_after, x_at};
 use crate::paint::Paint;
 use crate::shape::{Shape, Side};
 use crate::ways::has_band;

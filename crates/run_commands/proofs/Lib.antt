@@ -1,3 +1,4 @@
 pub mod Planning
 pub mod Pushed
+pub mod Shaped
 pub mod Tried

@@ -63,6 +63,7 @@ fn draw_shaped<'a>(
 }
 
 /// Draws a timing, where it has as many signals as the artery.
+#[tactic(auto, using(crate::proofs::Shaped::unshaped_found))]
 fn draw_any<'a>(
     alloc: Global,
     artery: &Artery,
