@@ -56,13 +56,10 @@ impl TimingKind for LinkBands {
     }
 
     fn named_tree_at(alloc: Global, line: u64, bytes: &[u8]) -> Result<Vec<CertNode>, TextEnd> {
-        let names = link_families(alloc)?;
-        tree_at(alloc, Naming::Named(names.as_slice()), line, bytes)
+        tree_at(alloc, Naming::Named(link_families()), line, bytes)
     }
 
     fn push_named_tree(out: &mut Vec<u8>, nodes: &[CertNode]) -> Result<(), Memory> {
-        let alloc = *out.allocator();
-        let names = link_families(alloc)?;
-        push_tree(out, Naming::Named(names.as_slice()), nodes)
+        push_tree(out, Naming::Named(link_families()), nodes)
     }
 }

@@ -60,11 +60,10 @@ pub fn link_report(alloc: Global, artery: &Artery, found: &LinkFound) -> Result<
     ensures { IfOk result (λ lines. lines.items ≡ link_report_lines artery.now found.now) }
 {
     let timing = lines_of(alloc, artery, &found.timing)?;
-    let names = link_families(alloc)?;
     verdict_lines(
         alloc,
         artery,
-        names.as_slice(),
+        link_families(),
         &found.verdict,
         found.bound,
         timing,

@@ -1,6 +1,6 @@
 //! How a run ends.
 
-ghost use Rattle.std.specs.Prelude.{◌≡◌, ◌↔◌, IsTrue};
+ghost use Rattle.std.specs.Prelude.{◌≡◌};
 ghost use Rattle.run_inputs.specs.Status.{number_of};
 
 use artery_model::Refusal;
@@ -78,28 +78,6 @@ impl Cause {
             Cause::TooLong { .. } => 9,
             Cause::Unplanned(_) => 10,
             Cause::Unmatched(_) => 11,
-        }
-    }
-    /// Whether memory was wanting.
-    pub fn is_memory(&self) -> bool
-        ensures { IsTrue result ↔ self.now ≡ Cause.Memory }
-    {
-        match self {
-            Cause::Memory => true,
-            Cause::Done
-            | Cause::NoTiming
-            | Cause::Stopped(_)
-            | Cause::Refused(_)
-            | Cause::BadText(_)
-            | Cause::Fails(_)
-            | Cause::Rejected(_)
-            | Cause::LinkRejected(_)
-            | Cause::Words
-            | Cause::ReadFault { .. }
-            | Cause::WriteFault
-            | Cause::TooLong { .. }
-            | Cause::Unplanned(_)
-            | Cause::Unmatched(_) => false,
         }
     }
 }

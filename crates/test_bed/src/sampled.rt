@@ -1,7 +1,7 @@
 //! The streets of samples.
 
 ghost use Rattle.std.specs.Prelude.{◌≡◌, IfOk, map};
-ghost use Rattle.sample_streets.specs.Samples.{head_of, signal_of, link_of};
+ghost use Rattle.test_bed.specs.Samples.{head_of, signal_of, link_of};
 
 use crate::sample::{SampleHead, SampleLink, SampleSignal};
 use artery_model::{Artery, Flaw, Head, Link, Signal, Text};

@@ -1,7 +1,7 @@
 //! What is given of a sample.
 
 ghost use Rattle.std.specs.Prelude.{◌≡◌};
-ghost use Rattle.sample_streets.specs.Samples.{head_of, signal_of, link_of, whole_range, plain_head, plain_signal, plain_link};
+ghost use Rattle.test_bed.specs.Samples.{head_of, signal_of, link_of, whole_range, plain_head, plain_signal, plain_link};
 
 use artery_model::{Pair, Units};
 use narrow_fraction::Frac;

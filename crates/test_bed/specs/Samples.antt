@@ -6,9 +6,9 @@ use Rattle.progression.specs.declared.parts.Head.{Head}
 use Rattle.progression.specs.declared.parts.Signal.{Signal}
 use Rattle.progression.specs.declared.parts.Link.{Link}
 use Rattle.progression.specs.declared.parts.Units.TheVariants.{Metric}
-use Rattle.sample_streets.specs.declared.sample.SampleHead.{SampleHead}
-use Rattle.sample_streets.specs.declared.sample.SampleSignal.{SampleSignal}
-use Rattle.sample_streets.specs.declared.sample.SampleLink.{SampleLink}
+use Rattle.test_bed.specs.declared.sample.SampleHead.{SampleHead}
+use Rattle.test_bed.specs.declared.sample.SampleSignal.{SampleSignal}
+use Rattle.test_bed.specs.declared.sample.SampleLink.{SampleLink}
 
 abbrev pub head_of : SampleHead → Head
 head_of s = record {
