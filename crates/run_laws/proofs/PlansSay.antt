@@ -2,7 +2,7 @@
 use Rattle.std.proofs.Common.{◌≡◌, ◌⊎◌, ℕ, List, [], ◌∷◌, Option, Some, None, Ok, inl, inr, refl, sym, ◌∙◌, ap, subst, arith}
 use Rattle.std.specs.List.{AllZip}
 use Rattle.rational_theory.specs.Rational.{ℚ}
-use Rattle.outer_edge.specs.Held.{HoldsExactly}
+use Rattle.outer_edge.specs.Held.{SameFiles, HoldsExactly}
 use Rattle.outer_edge.specs.Taken.{Appends}
 use Rattle.progression.specs.Street.{Street}
 use Rattle.progression.specs.TimingRecord.{TimingRecord}
@@ -34,6 +34,7 @@ use Rattle.run_inputs.specs.Status.{number_of, IsReached}
 use Rattle.run_inputs.specs.declared.cause.Cause.{Cause}
 use Rattle.run_inputs.specs.declared.cause.Cause.TheVariants as cause
 use Rattle.run_laws.proofs.Found.{Found, found, found_done, found_four, ten_is, eleven_is}
+use Rattle.run_laws.proofs.Kept.{found_keeps, four_refuses}
 use Rattle.run_laws.proofs.Once.{unplanned_accepted}
 use Rattle.run_laws.proofs.PutRead.{is_put, reached_ends}
 
@@ -55,7 +56,7 @@ module _ (before now : Outside) (artery timing : List ℕ) where
         told = subst (λ (l : List ℕ). Appends before.taken now.taken l) k.lines_are f.done.written;
       }
 
-  says_no_base : (f : Failing) → Found before now (Some (Bands artery timing)) (cause.Fails f) → SaysNoBase before artery timing (cause.Fails f)
+  says_no_base : (f : Failing) → Found before now (Some (Bands artery timing)) (cause.Fails f) → SaysNoBase before now artery timing (cause.Fails f)
   says_no_base f k = record {
     street = k.answer.values.0;
     plan = k.answer.values.1.0;
@@ -65,9 +66,10 @@ module _ (before now : Outside) (artery timing : List ℕ) where
     fails = k.answer.finds.first.fails;
     not_base = k.answer.finds.not_base;
     cause_is = refl;
+    kept = found_keeps before now (Some (Bands artery timing)) (cause.Fails f) (λ v. v) k;
   }
 
-  bands_four : (c : Cause) → number_of c ≡ 4 → Found before now (Some (Bands artery timing)) c → SaysNoBase before artery timing c
+  bands_four : (c : Cause) → number_of c ≡ 4 → Found before now (Some (Bands artery timing)) c → SaysNoBase before now artery timing c
   bands_four (cause.Fails f) e k = says_no_base f k
   bands_four (cause.Rejected r) e k = absurd k.answer.finds
   bands_four (cause.LinkRejected r) e k = absurd k.answer.finds
@@ -107,7 +109,7 @@ module _ (before now : Outside) (artery timing new : List ℕ) where
         found = elim k.found [ inl h ↦ inl (none h) | inr h ↦ inr (some h.0 h.1 h.2) ];
       }
 
-  half_no_base : (f : Failing) → Found before now (Some (Half artery timing new)) (cause.Fails f) → SaysNoBase before artery timing (cause.Fails f)
+  half_no_base : (f : Failing) → Found before now (Some (Half artery timing new)) (cause.Fails f) → SaysNoBase before now artery timing (cause.Fails f)
   half_no_base f k = record {
     street = k.answer.values.0;
     plan = k.answer.values.1.0;
@@ -117,15 +119,16 @@ module _ (before now : Outside) (artery timing new : List ℕ) where
     fails = k.answer.finds.0.first.fails;
     not_base = k.answer.finds.0.not_base;
     cause_is = refl;
+    kept = found_keeps before now (Some (Half artery timing new)) (cause.Fails f) (λ v. v) k;
   }
 
-  half_four : (c : Cause) → number_of c ≡ 4 → Found before now (Some (Half artery timing new)) c → SaysNoBase before artery timing c
+  half_four : (c : Cause) → number_of c ≡ 4 → Found before now (Some (Half artery timing new)) c → SaysNoBase before now artery timing c
   half_four (cause.Fails f) e k = half_no_base f k
   half_four (cause.Rejected r) e k = absurd k.answer.finds
   half_four (cause.LinkRejected r) e k = absurd k.answer.finds
   half_four c e k = absurd cc
 
-  says_unmatched : OneEnd → (reason : HalfEnd) → Found before now (Some (Half artery timing new)) (cause.Unmatched reason) → SaysUnmatched before artery timing (cause.Unmatched reason)
+  says_unmatched : OneEnd → (reason : HalfEnd) → Found before now (Some (Half artery timing new)) (cause.Unmatched reason) → SaysUnmatched before now artery timing (cause.Unmatched reason)
   says_unmatched ends reason k = record {
     street = k.answer.values.0;
     plan = k.answer.values.1.0;
@@ -136,10 +139,11 @@ module _ (before now : Outside) (artery timing new : List ℕ) where
     first = k.answer.finds.first;
     not_ready = ends.not_ready k.answer.values.0 k.answer.values.1.0 reason k.answer.finds.first;
     cause_is = refl;
+    kept = found_keeps before now (Some (Half artery timing new)) (cause.Unmatched reason) (λ v. v) k;
   }
 
-  half_eleven : OneEnd → (c : Cause) (reason : HalfEnd) → c ≡ cause.Unmatched reason → Ends before now (Some (Half artery timing new)) c → SaysUnmatched before artery timing c
-  half_eleven ends c reason e h = subst (λ (d : Cause). SaysUnmatched before artery timing d) (sym e)
+  half_eleven : OneEnd → (c : Cause) (reason : HalfEnd) → c ≡ cause.Unmatched reason → Ends before now (Some (Half artery timing new)) c → SaysUnmatched before now artery timing c
+  half_eleven ends c reason e h = subst (λ (d : Cause). SaysUnmatched before now artery timing d) (sym e)
       (says_unmatched ends reason (found before now (Some (Half artery timing new)) (cause.Unmatched reason) tt (λ s. s) (subst (λ (d : Cause). Ends before now (Some (Half artery timing new)) d) e h)))
 
 pub half_says : OneEnd → HalfSays
@@ -151,7 +155,7 @@ half_says ends before now artery timing new c h = (
 
 -- ---- round
 module _ (before now : Outside) (artery certificate plan : List ℕ) where
-  pub round_four : RefusedIsNotAccepted → (c : Cause) → number_of c ≡ 4 → Found before now (Some (Round artery certificate plan)) c → SaysRejected whole_bands whole_checked before artery certificate c
+  pub round_four : RefusedIsNotAccepted → (c : Cause) → number_of c ≡ 4 → Found before now (Some (Round artery certificate plan)) c → SaysRejected whole_bands whole_checked before now artery certificate c
   round_four apart (cause.Rejected r) e k =
       let h = k.answer.finds.0 in
       record {
@@ -163,12 +167,13 @@ module _ (before now : Outside) (artery certificate plan : List ℕ) where
         first = h.first;
         not_accepted = apart k.answer.values.0 k.answer.values.1.0 h.reject h.first h.kept;
         cause_is = h.cause_is;
+        kept = found_keeps before now (Some (Round artery certificate plan)) (cause.Rejected r) (λ v. v) k;
       }
   round_four apart (cause.Fails f) e k = absurd k.answer.finds
   round_four apart (cause.LinkRejected r) e k = absurd k.answer.finds
   round_four apart c e k = absurd cc
 
-  says_unplanned : (reason : PlanEnd) → Found before now (Some (Round artery certificate plan)) (cause.Unplanned reason) → SaysUnplanned before artery certificate (cause.Unplanned reason)
+  says_unplanned : (reason : PlanEnd) → Found before now (Some (Round artery certificate plan)) (cause.Unplanned reason) → SaysUnplanned before now artery certificate (cause.Unplanned reason)
   says_unplanned reason k = record {
     street = k.answer.values.0;
     warrant = k.answer.values.1.0;
@@ -178,17 +183,18 @@ module _ (before now : Outside) (artery certificate plan : List ℕ) where
     accepted = unplanned_accepted k.answer.values.0 k.answer.values.1.0 k.answer.values.1.0.timing reason k.answer.finds.first;
     first = k.answer.finds.first;
     cause_is = refl;
+    kept = found_keeps before now (Some (Round artery certificate plan)) (cause.Unplanned reason) (λ v. v) k;
   }
 
-  pub round_ten : (c : Cause) → number_of c ≡ 10 → Ends before now (Some (Round artery certificate plan)) c → SaysUnplanned before artery certificate c
+  pub round_ten : (c : Cause) → number_of c ≡ 10 → Ends before now (Some (Round artery certificate plan)) c → SaysUnplanned before now artery certificate c
   round_ten c n h = let r = ten_is c n in
-      subst (λ (d : Cause). SaysUnplanned before artery certificate d) (sym r.1)
+      subst (λ (d : Cause). SaysUnplanned before now artery certificate d) (sym r.1)
       (says_unplanned r.0 (found before now (Some (Round artery certificate plan)) (cause.Unplanned r.0) tt (λ s. s) (subst (λ (d : Cause). Ends before now (Some (Round artery certificate plan)) d) r.1 h)))
 
 -- ---- round-from
 module _ (before now : Outside) (artery certificate other plan : List ℕ) where
   pub from_four : RefusedIsNotAccepted → FailsRulesOut → (c : Cause) → number_of c ≡ 4 → Found before now (Some (RoundFrom artery certificate other plan)) c
-      → SaysRejected whole_bands whole_checked before artery certificate c ⊎ SaysFailing before artery other c
+      → SaysRejected whole_bands whole_checked before now artery certificate c ⊎ SaysFailing before now artery other c
   from_four apart rules (cause.Rejected r) e k =
       let h = k.answer.finds.0 in
       inl (record {
@@ -200,6 +206,7 @@ module _ (before now : Outside) (artery certificate other plan : List ℕ) where
         first = h.first;
         not_accepted = apart k.answer.values.0 k.answer.values.1.0 h.reject h.first h.kept;
         cause_is = h.cause_is;
+        kept = found_keeps before now (Some (RoundFrom artery certificate other plan)) (cause.Rejected r) (λ v. v) k;
       })
   from_four apart rules (cause.Fails f) e k =
       let h = k.answer.finds in
@@ -212,12 +219,13 @@ module _ (before now : Outside) (artery certificate other plan : List ℕ) where
         fails = h.first.fails;
         not_good = rules k.answer.values.0 h.timing f h.first.fails;
         cause_is = refl;
+        kept = found_keeps before now (Some (RoundFrom artery certificate other plan)) (cause.Fails f) (λ v. v) k;
       })
   from_four apart rules (cause.LinkRejected r) e k = absurd k.answer.finds
   from_four apart rules c e k = absurd cc
 
   says_from_unplanned : (reason : PlanEnd) → Found before now (Some (RoundFrom artery certificate other plan)) (cause.Unplanned reason)
-      → SaysUnplannedFrom before artery certificate other (cause.Unplanned reason)
+      → SaysUnplannedFrom before now artery certificate other (cause.Unplanned reason)
   says_from_unplanned reason k = record {
     street = k.answer.values.0;
     warrant = k.answer.values.1.0;
@@ -229,11 +237,12 @@ module _ (before now : Outside) (artery certificate other plan : List ℕ) where
     accepted = unplanned_accepted k.answer.values.0 k.answer.values.1.0 k.answer.values.1.1.0 reason k.answer.finds.first;
     first = k.answer.finds.first;
     cause_is = refl;
+    kept = found_keeps before now (Some (RoundFrom artery certificate other plan)) (cause.Unplanned reason) (λ v. v) k;
   }
 
-  pub from_ten : (c : Cause) → number_of c ≡ 10 → Ends before now (Some (RoundFrom artery certificate other plan)) c → SaysUnplannedFrom before artery certificate other c
+  pub from_ten : (c : Cause) → number_of c ≡ 10 → Ends before now (Some (RoundFrom artery certificate other plan)) c → SaysUnplannedFrom before now artery certificate other c
   from_ten c n h = let r = ten_is c n in
-      subst (λ (d : Cause). SaysUnplannedFrom before artery certificate other d) (sym r.1)
+      subst (λ (d : Cause). SaysUnplannedFrom before now artery certificate other d) (sym r.1)
       (says_from_unplanned r.0 (found before now (Some (RoundFrom artery certificate other plan)) (cause.Unplanned r.0) tt (λ s. s)
       (subst (λ (d : Cause). Ends before now (Some (RoundFrom artery certificate other plan)) d) r.1 h)))
 
@@ -360,10 +369,10 @@ module _ (rules : FailsRulesOut) (before now : Outside) (artery timed picture : 
     told = subst (λ (l : List ℕ). Appends before.taken now.taken l) h.2.lines_are f.done.written;
   }
 
-  undrawn_of : (a : Street) (o : Option TimingRecord) (c : Cause) (l : List ℕ) (bytes : Option (List ℕ)) → Reads Description (before.holds artery) a → Reads Timed (before.holds timed) o → number_of c ≡ 4
-      → DrawFinds a o c l bytes → SaysFailing before artery timed c
-  undrawn_of a None c l bytes d r e h = absurd (ten_apart (sym (ap number_of h.0) ∙ e))
-  undrawn_of a (Some t) (cause.Fails f) l bytes d r e h = record {
+  undrawn_of : (a : Street) (o : Option TimingRecord) (c : Cause) (l : List ℕ) (bytes : Option (List ℕ)) → SameFiles before.holds now.holds
+      → Reads Description (before.holds artery) a → Reads Timed (before.holds timed) o → number_of c ≡ 4 → DrawFinds a o c l bytes → SaysFailing before now artery timed c
+  undrawn_of a None c l bytes kept d r e h = absurd (ten_apart (sym (ap number_of h.0) ∙ e))
+  undrawn_of a (Some t) (cause.Fails f) l bytes kept d r e h = record {
     street = a;
     timing = t;
     failing = f;
@@ -372,27 +381,30 @@ module _ (rules : FailsRulesOut) (before now : Outside) (artery timed picture : 
     fails = h.0.fails;
     not_good = rules a t f h.0.fails;
     cause_is = refl;
+    kept = kept;
   }
-  undrawn_of a (Some t) cause.Done l bytes d r e h = absurd cc
-  undrawn_of a (Some t) c l bytes d r e h = absurd h
+  undrawn_of a (Some t) cause.Done l bytes kept d r e h = absurd cc
+  undrawn_of a (Some t) c l bytes kept d r e h = absurd h
 
-  untimed_of : (a : Street) (o : Option TimingRecord) (reason : PlanEnd) (l : List ℕ) (bytes : Option (List ℕ)) → Reads Description (before.holds artery) a → Reads Timed (before.holds timed) o
-      → DrawFinds a o (cause.Unplanned reason) l bytes → SaysUntimed before artery timed (cause.Unplanned reason)
-  untimed_of a None reason l bytes d r h = record { street = a; description = d; text = r; cause_is = h.0 }
-  untimed_of a (Some t) reason l bytes d r h = absurd h
+  untimed_of : (a : Street) (o : Option TimingRecord) (reason : PlanEnd) (l : List ℕ) (bytes : Option (List ℕ)) → SameFiles before.holds now.holds
+      → Reads Description (before.holds artery) a → Reads Timed (before.holds timed) o → DrawFinds a o (cause.Unplanned reason) l bytes → SaysUntimed before now artery timed (cause.Unplanned reason)
+  untimed_of a None reason l bytes kept d r h = record { street = a; description = d; text = r; cause_is = h.0; kept = kept }
+  untimed_of a (Some t) reason l bytes kept d r h = absurd h
 
-  draw_ten : (c : Cause) (reason : PlanEnd) → c ≡ cause.Unplanned reason → Ends before now (Some (Draw artery timed picture)) c → SaysUntimed before artery timed c
+  draw_ten : (c : Cause) (reason : PlanEnd) → c ≡ cause.Unplanned reason → Ends before now (Some (Draw artery timed picture)) c → SaysUntimed before now artery timed c
   draw_ten c reason e h =
       let f = found before now (Some (Draw artery timed picture)) (cause.Unplanned reason) tt (λ s. s) (subst (λ (d : Cause). Ends before now (Some (Draw artery timed picture)) d) e h) in
-      subst (λ (d : Cause). SaysUntimed before artery timed d) (sym e)
-      (untimed_of f.answer.values.0 f.answer.values.1.0 reason f.lines f.answer.bytes f.answer.read.0 f.answer.read.1.0 f.answer.finds)
+      subst (λ (d : Cause). SaysUntimed before now artery timed d) (sym e)
+      (untimed_of f.answer.values.0 f.answer.values.1.0 reason f.lines f.answer.bytes (found_keeps before now (Some (Draw artery timed picture)) (cause.Unplanned reason) (λ v. v) f) f.answer.read.0
+      f.answer.read.1.0 f.answer.finds)
 
 pub draw_says : FailsRulesOut → DrawSays
 draw_says rules before now artery timed picture c h = (
   (λ e. let f = found_done before now (Some (Draw artery timed picture)) c e h in
       picture_of rules before now artery timed picture f.answer.values.0 f.answer.values.1.0 f f.answer.read.0 f.answer.read.1.0 f.answer.finds),
   (λ e. let f = found_four before now (Some (Draw artery timed picture)) c e h in
-      undrawn_of rules before now artery timed picture f.answer.values.0 f.answer.values.1.0 c f.lines f.answer.bytes f.answer.read.0 f.answer.read.1.0 e f.answer.finds),
+      undrawn_of rules before now artery timed picture f.answer.values.0 f.answer.values.1.0 c f.lines f.answer.bytes (found_keeps before now (Some (Draw artery timed picture)) c (four_refuses c e) f)
+      f.answer.read.0 f.answer.read.1.0 e f.answer.finds),
   (λ e. let r = ten_is c e in draw_ten rules before now artery timed picture c r.0 r.1 h),
 )
 
