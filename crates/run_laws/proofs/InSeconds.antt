@@ -1,5 +1,5 @@
 -- The cycle and the offsets of a plan in whole seconds are the numbers that are told.
-use Rattle.std.proofs.Common.{◌≡◌, ℕ, zero, suc, pos, ◌-ℤ◌, ◌*◌, ◌-◌, ◌%◌, ◌<◌, ◌≤◌, List, length, map, slice_index, slice_index_or, ap, ap₂, ◌∙◌, arith, mod-lt, mul-pos, mul-le-mul_right}
+use Rattle.std.proofs.Common.{◌≡◌, ℕ, zero, suc, pos, ◌-ℤ◌, ◌*◌, ◌-◌, ◌%◌, ◌<◌, ◌≤◌, List, map, slice_index, slice_index_or, ap, ap₂, ◌∙◌, arith, mod-lt, mul-pos, mul-le-mul_right}
 use Rattle.std.proofs.Math.Nat.{zero-mod}
 use Rattle.std.proofs.lemmas.Int.{ints}
 use Rattle.std.proofs.lemmas.List.{get_or-map}
@@ -9,7 +9,7 @@ use Rattle.progression.specs.Street.{Street, HasSignal}
 use Rattle.progression.specs.Speeds.{number}
 use Rattle.progression.specs.TimingRecord.{TimingRecord, cycle, common_red}
 use Rattle.progression.specs.Good.{Good}
-use Rattle.progression.specs.Green.{mod_ℤ, since}
+use Rattle.progression.specs.Green.{since}
 use Rattle.progression.proofs.Remainders.{mod_unique}
 use Rattle.artery_model.specs.Valid.{IsValid}
 use Rattle.timing_measures.specs.Measures.{cycle_seconds, offset}

@@ -8,12 +8,12 @@ use Rattle.description_reader.specs.Typed.{Typed}
 use Rattle.run_inputs.specs.Command.{Request, Hold, Show, Check, CheckLinks, Solve, Links, Renew, Bands, Round, RoundFrom, Half, TimingOf, Draw, Help, Version, Make, Trial, Sweep, shape}
 use Rattle.run_inputs.specs.Puts.{NamedBytes, put_of}
 use Rattle.run_inputs.specs.Reading.{Values}
-use Rattle.run_commands.specs.Round.{RoundFinds, RoundFromFinds}
+use Rattle.run_commands.specs.Round.{RoundFromFinds}
 use Rattle.run_commands.specs.Half.{HalfFinds}
 use Rattle.run_commands.specs.Typed.{WritesTiming, TypedFinds}
 use Rattle.run_commands.specs.Draw.{DrawFinds}
 use Rattle.maxband_run.specs.Outside.{Outside, IsPut, IsDone}
-use Rattle.maxband_run.specs.Run.{Answers, Finds, Ends}
+use Rattle.maxband_run.specs.Run.{Answers, Finds}
 use Rattle.run_laws.specs.Laws.{IsVerdict, RefusalsKeepFiles}
 use Rattle.run_inputs.specs.Status.{number_of}
 use Rattle.run_inputs.specs.declared.cause.Cause.{Cause}
