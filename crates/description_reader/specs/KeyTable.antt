@@ -62,6 +62,10 @@ two_quantities = both (Length 2 2) Quantity
 abbrev pub quantities : Demands
 quantities = both Array Quantity
 
+-- the version of a plan
+abbrev pub plan_version : ℕ
+plan_version = 1
+
 -- the longest time of travel on a link of a plan, in seconds
 abbrev pub most_travel : ℤ
 most_travel = pos 100000
@@ -103,7 +107,7 @@ keys_of (Link i) =
     ∷ key (codes "change_in") NotLast two_quantities (items (Within least_change most_change))
     ∷ []
 keys_of PlanRoot =
-    key (codes "version") Optional (alone Integer) (alone (Between (pos 1) (pos 1)))
+    key (codes "version") Optional (alone Integer) (alone (Between (pos plan_version) (pos plan_version)))
     ∷ key (codes "plan") Needed (alone Table) (alone Anything)
     ∷ []
 keys_of Plan =

@@ -74,6 +74,9 @@ pub struct Entry {
     pub ranges: Demands,
 }
 
+/// The version of a plan.
+pub const PLAN_VERSION: i64 = 1;
+
 /// The longest time of travel on a link of a plan, in seconds.
 pub const MOST_TRAVEL: i64 = 100_000;
 
@@ -226,7 +229,12 @@ const LINK: [Entry; 6] = [
 
 /// The keys of the root of a plan.
 const PLAN_ROOT: [Entry; 2] = [
-    key!("version", Optional, alone!(Integer), alone!(Between(1, 1))),
+    key!(
+        "version",
+        Optional,
+        alone!(Integer),
+        alone!(Between(PLAN_VERSION, PLAN_VERSION))
+    ),
     key!("plan", Needed, alone!(Table), alone!(Anything)),
 ];
 

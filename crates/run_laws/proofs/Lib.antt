@@ -9,6 +9,9 @@ pub mod Says
 pub mod Unlimited
 pub mod PlanHeld
 pub mod Found
+pub mod Kept
+pub mod Reports
+pub mod InSeconds
 pub mod PlansSay
 pub mod Statuses
 pub mod Helping

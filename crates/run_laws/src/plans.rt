@@ -1,7 +1,7 @@
 //! The laws of plans, bands, pictures and tables.
 
-ghost use Rattle.run_laws.specs.PlanLaws.{BandsSay, HalfSays, RoundSays, RoundFromSays, RoundFromIsComplete, TimingSays, TimingIsComplete, DrawSays};
-ghost use Rattle.run_laws.specs.PlanLaws.{DrawIsComplete, SweepSays, PlanIsHeld};
+ghost use Rattle.run_laws.specs.PlanLaws.{BandsSay, HalfSays, RoundSays, RoundFromSays, TimingSays, TimingIsComplete, DrawSays, DrawIsComplete};
+ghost use Rattle.run_laws.specs.PlanLaws.{SweepSays, PlanIsHeld};
 
 /// A law over the definitions: after status 0 of `bands` the widest bands on the timing's offsets were printed, and after 4 a rule
 /// fails that speaks of no band.
@@ -11,7 +11,7 @@ pub fn law_bands_say()
 
 /// A law over the definitions: after status 0 of `half` the file that it put has a timing with the widest equal bands over all
 /// offsets, or there are none on any grid and nothing was put; after 4 a rule fails that speaks of no band, and after 11 the timing
-/// can have no such plan.
+/// can have no such plan; no file changed.
 pub fn law_half_says()
     ensures { HalfSays }
 {
@@ -19,8 +19,9 @@ pub fn law_half_says()
 }
 
 /// A law over the definitions: after status 0 of `round` the file that it put holds the text of a timing that is good on the
-/// described artery and, on its grid, the best with its offsets, and no good timing is better by more than the printed loss; after
-/// 4 the certificate isn't accepted, and after 10 no plan is made of it.
+/// described artery and, on its grid, the best with its offsets, and no good timing is better by more than the printed loss. Its cycle
+/// and offsets, which are printed, are those of the certificate's timing, rounded to seconds. After 4 the certificate isn't accepted,
+/// and after 10 no plan is made of it; no file changed.
 pub fn law_round_says()
     ensures { RoundSays }
 {
@@ -28,23 +29,14 @@ pub fn law_round_says()
 }
 
 /// A law over the definitions: after status 0 of `round-from` the file that it put holds the text of a timing that is good on the described
-/// artery and, on its grid, the best with its offsets, and no good timing is better by more than the printed loss; after 4 the certificate
-/// isn't accepted, or the rule that the cause names fails, and after 10 no plan is made of the other timing.
+/// artery and, on its grid, the best with its offsets, and no good timing is better by more than the printed loss. Its cycle and offsets,
+/// which are printed, are those of the other timing, rounded to seconds. After 4 the certificate isn't accepted, or the rule that the
+/// cause names fails, and after 10 no plan is made of the other timing; no file changed.
 pub fn law_round_from_says()
     ensures { RoundFromSays }
 {
     certificate_checker::law_accepted_or_refused();
     time_space::law_fails_rules_out();
-}
-
-/// A law over the definitions: where the files of `round-from` are a description of an artery, a certificate, and a timing or a
-/// certificate, and no fault is counted, a plan is put, the certificate is rejected, the timing breaks a rule, no plan is made of it,
-/// or memory is wanting.
-pub fn law_round_from_is_complete()
-    ensures { RoundFromIsComplete }
-{
-    description_reader::law_one_answer();
-    description_reader::law_one_typed();
 }
 
 /// A law over the definitions: after status 0 of `timing` the file that it put holds the text of the timing of the typed plan, which keeps the
