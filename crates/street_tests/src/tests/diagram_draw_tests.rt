@@ -20,8 +20,7 @@ abelledby=\"title desc\">\n\
 e &#183; weighted band 0.167; signal 1, Oak &amp; Elm, offset 0.0 s; signal 2, &lt;High\u{fffd}&gt;, offset 6.7 s</desc>\n\
 <style>\n\
 text{font-family:Helvetica,Arial,'Liberation Sans',sans-serif;fill:#222}\n\
-.title{font-weight:bold}.facts{font-size:165px}.head,.head-end,.head-middle,.note{font-size:118px;fill:#555}.mark{font-size:1\
-00px}\n\
+.title{font-weight:bold}.head,.head-end,.head-middle,.note{font-size:118px;fill:#555}.mark{font-size:100px}\n\
 .number{font-size:140px}.axis,.key{font-size:125px;fill:#444}.number,.head-end{text-anchor:end}.axis,.head-middle{text-anchor\
 :middle}\n\
 .paper{fill:#fff}.plot{fill:#fbfbf9;stroke:#444;stroke-width:12}.second{stroke:#dcdcd8;stroke-width:8}.cycle{stroke:#777;stro\
@@ -73,11 +72,11 @@ h:14;stroke-dasharray:70 40}\n\
 <polygon class=\"out\" points=\"6972,7470 7172,7220 7392,7220 7192,7470\"/>\n\
 <polygon class=\"in\" points=\"9372,7220 9572,7470 9792,7470 9592,7220\"/>\n\
 <text class=\"title\" font-size=\"330\" x=\"220\" y=\"480\">Time-space diagram</text>\n\
+<text class=\"facts\" font-size=\"165\" x=\"220\" y=\"1120\">cycle 60.0 s &#183; outbound band 3.3 s = 5.6 % of the cycle &#1\
+83; inbound band 6.7 s = 11.1 % of the cycle &#183; weighted band 0.167</text>\n\
 <text class=\"subtitle\" font-size=\"220\" x=\"220\" y=\"800\">AM &lt;peak&gt;</text>\n\
 <text class=\"name\" font-size=\"150\" x=\"430\" y=\"6390\">Oak &amp; Elm</text>\n\
 <text class=\"name\" font-size=\"150\" x=\"430\" y=\"1810\">&lt;High\u{fffd}&gt;</text>\n\
-<text class=\"facts\" x=\"220\" y=\"1120\">cycle 60.0 s &#183; outbound band 3.3 s = 5.6 % of the cycle &#183; inbound band 6\
-.7 s = 11.1 % of the cycle &#183; weighted band 0.167</text>\n\
 <text class=\"head\" x=\"430\" y=\"1410\">signal</text>\n\
 <text class=\"head-end\" x=\"2112\" y=\"1410\">lefts out/in</text>\n\
 <text class=\"head-end\" x=\"2702\" y=\"1410\">offset, s</text>\n\
