@@ -223,7 +223,7 @@ fn draw_answer<'a, F: Files>(
     drawing: &'a str,
     title: Option<&'a str>,
 ) -> Result<Answer<'a>, Unread>
-    ensures answered { IsAnswered F.Files files.old files.new (Some (Draw artery.now file.now drawing.now (option_map (λ word. word.now) title))) (ended result) }
+    ensures answered { IsAnswered F.Files files.old files.new (Some (Draw artery.now file.now drawing.now (option_map (λ word. word.now) title.entry))) (ended result) }
     ensures kept { LeavesFiles F.Files files.old files.new }
 {
     let (street, timed) = read_both(alloc, files, artery, file)?;

@@ -48,7 +48,7 @@ fn draw_shaped<'a>(
     drawing: &'a str,
 ) -> Result<Answer<'a>, Memory>
     requires { length timing.now.patterns ≡ count artery.now }
-    ensures finds { MayPut drawing.now (TimingFinds artery.now timing.now (option_map (λ word. word.now) title)) result }
+    ensures finds { MayPut drawing.now (TimingFinds artery.now timing.now (option_map (λ word. word.now) title.entry)) result }
 {
     let lines = drawn_lines(alloc, broken(artery, timing))?;
     let bytes = draw(alloc, artery, timing, title)?;
@@ -71,7 +71,7 @@ fn draw_any<'a>(
     title: Option<&str>,
     drawing: &'a str,
 ) -> Result<Answer<'a>, Memory>
-    ensures finds { MayPut drawing.now (TimingFinds artery.now timing.now (option_map (λ word. word.now) title)) result }
+    ensures finds { MayPut drawing.now (TimingFinds artery.now timing.now (option_map (λ word. word.now) title.entry)) result }
 {
     if timing.count() != artery.count() {
         return fails(alloc, Failing::Shape);
@@ -89,7 +89,7 @@ pub fn draw_timing<'a>(
     title: Option<&str>,
     drawing: &'a str,
 ) -> Result<Answer<'a>, Memory>
-    ensures finds { MayPut drawing.now (DrawFinds artery.now timed.now.timing (option_map (λ word. word.now) title)) result }
+    ensures finds { MayPut drawing.now (DrawFinds artery.now timed.now.timing (option_map (λ word. word.now) title.entry)) result }
 {
     match &timed.timing {
         Some(timing) => draw_any(alloc, artery, timing, title, drawing),
