@@ -152,6 +152,14 @@ signal_heads f =
     ∷ caption letter.HeadEnd (pos (f.left - 170)) head_level (codes "offset, s")
     ∷ []
 
+-- how many of the first links have two lengths
+abbrev pub unlike_lengths : Street → ℕ → ℕ
+unlike_lengths a zero = 0
+unlike_lengths a (suc j) = unlike_lengths a j + (if distance a Outbound (suc j) == distance a Inbound (suc j) then 0 else 1)
+
+abbrev pub lengths_differ : Street → Bool
+lengths_differ a = nat_le 1 (unlike_lengths a (count a - 1))
+
 -- both lengths of each link are shown where those of some link differ
 abbrev pub lengths_head : Street → List ℕ
 lengths_head a = unit_of_length a.head.units ++ (if lengths_differ a then codes " out/in" else [])
@@ -216,14 +224,6 @@ signal_rows f a t = flat_map (signal_row f a t) (range_with_len 1 (count a))
 -- half way between its signals
 abbrev pub link_level : Frame → Street → ℕ → ℤ
 link_level f a l = pos ((level f a l + level f a (l + 1)) / 2 + 50)
-
--- how many of the first links have two lengths
-abbrev pub unlike_lengths : Street → ℕ → ℕ
-unlike_lengths a zero = 0
-unlike_lengths a (suc j) = unlike_lengths a j + (if distance a Outbound (suc j) == distance a Inbound (suc j) then 0 else 1)
-
-abbrev pub lengths_differ : Street → Bool
-lengths_differ a = nat_le 1 (unlike_lengths a (count a - 1))
 
 -- the length, or both
 abbrev pub lengths_text : Bool → ℕ → ℕ → List ℕ

@@ -1,8 +1,10 @@
 //! The words of a drawing.
 
-ghost use Rattle.std.specs.{Prelude.{◌≡◌, ◌+◌, ◌*◌, ◌/◌, ◌%◌, ◌<◌, ◌≤◌, ◌^◌, ◌++◌, OnOk, Option, None, Some, option_map, pos, ◌≤ℤ◌, length}, Fmt.{decimal}};
+ghost use Rattle.std.specs.{Prelude.{◌≡◌, ◌+◌, ◌*◌, ◌/◌, ◌%◌, ◌<◌, ◌≤◌, ◌^◌, ◌++◌, codes, OnOk, option_map, pos, ◌≤ℤ◌, length}, Fmt.{decimal}};
 ghost use Rattle.progression.specs.Street.{count};
-ghost use Rattle.rational_theory.specs.Rational.{over};
+ghost use Rattle.progression.specs.declared.parts.Dir.TheVariants.{Outbound, Inbound};
+ghost use Rattle.timing_measures.specs.Rounding.{nearest};
+ghost use Rattle.diagram_draw.specs.Escapes.{escaped};
 ghost use Rattle.diagram_draw.specs.{declared.paint.Letter.TheVariants.{Facts, HeadEnd, Number}, Frames.{IsFrame}};
 ghost use Rattle.diagram_draw.specs.Shapes.{words_opening, words_text, sized_opening, sized_words_text, sized_text, caption_text, captions_text, sizeds_text};
 ghost use Rattle.diagram_draw.specs.Captions.{tenths_text, hundredths_text, thousandths_text, tenths, hundredths, seconds_text, width_text, percent_text, offset_tenths};
@@ -162,7 +164,7 @@ fn street_name(artery: &Artery) -> &str
 
 /// Writes the title of the plan after the name of the street, where it has one.
 fn push_after_name(out: &mut Vec<u8>, title: Option<&str>) -> Result<(), Memory>
-    ensures { OnOk result (out.new.items ≡ out.old.items ++ after_name (option_map (λ t. t.now) title)) }
+    ensures { OnOk result (out.new.items ≡ out.old.items ++ after_name (option_map (λ t. t.now) title.entry)) }
 {
     match title {
         Some(title) => {
@@ -175,7 +177,7 @@ fn push_after_name(out: &mut Vec<u8>, title: Option<&str>) -> Result<(), Memory>
 
 /// Writes the name of the street and the title of the plan.
 pub fn push_title(out: &mut Vec<u8>, artery: &Artery, title: Option<&str>) -> Result<(), Memory>
-    ensures { OnOk result (out.new.items ≡ out.old.items ++ title_text artery.now (option_map (λ t. t.now) title)) }
+    ensures { OnOk result (out.new.items ≡ out.old.items ++ title_text artery.now (option_map (λ t. t.now) title.entry)) }
 {
     push_escaped(out, street_name(artery).as_bytes())?;
     push_after_name(out, title)
@@ -387,7 +389,7 @@ fn push_title_head(out: &mut Vec<u8>, frame: Frame, title: &str) -> Result<(), M
 /// The same where there is one.
 fn push_title_heads(out: &mut Vec<u8>, frame: Frame, title: Option<&str>) -> Result<(), Memory>
     requires { IsFrame frame }
-    ensures { OnOk result (out.new.items ≡ out.old.items ++ sizeds_text (title_heads frame (option_map (λ t. t.now) title))) }
+    ensures { OnOk result (out.new.items ≡ out.old.items ++ sizeds_text (title_heads frame (option_map (λ t. t.now) title.entry))) }
 {
     match title {
         Some(title) => push_title_head(out, frame, title),
@@ -397,7 +399,7 @@ fn push_title_heads(out: &mut Vec<u8>, frame: Frame, title: Option<&str>) -> Res
 
 /// Where the line stands that has what is measured.
 fn facts_level(title: Option<&str>) -> u32
-    ensures { result ≡ facts_level (option_map (λ t. t.now) title) }
+    ensures { result ≡ facts_level (option_map (λ t. t.now) title.entry) }
 {
     match title {
         Some(_) => 1120,
@@ -432,7 +434,7 @@ pub fn push_heads(
 ) -> Result<(), Memory>
     requires frame { IsFrame frame }
     requires shape { length timing.now.patterns ≡ count artery.now }
-    ensures { OnOk result (out.new.items ≡ out.old.items ++ sizeds_text (heads frame artery.now timing.now (option_map (λ t. t.now) title))) }
+    ensures { OnOk result (out.new.items ≡ out.old.items ++ sizeds_text (heads frame artery.now timing.now (option_map (λ t. t.now) title.entry))) }
 {
     push_name_head(out, frame, artery)?;
     push_facts_head(out, artery, timing, facts_level(title))?;

@@ -242,7 +242,7 @@ fn push_svg_opening(out: &mut Vec<u8>, frame: Frame) -> Result<(), Memory>
 /// Writes the title of the document.
 #[tactic(auto, unfolding(crate::specs::Pages::title_part))]
 fn push_title_part(out: &mut Vec<u8>, artery: &Artery, title: Option<&str>) -> Result<(), Memory>
-    ensures { OnOk result (out.new.items ≡ out.old.items ++ title_part (title_text artery.now (option_map (λ t. t.now) title))) }
+    ensures { OnOk result (out.new.items ≡ out.old.items ++ title_part (title_text artery.now (option_map (λ t. t.now) title.entry))) }
 {
     push_text(out, "<title id=\"title\">")?;
     push_title(out, artery, title)?;
@@ -270,7 +270,7 @@ fn push_opening(
 ) -> Result<(), Memory>
     requires frame { IsFrame frame }
     requires shape { length timing.now.patterns ≡ count artery.now }
-    ensures { OnOk result (out.new.items ≡ out.old.items ++ opening_text (drawn frame artery.now timing.now (option_map (λ t. t.now) title))) }
+    ensures { OnOk result (out.new.items ≡ out.old.items ++ opening_text (drawn frame artery.now timing.now (option_map (λ t. t.now) title.entry))) }
 {
     push_svg_opening(out, frame)?;
     push_title_part(out, artery, title)?;
@@ -300,7 +300,7 @@ fn push_head(
 ) -> Result<(), Memory>
     requires frame { IsFrame frame }
     requires shape { length timing.now.patterns ≡ count artery.now }
-    ensures { OnOk result (out.new.items ≡ out.old.items ++ head_text (drawn frame artery.now timing.now (option_map (λ t. t.now) title))) }
+    ensures { OnOk result (out.new.items ≡ out.old.items ++ head_text (drawn frame artery.now timing.now (option_map (λ t. t.now) title.entry))) }
 {
     push_opening(out, frame, artery, timing, title)?;
     push_style(out)?;
@@ -402,7 +402,7 @@ fn push_tail(
 ) -> Result<(), Memory>
     requires frame { IsFrame frame }
     requires shape { length timing.now.patterns ≡ count artery.now }
-    ensures { OnOk result (out.new.items ≡ out.old.items ++ tail_text (drawn frame artery.now timing.now (option_map (λ t. t.now) title))) }
+    ensures { OnOk result (out.new.items ≡ out.old.items ++ tail_text (drawn frame artery.now timing.now (option_map (λ t. t.now) title.entry))) }
 {
     push_keys(out, frame)?;
     push_heads(out, frame, artery, timing, title)?;
@@ -421,7 +421,7 @@ fn push_drawn(
 ) -> Result<(), Memory>
     requires frame { IsFrame frame }
     requires shape { length timing.now.patterns ≡ count artery.now }
-    ensures { OnOk result (out.new.items ≡ out.old.items ++ svg_text (drawn frame artery.now timing.now (option_map (λ t. t.now) title))) }
+    ensures { OnOk result (out.new.items ≡ out.old.items ++ svg_text (drawn frame artery.now timing.now (option_map (λ t. t.now) title.entry))) }
 {
     push_head(out, frame, artery, timing, title)?;
     push_body(out, frame, artery, timing)?;
@@ -438,7 +438,7 @@ pub fn draw(
     title: Option<&str>,
 ) -> Result<Vec<u8>, Memory>
     requires { length timing.now.patterns ≡ count artery.now }
-    ensures { IfOk result (λ text. text.items ≡ svg_text (drawing artery.now timing.now (option_map (λ t. t.now) title))) }
+    ensures { IfOk result (λ text. text.items ≡ svg_text (drawing artery.now timing.now (option_map (λ t. t.now) title.entry))) }
 {
     let frame = frame_of(artery, timing);
     let mut text = Vec::new(alloc);
