@@ -23,8 +23,9 @@ use Rattle.certificate_model.specs.Warrants.{Node, LeafOf}
 use Rattle.plan_text.specs.CertificateText.{best_line, none_line, open_line, no_timing_line, value_key, bound_key, split_key, loop_key, turn_key, leaf_key}
 use Rattle.plan_text.specs.SecondText.{rows_key}
 use Rattle.plan_text.specs.Namings.{Naming, Named, Listed, fractions_key, is_form}
-use Rattle.plan_text.specs.CertificateReading.{or_number, range_of, index_of, fraction_of, lone_row, indexed_row, in_family, row_of, listed_row, row_in, over_whole, multiplier_of, cut_last, weight_by, weight_of, read_after, rising_at, own_row, row_of_weight, weights_at, names_at, row_count, rows_at, split_of, leaf_count, above_zero, over_head, head_of, rest_of, node_at, owed_after, nodes_at, Beginning, best_at, begins_with, found_at, missing_at, open_at, verdict_of, claim_at}
+use Rattle.plan_text.specs.CertificateReading.{or_number, range_of, index_of, fraction_of, lone_row, indexed_row, in_family, row_of, listed_row, row_in, over_whole, multiplier_of, cut_last, weight_by, weight_of, read_after, rising_at, own_row, last_row, row_of_weight, weights_at, names_at, row_count, rows_at, split_of, leaf_count, above_zero, over_head, head_of, formed, with_last, leaf_at, rest_of, node_at, owed_after, nodes_at, Beginning, best_at, begins_with, found_at, missing_at, open_at, verdict_of, claim_at}
 use Rattle.plan_text.specs.FirstBad.{lines_in}
+use Rattle.plan_text.proofs.LeafLines.{last_then, lines_then, leaf_of_none, leaf_of_some}
 use Rattle.plan_text.proofs.NodeLines.{node_lengths}
 use Rattle.plan_text.proofs.Grown.{Part, Grows, Reaches, IsAt, grows_by, grows_then, reaches_then, at_then, at_if, at_choice, tested, tested_later, chosen, chosen_later, guarded, guarded_later, after_line, one_and, numbered, line_grows, line_later, words_grow, words_later, fixed_grows, fixed_later, ranged_here}
 use Rattle.plan_text.proofs.TimingLaws.{TimingLaws}
@@ -193,23 +194,68 @@ rows_grow table last line bytes z e =
 
 -- ---- nodes
 
-abbrev leaf_then : Naming → LeafForm → ℕ → ℕ → List Weight × List ℕ → Result (Node × ℕ × List ℕ) BadText
-leaf_then names form line count ws = if is_form names form ws.0 then Ok (LeafOf ws.0, line + 1 + count, ws.1) else fault (line + count) Number
+formed_here : (names : Naming) (form : LeafForm) (line : ℕ) (ws : List Weight) → IsAt line (formed names form line ws)
+formed_here names form line ws = at_if line (is_form names form ws) Number (Ok ws) tt tt
+
+last_here : (names : Naming) (form : LeafForm) (line : ℕ) (ws : List Weight) (w : Weight) → IsAt line (with_last names form line ws w)
+unfolding with_last
+last_here names form line ws w =
+    let after = is_after (last_row row_of_weight None ws) w.row in
+    at_then line (formed names form line (ws ++ w ∷ [])) (λ all. if after then Ok all else fault line Order) (formed_here names form line (ws ++ w ∷ [])) (λ all. at_if line after Order (Ok all) tt tt)
+
+abbrev and_rest : List ℕ → List Weight → Result (List Weight × List ℕ) BadText
+and_rest rest ws = Ok (ws, rest)
+
+abbrev weight_then : Naming → LeafForm → ℕ → List Weight → List ℕ → Weight → Result (List Weight × List ℕ) BadText
+weight_then names form line ws rest w = with_last names form line ws w >>= and_rest rest
+
+-- the line after the last one has this number
+last_later : (names : Naming) (form : LeafForm) (next line last : ℕ) (ws : List Weight) (l : List (List ℕ) × List ℕ) → next ≡ line + 1 → last < line + 1 → Reaches (one_and next) last (last_then names form line ws l)
+last_later names form next line last ws l is here =
+    tested_later (one_and next) last line (weight_of names form line l.0) (weight_then names form line ws l.1) (weight_here names form line l.0) (omega arith)
+    (λ w. tested_later (one_and next) last line (with_last names form line ws w) (and_rest l.1) (last_here names form line ws w) (omega arith) (λ all. omega arith))
+
+lines_later : (names : Naming) (form : LeafForm) (next line last : ℕ) (ws : List Weight × List ℕ) → next ≡ line + 1 → last < line + 1 → Reaches (one_and next) last (lines_then names form line ws)
+lines_later names form next line last ws is here =
+    reaches_then (one_and (line + 1)) (one_and next) last (words_at line ws.1) (last_then names form line ws.0) (words_later last line ws.1 (omega arith)) (λ l more. last_later names form next line last ws.0 l is more)
+
+lines_grow : (names : Naming) (form : LeafForm) (next line last : ℕ) (ws : List Weight × List ℕ) (z : List ℕ) → next ≡ line + 1 → line + lines_in ws.1 ≡ last → Grows (one_and next) last z (lines_then names form line ws) (lines_then names form line (ws.0, ws.1 ++ z))
+lines_grow names form next line last ws z is e =
+    grows_then (one_and (line + 1)) (one_and next) last z (words_at line ws.1) (words_at line (ws.1 ++ z)) (last_then names form line ws.0) (words_grow last line ws.1 z e)
+    (λ l end. tested (one_and next) last line z (weight_of names form line l.0) (weight_then names form line ws.0 l.1) (weight_then names form line ws.0 (l.1 ++ z)) (weight_here names form line l.0) (omega arith)
+    (λ w. tested (one_and next) last line z (with_last names form line ws.0 w) (and_rest l.1) (and_rest (l.1 ++ z)) (last_here names form line ws.0 w) (omega arith) (λ all. (omega arith, refl))))
+    (λ l more. last_later names form next line last ws.0 l is more)
+
+leaf_later : (names : Naming) (form : LeafForm) (count last line : ℕ) (bytes : List ℕ) → last < line + 1 → Reaches (one_and (line + 1 + count)) last (leaf_at names form count line bytes)
+leaf_later names form zero last line bytes here =
+    rw (leaf_of_none names form line bytes) (tested_later (one_and (line + 1 + zero)) last line (formed names form line []) (and_rest bytes) (formed_here names form line []) (omega arith) (λ ws. omega arith))
+leaf_later names form (suc n) last line bytes here =
+    rw (leaf_of_some names form n line bytes) (reaches_then (one_and (line + 1 + n)) (one_and (line + 1 + suc n)) last (weights_at names form n None (line + 1) bytes) (lines_then names form (line + suc n)) (rising_later row_of_weight (weight_of names form) (weight_here names form) n None last (line + 1) bytes here)
+    (λ ws more. lines_later names form (line + 1 + suc n) (line + suc n) last ws (omega arith) (omega arith)))
+
+leaf_grows : (names : Naming) (form : LeafForm) (count last line : ℕ) (bytes z : List ℕ) → line + 1 + lines_in bytes ≡ last → Grows (one_and (line + 1 + count)) last z (leaf_at names form count line bytes) (leaf_at names form count line (bytes ++ z))
+leaf_grows names form zero last line bytes z e =
+    rw (leaf_of_none names form line bytes, leaf_of_none names form line (bytes ++ z)) (tested (one_and (line + 1 + zero)) last line z (formed names form line []) (and_rest bytes) (and_rest (bytes ++ z)) (formed_here names form line []) (omega arith) (λ ws. (omega arith, refl)))
+leaf_grows names form (suc n) last line bytes z e =
+    rw (leaf_of_some names form n line bytes, leaf_of_some names form n line (bytes ++ z))
+    (grows_then (one_and (line + 1 + n)) (one_and (line + 1 + suc n)) last z (weights_at names form n None (line + 1) bytes) (weights_at names form n None (line + 1) (bytes ++ z)) (lines_then names form (line + suc n)) (rising_grow row_of_weight (weight_of names form) (weight_here names form) n None last (line + 1) bytes z e)
+    (λ ws end. lines_grow names form (line + 1 + suc n) (line + suc n) last ws z (omega arith) (omega arith))
+    (λ ws here. lines_later names form (line + 1 + suc n) (line + suc n) last ws (omega arith) (omega arith)))
+
+abbrev as_leaf : ℕ → ℕ → List Weight × List ℕ → Result (Node × ℕ × List ℕ) BadText
+as_leaf line count ws = Ok (LeafOf ws.0, line + 1 + count, ws.1)
 
 rest_later : (names : Naming) (head : Head) (last line : ℕ) (bytes : List ℕ) → last < line + 1 → Reaches numbered last (rest_of names head line bytes)
 unfolding rest_of
 rest_later names (heads.Split at) last line bytes here = here
 rest_later names (heads.Leaf count form) last line bytes here =
-    reaches_then (one_and (line + 1 + count)) numbered last (weights_at names form count None (line + 1) bytes) (leaf_then names form line count) (rising_later row_of_weight (weight_of names form) (weight_here names form) count None last (line + 1) bytes here)
-    (λ ws more. guarded_later numbered last (line + count) (is_form names form ws.0) Number (Ok (LeafOf ws.0, line + 1 + count, ws.1)) (omega arith) more)
+    reaches_then (one_and (line + 1 + count)) numbered last (leaf_at names form count line bytes) (as_leaf line count) (leaf_later names form count last line bytes here) (λ ws more. more)
 
 rest_grows : (names : Naming) (head : Head) (last line : ℕ) (bytes z : List ℕ) → line + 1 + lines_in bytes ≡ last → Grows numbered last z (rest_of names head line bytes) (rest_of names head line (bytes ++ z))
 unfolding rest_of
 rest_grows names (heads.Split at) last line bytes z e = (e, refl)
 rest_grows names (heads.Leaf count form) last line bytes z e =
-    grows_then (one_and (line + 1 + count)) numbered last z (weights_at names form count None (line + 1) bytes) (weights_at names form count None (line + 1) (bytes ++ z)) (leaf_then names form line count) (rising_grow row_of_weight (weight_of names form) (weight_here names form) count None last (line + 1) bytes z e)
-    (λ ws end. guarded numbered last (line + count) z (is_form names form ws.0) Number (Ok (LeafOf ws.0, line + 1 + count, ws.1)) (Ok (LeafOf ws.0, line + 1 + count, ws.1 ++ z)) tt (omega arith) (end, refl))
-    (λ ws here. guarded_later numbered last (line + count) (is_form names form ws.0) Number (Ok (LeafOf ws.0, line + 1 + count, ws.1)) (omega arith) here)
+    grows_then (one_and (line + 1 + count)) numbered last z (leaf_at names form count line bytes) (leaf_at names form count line (bytes ++ z)) (as_leaf line count) (leaf_grows names form count last line bytes z e) (λ ws end. (end, refl)) (λ ws here. here)
 
 abbrev head_then : Naming → ℕ → List (List ℕ) × List ℕ → Result (Node × ℕ × List ℕ) BadText
 head_then names line l = head_of names line l.0 >>= λ head. rest_of names head line l.1

@@ -25,7 +25,7 @@ use Rattle.certificate_model.proofs.KeptNodes.{IsNode}
 use Rattle.plan_text.specs.CertificateText.{split_key, loop_key, turn_key, leaf_key, split_words, IsHeldWeight, IsHeldNode}
 use Rattle.plan_text.specs.Leaves.{form_of}
 use Rattle.plan_text.specs.Namings.{Naming, Named, Listed, fractions_key, IsFormed, same_form, is_form, weight_words, weight_line, first_words, leaf_lines, form_by, node_lines}
-use Rattle.plan_text.specs.CertificateReading.{row_of_weight, weight_of, above_zero, leaf_count, over_head, or_number, range_of, index_of, split_of, head_of, rest_of, node_at, weights_at, owed_after, nodes_at}
+use Rattle.plan_text.specs.CertificateReading.{row_of_weight, weight_of, above_zero, leaf_count, over_head, or_number, range_of, index_of, split_of, head_of, leaf_at, rest_of, node_at, owed_after, nodes_at}
 use Rattle.plan_text.proofs.Fields.{bind_ok, guard_ok, moved, same_text, text_same, number_takes, number_again, IsKey}
 use Rattle.plan_text.proofs.ExactWords.{integer_takes, integer_again, integer_word, decimal_word}
 use Rattle.plan_text.proofs.WordLines.{number_ok, words_take, words_shorter, words_again, ended_and, ended_more}
@@ -33,6 +33,7 @@ use Rattle.plan_text.proofs.WeightLines.{index_takes, index_again}
 use Rattle.plan_text.proofs.Multipliers.{Suits, whole_word, denominator_takes, denominator_again}
 use Rattle.plan_text.proofs.NamedRows.{IsOver, IsTold, KeptWeight, weight_takes, weight_reads}
 use Rattle.plan_text.proofs.RowLoop.{AscendBy, ReadsAs, rising_lengths, rising_takes, rising_again}
+use Rattle.plan_text.proofs.LeafLines.{leaf_takes, leaf_reads}
 
 -- ---- the first line of a node
 
@@ -179,10 +180,9 @@ rest_lengths : (names : Naming) (line : ℕ) (bytes after : List ℕ) (h : Head)
 unfolding rest_of
 rest_lengths names line bytes after (heads.Split at) x shorter e = moved (NodeLengths line bytes) (SplitAt at, line + 1, after) x e (record { shorter = omega arith; lines = omega arith })
 rest_lengths names line bytes after (heads.Leaf n form) x shorter e =
-    let a = bind_ok (weights_at names form n None (line + 1) after) (λ ws. if is_form names form ws.0 then Ok (LeafOf ws.0, line + 1 + n, ws.1) else fault (line + n) Number) x e in
-    let g = guard_ok (is_form names form a.0.0) (line + n) Number (Ok (LeafOf a.0.0, line + 1 + n, a.0.1)) x a.2 in
-    let few = (rising_lengths row_of_weight (weight_of names form) n None (line + 1) after a.0 a.1).1 in
-    moved (NodeLengths line bytes) (LeafOf a.0.0, line + 1 + n, a.0.1) x g.1 (record { shorter = omega (arith, few); lines = omega (arith, few) })
+    let a = bind_ok (leaf_at names form n line after) (λ ws. Ok (LeafOf ws.0, line + 1 + n, ws.1)) x e in
+    let few = (rising_lengths row_of_weight (weight_of names form) n None (line + 1) after a.0 (leaf_takes names form n line after a.0 a.1).0).1 in
+    moved (NodeLengths line bytes) (LeafOf a.0.0, line + 1 + n, a.0.1) x a.2 (record { shorter = omega (arith, few); lines = omega (arith, few) })
 
 pub node_lengths : (names : Naming) (line : ℕ) (bytes : List ℕ) (x : Node × ℕ × List ℕ) → node_at names line bytes ≡ Ok x → NodeLengths line bytes x
 unfolding node_at
@@ -237,13 +237,13 @@ node_from names table line bytes ws after (heads.Split at) x over parts h e =
       held = h.held;
     })
 node_from names table line bytes ws after (heads.Leaf n form) x over parts h e =
-    let a = bind_ok (weights_at names form n None (line + 1) after) (λ ws. if is_form names form ws.0 then Ok (LeafOf ws.0, line + 1 + n, ws.1) else fault (line + n) Number) x e in
-    let g = guard_ok (is_form names form a.0.0) (line + n) Number (Ok (LeafOf a.0.0, line + 1 + n, a.0.1)) x a.2 in
-    let count = (rising_lengths row_of_weight (weight_of names form) n None (line + 1) after a.0 a.1).0 in
-    let t = rising_takes row_of_weight (weight_of names form) (weight_words names form) (KeptWeight table) (weight_takes names table form over h.2) n None (line + 1) after a.0 a.1 in
+    let a = bind_ok (leaf_at names form n line after) (λ ws. Ok (LeafOf ws.0, line + 1 + n, ws.1)) x e in
+    let l = leaf_takes names form n line after a.0 a.1 in
+    let count = (rising_lengths row_of_weight (weight_of names form) n None (line + 1) after a.0 l.0).0 in
+    let t = rising_takes row_of_weight (weight_of names form) (weight_words names form) (KeptWeight table) (weight_takes names table form over h.2) n None (line + 1) after a.0 l.0 in
     let words : ws ≡ first_words names form (length a.0.0) = h.0 ∙ ap (first_words names form) (sym count) in
-    moved (NodeOf names table bytes) (LeafOf a.0.0, line + 1 + n, a.0.1) x g.1 (record {
-      parts = parts ∙ (λ i. line_of (words i) ++ 10 ∷ t.parts i) ∙ ap (λ (f : LeafForm). ended_and (leaf_lines names f a.0.0) a.0.1) (leaf_parts names form a.0.0 h.3 g.0);
+    moved (NodeOf names table bytes) (LeafOf a.0.0, line + 1 + n, a.0.1) x a.2 (record {
+      parts = parts ∙ (λ i. line_of (words i) ++ 10 ∷ t.parts i) ∙ ap (λ (f : LeafForm). ended_and (leaf_lines names f a.0.0) a.0.1) (leaf_parts names form a.0.0 h.3 l.1);
       kept = (omega (arith, count, h.1), ascend_from None a.0.0 t.ascend, All-from_recursion (λ w. IsNamedIn table w.row) a.0.0 (kept_rows table a.0.0 t.kept));
       held = All-from_recursion IsHeldWeight a.0.0 (held_rows table a.0.0 t.kept);
     })
@@ -288,8 +288,9 @@ node_again names line (LeafOf ws) rest told =
     rw (
       leaf_line names form line (length ws) (ended_and (map (weight_line names form) ws) rest) told.2 told.0,
       leaf_again names form line (length ws) (form_suits names ws) told.2 told.0,
-      rising_again row_of_weight (weight_of names form) (weight_words names form) ws None (line + 1) rest (ascend_to None ws told.1) (reads_all names form ws told.3),
-      form_again names ws,
+      leaf_reads names form (length ws) line (ended_and (map (weight_line names form) ws) rest) (ws, rest)
+          (rising_again row_of_weight (weight_of names form) (weight_words names form) ws None (line + 1) rest (ascend_to None ws told.1) (reads_all names form ws told.3))
+          (form_again names ws),
     ) refl
 
 -- ---- trees

@@ -10,9 +10,9 @@ use Rattle.plan_text.specs.declared.fault.TextFault.TheVariants.{Order}
 use Rattle.certificate_model.specs.Words.{line_of}
 use Rattle.plan_text.specs.Lines.{◌>>=◌, Fails, fault, words_at}
 use Rattle.certificate_model.specs.Families.{is_after}
-use Rattle.plan_text.proofs.Fields.{bind_ok, guard_ok, moved}
+use Rattle.plan_text.proofs.Fields.{bind_ok, guard_ok, ok_is, moved}
 use Rattle.plan_text.proofs.WordLines.{words_take, words_shorter, ended_and}
-use Rattle.plan_text.specs.CertificateReading.{read_after, rising_at}
+use Rattle.plan_text.specs.CertificateReading.{read_after, rising_at, last_row}
 
 -- ---- what failed, and what follows it
 
@@ -144,3 +144,100 @@ unfolding rising_at read_after
 rising_again row read spell [] last line rest ascend reads = refl
 rising_again row read spell (x ∷ xs) last line rest ascend reads =
     rw (reads.0.words line (ended_and (map (λ a. line_of (spell a)) xs) rest), reads.0.again line, ascend.0, rising_again row read spell xs (Some (row x)) (line + 1) rest ascend.1 reads.1) refl
+
+-- ---- the last line apart
+
+-- what was read of the lines before the last one, the last one's words, and its item
+pub record LastOf {A : Type 0} (row : A → RowId) (read : ℕ → List (List ℕ) → Result A BadText) (n : ℕ) (last : Option RowId) (line : ℕ) (bytes : List ℕ) (x : List A × List ℕ) : Type 0 where
+  pub before : List A × List ℕ
+  pub words : List (List ℕ) × List ℕ
+  pub item : A
+  pub read_before : rising_at row read n last line bytes ≡ Ok before
+  pub read_words : words_at (line + n) before.1 ≡ Ok words
+  pub read_item : read (line + n) words.0 ≡ Ok item
+  pub ascends : is_after (last_row row last before.0) (row item) ≡ true
+  pub is : x ≡ (before.0 ++ item ∷ [], words.1)
+
+none_rise : {A : Type 0} (row : A → RowId) (read : ℕ → List (List ℕ) → Result A BadText) (last : Option RowId) (line : ℕ) (bytes : List ℕ) → rising_at row read zero last line bytes ≡ Ok ([], bytes)
+unfolding rising_at
+none_rise row read last line bytes = refl
+
+abbrev and_items : {A : Type 0} → A → List A × List ℕ → Result (List A × List ℕ) BadText
+and_items x xs = Ok (x ∷ xs.0, xs.1)
+
+abbrev items_then : {A : Type 0} → (A → RowId) → (ℕ → List (List ℕ) → Result A BadText) → ℕ → ℕ → List ℕ → A → Result (List A × List ℕ) BadText
+items_then row read n line bytes x = rising_at row read n (Some (row x)) (line + 1) bytes >>= and_items x
+
+-- one line, and so many more
+one_more : {A : Type 0} (row : A → RowId) (read : ℕ → List (List ℕ) → Result A BadText) (n : ℕ) (last : Option RowId) (line : ℕ) (bytes : List ℕ) (l : List (List ℕ) × List ℕ) (w : A) (xs : List A × List ℕ) → words_at line bytes ≡ Ok l → read_after row read last line l.0 ≡ Ok w → rising_at row read n (Some (row w)) (line + 1) l.1 ≡ Ok xs
+    → rising_at row read (suc n) last line bytes ≡ Ok (w ∷ xs.0, xs.1)
+one_more row read n last line bytes l w xs p q more =
+    step row read n last line bytes
+    ∙ then_ok (words_at line bytes) l (row_then row read n last line) p
+    ∙ then_ok (read_after row read last line l.0) w (items_then row read n line l.1) q
+    ∙ then_ok (rising_at row read n (Some (row w)) (line + 1) l.1) xs (and_items w) more
+
+after_reads : {A : Type 0} (row : A → RowId) (read : ℕ → List (List ℕ) → Result A BadText) (last : Option RowId) (line : ℕ) (ws : List (List ℕ)) (x : A) → read line ws ≡ Ok x → is_after last (row x) ≡ true → read_after row read last line ws ≡ Ok x
+unfolding read_after
+after_reads row read last line ws x e a = rw (e, a) refl
+
+-- one line more at the end
+pub rising_joins : {A : Type 0} (row : A → RowId) (read : ℕ → List (List ℕ) → Result A BadText) (n : ℕ) (last : Option RowId) (line : ℕ) (bytes : List ℕ) (x : List A × List ℕ) → LastOf row read n last line bytes x → rising_at row read (suc n) last line bytes ≡ Ok x
+rising_joins row read zero last line bytes x h =
+    let at : line + zero ≡ line = omega arith in
+    let start = moved (λ (y : List _ × List ℕ). words_at line y.1 ≡ Ok h.words → is_after (last_row row last y.0) (row h.item) ≡ true → rising_at row read 1 last line bytes ≡ Ok (y.0 ++ h.item ∷ [], h.words.1)) ([], bytes) h.before (sym (none_rise row read last line bytes) ∙ h.read_before)
+    (λ p a. one_more row read zero last line bytes h.words h.item ([], h.words.1) p (after_reads row read last line h.words.0 h.item (subst (λ (k : ℕ). read k h.words.0 ≡ Ok h.item) at h.read_item) a) (none_rise row read (Some (row h.item)) (line + 1) h.words.1)) in
+    start (subst (λ (k : ℕ). words_at k h.before.1 ≡ Ok h.words) at h.read_words) h.ascends ∙ ap (λ (y : List _ × List ℕ). Ok y) (sym h.is)
+rising_joins row read (suc n) last line bytes x h =
+    let p = bind_ok (words_at line bytes) (row_then row read n last line) h.before (sym (step row read n last line bytes) ∙ h.read_before) in
+    let q = bind_ok (read_after row read last line p.0.0) (items_then row read n line p.0.1) h.before p.2 in
+    let d = bind_ok (rising_at row read n (Some (row q.0)) (line + 1) p.0.1) (and_items q.0) h.before q.2 in
+    let at : line + suc n ≡ line + 1 + n = omega arith in
+    let all = moved (λ (y : List _ × List ℕ). words_at (line + suc n) y.1 ≡ Ok h.words → is_after (last_row row last y.0) (row h.item) ≡ true → rising_at row read (suc (suc n)) last line bytes ≡ Ok (y.0 ++ h.item ∷ [], h.words.1)) (q.0 ∷ d.0.0, d.0.1) h.before d.2
+    (λ w a. one_more row read (suc n) last line bytes p.0 q.0 (d.0.0 ++ h.item ∷ [], h.words.1) p.1 q.1
+    (rising_joins row read n (Some (row q.0)) (line + 1) p.0.1 (d.0.0 ++ h.item ∷ [], h.words.1) (record {
+      before = d.0;
+      words = h.words;
+      item = h.item;
+      read_before = d.1;
+      read_words = subst (λ (k : ℕ). words_at k d.0.1 ≡ Ok h.words) at w;
+      read_item = subst (λ (k : ℕ). read k h.words.0 ≡ Ok h.item) at h.read_item;
+      ascends = a;
+      is = refl;
+    }))) in
+    all h.read_words h.ascends ∙ ap (λ (y : List _ × List ℕ). Ok y) (sym h.is)
+
+-- and the last of some lines
+pub rising_parts : {A : Type 0} (row : A → RowId) (read : ℕ → List (List ℕ) → Result A BadText) (n : ℕ) (last : Option RowId) (line : ℕ) (bytes : List ℕ) (x : List A × List ℕ) → rising_at row read (suc n) last line bytes ≡ Ok x → LastOf row read n last line bytes x
+rising_parts row read zero last line bytes x e =
+    let p = bind_ok (words_at line bytes) (row_then row read zero last line) x (sym (step row read zero last line bytes) ∙ e) in
+    let q = bind_ok (read_after row read last line p.0.0) (items_then row read zero line p.0.1) x p.2 in
+    let d = bind_ok (rising_at row read zero (Some (row q.0)) (line + 1) p.0.1) (and_items q.0) x q.2 in
+    let f = after_takes row read last line p.0.0 q.0 q.1 in
+    let at : line ≡ line + zero = omega arith in
+    record {
+      before = ([], bytes);
+      words = p.0;
+      item = q.0;
+      read_before = none_rise row read last line bytes;
+      read_words = subst (λ (k : ℕ). words_at k bytes ≡ Ok p.0) at p.1;
+      read_item = subst (λ (k : ℕ). read k p.0.0 ≡ Ok q.0) at f.0;
+      ascends = f.1;
+      is = sym (moved (λ (y : List _ × List ℕ). (q.0 ∷ y.0, y.1) ≡ x) d.0 ([], p.0.1) (sym d.1 ∙ none_rise row read (Some (row q.0)) (line + 1) p.0.1) (ok_is (q.0 ∷ d.0.0, d.0.1) x d.2));
+    }
+rising_parts row read (suc n) last line bytes x e =
+    let p = bind_ok (words_at line bytes) (row_then row read (suc n) last line) x (sym (step row read (suc n) last line bytes) ∙ e) in
+    let q = bind_ok (read_after row read last line p.0.0) (items_then row read (suc n) line p.0.1) x p.2 in
+    let d = bind_ok (rising_at row read (suc n) (Some (row q.0)) (line + 1) p.0.1) (and_items q.0) x q.2 in
+    let r = rising_parts row read n (Some (row q.0)) (line + 1) p.0.1 d.0 d.1 in
+    let at : line + 1 + n ≡ line + suc n = omega arith in
+    record {
+      before = (q.0 ∷ r.before.0, r.before.1);
+      words = r.words;
+      item = r.item;
+      read_before = one_more row read n last line bytes p.0 q.0 r.before p.1 q.1 r.read_before;
+      read_words = subst (λ (k : ℕ). words_at k r.before.1 ≡ Ok r.words) at r.read_words;
+      read_item = subst (λ (k : ℕ). read k r.words.0 ≡ Ok r.item) at r.read_item;
+      ascends = r.ascends;
+      is = sym (ok_is (q.0 ∷ d.0.0, d.0.1) x d.2) ∙ ap (λ (y : List _ × List ℕ). (q.0 ∷ y.0, y.1)) r.is;
+    }
