@@ -67,9 +67,9 @@ total_under r most [] (c ∷ cs) h = omega arith
 total_under r most (line ∷ lines) (Some place ∷ cs) h =
     let inside = h.0.inside place refl in
     under_room (1 + r.steps line) (total own (cost_of r) (low_line place line ∷ high_line place line ∷ lines) cs) (volume line.area)
-        (volume (low_line place line).area) (volume (high_line place line).area) (room lines) most
+    (volume (low_line place line).area) (volume (high_line place line).area) (room lines) most
     h.0.cost (volume_split line.area place inside) (volume_positive (low_line place line).area) (volume_positive (high_line place line).area)
-        (total_under r most (low_line place line ∷ high_line place line ∷ lines) cs h.1)
+    (total_under r most (low_line place line ∷ high_line place line ∷ lines) cs h.1)
 total_under r most (line ∷ lines) (None ∷ cs) h =
     one_room (1 + r.steps line) (total own (cost_of r) lines cs) (volume line.area) (room lines) most h.0.cost (volume_positive line.area) (total_under r most lines cs h.1)
 
@@ -153,8 +153,11 @@ undone_under r sound best nodes part spot most h s short =
     subst (λ ns. Fills own (IsCounted r most) lines ns) (sym whole) (Fills-match cut_of own IsCutOf same (IsMetNode r best) (IsCounted r most) (counted r best most short) 0 lines nodes cs m all) in
     let lines_same : line ≡ line_after own lines front = line_after-match cut_of own IsCutOf same 0 spot.index lines nodes cs m in
     let split_is : IsCounted r most (line_after own lines front) (Some spot.place) =
-    subst (λ l. IsCounted r most l (Some spot.place)) lines_same (record { cost = short.cost line here.1; inside = λ place e. let q : spot.place ≡ place =
-        cc in subst (λ p. IsPlace line.area p) q (r.inside line spot.place here.1 s.end) }) in
+    subst (λ l. IsCounted r most l (Some spot.place)) lines_same (record {
+      cost = short.cost line here.1;
+      inside = λ place e. let q : spot.place ≡ place =
+          cc in subst (λ p. IsPlace line.area p) q (r.inside line spot.place here.1 s.end);
+    }) in
     let low_is : IsCounted r most (low_line spot.place (line_after own lines front)) None =
     subst (λ l. IsCounted r most (low_line spot.place l) None) lines_same (record { cost = short.cost (low_line spot.place line) low; inside = λ place e. cc }) in
     let high_is : IsCounted r most (high_line spot.place (line_after own lines front)) None =

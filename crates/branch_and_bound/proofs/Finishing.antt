@@ -86,7 +86,7 @@ found_shown r nodes shown new spared (Some b) m h =
 -- ---- the answers
 finished : {T K W : Type 0} (r : Rules T K W) (limit : Option ℕ) (nodes : List (Node K)) (shown : List TreeNode) (best : Option (Incumbent T)) (top : ℚ) (spent : ℕ)
     → IsWithin spent limit → IsSearchState r nodes best top spent → All (λ node. IsSettled best (bound_of node)) nodes → Matches (IsShown best None) 0 nodes shown
-        → IsFinished r limit shown best (value_of best) spent
+    → IsFinished r limit shown best (value_of best) spent
 finished r limit nodes shown best top spent within h all m =
     let lines = lines_of r in
     let whole : Fills cut_of (λ line other. IsTreeNode r best best top line other × IsNotWaiting other) lines shown =
@@ -116,11 +116,16 @@ finished r limit nodes shown best top spent within h all m =
 
 pub best_answer : {T K W : Type 0} (r : Rules T K W) (limit : Option ℕ) (nodes : List (Node K)) (shown : List TreeNode) (best : Incumbent T) (top : ℚ) (spent : ℕ)
     → IsWithin spent limit → IsSearchState r nodes (Some best) top spent → All (λ node. IsSettled (Some best) (bound_of node)) nodes
-        → Matches (IsShown (Some best) None) 0 nodes shown → IsBestAnswer r limit shown (Some best) best.value spent
-best_answer r limit nodes shown best top spent within h all m = record { timing = best.timing; best_is = refl; good = h.good; finished =
-    finished r limit nodes shown (Some best) top spent within h all m }
+    → Matches (IsShown (Some best) None) 0 nodes shown → IsBestAnswer r limit shown (Some best) best.value spent
+best_answer r limit nodes shown best top spent within h all m = record {
+  timing = best.timing;
+  best_is = refl;
+  good = h.good;
+  finished =
+      finished r limit nodes shown (Some best) top spent within h all m;
+}
 
 pub none_answer : {T K W : Type 0} (r : Rules T K W) (limit : Option ℕ) (nodes : List (Node K)) (shown : List TreeNode) (top bound : ℚ) (spent : ℕ)
     → IsWithin spent limit → IsSearchState r nodes None top spent → All (λ node. IsSettled {T = T} None (bound_of node)) nodes
-        → Matches (IsShown {T = T} None None) 0 nodes shown → bound ≡ number 0 → IsNoneAnswer r limit shown None bound spent
+    → Matches (IsShown {T = T} None None) 0 nodes shown → bound ≡ number 0 → IsNoneAnswer r limit shown None bound spent
 none_answer r limit nodes shown top bound spent within h all m e = record { best_is = refl; bound_is = e; finished = finished r limit nodes shown None top spent within h all m }

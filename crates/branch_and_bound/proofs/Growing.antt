@@ -92,12 +92,12 @@ found_still : {T K W : Type 0} (r : Rules T K W) (best middle new : Option (Incu
 found_still r best middle new top place point leaf low high front rest e g h end tree p (inr q) k =
     let here : Finds place_of (Gives r q.best.value) (lines_of r) (front ++ Split place point ∷ low ∷ high ∷ rest) =
     Finds-new place_of (Gives r q.best.value) (IsNode r best top) place leaf (Split place point) low high (lines_of r) front rest refl g tree
-        (inr (record { whole = h; end = q.end; value_is = sym q.value })) in
+    (inr (record { whole = h; end = q.end; value_is = sym q.value })) in
     subst (λ (n : Option (Incumbent _)). IfSome n (λ b. Finds place_of (Gives r b.value) (lines_of r) (front ++ Split place point ∷ low ∷ high ∷ rest))) (sym q.new_is) here
 found_still r best middle new top place point leaf low high front rest e g h end tree (inr p) (inl q) k =
     let here : Finds place_of (Gives r p.best.value) (lines_of r) (front ++ Split place point ∷ low ∷ high ∷ rest) =
     Finds-new place_of (Gives r p.best.value) (IsNode r best top) place leaf (Split place point) low high (lines_of r) front rest refl g tree
-        (inl (record { whole = g; end = p.end; value_is = sym p.value })) in
+    (inl (record { whole = g; end = p.end; value_is = sym p.value })) in
     subst (λ (n : Option (Incumbent _)). IfSome n (λ b. Finds place_of (Gives r b.value) (lines_of r) (front ++ Split place point ∷ low ∷ high ∷ rest))) (sym (q.same ∙ p.new_is)) here
 found_still r None middle new top place point leaf low high front rest e g h end tree (inl p) (inl q) k =
     subst (λ (n : Option (Incumbent _)). IfSome n (λ b. Finds place_of (Gives r b.value) (lines_of r) (front ++ Split place point ∷ low ∷ high ∷ rest))) (sym (q.same ∙ p.same)) tt
@@ -131,10 +131,10 @@ grown r front rest area leaf bound place point kept index old new top low high h
     Fills-map place_of (λ l n. IsNode r old.incumbent top l n × IsOverBound (Some (record { index = index; bound = bound })) (bound_of n)) (IsNode r new.incumbent bound)
     (λ l n k. node_still r old.incumbent new.incumbent top bound g bound_top l n k.0 (λ b e. over_bound (record { index = index; bound = bound }) (bound_of n) b e k.1))
     lines (front ++ node ∷ rest) (Fills-each place_of (IsNode r old.incumbent top) (λ n. IsOverBound (Some (record { index = index; bound = bound })) (bound_of n))
-        lines (front ++ node ∷ rest) over h.tree) in
+    lines (front ++ node ∷ rest) over h.tree) in
     let split_is : IsSplit r bound line place point = record { lineage = w.lineage; end = w.end; vertex_is = w.vertex_is; over = subst (λ b. bound ≤ℚ b) w.bounds.bound_is (≤ℚ_refl bound) } in
     let low_is : IsNode r new.incumbent bound (low_line place line) low = low_now r both.middle.incumbent new.incumbent bound (low_line place line) low
-        f (both.low_is.is bound (at_low line place w.lineage w.end) low_under) in
+    f (both.low_is.is bound (at_low line place w.lineage w.end) low_under) in
     let high_is : IsNode r new.incumbent bound (high_line place line) high = both.high_is.is bound (at_high line place w.lineage w.end) high_under in
     let units = total-split place_of (cost_of r) (IsNode r old.incumbent top) place node (Split place point) low high lines front rest refl refl both.low_is.whole both.high_is.whole h.tree in
     record {

@@ -51,7 +51,7 @@ unopened_limit before after limit s e = sym e ∙ ap (λ (m : Meter). m.limit) s
 answer_at : {T K W : Type 0} (r : Rules T K W) (limit : Option ℕ) (shown : List TreeNode) (bound : ℚ) (new : Option (Incumbent T)) (spent : ℕ) (spot : Spot)
     (part : Option BoxLine) (stop : Stop W) (case : StopCase)
     → IsHalt r shown new bound spot part → HasSpot r shown case → HasLeft r shown case → IsReadPart r (finished_part r shown case) → IsNeededStop r shown new bound case
-        → IsSorted r shown new (undone_of case)
+    → IsSorted r shown new (undone_of case)
     → spent ≡ capped (spends r shown case) → IsWithin spent limit → IsStop r shown case limit spent stop → IsStoppedAnswer r limit shown new bound spent stop
 answer_at r limit shown bound new spent spot part stop case k spot_is left read needed sorted units within cause = record {
   case = case;
@@ -110,13 +110,13 @@ by_part : {T K W : Type 0} (r : Rules T K W) (limit : Option ℕ) (nodes : List 
     → IsStoppedAnswer r limit shown new.incumbent g.bound new.meter.spent stop
 by_part r limit nodes shown g old new top stop place h greatest beaten m w units end (inl halts) e =
     let k = stopped r nodes shown g greatest.waits.node old.incumbent new.incumbent top old.meter.spent None place h m greatest.waits.at greatest.waits.waits
-        end (over_all nodes (Some g) greatest) beaten halts.same tt in
+    end (over_all nodes (Some g) greatest) beaten halts.same tt in
     low_cases r limit shown g.bound new.incumbent old.meter new.meter (record { index = g.index; place = place }) stop units k halts.stops e
 by_part r limit nodes shown g old new top stop place h greatest beaten m w units end (inr halts) e =
     let line = line_at r shown g.index in
     let under : IsPartUnder r (Some (low_line place line)) g.bound = λ optimal. subst (λ b. r.bound (low_line place line) ≤ℚ b) w.bound_is (r.low_falls line place w.lineage end optimal) in
     let k = stopped r nodes shown g greatest.waits.node old.incumbent new.incumbent top old.meter.spent (Some (low_line place line)) place h m
-        greatest.waits.at greatest.waits.waits end (over_all nodes (Some g) greatest) beaten halts.better under in
+    greatest.waits.at greatest.waits.waits end (over_all nodes (Some g) greatest) beaten halts.better under in
     high_cases r limit shown g.bound new.incumbent old.meter halts.between new.meter (record { index = g.index; place = place }) stop units k halts.low_cost.spent halts.stops halts.read e
 
 pub undone_answer : {T K W : Type 0} (r : Rules T K W) (limit : Option ℕ) (nodes new_nodes : List (Node K)) (shown : List TreeNode) (g : Greatest) (old new : Progress T) (top : ℚ) (stop : Stop W)

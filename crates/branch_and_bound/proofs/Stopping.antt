@@ -77,7 +77,7 @@ part_found r nodes (Some line) old new (inr h) k =
     subst (λ o. IfSome o (λ b. GivesValue r nodes b.value ⊎ IsPartValue r b.value (Some line))) (sym h.new_is) here
 part_found r nodes (Some line) old new (inl h) k =
     subst (λ o. IfSome o (λ b. GivesValue r nodes b.value ⊎ IsPartValue r b.value (Some line))) (sym h.same)
-        (left_some (λ b. GivesValue r nodes b.value) (λ b. IsPartValue r b.value (Some line)) old k)
+    (left_some (λ b. GivesValue r nodes b.value) (λ b. IsPartValue r b.value (Some line)) old k)
 
 less_or_same : (x y : ℚ) → x ≤ℚ y → (x <ℚ y) ⊎ (x ≡ y)
 less_or_same x y h = by_order x y (cmp_ℚ x y) h (ranked_ℚ x y (cmp_ℚ x y) refl)
@@ -216,14 +216,14 @@ stopped r nodes shown g (Waiting area leaf b p point kept) old new top spent par
     let waiting : StillWaits r g.bound line again.leaf = there cut_of (IsTreeNode r old new g.bound) lines shown g.index (tree.Waiting again.leaf) nodes_are again.at in
     let stays : r.Refutes line.area again.leaf → ⊥ = r.not_refuted line again.leaf waiting.lineage (subst IsOptimal (sym end) tt) waiting.leaf_is in
     let leaves : Fills cut_of (IsNodeUnder r g.bound) lines shown = Fills-map cut_of (IsTreeNode r old new g.bound) (IsNodeUnder r g.bound)
-        (leaf_under r old new g.bound old_under) lines shown nodes_are in
+    (leaf_under r old new g.bound old_under) lines shown nodes_are in
     let whole = cut_here shown g.index (tree.Waiting again.leaf) again.at in
     let parted : Fills cut_of (IsTreeNode r old new g.bound) lines (take g.index shown ++ tree.Waiting again.leaf ∷ drop (g.index + 1) shown) =
-        subst (λ ns. Fills cut_of (IsTreeNode r old new g.bound) lines ns) (sym whole) nodes_are in
+    subst (λ ns. Fills cut_of (IsTreeNode r old new g.bound) lines ns) (sym whole) nodes_are in
     let found : Finds cut_of (IsOpenNode r g.bound) lines shown =
     subst (λ ns. Finds cut_of (IsOpenNode r g.bound) lines ns) whole
     (Finds-at cut_of (IsOpenNode r g.bound) (IsTreeNode r old new g.bound) lines (take g.index shown) (tree.Waiting again.leaf) (drop (g.index + 1) shown)
-        parted (record { not_refuted = stays; bound_is = bound_line })) in
+    parted (record { not_refuted = stays; bound_is = bound_line })) in
     let none : GivesValue r shown g.bound → ⊥ =
     Finds-none cut_of (IsTreeNode r old new g.bound) (λ l n. IsBestLeaf r g.bound l (cut_of n)) (none_gives r old new g.bound g.bound beaten) lines shown nodes_are in
     record {

@@ -89,7 +89,7 @@ pub total-split : {N : Type 0} (cut : N → Option At) (cost : BoxLine → ℕ) 
     → cut leaf ≡ None → cut node ≡ Some place → cut low ≡ None → cut high ≡ None
     → Fills cut P lines (front ++ leaf ∷ rest)
     → total cut cost lines (front ++ node ∷ low ∷ high ∷ rest) ≡ total cut cost lines (front ++ leaf ∷ rest) +
-        (cost (low_line place (line_after cut lines front)) + cost (high_line place (line_after cut lines front)))
+    (cost (low_line place (line_after cut lines front)) + cost (high_line place (line_after cut lines front)))
 total-split cut cost P place leaf node low high [] [] rest e f g h s = absurd s
 total-split cut cost P place leaf node low high (line ∷ lines) [] rest e f g h s =
     let a = ap (λ c. total cut cost (owed c line lines) (low ∷ high ∷ rest)) f in

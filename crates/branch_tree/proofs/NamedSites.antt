@@ -253,6 +253,6 @@ pub part_named : (a : Street) (line : BoxLine) → IsValid a → (k : ℕ) → E
 part_named a line v k =
     refusal_named a (λ row. HasRow a (name_of row.family row.index)) (program_of a) line v (λ w. refl) (λ w. refl) (λ row at. refl)
     (fault_named (artery_rows a line.area) (λ row. HasRow a (name_at row)) (λ row h. (row_decided a (name_at row)).0 h) (λ row. written_width a (form_of a line.area (name_at row)))
-        (end_leaf (program_of a) line))
+    (end_leaf (program_of a) line))
     (vertex_named a (length (rows_of a)) (width (count a)) (λ row. HasRow a (name_at row)) (recovered a line.area (end_point (program_of a) line))
     (outcome_named a v (width (count a)) (omega arith) line.area (end_point (program_of a) line) (point_columns (program_of a) line v) _ refl)) k

@@ -97,8 +97,12 @@ part_first a kept area parent line place p = pick p.side
     pick (inr e) = below (high_part parent.area place) (p.area_is ∙ ap (λ (l : BoxLine). l.area) e) ∙ ap (λ (l : BoxLine). first_of a l.area l.above) (sym e)
 
 -- the state after an entry, refused or not
-entered_by : (a : Street) (box : Area) (vs : List ℕ) (b : Bool) → (if b then entered_box a box vs else opened_box a box) ≡ record { table =
-    cond b (entry vs (loaded a box)) (opening a box); names = rows_of a; spent = false }
+entered_by : (a : Street) (box : Area) (vs : List ℕ) (b : Bool) → (if b then entered_box a box vs else opened_box a box) ≡ record {
+  table =
+      cond b (entry vs (loaded a box)) (opening a box);
+  names = rows_of a;
+  spent = false;
+}
 entered_by a box vs true = refl
 entered_by a box vs false = refl
 

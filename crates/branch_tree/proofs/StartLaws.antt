@@ -82,7 +82,7 @@ module _ (a : Street) (v : IsValid a) where
     where
       pick : (b : Bool) → b ≡ eq_by_cmp cmp_ℚ a.head.ratio (number 0)
           → coef (sum_of a (root_box a) (record { row = first_out; by = number 1 } ∷ cond b [] (record { row = first_in; by = a.head.ratio } ∷ []))).coefs
-              j ≡ wait_coef Outbound j +ℚ a.head.ratio *ℚ wait_coef Inbound j
+          j ≡ wait_coef Outbound j +ℚ a.head.ratio *ℚ wait_coef Inbound j
       pick true e =
           sum_coef (number 1) (line a (wait_form a Outbound 1)).coefs [] j
           ∙ ring (lit (pos 1) ⊗ at 0 ⊕ lit (pos 0)) (at 0 ⊕ lit (pos 0) ⊗ at 1) (wait_coef Outbound j ∷ wait_coef Inbound j ∷ []) refl

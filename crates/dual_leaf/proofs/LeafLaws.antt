@@ -111,7 +111,7 @@ goal_leaf_covers t = record {
       (record {
         coefs = λ c h.
             subst (λ x. get_or goal c (whole (pos 0)) ≤ℚ x) (sym (below_coef read t.names (λ r. goal_weight u (width u + r)) (height u) c n))
-                (goal_covers u (system_of (map read t.names) goal) c d k.stands h);
+            (goal_covers u (system_of (map read t.names) goal) c d k.stands h);
         bound = below_bound read t.names (λ r. goal_weight u (width u + r)) (height u) n ∙ goal_weighed_bound u (system_of (map read t.names) goal) d k.stands;
       });
 }
@@ -129,7 +129,7 @@ row_leaf_refutes t i e h b n = record {
             (row_refutes t.table (system_of (map read t.names) goal) i c d k.stands h n l);
         bound = subst (λ x. x <ℚ whole (pos 0))
             (sym (below_bound read t.names f (length t.names) (omega arith) ∙ ap (total (λ r. f r *ℚ (row_at (map read t.names) r).bound)) e
-                ∙ row_weighed_bound t.table (system_of (map read t.names) goal) i d k.stands h)) b;
+            ∙ row_weighed_bound t.table (system_of (map read t.names) goal) i d k.stands h)) b;
       };
 }
 

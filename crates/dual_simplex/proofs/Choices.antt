@@ -63,7 +63,7 @@ next_place t r k x g o b s e f i h =
     let d = is_ratio t r b.place b.cell b.goal w.cell_is w.goal_is in
     let a = not_refused t r k x g e in
     let c : best_step (λ k. is_negative (cell t r k)) (place_before t r) k (place_of o) ≡ cond s (Some k) (Some b.place) =
-        rw f (step_with t r k b.place x g _ _ s e (is_ratio t r k x g e.entry e.goal) d h) in
+    rw f (step_with t r k b.place x g _ _ s e (is_ratio t r k x g e.entry e.goal) d h) in
     ap Ok (chosen s) ∙ sym (ap₂ (λ q s. attempt q (with_cells t r s)) a c)
   where
     w : IsChosen t r b

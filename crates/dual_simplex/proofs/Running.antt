@@ -35,8 +35,18 @@ pub record Running (s : NamedTableau) (p : ℕ) (m : Meter) (u : NamedTableau) (
 
 pub running_none : (s : NamedTableau) (p : ℕ) (m : Meter) → IsDual s.table → p < 2 ^ 64 → m.spent < 2 ^ 64 → IsWithin m.spent m.limit → Running s p m s p m
 unfolding after
-running_none s p m d h k w = record { made = 0; goes_on = λ i l. absurd (omega arith); table = refl; dual = d; meter = metered_none m k; pivots =
-    omega arith; within = w; start = d; left = omega arith }
+running_none s p m d h k w = record {
+  made = 0;
+  goes_on = λ i l. absurd (omega arith);
+  table = refl;
+  dual = d;
+  meter = metered_none m k;
+  pivots =
+      omega arith;
+  within = w;
+  start = d;
+  left = omega arith;
+}
 
 pivoted_next : (t : Tableau) (r j : ℕ) → move t ≡ pivoted r j → next t ≡ exchange r j t
 pivoted_next t r j e = next_is t ∙ ap (λ m. made m t) e

@@ -148,7 +148,7 @@ turn_number_same j v c k p a b = rw (a, ← b) refl
 pub turning_next : (i j : ℕ) (v : ℚ) (c : List ℚ) (w : ℕ) (now new : List Kept) (index made put : ℕ) (k : Kept) (x : ℚ) → (number_in c j ≡ whole (pos 0) → ⊥)
     → (t : Turning i j v c w now index made) → IsNext (number_in c) t.at w k → length new ≡ length now
     → x ≡ turned_cell j v c k.place → put ≡ made + length (kept_at k.place x) → take put new ≡ take made now ++ kept_at k.place x → turn_at i j c k.place ≡ None
-        → FitsFrac x → Turning i j v c w new (index + 1) put
+    → FitsFrac x → Turning i j v c w new (index + 1) put
 turning_next i j v c w now new index made put k x o t n h q a b g u =
     let l = n.inside in
     let s = n.after in

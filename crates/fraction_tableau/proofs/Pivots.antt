@@ -13,7 +13,7 @@ pub pivot_first : (r j : ℕ) (rows : List (List ℚ)) (goal : List ℚ) (w : Wi
 unfolding pivot_refusal
 pivot_first r j rows goal w e =
     ap (λ o. earlier o (earlier (clear_refusal (length rows) j (turned j (get_or rows r [])) goal (get_or (get_or rows r []) j (whole (pos 0))))
-        (first_below (row_refusal r j (turned j (get_or rows r [])) (get_or (get_or rows r []) j (whole (pos 0))) rows) (length rows)))) e
+    (first_below (row_refusal r j (turned j (get_or rows r [])) (get_or (get_or rows r []) j (whole (pos 0))) rows) (length rows)))) e
 
 pub pivot_then : (r j : ℕ) (rows : List (List ℚ)) (goal e : List ℚ) (p : ℚ) → e ≡ turned j (get_or rows r []) → p ≡ get_or (get_or rows r []) j (whole (pos 0))
     → turn_refusal r j (get_or rows r []) ≡ None
@@ -21,7 +21,7 @@ pub pivot_then : (r j : ℕ) (rows : List (List ℚ)) (goal e : List ℚ) (p : �
 unfolding pivot_refusal
 pivot_then r j rows goal e p a b f =
     ap (λ o. earlier o (earlier (clear_refusal (length rows) j (turned j (get_or rows r [])) goal (get_or (get_or rows r []) j (whole (pos 0))))
-        (first_below (row_refusal r j (turned j (get_or rows r [])) (get_or (get_or rows r []) j (whole (pos 0))) rows) (length rows)))) f
+    (first_below (row_refusal r j (turned j (get_or rows r [])) (get_or (get_or rows r []) j (whole (pos 0))) rows) (length rows)))) f
     ∙ ap₂ (λ u q. earlier (clear_refusal (length rows) j u goal q) (first_below (row_refusal r j u q rows) (length rows))) (sym a) (sym b)
 
 pub rows_done : (r j : ℕ) (rows now : List (List ℚ)) (e : List ℚ) → e ≡ turned j (get_or rows r []) → r < length rows → length now ≡ length rows → get_or now r [] ≡ e

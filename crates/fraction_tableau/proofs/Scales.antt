@@ -91,7 +91,7 @@ cleared_over : (a f x : ℤ) (d m g : ℕ) → 0 < d → 0 < m → 0 < g
 cleared_over a f x d m g h k l =
     same_ratio _ _ _ _ _ _ _ _
     (sum_ratio _ _ _ _ _ _ _ _ (over_ratio a d h)
-        (neg_ratio _ _ _ _ (product_ratio _ _ _ _ _ _ _ _ (over_terms (f *ℤ pos g) (up f * g) (down f * g) d h (omega (arith, ints))) (over_ratio x (m * g) (mul-pos k l)))))
+    (neg_ratio _ _ _ _ (product_ratio _ _ _ _ _ _ _ _ (over_terms (f *ℤ pos g) (up f * g) (down f * g) d h (omega (arith, ints))) (over_ratio x (m * g) (mul-pos k l)))))
     (over_terms (combined m f a x) (up a * m + up f * down x + down f * up x) (down a * m + up f * up x + down f * down x) (d * m) (mul-pos h k) (omega (arith, ints)))
     (omega arith)
 

@@ -47,7 +47,7 @@ own_unit d h = same_ratio _ _ _ _ _ _ _ _ (over_ratio (pos d) d h) (whole_ratio 
 
 pub turned_is : (t : Turning) (own : Bool) (x : ℚ) → IsTurning t → IsOver t.row.denominator t.row.most x
     → over (cond (int_lt t.pivot (pos 0)) (neg_ℤ (cond own (pos t.row.denominator) (numerator t.row.denominator x))) (cond own (pos t.row.denominator) (numerator t.row.denominator x)))
-        (unsigned_abs t.pivot) ≡ cond own (inverse_ℚ (pivot_of t)) (x *ℚ inverse_ℚ (pivot_of t))
+    (unsigned_abs t.pivot) ≡ cond own (inverse_ℚ (pivot_of t)) (x *ℚ inverse_ℚ (pivot_of t))
 turned_is t true x i o = turned_over t.pivot (pos t.row.denominator) t.row.denominator (int_lt t.pivot (pos 0)) i.above i.some refl
     ∙ ap (λ u. u *ℚ inverse_ℚ (pivot_of t)) (own_unit t.row.denominator i.above) ∙ one-*ℚ _
 turned_is t false x i o = turned_over t.pivot (numerator t.row.denominator x) t.row.denominator (int_lt t.pivot (pos 0)) i.above i.some refl ∙ ap (λ u. u *ℚ inverse_ℚ (pivot_of t)) o.same
@@ -67,7 +67,7 @@ size_above (negsuc a) z = zero-lt-suc a
 
 pub turned_size : (t : Turning) (own : Bool) (x : ℚ) → IsTurning t → IsOver t.row.denominator t.row.most x
     → unsigned_abs (cond (int_lt t.pivot (pos 0)) (neg_ℤ (cond own (pos t.row.denominator) (numerator t.row.denominator x)))
-        (cond own (pos t.row.denominator) (numerator t.row.denominator x))) ≤ t.row.most
+    (cond own (pos t.row.denominator) (numerator t.row.denominator x))) ≤ t.row.most
 turned_size t own x i o = signed_size (int_lt t.pivot (pos 0)) _ t.row.most (own_size t own _ i o.size)
 
 -- ---- the whole row
@@ -77,7 +77,7 @@ pub turned_scaled : (t : Turning) (d : List ℚ) → IsTurning t → IsScaled t.
 turned_scaled t d i s p h k =
     is_over _ (unsigned_abs t.pivot) t.row.most _ (size_above t.pivot i.some)
     (sym (turned_number t.place (inverse_ℚ (number_in d t.place)) d k h refl) ∙ ap (λ u. cond (eqb k t.place) (inverse_ℚ u) (number_in d k *ℚ inverse_ℚ u)) (sym p)
-        ∙ sym (turned_is t (eqb k t.place) (number_in d k) i (s.numbers k)))
+    ∙ sym (turned_is t (eqb k t.place) (number_in d k) i (s.numbers k)))
     (turned_size t (eqb k t.place) (number_in d k) i (s.numbers k))
 
 -- no quotient is refused

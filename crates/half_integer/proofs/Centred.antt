@@ -88,5 +88,5 @@ unfolding is_later
 later_even a s i red r c start tick e f g h k v =
     let value : r ≡ since (cycle a s) (red_start a s Outbound i) (pos 0 -ℤ pos (red_ticks a s Outbound i / 2)) = v ∙ ap (λ z. mod_ℤ (z -ℤ start) c) k
     ∙ ap (λ z. mod_ℤ (pos 0 -ℤ pos (red / 2) -ℤ z) c) h ∙ ap (λ n. mod_ℤ (pos 0 -ℤ pos (red / 2) -ℤ red_start a s Outbound i) n) g
-        ∙ ap (λ n. mod_ℤ (pos 0 -ℤ pos (n / 2) -ℤ red_start a s Outbound i) (cycle a s)) e in
+    ∙ ap (λ n. mod_ℤ (pos 0 -ℤ pos (n / 2) -ℤ red_start a s Outbound i) (cycle a s)) e in
     ap (λ n. not (nat_eq n 0)) value ∙ even_test (red_ticks a s Outbound i % 2) _ (sym (ap (λ n. n % 2) e) ∙ f)

@@ -59,7 +59,7 @@ module _ (a : Street) (h : 0 < a.head.parts) where
       split_runs _ _ _ _ _ _ _ _ _ _ _ _
       ∙ ap (λ x. x +ℚ run_least a Outbound i +ℚ run_least a Inbound i)
       (differs _ _ _ _ (block_parts _ _ _ _ _ _ _ _ _ _ _ _ _ _ _ _ _ _ (nothing a.head.parts h) (nothing a.head.parts h) (rest_ratio (red_parts a Outbound (i + 1)))
-          (rest_ratio (red_parts a Inbound (i + 1))))
+      (rest_ratio (red_parts a Inbound (i + 1))))
       ∙ ap (λ z. over z a.head.parts) (omega (arith, ints)))
 
   -- and the greatest its parts and the two greatest

@@ -128,7 +128,7 @@ module _ (a : Street) (v : IsValid a) where
       let k = a.head.ratio in
       let l = mul-le (unsigned_abs k.num) parts 100000 3600 v.ratio.num v.most_parts in
       subst (λ c. IsParts c 360000000 k) (mul_comm k.den parts) (parts_more (k.den * parts) (unsigned_abs k.num * parts) 360000000 k (omega (arith, l))
-          (parts_finer k.den parts (unsigned_abs k.num) k (own_parts k)))
+      (parts_finer k.den parts (unsigned_abs k.num) k (own_parts k)))
 
   abbrev IsGoalCell : ℚ → Type 0
   IsGoalCell x = IsParts common 720000000 x
@@ -160,7 +160,7 @@ module _ (a : Street) (v : IsValid a) where
   end_cells_are : (c d : ℕ) (x y b : ℚ) → IsCell x → IsCell y → IsCell b → IsEither sizes 0 (link_pivots a) (cells_of (placed_row (link_width (count a)) ((c, x) ∷ (d, y) ∷ []) b))
   end_cells_are c d x y b p q r =
       row_touched ((c, x) ∷ (d, y) ∷ []) b (λ j. each_cell IsCell (placed_row (link_width (count a)) ((c, x) ∷ (d, y) ∷ []) b) j cell_zero
-          (row_each IsCell (link_width (count a)) ((c, x) ∷ (d, y) ∷ []) b j cell_zero (p, (q, tt))) r)
+      (row_each IsCell (link_width (count a)) ((c, x) ∷ (d, y) ∷ []) b j cell_zero (p, (q, tt))) r)
 
   end_there : (e : End) (i : ℕ) → HasLink a i → HasSignal a (signal_at e i)
   end_there Here i h = let l = h.0 in let m = h.1 in (omega arith, omega arith)

@@ -57,5 +57,5 @@ module _ (a : Street) (line : BoxLine) (v : IsValid a) (b : IsBoxOf a line.area)
   link_reads_good t e f =
       let o = optimal_from (link_program a) line (subst IsOptimal (sym e) tt) in
       let g = gives_good a line.area (end_point (link_program a) line) (street_of a v) b (link_end_vertex a line v o) t
-          (only_gives (link_recovered a line.area (end_point (link_program a) line)) t f) in
+      (only_gives (link_recovered a line.area (end_point (link_program a) line)) t f) in
       (g.0, g.1 ∙ link_end_goal a line v o)

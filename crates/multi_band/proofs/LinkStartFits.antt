@@ -148,7 +148,7 @@ module _ (a : Street) (v : IsValid a) where
     two_small =
         let l = v.ratio.den in
         twice_multiplier (number 1) (number 2) (ring (lit (pos 1) ⊕ lit (pos 1)) (lit (pos 2)) [] refl)
-            (parts_more a.head.ratio.den a.head.ratio.den 100000 (number 1) (omega arith) (one_parts a.head.ratio.den))
+        (parts_more a.head.ratio.den a.head.ratio.den 100000 (number 1) (omega arith) (one_parts a.head.ratio.den))
 
     ratio_small : IsMultiplier (twice_ratio a)
     ratio_small =
@@ -187,4 +187,4 @@ module _ (a : Street) (v : IsValid a) where
         let k = i.1 in
         let l = length-append o (inbound_weights a) in
         weights_fit (link_start_leaf a) 0 (blank (link_width (count a)))
-            (small_append o (inbound_weights a) (fars_small Outbound (number 2) 1 (count a - 1) two_low two_small (omega arith) (omega arith)) i.0) (omega arith) blank_sum
+        (small_append o (inbound_weights a) (fars_small Outbound (number 2) 1 (count a - 1) two_low two_small (omega arith) (omega arith)) i.0) (omega arith) blank_sum

@@ -65,7 +65,7 @@ module _ (a : Street) (box : Area) where
   sum_front j (v ∷ vs) ws g h =
       let e = sum_front j vs ws g.2 h in
       rw (first_more v vs j, first_more v (vs ++ ws) j) (linear (record { count = 1; low = at 1; high = at 2 } ∷ []) 0 (at 0 ⊕ at 1) (at 0 ⊕ at 2)
-          (v.by *ℚ number_in v j ∷ weighted vs j ∷ weighted (vs ++ ws) j ∷ []) (e, tt) refl)
+      (v.by *ℚ number_in v j ∷ weighted vs j ∷ weighted (vs ++ ws) j ∷ []) (e, tt) refl)
 
   sum_back : (j : ℕ) (vs ws : List Weight) → AllLow j vs → AllLow j ws → weighted ws j ≤ℚ weighted (vs ++ ws) j
   sum_back j [] ws g h = ≤ℚ_refl (weighted ws j)
@@ -104,7 +104,7 @@ module _ (a : Street) (box : Area) where
         pick (inl e) r =
             let g : HasLink a i = (l, omega arith) in
             let one : number_in (far_weight d by i) (half_place (count a) d t) ≡ number 1 = far_number d by i (half_place (count a) d t)
-                ∙ ap (λ n. coef (link_line a (far_form a d Here i)).coefs (half_place (count a) d n)) (sym e) ∙ far_at a d i g in
+            ∙ ap (λ n. coef (link_line a (far_form a d Here i)).coefs (half_place (count a) d n)) (sym e) ∙ far_at a d i g in
             let times : by *ℚ number 1 ≡ by = ring (at 0 ⊗ lit (pos 1)) (at 0) (by ∷ []) refl in
             rw (one, times) (more_left by _ (sum_low (half_place (count a) d t) (far_weights d by (i + 1) k) (fars_low d by (i + 1) k (half_place (count a) d t) h)))
         pick (inr e) r = ≤ℚ_trans _ _ _ (r e) (more_right _ _ (product_not_negative _ _ h (far_low d by i (half_place (count a) d t))))
@@ -219,7 +219,7 @@ module _ (a : Street) (v : IsValid a) where
   start_links_there =
       let n = v.few in
       link_weights_append a (far_weights Outbound (number 2) 1 (count a - 1)) (inbound_weights a) (far_there a Outbound (number 2) 1 (count a - 1) two_low (omega arith) (omega arith))
-          (pick (eq_by_cmp cmp_ℚ a.head.ratio (number 0)))
+      (pick (eq_by_cmp cmp_ℚ a.head.ratio (number 0)))
     where
       pick : (b : Bool) → AreLinkWeights a (map link_named (if b then [] else far_weights Inbound (twice_ratio a) 1 (count a - 1)))
       pick true = tt

@@ -22,7 +22,7 @@ quotient_ratio a r e d h k =
     *ℚ_cancel _ _ z n
     (*ℚ_assoc (over a e) (inverse_ℚ z) z ∙ ap (λ t. over a e *ℚ t) (*ℚ_comm (inverse_ℚ z) z ∙ *ℚ-inverse z n) ∙ *ℚ-one (over a e)
     ∙ same_ratio _ _ _ _ _ _ _ _ (over_ratio a e h)
-        (product_ratio _ _ _ _ _ _ _ _ (over_terms (a *ℤ pos d) (up a * d) (down a * d) (suc r * e) (mul-pos (zero-lt-suc r) h) (omega (arith, ints))) u) (omega arith))
+    (product_ratio _ _ _ _ _ _ _ _ (over_terms (a *ℤ pos d) (up a * d) (down a * d) (suc r * e) (mul-pos (zero-lt-suc r) h) (omega (arith, ints))) u) (omega arith))
 
 -- a/r below b/s, where a s is below b r, all over e and d
 less_ratio : (a b : ℤ) (r s e d : ℕ) → 0 < e → 0 < d → (b *ℤ negsuc r) <ℤ (a *ℤ negsuc s) → over (a *ℤ pos d) (suc r * e) <ℚ over (b *ℤ pos d) (suc s * e)
@@ -46,7 +46,7 @@ equal_ratio a b r s e d h l =
 at_order : (a b : ℤ) (r s e d : ℕ) (o : Ordering) → 0 < e → 0 < d
     → MatchOrdering o ((b *ℤ negsuc r) <ℤ (a *ℤ negsuc s)) (b *ℤ negsuc r ≡ a *ℤ negsuc s) ((a *ℤ negsuc s) <ℤ (b *ℤ negsuc r))
     → MatchOrdering o (over (a *ℤ pos d) (suc r * e) <ℚ over (b *ℤ pos d) (suc s * e)) (over (a *ℤ pos d) (suc r * e) ≡ over (b *ℤ pos d) (suc s * e))
-        (over (b *ℤ pos d) (suc s * e) <ℚ over (a *ℤ pos d) (suc r * e))
+    (over (b *ℤ pos d) (suc s * e) <ℚ over (a *ℤ pos d) (suc r * e))
 at_order a b r s e d Less h k m = less_ratio a b r s e d h k m
 at_order a b r s e d Equal h k m = equal_ratio a b r s e d h m
 at_order a b r s e d Greater h k m = less_ratio b a s r e d h k m

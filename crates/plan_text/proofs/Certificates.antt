@@ -58,7 +58,7 @@ pub tree_takes : (names : Naming) (table : Table) (line : ℕ) (bytes : List ℕ
 unfolding tree_at
 tree_takes names table line bytes ns over e =
     let a = bind_ok (fixed_at line tree_line bytes) (λ rest. nodes_at names (length rest) 1 (line + 1) rest >>= λ nodes. fixed_at nodes.1 end_line
-        nodes.2 >>= λ more. ends_after names nodes.0 nodes.1 more) ns e in
+    nodes.2 >>= λ more. ends_after names nodes.0 nodes.1 more) ns e in
     let b = bind_ok (nodes_at names (length a.0) 1 (line + 1) a.0) (λ nodes. fixed_at nodes.1 end_line nodes.2 >>= λ more. ends_after names nodes.0 nodes.1 more) ns a.2 in
     let d = bind_ok (fixed_at b.0.1 end_line b.0.2) (λ more. ends_after names b.0.0 b.0.1 more) ns b.2 in
     let g = guard_ok (is_list names b.0.0) b.0.1 Shape (nothing_at (b.0.1 + 1) d.0 >>= λ nothing. Ok b.0.0) ns d.2 in
@@ -238,7 +238,7 @@ second_takes : (bytes : List ℕ) (c : Warrant) → second_of bytes ≡ Ok c →
 unfolding second_of
 second_takes bytes c e =
     let b = bind_ok (claim_at one_band bytes) (λ opening. rows_at ordinary opening.2 opening.3 >>= λ rows. tree_at (Listed rows.0) rows.1 rows.2 >>=
-        λ nodes. Ok (record { claim = opening.0; timing = opening.1; nodes = nodes })) c e in
+    λ nodes. Ok (record { claim = opening.0; timing = opening.1; nodes = nodes })) c e in
     let f = bind_ok (rows_at ordinary b.0.2 b.0.3) (λ rows. tree_at (Listed rows.0) rows.1 rows.2 >>= λ nodes. Ok (record { claim = b.0.0; timing = b.0.1; nodes = nodes })) c b.2 in
     let d = bind_ok (tree_at (Listed f.0.0) f.0.1 f.0.2) (λ nodes. Ok (record { claim = b.0.0; timing = b.0.1; nodes = nodes })) c f.2 in
     let k = claim_takes one_band one_band_laws bytes b.0 b.1 in
@@ -262,7 +262,7 @@ second_again c h =
     let few = few_rows rows ascend all in
     let second = rows_again ordinary (claim_end 8 c.claim) rows (tree_and_end (Listed rows) c.nodes) ordinary_tells few ascend all in
     let told = all_told_second rows c.nodes ascend few (recursion_from_All IsNode c.nodes h.kept.nodes) (recursion_from_All IsHeldNode c.nodes h.nodes)
-        (recursion_from_All (AreListed rows) c.nodes (rows_have c.nodes)) in
+    (recursion_from_All (AreListed rows) c.nodes (rows_have c.nodes)) in
     rw (first, second, tree_again (Listed rows) (claim_end 8 c.claim + 1 + length rows) c.nodes h.kept.tree told (same_rows rows)) refl
 
 -- ---- the whole

@@ -110,7 +110,7 @@ module _ {T : Type 0} (text : TimingText T) (laws : TimingLaws text) where
   unfolding open_at
   open_takes bytes x e =
       let a = bind_ok (words_at 3 bytes) (λ l. fraction_of bound_key 3 l.0 >>= λ bound. words_at 4 l.1 >>= λ m. if begins_with value_key m.0 then found_at
-          text bound m.0 m.1 else missing_at bound l.1) x e in
+      text bound m.0 m.1 else missing_at bound l.1) x e in
       let b = bind_ok (fraction_of bound_key 3 a.0.0) (λ bound. words_at 4 a.0.1 >>= λ m. if begins_with value_key m.0 then found_at text bound m.0 m.1 else missing_at bound a.0.1) x a.2 in
       let d = bind_ok (words_at 4 a.0.1) (λ m. if begins_with value_key m.0 then found_at text b.0 m.0 m.1 else missing_at b.0 a.0.1) x b.2 in
       let f = fraction_takes bound_key 3 a.0.0 b.0 b.1 in
@@ -137,7 +137,7 @@ module _ {T : Type 0} (text : TimingText T) (laws : TimingLaws text) where
 
   verdict_best : (verdict bytes : List ℕ) (x : Beginning T) (b : Bool) → (b ≡ true → verdict ≡ best_line)
       → (if b then best_at text bytes else (if is_text verdict none_line then Ok (NoTiming, None, 3, bytes) else (if is_text verdict open_line then open_at text bytes else fault 2 Shape)))
-          ≡ Ok x → ClaimOf text (verdict ++ 10 ∷ bytes) x
+      ≡ Ok x → ClaimOf text (verdict ++ 10 ∷ bytes) x
   verdict_best verdict bytes x true is e = subst (λ (y : List ℕ). ClaimOf text (y ++ 10 ∷ bytes) x) (sym (is refl)) (best_takes bytes x e)
   verdict_best verdict bytes x false is e = verdict_none verdict bytes x (is_text verdict none_line) (same_text verdict none_line) e
 

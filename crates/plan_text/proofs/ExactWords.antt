@@ -49,7 +49,7 @@ narrow n h = omega (arith, h)
 lacks_exact : (b : ℕ) (x : ℚ) → b < 48 → (45 == b) ≡ false → (47 == b) ≡ false → FitsFrac x → lacks b (exact_spelling x) ≡ true
 lacks_exact b x small minus slash f =
     lacks_append b (signed_decimal x.num) (denominator_text x.den) (lacks_signed b x.num small minus (narrow _ f.num_fits))
-        (lacks_den b (x.den == 1) (decimal x.den) slash (lacks_wide b x.den small (narrow _ f.den_fits)))
+    (lacks_den b (x.den == 1) (decimal x.den) slash (lacks_wide b x.den small (narrow _ f.den_fits)))
 
 -- a fraction's spelling is one word
 pub exact_word : (x : ℚ) → FitsFrac x → IsKey (exact_spelling x)
@@ -79,7 +79,7 @@ quotient_by w z d false is l v k = rw (cut_again 47 w (decimal d) l) (λ i. over
 quotient_again : (x : ℚ) → FitsFrac x → quotient_of (exact_spelling x) (cut 47 (exact_spelling x)) ≡ x
 quotient_again x f =
     quotient_by (signed_decimal x.num) x.num x.den (x.den == 1) (eqb-true x.den 1) (lacks_signed 47 x.num (omega arith) refl (narrow _ f.num_fits))
-        (value_again x.num (narrow _ f.num_fits)) (value_wide x.den (narrow _ f.den_fits))
+    (value_again x.num (narrow _ f.num_fits)) (value_wide x.den (narrow _ f.den_fits))
     ∙ over-own x
 
 narrow_by : (a b : Bool) (x : ℚ) → a ≡ true → b ≡ true → (if a && b then Some x else None) ≡ Some x

@@ -153,7 +153,7 @@ pub words_grow : (last line : ℕ) (bytes z : List ℕ) → line + lines_in byte
 unfolding words_at
 words_grow last line bytes z e =
     grows_then (one_and (line + 1)) (one_and (line + 1)) last z (line_at line bytes) (line_at line (bytes ++ z)) (λ l. Ok (words l.0, l.1))
-        (line_grows last line bytes z e) (λ l end. (end, refl)) (λ l here. here)
+    (line_grows last line bytes z e) (λ l end. (end, refl)) (λ l here. here)
 
 pub words_later : (last line : ℕ) (bytes : List ℕ) → last ≤ line → Reaches (one_and (line + 1)) last (words_at line bytes)
 unfolding words_at
@@ -163,7 +163,7 @@ pub fixed_grows : (last line : ℕ) (text bytes z : List ℕ) → line + lines_i
 unfolding fixed_at
 fixed_grows last line text bytes z e =
     grows_then (one_and (line + 1)) (after_line (line + 1)) last z (line_at line bytes) (line_at line (bytes ++ z)) (λ l. if is_text l.0 text then Ok l.1 else fault line Shape)
-        (line_grows last line bytes z e)
+    (line_grows last line bytes z e)
     (λ l end. guarded (after_line (line + 1)) last line z (is_text l.0 text) Shape (Ok l.1) (Ok (l.1 ++ z)) tt (omega arith) (end, refl))
     (λ l here. guarded_later (after_line (line + 1)) last line (is_text l.0 text) Shape (Ok l.1) (omega arith) here)
 
@@ -195,14 +195,14 @@ pub numbers_grow : (last : ℕ) (key : List ℕ) (place : NumberLine) (bytes z :
 unfolding numbers_at
 numbers_grow last key place bytes z e =
     grows_then (one_and (place.line + 1)) (one_and (place.line + 1)) last z (line_at place.line bytes) (line_at place.line (bytes ++ z))
-        (λ l. numbers_of key place (words l.0) >>= λ ns. Ok (ns, l.1)) (line_grows last place.line bytes z e)
+    (λ l. numbers_of key place (words l.0) >>= λ ns. Ok (ns, l.1)) (line_grows last place.line bytes z e)
     (λ l end. tested (one_and (place.line + 1)) last place.line z (numbers_of key place (words l.0)) (λ ns. Ok (ns, l.1)) (λ ns. Ok (ns, l.1 ++ z))
-        (of_here key place (words l.0)) (omega arith) (λ ns. (end, refl)))
+    (of_here key place (words l.0)) (omega arith) (λ ns. (end, refl)))
     (λ l here. tested_later (one_and (place.line + 1)) last place.line (numbers_of key place (words l.0)) (λ ns. Ok (ns, l.1)) (of_here key place (words l.0)) (omega arith) (λ ns. here))
 
 pub numbers_later : (last : ℕ) (key : List ℕ) (place : NumberLine) (bytes : List ℕ) → last ≤ place.line → Reaches (one_and (place.line + 1)) last (numbers_at key place bytes)
 unfolding numbers_at
 numbers_later last key place bytes after =
     reaches_then (one_and (place.line + 1)) (one_and (place.line + 1)) last (line_at place.line bytes) (λ l. numbers_of key place (words l.0) >>= λ ns. Ok (ns, l.1))
-        (line_later last place.line bytes after)
+    (line_later last place.line bytes after)
     (λ l here. tested_later (one_and (place.line + 1)) last place.line (numbers_of key place (words l.0)) (λ ns. Ok (ns, l.1)) (of_here key place (words l.0)) after (λ ns. here))

@@ -78,7 +78,7 @@ unfolding listed_row
 listed_here rows line [] = (refl, tt)
 listed_here rows line (i ∷ []) =
     at_then line (ranged (range_of line 1 (2 ^ 64 - 1)) (number i)) (λ place. or_number line (slice_get rows (place - 1)))
-        (ranged_here (range_of line 1 (2 ^ 64 - 1)) (number i)) (λ place. or_number_here line (slice_get rows (place - 1)))
+    (ranged_here (range_of line 1 (2 ^ 64 - 1)) (number i)) (λ place. or_number_here line (slice_get rows (place - 1)))
 listed_here rows line (i ∷ x ∷ ws) = (refl, tt)
 
 row_in_here : (names : Naming) (line : ℕ) (ws : List (List ℕ)) → IsAt line (row_in names line ws)
@@ -104,9 +104,9 @@ split_here : (line : ℕ) (kind i place : List ℕ) → IsAt line (split_of line
 unfolding split_of
 split_here line kind i place =
     at_choice line (is_text kind loop_key) (index_of line i >>= λ link. or_number line (integer place) >>= λ at. Ok (Loop link at))
-        (if is_text kind turn_key then (index_of line i >>= λ signal. ranged (range_of line 0 (2 ^ 32 - 1)) (number place) >>= λ rank. Ok (Turn signal rank)) else fault line Shape)
+    (if is_text kind turn_key then (index_of line i >>= λ signal. ranged (range_of line 0 (2 ^ 32 - 1)) (number place) >>= λ rank. Ok (Turn signal rank)) else fault line Shape)
     (at_then line (index_of line i) (λ link. or_number line (integer place) >>= λ at. Ok (Loop link at)) (index_here line i)
-        (λ link. at_then line (or_number line (integer place)) (λ at. Ok (Loop link at)) (or_number_here line (integer place)) (λ at. tt)))
+    (λ link. at_then line (or_number line (integer place)) (λ at. Ok (Loop link at)) (or_number_here line (integer place)) (λ at. tt)))
     (at_if line (is_text kind turn_key) Shape (index_of line i >>= λ signal. ranged (range_of line 0 (2 ^ 32 - 1)) (number place) >>= λ rank. Ok (Turn signal rank)) tt
     (at_then line (index_of line i) (λ signal. ranged (range_of line 0 (2 ^ 32 - 1)) (number place) >>= λ rank. Ok (Turn signal rank)) (index_here line i)
     (λ signal. at_then line (ranged (range_of line 0 (2 ^ 32 - 1)) (number place)) (λ rank. Ok (Turn signal rank)) (ranged_here (range_of line 0 (2 ^ 32 - 1)) (number place)) (λ rank. tt))))
@@ -120,7 +120,7 @@ over_here (Named table) line key d n = (refl, tt)
 over_here (Listed rows) line key d n =
     at_if line (is_text key leaf_key) Shape (or_number line (above_zero (exact d)) >>= λ denominator. leaf_count line n >>= λ count. Ok (heads.Leaf count (Over denominator))) tt
     (at_then line (or_number line (above_zero (exact d))) (λ denominator. leaf_count line n >>= λ count. Ok (heads.Leaf count (Over denominator)))
-        (or_number_here line (above_zero (exact d))) (λ denominator. count_of_leaf line n (Over denominator)))
+    (or_number_here line (above_zero (exact d))) (λ denominator. count_of_leaf line n (Over denominator)))
 
 head_here : (names : Naming) (line : ℕ) (ws : List (List ℕ)) → IsAt line (head_of names line ws)
 unfolding head_of
@@ -156,7 +156,7 @@ module _ {A : Type 0} (row : A → RowId) (read : ℕ → List (List ℕ) → Re
       reaches_then (one_and (line + 1)) (one_and (line + suc n)) last (words_at line bytes) (item_then n above line) (words_later last line bytes (omega arith))
       (λ l more. tested_later (one_and (line + suc n)) last line (read_after row read above line l.0) (items_after n line l.1) (after_here above line l.0) (omega arith)
       (λ w. reaches_then (one_and (line + 1 + n)) (one_and (line + suc n)) last (rising_at row read n (Some (row w)) (line + 1) l.1) (and_item w)
-          (rising_later n (Some (row w)) last (line + 1) l.1 more) (λ ws k. omega arith)))
+      (rising_later n (Some (row w)) last (line + 1) l.1 more) (λ ws k. omega arith)))
 
   rising_grow : (count : ℕ) (above : Option RowId) (last line : ℕ) (bytes z : List ℕ) → line + lines_in bytes ≡ last
       → Grows (one_and (line + count)) last z (rising_at row read count above line bytes) (rising_at row read count above line (bytes ++ z))
@@ -166,10 +166,10 @@ module _ {A : Type 0} (row : A → RowId) (read : ℕ → List (List ℕ) → Re
       grows_then (one_and (line + 1)) (one_and (line + suc n)) last z (words_at line bytes) (words_at line (bytes ++ z)) (item_then n above line) (words_grow last line bytes z e)
       (λ l end. tested (one_and (line + suc n)) last line z (read_after row read above line l.0) (items_after n line l.1) (items_after n line (l.1 ++ z)) (after_here above line l.0) (omega arith)
       (λ w. grows_then (one_and (line + 1 + n)) (one_and (line + suc n)) last z (rising_at row read n (Some (row w)) (line + 1) l.1)
-          (rising_at row read n (Some (row w)) (line + 1) (l.1 ++ z)) (and_item w) (rising_grow n (Some (row w)) last (line + 1) l.1 z end) (λ ws k. (omega arith, refl)) (λ ws k. omega arith)))
+      (rising_at row read n (Some (row w)) (line + 1) (l.1 ++ z)) (and_item w) (rising_grow n (Some (row w)) last (line + 1) l.1 z end) (λ ws k. (omega arith, refl)) (λ ws k. omega arith)))
       (λ l more. tested_later (one_and (line + suc n)) last line (read_after row read above line l.0) (items_after n line l.1) (after_here above line l.0) (omega arith)
       (λ w. reaches_then (one_and (line + 1 + n)) (one_and (line + suc n)) last (rising_at row read n (Some (row w)) (line + 1) l.1) (and_item w)
-          (rising_later n (Some (row w)) last (line + 1) l.1 more) (λ ws k. omega arith)))
+      (rising_later n (Some (row w)) last (line + 1) l.1 more) (λ ws k. omega arith)))
 
 -- ---- the list of rows
 
@@ -193,7 +193,7 @@ rows_then_later : (table : Table) (last line : ℕ) (l : List (List ℕ) × List
 rows_then_later table last line l late =
     tested_later numbered last line (row_count line l.0) (rows_rest table line l.1) (row_count_here line l.0) (omega arith)
     (λ n. reaches_then (one_and (line + 1 + n)) numbered last (names_at table n None (line + 1) l.1) (as_rows line n)
-        (rising_later own_row (row_of table) (row_here table) n None last (line + 1) l.1 late) (λ rs k. k))
+    (rising_later own_row (row_of table) (row_here table) n None last (line + 1) l.1 late) (λ rs k. k))
 
 pub rows_later : (table : Table) (last line : ℕ) (bytes : List ℕ) → last ≤ line → Reaches numbered last (rows_at table line bytes)
 unfolding rows_at
@@ -206,7 +206,7 @@ rows_grow table last line bytes z e =
     grows_then (one_and (line + 1)) numbered last z (words_at line bytes) (words_at line (bytes ++ z)) (rows_then table line) (words_grow last line bytes z e)
     (λ l end. tested numbered last line z (row_count line l.0) (rows_rest table line l.1) (rows_rest table line (l.1 ++ z)) (row_count_here line l.0) (omega arith)
     (λ n. grows_then (one_and (line + 1 + n)) numbered last z (names_at table n None (line + 1) l.1) (names_at table n None (line + 1) (l.1 ++ z))
-        (as_rows line n) (rising_grow own_row (row_of table) (row_here table) n None last (line + 1) l.1 z end) (λ rs k. (k, refl)) (λ rs k. k)))
+    (as_rows line n) (rising_grow own_row (row_of table) (row_here table) n None last (line + 1) l.1 z end) (λ rs k. (k, refl)) (λ rs k. k)))
     (rows_then_later table last line)
 
 -- ---- nodes
@@ -236,36 +236,36 @@ last_later names form next line last ws l is here =
 lines_later : (names : Naming) (form : LeafForm) (next line last : ℕ) (ws : List Weight × List ℕ) → next ≡ line + 1 → last < line + 1 → Reaches (one_and next) last (lines_then names form line ws)
 lines_later names form next line last ws is here =
     reaches_then (one_and (line + 1)) (one_and next) last (words_at line ws.1) (last_then names form line ws.0) (words_later last line ws.1 (omega arith))
-        (λ l more. last_later names form next line last ws.0 l is more)
+    (λ l more. last_later names form next line last ws.0 l is more)
 
 lines_grow : (names : Naming) (form : LeafForm) (next line last : ℕ) (ws : List Weight × List ℕ) (z : List ℕ) → next ≡ line + 1 → line + lines_in ws.1 ≡ last
     → Grows (one_and next) last z (lines_then names form line ws) (lines_then names form line (ws.0, ws.1 ++ z))
 lines_grow names form next line last ws z is e =
     grows_then (one_and (line + 1)) (one_and next) last z (words_at line ws.1) (words_at line (ws.1 ++ z)) (last_then names form line ws.0) (words_grow last line ws.1 z e)
     (λ l end. tested (one_and next) last line z (weight_of names form line l.0) (weight_then names form line ws.0 l.1) (weight_then names form line ws.0 (l.1 ++ z))
-        (weight_here names form line l.0) (omega arith)
+    (weight_here names form line l.0) (omega arith)
     (λ w. tested (one_and next) last line z (with_last names form line ws.0 w) (and_rest l.1) (and_rest (l.1 ++ z)) (last_here names form line ws.0 w) (omega arith) (λ all. (omega arith, refl))))
     (λ l more. last_later names form next line last ws.0 l is more)
 
 leaf_later : (names : Naming) (form : LeafForm) (count last line : ℕ) (bytes : List ℕ) → last < line + 1 → Reaches (one_and (line + 1 + count)) last (leaf_at names form count line bytes)
 leaf_later names form zero last line bytes here =
     rw (leaf_of_none names form line bytes) (tested_later (one_and (line + 1 + zero)) last line (formed names form line []) (and_rest bytes)
-        (formed_here names form line []) (omega arith) (λ ws. omega arith))
+    (formed_here names form line []) (omega arith) (λ ws. omega arith))
 leaf_later names form (suc n) last line bytes here =
     rw (leaf_of_some names form n line bytes) (reaches_then (one_and (line + 1 + n)) (one_and (line + 1 + suc n)) last (weights_at names form n None (line + 1) bytes)
-        (lines_then names form (line + suc n)) (rising_later row_of_weight (weight_of names form) (weight_here names form) n None last (line + 1) bytes here)
+    (lines_then names form (line + suc n)) (rising_later row_of_weight (weight_of names form) (weight_here names form) n None last (line + 1) bytes here)
     (λ ws more. lines_later names form (line + 1 + suc n) (line + suc n) last ws (omega arith) (omega arith)))
 
 leaf_grows : (names : Naming) (form : LeafForm) (count last line : ℕ) (bytes z : List ℕ) → line + 1 + lines_in bytes ≡ last
     → Grows (one_and (line + 1 + count)) last z (leaf_at names form count line bytes) (leaf_at names form count line (bytes ++ z))
 leaf_grows names form zero last line bytes z e =
     rw (leaf_of_none names form line bytes, leaf_of_none names form line (bytes ++ z)) (tested (one_and (line + 1 + zero)) last line z (formed names form line [])
-        (and_rest bytes) (and_rest (bytes ++ z)) (formed_here names form line []) (omega arith) (λ ws. (omega arith, refl)))
+    (and_rest bytes) (and_rest (bytes ++ z)) (formed_here names form line []) (omega arith) (λ ws. (omega arith, refl)))
 leaf_grows names form (suc n) last line bytes z e =
     rw (leaf_of_some names form n line bytes, leaf_of_some names form n line (bytes ++ z))
     (grows_then (one_and (line + 1 + n)) (one_and (line + 1 + suc n)) last z (weights_at names form n None (line + 1) bytes)
-        (weights_at names form n None (line + 1) (bytes ++ z)) (lines_then names form (line + suc n))
-        (rising_grow row_of_weight (weight_of names form) (weight_here names form) n None last (line + 1) bytes z e)
+    (weights_at names form n None (line + 1) (bytes ++ z)) (lines_then names form (line + suc n))
+    (rising_grow row_of_weight (weight_of names form) (weight_here names form) n None last (line + 1) bytes z e)
     (λ ws end. lines_grow names form (line + 1 + suc n) (line + suc n) last ws z (omega arith) (omega arith))
     (λ ws here. lines_later names form (line + 1 + suc n) (line + suc n) last ws (omega arith) (omega arith)))
 
@@ -284,7 +284,7 @@ unfolding rest_of
 rest_grows names (heads.Split at) last line bytes z e = (e, refl)
 rest_grows names (heads.Leaf count form) last line bytes z e =
     grows_then (one_and (line + 1 + count)) numbered last z (leaf_at names form count line bytes) (leaf_at names form count line (bytes ++ z))
-        (as_leaf line count) (leaf_grows names form count last line bytes z e) (λ ws end. (end, refl)) (λ ws here. here)
+    (as_leaf line count) (leaf_grows names form count last line bytes z e) (λ ws end. (end, refl)) (λ ws here. here)
 
 abbrev head_then : Naming → ℕ → List (List ℕ) × List ℕ → Result (Node × ℕ × List ℕ) BadText
 head_then names line l = head_of names line l.0 >>= λ head. rest_of names head line l.1
@@ -302,7 +302,7 @@ unfolding node_at
 node_grows names last line bytes z e =
     grows_then (one_and (line + 1)) numbered last z (words_at line bytes) (words_at line (bytes ++ z)) (head_then names line) (words_grow last line bytes z e)
     (λ l end. tested numbered last line z (head_of names line l.0) (λ head. rest_of names head line l.1) (λ head. rest_of names head line (l.1 ++ z))
-        (head_here names line l.0) (omega arith) (λ head. rest_grows names head last line l.1 z end))
+    (head_here names line l.0) (omega arith) (λ head. rest_grows names head last line l.1 z end))
     (head_later names last line)
 
 abbrev and_node : Node → List Node × ℕ × List ℕ → Result (List Node × ℕ × List ℕ) BadText
@@ -319,7 +319,7 @@ nodes_later names zero (suc others) last line bytes here = omega arith
 nodes_later names (suc steps) (suc others) last line bytes here =
     reaches_then numbered numbered last (node_at names line bytes) (node_then names steps others) (node_later names last line bytes (omega arith))
     (λ n more. reaches_then numbered numbered last (nodes_at names steps (owed_after n.0 others) n.1 n.2) (and_node n.0)
-        (nodes_later names steps (owed_after n.0 others) last n.1 n.2 more) (λ ns k. k))
+    (nodes_later names steps (owed_after n.0 others) last n.1 n.2 more) (λ ns k. k))
 
 no_lines : (bytes : List ℕ) → length bytes ≤ 0 → lines_in bytes ≡ 0
 no_lines [] none = refl
@@ -338,9 +338,9 @@ nodes_grow names (suc steps) (suc others) last line bytes z few e =
     grows_by numbered numbered last z (node_at names line bytes) (node_at names line (bytes ++ z)) (node_then names steps others) (node_then names steps others) (node_grows names last line bytes z e)
     (λ n is end. let shorter = (node_lengths names line bytes n is).shorter in
     grows_then numbered numbered last z (nodes_at names steps (owed_after n.0 others) n.1 n.2) (nodes_at names steps (owed_after n.0 others) n.1 (n.2 ++ z))
-        (and_node n.0) (nodes_grow names steps (owed_after n.0 others) last n.1 n.2 z (omega arith) end) (λ ns k. (k, refl)) (λ ns k. k))
+    (and_node n.0) (nodes_grow names steps (owed_after n.0 others) last n.1 n.2 z (omega arith) end) (λ ns k. (k, refl)) (λ ns k. k))
     (λ n more. reaches_then numbered numbered last (nodes_at names steps (owed_after n.0 others) n.1 n.2) (and_node n.0)
-        (nodes_later names steps (owed_after n.0 others) last n.1 n.2 more) (λ ns k. k))
+    (nodes_later names steps (owed_after n.0 others) last n.1 n.2 more) (λ ns k. k))
 
 -- ---- the claim
 
@@ -368,29 +368,29 @@ module _ {T : Type 0} (text : TimingText T) (laws : TimingLaws text) where
   best_grows last bytes z e =
       grows_then (one_and 4) opened last z (words_at 3 bytes) (words_at 3 (bytes ++ z)) best_then (words_grow last 3 bytes z e)
       (λ l end. tested opened last 3 z (fraction_of value_key 3 l.0) (λ value. text.read 4 l.1 >>= with_timing (Best value) (4 + text.height))
-          (λ value. text.read 4 (l.1 ++ z) >>= with_timing (Best value) (4 + text.height)) (fraction_here value_key 3 l.0) (omega arith) (λ value. timing_grows (Best value) last 4 l.1 z end))
+      (λ value. text.read 4 (l.1 ++ z) >>= with_timing (Best value) (4 + text.height)) (fraction_here value_key 3 l.0) (omega arith) (λ value. timing_grows (Best value) last 4 l.1 z end))
       (λ l here. tested_later opened last 3 (fraction_of value_key 3 l.0) (λ value. text.read 4 l.1 >>= with_timing (Best value) (4 + text.height))
-          (fraction_here value_key 3 l.0) (omega arith) (λ value. timing_later (Best value) last 4 l.1 (omega arith)))
+      (fraction_here value_key 3 l.0) (omega arith) (λ value. timing_later (Best value) last 4 l.1 (omega arith)))
 
   best_later : (last : ℕ) (bytes : List ℕ) → last ≤ 3 → Reaches opened last (best_at text bytes)
   unfolding best_at
   best_later last bytes before =
       reaches_then (one_and 4) opened last (words_at 3 bytes) best_then (words_later last 3 bytes before)
       (λ l here. tested_later opened last 3 (fraction_of value_key 3 l.0) (λ value. text.read 4 l.1 >>= with_timing (Best value) (4 + text.height))
-          (fraction_here value_key 3 l.0) before (λ value. timing_later (Best value) last 4 l.1 (omega arith)))
+      (fraction_here value_key 3 l.0) before (λ value. timing_later (Best value) last 4 l.1 (omega arith)))
 
   found_grows : (bound : ℚ) (ws : List (List ℕ)) (last : ℕ) (bytes z : List ℕ) → 5 + lines_in bytes ≡ last → Grows opened last z (found_at text bound ws bytes) (found_at text bound ws (bytes ++ z))
   unfolding found_at
   found_grows bound ws last bytes z e =
       tested opened last 4 z (fraction_of value_key 4 ws) (λ value. text.read 5 bytes >>= with_timing (Stopped bound (Some value)) (5 + text.height))
-          (λ value. text.read 5 (bytes ++ z) >>= with_timing (Stopped bound (Some value)) (5 + text.height)) (fraction_here value_key 4 ws) (omega arith)
-          (λ value. timing_grows (Stopped bound (Some value)) last 5 bytes z e)
+      (λ value. text.read 5 (bytes ++ z) >>= with_timing (Stopped bound (Some value)) (5 + text.height)) (fraction_here value_key 4 ws) (omega arith)
+      (λ value. timing_grows (Stopped bound (Some value)) last 5 bytes z e)
 
   found_later : (bound : ℚ) (ws : List (List ℕ)) (last : ℕ) (bytes : List ℕ) → last ≤ 4 → Reaches opened last (found_at text bound ws bytes)
   unfolding found_at
   found_later bound ws last bytes before =
       tested_later opened last 4 (fraction_of value_key 4 ws) (λ value. text.read 5 bytes >>= with_timing (Stopped bound (Some value)) (5 + text.height))
-          (fraction_here value_key 4 ws) before (λ value. timing_later (Stopped bound (Some value)) last 5 bytes (omega arith))
+      (fraction_here value_key 4 ws) before (λ value. timing_later (Stopped bound (Some value)) last 5 bytes (omega arith))
 
   abbrev as_missing : ℚ → List ℕ → Result (Beginning T) BadText
   as_missing bound rest = Ok (Stopped bound None, None, 5, rest)
@@ -419,7 +419,7 @@ module _ {T : Type 0} (text : TimingText T) (laws : TimingLaws text) where
   bound_grows bound last bytes z e =
       grows_by (one_and 5) opened last z (words_at 4 bytes) (words_at 4 (bytes ++ z)) (value_or_not bound bytes) (value_or_not bound (bytes ++ z)) (words_grow last 4 bytes z e)
       (λ m is end. chosen opened last z (begins_with value_key m.0) (found_at text bound m.0 m.1) (found_at text bound m.0 (m.1 ++ z)) (missing_at bound bytes)
-          (missing_at bound (bytes ++ z)) (found_grows bound m.0 last m.1 z end) (missing_grows bound last bytes z e))
+      (missing_at bound (bytes ++ z)) (found_grows bound m.0 last m.1 z end) (missing_grows bound last bytes z e))
       (λ m here. value_later bound last (bytes ++ z) m (omega arith))
 
   bound_later : (bound : ℚ) (last : ℕ) (bytes : List ℕ) → last ≤ 4 → Reaches opened last (bound_then bytes bound)
@@ -447,11 +447,11 @@ module _ {T : Type 0} (text : TimingText T) (laws : TimingLaws text) where
   verdict_grows verdict last bytes z e =
       let other = bytes ++ z in
       chosen opened last z (is_text verdict best_line) (best_at text bytes) (best_at text other) (if is_text verdict none_line then none_at bytes else
-          (if is_text verdict open_line then open_at text bytes else fault 2 Shape)) (if is_text verdict none_line then none_at other else
-          (if is_text verdict open_line then open_at text other else fault 2 Shape))
+      (if is_text verdict open_line then open_at text bytes else fault 2 Shape)) (if is_text verdict none_line then none_at other else
+      (if is_text verdict open_line then open_at text other else fault 2 Shape))
       (best_grows last bytes z e)
       (chosen opened last z (is_text verdict none_line) (none_at bytes) (none_at other) (if is_text verdict open_line then open_at text bytes else fault 2 Shape)
-          (if is_text verdict open_line then open_at text other else fault 2 Shape)
+      (if is_text verdict open_line then open_at text other else fault 2 Shape)
       (e, refl)
       (chosen opened last z (is_text verdict open_line) (open_at text bytes) (open_at text other) (fault 2 Shape) (fault 2 Shape) (open_grows last bytes z e) (inl (tt, omega arith, refl))))
 
@@ -459,7 +459,7 @@ module _ {T : Type 0} (text : TimingText T) (laws : TimingLaws text) where
   unfolding verdict_of
   verdict_later verdict last bytes before =
       chosen_later opened last (is_text verdict best_line) (best_at text bytes) (if is_text verdict none_line then none_at bytes else
-          (if is_text verdict open_line then open_at text bytes else fault 2 Shape))
+      (if is_text verdict open_line then open_at text bytes else fault 2 Shape))
       (best_later last bytes (omega arith))
       (chosen_later opened last (is_text verdict none_line) (none_at bytes) (if is_text verdict open_line then open_at text bytes else fault 2 Shape)
       (omega arith)
@@ -469,7 +469,7 @@ module _ {T : Type 0} (text : TimingText T) (laws : TimingLaws text) where
   unfolding claim_at
   claim_grows last bytes z e =
       grows_then (one_and 3) opened last z (line_at 2 bytes) (line_at 2 (bytes ++ z)) (λ l. verdict_of text l.0 l.1) (line_grows last 2 bytes z e)
-          (λ l end. verdict_grows l.0 last l.1 z end) (λ l here. verdict_later l.0 last l.1 (omega arith))
+      (λ l end. verdict_grows l.0 last l.1 z end) (λ l here. verdict_later l.0 last l.1 (omega arith))
 
   pub claim_later : (last : ℕ) (bytes : List ℕ) → last ≤ 2 → Reaches opened last (claim_at text bytes)
   unfolding claim_at

@@ -76,7 +76,7 @@ signals_read : (line : ℕ) → Reads line (two_and (line + 2)) (signals_at line
 unfolding signals_at
 signals_read line =
     two_read (λ a. a) (λ b. b) line (numbers_at pattern_key (pattern_place line)) (λ a. numbers_at red_key (place_of (line + 1) (length a) 0))
-        (numbers_read pattern_key (pattern_place line)) (λ a. numbers_read red_key (place_of (line + 1) (length a) 0))
+    (numbers_read pattern_key (pattern_place line)) (λ a. numbers_read red_key (place_of (line + 1) (length a) 0))
 
 pub ways_read : (out_key in_key : List ℕ) (line links : ℕ) → Reads line (two_and (line + 2)) (both_ways_at out_key in_key line links)
 unfolding both_ways_at
@@ -87,7 +87,7 @@ pair_read : (key : List ℕ) (line : ℕ) → Reads line (two_and (line + 1)) (p
 unfolding pair_at
 pair_read key line =
     reads_made (after_line line) line (one_and (line + 1)) (two_and (line + 1)) (numbers_at key (place_of line 2 0)) (λ bytes a. (slice_index a.0 0, slice_index a.0 1, a.1))
-        (numbers_read key (place_of line 2 0)) (λ x y. refl) (λ x y. refl) (λ x y z. refl)
+    (numbers_read key (place_of line 2 0)) (λ x y. refl) (λ x y. refl) (λ x y z. refl)
 
 -- ---- the lines that speak of no band
 
@@ -113,20 +113,20 @@ first_read : (line : ℕ) (scale : Scale) (signals : Pair) → ReadsOn (two_and 
 first_read line scale signals =
     reads_made (two_and (line + 4 + 2)) (line + 6) (two_and (line + 6 + 1)) (one_and (line + 7)) (λ runs. pair_at first_key (line + 6) runs.2) (base_is scale signals)
     (reads_rest (two_and (line + 4 + 2)) (line + 6) (two_and (line + 6 + 1)) (λ runs. pair_at first_key (line + 6)) (λ runs. pair_read first_key (line + 6)) (λ runs z. refl))
-        (λ runs f. omega arith) (λ runs f. refl) (λ runs f z. refl)
+    (λ runs f. omega arith) (λ runs f. refl) (λ runs f z. refl)
 
 runs_read : (line : ℕ) (scale : Scale) → ReadsOn (two_and (line + 2 + 2)) (line + 4) (one_and (line + 7)) (from_runs line scale)
 runs_read line scale =
     let ways : Pair → List ℕ → Result Pair BadText = λ signals. both_ways_at run_out_key run_in_key (line + 4) (length signals.0 - 1) in
     let read = reads_rest (two_and (line + 2 + 2)) (line + 4) (two_and (line + 4 + 2)) ways (λ signals. ways_read run_out_key run_in_key (line + 4) (length signals.0 - 1)) (λ signals z. refl) in
     reads_then (two_and (line + 2 + 2)) (line + 4) (two_and (line + 4 + 2)) (line + 6) (one_and (line + 7)) (λ signals. ways signals signals.2)
-        (from_first line scale) read (first_read line scale) (λ runs. omega arith) (λ signals z. refl)
+    (from_first line scale) read (first_read line scale) (λ runs. omega arith) (λ signals z. refl)
 
 later_read : (line : ℕ) → ReadsOn (two_and (line + 2)) (line + 2) (one_and (line + 7)) (from_signals line)
 later_read line =
     reads_then (two_and (line + 2)) (line + 2) (two_and (line + 2 + 2)) (line + 4) (one_and (line + 7)) (λ scale. signals_at (line + 2) scale.2) (from_runs line)
     (reads_rest (two_and (line + 2)) (line + 2) (two_and (line + 2 + 2)) (λ scale. signals_at (line + 2)) (λ scale. signals_read (line + 2)) (λ scale z. refl))
-        (runs_read line) (λ signals. omega arith) (λ scale z. refl)
+    (runs_read line) (λ signals. omega arith) (λ scale z. refl)
 
 pub base_read : (line : ℕ) → Reads line (one_and (line + 7)) (base_at line)
 unfolding base_at
@@ -142,7 +142,7 @@ band_read : (line : ℕ) → ReadsOn (one_and (line + 7)) (line + 7) (one_and (l
 band_read line =
     reads_made (one_and (line + 7)) (line + 7) (two_and (line + 7 + 1)) (one_and (line + 8)) (λ base. pair_at band_key (line + 7) base.1) (λ base band. (base.0 band.0 band.1, band.2))
     (reads_rest (one_and (line + 7)) (line + 7) (two_and (line + 7 + 1)) (λ base. pair_at band_key (line + 7)) (λ base. pair_read band_key (line + 7)) (λ base z. refl))
-        (λ base band. omega arith) (λ base band. refl) (λ base band z. refl)
+    (λ base band. omega arith) (λ base band. refl) (λ base band z. refl)
 
 pub plan_read : (line : ℕ) → Reads line (one_and (line + 8)) (plan_at line)
 unfolding plan_at

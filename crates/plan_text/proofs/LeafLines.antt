@@ -105,7 +105,7 @@ pub leaf_reads : (names : Naming) (form : LeafForm) (n line : ℕ) (bytes : List
     → is_form names form x.0 ≡ true → leaf_at names form n line bytes ≡ Ok x
 leaf_reads names form zero line bytes x e f =
     moved (λ (y : List Weight × List ℕ). is_form names form y.0 ≡ true → leaf_at names form zero line bytes ≡ Ok y) ([], bytes) x
-        (sym (none_weigh names form line bytes) ∙ e) (λ g. leaf_of_none names form line bytes ∙ rw g refl) f
+    (sym (none_weigh names form line bytes) ∙ e) (λ g. leaf_of_none names form line bytes ∙ rw g refl) f
 leaf_reads names form (suc n) line bytes x e f =
     let at : line + 1 + n ≡ line + suc n = omega arith in
     let r = rising_parts row_of_weight (weight_of names form) n None (line + 1) bytes x e in
@@ -115,7 +115,7 @@ leaf_reads names form (suc n) line bytes x e f =
     ∙ then_ok (weights_at names form n None (line + 1) bytes) r.before (lines_then names form here) r.read_before
     ∙ then_ok (words_at here r.before.1) r.words (last_then names form here r.before.0) (subst (λ (k : ℕ). words_at k r.before.1 ≡ Ok r.words) at r.read_words)
     ∙ then_ok (weight_of names form here r.words.0) r.item (λ w. with_last names form here r.before.0 w >>= λ all. Ok (all, r.words.1))
-        (subst (λ (k : ℕ). weight_of names form k r.words.0 ≡ Ok r.item) at r.read_item)
+    (subst (λ (k : ℕ). weight_of names form k r.words.0 ≡ Ok r.item) at r.read_item)
     ∙ then_ok (with_last names form here r.before.0 r.item) (r.before.0 ++ r.item ∷ []) (λ all. Ok (all, r.words.1))
-        (joins names form here r.before.0 r.item (subst (λ (y : List Weight). is_form names form y ≡ true) same f) r.ascends)
+    (joins names form here r.before.0 r.item (subst (λ (y : List Weight). is_form names form y ≡ true) same f) r.ascends)
     ∙ ap (λ (y : List Weight × List ℕ). Ok y) (sym r.is)

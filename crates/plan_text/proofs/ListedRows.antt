@@ -177,7 +177,7 @@ all_from rs (SplitAt at ∷ ns) = All-cons (AreListed (rows_from rs (SplitAt at 
 all_from rs (LeafOf ws ∷ ns) =
     All-cons (AreListed (rows_from rs (LeafOf ws ∷ ns))) (LeafOf ws) ns
     (All-weaker (λ (w : Weight). IsListed (with_rows ws rs) w.row) (λ (w : Weight). IsListed (rows_from (with_rows ws rs) ns) w.row)
-        (λ w h. rows_from_keep (with_rows ws rs) ns w.row h) ws (with_rows_have ws rs))
+    (λ w h. rows_from_keep (with_rows ws rs) ns w.row h) ws (with_rows_have ws rs))
     (all_from (with_rows ws rs) ns)
 
 -- every row of a leaf is listed

@@ -76,7 +76,7 @@ over_times d x above m =
     let z = x.num *ℤ pos k in
     ap (λ (n : ℕ). over (x.num *ℤ pos n) d) part
     ∙ same_ratio (over z d) x (up x.num * k) (down x.num * k) d (up x.num) (down x.num) x.den (over_terms z (up x.num * k) (down x.num * k) d above
-        (omega (arith, ints, up-mul x.num (pos k), down-mul x.num (pos k)))) (own_ratio x)
+    (omega (arith, ints, up-mul x.num (pos k), down-mul x.num (pos k)))) (own_ratio x)
     (crossed (up x.num) (down x.num) k d x.den m.is)
   where
     crossed : (a b k d e : ℕ) → d ≡ k * e → a * k * e + b * d ≡ b * k * e + a * d

@@ -92,8 +92,11 @@ listed_again rows line row told =
     let p = place_of_listed None rows row told.0 told.1 in
     let place = place_of_row rows row in
     let back : place - 1 ≡ p.0 = omega (arith, p.1.place) in
-    let read = number_again (range_of line 1 (2 ^ 64 - 1)) place (record { least = omega (arith, p.1.place); greatest = omega (arith, p.1.place, p.1.inside, told.2);
-        limit = omega (arith, p.1.place, p.1.inside, told.2) }) in
+    let read = number_again (range_of line 1 (2 ^ 64 - 1)) place (record {
+      least = omega (arith, p.1.place);
+      greatest = omega (arith, p.1.place, p.1.inside, told.2);
+      limit = omega (arith, p.1.place, p.1.inside, told.2);
+    }) in
     rw (read, back, get_some rows p.0 row row p.1.inside (sym (p.1.is row))) refl
 
 row_in_again : (names : Naming) (line : ℕ) (row : RowId) → IsTold names row → row_in names line (name_words names row) ≡ Ok row

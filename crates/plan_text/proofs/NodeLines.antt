@@ -80,7 +80,7 @@ turn_by line kind i place at false is e = absurd cc
 
 split_by : (line : ℕ) (kind i place : List ℕ) (at : At) (b : Bool) → (b ≡ true → kind ≡ loop_key)
     → (if b then (index_of line i >>= λ link. or_number line (integer place) >>= λ at. Ok (Loop link at)) else
-        (if is_text kind turn_key then (index_of line i >>= λ signal. ranged (range_of line 0 (2 ^ 32 - 1)) (number place) >>= λ rank. Ok (Turn signal rank)) else fault line Shape)) ≡ Ok at
+    (if is_text kind turn_key then (index_of line i >>= λ signal. ranged (range_of line 0 (2 ^ 32 - 1)) (number place) >>= λ rank. Ok (Turn signal rank)) else fault line Shape)) ≡ Ok at
     → SplitOf (split_key ∷ kind ∷ i ∷ place ∷ []) at
 split_by line kind i place at true is e = subst (λ (k : List ℕ). SplitOf (split_key ∷ k ∷ i ∷ place ∷ []) at) (sym (is refl)) (loop_takes line i place at e)
 split_by line kind i place at false is e = turn_by line kind i place at (is_text kind turn_key) (same_text kind turn_key) e
@@ -177,8 +177,10 @@ fractions_is_key (Listed rows) = record { spaces = refl; feeds = refl }
 leaf_line : (names : Naming) (form : LeafForm) (line n : ℕ) (rest : List ℕ) → IsFormed form → n ≤ 10000
     → words_at line (line_of (first_words names form n) ++ 10 ∷ rest) ≡ Ok (first_words names form n, rest)
 leaf_line names Plain line n rest formed few = words_again line (fractions_key names) (decimal n ∷ []) rest (fractions_is_key names, (decimal_word n (omega arith), tt))
-leaf_line names (Over d) line n rest formed few = words_again line leaf_key (decimal d ∷ decimal n ∷ []) rest (record { spaces = refl; feeds = refl },
-    (whole_word (pos d) formed.1, (decimal_word n (omega arith), tt)))
+leaf_line names (Over d) line n rest formed few = words_again line leaf_key (decimal d ∷ decimal n ∷ []) rest (
+  record { spaces = refl; feeds = refl },
+  (whole_word (pos d) formed.1, (decimal_word n (omega arith), tt)),
+)
 
 -- ---- a node
 

@@ -63,7 +63,7 @@ rows_take table line bytes x e =
     let d = bind_ok (names_at table b.0 None (line + 1) a.0.1) (λ rows. Ok (rows.0, line + 1 + b.0, rows.1)) x b.2 in
     let count = (rising_lengths own_row (row_of table) b.0 None (line + 1) a.0.1 d.0 d.1).0 in
     let t = rising_takes own_row (row_of table) (row_words_in table) (IsRowIn table) (λ line ws row e. let r = row_takes table line ws row e in
-        (r.spelled, record { named = r.named; index = r.index })) b.0 None (line + 1) a.0.1 d.0 d.1 in
+    (r.spelled, record { named = r.named; index = r.index })) b.0 None (line + 1) a.0.1 d.0 d.1 in
     let words : a.0.0 ≡ rows_key ∷ decimal (length d.0.0) ∷ [] = count_takes line a.0.0 b.0 b.1 ∙ ap (λ (n : ℕ). rows_key ∷ decimal n ∷ []) (sym count) in
     moved (RowListOf table bytes) (d.0.0, line + 1 + b.0, d.0.1) x d.2 (record {
       parts = words_take line bytes a.0 a.1 ∙ (λ i. line_of (words i) ++ 10 ∷ t.parts i);

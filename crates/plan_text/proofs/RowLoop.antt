@@ -67,7 +67,7 @@ goes_on row read front count i last line bytes l w total lt p q so_far =
     let more = rising_at row read (count - (i + 1)) (Some (row w)) (line + i + 1) l.1 in
     let one : rising_at row read (count - i) last (line + i) bytes ≡ (more >>= λ x. Ok (w ∷ x.0, x.1))
     = next row read count i last line bytes lt ∙ then_ok (words_at (line + i) bytes) l (row_then row read (count - (i + 1)) last (line + i)) p
-        ∙ then_ok (read_after row read last (line + i) l.0) w (λ w. rising_at row read (count - (i + 1)) (Some (row w)) (line + i + 1) l.1 >>= λ x. Ok (w ∷ x.0, x.1)) q in
+    ∙ then_ok (read_after row read last (line + i) l.0) w (λ w. rising_at row read (count - (i + 1)) (Some (row w)) (line + i + 1) l.1 >>= λ x. Ok (w ∷ x.0, x.1)) q in
     ap (λ (n : ℕ). with_front (front ++ w ∷ []) (rising_at row read (count - (i + 1)) (Some (row w)) n l.1)) k ∙ sym (regroup front w more) ∙ ap (with_front front) (sym one) ∙ so_far
 
 pub no_words : {A : Type 0} (row : A → RowId) (read : ℕ → List (List ℕ) → Result A BadText) (e : TextEnd) (front : List A) (count i : ℕ) (last : Option RowId)
@@ -85,7 +85,7 @@ pub no_weight : {A : Type 0} (row : A → RowId) (read : ℕ → List (List ℕ)
 no_weight row read e front count i last line bytes l total lt p h so_far =
     let x = fails_then e (read_after row read last (line + i) l.0) (λ w. rising_at row read (count - (i + 1)) (Some (row w)) (line + i + 1) l.1 >>= λ x. Ok (w ∷ x.0, x.1)) h in
     let one : (words_at (line + i) bytes >>= row_then row read (count - (i + 1)) last (line + i)) ≡ row_then row read (count - (i + 1)) last (line + i) l =
-        then_ok (words_at (line + i) bytes) l (row_then row read (count - (i + 1)) last (line + i)) p in
+    then_ok (words_at (line + i) bytes) l (row_then row read (count - (i + 1)) last (line + i)) p in
     let y = fails_as e _ (rising_at row read (count - i) last (line + i) bytes) (sym (next row read count i last line bytes lt ∙ one)) x in
     fails_as e _ total so_far (fails_then e (rising_at row read (count - i) last (line + i) bytes) (λ x. Ok (front ++ x.0, x.1)) y)
 
@@ -204,9 +204,9 @@ pub rising_joins : {A : Type 0} (row : A → RowId) (read : ℕ → List (List �
 rising_joins row read zero last line bytes x h =
     let at : line + zero ≡ line = omega arith in
     let start = moved (λ (y : List _ × List ℕ). words_at line y.1 ≡ Ok h.words → is_after (last_row row last y.0) (row h.item) ≡ true
-        → rising_at row read 1 last line bytes ≡ Ok (y.0 ++ h.item ∷ [], h.words.1)) ([], bytes) h.before (sym (none_rise row read last line bytes) ∙ h.read_before)
+    → rising_at row read 1 last line bytes ≡ Ok (y.0 ++ h.item ∷ [], h.words.1)) ([], bytes) h.before (sym (none_rise row read last line bytes) ∙ h.read_before)
     (λ p a. one_more row read zero last line bytes h.words h.item ([], h.words.1) p (after_reads row read last line h.words.0 h.item
-        (subst (λ (k : ℕ). read k h.words.0 ≡ Ok h.item) at h.read_item) a) (none_rise row read (Some (row h.item)) (line + 1) h.words.1)) in
+    (subst (λ (k : ℕ). read k h.words.0 ≡ Ok h.item) at h.read_item) a) (none_rise row read (Some (row h.item)) (line + 1) h.words.1)) in
     start (subst (λ (k : ℕ). words_at k h.before.1 ≡ Ok h.words) at h.read_words) h.ascends ∙ ap (λ (y : List _ × List ℕ). Ok y) (sym h.is)
 rising_joins row read (suc n) last line bytes x h =
     let p = bind_ok (words_at line bytes) (row_then row read n last line) h.before (sym (step row read n last line bytes) ∙ h.read_before) in
@@ -214,7 +214,7 @@ rising_joins row read (suc n) last line bytes x h =
     let d = bind_ok (rising_at row read n (Some (row q.0)) (line + 1) p.0.1) (and_items q.0) h.before q.2 in
     let at : line + suc n ≡ line + 1 + n = omega arith in
     let all = moved (λ (y : List _ × List ℕ). words_at (line + suc n) y.1 ≡ Ok h.words → is_after (last_row row last y.0) (row h.item) ≡ true
-        → rising_at row read (suc (suc n)) last line bytes ≡ Ok (y.0 ++ h.item ∷ [], h.words.1)) (q.0 ∷ d.0.0, d.0.1) h.before d.2
+    → rising_at row read (suc (suc n)) last line bytes ≡ Ok (y.0 ++ h.item ∷ [], h.words.1)) (q.0 ∷ d.0.0, d.0.1) h.before d.2
     (λ w a. one_more row read (suc n) last line bytes p.0 q.0 (d.0.0 ++ h.item ∷ [], h.words.1) p.1 q.1
     (rising_joins row read n (Some (row q.0)) (line + 1) p.0.1 (d.0.0 ++ h.item ∷ [], h.words.1) (record {
       before = d.0;

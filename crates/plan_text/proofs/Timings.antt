@@ -91,7 +91,7 @@ scale_takes : (line : ℕ) (bytes : List ℕ) (x : ℕ × ℕ × List ℕ) → s
 unfolding scale_at
 scale_takes line bytes x e =
     let b = bind_ok (numbers_at grid_key (place_of line 1 1) bytes) (λ grid. numbers_at unit_key (place_of (line + 1) 1 2) grid.1 >>= λ unit. Ok
-        (slice_index grid.0 0, slice_index unit.0 0, unit.1)) x e in
+    (slice_index grid.0 0, slice_index unit.0 0, unit.1)) x e in
     let d = bind_ok (numbers_at unit_key (place_of (line + 1) 1 2) b.0.1) (λ unit. Ok (slice_index b.0.0 0, slice_index unit.0 0, unit.1)) x b.2 in
     let grid = numbers_take grid_key (place_of line 1 1) bytes b.0 b.1 in
     let unit = numbers_take unit_key (place_of (line + 1) 1 2) b.0.1 d.0 d.1 in
@@ -112,7 +112,7 @@ signals_take : (line : ℕ) (bytes : List ℕ) (x : List ℕ × List ℕ × List
 unfolding signals_at
 signals_take line bytes x e =
     let a = bind_ok (numbers_at pattern_key (pattern_place line) bytes) (λ patterns. numbers_at red_key (place_of (line + 1) (length patterns.0) 0)
-        patterns.1 >>= λ reds. Ok (patterns.0, reds.0, reds.1)) x e in
+    patterns.1 >>= λ reds. Ok (patterns.0, reds.0, reds.1)) x e in
     let b = bind_ok (numbers_at red_key (place_of (line + 1) (length a.0.0) 0) a.0.1) (λ reds. Ok (a.0.0, reds.0, reds.1)) x a.2 in
     let patterns = numbers_take pattern_key (pattern_place line) bytes a.0 a.1 in
     let reds = numbers_take red_key (place_of (line + 1) (length a.0.0) 0) a.0.1 b.0 b.1 in
@@ -128,7 +128,7 @@ pub ways_take : (out_key in_key : List ℕ) (line links : ℕ) (bytes : List ℕ
 unfolding both_ways_at
 ways_take out_key in_key line links bytes x e =
     let a = bind_ok (numbers_at out_key (place_of line links 0) bytes) (λ outbound. numbers_at in_key (place_of (line + 1) links 0) outbound.1 >>=
-        λ inbound. Ok (outbound.0, inbound.0, inbound.1)) x e in
+    λ inbound. Ok (outbound.0, inbound.0, inbound.1)) x e in
     let b = bind_ok (numbers_at in_key (place_of (line + 1) links 0) a.0.1) (λ inbound. Ok (a.0.0, inbound.0, inbound.1)) x a.2 in
     let outbound = numbers_take out_key (place_of line links 0) bytes a.0 a.1 in
     let inbound = numbers_take in_key (place_of (line + 1) links 0) a.0.1 b.0 b.1 in
@@ -225,10 +225,10 @@ pub base_takes : (line : ℕ) (bytes : List ℕ) (x : Unbanded × List ℕ) → 
 unfolding base_at
 base_takes line bytes x e =
     let a = bind_ok (scale_at line bytes) (λ s. signals_at (line + 2) s.2 >>= λ g. both_ways_at run_out_key run_in_key (line + 4) (length g.0 - 1) g.2
-        >>= λ r. pair_at first_key (line + 6) r.2 >>= λ f. Ok (plan_of s.0 s.1 g.0 g.1 r.0 r.1 f.0 f.1, f.2)) x e in
+    >>= λ r. pair_at first_key (line + 6) r.2 >>= λ f. Ok (plan_of s.0 s.1 g.0 g.1 r.0 r.1 f.0 f.1, f.2)) x e in
     let s = a.0 in
     let c = bind_ok (signals_at (line + 2) s.2) (λ g. both_ways_at run_out_key run_in_key (line + 4) (length g.0 - 1) g.2 >>= λ r. pair_at first_key
-        (line + 6) r.2 >>= λ f. Ok (plan_of s.0 s.1 g.0 g.1 r.0 r.1 f.0 f.1, f.2)) x a.2 in
+    (line + 6) r.2 >>= λ f. Ok (plan_of s.0 s.1 g.0 g.1 r.0 r.1 f.0 f.1, f.2)) x a.2 in
     let g = c.0 in
     let d = bind_ok (both_ways_at run_out_key run_in_key (line + 4) (length g.0 - 1) g.2) (λ r. pair_at first_key (line + 6) r.2 >>= λ f. Ok (plan_of s.0 s.1 g.0 g.1 r.0 r.1 f.0 f.1, f.2)) x c.2 in
     let r = d.0 in
@@ -239,7 +239,7 @@ base_takes line bytes x e =
     let runs = ways_take run_out_key run_in_key (line + 4) (length g.0 - 1) g.2 r d.1 in
     let first = pair_takes first_key (line + 6) r.2 f h.1 in
     let third : g.2 ≡ spelled run_out_key r.0 ++ 10 ∷ (spelled run_in_key r.1 ++ 10 ∷ (spelled first_key (f.0 ∷ f.1 ∷ []) ++ 10 ∷ f.2)) = runs.parts
-        ∙ ap (λ (y : List ℕ). spelled run_out_key r.0 ++ 10 ∷ (spelled run_in_key r.1 ++ 10 ∷ y)) first.parts in
+    ∙ ap (λ (y : List ℕ). spelled run_out_key r.0 ++ 10 ∷ (spelled run_in_key r.1 ++ 10 ∷ y)) first.parts in
     let second = signals.parts ∙ (λ i. spelled pattern_key g.0 ++ 10 ∷ (spelled red_key (sym (abs_pos g.1) i) ++ 10 ∷ third i)) in
     let all = scale.parts ∙ ap (λ (y : List ℕ). spelled grid_key (s.0 ∷ []) ++ 10 ∷ (spelled unit_key (s.1 ∷ []) ++ 10 ∷ y)) second in
     moved (BaseOf bytes) (plan_of s.0 s.1 g.0 g.1 r.0 r.1 f.0 f.1, f.2) x h.2 (record {
@@ -348,11 +348,11 @@ base_again line t rest held =
     let rest2 = spelled run_out_key t.run_out ++ 10 ∷ (spelled run_in_key t.run_in ++ 10 ∷ rest3) in
     let rest1 = spelled pattern_key t.patterns ++ 10 ∷ (spelled red_key reds ++ 10 ∷ rest2) in
     let p : Suits (pattern_place (line + 2)) t.patterns =
-        record { fewest = k.few; most = k.many; each = pattern_within (line + 2) t.patterns (recursion_from_All (λ p. (1 ≤ p) × (p ≤ 4)) t.patterns k.patterns_each) } in
+    record { fewest = k.few; most = k.many; each = pattern_within (line + 2) t.patterns (recursion_from_All (λ p. (1 ≤ p) × (p ≤ 4)) t.patterns k.patterns_each) } in
     let first = scale_again line t.grid t.unit rest1 k.grid_least k.grid_most k.unit_least k.unit_most in
     let second = signals_again (line + 2) t.patterns reds rest2 p (suits_small (line + 2 + 1) reds (length t.patterns) k.reds_count k.reds_each) in
     let third = ways_again run_out_key run_in_key (line + 4) links t.run_out t.run_in rest3 (record { spaces = refl; feeds = refl })
-        (record { spaces = refl; feeds = refl }) (suits_small (line + 4) t.run_out links (omega arith) k.run_out_each) (suits_small (line + 4 + 1) t.run_in links (omega arith) k.run_in_each) in
+    (record { spaces = refl; feeds = refl }) (suits_small (line + 4) t.run_out links (omega arith) k.run_out_each) (suits_small (line + 4 + 1) t.run_in links (omega arith) k.run_in_each) in
     let fourth = pair_again first_key (line + 6) first_out first_in rest (record { spaces = refl; feeds = refl }) k.first_out_most k.first_in_most in
     rw (first, second, third, fourth) refl
 

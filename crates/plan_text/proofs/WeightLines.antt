@@ -142,7 +142,7 @@ are_words table row false more tells named few rest = (tells.word row.family nam
 
 row_line_by : (table : Table) (line : ℕ) (row : RowId) (b : Bool) (more : List (List ℕ)) (rest : List ℕ) → Tells table → IsNamedIn table row → row.index < 2 ^ 32 → AreWords more
     → let ws : List (List ℕ) = (if b then family_name_in table row.family ∷ [] else family_name_in table row.family ∷ decimal row.index ∷ []) ++ more in
-        words_at line (line_of ws ++ 10 ∷ rest) ≡ Ok (ws, rest)
+    words_at line (line_of ws ++ 10 ∷ rest) ≡ Ok (ws, rest)
 row_line_by table line row true more rest tells named few k = words_again line (family_name_in table row.family) more rest (are_words table row true more tells named few k)
 row_line_by table line row false more rest tells named few k = words_again line (family_name_in table row.family) (decimal row.index ∷ more) rest (are_words table row false more tells named few k)
 

@@ -97,7 +97,7 @@ closing_later x last line bytes before =
 pub closing_whole : {A : Type 0} (x : A) (last line : ℕ) (bytes z : List ℕ) → line + lines_in bytes ≡ last → Whole last (closing x line bytes) (closing x line (bytes ++ z))
 closing_whole x last line bytes z e =
     whole_then (after_line (line + 1)) last z (fixed_at line end_line bytes) (fixed_at line end_line (bytes ++ z)) (nothing_then x (line + 1))
-        (nothing_then x (line + 1)) (fixed_grows last line end_line bytes z e)
+    (nothing_then x (line + 1)) (fixed_grows last line end_line bytes z e)
     (λ r end. whole_made last (nothing_at (line + 1) r) (nothing_at (line + 1) (r ++ z)) (λ n. x) (nothing_whole last (line + 1) r z end))
     (λ r here. not_before_made last (nothing_at (line + 1) r) (λ n. x) (nothing_later last (line + 1) r (omega arith)))
 
@@ -160,8 +160,11 @@ names_first read whole empty =
       missing = λ text line e. missing_by (lines_in text + 1) (read text) (read (text ++ [])) line (whole text []) e;
       there = λ text b e other.
           let early : b.line < lines_in text + 1 = there_by (lines_in text + 1) (read text) (read (text ++ [])) b (whole text []) e other in
-          let first : 1 ≤ b.line = elim (cases_lt b.line 1) [ inl lt ↦
-              absurd (other (ap (λ (d : BadText). d.kind) (sym (err_is (record { line = 1; kind = Ended }) b (sym empty ∙ same [] text [] b e (omega arith)))))) | inr le ↦ le ] in
+          let first : 1 ≤ b.line = elim (cases_lt b.line 1) [
+            | inl lt ↦
+                absurd (other (ap (λ (d : BadText). d.kind) (sym (err_is (record { line = 1; kind = Ended }) b (sym empty ∙ same [] text [] b e (omega arith))))))
+            | inr le ↦ le
+          ] in
           (first, omega arith);
       before = λ start rest b e late. before_by (lines_in start + 1) (read start) (read (start ++ rest)) b (whole start rest) e (omega arith);
       here = same;

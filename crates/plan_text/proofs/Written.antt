@@ -57,5 +57,5 @@ pub whole : (out key ns : List ℕ) (i : ℕ) (before after : List ℕ) → leng
     → after ≡ out ++ (spelled key ns ++ 10 ∷ [])
 whole out key ns i before after le e f =
     f ∙ ap (λ (y : List ℕ). y ++ 10 ∷ []) (e ∙ ap (λ (y : List ℕ). (out ++ key) ++ flat_map spaced y) (take_all i ns le) ∙ append_assoc out key (flat_map spaced ns)
-        ∙ ap (λ (y : List ℕ). out ++ y) (sym (spelled_flat key ns)))
+    ∙ ap (λ (y : List ℕ). out ++ y) (sym (spelled_flat key ns)))
     ∙ append_assoc out (spelled key ns) (10 ∷ [])

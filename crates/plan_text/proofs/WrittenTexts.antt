@@ -87,7 +87,7 @@ module _ {T : Type 0} (text : TimingText T) where
   unfolding claim_lines
   best_written old first second after claim value timing is e f g =
       more_lines old (best_line ∷ line_of (fraction_words value_key value) ∷ []) (timing_part text timing) second after
-          (more_lines old (best_line ∷ []) (line_of (fraction_words value_key value) ∷ []) first second e f) g
+      (more_lines old (best_line ∷ []) (line_of (fraction_words value_key value) ∷ []) first second e f) g
       ∙ ap (λ (c : Claim). old ++ ended (claim_lines text c timing)) (sym is)
 
   pub missing_written : (old first second after : List ℕ) (claim : Claim) (bound : ℚ) (value : Option ℚ) (timing : Option T) → claim ≡ Stopped bound value
@@ -142,7 +142,7 @@ second_written first second third after c e f g h =
     let tree = tree_lines (Listed (rows_of c.nodes)) c.nodes in
     let two : third ≡ start ++ ended (claim ++ rows) = more_lines start claim rows second third (f ∙ ap (λ (y : List ℕ). y ++ ended claim) e) g in
     more_lines start (claim ++ rows) tree third after two h ∙ sym (ended-append (second_line ∷ []) ((claim ++ rows) ++ tree))
-        ∙ ap (λ (y : List (List ℕ)). ended (second_line ∷ y)) (append_assoc claim rows tree)
+    ∙ ap (λ (y : List (List ℕ)). ended (second_line ∷ y)) (append_assoc claim rows tree)
 
 -- what is written is read again, where the program can hold it
 pub read_again : {T E : Type 0} (read : List ℕ → Result T BadText) (spell : T → List ℕ) (Holds : T → Type 0) → ((w : T) → Holds w → read (spell w) ≡ Ok w)

@@ -60,7 +60,7 @@ clear_passes i j w e f c d p q m n h a b g y z o =
     pick k (inr t) r =
         ap (clear_at i j f d) t
         ∙ cond-false (eqb w j) None (earlier (refused Mul (number_in d j) (number_in f w) i w) (refused Sub (number_in d w) (number_in d j *ℚ number_in f w) i w))
-            (ne_eqb w j (λ u. absurd (omega arith)))
+        (ne_eqb w j (λ u. absurd (omega arith)))
         ∙ ap₂ earlier (refused_none Mul (number_in d j) (number_in f w) i w y) (refused_none Sub (number_in d w) (number_in d j *ℚ number_in f w) i w z)
 
 -- ---- the rows and the goal row by one number
@@ -152,7 +152,7 @@ module _ (t u : Tableau) (r j : ℕ) (s : IsShaped t) (v : IsShaped u) (p : IsPl
   unfolding pivot_refusal
   pivot_none e =
       let x = neither (turn_refusal r j (line t r)) (earlier (clear_refusal (height t) j (turned j (line t r)) t.goal (cell t r j))
-          (first_below (row_refusal r j (turned j (line t r)) (cell t r j) t.rows) (height t))) e in
+      (first_below (row_refusal r j (turned j (line t r)) (cell t r j) t.rows) (height t))) e in
       let y = neither (clear_refusal (height t) j (turned j (line t r)) t.goal (cell t r j)) (first_below (row_refusal r j (turned j (line t r)) (cell t r j) t.rows) (height t)) x.1 in
       ap₂ earlier (turn_none x.0) (ap₂ earlier (goal_none y.0) (all_none (row_refusal r j (turned j (line u r)) (cell u r j) u.rows) (height u) (row_none y.1)))
 

@@ -137,7 +137,7 @@ module _ (a : Street) (box : Area) where
     second_cell k =
         let own : cell (loaded a box) (count a) 0 ≡ number 0 = ap (λ (c : List ℚ). get_or c 0 (whole (pos 0))) second_line ∙ inbound_other in
         cell_kept 0 0 (count a) k (loaded a box) (shaped-loaded table box (artery_is_table a)) first_place.place (rw (height-loaded table box) two_rows.1)
-            (λ e. absurd (let n = v.few in omega arith)) own
+        (λ e. absurd (let n = v.few in omega arith)) own
         ∙ ap (λ (c : List ℚ). get_or c k (whole (pos 0))) second_line
 
     pub second_place : IsPlace (exchange 0 0 (loaded a box)) (count a) 1

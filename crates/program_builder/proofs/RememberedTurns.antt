@@ -93,9 +93,9 @@ module _ (vs : List ℕ) (turns : List Turn) (u : Tableau) (m : IsRemembered vs 
       let v = ready_shaped vs u ready k (omega arith) in
       let r = entry_row vs (entry_after vs m.table k) (variable_at vs k) in
       let none = pivot_none (entry_after vs m.table k) (entry_after vs u k) r (variable_at vs k) s v place_there same_here (slice_index_or turns k d).column.items
-          old new note_there.numbers a.bounds x passed_there in
+      old new note_there.numbers a.bounds x passed_there in
       let after = bounds_turned (entry_after vs m.table k) (entry_after vs u k) r (variable_at vs k) s v place_there same_here (slice_index_or turns k d).column.items
-          old new note_there.numbers a.bounds x in
+      old new note_there.numbers a.bounds x in
       record {
         passed = first_next (refusal_at vs u) k a.passed
             (refusal_column vs (entry_after vs u k) (variable_at vs k) column_here
@@ -124,8 +124,12 @@ entry_height vs u kept e = ap (λ (t : NamedTableau). height t.table) e.is ∙ (
 pub entered_again : (vs : List ℕ) (u kept written : NamedTableau) (bounds : List ℚ) → IsReady vs u.table → IsEntryOf vs kept u → AreBoundsOf (entry vs u.table) bounds → HasBounds bounds kept written
     → written ≡ record { table = entry vs u.table; names = u.names; spent = u.spent }
 unfolding entry
-entered_again vs u kept written bounds r e b w = λ x. record { table = table_is x; names = (w.names ∙ ap (λ (t : NamedTableau). t.names) e.is) x; spent =
-    (w.spent ∙ ap (λ (t : NamedTableau). t.spent) e.is) x }
+entered_again vs u kept written bounds r e b w = λ x. record {
+  table = table_is x;
+  names = (w.names ∙ ap (λ (t : NamedTableau). t.names) e.is) x;
+  spent =
+      (w.spent ∙ ap (λ (t : NamedTableau). t.spent) e.is) x;
+}
   where
     cells : HaveSameCells (entry_after vs e.table (length vs)) (entry_after vs u.table (length vs))
     cells = same_after vs e.table u.table e.ready r e.cells (length vs) (omega arith)

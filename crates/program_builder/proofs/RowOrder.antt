@@ -182,7 +182,7 @@ module _ (rows : List RowId) (o : IsAscending rows) where
       pick (inl h) n =
           let w = m.within in
           absurd (f.first (name_in rows k) (record { place = k; within = omega arith; is = refl }) (place_after k (omega arith))
-              (subst (λ s. IsBelow (name_in rows k) s) m.is (o.ascending k i h m.within)))
+          (subst (λ s. IsBelow (name_in rows k) s) m.is (o.ascending k i h m.within)))
       pick (inr h) n = let e : i ≡ k = omega arith in record { within = rw (← e) m.within; is = sym m.is ∙ ap (name_in rows) e }
 
   -- and there is none after the last

@@ -33,4 +33,4 @@ pub eight_pushed : {A : Type 0} (start one two three four five six seven eight s
     → eight ≡ start ++ (s ++ (t ++ (u ++ (v ++ (w ++ (x ++ (y ++ z)))))))
 eight_pushed start one two three four five six seven eight s t u v w x y z p q r h i j k l =
     two_pushed start one eight s (t ++ (u ++ (v ++ (w ++ (x ++ (y ++ z)))))) p (two_pushed one two eight t (u ++ (v ++ (w ++ (x ++ (y ++ z))))) q
-        (six_pushed two three four five six seven eight u v w x y z r h i j k l))
+    (six_pushed two three four five six seven eight u v w x y z r h i j k l))

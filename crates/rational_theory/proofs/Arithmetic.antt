@@ -95,7 +95,7 @@ pub sum_ratio : (x y : ℚ) (p n d q m e : ℕ) → IsRatio x p n d → IsRatio 
 unfolding ◌+ℚ◌
 sum_ratio x y p n d q m e h k =
     let a = over_terms (x.num *ℤ pos y.den +ℤ y.num *ℤ pos x.den) (up x.num * y.den + up y.num * x.den) (down x.num * y.den + down y.num * x.den)
-        (x.den * y.den) (mul-pos x.positive y.positive) (omega (arith, ints)) in
+    (x.den * y.den) (mul-pos x.positive y.positive) (omega (arith, ints)) in
     rebase _ _ _ _ _ _ _ a (mul-pos h.above k.above) (omega (arith, ap (λ t. t * (y.den * e)) h.ratio, ap (λ t. t * (x.den * d)) k.ratio))
 
 -- a product in the terms of its parts
@@ -103,7 +103,7 @@ pub product_ratio : (x y : ℚ) (p n d q m e : ℕ) → IsRatio x p n d → IsRa
 unfolding ◌*ℚ◌
 product_ratio x y p n d q m e h k =
     let a = over_terms (x.num *ℤ y.num) (up x.num * up y.num + down x.num * down y.num) (up x.num * down y.num + down x.num * up y.num) (x.den * y.den)
-        (mul-pos x.positive y.positive) (omega (arith, ints)) in
+    (mul-pos x.positive y.positive) (omega (arith, ints)) in
     rebase _ _ _ _ _ _ _ a (mul-pos h.above k.above)
     (omega (arith, ap (λ t. t * (up y.num * e)) h.ratio, ap (λ t. t * (down y.num * e)) h.ratio, ap (λ t. t * (p * x.den)) k.ratio, ap (λ t. t * (n * x.den)) k.ratio))
 

@@ -185,7 +185,7 @@ module _ (a : Street) (box : Area) (x : List ℚ) (h : IsStreet a) (v : IsLongVe
   ratio_below l =
       let e : is_lt (cmp_ℚ a.head.ratio (number 1)) ≡ true = ap is_lt (sym (cmp_ℚ-is a.head.ratio (number 1) Less l)) in
       let m : IsMet x (line a (ratio_below_form a)) = subst (λ b. IsMet x (line a (if b then ratio_below_form a else ratio_above_form a))) e
-          (v.rows (RatioRow 0) (refl, λ q. <ℚ_not-≤ℚ _ _ l (rw q (≤ℚ_refl (number 1))))) in
+      (v.rows (RatioRow 0) (refl, λ q. <ℚ_not-≤ℚ _ _ l (rw q (≤ℚ_refl (number 1))))) in
       let row = row_shown a box x h v w (ratio_below_form a) (omega arith, tt, (omega arith, tt, tt)) m in
       undivided _ _ (linear (record { count = 1; low = at 0 ⊗ (at 1 ⊗ at 3) ⊕ (less_one ⊗ (at 2 ⊗ at 3) ⊕ zero_term); high = zero_term } ∷ []) 0
       (at 0 ⊗ at 1 ⊗ at 3) (at 2 ⊗ at 3) (a.head.ratio ∷ number timing.band_out ∷ number timing.band_in ∷ per_cycle ∷ []) (row, tt) refl)
@@ -194,7 +194,7 @@ module _ (a : Street) (box : Area) (x : List ℚ) (h : IsStreet a) (v : IsLongVe
   ratio_above l =
       let e : is_lt (cmp_ℚ a.head.ratio (number 1)) ≡ false = ap is_lt (sym (cmp_ℚ-is a.head.ratio (number 1) Greater l)) in
       let m : IsMet x (line a (ratio_above_form a)) = subst (λ b. IsMet x (line a (if b then ratio_below_form a else ratio_above_form a))) e
-          (v.rows (RatioRow 0) (refl, λ q. <ℚ_not-≤ℚ _ _ l (rw q (≤ℚ_refl (number 1))))) in
+      (v.rows (RatioRow 0) (refl, λ q. <ℚ_not-≤ℚ _ _ l (rw q (≤ℚ_refl (number 1))))) in
       let row = row_shown a box x h v w (ratio_above_form a) (omega arith, tt, (omega arith, tt, tt)) m in
       undivided _ _ (linear (record { count = 1; low = minus (at 0) ⊗ (at 1 ⊗ at 3) ⊕ (one ⊗ (at 2 ⊗ at 3) ⊕ zero_term); high = zero_term } ∷ []) 0
       (at 2 ⊗ at 3) (at 0 ⊗ at 1 ⊗ at 3) (a.head.ratio ∷ number timing.band_out ∷ number timing.band_in ∷ per_cycle ∷ []) (row, tt) refl)
@@ -266,13 +266,13 @@ module _ (a : Street) (box : Area) (x : List ℚ) (h : IsStreet a) (v : IsLongVe
   outbound j l =
       let e : j + 1 - 1 ≡ j = omega arith in
       subst (λ k. BandIsGreen (cycle a timing) (red_start a timing Outbound (j + 1)) (red_ticks a timing Outbound (j + 1)) (crossing a timing Outbound k) timing.band_out)
-          e (green_at Outbound (j + 1) (omega arith, omega arith))
+      e (green_at Outbound (j + 1) (omega arith, omega arith))
 
   inbound : IsGreenWay a timing Inbound
   inbound j l =
       let e : count a - (count a - j) ≡ j = omega arith in
       subst (λ k. BandIsGreen (cycle a timing) (red_start a timing Inbound (count a - j)) (red_ticks a timing Inbound (count a - j)) (crossing a timing Inbound k) timing.band_in)
-          e (green_at Inbound (count a - j) (omega arith, omega arith))
+      e (green_at Inbound (count a - j) (omega arith, omega arith))
 
   -- ---- all rules
   pub timing_good : Good a timing

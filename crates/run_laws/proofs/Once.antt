@@ -279,9 +279,9 @@ draw_once : OneFirst → FailsRulesOut → (a : Street) (o : Option TimingRecord
     → DrawFinds a o title c x s → DrawFinds a o title d y u → (c ≡ d) × (x ≡ y) × (s ≡ u)
 draw_once one_first rules a None title c d x y s u h k = (h.0 ∙ sym k.0, h.1 ∙ sym k.1, h.2 ∙ sym k.2)
 draw_once one_first rules a (Some t) title cause.Done cause.Done x y s u h k = (
-    refl,
-    h.2.lines_are ∙ (ap drawn_lines (broken_once one_first rules a t h.2.broken k.2.broken h.2.broken_is k.2.broken_is) ∙ sym k.2.lines_are),
-    h.1 ∙ ap Some (h.2.text_is ∙ sym k.2.text_is) ∙ sym k.1,
+  refl,
+  h.2.lines_are ∙ (ap drawn_lines (broken_once one_first rules a t h.2.broken k.2.broken h.2.broken_is k.2.broken_is) ∙ sym k.2.lines_are),
+  h.1 ∙ ap Some (h.2.text_is ∙ sym k.2.text_is) ∙ sym k.1,
 )
 draw_once one_first rules a (Some t) title cause.Done (cause.Fails f) x y s u h k = absurd (k.1.fails h.2.shape)
 draw_once one_first rules a (Some t) title cause.Done d x y s u h k = absurd k

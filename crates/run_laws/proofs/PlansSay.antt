@@ -395,7 +395,7 @@ module _ (before now : Outside) (artery timed picture : List ℕ) (title : Optio
   draw_ten : (c : Cause) (reason : PlanEnd) → c ≡ cause.Unplanned reason → Ends before now (Some (Draw artery timed picture title)) c → SaysUntimed before now artery timed c
   draw_ten c reason e h =
       let f = found before now (Some (Draw artery timed picture title)) (cause.Unplanned reason) tt (λ s. s)
-          (subst (λ (d : Cause). Ends before now (Some (Draw artery timed picture title)) d) e h) in
+      (subst (λ (d : Cause). Ends before now (Some (Draw artery timed picture title)) d) e h) in
       subst (λ (d : Cause). SaysUntimed before now artery timed d) (sym e)
       (untimed_of f.answer.values.0 f.answer.values.1.0 reason f.lines f.answer.bytes
       (found_keeps before now (Some (Draw artery timed picture title)) (cause.Unplanned reason) (λ v. v) f) f.answer.read.0 f.answer.read.1.0 f.answer.finds)

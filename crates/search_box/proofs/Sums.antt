@@ -49,7 +49,7 @@ module _ (p : ℤ) (n : ℕ) (x y : Share) (h : 1 ≤ n) where
       same_ratio _ _ _ _ _ _ _ _
       (sum_ratio _ _ _ _ _ _ _ _ (sum_ratio _ _ _ _ _ _ _ _ (over_ratio p n h) (over_ratio (pos x.top) x.bottom x.some)) (over_ratio (pos y.top) y.bottom y.some))
       (over_terms (top_of p n x y) (up p * (x.bottom * y.bottom) + n * (x.top * y.bottom + y.top * x.bottom)) (down p * (x.bottom * y.bottom))
-          (bottom_of n x y) (mul-pos h (mul-pos x.some y.some)) (omega (arith, ints)))
+      (bottom_of n x y) (mul-pos h (mul-pos x.some y.some)) (omega (arith, ints)))
       (omega arith)
 
   pub floor_sum : floor_ℚ (sum_of p n x y) ≡ int_div_euclid (top_of p n x y) (pos (bottom_of n x y))

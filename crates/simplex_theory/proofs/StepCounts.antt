@@ -167,7 +167,7 @@ path_low p r j n a e =
     let s = height (p 0) + width (p 0) in
     no_room n (λ k. code s (p k)) (λ k h. subst (λ m. code s (p k) < m) (sym e) (code_low s (p k)))
     (λ i k h l f. never_again p r j n i k a h l (same_codes s (p i) (p k) (dual_along p r j n a i (omega arith)) (dual_along p r j n a k l)
-        (size_along p r j n a i (omega arith)) (size_along p r j n a k l) f))
+    (size_along p r j n a i (omega arith)) (size_along p r j n a k l) f))
 
 pub steps_low : (t : Tableau) → IsDual t → steps_to_end t < room (height t + width t)
 unfolding steps_to_end after
@@ -179,7 +179,7 @@ steps_low t d = pick (cases_lt (steps (room (height t + width t)) t) (room (heig
     pick (inr h) =
         let full : steps (room (height t + width t)) t ≡ room (height t + width t) = let e = steps_le (room (height t + width t)) t in omega arith in
         absurd (path_low (after t) (λ k. row_in (move (after t k))) (λ k. place_in (move (after t k))) (room (height t + width t))
-            (path_from t (room (height t + width t)) d (all_pivots _ t full)) refl)
+        (path_from t (room (height t + width t)) d (all_pivots _ t full)) refl)
 
 -- ---- a step lowers the number
 counted_more : (m : Move) (a b n : ℕ) → counted m a < suc n → (a < n → b ≡ a) → counted m b ≡ counted m a

@@ -58,7 +58,7 @@ loop-index-preserved c =
     let q = attempt_ok _ _ _ c.in-Ok.ensures in
     looking_next t c.args.row c.loop-index.index c.loop-index.best c.in-Ok.next k l x
     (place_next t c.args.row k.place c.loop-index.best c.in-Ok.next (looking_passed t c.args.row c.loop-index.index c.loop-index.best k.place l x.after x.zeros)
-        (looking_chosen t c.args.row c.loop-index.index c.loop-index.best k.place l x.after x.zeros) q.0 q.1)
+    (looking_chosen t c.args.row c.loop-index.index c.loop-index.best k.place l x.after x.zeros) q.0 q.1)
 
 pub returns : goal.returns
 unfolding chosen_place ratio_refusal

@@ -26,7 +26,7 @@ pub returns-then-next-place-clause-numerator : goal.returns-then-next-place-clau
 returns-then-next-place-clause-numerator c =
     let e = here (goal.at.returns-then-next-place-clause-numerator c).After-index-kept-taken (omega arith) in
     let small : unsigned_abs (numerator c.args.denominator c.index-kept-taken.result.cell) < 2 ^ 62 =
-        subst (λ (x : ℚ). unsigned_abs (numerator c.args.denominator x) < 2 ^ 62) (sym e) c.requires.size in
+    subst (λ (x : ℚ). unsigned_abs (numerator c.args.denominator x) < 2 ^ 62) (sym e) c.requires.size in
     let f = fits_i64 (numerator c.args.denominator c.index-kept-taken.result.cell) (omega (arith, small)) in
     simp (c.numerator_of.ensures, f, to_z-of_z) (ap (numerator c.args.denominator) e)
 
@@ -34,7 +34,7 @@ pub returns-then-next-place-clause-taken : goal.returns-then-next-place-clause-t
 returns-then-next-place-clause-taken c =
     let k = c.index-kept-taken.result in
     let x = next_in (number_in c.args.row.now) c.args.place (length c.args.row.now - 1) c.args.taken c.kept-kept.result.now k c.kept-kept.ensures
-        c.index-kept-taken.is (omega arith) c.requires.taken (omega arith) in
+    c.index-kept-taken.is (omega arith) c.requires.taken (omega arith) in
     let e : k.place ≡ c.args.place = omega arith in
     ap (λ n. n + 1) c.requires.taken ∙ sym (step_count (number_in c.args.row.now) c.args.place (length c.args.row.now - 1) k x) ∙ ap (λ n. length (kept_below (number_in c.args.row.now) (n + 1))) e
 
@@ -43,9 +43,9 @@ past : (c : After-index-kept-taken) → c.args.taken < length c.kept-kept.result
 past c l n =
     let f = number_in c.args.row.now in
     let x = next_in f c.args.place (length c.args.row.now - 1) c.args.taken c.kept-kept.result.now c.index-kept-taken.result c.kept-kept.ensures
-        c.index-kept-taken.is (omega arith) c.requires.taken l in
+    c.index-kept-taken.is (omega arith) c.requires.taken l in
     reached_past f c.args.place c.args.taken (length c.args.row.now - 1) c.kept-kept.result.now c.index-kept-taken.result (reached_at _ _ _ c.requires.taken)
-        (omega arith) c.kept-kept.ensures c.index-kept-taken.is l (other_side _ _ x.after n)
+    (omega arith) c.kept-kept.ensures c.index-kept-taken.is l (other_side _ _ x.after n)
 
 pub returns-else-next-place-clause-numerator : goal.returns-else-next-place-clause-numerator
 returns-else-next-place-clause-numerator c =

@@ -7,5 +7,5 @@ pub returns : goal.returns
 returns g c =
     let o = c.in_ok-opening.opening in
     first_read g.K.TimingKind.text g.K.TimingKind.table c.args.bytes.now (o.claim, o.timing, o.line, o.rest.now) (map node_of c.in_ok-nodes.nodes.items)
-        c.in_ok-opening.ensures.exact c.in_ok-nodes.ensures
+    c.in_ok-opening.ensures.exact c.in_ok-nodes.ensures
     ∙ ap Ok (sym c.and_nodes.ensures)

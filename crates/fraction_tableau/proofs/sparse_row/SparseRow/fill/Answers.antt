@@ -37,21 +37,23 @@ made c items same =
     let high : c.fill_row-self-inside.result ≤ w = omega (arith, c.fill_row-self-inside.ensures.count, ap length c.deref_mut.ensures.value) in
     let len = c.fill_row-self-inside.auto.cells ∙ ap length c.deref_mut.ensures.value in
     filled c.args.from.now.coefs items c.fill_row-self-inside.new.cells w c.fill_row-self-inside.result (number_in c.args.from.now.coefs) _
-        c.of_fraction-self-inside.result e same len high k (λ m h. refl) (c.of_fraction-self-inside.ensures ∙ c.fitting.ensures.same ∙ c.get.ensures)
-        (λ m h. c.fill_row-self-inside.ensures.fits m (omega (arith, ap length c.deref_mut.ensures.value))) (subst FitsFrac (sym c.of_fraction-self-inside.ensures) c.fitting.ensures.fits)
+    c.of_fraction-self-inside.result e same len high k (λ m h. refl) (c.of_fraction-self-inside.ensures ∙ c.fitting.ensures.same ∙ c.get.ensures)
+    (λ m h. c.fill_row-self-inside.ensures.fits m (omega (arith, ap length c.deref_mut.ensures.value))) (subst FitsFrac (sym c.of_fraction-self-inside.ensures) c.fitting.ensures.fits)
 
 pub invariant_of-self : goal.invariant_of-self
-invariant_of-self c =
-    ((made (goal.at.invariant_of-self c).After-of_fraction-self-inside _
-        (with_items_is c.self.inside.cells _ (written (goal.at.invariant_of-self c).After-of_fraction-self-inside ∙ sym c.self.inside.cells.ok.0))).line, (tt, all_marked _))
+invariant_of-self c = (
+  (made (goal.at.invariant_of-self c).After-of_fraction-self-inside _
+      (with_items_is c.self.inside.cells _ (written (goal.at.invariant_of-self c).After-of_fraction-self-inside ∙ sym c.self.inside.cells.ok.0))).line,
+  (tt, all_marked _),
+)
 
 pub returns-clause-cells : goal.returns-clause-cells
 returns-clause-cells c =
     (made (goal.at.returns-clause-cells c).After-of_fraction-self-inside _
-        (with_items_is c.self.inside.cells _ (written (goal.at.returns-clause-cells c).After-of_fraction-self-inside ∙ sym c.self.inside.cells.ok.0))).row
+    (with_items_is c.self.inside.cells _ (written (goal.at.returns-clause-cells c).After-of_fraction-self-inside ∙ sym c.self.inside.cells.ok.0))).row
 
 pub returns-clause-narrow : goal.returns-clause-narrow
 returns-clause-narrow c =
     let m = made (goal.at.returns-clause-narrow c).After-of_fraction-self-inside _
-        (with_items_is c.self.inside.cells _ (written (goal.at.returns-clause-narrow c).After-of_fraction-self-inside ∙ sym c.self.inside.cells.ok.0)) in
+    (with_items_is c.self.inside.cells _ (written (goal.at.returns-clause-narrow c).After-of_fraction-self-inside ∙ sym c.self.inside.cells.ok.0)) in
     subst IsNarrow (sym m.row) m.narrow
