@@ -27,7 +27,8 @@ text{font-family:Helvetica,Arial,'Liberation Sans',sans-serif;fill:#222}\n\
 .paper{fill:#fff}.plot{fill:#fbfbf9;stroke:#444;stroke-width:12}.second{stroke:#dcdcd8;stroke-width:8}.cycle{stroke:#777;stro\
 ke-width:12;stroke-dasharray:60 50}.level{stroke:#bbb;stroke-width:8}\n\
 .out{fill:#0072b2;fill-opacity:.3;stroke:#005a8e;stroke-width:14}.in{fill:#e69f00;fill-opacity:.38;stroke:#a86b00;stroke-widt\
-h:14;stroke-dasharray:70 40}\n\
+h:14;stroke-dasharray:70 40}.out-line,.in-line{stroke:#005a8e;stroke-width:20;stroke-dasharray:140 70}.in-line{stroke:#a86b00\
+}\n\
 .ground{fill:#fff;stroke:#444;stroke-width:8}.red{fill:#3a0d12}.turn{fill:url(#turn)}.out-at{fill:#0072b2}.in-at{fill:#e69f00\
 }.step{stroke:#222;stroke-width:30}\n\
 </style>\n\
