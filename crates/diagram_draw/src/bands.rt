@@ -2,7 +2,7 @@
 
 ghost use Rattle.std.specs.Prelude.{◌≡◌, ◌++◌, ◌<◌, ◌≤◌, ◌^◌, IfOk, OnOk, pos, ◌-ℤ◌, length, unsigned_abs};
 ghost use Rattle.progression.specs.{Street.{count}};
-ghost use Rattle.diagram_draw.specs.{Frames.{IsFrame}, Ways.{has_band}};
+ghost use Rattle.diagram_draw.specs.Frames.{IsFrame};
 ghost use Rattle.diagram_draw.specs.Bands.{tail, leaving_level, entering_level, band_paint, line_paint, slant, first_line, is_narrow, piece, is_seen, is_chosen};
 ghost use Rattle.diagram_draw.specs.Bands.{chosen_piece, some_pieces, first_begin, edge_pieces, pieces, link_pieces, all_pieces};
 

@@ -2,7 +2,7 @@
 
 ghost use Rattle.std.specs.Prelude.{◌≡◌, ◌+◌, ◌*◌, ◌<◌, ◌≤◌, ◌^◌, IfOk, pos, ◌+ℤ◌, length, unsigned_abs};
 ghost use Rattle.progression.specs.{Street.{count}, TimingRecord.{cycle, band}};
-ghost use Rattle.diagram_draw.specs.{Frames.{IsFrame}, Ways.{has_band}};
+ghost use Rattle.diagram_draw.specs.Frames.{IsFrame};
 ghost use Rattle.diagram_draw.specs.Bars.{bar_top, block, some_blocks, blocks, first_red, first_window, common_ticks, turn_ticks, common_wait, turn_wait};
 ghost use Rattle.diagram_draw.specs.Bars.{window_paint, ground, windows, common_reds, turn_reds, bar, signal_bars, all_bars, window_part, common_part, turn_part};
 
