@@ -10,7 +10,7 @@ use Rattle.progression.specs.TimingRecord.{TimingRecord}
 use Rattle.certificate_model.specs.Warrants.{Warrant}
 use Rattle.run_commands.specs.Round.{RoundFromFinds}
 use Rattle.description_reader.specs.Typed.{Typed}
-use Rattle.run_commands.specs.Typed.{WritesTiming, TypedFinds}
+use Rattle.run_commands.specs.Typed.{TypedFinds}
 use Rattle.run_commands.specs.Draw.{DrawFinds}
 use Rattle.run_laws.specs.PlanLaws.{IsDrawingEnd, DrawIsComplete, IsRoundingEnd, RoundFromIsComplete, IsTypedEnd, TimingIsComplete}
 use Rattle.run_inputs.specs.Reading.{Input, Values, AreRead, AreTold, IsUnread, StopsReading}
@@ -147,13 +147,8 @@ round_from_complete reader before now artery certificate other plan a w o c told
     ends_so reader before now (Some (RoundFrom artery certificate other plan)) plan refl (a, (w, (o, tt))) (told, (told_too, (told_last, tt))) (r, (q, (p, tt))) (no_read, (no_certificate, (no_other, tt))) IsRoundingEnd
     (λ c lines put k. rounding_end k.values.0 k.values.1.0 k.values.1.1.0 c lines k.bytes k.finds) c no_put no_write h
 
-writes_end : (a : Street) (t : TimingRecord) (c : Cause) (l : List ℕ) (bytes : Option (List ℕ)) → WritesTiming a t c l bytes → IsTypedEnd c
-writes_end a t cause.Done l bytes h = tt
-writes_end a t (cause.Fails f) l bytes h = tt
-writes_end a t c l bytes h = absurd h
-
 typed_end : (a : Street) (p : Typed) (c : Cause) (l : List ℕ) (bytes : Option (List ℕ)) → TypedFinds a p c l bytes → IsTypedEnd c
-typed_end a p c l bytes (inl h) = writes_end a h.timing c l bytes h.finds
+typed_end a p c l bytes (inl h) = subst (λ (d : Cause). IsTypedEnd d) (sym h.finds.0) tt
 typed_end a p c l bytes (inr (inl h)) = subst (λ (d : Cause). IsTypedEnd d) (sym h.cause_is) tt
 typed_end a p c l bytes (inr (inr h)) = subst (λ (d : Cause). IsTypedEnd d) (sym h.cause_is) tt
 

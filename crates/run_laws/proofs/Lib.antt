@@ -10,5 +10,6 @@ pub mod Unlimited
 pub mod PlanHeld
 pub mod Found
 pub mod PlansSay
+pub mod TimingBounded
 pub mod Statuses
 pub mod Helping

@@ -8,7 +8,7 @@ use Rattle.progression.specs.declared.parts.Dir.TheVariants.{Outbound, Inbound}
 use Rattle.artery_model.specs.Valid.{IsValid}
 use Rattle.time_space.specs.declared.failing.Failing.{Failing}
 use Rattle.band_measure.specs.Pairs.{FinerPairs}
-use Rattle.band_measure.specs.Widest.{OneWidest}
+use Rattle.band_measure.specs.Widest.{IsWidestBand, OneWidest}
 use Rattle.band_measure.specs.declared.pair.Widest.{Widest}
 use Rattle.half_integer.specs.Answers.{OneEnd}
 use Rattle.certificate_model.specs.Warrants.{Warrant}
@@ -21,24 +21,24 @@ use Rattle.branch_and_bound.specs.declared.found.Verdict.TheVariants.{Best, NoTi
 use Rattle.branch_tree.specs.declared.site.SitePart.{SitePart}
 use Rattle.workload_maker.specs.Made.{made_street}
 use Rattle.artery_model.specs.Faults.{fault_of}
-use Rattle.diagram_print.specs.Measures.{weighted_line}
 use Rattle.half_integer.specs.declared.end.HalfEnd.TheVariants as half_end
 use Rattle.description_reader.specs.Typed.{Typed}
 use Rattle.typed_plan.specs.Counts.{count_fault}
 use Rattle.typed_plan.specs.Grid.{too_fine}
 use Rattle.typed_plan.specs.Ends.{OneTiming}
+use Rattle.typed_plan.specs.declared.timing.Measured.{Measured}
 use Rattle.run_inputs.specs.Lines.{refused_line}
 use Rattle.run_commands.specs.Lines.{fails_line}
 use Rattle.run_inputs.specs.Command.{Request, Hold, Show, Check, CheckLinks, Solve, Links, Renew, Bands, Round, RoundFrom, Half, TimingOf, Draw, Help, Version, Make, Trial, Sweep, shape}
 use Rattle.run_inputs.specs.Reading.{Input, Value, Values}
 use Rattle.run_commands.specs.Searched.{cause_of}
-use Rattle.run_commands.specs.Hold.{HoldFinds}
+use Rattle.run_commands.specs.Hold.{HoldFinds, IsJudged, verdict_line}
 use Rattle.run_commands.specs.Show.{Shows}
 use Rattle.run_commands.specs.Sought.{Sought, whole_bands, bands_of_links}
 use Rattle.run_commands.specs.Checked.{Checked, whole_checked, links_checked}
 use Rattle.run_commands.specs.Check.{Rejects, Checks}
 use Rattle.run_inputs.specs.Status.{IsReached}
-use Rattle.run_commands.specs.Bands.{IsWidestBand, widest_line, BreaksBase, BandsFinds}
+use Rattle.run_commands.specs.Bands.{widest_line, BreaksBase, BandsFinds}
 use Rattle.second_plan.specs.Planned.{IsAnswer}
 use Rattle.second_plan.specs.Ends as second
 use Rattle.second_plan.specs.Ends.{Ends, PlanOrEnd, OnePlan}
@@ -49,7 +49,7 @@ use Rattle.progression.specs.Good.{Good}
 use Rattle.rational_theory.specs.Rational.{ℚ}
 use Rattle.run_commands.specs.Round.{plan_lines, unplanned_line, IsCertified, IsRounded, IsUnfit, Unplans, RoundFinds, RoundFromFinds}
 use Rattle.run_commands.specs.Half.{end_line, HalfFinds}
-use Rattle.run_commands.specs.Typed.{WritesTiming, TypedFinds}
+use Rattle.run_commands.specs.Typed.{measured_lines, WritesTiming, TypedFinds}
 use Rattle.run_commands.specs.Draw.{DrawFinds}
 use Rattle.maxband_run.specs.Run.{Finds}
 use Rattle.run_laws.specs.Laws.{IsVerdict, Agree}
@@ -234,30 +234,30 @@ half_once one_first ends a t (cause.Unmatched e) d x y s u h k = absurd k
 half_once one_first ends a t c d x y s u h k = absurd h
 
 -- ---- a typed plan
-writes_once : OneFirst → OneWidest → FinerPairs → (a : Street) (t : TimingRecord) (c d : Cause) (x y : List ℕ) (s u : Option (List ℕ)) → WritesTiming a t c x s → WritesTiming a t d y u → (c ≡ d) × (x ≡ y)
-writes_once one_first once finer a t cause.Done cause.Done x y s u h k =
-    let e = bands_once one_first once finer a t cause.Done cause.Done h.2.bands k.2.bands h.2.measured k.2.measured in
-    (refl, h.2.lines_are ∙ ap (λ l. l ++ weighted_line a t) e.1 ∙ sym k.2.lines_are)
-writes_once one_first once finer a t cause.Done (cause.Fails f) x y s u h k = absurd (k.0.not_base h.2.measured.base)
-writes_once one_first once finer a t cause.Done d x y s u h k = absurd k
-writes_once one_first once finer a t (cause.Fails f) cause.Done x y s u h k = absurd (h.0.not_base k.2.measured.base)
-writes_once one_first once finer a t (cause.Fails f) (cause.Fails g) x y s u h k = breaks_once one_first a t f g x y h.0 k.0
-writes_once one_first once finer a t (cause.Fails f) d x y s u h k = absurd k
-writes_once one_first once finer a t c d x y s u h k = absurd h
+judged_once : OneFirst → FailsRulesOut → (a : Street) (t : TimingRecord) (f g : Option Failing) → IsJudged a t f → IsJudged a t g → f ≡ g
+judged_once one_first out a t None None h k = refl
+judged_once one_first out a t None (Some g) h k = absurd (out a t g k.fails h)
+judged_once one_first out a t (Some f) None h k = absurd (out a t f h.fails k)
+judged_once one_first out a t (Some f) (Some g) h k = ap Some (one_first a t f g h k)
 
-module _ (one : OneTiming) (one_first : OneFirst) (once : OneWidest) (finer : FinerPairs) (a : Street) (p : Typed) where
+writes_once : OneFirst → FailsRulesOut → (a : Street) (m : Measured) (c d : Cause) (x y : List ℕ) (s u : Option (List ℕ)) → WritesTiming a m c x s → WritesTiming a m d y u → (c ≡ d) × (x ≡ y)
+writes_once one_first out a m c d x y s u h k =
+    let e = judged_once one_first out a m.timing h.1.2.broken k.1.2.broken h.1.2.judged k.1.2.judged in
+    (h.0 ∙ sym k.0, h.1.2.lines_are ∙ ap (λ f. measured_lines a m ++ verdict_line f) e ∙ sym k.1.2.lines_are)
+
+module _ (one : OneTiming) (one_first : OneFirst) (out : FailsRulesOut) (a : Street) (p : Typed) where
   typed_once : (c d : Cause) (x y : List ℕ) (s u : Option (List ℕ)) → TypedFinds a p c x s → TypedFinds a p d y u → (c ≡ d) × (x ≡ y)
   typed_once c d x y s u (inl h) (inl k) =
-      let e = one a p k.timing h.timing h.valid k.timing_is h.timing_is in
-      writes_once one_first once finer a h.timing c d x y s u h.finds (subst (λ (t : TimingRecord). WritesTiming a t d y u) e k.finds)
-  typed_once c d x y s u (inl h) (inr (inl k)) = absurd (no_value (count_fault a p) (fault_of k.refusal) k.first h.timing_is.counts)
-  typed_once c d x y s u (inl h) (inr (inr k)) = absurd (no_value (too_fine a p) k.ticks k.first.1 h.timing_is.fine)
-  typed_once c d x y s u (inr (inl h)) (inl k) = absurd (no_value (count_fault a p) (fault_of h.refusal) h.first k.timing_is.counts)
+      let e = one a p k.made h.made h.valid k.made_is h.made_is in
+      writes_once one_first out a h.made c d x y s u h.finds (subst (λ (m : Measured). WritesTiming a m d y u) e k.finds)
+  typed_once c d x y s u (inl h) (inr (inl k)) = absurd (no_value (count_fault a p) (fault_of k.refusal) k.first h.made_is.counts)
+  typed_once c d x y s u (inl h) (inr (inr k)) = absurd (no_value (too_fine a p) k.ticks k.first.1 h.made_is.fine)
+  typed_once c d x y s u (inr (inl h)) (inl k) = absurd (no_value (count_fault a p) (fault_of h.refusal) h.first k.made_is.counts)
   typed_once c d x y s u (inr (inl h)) (inr (inl k)) =
       let e = same_refusal h.refusal k.refusal (sym (same_value (count_fault a p) (fault_of h.refusal) (fault_of k.refusal) h.first k.first)) in
       (h.cause_is ∙ ap cause.Refused e ∙ sym k.cause_is, h.lines_are ∙ ap refused_line e ∙ sym k.lines_are)
   typed_once c d x y s u (inr (inl h)) (inr (inr k)) = absurd (no_value (count_fault a p) (fault_of h.refusal) h.first k.first.0)
-  typed_once c d x y s u (inr (inr h)) (inl k) = absurd (no_value (too_fine a p) h.ticks h.first.1 k.timing_is.fine)
+  typed_once c d x y s u (inr (inr h)) (inl k) = absurd (no_value (too_fine a p) h.ticks h.first.1 k.made_is.fine)
   typed_once c d x y s u (inr (inr h)) (inr (inl k)) = absurd (no_value (count_fault a p) (fault_of k.refusal) k.first h.first.0)
   typed_once c d x y s u (inr (inr h)) (inr (inr k)) =
       let e = sym (same_value (too_fine a p) h.ticks k.ticks h.first.1 k.first.1) in
@@ -293,7 +293,7 @@ module _ (one_text : OneText) (one_first : OneFirst) (rules : FailsRulesOut) (ap
       from_once plan_ends plan_or one_plan v.0 v.1.0 v.1.0.timing one_first rules apart once c d x y s t (own_from v.0 v.1.0 c x s h) (own_from v.0 v.1.0 d y t k)
   finds_once (Some (RoundFrom artery certificate other plan)) v c d x y s t h k = from_once plan_ends plan_or one_plan v.0 v.1.0 v.1.1.0 one_first rules apart once c d x y s t h k
   finds_once (Some (Half artery timing new)) v c d x y s t h k = half_once one_first ends v.0 v.1.0 c d x y s t h k
-  finds_once (Some (TimingOf artery plan timing)) v c d x y s t h k = typed_once one_timing one_first widest finer v.0 v.1.0 c d x y s t h k
+  finds_once (Some (TimingOf artery plan timing)) v c d x y s t h k = typed_once one_timing one_first rules v.0 v.1.0 c d x y s t h k
   finds_once (Some (Draw artery timed drawing)) v c d x y s t h k = draw_once one_first rules v.0 v.1.0 c d x y s t h k
   finds_once (Some Help) v c d x y s t h k = (h.0 ∙ sym k.0, h.1 ∙ sym k.1)
   finds_once (Some Version) v c d x y s t h k = (h.0 ∙ sym k.0, h.1 ∙ sym k.1)

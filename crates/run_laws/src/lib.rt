@@ -9,7 +9,8 @@
 //!   kind of timing that is sought (`Sought` of `maxband_run`). The laws of completeness say when a run ends with a verdict,
 //!   `law_faults_are_told` that each fault is told, and `law_put_is_accepted` that `check` accepts what `solve` put.
 //! - `plans` (`specs/PlanLaws.antt`): the same of `bands`, `half`, `round`, `round-from`, `timing`, `draw` and `sweep`, and
-//!   `law_plan_is_held`: `hold` accepts what `round` put.
+//!   `law_plan_is_held`: `hold` accepts what `round` put; `law_timing_is_bounded`: a plan that holds is worth no more than what an accepted
+//!   certificate bounds.
 //! - `stops` (`specs/StopLaws.antt`): `law_solve_stop_says` and its like, which speak of boxes and pivots, and so stand apart;
 //!   `law_all_never_stops_by_work`: `all` is no limit; and when the statuses of words and of faults come.
 #![tactic(auto)]
@@ -21,7 +22,7 @@ mod stops;
 pub use plans::{
     law_bands_say, law_draw_is_complete, law_draw_says, law_half_says, law_plan_is_held,
     law_round_from_is_complete, law_round_from_says, law_round_says, law_sweep_says,
-    law_timing_is_complete, law_timing_says,
+    law_timing_is_bounded, law_timing_is_complete, law_timing_says,
 };
 pub use runs::{
     law_check_links_says, law_check_says, law_faults_are_told, law_help_says, law_hold_says,
