@@ -16,7 +16,7 @@ use Rattle.run_commands.specs.Bands.{BandsFinds}
 use Rattle.run_commands.specs.Round.{RoundFinds, RoundFromFinds}
 use Rattle.run_commands.specs.Half.{HalfFinds}
 use Rattle.description_reader.specs.Typed.{Typed}
-use Rattle.run_commands.specs.Typed.{WritesTiming, TypedFinds}
+use Rattle.run_commands.specs.Typed.{TypedFinds}
 use Rattle.run_commands.specs.Draw.{DrawFinds}
 use Rattle.time_space.specs.declared.failing.Failing.{Failing}
 use Rattle.run_laws.specs.PlanLaws.{IsDrawingEnd, DrawIsComplete, IsTypedEnd, TimingIsComplete}
@@ -126,13 +126,8 @@ half_end a t (cause.Fails f) l bytes h = tt
 half_end a t (cause.Unmatched e) l bytes h = tt
 half_end a t c l bytes h = absurd h
 
-writes_end : (a : Street) (t : TimingRecord) (c : Cause) (l : List ℕ) (bytes : Option (List ℕ)) → WritesTiming a t c l bytes → IsTypedEnd c
-writes_end a t cause.Done l bytes h = tt
-writes_end a t (cause.Fails f) l bytes h = tt
-writes_end a t c l bytes h = absurd h
-
 typed_end : (a : Street) (p : Typed) (c : Cause) (l : List ℕ) (bytes : Option (List ℕ)) → TypedFinds a p c l bytes → IsTypedEnd c
-typed_end a p c l bytes (inl h) = writes_end a h.timing c l bytes h.finds
+typed_end a p c l bytes (inl h) = subst (λ (d : Cause). IsTypedEnd d) (sym h.finds.0) tt
 typed_end a p c l bytes (inr (inl h)) = subst (λ (d : Cause). IsTypedEnd d) (sym h.cause_is) tt
 typed_end a p c l bytes (inr (inr h)) = subst (λ (d : Cause). IsTypedEnd d) (sym h.cause_is) tt
 

@@ -10,7 +10,7 @@ use Rattle.run_inputs.specs.Puts.{NamedBytes, put_of}
 use Rattle.run_inputs.specs.Reading.{Values}
 use Rattle.run_commands.specs.Round.{RoundFromFinds}
 use Rattle.run_commands.specs.Half.{HalfFinds}
-use Rattle.run_commands.specs.Typed.{WritesTiming, TypedFinds}
+use Rattle.run_commands.specs.Typed.{TypedFinds}
 use Rattle.run_commands.specs.Draw.{DrawFinds}
 use Rattle.maxband_run.specs.Outside.{Outside, IsPut, IsDone}
 use Rattle.maxband_run.specs.Run.{Answers, Finds}
@@ -35,13 +35,11 @@ half_none a t (cause.Fails f) l bytes n h = h.1
 half_none a t (cause.Unmatched e) l bytes n h = h.no_put
 half_none a t c l bytes n h = absurd h
 
-writes_none : (a : Street) (t : TimingRecord) (c : Cause) (l : List ℕ) (bytes : Option (List ℕ)) → (IsVerdict c → ⊥) → WritesTiming a t c l bytes → bytes ≡ None
-writes_none a t cause.Done l bytes n h = absurd (n tt)
-writes_none a t (cause.Fails f) l bytes n h = h.1
-writes_none a t c l bytes n h = absurd h
+done_verdict : (c : Cause) → c ≡ cause.Done → IsVerdict c
+done_verdict c e = subst (λ (d : Cause). IsVerdict d) (sym e) tt
 
 typed_none : (a : Street) (p : Typed) (c : Cause) (l : List ℕ) (bytes : Option (List ℕ)) → (IsVerdict c → ⊥) → TypedFinds a p c l bytes → bytes ≡ None
-typed_none a p c l bytes n (inl h) = writes_none a h.timing c l bytes n h.finds
+typed_none a p c l bytes n (inl h) = absurd (n (done_verdict c h.finds.0))
 typed_none a p c l bytes n (inr (inl h)) = h.no_put
 typed_none a p c l bytes n (inr (inr h)) = h.no_put
 
@@ -51,9 +49,6 @@ draw_none a None title c l bytes n h = h.2
 draw_none a (Some t) title cause.Done l bytes n h = absurd (n tt)
 draw_none a (Some t) title (cause.Fails f) l bytes n h = h.3
 draw_none a (Some t) title c l bytes n h = absurd h
-
-done_verdict : (c : Cause) → c ≡ cause.Done → IsVerdict c
-done_verdict c e = subst (λ (d : Cause). IsVerdict d) (sym e) tt
 
 -- ---- every command
 puts_none : (asked : Option Request) (v : Values (shape asked).inputs) (c : Cause) (l : List ℕ) (bytes : Option (List ℕ)) → (IsVerdict c → ⊥) → Finds asked v c l bytes → put_of (shape asked).output bytes ≡ None

@@ -13,5 +13,6 @@ pub mod Kept
 pub mod Reports
 pub mod InSeconds
 pub mod PlansSay
+pub mod TimingBounded
 pub mod Statuses
 pub mod Helping

@@ -10,7 +10,7 @@ use Rattle.progression.specs.declared.parts.Dir.TheVariants.{Outbound, Inbound}
 use Rattle.artery_model.specs.Valid.{IsValid}
 use Rattle.time_space.specs.declared.failing.Failing.{Failing}
 use Rattle.band_measure.specs.Pairs.{FinerPairs}
-use Rattle.band_measure.specs.Widest.{OneWidest}
+use Rattle.band_measure.specs.Widest.{IsWidestBand, OneWidest}
 use Rattle.band_measure.specs.declared.pair.Widest.{Widest}
 use Rattle.half_integer.specs.Answers.{OneEnd}
 use Rattle.certificate_model.specs.Warrants.{Warrant}
@@ -23,25 +23,25 @@ use Rattle.branch_and_bound.specs.declared.found.Verdict.TheVariants.{Best, NoTi
 use Rattle.branch_tree.specs.declared.site.SitePart.{SitePart}
 use Rattle.workload_maker.specs.Made.{made_street}
 use Rattle.artery_model.specs.Faults.{fault_of}
-use Rattle.diagram_print.specs.Measures.{weighted_line}
 use Rattle.half_integer.specs.declared.end.HalfEnd.TheVariants as half_end
 use Rattle.description_reader.specs.Typed.{Typed}
 use Rattle.typed_plan.specs.Counts.{count_fault}
 use Rattle.typed_plan.specs.Grid.{too_fine}
 use Rattle.typed_plan.specs.Ends.{OneTiming}
+use Rattle.typed_plan.specs.declared.timing.Measured.{Measured}
 use Rattle.run_inputs.specs.Lines.{refused_line}
 use Rattle.run_commands.specs.Lines.{fails_line}
 use Rattle.run_inputs.specs.Command.{Request, Hold, Show, Check, CheckLinks, Solve, Links, Renew, Bands, Round, RoundFrom, Half, TimingOf, Draw, Help, Version, Make, Trial, Sweep, shape}
 use Rattle.run_inputs.specs.Puts.{NamedBytes, put_of}
 use Rattle.run_inputs.specs.Reading.{Input, Value, Values}
 use Rattle.run_commands.specs.Searched.{cause_of}
-use Rattle.run_commands.specs.Hold.{HoldFinds}
+use Rattle.run_commands.specs.Hold.{HoldFinds, IsJudged, verdict_line}
 use Rattle.run_commands.specs.Show.{Shows}
 use Rattle.run_commands.specs.Sought.{Sought, whole_bands, bands_of_links}
 use Rattle.run_commands.specs.Checked.{Checked, whole_checked, links_checked}
 use Rattle.run_commands.specs.Check.{Rejects, Checks}
 use Rattle.run_inputs.specs.Status.{IsReached}
-use Rattle.run_commands.specs.Bands.{IsWidestBand, widest_line, BreaksBase, BandsFinds}
+use Rattle.run_commands.specs.Bands.{widest_line, BreaksBase, BandsFinds}
 use Rattle.second_plan.specs.Planned.{IsAnswer}
 use Rattle.second_plan.specs.Ends as second
 use Rattle.second_plan.specs.Ends.{Ends, PlanOrEnd, OnePlan}
@@ -52,8 +52,8 @@ use Rattle.progression.specs.Good.{Good}
 use Rattle.rational_theory.specs.Rational.{ℚ}
 use Rattle.run_commands.specs.Round.{plan_lines, unplanned_line, IsCertified, IsRounded, IsUnfit, Unplans, RoundFinds, RoundFromFinds}
 use Rattle.run_commands.specs.Half.{end_line, HalfFinds}
-use Rattle.run_commands.specs.Typed.{WritesTiming, TypedFinds}
-use Rattle.run_commands.specs.Draw.{IsBroken, drawn_lines, DrawFinds}
+use Rattle.run_commands.specs.Typed.{measured_lines, WritesTiming, TypedFinds}
+use Rattle.run_commands.specs.Draw.{drawn_lines, DrawFinds}
 use Rattle.maxband_run.specs.Run.{Finds}
 use Rattle.run_laws.specs.Laws.{IsVerdict, SamePut, Same, Agree}
 use Rattle.run_inputs.specs.declared.cause.Cause.{Cause}
@@ -240,47 +240,46 @@ half_once one_first ends a t (cause.Unmatched e) d x y s u h k = absurd k
 half_once one_first ends a t c d x y s u h k = absurd h
 
 -- ---- a typed plan
-writes_once : OneFirst → OneWidest → FinerPairs → (a : Street) (t : TimingRecord) (c d : Cause) (x y : List ℕ) (s u : Option (List ℕ)) → WritesTiming a t c x s → WritesTiming a t d y u → (c ≡ d) × (x ≡ y) × (s ≡ u)
-writes_once one_first once finer a t cause.Done cause.Done x y s u h k =
-    let e = bands_once one_first once finer a t cause.Done cause.Done h.2.bands k.2.bands h.2.measured k.2.measured in
-    (refl, h.2.lines_are ∙ ap (λ l. l ++ weighted_line a t) e.1 ∙ sym k.2.lines_are, h.1 ∙ ap Some (h.2.written ∙ sym k.2.written) ∙ sym k.1)
-writes_once one_first once finer a t cause.Done (cause.Fails f) x y s u h k = absurd (k.0.not_base h.2.measured.base)
-writes_once one_first once finer a t cause.Done d x y s u h k = absurd k
-writes_once one_first once finer a t (cause.Fails f) cause.Done x y s u h k = absurd (h.0.not_base k.2.measured.base)
-writes_once one_first once finer a t (cause.Fails f) (cause.Fails g) x y s u h k = let e = breaks_once one_first a t f g x y h.0 k.0 in (e.0, e.1, h.1 ∙ sym k.1)
-writes_once one_first once finer a t (cause.Fails f) d x y s u h k = absurd k
-writes_once one_first once finer a t c d x y s u h k = absurd h
+judged_once : OneFirst → FailsRulesOut → (a : Street) (t : TimingRecord) (f g : Option Failing) → IsJudged a t f → IsJudged a t g → f ≡ g
+judged_once one_first out a t None None h k = refl
+judged_once one_first out a t None (Some g) h k = absurd (out a t g k.fails h)
+judged_once one_first out a t (Some f) None h k = absurd (out a t f h.fails k)
+judged_once one_first out a t (Some f) (Some g) h k = ap Some (one_first a t f g h k)
 
-module _ (one : OneTiming) (one_first : OneFirst) (once : OneWidest) (finer : FinerPairs) (a : Street) (p : Typed) where
+writes_once : OneFirst → FailsRulesOut → (a : Street) (m : Measured) (c d : Cause) (x y : List ℕ) (s u : Option (List ℕ)) → WritesTiming a m c x s → WritesTiming a m d y u
+    → (c ≡ d) × (x ≡ y) × (s ≡ u)
+writes_once one_first out a m c d x y s u h k =
+    let e = judged_once one_first out a m.timing h.1.2.broken k.1.2.broken h.1.2.judged k.1.2.judged in
+    (
+      h.0 ∙ sym k.0,
+      h.1.2.lines_are ∙ ap (λ f. measured_lines a m ++ verdict_line f) e ∙ sym k.1.2.lines_are,
+      h.1.1 ∙ ap Some (h.1.2.written ∙ sym k.1.2.written) ∙ sym k.1.1,
+    )
+
+module _ (one : OneTiming) (one_first : OneFirst) (out : FailsRulesOut) (a : Street) (p : Typed) where
   typed_once : (c d : Cause) (x y : List ℕ) (s u : Option (List ℕ)) → TypedFinds a p c x s → TypedFinds a p d y u → (c ≡ d) × (x ≡ y) × (s ≡ u)
   typed_once c d x y s u (inl h) (inl k) =
-      let e = one a p k.timing h.timing h.valid k.timing_is h.timing_is in
-      writes_once one_first once finer a h.timing c d x y s u h.finds (subst (λ (t : TimingRecord). WritesTiming a t d y u) e k.finds)
-  typed_once c d x y s u (inl h) (inr (inl k)) = absurd (no_value (count_fault a p) (fault_of k.refusal) k.first h.timing_is.counts)
-  typed_once c d x y s u (inl h) (inr (inr k)) = absurd (no_value (too_fine a p) k.ticks k.first.1 h.timing_is.fine)
-  typed_once c d x y s u (inr (inl h)) (inl k) = absurd (no_value (count_fault a p) (fault_of h.refusal) h.first k.timing_is.counts)
+      let e = one a p k.made h.made h.valid k.made_is h.made_is in
+      writes_once one_first out a h.made c d x y s u h.finds (subst (λ (m : Measured). WritesTiming a m d y u) e k.finds)
+  typed_once c d x y s u (inl h) (inr (inl k)) = absurd (no_value (count_fault a p) (fault_of k.refusal) k.first h.made_is.counts)
+  typed_once c d x y s u (inl h) (inr (inr k)) = absurd (no_value (too_fine a p) k.ticks k.first.1 h.made_is.fine)
+  typed_once c d x y s u (inr (inl h)) (inl k) = absurd (no_value (count_fault a p) (fault_of h.refusal) h.first k.made_is.counts)
   typed_once c d x y s u (inr (inl h)) (inr (inl k)) =
       let e = same_refusal h.refusal k.refusal (sym (same_value (count_fault a p) (fault_of h.refusal) (fault_of k.refusal) h.first k.first)) in
       (h.cause_is ∙ ap cause.Refused e ∙ sym k.cause_is, h.lines_are ∙ ap refused_line e ∙ sym k.lines_are, h.no_put ∙ sym k.no_put)
   typed_once c d x y s u (inr (inl h)) (inr (inr k)) = absurd (no_value (count_fault a p) (fault_of h.refusal) h.first k.first.0)
-  typed_once c d x y s u (inr (inr h)) (inl k) = absurd (no_value (too_fine a p) h.ticks h.first.1 k.timing_is.fine)
+  typed_once c d x y s u (inr (inr h)) (inl k) = absurd (no_value (too_fine a p) h.ticks h.first.1 k.made_is.fine)
   typed_once c d x y s u (inr (inr h)) (inr (inl k)) = absurd (no_value (count_fault a p) (fault_of k.refusal) k.first h.first.0)
   typed_once c d x y s u (inr (inr h)) (inr (inr k)) =
       let e = sym (same_value (too_fine a p) h.ticks k.ticks h.first.1 k.first.1) in
       (h.cause_is ∙ ap (λ n. cause.Unmatched (half_end.TooFine n)) e ∙ sym k.cause_is, h.lines_are ∙ ap (λ n. end_line (half_end.TooFine n)) e ∙ sym k.lines_are, h.no_put ∙ sym k.no_put)
-
-broken_once : OneFirst → FailsRulesOut → (a : Street) (t : TimingRecord) (x y : Option Failing) → IsBroken a t x → IsBroken a t y → x ≡ y
-broken_once one_first rules a t None None h k = refl
-broken_once one_first rules a t None (Some g) h k = absurd (rules a t g k.fails h)
-broken_once one_first rules a t (Some f) None h k = absurd (rules a t f h.fails k)
-broken_once one_first rules a t (Some f) (Some g) h k = ap Some (one_first a t f g h k)
 
 draw_once : OneFirst → FailsRulesOut → (a : Street) (o : Option TimingRecord) (title : Option (List ℕ)) (c d : Cause) (x y : List ℕ) (s u : Option (List ℕ))
     → DrawFinds a o title c x s → DrawFinds a o title d y u → (c ≡ d) × (x ≡ y) × (s ≡ u)
 draw_once one_first rules a None title c d x y s u h k = (h.0 ∙ sym k.0, h.1 ∙ sym k.1, h.2 ∙ sym k.2)
 draw_once one_first rules a (Some t) title cause.Done cause.Done x y s u h k = (
   refl,
-  h.2.lines_are ∙ (ap drawn_lines (broken_once one_first rules a t h.2.broken k.2.broken h.2.broken_is k.2.broken_is) ∙ sym k.2.lines_are),
+  h.2.lines_are ∙ (ap drawn_lines (judged_once one_first rules a t h.2.broken k.2.broken h.2.judged k.2.judged) ∙ sym k.2.lines_are),
   h.1 ∙ ap Some (h.2.text_is ∙ sym k.2.text_is) ∙ sym k.1,
 )
 draw_once one_first rules a (Some t) title cause.Done (cause.Fails f) x y s u h k = absurd (k.1.fails h.2.shape)
@@ -340,7 +339,7 @@ module _ (one_text : OneText) (one_first : OneFirst) (rules : FailsRulesOut) (ap
     | inr e ↦ inr e
   ]
   finds_once (Some (TimingOf artery plan timing)) v c d x y s t h k =
-      let e = typed_once one_timing one_first widest finer v.0 v.1.0 c d x y s t h k in
+      let e = typed_once one_timing one_first rules v.0 v.1.0 c d x y s t h k in
       record { cause = e.0; lines = e.1; put = put_alike timing s t e.2 }
   finds_once (Some (Draw artery timed drawing title)) v c d x y s t h k =
       let e = draw_once one_first rules v.0 v.1.0 title c d x y s t h k in

@@ -21,15 +21,14 @@ use Rattle.run_inputs.specs.Puts.{NamedBytes, put_of}
 use Rattle.maxband_run.specs.Outside.{Outside, IsPut, IsDone}
 use Rattle.run_commands.specs.Half.{HasNoHalfPlan, IsHalfPlan}
 use Rattle.description_reader.specs.Typed.{Typed}
-use Rattle.typed_plan.specs.Ends.{IsTimingOf}
-use Rattle.run_commands.specs.Typed.{WritesTiming, TypedFinds}
+use Rattle.run_commands.specs.Typed.{TypedFinds}
 use Rattle.run_commands.specs.Draw.{DrawFinds}
 use Rattle.run_inputs.specs.Reading.{Reads, Description, Timed, TypedPlan}
 use Rattle.maxband_run.specs.Run.{Ends}
 use Rattle.run_commands.specs.Sought.{whole_bands}
 use Rattle.run_commands.specs.Checked.{whole_checked}
 use Rattle.run_laws.specs.Laws.{SaysRejected}
-use Rattle.run_laws.specs.PlanLaws.{SaysWidest, SaysNoBase, BandsSay, PutsHalf, SaysNoHalf, SaysHalf, SaysUnmatched, HalfSays, SaysUnplanned, SaysUnplannedFrom, PutsTyped, StopsTyped, SaysMiscounted, SaysBroken, SaysTooFine, TimingSays, PutsPicture, SaysUnshaped, SaysFailing, SaysUntimed, DrawSays, SaysCycle, PutsTable, SweepSays}
+use Rattle.run_laws.specs.PlanLaws.{SaysWidest, SaysNoBase, BandsSay, PutsHalf, SaysNoHalf, SaysHalf, SaysUnmatched, HalfSays, SaysUnplanned, SaysUnplannedFrom, PutsTyped, StopsTyped, SaysMiscounted, SaysTooFine, TimingSays, PutsPicture, SaysUnshaped, SaysFailing, SaysUntimed, DrawSays, SaysCycle, PutsTable, SweepSays}
 use Rattle.run_inputs.specs.Status.{number_of, IsReached}
 use Rattle.run_inputs.specs.declared.cause.Cause.{Cause}
 use Rattle.run_inputs.specs.declared.cause.Cause.TheVariants as cause
@@ -261,11 +260,11 @@ eleven_four e = omega (arith, e)
 eleven_three : ◌≡◌ {A = ℕ} 11 3 → ⊥
 eleven_three e = omega (arith, e)
 
--- no timing is put with status 3
-no_three : (a : Street) (t : TimingRecord) (c : Cause) (l : List ℕ) (bytes : Option (List ℕ)) → number_of c ≡ 3 → WritesTiming a t c l bytes → ⊥
-no_three a t cause.Done l bytes e h = absurd cc
-no_three a t (cause.Fails f) l bytes e h = absurd cc
-no_three a t c l bytes e h = h
+none_three : ◌≡◌ {A = ℕ} 0 3 → ⊥
+none_three e = omega (arith, e)
+
+none_four : ◌≡◌ {A = ℕ} 0 4 → ⊥
+none_four e = omega (arith, e)
 
 module _ (before now : Outside) (artery plan timing : List ℕ) where
   kept_none : (lines : List ℕ) (put : Option NamedBytes) (bytes : Option (List ℕ)) → put ≡ put_of (Some timing) bytes → bytes ≡ None → IsDone before now lines put → IsPut None before.holds now.holds
@@ -274,18 +273,18 @@ module _ (before now : Outside) (artery plan timing : List ℕ) where
   module _ (a : Street) (p : Typed) (d : Reads Description (before.holds artery) a) (r : Reads TypedPlan (before.holds plan) p) where
     typed_put : (f : Found before now (Some (TimingOf artery plan timing)) cause.Done) → TypedFinds a p cause.Done f.lines f.answer.bytes → PutsTyped before now artery plan timing
     typed_put f (inl h) =
-        let k = h.finds in
+        let k = h.finds.1 in
         record {
           street = a;
           typed = p;
-          made = h.timing;
-          bands = k.2.bands;
+          made = h.made;
+          broken = k.2.broken;
           description = d;
           text = r;
-          made_is = h.timing_is;
-          measured = k.2.measured;
+          made_is = h.made_is;
+          judged = k.2.judged;
           put = subst (λ (x : List ℕ). HoldsExactly (now.holds timing) x) k.2.written (is_put before now timing k.0 f.lines f.put f.answer.bytes f.answer.put_is k.1 f.done).0;
-          read_back = subst (λ (x : List ℕ). timing_of x ≡ Ok h.timing) k.2.written k.2.read_back;
+          read_back = subst (λ (x : List ℕ). timing_of x ≡ Ok h.made.timing) k.2.written k.2.read_back;
           told = subst (λ (l : List ℕ). Appends before.taken now.taken l) k.2.lines_are f.done.written;
         }
     typed_put f (inr (inl h)) = let e = h.cause_is in absurd cc
@@ -293,35 +292,18 @@ module _ (before now : Outside) (artery plan timing : List ℕ) where
 
     module _ (lines : List ℕ) (put : Option NamedBytes) (bytes : Option (List ℕ)) (put_is : put ≡ put_of (Some timing) bytes) (done : IsDone before now lines put) where
       miscounted : (c : Cause) → number_of c ≡ 3 → TypedFinds a p c lines bytes → SaysMiscounted before now artery plan c
-      miscounted c e (inl h) = absurd (no_three a h.timing c lines bytes e h.finds)
+      miscounted c e (inl h) = absurd (none_three (sym (ap number_of h.finds.0) ∙ e))
       miscounted c e (inr (inl h)) =
           record { street = a; typed = p; refusal = h.refusal; description = d; text = r; first = h.first; cause_is = h.cause_is; kept = kept_none lines put bytes put_is h.no_put done }
       miscounted c e (inr (inr h)) = absurd (eleven_three (sym (ap number_of h.cause_is) ∙ e))
 
-      breaks : (t : TimingRecord) → IsTimingOf a p t → (c : Cause) → number_of c ≡ 4 → WritesTiming a t c lines bytes → SaysBroken before now artery plan c
-      breaks t is (cause.Fails f) e h = record {
-        street = a;
-        typed = p;
-        made = t;
-        failing = f;
-        description = d;
-        text = r;
-        made_is = is;
-        fails = h.0.first.fails;
-        not_base = h.0.not_base;
-        cause_is = refl;
-        kept = kept_none lines put bytes put_is h.1 done;
-      }
-      breaks t is cause.Done e h = absurd cc
-      breaks t is c e h = absurd h
-
-      broken : (c : Cause) → number_of c ≡ 4 → TypedFinds a p c lines bytes → SaysBroken before now artery plan c
-      broken c e (inl h) = breaks h.timing h.timing_is c e h.finds
-      broken c e (inr (inl h)) = absurd (three_four (sym (ap number_of h.cause_is) ∙ e))
-      broken c e (inr (inr h)) = absurd (eleven_four (sym (ap number_of h.cause_is) ∙ e))
+      none_broken : (c : Cause) → number_of c ≡ 4 → TypedFinds a p c lines bytes → ⊥
+      none_broken c e (inl h) = none_four (sym (ap number_of h.finds.0) ∙ e)
+      none_broken c e (inr (inl h)) = three_four (sym (ap number_of h.cause_is) ∙ e)
+      none_broken c e (inr (inr h)) = eleven_four (sym (ap number_of h.cause_is) ∙ e)
 
       too_fine_of : (reason : HalfEnd) → TypedFinds a p (cause.Unmatched reason) lines bytes → SaysTooFine before now artery plan (cause.Unmatched reason)
-      too_fine_of reason (inl h) = absurd h.finds
+      too_fine_of reason (inl h) = let e = h.finds.0 in absurd cc
       too_fine_of reason (inr (inl h)) = let e = h.cause_is in absurd cc
       too_fine_of reason (inr (inr h)) =
           record { street = a; typed = p; ticks = h.ticks; description = d; text = r; first = h.first; cause_is = h.cause_is; kept = kept_none lines put bytes put_is h.no_put done }
@@ -346,7 +328,7 @@ timing_says before now artery plan timing c h = (
       typed_put before now artery plan timing f.answer.values.0 f.answer.values.1.0 f.answer.read.0 f.answer.read.1.0 f f.answer.finds),
   (λ e. timing_three before now artery plan timing c e h),
   (λ e. let f = found_four before now (Some (TimingOf artery plan timing)) c e h in
-      broken before now artery plan timing f.answer.values.0 f.answer.values.1.0 f.answer.read.0 f.answer.read.1.0 f.lines f.put f.answer.bytes f.answer.put_is f.done c e f.answer.finds),
+      none_broken before now artery plan timing f.answer.values.0 f.answer.values.1.0 f.answer.read.0 f.answer.read.1.0 f.lines f.put f.answer.bytes f.answer.put_is f.done c e f.answer.finds),
   (λ e. let r = eleven_is c e in timing_eleven before now artery plan timing c r.0 r.1 h),
 )
 
@@ -366,7 +348,7 @@ module _ (before now : Outside) (artery timed picture : List ℕ) (title : Optio
     description = d;
     text = r;
     shape = h.2.shape;
-    broken_is = h.2.broken_is;
+    judged = h.2.judged;
     put = subst (λ (x : List ℕ). HoldsExactly (now.holds picture) x) h.2.text_is (is_put before now picture h.0 f.lines f.put f.answer.bytes f.answer.put_is h.1 f.done).0;
     told = subst (λ (l : List ℕ). Appends before.taken now.taken l) h.2.lines_are f.done.written;
   }

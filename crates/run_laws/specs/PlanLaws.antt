@@ -14,6 +14,7 @@ use Rattle.progression.specs.declared.parts.Dir.TheVariants.{Outbound, Inbound}
 use Rattle.time_space.specs.Failing.{Fails}
 use Rattle.time_space.specs.declared.failing.Failing.{Failing}
 use Rattle.time_space.specs.declared.failing.Failing.TheVariants as rule
+use Rattle.band_measure.specs.Widest.{IsWidestBand}
 use Rattle.band_measure.specs.declared.pair.Widest.{Widest}
 use Rattle.mirror_theory.specs.EqualBands.{HasNone, IsHalfCycleBest}
 use Rattle.half_integer.specs.Answers as half
@@ -22,14 +23,16 @@ use Rattle.timing_measures.specs.Measures.{cycle_seconds, offset}
 use Rattle.second_plan.specs.Planned.{IsPlanned, IsBestOfOffsets}
 use Rattle.second_plan.specs.declared.answer.PlanEnd.{PlanEnd}
 use Rattle.second_plan.specs.declared.answer.PlanEnd.TheVariants as end
-use Rattle.diagram_print.specs.Measures.{weighted_line}
 use Rattle.half_integer.specs.declared.end.HalfEnd.TheVariants as half_end
 use Rattle.artery_model.specs.declared.kind.Refusal.{Refusal}
 use Rattle.description_reader.specs.Typed.{Typed}
 use Rattle.typed_plan.specs.Ends.{IsTimingOf, Refuses}
+use Rattle.typed_plan.specs.declared.timing.Measured.{Measured}
 use Rattle.typed_plan.specs.declared.timing.TypedFault.TheVariants as fault
 use Rattle.diagram_draw.specs.Pages.{drawing, svg_text}
 use Rattle.certificate_model.specs.Warrants.{Warrant}
+use Rattle.certificate_model.specs.declared.certificate.Claim.{Claim}
+use Rattle.certificate_model.specs.declared.certificate.Claim.TheVariants as claim
 use Rattle.plan_text.specs.Spelling.{timing_text}
 use Rattle.plan_text.specs.Reading.{timing_of}
 use Rattle.certificate_checker.specs.Accepted.{IsAccepted}
@@ -39,17 +42,19 @@ use Rattle.cycle_sweep.specs.Says.{SaysRow}
 use Rattle.cycle_sweep.specs.Table.{row_fields, sweep_text}
 use Rattle.run_inputs.specs.Cycles.{AreCycles}
 use Rattle.maxband_run.specs.Outside.{Outside}
-use Rattle.run_inputs.specs.Command.{Hold, Bands, Round, RoundFrom, Half, TimingOf, Draw, Sweep, shape}
+use Rattle.run_inputs.specs.Command.{Hold, Check, Bands, Round, RoundFrom, Half, TimingOf, Draw, Sweep, shape}
 use Rattle.run_inputs.specs.Reading.{most_bytes, Reads, Description, Timing, Certificate, Timed, TypedPlan, StopsReading}
-use Rattle.run_commands.specs.Bands.{IsWidestBand, widest_line, IsMeasured}
+use Rattle.run_commands.specs.Bands.{widest_line}
+use Rattle.run_commands.specs.Hold.{IsJudged, verdict_line}
+use Rattle.run_commands.specs.Typed.{measured_lines}
 use Rattle.run_commands.specs.Half.{half_lines}
 use Rattle.run_commands.specs.Round.{plan_lines, Unplans}
-use Rattle.run_commands.specs.Draw.{IsBroken, drawn_lines}
+use Rattle.run_commands.specs.Draw.{drawn_lines}
 use Rattle.run_commands.specs.Sweep.{rows_line}
 use Rattle.run_commands.specs.Sought.{whole_bands}
 use Rattle.run_commands.specs.Checked.{whole_checked}
 use Rattle.maxband_run.specs.Run.{Ends}
-use Rattle.run_laws.specs.Laws.{SaysRejected}
+use Rattle.run_laws.specs.Laws.{SaysAccepted, SaysRejected}
 use Rattle.run_inputs.specs.Status.{number_of, IsReached}
 use Rattle.run_inputs.specs.declared.cause.Cause.{Cause}
 use Rattle.run_inputs.specs.declared.cause.Cause.TheVariants as cause
@@ -225,20 +230,20 @@ PlanIsHeld = (before between now : Outside) (artery certificate plan : List ℕ)
     → number_of c ≡ 0 → Ends before between (Some (Round artery certificate plan)) c → IsReached d → Ends between now (Some (Hold artery plan)) d → d ≡ cause.Done
 
 -- ---- timing
--- `timing` with status 0: the file that is put holds, where it is told, the text of the timing of the typed plan, which keeps the rules that speak of no band and is read
--- back; its widest bands and its weighted band were told
+-- `timing` with status 0: the file that is put holds, where it is told, the text of the timing of the typed plan, whichever rules it breaks, and is read back; its bands and
+-- its weighted band were told, and then the first rule that it breaks, or that it holds
 pub record PutsTyped (before now : Outside) (artery plan timing : List ℕ) : Type 0 where
   pub street : Street
   pub typed : Typed
-  pub made : TimingRecord
-  pub bands : List ℕ
+  pub made : Measured
+  pub broken : Option Failing
   pub description : Reads Description (before.holds artery) street
   pub text : Reads TypedPlan (before.holds plan) typed
   pub made_is : IsTimingOf street typed made
-  pub measured : IsMeasured street made bands
-  pub put : HoldsExactly (now.holds timing) (timing_text made)
-  pub read_back : timing_of (timing_text made) ≡ Ok made
-  pub told : Appends before.taken now.taken (bands ++ weighted_line street made)
+  pub judged : IsJudged street made.timing broken
+  pub put : HoldsExactly (now.holds timing) (timing_text made.timing)
+  pub read_back : timing_of (timing_text made.timing) ≡ Ok made.timing
+  pub told : Appends before.taken now.taken (measured_lines street made ++ verdict_line broken)
 
 -- with status 3: one of the two files isn't read
 pub record StopsTyped (before now : Outside) (artery plan timing : List ℕ) (c : Cause) : Type 0 where
@@ -257,20 +262,6 @@ pub record SaysMiscounted (before now : Outside) (artery plan : List ℕ) (c : C
   pub cause_is : c ≡ cause.Refused refusal
   pub kept : SameFiles before.holds now.holds
 
--- with status 4: the plan's timing breaks this rule that speaks of no band
-pub record SaysBroken (before now : Outside) (artery plan : List ℕ) (c : Cause) : Type 0 where
-  pub street : Street
-  pub typed : Typed
-  pub made : TimingRecord
-  pub failing : Failing
-  pub description : Reads Description (before.holds artery) street
-  pub text : Reads TypedPlan (before.holds plan) typed
-  pub made_is : IsTimingOf street typed made
-  pub fails : Fails street made failing
-  pub not_base : ¬ IsBase street made
-  pub cause_is : c ≡ cause.Fails failing
-  pub kept : SameFiles before.holds now.holds
-
 -- with status 11: so many ticks are past the limit of a timing
 pub record SaysTooFine (before now : Outside) (artery plan : List ℕ) (c : Cause) : Type 0 where
   pub street : Street
@@ -286,14 +277,32 @@ abbrev pub TimingSays : Type 0
 TimingSays = (before now : Outside) (artery plan timing : List ℕ) (c : Cause) → Ends before now (Some (TimingOf artery plan timing)) c
     → (number_of c ≡ 0 → PutsTyped before now artery plan timing)
     × (number_of c ≡ 3 → StopsTyped before now artery plan timing c ⊎ SaysMiscounted before now artery plan c)
-    × (number_of c ≡ 4 → SaysBroken before now artery plan c)
+    × (number_of c ≡ 4 → ⊥)
     × (number_of c ≡ 11 → SaysTooFine before now artery plan c)
 
--- a timing is put, the plan isn't of the artery, its timing breaks a rule, or it has too many ticks
+-- what a claim bounds: the best value, or the bound where the search stopped; where there is no good timing, none has a value
+abbrev pub IsWithin : Claim → ℚ → Type 0
+IsWithin (claim.Best best) value = value ≤ℚ best
+IsWithin claim.NoTiming value = ⊥
+IsWithin (claim.Stopped bound found) value = value ≤ℚ bound
+
+-- a plan that `timing` told to hold is worth no more than what a certificate that `check` accepted bounds
+pub record IsWorthNoMore (before now checked_before checked_now : Outside) (artery plan timing certificate : List ℕ) : Type 0 where
+  pub put : PutsTyped before now artery plan timing
+  pub accepted : SaysAccepted whole_bands whole_checked checked_before checked_now artery certificate
+  pub same : accepted.street ≡ put.street
+  pub within : put.broken ≡ None → IsWithin accepted.warrant.claim (weighted_band put.street put.made.timing)
+
+-- So wherever both have status 0 over the same description.
+abbrev pub TimingIsBounded : Type 0
+TimingIsBounded = (before now checked_before checked_now : Outside) (artery plan timing certificate : List ℕ) (c d : Cause) → IsSome (before.holds artery) → checked_before.holds artery ≡ before.holds artery
+    → Ends before now (Some (TimingOf artery plan timing)) c → number_of c ≡ 0 → Ends checked_before checked_now (Some (Check artery certificate)) d → number_of d ≡ 0
+    → IsWorthNoMore before now checked_before checked_now artery plan timing certificate
+
+-- a timing is put, the plan isn't of the artery, or it has too many ticks
 abbrev pub IsTypedEnd : Cause → Type 0
 IsTypedEnd cause.Done = Unit {0}
 IsTypedEnd (cause.Refused r) = Unit {0}
-IsTypedEnd (cause.Fails f) = Unit {0}
 IsTypedEnd (cause.Unmatched (half_end.TooFine ticks)) = Unit {0}
 IsTypedEnd c = ⊥
 
@@ -314,7 +323,7 @@ pub record PutsPicture (before now : Outside) (artery timed picture : List ℕ) 
   pub description : Reads Description (before.holds artery) street
   pub text : Reads Timed (before.holds timed) (Some timing)
   pub shape : length timing.patterns ≡ count street
-  pub broken_is : IsBroken street timing broken
+  pub judged : IsJudged street timing broken
   pub put : HoldsExactly (now.holds picture) (svg_text (drawing street timing title))
   pub told : Appends before.taken now.taken (drawn_lines broken)
 

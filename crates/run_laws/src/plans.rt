@@ -1,7 +1,7 @@
 //! The laws of plans, bands, pictures and tables.
 
-ghost use Rattle.run_laws.specs.PlanLaws.{BandsSay, HalfSays, RoundSays, RoundFromSays, TimingSays, TimingIsComplete, DrawSays, DrawIsComplete};
-ghost use Rattle.run_laws.specs.PlanLaws.{SweepSays, PlanIsHeld};
+ghost use Rattle.run_laws.specs.PlanLaws.{BandsSay, HalfSays, RoundSays, RoundFromSays, TimingSays, TimingIsBounded, TimingIsComplete, DrawSays};
+ghost use Rattle.run_laws.specs.PlanLaws.{DrawIsComplete, SweepSays, PlanIsHeld};
 
 /// A law over the definitions: after status 0 of `bands` the widest bands on the timing's offsets were printed, and after 4 a rule
 /// fails that speaks of no band.
@@ -39,15 +39,26 @@ pub fn law_round_from_says()
     time_space::law_fails_rules_out();
 }
 
-/// A law over the definitions: after status 0 of `timing` the file that it put holds the text of the timing of the typed plan, which keeps the
-/// rules that speak of no band, and its widest bands were printed. After 3 a file isn't read or the plan has more or fewer numbers than the
-/// artery has signals or links, after 4 a rule fails that speaks of no band, and after 11 the timing has too many ticks; no file changed.
+/// A law over the definitions: after status 0 of `timing` the file that it put holds the text of the timing of the typed plan, whichever
+/// rules it breaks; its bands and its weighted band were printed, and then the first rule that it breaks, or that it holds. After 3 a file
+/// isn't read or the plan has more or fewer numbers than the artery has signals or links, and after 11 the timing has too many ticks; no
+/// file changed. It never ends with 4.
 pub fn law_timing_says()
     ensures { TimingSays }
 {}
 
+/// A law over the definitions: a plan that `timing` told to hold is worth no more than what a certificate bounds that `check` accepted for
+/// the same description.
+pub fn law_timing_is_bounded()
+    ensures { TimingIsBounded }
+{
+    description_reader::law_one_answer();
+    description_reader::law_one_typed();
+    certificate_checker::law_accepted_or_refused();
+}
+
 /// A law over the definitions: where the files of `timing` are a description of an artery and a typed plan, and no fault is counted, the
-/// timing is put, the plan isn't of the artery, its timing breaks a rule, it has too many ticks, or memory is wanting.
+/// timing is put, the plan isn't of the artery, it has too many ticks, or memory is wanting.
 pub fn law_timing_is_complete()
     ensures { TimingIsComplete }
 {

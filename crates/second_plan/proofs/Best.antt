@@ -17,10 +17,10 @@ use Rattle.time_space.proofs.Quotients.{weighted}
 use Rattle.band_measure.specs.Pairs.{RunsOn, with_pairs, FinerPairs}
 use Rattle.band_measure.specs.Pairs.{PairsMakeGood}
 use Rattle.band_measure.specs.Widest.{IsWidest}
-use Rattle.second_plan.specs.Cut.{IsCut}
+use Rattle.band_measure.specs.Cut.{IsCut}
 use Rattle.second_plan.specs.Planned.{HasOffsetsOf, IsBestOfOffsets}
-use Rattle.second_plan.specs.declared.bands.Bands.{Bands}
-use Rattle.second_plan.proofs.Cuts.{cut_most}
+use Rattle.band_measure.specs.declared.bands.Bands.{Bands}
+use Rattle.band_measure.proofs.Cuts.{cut_most}
 
 -- wider bands weigh more
 value_most : (k : ℚ) (n o i p q c : ℕ) → pos n ≡ k.num → 0 < c → o ≤ p → i ≤ q → ((number o +ℚ k *ℚ number i) /ℚ number c) ≤ℚ ((number p +ℚ k *ℚ number q) /ℚ number c)

@@ -24,14 +24,14 @@ use Rattle.narrow_fraction.specs.declared.wide.Wide.{Wide}
 use Rattle.second_plan.specs.Nearest.{apart, IsNearest}
 use Rattle.second_plan.specs.Seconds.{IsWholeCycle, IsSeconds, IsOffset, AreOffsets}
 use Rattle.second_plan.specs.Grid.{in_seconds, too_fine}
-use Rattle.second_plan.specs.Cut.{IsCut}
+use Rattle.band_measure.specs.Cut.{IsCut}
 use Rattle.second_plan.specs.Planned.{AreWhole, IsPlanned, IsAnswer}
 use Rattle.second_plan.specs.Ends.{IsTooFine, HasNoLine, IsRefused, IsPastLoss, Ends, OneEnd, PlanOrEnd, OnePlan}
-use Rattle.second_plan.specs.declared.bands.Bands.{Bands}
+use Rattle.band_measure.specs.declared.bands.Bands.{Bands}
 use Rattle.second_plan.specs.declared.answer.Plan.{Plan as Answer}
 use Rattle.second_plan.specs.declared.answer.PlanEnd.{PlanEnd}
 use Rattle.second_plan.specs.declared.answer.PlanEnd.TheVariants as end
-use Rattle.second_plan.proofs.Cuts.{one_cut_of}
+use Rattle.band_measure.proofs.Cuts.{one_cut_of}
 use Rattle.second_plan.proofs.Rules.{natural, unit_least}
 
 -- one number is nearest, of two the lesser

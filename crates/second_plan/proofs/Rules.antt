@@ -25,9 +25,9 @@ use Rattle.time_space.proofs.Firsts.{not_both}
 use Rattle.time_space.proofs.RulesOut.{not_base}
 use Rattle.band_measure.specs.Pairs.{RunsOn, OwnPair, with_pair, with_pairs}
 use Rattle.second_plan.specs.Seconds.{IsWholeCycle}
-use Rattle.second_plan.specs.Cut.{IsCut}
-use Rattle.second_plan.specs.declared.bands.Bands.{Bands}
-use Rattle.second_plan.proofs.Cuts.{cut_ratio, cut_equal}
+use Rattle.band_measure.specs.Cut.{IsCut}
+use Rattle.band_measure.specs.declared.bands.Bands.{Bands}
+use Rattle.band_measure.proofs.Cuts.{cut_ratio, cut_equal}
 use Rattle.second_plan.specs.Grid.{fineness, in_seconds}
 
 pub natural : (z : ℤ) → pos 0 ≤ℤ z → pos (unsigned_abs z) ≡ z

@@ -4,7 +4,7 @@ use Rattle.rational_theory.specs.Rational.{ℚ, ◌*ℚ◌, ◌/ℚ◌, ◌<ℚ�
 use Rattle.rational_theory.specs.Floor.{floor_ℚ}
 use Rattle.progression.specs.Street.{Street}
 use Rattle.progression.specs.Speeds.{number}
-use Rattle.second_plan.specs.declared.bands.Bands.{Bands}
+use Rattle.band_measure.specs.declared.bands.Bands.{Bands}
 
 -- the greatest whole number that is not above x, for an x of at least 0
 abbrev pub whole_part : ℚ → ℕ

@@ -3,7 +3,7 @@
 ghost use Rattle.std.specs.Prelude.{◌≡◌, ◌<◌, ◌≤◌, ◌*◌, ◌/◌, ◌^◌, pos, ◌≤ℤ◌, min, unsigned_abs};
 ghost use Rattle.rational_theory.specs.Rational.{◌*ℚ◌, ◌/ℚ◌};
 ghost use Rattle.progression.specs.Speeds.{number};
-ghost use Rattle.second_plan.specs.Cut.{whole_part, IsCutByRatio, IsCut};
+ghost use Rattle.band_measure.specs.Cut.{whole_part, IsCutByRatio, IsCut};
 
 use artery_model::Artery;
 use narrow_fraction::Frac;
@@ -45,6 +45,7 @@ fn part_over(ratio: Frac, ticks: u128) -> u128
 }
 
 /// The bands, the outbound one no wider than a ratio below 1 allows, or the inbound one than a ratio above 1.
+#[tactic(auto, using(rational_theory::proofs::Compare::ne_false, rational_theory::proofs::Compare::eq_true, rational_theory::proofs::Compare::lt_true, rational_theory::proofs::Compare::lt_false))]
 fn cut_by_ratio(ratio: Frac, bands: Bands) -> Bands
     requires least { pos 0 ≤ℤ ratio.num }
     requires num { unsigned_abs ratio.num < 2 ^ 30 }

@@ -2,10 +2,10 @@ use Rattle.std.proofs.Common.{◌≡◌, ◌∙◌, inl, inr, sym, ap, min, true
 use Rattle.rational_theory.specs.Rational.{◌*ℚ◌, ◌/ℚ◌}
 use Rattle.rational_theory.proofs.Compare.{eq_true, eq_false, lt_true, lt_false}
 use Rattle.progression.specs.Speeds.{number}
-use Rattle.second_plan.specs.Cut.{whole_part}
-use Rattle.second_plan.proofs.Cuts.{cut_none, cut_below, cut_above, num_above}
-use Rattle.second_plan.proofs.bands.cut_by_ratio.Goals as goal
-use Rattle.second_plan.proofs.bands.cut_by_ratio.Goals.{then-is_zero-via-then-is_zero, then-is_zero-via-else-is_zero+then-eq}
+use Rattle.band_measure.specs.Cut.{whole_part}
+use Rattle.band_measure.proofs.Cuts.{cut_none, cut_below, cut_above, num_above}
+use Rattle.band_measure.proofs.bands.cut_by_ratio.Goals as goal
+use Rattle.band_measure.proofs.bands.cut_by_ratio.Goals.{then-is_zero-via-then-is_zero, then-is_zero-via-else-is_zero+then-eq}
 
 pub returns-then-is_zero-clause-cut : goal.returns-then-is_zero-clause-cut
 returns-then-is_zero-clause-cut c =

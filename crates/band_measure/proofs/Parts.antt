@@ -6,7 +6,7 @@ use Rattle.rational_theory.specs.Floor.{floor_ℚ}
 use Rattle.rational_theory.proofs.Floor.{floor_is}
 use Rattle.rational_theory.proofs.Arithmetic.{IsRatio, whole_ratio, over_ratio, product_ratio, rebase, ≤ℚ_in, ≤ℚ_out}
 use Rattle.progression.specs.Speeds.{number}
-use Rattle.second_plan.specs.Cut.{whole_part}
+use Rattle.band_measure.specs.Cut.{whole_part}
 
 -- between two whole numbers
 pinned : (z : ℤ) (q : ℕ) → pos q ≤ℤ z → (pos (suc q) ≤ℤ z → ⊥) → unsigned_abs z ≡ q

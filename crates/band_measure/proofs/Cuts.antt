@@ -10,9 +10,9 @@ use Rattle.rational_theory.proofs.Order.{≤ℚ_refl, <ℚ_not-≤ℚ, <ℚ-≤�
 use Rattle.progression.specs.Street.{Street}
 use Rattle.progression.specs.Speeds.{number}
 use Rattle.progression.specs.Good.{RatioHolds}
-use Rattle.second_plan.specs.Cut.{whole_part, IsCutByRatio, IsCut}
-use Rattle.second_plan.specs.declared.bands.Bands.{Bands}
-use Rattle.second_plan.proofs.Parts.{as_ratio, times_part, over_part}
+use Rattle.band_measure.specs.Cut.{whole_part, IsCutByRatio, IsCut}
+use Rattle.band_measure.specs.declared.bands.Bands.{Bands}
+use Rattle.band_measure.proofs.Parts.{as_ratio, times_part, over_part}
 
 -- ---- which rule speaks
 not_below_itself : (x y : ℚ) → x <ℚ y → x ≡ y → ⊥
