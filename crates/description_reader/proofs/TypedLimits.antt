@@ -95,7 +95,8 @@ module _ (parts : ℤ) (section : Section) (name : List ℕ) where
   all_between i [] e = All-nil _
   all_between i (d ∷ ds) e =
       let both = each_none (item_fault OutOfRange parts section (Between (pos 1) (pos 4)) name i d ∷ each_numbered (item_fault OutOfRange parts section (Between (pos 1) (pos 4)) name) (i + 1) ds) e in
-      All-cons (λ n. (1 ≤ n) × (n ≤ 4)) (u32_or_zero (integer_in d)) (map (λ v. u32_or_zero (integer_in v)) ds) (between (integer_in d) (passes_of _ _ _ both.0)) (all_between (i + 1) ds (none_of _ both.1))
+      All-cons (λ n. (1 ≤ n) × (n ≤ 4)) (u32_or_zero (integer_in d)) (map (λ v. u32_or_zero (integer_in v)) ds) (between (integer_in d) (passes_of _ _ _ both.0))
+      (all_between (i + 1) ds (none_of _ both.1))
 
 -- ---- the keys of a plan
 module _ (parts : ℤ) (section : Section) (d : Data) where

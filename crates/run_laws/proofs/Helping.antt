@@ -5,7 +5,8 @@ use Rattle.std.specs.Str.{bytes_eq}
 use Rattle.std.proofs.lemmas.Slice.Eq.{bytes_eq-Decides}
 use Rattle.outer_edge.specs.Taken.{Appends}
 use Rattle.run_inputs.specs.Command as words
-use Rattle.run_inputs.specs.Command.{Request, Solve, Links, Draw, Help, Make, Trial, Sweep, asked, no_more, one_more, two_more, three_more, any_more, make_of, trial_of, sweep_of, round_from_of, titled, draw_of, request_of}
+use Rattle.run_inputs.specs.Command.{Request, Solve, Links, Draw, Help, Make, Trial, Sweep, asked, no_more, one_more, two_more, three_more, any_more}
+use Rattle.run_inputs.specs.Command.{make_of, trial_of, sweep_of, round_from_of, titled, draw_of, request_of}
 use Rattle.artery_model.specs.Limits.{is_name}
 use Rattle.run_inputs.specs.Cycles.{are_cycles}
 use Rattle.run_inputs.specs.Numbers.{signals_of, seed_of, limit_of}
@@ -160,7 +161,10 @@ words_named word (first ∷ second ∷ []) = asked_named word (two_more first se
 words_named word (first ∷ second ∷ third ∷ []) = asked_named word (three_more first second third)
     (solve_named first second third, (links_named first second third, (named usage.Round, (named usage.Half, (named usage.TimingOf, (named usage.Draw, (trial_named first second third, tt)))))))
 words_named word (first ∷ second ∷ third ∷ fourth ∷ more) =
-    asked_named word (any_more first second third (fourth ∷ more)) (sweep_named first second third (fourth ∷ more), (from_named first second third (fourth ∷ more), (draw_named first second third (fourth ∷ more), tt)))
+    asked_named word (any_more first second third (fourth ∷ more)) (
+      sweep_named first second third (fourth ∷ more),
+      (from_named first second third (fourth ∷ more), (draw_named first second third (fourth ∷ more), tt)),
+    )
 
 -- ---- what is written
 pub help_says : HelpSays

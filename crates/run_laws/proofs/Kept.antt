@@ -51,7 +51,8 @@ draw_none a (Some t) title (cause.Fails f) l bytes n h = h.3
 draw_none a (Some t) title c l bytes n h = absurd h
 
 -- ---- every command
-puts_none : (asked : Option Request) (v : Values (shape asked).inputs) (c : Cause) (l : List ℕ) (bytes : Option (List ℕ)) → (IsVerdict c → ⊥) → Finds asked v c l bytes → put_of (shape asked).output bytes ≡ None
+puts_none : (asked : Option Request) (v : Values (shape asked).inputs) (c : Cause) (l : List ℕ) (bytes : Option (List ℕ)) → (IsVerdict c → ⊥)
+    → Finds asked v c l bytes → put_of (shape asked).output bytes ≡ None
 puts_none None v c l bytes n h = refl
 puts_none (Some (Hold artery timing)) v c l bytes n h = refl
 puts_none (Some (Show artery)) v c l bytes n h = refl

@@ -249,8 +249,7 @@ judged_once one_first out a t (Some f) (Some g) h k = ap Some (one_first a t f g
 writes_once : OneFirst → FailsRulesOut → (a : Street) (m : Measured) (c d : Cause) (x y : List ℕ) (s u : Option (List ℕ)) → WritesTiming a m c x s → WritesTiming a m d y u
     → (c ≡ d) × (x ≡ y) × (s ≡ u)
 writes_once one_first out a m c d x y s u h k =
-    let e = judged_once one_first out a m.timing h.1.2.broken k.1.2.broken h.1.2.judged k.1.2.judged in
-    (
+    let e = judged_once one_first out a m.timing h.1.2.broken k.1.2.broken h.1.2.judged k.1.2.judged in (
       h.0 ∙ sym k.0,
       h.1.2.lines_are ∙ ap (λ f. measured_lines a m ++ verdict_line f) e ∙ sym k.1.2.lines_are,
       h.1.1 ∙ ap Some (h.1.2.written ∙ sym k.1.2.written) ∙ sym k.1.1,

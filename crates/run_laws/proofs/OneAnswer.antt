@@ -38,5 +38,6 @@ module _ (reader : OneReading) (one_text : OneText) (one_first : OneFirst) (rule
       let e = same_values reader held before after (shape asked).inputs h.values k.values told h.read k.read in
       let found = subst (λ (v : Values (shape asked).inputs). Finds asked v c x h.bytes) e h.finds in
       let agree = finds_once one_text one_first rules apart once widest finer one_timing ends plan_ends plan_or one_plan links_apart links_once asked k.values c d x y h.bytes k.bytes found k.finds in
-      let first = subst (λ (o : Option NamedBytes). Agree (shape asked).chooses (shape asked).inputs (Same asked c x o d y (put_of (shape asked).output k.bytes)) (IsVerdict c × IsVerdict d)) (sym h.put_is) agree in
+      let first = subst (λ (o : Option NamedBytes). Agree (shape asked).chooses (shape asked).inputs (Same asked c x o d y (put_of (shape asked).output k.bytes)) (IsVerdict c × IsVerdict d))
+      (sym h.put_is) agree in
       subst (λ (o : Option NamedBytes). Agree (shape asked).chooses (shape asked).inputs (Same asked c x p d y o) (IsVerdict c × IsVerdict d)) (sym k.put_is) first

@@ -34,7 +34,8 @@ use Rattle.run_laws.proofs.InSeconds.{cycle_told, offset_told}
 use Rattle.run_laws.proofs.Readers.{OneReading}
 
 -- no good timing exceeds what an accepted certificate claims
-lost : (a : Street) (w : Warrant) (o : Option TimingRecord) (timing : TimingRecord) (claim band loss : ℚ) → IsCertified a w o timing claim → loss ≡ claim -ℚ band → (s : TimingRecord) → Good a s → weighted_band a s ≤ℚ (band +ℚ loss)
+lost : (a : Street) (w : Warrant) (o : Option TimingRecord) (timing : TimingRecord) (claim band loss : ℚ) → IsCertified a w o timing claim → loss ≡ claim -ℚ band
+    → (s : TimingRecord) → Good a s → weighted_band a s ≤ℚ (band +ℚ loss)
 lost a w o timing claim band loss c e s good =
     let below : weighted_band a s ≤ℚ claim = claim_bounds a w.claim w.timing claim c.claim_is (accepted_holds a w (street_of a c.valid) c.accepted) s good in
     let whole : claim ≡ band +ℚ loss = ring (at 0) (at 1 ⊕ (at 0 ⊕ minus (at 1))) (claim ∷ band ∷ []) refl ∙ ap (λ l. band +ℚ l) (sym e) in

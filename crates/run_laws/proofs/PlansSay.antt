@@ -28,7 +28,9 @@ use Rattle.maxband_run.specs.Run.{Ends}
 use Rattle.run_commands.specs.Sought.{whole_bands}
 use Rattle.run_commands.specs.Checked.{whole_checked}
 use Rattle.run_laws.specs.Laws.{SaysRejected}
-use Rattle.run_laws.specs.PlanLaws.{SaysWidest, SaysNoBase, BandsSay, PutsHalf, SaysNoHalf, SaysHalf, SaysUnmatched, HalfSays, SaysUnplanned, SaysUnplannedFrom, PutsTyped, StopsTyped, SaysMiscounted, SaysTooFine, TimingSays, PutsPicture, SaysUnshaped, SaysFailing, SaysUntimed, DrawSays, SaysCycle, PutsTable, SweepSays}
+use Rattle.run_laws.specs.PlanLaws.{SaysWidest, SaysNoBase, BandsSay, PutsHalf, SaysNoHalf, SaysHalf, SaysUnmatched, HalfSays, SaysUnplanned}
+use Rattle.run_laws.specs.PlanLaws.{SaysUnplannedFrom, PutsTyped, StopsTyped, SaysMiscounted, SaysTooFine, TimingSays, PutsPicture, SaysUnshaped}
+use Rattle.run_laws.specs.PlanLaws.{SaysFailing, SaysUntimed, DrawSays, SaysCycle, PutsTable, SweepSays}
 use Rattle.run_inputs.specs.Status.{number_of, IsReached}
 use Rattle.run_inputs.specs.declared.cause.Cause.{Cause}
 use Rattle.run_inputs.specs.declared.cause.Cause.TheVariants as cause
@@ -143,7 +145,8 @@ module _ (before now : Outside) (artery timing new : List ℕ) where
 
   half_eleven : OneEnd → (c : Cause) (reason : HalfEnd) → c ≡ cause.Unmatched reason → Ends before now (Some (Half artery timing new)) c → SaysUnmatched before now artery timing c
   half_eleven ends c reason e h = subst (λ (d : Cause). SaysUnmatched before now artery timing d) (sym e)
-      (says_unmatched ends reason (found before now (Some (Half artery timing new)) (cause.Unmatched reason) tt (λ s. s) (subst (λ (d : Cause). Ends before now (Some (Half artery timing new)) d) e h)))
+      (says_unmatched ends reason (found before now (Some (Half artery timing new)) (cause.Unmatched reason) tt (λ s. s)
+      (subst (λ (d : Cause). Ends before now (Some (Half artery timing new)) d) e h)))
 
 pub half_says : OneEnd → HalfSays
 half_says ends before now artery timing new c h = (
@@ -154,7 +157,8 @@ half_says ends before now artery timing new c h = (
 
 -- ---- round
 module _ (before now : Outside) (artery certificate plan : List ℕ) where
-  pub round_four : RefusedIsNotAccepted → (c : Cause) → number_of c ≡ 4 → Found before now (Some (Round artery certificate plan)) c → SaysRejected whole_bands whole_checked before now artery certificate c
+  pub round_four : RefusedIsNotAccepted → (c : Cause) → number_of c ≡ 4 → Found before now (Some (Round artery certificate plan)) c
+      → SaysRejected whole_bands whole_checked before now artery certificate c
   round_four apart (cause.Rejected r) e k =
       let h = k.answer.finds.0 in
       record {
@@ -188,7 +192,8 @@ module _ (before now : Outside) (artery certificate plan : List ℕ) where
   pub round_ten : (c : Cause) → number_of c ≡ 10 → Ends before now (Some (Round artery certificate plan)) c → SaysUnplanned before now artery certificate c
   round_ten c n h = let r = ten_is c n in
       subst (λ (d : Cause). SaysUnplanned before now artery certificate d) (sym r.1)
-      (says_unplanned r.0 (found before now (Some (Round artery certificate plan)) (cause.Unplanned r.0) tt (λ s. s) (subst (λ (d : Cause). Ends before now (Some (Round artery certificate plan)) d) r.1 h)))
+      (says_unplanned r.0 (found before now (Some (Round artery certificate plan)) (cause.Unplanned r.0) tt (λ s. s)
+      (subst (λ (d : Cause). Ends before now (Some (Round artery certificate plan)) d) r.1 h)))
 
 -- ---- round-from
 module _ (before now : Outside) (artery certificate other plan : List ℕ) where
@@ -338,7 +343,8 @@ ten_apart e = omega (arith, e)
 
 module _ (before now : Outside) (artery timed picture : List ℕ) (title : Option (List ℕ)) where
   -- what is found of the timing, where the file has one
-  picture_of : (a : Street) (o : Option TimingRecord) (f : Found before now (Some (Draw artery timed picture title)) cause.Done) → Reads Description (before.holds artery) a → Reads Timed (before.holds timed) o
+  picture_of : (a : Street) (o : Option TimingRecord) (f : Found before now (Some (Draw artery timed picture title)) cause.Done)
+      → Reads Description (before.holds artery) a → Reads Timed (before.holds timed) o
       → DrawFinds a o title cause.Done f.lines f.answer.bytes → PutsPicture before now artery timed picture title
   picture_of a None f d r h = let e = h.0 in absurd cc
   picture_of a (Some t) f d r h = record {

@@ -40,14 +40,16 @@ module _ (k : Sought) (a : Street) (report rest : k.Timing → List ℕ) (begins
       let o = codes "verdict open\n" in
       let s = stop_lines table (count a) stop in
       let v = value_line (option_map (k.value a) timing) in
-      ap (λ l. o ++ (s ++ (bound_line bound ++ l))) (value_first timing) ∙ ap (λ l. o ++ l) (past_two s (bound_line bound) v (after_value timing)) ∙ sym (append_assoc o (s ++ (bound_line bound ++ v)) (after_value timing))
+      ap (λ l. o ++ (s ++ (bound_line bound ++ l))) (value_first timing) ∙ ap (λ l. o ++ l) (past_two s (bound_line bound) v (after_value timing))
+      ∙ sym (append_assoc o (s ++ (bound_line bound ++ v)) (after_value timing))
 
 -- a report's lines after that of the weighted band
 abbrev pub after_weighted : Street → TimingRecord → List ℕ
 after_weighted a t = (band_line a t Outbound ++ (band_line a t Inbound ++ cycle_line a t)) ++ (signal_lines a t ++ (link_lines a t ++ (codes "diagram\n" ++ diagram_lines a t)))
 
 pub weighted_first : (a : Street) (t : TimingRecord) → timing_lines a t ≡ value_line (Some (weighted_band a t)) ++ after_weighted a t
-weighted_first a t = append_assoc (weighted_line a t) (band_line a t Outbound ++ (band_line a t Inbound ++ cycle_line a t)) (signal_lines a t ++ (link_lines a t ++ (codes "diagram\n" ++ diagram_lines a t)))
+weighted_first a t = append_assoc (weighted_line a t) (band_line a t Outbound ++ (band_line a t Inbound ++ cycle_line a t)) (signal_lines a t
+    ++ (link_lines a t ++ (codes "diagram\n" ++ diagram_lines a t)))
 
 -- and of a report of links
 abbrev pub after_link_value : Street → LinkRecord → List ℕ

@@ -44,7 +44,9 @@ use Rattle.run_commands.specs.Searched.{cause_of}
 use Rattle.run_inputs.specs.Reading.{Value, IsReadAs, Reads, Description}
 use Rattle.run_commands.specs.Sought.{Sought, whole_bands, bands_of_links}
 use Rattle.maxband_run.specs.Run.{Ends}
-use Rattle.run_laws.specs.Laws.{IsVerdict, IsWholeLimit, HoldsCertificate, value_line, open_lines, PutsBest, PutsNone, PutsBound, SearchSays, SolveSays, LinksSay, HoldSays, CheckSays, CheckLinksSays, SaysGood, SaysBroken, SaysAccepted, SaysRejected, SaysChecked, PutsRenewed, RenewSays}
+use Rattle.run_laws.specs.Laws.{IsVerdict, IsWholeLimit, HoldsCertificate, value_line, open_lines, PutsBest, PutsNone, PutsBound, SearchSays}
+use Rattle.run_laws.specs.Laws.{SolveSays, LinksSay, HoldSays, CheckSays, CheckLinksSays, SaysGood, SaysBroken, SaysAccepted, SaysRejected}
+use Rattle.run_laws.specs.Laws.{SaysChecked, PutsRenewed, RenewSays}
 use Rattle.run_laws.specs.StopLaws.{IsOutOfWork, StopsFor, SearchStops, whole_stops, link_stops, StopSays, SolveStopSays, LinksStopSays}
 use Rattle.run_inputs.specs.Status.{number_of}
 use Rattle.run_inputs.specs.declared.cause.Cause.{Cause}
@@ -135,7 +137,8 @@ WholeLimits T stops = (a : Street) (limit : Option ℕ) (timing : Option T) (bou
 
 module _ (k : Sought) (s : Checked k) (stops : SearchStops k.Timing) (whole : WholeLimits k.Timing stops) (before now : Outside) (artery certificate : List ℕ) (limit : Option ℕ) where
   -- the certificate that is put, with this claim
-  holds_claim : (c : Cause) (h : HasPut k s stops before now artery certificate limit c) (claimed : Claim) (timing : Option k.Timing) → k.claim h.tells.warrant ≡ claimed → k.timing h.tells.warrant ≡ timing
+  holds_claim : (c : Cause) (h : HasPut k s stops before now artery certificate limit c) (claimed : Claim) (timing : Option k.Timing)
+      → k.claim h.tells.warrant ≡ claimed → k.timing h.tells.warrant ≡ timing
       → HoldsCertificate k s h.street (now.holds certificate) claimed timing
   holds_claim c h claimed timing e f =
       record { text = h.text; warrant = h.tells.warrant; put = h.held; read = h.tells.read_back; accepted = h.tells.accepted; claim_is = e; timing_is = f }
@@ -213,20 +216,24 @@ module _ (k : Sought) (s : Checked k) (stops : SearchStops k.Timing) (whole : Wh
       )
 
 module _ (k : Sought) (s : Checked k) (stops : SearchStops k.Timing) (whole : WholeLimits k.Timing stops) (asks : List ℕ → List ℕ → Option ℕ → Request)
-    (put : (before now : Outside) (artery certificate : List ℕ) (limit : Option ℕ) (c : Cause) → IsVerdict c → Completes before now (Some (asks artery certificate limit)) c → HasPut k s stops before now artery certificate limit c)
+    (put : (before now : Outside) (artery certificate : List ℕ) (limit : Option ℕ) (c : Cause) → IsVerdict c → Completes before now (Some (asks artery certificate limit)) c
+    → HasPut k s stops before now artery certificate limit c)
   where
     module _ (before now : Outside) (artery certificate : List ℕ) (limit : Option ℕ) where
       zero_says : (c : Cause) → c ≡ cause.Done → Ends before now (Some (asks artery certificate limit)) c → PutsBest k s before now artery certificate
       zero_says c e h =
-          puts_best k s stops whole before now artery certificate limit (put before now artery certificate limit cause.Done tt (subst (λ (d : Cause). Ends before now (Some (asks artery certificate limit)) d) e h))
+          puts_best k s stops whole before now artery certificate limit (put before now artery certificate limit cause.Done tt
+          (subst (λ (d : Cause). Ends before now (Some (asks artery certificate limit)) d) e h))
 
       one_says : (c : Cause) → c ≡ cause.NoTiming → Ends before now (Some (asks artery certificate limit)) c → PutsNone k s before now artery certificate
       one_says c e h =
-          puts_none k s stops whole before now artery certificate limit (put before now artery certificate limit cause.NoTiming tt (subst (λ (d : Cause). Ends before now (Some (asks artery certificate limit)) d) e h))
+          puts_none k s stops whole before now artery certificate limit (put before now artery certificate limit cause.NoTiming tt
+          (subst (λ (d : Cause). Ends before now (Some (asks artery certificate limit)) d) e h))
 
       two_says : (c : Cause) (stop : Stop SitePart) → c ≡ cause.Stopped stop → Ends before now (Some (asks artery certificate limit)) c → PutsStop k s stops whole before now artery certificate limit c
       two_says c stop e h = subst (λ (d : Cause). PutsStop k s stops whole before now artery certificate limit d) (sym e)
-          (puts_stop k s stops whole before now artery certificate limit stop (put before now artery certificate limit (cause.Stopped stop) tt (subst (λ (d : Cause). Ends before now (Some (asks artery certificate limit)) d) e h)))
+          (puts_stop k s stops whole before now artery certificate limit stop (put before now artery certificate limit (cause.Stopped stop) tt
+          (subst (λ (d : Cause). Ends before now (Some (asks artery certificate limit)) d) e h)))
 
     stop_says : StopSays k s stops asks
     stop_says before now artery certificate limit c h e = let stop = two_is c e in two_says before now artery certificate limit c stop.0 stop.1 h
@@ -252,7 +259,8 @@ module _ {T K : Type 0} (r : Rules T K SitePart) (enough : ℕ) (IsNamed : Site 
   out_of_work nodes best spent (Work units) h w = (h.cause.0, h.cause.1, too_low spent h.cause.1 w)
   out_of_work nodes best spent (Wide site) h w = tt
 
-  stopped_for : (nodes : List TreeNode) (best : Option (Incumbent T)) (spent : ℕ) (verdict : Verdict SitePart) → IsAnswer r limit nodes best bound spent verdict → IsWithin enough limit verdict → EndsAt IsNamed verdict
+  stopped_for : (nodes : List TreeNode) (best : Option (Incumbent T)) (spent : ℕ) (verdict : Verdict SitePart) → IsAnswer r limit nodes best bound spent verdict
+      → IsWithin enough limit verdict → EndsAt IsNamed verdict
       → (stop : Stop SitePart) → verdict ≡ Stopped stop → StopsFor r enough IsNamed limit best bound stop
   stopped_for nodes best spent verdict h w n stop e =
       let answer : IsStoppedAnswer r limit nodes best bound spent stop = subst (λ (v : Verdict SitePart). IsAnswer r limit nodes best bound spent v) e h in
@@ -299,7 +307,8 @@ solve_put before now artery certificate limit c v h =
         rest = after_weighted f.values.0;
         begins = weighted_first f.values.0;
         lines_are = s.lines_are;
-        why = stopped_for (rules_of f.values.0) (enough_of f.values.0) (IsSiteOf f.values.0) limit s.found.bound s.found.nodes.items (incumbent_of f.values.0 s.found.timing) s.found.spent s.found.verdict
+        why = stopped_for (rules_of f.values.0) (enough_of f.values.0) (IsSiteOf f.values.0) limit s.found.bound s.found.nodes.items
+            (incumbent_of f.values.0 s.found.timing) s.found.spent s.found.verdict
             s.searched.search s.searched.enough s.searched.site;
       };
     }
@@ -347,7 +356,8 @@ links_put before now artery certificate limit c v h =
         rest = after_link_value f.values.0;
         begins = λ t. refl;
         lines_are = s.lines_are;
-        why = stopped_for (link_rules f.values.0) (link_enough_of f.values.0) (IsLinkSiteOf f.values.0) limit s.found.bound s.found.nodes.items (link_incumbent_of f.values.0 s.found.timing) s.found.spent s.found.verdict
+        why = stopped_for (link_rules f.values.0) (link_enough_of f.values.0) (IsLinkSiteOf f.values.0) limit s.found.bound s.found.nodes.items
+            (link_incumbent_of f.values.0 s.found.timing) s.found.spent s.found.verdict
             s.searched.search s.searched.enough s.searched.site;
       };
     }
@@ -451,7 +461,8 @@ module _ (k : Sought) (s : Checked k) (asks : List ℕ → List ℕ → Request)
     (λ e. says_rejected k s four apart before now artery certificate c e (checked before now artery certificate c (found_four before now (Some (asks artery certificate)) c e h))),
   )
 
-check_found : (before now : Outside) (artery certificate : List ℕ) (c : Cause) → Found before now (Some (Check artery certificate)) c → FoundChecked whole_bands whole_checked before now artery certificate c
+check_found : (before now : Outside) (artery certificate : List ℕ) (c : Cause) → Found before now (Some (Check artery certificate)) c
+    → FoundChecked whole_bands whole_checked before now artery certificate c
 check_found before now artery certificate c f = record {
   street = f.answer.values.0;
   warrant = f.answer.values.1.0;

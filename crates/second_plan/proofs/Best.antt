@@ -29,7 +29,8 @@ value_most k n o i p q c e h l m =
     let f = mul-le-mul_left k.den l in
     let g = mul-le-mul_left n m in
     let s : (k.den * o + n * i) * (k.den * c) ≤ (k.den * p + n * q) * (k.den * c) = mul-le-mul_right (k.den * c) (omega (arith, f, g)) in
-    let w : over (pos (k.den * o + n * i)) (k.den * c) ≤ℚ over (pos (k.den * p + n * q)) (k.den * c) = (over_≤ℚ (pos (k.den * o + n * i)) (pos (k.den * p + n * q)) (k.den * c) (k.den * c) d d).1 (omega (arith, ints, s)) in
+    let w : over (pos (k.den * o + n * i)) (k.den * c) ≤ℚ over (pos (k.den * p + n * q)) (k.den * c) =
+    (over_≤ℚ (pos (k.den * o + n * i)) (pos (k.den * p + n * q)) (k.den * c) (k.den * c) d d).1 (omega (arith, ints, s)) in
     rw (weighted k n k.den o i c e refl h, weighted k n k.den p q c e refl h) at w
 
 module _ (a : Street) (t : TimingRecord) (valid : IsValid a) (unit : 2 ≤ t.unit) (pairs : PairsMakeGood) (finer_pairs : FinerPairs) where
@@ -39,8 +40,10 @@ module _ (a : Street) (t : TimingRecord) (valid : IsValid a) (unit : 2 ≤ t.uni
       let more = w.widest 1 (x *ℤ pos 1) (b * 1) (omega arith) ((finer_pairs a t d 1 x b valid unit (omega arith)).0 g) in
       omega (arith, more)
 
-  module _ (there back : ℕ) (wide bands : Bands) (n : ℕ) (e : pos n ≡ a.head.ratio.num) (out : IsWidest a t Outbound there wide.outbound) (inward : IsWidest a t Inbound back wide.inbound) (cut : IsCut a wide bands) where
-    of_lines : (x : ℤ) (b : ℕ) (y : ℤ) (c : ℕ) → Good a (with_pairs x b y c t) → weighted_band a (with_pairs x b y c t) ≤ℚ weighted_band a (with_pairs (pos there) bands.outbound (pos back) bands.inbound t)
+  module _ (there back : ℕ) (wide bands : Bands) (n : ℕ) (e : pos n ≡ a.head.ratio.num) (out : IsWidest a t Outbound there wide.outbound)
+      (inward : IsWidest a t Inbound back wide.inbound) (cut : IsCut a wide bands) where
+    of_lines : (x : ℤ) (b : ℕ) (y : ℤ) (c : ℕ) → Good a (with_pairs x b y c t) → weighted_band a (with_pairs x b y c t) ≤ℚ weighted_band a
+        (with_pairs (pos there) bands.outbound (pos back) bands.inbound t)
     of_lines x b y c g =
         let p = (pairs a t x b y c).1 g in
         let most = cut_most a n e wide bands cut b c (no_wider Outbound there wide.outbound x b out p.outbound) (no_wider Inbound back wide.inbound y c inward p.inbound) p.ratio p.equal in

@@ -46,8 +46,10 @@ left_first x y h = omega (arith, ints, clamps, h)
 -- the lesser of two, a whole number of times, and from another start
 lesser_times : (x y z : ℤ) (u : ℕ) → int_min (z +ℤ x *ℤ pos u) (z +ℤ y *ℤ pos u) ≡ z +ℤ int_min x y *ℤ pos u
 lesser_times x y z u = by_lt_z {P = int_min (z +ℤ x *ℤ pos u) (z +ℤ y *ℤ pos u) ≡ z +ℤ int_min x y *ℤ pos u} y x
-    (λ l. let m = more x y u (omega (arith, ints, l)) in right_first (z +ℤ x *ℤ pos u) (z +ℤ y *ℤ pos u) (omega (arith, ints, m)) ∙ ap (λ w. z +ℤ w *ℤ pos u) (sym (right_first x y (omega (arith, ints, l)))))
-    (λ l. let m = more y x u (omega (arith, ints, l)) in left_first (z +ℤ x *ℤ pos u) (z +ℤ y *ℤ pos u) (omega (arith, ints, m)) ∙ ap (λ w. z +ℤ w *ℤ pos u) (sym (left_first x y (omega (arith, ints, l)))))
+    (λ l. let m = more x y u (omega (arith, ints, l)) in right_first (z +ℤ x *ℤ pos u) (z +ℤ y *ℤ pos u) (omega (arith, ints, m))
+    ∙ ap (λ w. z +ℤ w *ℤ pos u) (sym (right_first x y (omega (arith, ints, l)))))
+    (λ l. let m = more y x u (omega (arith, ints, l)) in left_first (z +ℤ x *ℤ pos u) (z +ℤ y *ℤ pos u) (omega (arith, ints, m))
+    ∙ ap (λ w. z +ℤ w *ℤ pos u) (sym (left_first x y (omega (arith, ints, l)))))
 
 pub moment_is : (a : Street) (r : Reference) (t : TimingRecord) (i : ℕ) → moment a r t i ≡ common_red t i +ℤ moment_part a r (pattern_of t i) i *ℤ pos t.unit
 moment_is a Red t i = let e : pos 0 *ℤ pos t.unit ≡ pos 0 = omega (arith, ints) in omega (arith, ints, e)

@@ -172,7 +172,8 @@ module _ (a : Street) (p : Typed) (m n : Measured) (valid : IsValid a) (h : IsTi
   -- what is put of them
   same_put : (u v w x y z : Option Widest) → ArePut a u v w x → ArePut a u v y z → (w ≡ y) × (x ≡ z)
   same_put (Some u) (Some v) (Some w) (Some x) (Some y) (Some z) g l =
-      let e = one_cut_of a (unsigned_abs a.head.ratio.num) natural_ratio (record { outbound = u.band; inbound = v.band }) (record { outbound = w.band; inbound = x.band }) (record { outbound = y.band; inbound = z.band }) g.bands l.bands in (
+      let e = one_cut_of a (unsigned_abs a.head.ratio.num) natural_ratio (record { outbound = u.band; inbound = v.band }) (record { outbound = w.band; inbound = x.band })
+      (record { outbound = y.band; inbound = z.band }) g.bands l.bands in (
         ap₂ (λ first band. Some (record { first = first; band = band })) (g.first_out ∙ sym l.first_out) (ap (λ (b : Bands). b.outbound) e),
         ap₂ (λ first band. Some (record { first = first; band = band })) (g.first_in ∙ sym l.first_in) (ap (λ (b : Bands). b.inbound) e),
       )

@@ -28,14 +28,16 @@ pub below_of : (cycle : ℕ) (found : Option Widest) → IfSome found (λ (w : W
 below_of cycle None h k = tt
 below_of cycle (Some w) h k = (h, k)
 
-module _ (a : Street) (p : Typed) (valid : IsValid a) (typed : IsTyped p) (counts : HasCounts a p) (fault : count_fault a p ≡ None) (fine : too_fine a p ≡ None) (m : Measured) (there back : Option Widest) where
+module _ (a : Street) (p : Typed) (valid : IsValid a) (typed : IsTyped p) (counts : HasCounts a p) (fault : count_fault a p ≡ None) (fine : too_fine a p ≡ None)
+    (m : Measured) (there back : Option Widest) where
   abbrev out : Widest
   out = pair_or_none m.outbound
 
   abbrev inward : Widest
   inward = pair_or_none m.inbound
 
-  of_frame : m.timing ≡ paired (frame a p) out inward → IsWidestBand a (frame a p) Outbound there → IsWidestBand a (frame a p) Inbound back → ArePut a there back m.outbound m.inbound → IsTimingOf a p m
+  of_frame : m.timing ≡ paired (frame a p) out inward → IsWidestBand a (frame a p) Outbound there → IsWidestBand a (frame a p) Inbound back
+      → ArePut a there back m.outbound m.inbound → IsTimingOf a p m
   of_frame is widest_out widest_in put =
       let parts : 1 ≤ a.head.parts = let l = valid.least_parts in omega (arith, l) in
       let few : 1 ≤ count a = let l = valid.few in omega (arith, l) in
@@ -44,8 +46,10 @@ module _ (a : Street) (p : Typed) (valid : IsValid a) (typed : IsTyped p) (count
         counts = fault;
         fine = fine;
         least = subst (λ s. IsLeast a p s) (sym is) (is_least a p parts (begun a p typed parts) counts few (forward a p typed counts) (pos out.first) out.band (pos inward.first) inward.band);
-        first = subst (λ s. common_red s 1 ≡ pos 0) (sym is) (first_red a p parts (begun a p typed parts) counts few (forward a p typed counts) (pos out.first) out.band (pos inward.first) inward.band);
-        reds = subst (λ s. (i : ℕ) → HasSignal a i → StartsAtOnce a s i) (sym is) (red_starts a p parts (begun a p typed parts) counts few (forward a p typed counts) (pos out.first) out.band (pos inward.first) inward.band);
+        first = subst (λ s. common_red s 1 ≡ pos 0) (sym is) (first_red a p parts (begun a p typed parts) counts few (forward a p typed counts)
+            (pos out.first) out.band (pos inward.first) inward.band);
+        reds = subst (λ s. (i : ℕ) → HasSignal a i → StartsAtOnce a s i) (sym is) (red_starts a p parts (begun a p typed parts) counts few
+            (forward a p typed counts) (pos out.first) out.band (pos inward.first) inward.band);
         there = there;
         back = back;
         widest_out = subst (λ s. IsWidestBand a s Outbound there) (sym is) (moved a (frame a p) (pos out.first) out.band (pos inward.first) inward.band Outbound there widest_out);
@@ -54,6 +58,7 @@ module _ (a : Street) (p : Typed) (valid : IsValid a) (typed : IsTyped p) (count
         pairs = subst (λ s. s ≡ paired s out inward) (sym is) refl;
       }
 
-  pub is_timing : (f : TimingRecord) → f ≡ frame a p → m.timing ≡ paired f out inward → IsWidestBand a f Outbound there → IsWidestBand a f Inbound back → ArePut a there back m.outbound m.inbound → IsTimingOf a p m
+  pub is_timing : (f : TimingRecord) → f ≡ frame a p → m.timing ≡ paired f out inward → IsWidestBand a f Outbound there → IsWidestBand a f Inbound back
+      → ArePut a there back m.outbound m.inbound → IsTimingOf a p m
   is_timing f e is widest_out widest_in put =
       of_frame (is ∙ ap (λ g. paired g out inward) e) (subst (λ g. IsWidestBand a g Outbound there) e widest_out) (subst (λ g. IsWidestBand a g Inbound back) e widest_in) put

@@ -29,7 +29,8 @@ returns-then-lt-clause-cut c =
 
 pub returns-else-lt-clause-cut : goal.returns-else-lt-clause-cut
 returns-else-lt-clause-cut c =
-    let lesser : c.lesser-else-lt.result ≡ min c.args.bands.inbound (whole_part (c.args.ratio *ℚ number c.args.bands.outbound)) = c.lesser-else-lt.ensures ∙ ap (min c.args.bands.inbound) c.part_times.ensures in
+    let lesser : c.lesser-else-lt.result ≡ min c.args.bands.inbound (whole_part (c.args.ratio *ℚ number c.args.bands.outbound)) = c.lesser-else-lt.ensures
+    ∙ ap (min c.args.bands.inbound) c.part_times.ensures in
     cut_above c.args.ratio c.args.bands _ (λ e. true≢false (sym (c.is_zero.ensures.1 e) ∙ c.if-is_zero.false))
     (λ e. eq_false c.args.ratio c.whole.result (c.if-eq.ensures) (e ∙ sym c.whole.ensures))
     (rw c.whole-2.ensures at (lt_false c.args.ratio c.whole-2.result (c.if-lt.ensures)))

@@ -7,4 +7,24 @@ pub returns : goal.returns
 returns c =
     let text = c.in_ok-bytes.bytes.items in
     let line : c.push_verdict.new.out.items ≡ measured_lines c.args.artery.now c.args.made.now ++ verdict_line c.broken.result = search rules in
-    record { finds = (Some text, (refl, (text, refl, record { broken = c.broken.result; judged = c.broken.ensures; lines_are = line; written = c.in_ok-bytes.ensures.text; read_back = c.in_ok-bytes.ensures.read_back })), refl) }
+    record {
+      finds = (
+        Some text,
+        (
+          refl,
+          (
+            text,
+            refl,
+            record {
+              broken = c.broken.result;
+              judged = c.broken.ensures;
+              lines_are = line;
+              written =
+                  c.in_ok-bytes.ensures.text;
+              read_back = c.in_ok-bytes.ensures.read_back;
+            },
+          ),
+        ),
+        refl,
+      );
+    }

@@ -15,7 +15,8 @@ pub returns-in_err-ticks-clause-first : goal.returns-in_err-ticks-clause-first
 returns-in_err-ticks-clause-first c =
     let a = c.args.artery.now in let p = c.args.plan.now in let k = c.loop-place.place in
     let f = common a p c.args.times c.args.start in
-    let next : c.joined.result ≡ told (f (k + 1)) = c.joined.ensures ∙ ap told (ap₂ (λ t x. lcm t x.den) c.loop-place.invariant.value c.time.ensures.value ∙ sym (common_next a p c.args.times c.args.start k)) in
+    let next : c.joined.result ≡ told (f (k + 1)) = c.joined.ensures ∙ ap told (ap₂ (λ t x. lcm t x.den) c.loop-place.invariant.value c.time.ensures.value
+    ∙ sym (common_next a p c.args.times c.args.start k)) in
     let is : c.in_err-ticks.field-0.0 ≡ told (f (k + 1)) = c.in_err-ticks.ensures.large.0 ∙ next in
     let below : k < how_many a c.args.times = subst (λ n. k < n) c.how_many-place-end.ensures.value c.loop-place-test.true in
     let q = err_from_is_err_and c.from_residual.result c.from_residual.ensures.1 in
@@ -25,7 +26,8 @@ pub loop-place-preserved : goal.loop-place-preserved
 loop-place-preserved c =
     let a = c.args.artery.now in let p = c.args.plan.now in let k = c.loop-place.place in
     let f = common a p c.args.times c.args.start in
-    let next : c.joined.result ≡ told (f (k + 1)) = c.joined.ensures ∙ ap told (ap₂ (λ t x. lcm t x.den) c.loop-place.invariant.value c.time.ensures.value ∙ sym (common_next a p c.args.times c.args.start k)) in
+    let next : c.joined.result ≡ told (f (k + 1)) = c.joined.ensures ∙ ap told (ap₂ (λ t x. lcm t x.den) c.loop-place.invariant.value c.time.ensures.value
+    ∙ sym (common_next a p c.args.times c.args.start k)) in
     let as_told : c.in_ok-ticks.ticks ≡ told (f (k + 1)) = c.in_ok-ticks.ensures.held.0 ∙ next in
     let small : told (f (k + 1)) < 2 ^ 80 = subst (λ n. n < 2 ^ 80) as_told c.in_ok-ticks.ensures.held.1 in
     let is : c.in_ok-ticks.ticks ≡ f (k + 1) = as_told ∙ told_small (f (k + 1)) small in
