@@ -56,10 +56,13 @@ impl TimingKind for LinkBands {
     }
 
     fn named_tree_at(alloc: Global, line: u64, bytes: &[u8]) -> Result<Vec<CertNode>, TextEnd> {
-        tree_at(alloc, Naming::Named(link_families()), line, bytes)
+        let names = link_families(alloc)?;
+        tree_at(alloc, Naming::Named(names.as_slice()), line, bytes)
     }
 
     fn push_named_tree(out: &mut Vec<u8>, nodes: &[CertNode]) -> Result<(), Memory> {
-        push_tree(out, Naming::Named(link_families()), nodes)
+        let alloc = *out.allocator();
+        let names = link_families(alloc)?;
+        push_tree(out, Naming::Named(names.as_slice()), nodes)
     }
 }

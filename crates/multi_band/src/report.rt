@@ -60,10 +60,11 @@ pub fn link_report(alloc: Global, artery: &Artery, found: &LinkFound) -> Result<
     ensures { IfOk result (λ lines. lines.items ≡ link_report_lines artery.now found.now) }
 {
     let timing = lines_of(alloc, artery, &found.timing)?;
+    let names = link_families(alloc)?;
     verdict_lines(
         alloc,
         artery,
-        link_families(),
+        names.as_slice(),
         &found.verdict,
         found.bound,
         timing,
