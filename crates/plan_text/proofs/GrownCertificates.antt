@@ -32,7 +32,7 @@ use Rattle.plan_text.specs.FirstBad.{lines_in}
 use Rattle.plan_text.proofs.LeafLines.{last_then, lines_then, leaf_of_none, leaf_of_some}
 use Rattle.plan_text.proofs.NodeLines.{node_lengths}
 use Rattle.plan_text.proofs.Grown.{Part, Grows, Reaches, IsAt, grows_by, grows_then, reaches_then, at_then, at_if, at_choice, tested, tested_later}
-use Rattle.plan_text.proofs.Grown.{chosen, chosen_later, guarded, guarded_later, after_line, one_and, numbered, line_grows, line_later, words_grow}
+use Rattle.plan_text.proofs.Grown.{chosen, chosen_later, after_line, one_and, numbered, line_grows, line_later, words_grow}
 use Rattle.plan_text.proofs.Grown.{words_later, fixed_grows, fixed_later, ranged_here}
 use Rattle.plan_text.proofs.TimingLaws.{TimingLaws}
 

@@ -1,5 +1,5 @@
 -- Reading a leaf: its lines are rows that ascend, and it has to be written so.
-use Rattle.std.proofs.Common.{◌≡◌, ℕ, zero, suc, ◌+◌, ◌-◌, ◌<◌, Bool, true, false, List, [], ◌∷◌, ◌++◌, length, get_or, Option, None, Some, Result, Ok, refl, sym, ap, subst, ◌∙◌, arith}
+use Rattle.std.proofs.Common.{◌≡◌, ℕ, zero, suc, ◌+◌, ◌-◌, Bool, true, false, List, [], ◌∷◌, ◌++◌, length, get_or, Option, None, Some, Result, Ok, refl, sym, ap, subst, ◌∙◌, arith}
 use Rattle.std.specs.Prelude.{◌==◌, if◌then◌else◌}
 use Rattle.std.proofs.Math.Dec.{eqb-suc-zero}
 use Rattle.named_row.specs.declared.leaves.Weight.{Weight}
@@ -12,7 +12,7 @@ use Rattle.certificate_model.specs.Families.{is_after}
 use Rattle.plan_text.specs.Namings.{Naming, is_form}
 use Rattle.plan_text.specs.CertificateReading.{last_row, row_of_weight, weight_of, rising_at, weights_at, formed, with_last, leaf_at}
 use Rattle.plan_text.proofs.Fields.{bind_ok, guard_ok, ok_is, moved}
-use Rattle.plan_text.proofs.RowLoop.{then_ok, LastOf, rising_joins, rising_parts}
+use Rattle.plan_text.proofs.RowLoop.{then_ok, rising_joins, rising_parts}
 
 -- the row of the last weight, as a slice has it
 pub last_row_at : (last : Option RowId) (ws : List Weight) (k : ℕ) (d : Weight) → length ws ≡ suc k → last_row row_of_weight last ws ≡ Some (get_or ws k d).row
